@@ -1,0 +1,5 @@
+pub mod Text
+pub mod Value
+pub mod Order
+pub mod Row
+pub mod Cond

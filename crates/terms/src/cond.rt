@@ -1,0 +1,123 @@
+//! Conditions on rows.
+
+ghost use Rattle.std.specs.Prelude.{◌≡◌, List, IfOk};
+ghost use Rattle.terms.specs.Cond.{compares, cond_holds, conds_hold};
+
+use crate::copy::{TryCopy, copy_all};
+use crate::memory::Memory;
+use crate::row::Row;
+use crate::value::Value;
+use std::marker::Model;
+
+/// A comparison.
+#[derive(Clone, Copy, Debug, PartialEq, Eq)]
+pub enum Cmp {
+    Eq,
+    Ne,
+    Lt,
+    Le,
+    Gt,
+    Ge,
+}
+
+impl Cmp {
+    /// Whether the comparison holds between two values. Between values of two types none does.
+    pub fn compares(self, left: &Value, right: &Value) -> bool
+        ensures { result ≡ compares self left.now right.now }
+    {
+        if left.kind() != right.kind() {
+            return false;
+        }
+        let order = left.cmp(right);
+        match self {
+            Cmp::Eq => order.is_eq(),
+            Cmp::Ne => order.is_ne(),
+            Cmp::Lt => order.is_lt(),
+            Cmp::Le => order.is_le(),
+            Cmp::Gt => order.is_gt(),
+            Cmp::Ge => order.is_ge(),
+        }
+    }
+}
+
+/// A condition: a comparison of the value in a column with a constant.
+#[derive(Debug, Drop)]
+pub struct Cond {
+    /// The column, counted from 0.
+    pub col: usize,
+    /// The comparison.
+    pub cmp: Cmp,
+    /// The constant.
+    pub value: Value,
+}
+
+impl Cond {
+    /// Whether the condition holds of a row's values. On a column that they lack it doesn't.
+    pub fn holds(&self, values: &[Value]) -> bool
+        ensures { result ≡ cond_holds self.now values.now }
+    {
+        match values.get(self.col) {
+            Some(value) => self.cmp.compares(value, &self.value),
+            None => false,
+        }
+    }
+}
+
+impl TryCopy for Cond {
+    fn copy(&self) -> Result<Cond, Memory> {
+        Ok(Cond {
+            col: self.col,
+            cmp: self.cmp,
+            value: self.value.copy()?,
+        })
+    }
+}
+
+/// Conditions that are to hold together. Contracts see the list of them.
+#[derive(Debug, Drop)]
+pub struct Conds {
+    conds: Vec<Cond>,
+}
+
+impl Model for Conds {
+    ghost use Rattle.std.specs.Prelude.{List};
+    ghost use Rattle.terms.specs.declared.cond.Cond.{Cond};
+
+    ghost Value = { List Cond };
+
+    ghost view = { λ c. c.conds.items };
+}
+
+impl Conds {
+    pub fn new(conds: Vec<Cond>) -> Conds
+        ensures { result ≡ conds.items }
+    {
+        Conds { conds }
+    }
+
+    pub fn as_slice(&self) -> &[Cond]
+        ensures { result.now ≡ self.now }
+    {
+        self.conds.as_slice()
+    }
+
+    /// Whether all conditions hold of a row.
+    pub fn hold(&self, row: &Row) -> bool
+        ensures { result ≡ conds_hold self.now row.now }
+    {
+        all_hold(self.as_slice(), row.values())
+    }
+}
+
+fn all_hold(conds: &[Cond], values: &[Value]) -> bool
+    ensures { result ≡ conds_hold conds.now values.now }
+{
+    conds.iter().all(|cond| cond.holds(values))
+}
+
+impl TryCopy for Conds {
+    fn copy(&self) -> Result<Conds, Memory> {
+        let conds = copy_all(*self.conds.allocator(), self.conds.as_slice())?;
+        Ok(Conds { conds })
+    }
+}

@@ -1,0 +1,19 @@
+//! Values, rows and the conditions on them: what the rest of fragdb speaks of.
+//!
+//! Stands on nothing but `std`. The contract that the crates above use: `Conds::hold` answers whether
+//! all conditions hold of a row.
+//!
+//! ```text
+//! let conds = Conds::new(conds);            // zone = 3
+//! let kept = conds.hold(&row);              // the row has 3 in the column zone
+//! ```
+#![tactic(auto)]
+
+pub mod cond;
+pub mod copy;
+pub mod leaf;
+pub mod memory;
+pub mod row;
+pub mod seq;
+pub mod text;
+pub mod value;
