@@ -1,13 +1,17 @@
-use Rattle.std.specs.Prelude.{Bool, false, not, List, Option, Some, None}
+use Rattle.std.specs.Prelude.{Bool, false, not, List, Option, Some, None, ◌≡◌, FitsSigned}
 use Rattle.std.specs.List.{list_all, slice_get}
+use Rattle.std.specs.Int.{w64}
 use Rattle.std.specs.Ordering.{nat_cmp, int_cmp, is_eq, is_lt, is_le, is_gt, is_ge}
 use Rattle.std.specs.Cmp.Lexicographic.{slice_cmp}
 use Rattle.std.specs.declared.cmp.Ordering.{Ordering}
 use Rattle.terms.specs.declared.cond.Cmp.{Cmp}
 use Rattle.terms.specs.declared.cond.Cmp.TheVariants.{Eq, Ne, Lt, Le, Gt, Ge}
 use Rattle.terms.specs.declared.cond.Cond.{Cond}
+use Rattle.terms.specs.declared.value.Kind.{Kind}
 use Rattle.terms.specs.declared.value.Value.{Value}
 use Rattle.terms.specs.declared.value.Value.TheVariants.{Int, Text}
+use Rattle.terms.specs.Text.{IsTextUpTo}
+use Rattle.terms.specs.Value.{kind_of}
 
 -- which comparisons an order of two values meets
 abbrev pub cmp_holds : Cmp → Ordering → Bool
@@ -36,3 +40,13 @@ cond_holds cond row = holds_of cond (slice_get row cond.col)
 -- whether all conditions hold of a row
 abbrev pub conds_hold : List Cond → List Value → Bool
 conds_hold conds row = list_all (λ cond. cond_holds cond row) conds
+
+-- what a condition compares with: an integer of 64 bits, or a text of at most 100 bytes
+abbrev pub FitsConstant : Value → Type 0
+FitsConstant (Int n) = FitsSigned w64 n
+FitsConstant (Text bytes) = IsTextUpTo 100 bytes
+
+-- a condition fits columns of these types: its column is among them, and its constant is of the column's type
+pub record IsCondOf (kinds : List Kind) (cond : Cond) : Type 0 where
+  pub column : slice_get kinds cond.col ≡ Some (kind_of cond.value)
+  pub constant : FitsConstant cond.value

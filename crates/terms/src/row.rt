@@ -1,11 +1,13 @@
 //! Rows.
 
 ghost use Rattle.std.specs.Prelude.{◌≡◌, List, IfOk};
+ghost use Rattle.std.specs.Ordering.{int_cmp};
 ghost use Rattle.terms.specs.Row.{key_of};
 
 use crate::copy::{TryCopy, copy_all};
 use crate::memory::Memory;
 use crate::value::Value;
+use std::cmp::Ordering;
 use std::marker::Model;
 
 /// A row: a value for each column, the key first. Contracts see it as the list of its values.
@@ -45,6 +47,13 @@ impl Row {
             Some(Value::Int(key)) => *key,
             _ => 0,
         }
+    }
+
+    /// How this row's key compares with another row's.
+    pub fn compare_keys(&self, other: &Row) -> Ordering
+        ensures { result ≡ int_cmp (key_of self.now) (key_of other.now) }
+    {
+        self.key().cmp(&other.key())
     }
 }
 

@@ -1,0 +1,5 @@
+pub mod Keys
+pub mod Listed
+pub mod Maps
+pub mod Places
+pub mod Rows

@@ -1,0 +1,7 @@
+use Rattle.std.proofs.Common.{◌≡◌, take}
+use Rattle.meaning.specs.Statement.{listed}
+use Rattle.meaning.proofs.run.listed.Given as goal
+
+-- the items found are those at the places so far
+abbrev pub invariant-loop-place : goal.invariant-loop-place
+invariant-loop-place g l = l.found.items ≡ listed (take l.place-index l.places) l.items

@@ -1,0 +1,5 @@
+pub mod Schema
+pub mod Relation
+pub mod Whole
+pub mod Statement
+pub mod Meaning
