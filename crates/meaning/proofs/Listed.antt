@@ -1,7 +1,7 @@
-use Rattle.std.proofs.Common.{◌≡◌, ℕ, ◌+◌, ◌<◌, List, [], ◌∷◌, ◌++◌, Option, Some, None, take, get_or, length, refl, ap, ◌∙◌, append-nil}
+use Rattle.std.proofs.Common.{◌≡◌, ℕ, ◌+◌, ◌<◌, List, [], ◌∷◌, ◌++◌, Some, None, take, get_or, length, ap, ◌∙◌, append-nil}
 use Rattle.std.proofs.lemmas.List.{take_more}
 use Rattle.std.proofs.lemmas.List.Elements.{filter_map-append}
-use Rattle.std.specs.List.{slice_get, filter_map, cons_option}
+use Rattle.std.specs.List.{slice_get, cons_option}
 use Rattle.meaning.specs.Statement.{listed}
 
 listed_more : {A : Type 0} (places : List ℕ) (items : List A) (i : ℕ) → i < length places → listed (take (i + 1) places) items ≡ listed (take i places) items ++ cons_option (slice_get items (get_or places i 0)) []

@@ -1,5 +1,5 @@
 use Rattle.std.proofs.Common.{◌≡◌, ℕ, List, [], ◌∷◌, Option, Some, None, Bool, true, false, cond, if◌then◌else◌, unwrap_or, Result, Ok, Err, IfOk, OnErr, refl, ap, sym, ◌∙◌}
-use Rattle.std.specs.FinMap.{FinMap, from_entries, get, insert, find, same_map, get_tied, get-insert, get-from_entries, nat_cmp-IsAntisymmetric, slice_cmp-IsAntisymmetric}
+use Rattle.std.specs.FinMap.{from_entries, get, insert, find, same_map, get_tied, get-insert, get-from_entries, nat_cmp-IsAntisymmetric, slice_cmp-IsAntisymmetric}
 use Rattle.std.specs.BTreeMap.{is_at}
 use Rattle.std.specs.Map.{lookup}
 use Rattle.std.specs.Cmp.{eq_by_cmp_equiv}

@@ -1,7 +1,9 @@
 //! Statements, run over whole relations.
 
 ghost use Rattle.std.specs.Prelude.{◌≡◌, List, ℕ, IfOk, OnOk, OnErr};
-ghost use Rattle.meaning.specs.Statement.{listed, selected};
+ghost use Rattle.meaning.specs.declared.schema.RelationSchema.{RelationSchema};
+ghost use Rattle.meaning.specs.Statement.{listed, selected, IsStatementOf};
+ghost use Rattle.meaning.specs.Whole.{FitsSchema};
 ghost use Rattle.meaning.specs.Meaning.{meaning};
 
 use crate::answer::Answer;
@@ -18,6 +20,8 @@ pub fn run(alloc: Global, whole: &mut Whole, statement: &Statement) -> Result<An
     ensures answer { IfOk result (λ answer. answer ≡ (meaning statement.now whole.old).0) }
     ensures whole { OnOk result (whole.new ≡ (meaning statement.now whole.old).1) }
     ensures err { OnErr result (whole.new ≡ whole.old) }
+    // What fits a schema still fits it.
+    ensures fits { (schema : List RelationSchema) → IsStatementOf schema statement.now → FitsSchema schema whole.old → FitsSchema schema whole.new }
 {
     match statement {
         Statement::Select(select) => run_select(alloc, whole, select),
