@@ -38,20 +38,20 @@ get_put whole name rows other = map.get-insert nat_list_cmp_total whole name row
 put_keeps : (whole : Relations) (name : List ℕ) (rows : List (List Value)) (other : List ℕ) (P : Option (List (List Value)) → Type 0) → (other ≡ name → P (Some rows)) → P (map.get whole other) → P (map.get (map.insert whole name rows) other)
 put_keeps whole name rows other P here there =
     subst P (sym (get_put whole name rows other)) (
-        elim (slice_cmp nat_cmp other name) as (λ r. slice_cmp nat_cmp other name ≡ r → P (cond (is_eq r) (Some rows) (map.get whole other))) [
-            | Less ↦ λ is. there
-            | Equal ↦ λ is. here (slice_cmp-IsAntisymmetric nat_cmp-IsAntisymmetric other name is)
-            | Greater ↦ λ is. there
-          ] refl)
+    elim (slice_cmp nat_cmp other name) as (λ r. slice_cmp nat_cmp other name ≡ r → P (cond (is_eq r) (Some rows) (map.get whole other))) [
+      | Less ↦ λ is. there
+      | Equal ↦ λ is. here (slice_cmp-IsAntisymmetric nat_cmp-IsAntisymmetric other name is)
+      | Greater ↦ λ is. there
+    ] refl)
 
 inserted_fits : (schema : List RelationSchema) (insert : Insert) (whole : Relations) → IsInsertOf schema insert → FitsSchema schema whole → has_key (key_of insert.row) (rows_of whole insert.into) ≡ false → FitsSchema schema (map.insert whole insert.into (insert_row insert.row (rows_of whole insert.into)))
 inserted_fits schema insert whole is fits absent = record {
   there = λ name relation found. put_keeps whole insert.into (insert_row insert.row (rows_of whole insert.into)) name IsSome (λ same. refl) (fits.there name relation found);
   fit = λ name relation found. put_keeps whole insert.into (insert_row insert.row (rows_of whole insert.into)) name (λ o. IsRelation (kinds_of relation) (unwrap_or o []))
-    (λ same. let found' : relation_named insert.into schema ≡ Some relation = ap (λ n. relation_named n schema) (sym same) ∙ found in
-        let one : is.relation ≡ relation = cc (is.there, found') in
-        IsRelation-insert_row insert.row (rows_of whole insert.into) (subst (λ (r : RelationSchema). FitsKinds (kinds_of r) insert.row) one is.fits) absent (fits.fit insert.into relation found'))
-    (fits.fit name relation found);
+      (λ same. let found' : relation_named insert.into schema ≡ Some relation = ap (λ n. relation_named n schema) (sym same) ∙ found in
+      let one : is.relation ≡ relation = cc (is.there, found') in
+      IsRelation-insert_row insert.row (rows_of whole insert.into) (subst (λ (r : RelationSchema). FitsKinds (kinds_of r) insert.row) one is.fits) absent (fits.fit insert.into relation found'))
+      (fits.fit name relation found);
 }
 
 -- a statement of the schema leaves a whole database that fits the schema

@@ -1,6 +1,6 @@
 pub mod Kept
 pub mod Keys
-pub mod Listed
+pub mod ListedLemmas
 pub mod Maps
 pub mod Places
 pub mod Rows

@@ -31,21 +31,21 @@ get_rows entries name = get-from_entries nat_list_cmp_total entries name ∙ fin
 pub one_put : (old new : Entries) (name : List ℕ) (rows : List (List Value)) → ((q : List ℕ) → rows_at new q ≡ cond (is_at (slice_cmp nat_cmp name) q) (Some rows) (rows_at old q)) → from_entries {R = slice_cmp nat_cmp} new ≡ insert (from_entries old) name rows
 one_put old new name rows differ =
     same_map nat_list_cmp_total (slice_cmp-IsAntisymmetric nat_cmp-IsAntisymmetric) _ _ (λ q.
-        get_rows new q ∙ differ q ∙ ap (λ b. cond b (Some rows) (rows_at old q)) ((eq_by_cmp_equiv nat_list_cmp_total).symm name q)
-        ∙ sym (get-insert nat_list_cmp_total (from_entries old) name rows q ∙ ap (cond (is_at (slice_cmp nat_cmp q) name) (Some rows)) (get_rows old q)))
+    get_rows new q ∙ differ q ∙ ap (λ b. cond b (Some rows) (rows_at old q)) ((eq_by_cmp_equiv nat_list_cmp_total).symm name q)
+    ∙ sym (get-insert nat_list_cmp_total (from_entries old) name rows q ∙ ap (cond (is_at (slice_cmp nat_cmp q) name) (Some rows)) (get_rows old q)))
 
 -- a map with what it has already is the same map
 insert_same : (entries : Entries) (name : List ℕ) (rows : List (List Value)) → rows_at entries name ≡ Some rows → insert (from_entries {R = slice_cmp nat_cmp} entries) name rows ≡ from_entries entries
 insert_same entries name rows there =
     same_map nat_list_cmp_total (slice_cmp-IsAntisymmetric nat_cmp-IsAntisymmetric) _ _ (λ q.
-        get-insert nat_list_cmp_total (from_entries entries) name rows q ∙ stays q)
+    get-insert nat_list_cmp_total (from_entries entries) name rows q ∙ stays q)
   where
     stays : (q : List ℕ) → cond (is_at (slice_cmp nat_cmp q) name) (Some rows) (get (from_entries {R = slice_cmp nat_cmp} entries) q) ≡ get (from_entries {R = slice_cmp nat_cmp} entries) q
     stays q = elim (slice_cmp nat_cmp q name) as (λ r. slice_cmp nat_cmp q name ≡ r → cond (is_eq r) (Some rows) (get (from_entries {R = slice_cmp nat_cmp} entries) q) ≡ get (from_entries {R = slice_cmp nat_cmp} entries) q) [
-        | Less ↦ λ is. refl
-        | Equal ↦ λ is. sym (get_rows entries name ∙ there) ∙ get_tied nat_list_cmp_total (from_entries entries) q name is
-        | Greater ↦ λ is. refl
-      ] refl
+      | Less ↦ λ is. refl
+      | Equal ↦ λ is. sym (get_rows entries name ∙ there) ∙ get_tied nat_list_cmp_total (from_entries entries) q name is
+      | Greater ↦ λ is. refl
+    ] refl
 
 -- the rows under a name that the entries have
 pub rows_there : (entries : Entries) (whole : Relations) (name : List ℕ) (rows : List (List Value)) → from_entries entries ≡ whole → rows_at entries name ≡ Some rows → rows_of whole name ≡ rows

@@ -48,10 +48,10 @@ found_key rows key i within alike =
 absent_key : (rows : List (List Value)) (key : ℤ) (i : ℕ) → AllWithin (λ row. ranked key row ≡ Less) rows 0 i → AllWithin (λ row. ranked key row ≡ Greater) rows i (length rows) → has_key key rows ≡ false
 absent_key rows key i below above =
     list_any_none (λ row. int_eq (key_of row) key) rows (All-from_all_within (λ row. int_eq (key_of row) key ≡ false) rows (λ k d low within.
-        elim (cases_lt k i) [
-          | inl before ↦ ap is_eq (below k d low before)
-          | inr after ↦ ap is_eq (above k d after within)
-        ]))
+    elim (cases_lt k i) [
+      | inl before ↦ ap is_eq (below k d low before)
+      | inr after ↦ ap is_eq (above k d after within)
+    ]))
 
 -- a row goes before the first row with a greater key
 goes_at : (rows : List (List Value)) (key : ℤ) (i : ℕ) (row : List Value) → i ≤ length rows → key_of row ≡ key → AllWithin (λ other. ranked key other ≡ Less) rows 0 i → AllWithin (λ other. ranked key other ≡ Greater) rows i (length rows) → insert rows i row ≡ insert_row row rows

@@ -32,10 +32,10 @@ Ascends-insert_row row (other ∷ rows) absent order =
     let apart = or_false (int_eq (key_of other) (key_of row)) (has_key (key_of row) rows) absent in
     elim (int_lt (key_of row) (key_of other)) as (λ t. int_lt (key_of row) (key_of other) ≡ t → Ascends (cond t (row ∷ other ∷ rows) (other ∷ insert_row row rows))) [
       | true ↦ λ is.
-        let below = lt_below (key_of row) (key_of other) is in
-        ((below, below_all (key_of row) other rows below order.0), order)
+          let below = lt_below (key_of row) (key_of other) is in
+          ((below, below_all (key_of row) other rows below order.0), order)
       | false ↦ λ is.
-        (All-insert_row (λ later. key_of other <ℤ key_of later) row rows (below_other (key_of other) (key_of row) apart.0 is) order.0, Ascends-insert_row row rows apart.1 order.1)
+          (All-insert_row (λ later. key_of other <ℤ key_of later) row rows (below_other (key_of other) (key_of row) apart.0 is) order.0, Ascends-insert_row row rows apart.1 order.1)
     ] refl
 
 -- an insertion at the row's place keeps the order

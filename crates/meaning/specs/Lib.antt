@@ -1,4 +1,5 @@
 pub mod Schema
+pub mod Listed
 pub mod Relation
 pub mod Whole
 pub mod Statement

@@ -7,7 +7,8 @@ use Rattle.meaning.specs.declared.statement.Statement.{Statement}
 use Rattle.meaning.specs.declared.statement.Statement.TheVariants as statement
 use Rattle.meaning.specs.Relation.{has_key, insert_row}
 use Rattle.meaning.specs.Whole.{Relations, rows_of}
-use Rattle.meaning.specs.Statement.{listed, selected}
+use Rattle.meaning.specs.Listed.{listed}
+use Rattle.meaning.specs.Statement.{selected}
 
 -- what a statement answers over a whole database, and the whole database after it
 abbrev pub meaning : Statement → Relations → Answer × Relations

@@ -1,5 +1,5 @@
 use Rattle.std.specs.Prelude.{◌≡◌, ◌≢◌, ℕ, ◌≤◌, ◌<◌, List, [], length, Some, filter, map}
-use Rattle.std.specs.List.{filter_map, slice_get, AllByRecursion}
+use Rattle.std.specs.List.{AllByRecursion}
 use Rattle.terms.specs.declared.value.Value.{Value}
 use Rattle.terms.specs.Cond.{conds_hold, IsCondOf}
 use Rattle.terms.specs.Row.{FitsKinds}
@@ -8,11 +8,8 @@ use Rattle.meaning.specs.declared.statement.Statement.{Statement}
 use Rattle.meaning.specs.declared.statement.Statement.TheVariants as statement
 use Rattle.meaning.specs.declared.statement.Select.{Select}
 use Rattle.meaning.specs.declared.statement.Insert.{Insert}
+use Rattle.meaning.specs.Listed.{listed}
 use Rattle.meaning.specs.Schema.{relation_named, kinds_of, names_of}
-
--- the items at the listed places, in the order of the list
-abbrev pub listed : {A : Type 0} → List ℕ → List A → List A
-listed places items = filter_map (slice_get items) places
 
 -- the rows of which the conditions hold, cut to the listed columns; equal rows stay
 abbrev pub selected : Select → List (List Value) → List (List Value)

@@ -10,6 +10,7 @@
 #![tactic(auto)]
 
 pub mod answer;
+pub mod listed;
 pub mod relation;
 pub mod run;
 pub mod schema;

@@ -2,11 +2,12 @@
 
 ghost use Rattle.std.specs.Prelude.{◌≡◌, List, ℕ, IfOk, OnOk, OnErr};
 ghost use Rattle.meaning.specs.declared.schema.RelationSchema.{RelationSchema};
-ghost use Rattle.meaning.specs.Statement.{listed, selected, IsStatementOf};
+ghost use Rattle.meaning.specs.Statement.{selected, IsStatementOf};
 ghost use Rattle.meaning.specs.Whole.{FitsSchema};
 ghost use Rattle.meaning.specs.Meaning.{meaning};
 
 use crate::answer::Answer;
+use crate::listed::listed;
 use crate::statement::{Insert, Select, Statement};
 use crate::whole::Whole;
 use std::alloc::Global;
@@ -62,19 +63,6 @@ pub fn selected(alloc: Global, select: &Select, rows: &[Row]) -> Result<Vec<Row>
         if select.conds.hold(row) {
             let values = listed(alloc, select.columns.as_slice(), row.values())?;
             found.push(Row::new(values))?;
-        }
-    }
-    Ok(found)
-}
-
-/// The items at the listed places, in the order of the list.
-pub fn listed<T: TryCopy>(alloc: Global, places: &[usize], items: &[T]) -> Result<Vec<T>, Memory>
-    ensures { IfOk result (λ found. found.items ≡ listed places.now items.now) }
-{
-    let mut found = Vec::new(alloc);
-    for place in places {
-        if let Some(item) = items.get(*place) {
-            found.push(item.copy()?)?;
         }
     }
     Ok(found)

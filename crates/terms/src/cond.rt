@@ -109,7 +109,8 @@ impl Conds {
     }
 }
 
-fn all_hold(conds: &[Cond], values: &[Value]) -> bool
+/// Whether all conditions hold of these values.
+pub fn all_hold(conds: &[Cond], values: &[Value]) -> bool
     ensures { result ≡ conds_hold conds.now values.now }
 {
     conds.iter().all(|cond| cond.holds(values))

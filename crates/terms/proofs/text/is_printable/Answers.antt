@@ -14,6 +14,7 @@ returns c =
     let text = c.args.text.now in
     let Control : ℕ → Type 0 = λ char. ¬ (IsPrintable char) in
     let cases : MatchBool c.all.result (AllWithin IsPrintable (chars text) 0 (length (chars text))) ((k : ℕ) × (k < length (chars text)) × HoldsAt Control (chars text) k) =
-        cases_from_all _ _ _ IsPrintable Control c.all.ensures.ran (YieldsList-from_chars text c.utf8.text cc) (λ x q k. grind (arith, tests)) (λ x q k. grind (arith, tests)) in
-    (λ yes. All-from_all_within IsPrintable (chars text) (when_true _ _ yes cases),
-     λ all. true_from_All IsPrintable Control c.all.result (chars text) (λ x holds fails. fails holds) cases all)
+    cases_from_all _ _ _ IsPrintable Control c.all.ensures.ran (YieldsList-from_chars text c.utf8.text cc) (λ x q k. grind (arith, tests)) (λ x q k. grind (arith, tests)) in (
+      λ yes. All-from_all_within IsPrintable (chars text) (when_true _ _ yes cases),
+      λ all. true_from_All IsPrintable Control c.all.result (chars text) (λ x holds fails. fails holds) cases all,
+    )

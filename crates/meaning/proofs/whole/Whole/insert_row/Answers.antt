@@ -14,14 +14,14 @@ returns-in-Some-clause-whole c =
     let there = sym c.get_mut.ensures.value ∙ ap option_copied_mut c.in-Some.is in
     let writes = c.get_mut.follows.holds c.insert.new.self in
     row_written c.insert.result c.self.inside.relations.entries (c.get_mut.follows.lender c.insert.new.self).entries c.args.self.now c.args.name.now c.args.row c.in-Some.relation.now c.insert.new.self
-        c.self.view_is there (writes.3 (rw there refl)).0 c.insert.ensures.rows
+    c.self.view_is there (writes.3 (rw there refl)).0 c.insert.ensures.rows
 
 pub returns-in-Some-clause-err : goal.returns-in-Some-clause-err
 returns-in-Some-clause-err c =
     let there = sym c.get_mut.ensures.value ∙ ap option_copied_mut c.in-Some.is in
     let writes = c.get_mut.follows.holds c.insert.new.self in
     row_kept c.insert.result c.self.inside.relations.entries (c.get_mut.follows.lender c.insert.new.self).entries c.args.self.now c.args.name.now c.in-Some.relation.now c.insert.new.self
-        c.self.view_is there (writes.3 (rw there refl)).0 c.insert.ensures.err
+    c.self.view_is there (writes.3 (rw there refl)).0 c.insert.ensures.err
 
 pub returns-in_ok-insert-in-None-clause-added : goal.returns-in_ok-insert-in-None-clause-added
 returns-in_ok-insert-in-None-clause-added c =
@@ -34,4 +34,4 @@ returns-in_ok-insert-in-None-clause-whole c =
     let old = c.get_mut.follows.lender-at-none in
     let same = c.get_mut.follows.holds-at-none in
     row_added old.entries c.insert-in-None.new.self.entries c.args.self.now c.args.name.now c.in_ok-copy-in-None.field-0 c.args.row c.in_ok-relation-in-None.relation
-        (ap (λ m. from_entries m.entries) same ∙ c.self.view_is) (ap (λ m. rows_at m.entries c.args.name.now) same ∙ absent) c.in_ok-copy-in-None.ensures c.in_ok-relation-in-None.ensures c.in_ok-insert-in-None.ensures.updates.0
+    (ap (λ m. from_entries m.entries) same ∙ c.self.view_is) (ap (λ m. rows_at m.entries c.args.name.now) same ∙ absent) c.in_ok-copy-in-None.ensures c.in_ok-relation-in-None.ensures c.in_ok-insert-in-None.ensures.updates.0

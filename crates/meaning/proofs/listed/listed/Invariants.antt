@@ -1,6 +1,6 @@
 use Rattle.std.proofs.Common.{◌≡◌, take}
-use Rattle.meaning.specs.Statement.{listed}
-use Rattle.meaning.proofs.run.listed.Given as goal
+use Rattle.meaning.specs.Listed.{listed}
+use Rattle.meaning.proofs.listed.listed.Given as goal
 
 -- the items found are those at the places so far
 abbrev pub invariant-loop-place : goal.invariant-loop-place

@@ -2,7 +2,7 @@ use Rattle.std.proofs.Common.{◌≡◌, ℕ, ◌+◌, ◌<◌, List, [], ◌∷
 use Rattle.std.proofs.lemmas.List.{take_more}
 use Rattle.std.proofs.lemmas.List.Elements.{filter_map-append}
 use Rattle.std.specs.List.{slice_get, cons_option}
-use Rattle.meaning.specs.Statement.{listed}
+use Rattle.meaning.specs.Listed.{listed}
 
 listed_more : {A : Type 0} (places : List ℕ) (items : List A) (i : ℕ) → i < length places → listed (take (i + 1) places) items ≡ listed (take i places) items ++ cons_option (slice_get items (get_or places i 0)) []
 listed_more places items i within =
