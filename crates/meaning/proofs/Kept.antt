@@ -21,7 +21,7 @@ use Rattle.meaning.specs.Meaning.{meaning}
 use Rattle.meaning.proofs.Rows.{All-insert_row, Ascends-insert_row}
 
 -- a row that fits, with a key that is not there, keeps a relation one
-IsRelation-insert_row : {kinds : _} (row : List Value) (rows : List (List Value)) → FitsKinds kinds row → has_key (key_of row) rows ≡ false → IsRelation kinds rows → IsRelation kinds (insert_row row rows)
+pub IsRelation-insert_row : {kinds : _} (row : List Value) (rows : List (List Value)) → FitsKinds kinds row → has_key (key_of row) rows ≡ false → IsRelation kinds rows → IsRelation kinds (insert_row row rows)
 IsRelation-insert_row {kinds} row rows fits absent is = record {
   fit = All-insert_row (FitsKinds kinds) row rows fits is.fit;
   ascends = Ascends-insert_row row rows absent is.ascends;

@@ -17,11 +17,11 @@ All-insert_row P row (other ∷ rows) here all =
     ]
 
 -- what is below a row is below all rows after that row
-below_all : (key : ℤ) (row : List Value) (rows : List (List Value)) → key <ℤ key_of row → AllByRecursion (λ later. key_of row <ℤ key_of later) rows → AllByRecursion (λ later. key <ℤ key_of later) rows
+pub below_all : (key : ℤ) (row : List Value) (rows : List (List Value)) → key <ℤ key_of row → AllByRecursion (λ later. key_of row <ℤ key_of later) rows → AllByRecursion (λ later. key <ℤ key_of later) rows
 below_all key row [] below all = tt
 below_all key row (other ∷ rows) below all = (below_trans key (key_of row) (key_of other) below all.0, below_all key row rows below all.1)
 
-or_false : (a b : Bool) → (a || b) ≡ false → (a ≡ false) × (b ≡ false)
+pub or_false : (a b : Bool) → (a || b) ≡ false → (a ≡ false) × (b ≡ false)
 or_false true b h = absurd (false≢true (sym h))
 or_false false b h = (refl, h)
 

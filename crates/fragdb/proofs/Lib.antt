@@ -1,0 +1,3 @@
+pub mod MergeLaws
+pub mod RunLaws
+pub mod SmallLaws

@@ -1,0 +1,3 @@
+pub mod Item
+pub mod Merge
+pub mod Small

@@ -1,0 +1,81 @@
+//! The built-in catalogue: one relation, split by rows into two lists.
+
+ghost use Rattle.std.specs.Prelude.{◌≡◌, IfOk};
+ghost use Rattle.fragdb.specs.Item.{item_schema, item_name, low, high};
+
+use meaning::schema::{Column, RelationSchema, Schema};
+use std::alloc::Global;
+use terms::cond::{Cmp, Cond};
+use terms::memory::Memory;
+use terms::seq::Seq;
+use terms::text::Text;
+use terms::value::{Kind, Value};
+
+/// The relation's name.
+pub const ITEM: &str = "item";
+
+/// The names of its columns, the key first.
+pub const COLUMNS: [&str; 3] = ["id", "zone", "label"];
+
+/// The place of the column by which the rows are split.
+const ZONE: usize = 1;
+
+/// Zones below this are in the first list.
+const SPLIT: i64 = 10;
+
+/// The schema of the built-in catalogue.
+pub fn schema(alloc: Global) -> Result<Schema, Memory>
+    ensures { IfOk result (λ schema. schema.relations ≡ item_schema) }
+{
+    let mut columns = Vec::new(alloc);
+    columns.push(column(alloc, "id", Kind::Int)?)?;
+    columns.push(column(alloc, "zone", Kind::Int)?)?;
+    columns.push(column(alloc, "label", Kind::Text)?)?;
+    let relation = RelationSchema {
+        name: text(alloc, ITEM)?,
+        columns: Seq::new(columns),
+    };
+    let mut relations = Vec::new(alloc);
+    relations.push(relation)?;
+    Ok(Schema {
+        relations: Seq::new(relations),
+    })
+}
+
+fn column(alloc: Global, name: &str, kind: Kind) -> Result<Column, Memory>
+    ensures { IfOk result (λ column. column ≡ record { name = name.now; kind = kind }) }
+{
+    Ok(Column {
+        name: text(alloc, name)?,
+        kind,
+    })
+}
+
+/// A text of these characters.
+pub fn text(alloc: Global, characters: &str) -> Result<Text, Memory>
+    ensures { IfOk result (λ text. text ≡ characters.now) }
+{
+    Ok(Text::new(String::from_str(alloc, characters)?))
+}
+
+/// The conditions of the first leaf.
+pub fn low_conds() -> [Cond; 1]
+    ensures { result ≡ low.conds }
+{
+    [Cond {
+        col: ZONE,
+        cmp: Cmp::Lt,
+        value: Value::Int(SPLIT),
+    }]
+}
+
+/// The conditions of the second leaf.
+pub fn high_conds() -> [Cond; 1]
+    ensures { result ≡ high.conds }
+{
+    [Cond {
+        col: ZONE,
+        cmp: Cmp::Ge,
+        value: Value::Int(SPLIT),
+    }]
+}

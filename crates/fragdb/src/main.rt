@@ -1,0 +1,8 @@
+//! The program fragdb.
+#![tactic(auto)]
+
+mod item;
+mod merge;
+mod small;
+
+fn main() {}
