@@ -1,0 +1,12 @@
+pub mod Runs
+pub mod Digits
+pub mod Quotes
+pub mod Signs
+pub mod Words
+pub mod Front
+pub mod Loop
+pub mod Printing
+pub mod Steps
+pub mod Lists
+pub mod Productions
+pub mod Commands

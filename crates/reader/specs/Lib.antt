@@ -1,0 +1,10 @@
+pub mod Fault
+pub mod Keyword
+pub mod Sign
+pub mod Symbol
+pub mod Class
+pub mod Tokens
+pub mod Reading
+pub mod Tree
+pub mod Grammar
+pub mod Parsing

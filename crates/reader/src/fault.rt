@@ -1,0 +1,118 @@
+//! Why a text was refused, and where.
+
+ghost use Rattle.std.specs.Prelude.{◌≡◌, ◌≢◌, ℕ, ◌≤◌};
+
+use std::alloc::{AllocError, AllocFailed};
+use std::marker::Model;
+use terms::memory::Memory;
+
+/// The rule that a text breaks.
+#[derive(Clone, Copy, Debug, PartialEq, Eq)]
+pub enum Rule {
+    /// The text has more than 4,096 bytes.
+    TooLong,
+    /// A character begins no token, or a text has an excluded character or no end.
+    Character,
+    /// No statement goes on with this token.
+    Syntax,
+    /// The schema has no such relation.
+    NoRelation,
+    /// The relations of the statement have no such column.
+    NoColumn,
+    /// More than one relation of the statement has the column.
+    Ambiguous,
+    /// A value or a column is of another type than the place asks for.
+    WrongType,
+    /// An update would change a key.
+    KeyColumn,
+    /// A join does not go by the key of the joined relation.
+    JoinNotKey,
+    /// A row has another number of values than the relation has columns.
+    Count,
+    /// Something is larger than the language allows.
+    Limit,
+    /// Memory ran out, which says nothing of the text.
+    Memory,
+}
+
+/// A refusal of a text: the rule that it breaks, and the byte at which it does. Only an allocation
+/// that was refused makes one of the rule `Memory`.
+#[derive(Clone, Copy, Debug, PartialEq, Eq)]
+pub struct ReadFault {
+    rule: Rule,
+    offset: usize,
+}
+
+impl Model for ReadFault {
+    ghost use Rattle.reader.specs.Fault.{Fault};
+
+    ghost Value = { Fault };
+
+    ghost view = { λ f. record { rule = f.rule; offset = f.offset } };
+
+    ghost inverse = { λ f. record { rule = f.rule; offset = f.offset } };
+}
+
+impl ReadFault {
+    /// A fault of the text. Want of memory is no fault of a text: it comes from an allocation alone.
+    pub fn new(rule: Rule, offset: usize) -> ReadFault
+        requires { rule ≢ Rule.Memory }
+        ensures rule { result.rule ≡ rule }
+        ensures offset { result.offset ≡ offset }
+    {
+        ReadFault { rule, offset }
+    }
+
+    /// The rule that the text breaks.
+    pub fn rule(&self) -> Rule
+        ensures { result ≡ self.now.rule }
+    {
+        self.rule
+    }
+
+    /// The offset in bytes, 0 for want of memory.
+    pub fn offset(&self) -> usize
+        ensures { result ≡ self.now.offset }
+    {
+        self.offset
+    }
+}
+
+impl From<AllocError> for ReadFault {
+    ghost use Rattle.reader.specs.Fault.{memory_fault};
+
+    ghost from_gives = { λ _ fault. fault ≡ memory_fault };
+
+    fn from(_error: AllocError) -> ReadFault {
+        ReadFault {
+            rule: Rule::Memory,
+            offset: 0,
+        }
+    }
+}
+
+impl<T: Drop> From<AllocFailed<T>> for ReadFault {
+    ghost use Rattle.reader.specs.Fault.{memory_fault};
+
+    ghost from_gives = { λ _ fault. fault ≡ memory_fault };
+
+    fn from(_error: AllocFailed<T>) -> ReadFault {
+        ReadFault {
+            rule: Rule::Memory,
+            offset: 0,
+        }
+    }
+}
+
+impl From<Memory> for ReadFault {
+    ghost use Rattle.reader.specs.Fault.{memory_fault};
+
+    ghost from_gives = { λ _ fault. fault ≡ memory_fault };
+
+    fn from(_error: Memory) -> ReadFault {
+        ReadFault {
+            rule: Rule::Memory,
+            offset: 0,
+        }
+    }
+}

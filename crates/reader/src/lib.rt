@@ -1,0 +1,23 @@
+//! The statement text of fragdb: tokens, grammar and names, and the text of answers.
+//!
+//! Stands on `terms` and `meaning`. The contract that the crates above use: `read` accepts a text
+//! exactly when it is the text of a command, with that command.
+//!
+//! ```text
+//! let command = read(alloc, "SELECT label FROM item WHERE id = 1", &schema)?;
+//! // Command::Run(statement)
+//! ```
+#![tactic(auto)]
+
+pub mod class;
+mod cursor;
+pub mod fault;
+mod integer;
+pub mod keyword;
+pub mod lexer;
+pub mod parser;
+pub mod sign;
+pub mod text;
+pub mod token;
+pub mod tree;
+pub mod word;
