@@ -10,3 +10,5 @@ pub mod Steps
 pub mod Lists
 pub mod Productions
 pub mod Commands
+pub mod Each
+pub mod NoMeaning

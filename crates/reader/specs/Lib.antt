@@ -8,3 +8,5 @@ pub mod Reading
 pub mod Tree
 pub mod Grammar
 pub mod Parsing
+pub mod Names
+pub mod Resolving

@@ -10,11 +10,13 @@
 #![tactic(auto)]
 
 pub mod class;
+pub mod command;
 mod cursor;
 pub mod fault;
 mod integer;
 pub mod keyword;
 pub mod lexer;
+pub mod names;
 pub mod parser;
 pub mod sign;
 pub mod text;

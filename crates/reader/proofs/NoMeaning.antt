@@ -1,0 +1,19 @@
+use Rattle.std.proofs.Common.{◌≡◌, Option, None}
+use Rattle.reader.specs.declared.fault.Rule.{Rule}
+use Rattle.reader.specs.declared.fault.Rule.TheVariants as rules
+use Rattle.reader.specs.Resolving.{HasNone}
+
+-- where the whole has no meaning once a part has none, a refused part refuses the whole
+pub none_of_whole : {X Y : Type 0} (rule : Rule) (part : Option X) (whole : Option Y) → (part ≡ None → whole ≡ None) → HasNone rule part → HasNone rule whole
+none_of_whole rules.Memory part whole stops none = tt
+none_of_whole rules.TooLong part whole stops none = stops none
+none_of_whole rules.Character part whole stops none = stops none
+none_of_whole rules.Syntax part whole stops none = stops none
+none_of_whole rules.NoRelation part whole stops none = stops none
+none_of_whole rules.NoColumn part whole stops none = stops none
+none_of_whole rules.Ambiguous part whole stops none = stops none
+none_of_whole rules.WrongType part whole stops none = stops none
+none_of_whole rules.KeyColumn part whole stops none = stops none
+none_of_whole rules.JoinNotKey part whole stops none = stops none
+none_of_whole rules.Count part whole stops none = stops none
+none_of_whole rules.Limit part whole stops none = stops none
