@@ -21,7 +21,6 @@ pub record IsSelectOf (schema : List RelationSchema) (select : Select) : Type 0 
   pub relation : RelationSchema
   pub there : relation_named select.from.name schema ≡ Some relation
   pub names : select.from.columns ≡ names_of relation
-  pub some_column : select.columns ≢ []
   pub few_columns : length select.columns ≤ 32
   pub columns : AllByRecursion (λ column. column < length (names_of relation)) select.columns
   pub few_conds : length select.conds ≤ 8

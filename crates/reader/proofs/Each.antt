@@ -43,7 +43,7 @@ row_of_more kind view (column ∷ columns) (constant ∷ constants) zero c d row
     rw (here, ← none) refl
 row_of_more kind view (column ∷ columns) (constant ∷ constants) (suc i) c d row value within within' so_far here =
     grown (value_of (kind column) (view constant)) (row_of (map kind (take i columns)) (map view (take i constants))) (row_of (map kind (take (suc i) columns)) (map view (take (suc i) constants))) row value
-        (λ values is. row_of_more kind view columns constants i c d values value (omega arith) (omega arith) is here) so_far
+    (λ values is. row_of_more kind view columns constants i c d values value (omega arith) (omega arith) is here) so_far
 
 -- a constant with no value in its column
 pub row_of_stop : {A B : Type 0} (kind : A → Kind) (view : B → Constant) (columns : List A) (constants : List B) (i : ℕ) (c : A) (d : B) → i < length columns → i < length constants → value_of (kind (get_or columns i c)) (view (get_or constants i d)) ≡ None → row_of (map kind columns) (map view constants) ≡ None

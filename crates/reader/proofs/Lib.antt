@@ -11,4 +11,8 @@ pub mod Lists
 pub mod Productions
 pub mod Commands
 pub mod Each
+pub mod Fits
+pub mod FitsSchema
+pub mod FitsCommand
 pub mod NoMeaning
+pub mod Unique

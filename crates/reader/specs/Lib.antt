@@ -10,3 +10,4 @@ pub mod Grammar
 pub mod Parsing
 pub mod Names
 pub mod Resolving
+pub mod Command

@@ -1,6 +1,6 @@
 //! Why a text was refused, and where.
 
-ghost use Rattle.std.specs.Prelude.{◌≡◌, ◌≢◌, ℕ, ◌≤◌};
+ghost use Rattle.std.specs.Prelude.{min, ◌≡◌, ◌≢◌, ℕ, ◌≤◌};
 
 use std::alloc::{AllocError, AllocFailed};
 use std::marker::Model;
@@ -75,6 +75,17 @@ impl ReadFault {
         ensures { result ≡ self.now.offset }
     {
         self.offset
+    }
+
+    /// The same fault, at the text's end where it lay beyond it.
+    pub fn within(self, end: usize) -> ReadFault
+        ensures rule { result.rule ≡ self.rule }
+        ensures offset { result.offset ≡ min self.offset end }
+    {
+        ReadFault {
+            rule: self.rule,
+            offset: self.offset.min(end),
+        }
     }
 }
 

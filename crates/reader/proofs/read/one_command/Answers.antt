@@ -1,0 +1,5 @@
+use Rattle.reader.proofs.Unique.{unique}
+use Rattle.reader.proofs.read.one_command.Goals as goal
+
+pub returns : goal.returns
+returns c = unique

@@ -1,0 +1,55 @@
+//! Commands, read from their texts.
+
+ghost use Rattle.std.specs.Prelude.{◌≡◌, ◌≢◌, ◌≤◌, List, length, IfOk, IfErr};
+ghost use Rattle.reader.specs.declared.command.Command.{Command};
+ghost use Rattle.reader.specs.declared.fault.Rule.TheVariants as rules;
+ghost use Rattle.reader.specs.Command.{IsTextOf, IsCommandOf, OneCommandOfText};
+
+use crate::command::Command;
+use crate::fault::{ReadFault, Rule};
+use crate::lexer::tokens;
+use crate::names;
+use crate::parser::parse;
+use meaning::schema::Schema;
+use std::alloc::Global;
+
+/// The most bytes of a text.
+pub const TEXT_BYTES: usize = 4096;
+
+/// The command of a text, under a schema.
+///
+/// A refused text is refused by one of the rules, in passes: its length, its tokens, the grammar, the
+/// names of relations, and then the rest from left to right.
+pub fn read(alloc: Global, text: &str, schema: &Schema) -> Result<Command, ReadFault>
+    // An accepted text is one of the command, and the command fits the schema.
+    ensures found { IfOk result (λ command. IsTextOf schema.now.relations text.now command) }
+    ensures fits { IfOk result (λ command. IsCommandOf schema.now.relations command) }
+    // A text that is refused by a rule is one of no command.
+    ensures none { IfErr result (λ fault. fault.rule ≢ rules.Memory
+        → (command : Command) → ¬ (IsTextOf schema.now.relations text.now command)) }
+    ensures within { IfErr result (λ fault. fault.offset ≤ length text.now) }
+{
+    match read_bytes(alloc, text.as_bytes(), schema) {
+        Ok(command) => Ok(command),
+        Err(fault) => Err(fault.within(text.len())),
+    }
+}
+
+/// A text is one of one command at most.
+pub fn one_command()
+    ensures { OneCommandOfText }
+{}
+
+fn read_bytes(alloc: Global, text: &[u8], schema: &Schema) -> Result<Command, ReadFault>
+    ensures found { IfOk result (λ command. IsTextOf schema.now.relations text.now command) }
+    ensures none { IfErr result (λ fault. fault.rule ≢ rules.Memory
+        → (command : Command) → ¬ (IsTextOf schema.now.relations text.now command)) }
+{
+    if text.len() > TEXT_BYTES {
+        return Err(ReadFault::new(Rule::TooLong, TEXT_BYTES));
+    }
+    let tokens = tokens(alloc, text)?;
+    let written = parse(alloc, tokens.as_slice(), text.len())?;
+    let statement = names::statement(alloc, schema, &written)?;
+    Ok(Command::Run(statement))
+}
