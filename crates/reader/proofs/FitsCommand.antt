@@ -64,8 +64,8 @@ places_fit relation tree.all places is =
 places_fit relation (tree.columns columns) places is =
     elim (nat_le (length columns) 32) as (λ t. nat_le (length columns) 32 ≡ t → cond t (all_of (place_of relation) columns) None ≡ Some places → AllByRecursion (λ column. column < length (names_of relation)) places × (length places ≤ 32)) [
       | true ↦ λ few found.
-        let answers = all_answers (place_of relation) (λ column. column < length (names_of relation)) (place_within relation) columns places found in
-        (answers.0, rw answers.1 (leb-true (length columns) 32 few))
+          let answers = all_answers (place_of relation) (λ column. column < length (names_of relation)) (place_within relation) columns places found in
+          (answers.0, rw answers.1 (leb-true (length columns) 32 few))
       | false ↦ λ many none. cc
     ] refl is
 

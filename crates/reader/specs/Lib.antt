@@ -11,3 +11,4 @@ pub mod Parsing
 pub mod Names
 pub mod Resolving
 pub mod Command
+pub mod Print

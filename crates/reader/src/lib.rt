@@ -18,6 +18,7 @@ pub mod keyword;
 pub mod lexer;
 pub mod names;
 pub mod parser;
+pub mod print;
 pub mod read;
 pub mod sign;
 pub mod text;

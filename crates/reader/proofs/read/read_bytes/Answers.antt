@@ -20,7 +20,7 @@ returns-in_err-statement-clause-none c =
     let p = err_from_is_err_and c.from_residual-in_err-statement.result c.from_residual-in_err-statement.ensures.1 in
     let spelled : AreTokens c.args.text.now (symbols_of c.as_slice.result.now) = rw c.as_slice.ensures.value c.in_ok-tokens.ensures.found in
     rw (p.1, p.2) (λ rule. no_names c.args.schema.now.relations c.args.text.now (symbols_of c.as_slice.result.now) (tree.written_of c.in_ok-written.written) spelled c.in_ok-written.ensures.found
-      (none_by_rule c.in_err-statement.field-0.0.rule (statement_of c.args.schema.now.relations (tree.written_of c.in_ok-written.written)) rule c.in_err-statement.ensures))
+    (none_by_rule c.in_err-statement.field-0.0.rule (statement_of c.args.schema.now.relations (tree.written_of c.in_ok-written.written)) rule c.in_err-statement.ensures))
 
 pub returns-clause-found : goal.returns-clause-found
 returns-clause-found c =
