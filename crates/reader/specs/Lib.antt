@@ -12,3 +12,4 @@ pub mod Names
 pub mod Resolving
 pub mod Command
 pub mod Print
+pub mod Refusal

@@ -1,8 +1,10 @@
 //! Why a text was refused, and where.
 
-ghost use Rattle.std.specs.Prelude.{min, ◌≡◌, ◌≢◌, ℕ, ◌≤◌};
+ghost use Rattle.reader.specs.Refusal.{rule_number, rule_name};
+ghost use Rattle.std.specs.Prelude.{min, Some, ◌≡◌, ◌≢◌, ℕ, ◌≤◌};
 
 use std::alloc::{AllocError, AllocFailed};
+use std::fmt;
 use std::marker::Model;
 use terms::memory::Memory;
 
@@ -33,6 +35,48 @@ pub enum Rule {
     Limit,
     /// Memory ran out, which says nothing of the text.
     Memory,
+}
+
+impl Rule {
+    /// The rule's number in messages.
+    pub fn number(self) -> u8
+        ensures { result ≡ rule_number self }
+    {
+        match self {
+            Rule::TooLong => 1,
+            Rule::Character => 2,
+            Rule::Syntax => 3,
+            Rule::NoRelation => 4,
+            Rule::NoColumn => 5,
+            Rule::Ambiguous => 6,
+            Rule::WrongType => 7,
+            Rule::KeyColumn => 8,
+            Rule::JoinNotKey => 9,
+            Rule::Count => 10,
+            Rule::Limit => 11,
+            Rule::Memory => 12,
+        }
+    }
+
+    /// The rule's name in messages.
+    pub fn name(self) -> &'static str
+        ensures { result.now ≡ rule_name self }
+    {
+        match self {
+            Rule::TooLong => "TooLong",
+            Rule::Character => "Character",
+            Rule::Syntax => "Syntax",
+            Rule::NoRelation => "NoRelation",
+            Rule::NoColumn => "NoColumn",
+            Rule::Ambiguous => "Ambiguous",
+            Rule::WrongType => "Type",
+            Rule::KeyColumn => "KeyColumn",
+            Rule::JoinNotKey => "JoinNotKey",
+            Rule::Count => "Count",
+            Rule::Limit => "Limit",
+            Rule::Memory => "Memory",
+        }
+    }
 }
 
 /// A refusal of a text: the rule that it breaks, and the byte at which it does. Only an allocation
@@ -86,6 +130,19 @@ impl ReadFault {
             rule: self.rule,
             offset: self.offset.min(end),
         }
+    }
+}
+
+impl fmt::Display for ReadFault {
+    ghost use Rattle.reader.specs.Refusal.{fault_text};
+
+    ghost output = { λ fault. Some (fault_text fault) };
+
+    fn fmt<W: fmt::Write>(&self, f: &mut fmt::Formatter<W>) -> fmt::Result {
+        let number = self.rule.number();
+        let name = self.rule.name();
+        let offset = self.offset;
+        write!(f, "{number} {name} at {offset}")
     }
 }
 
