@@ -1,3 +1,4 @@
+pub mod LineLaws
 pub mod MergeLaws
 pub mod RunLaws
 pub mod SmallLaws

@@ -37,9 +37,9 @@ merged-right one (next ∷ rows) other others order above =
 
 less_is : (a b : _) → is_lt (int_cmp a b) ≡ int_lt a b
 less_is a b = elim (int_lt a b) as (λ t. is_lt (cond t Less (cond (int_lt b a) Greater Equal)) ≡ t) [
-    | true ↦ refl
-    | false ↦ elim (int_lt b a) as (λ t. is_lt (cond t Greater Equal) ≡ false) [ true ↦ refl | false ↦ refl ]
-  ]
+  | true ↦ refl
+  | false ↦ elim (int_lt b a) as (λ t. is_lt (cond t Greater Equal) ≡ false) [ true ↦ refl | false ↦ refl ]
+]
 
 -- the first row where one list has no row
 pub first_alone : (left right : List (List Value)) (row : List Value) (rest : List (List Value)) → left ≡ row ∷ rest → length right ≡ 0 → Ascends left → IsFirst left right row rest right

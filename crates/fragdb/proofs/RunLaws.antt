@@ -1,4 +1,4 @@
-use Rattle.std.proofs.Common.{◌≡◌, ℕ, ℤ, List, [], ◌∷◌, Option, Some, None, Bool, true, false, cond, not, ◌||◌, if◌then◌else◌, map, filter, unwrap_or, Result, Ok, Err, IfOk, int_lt, pos, nat_eq, refl, ap, sym, subst, ◌∙◌}
+use Rattle.std.proofs.Common.{◌≡◌, ℕ, ℤ, List, [], ◌∷◌, Option, Some, None, Bool, true, false, cond, not, ◌||◌, if◌then◌else◌, map, filter, unwrap_or, Result, Ok, Err, IfOk, OnOk, String, Global, string_bytes, int_lt, pos, nat_eq, refl, ap, sym, subst, ◌∙◌}
 use Rattle.std.specs.FinMap as finite
 use Rattle.std.specs.Cmp.Lexicographic.{slice_cmp, nat_list_cmp_total, pointwise}
 use Rattle.std.specs.List.{AllByRecursion}
@@ -22,10 +22,12 @@ use Rattle.meaning.specs.Schema.{relation_named, kinds_of}
 use Rattle.meaning.specs.Statement.{IsSelectOf, IsInsertOf, IsStatementOf, selected}
 use Rattle.meaning.specs.Whole.{Relations, rows_of}
 use Rattle.meaning.proofs.Kept.{IsRelation-insert_row}
+use Rattle.reader.specs.Print.{answer_text}
 use Rattle.catalog.specs.Fragment.{content, Rebuilds}
 use Rattle.fragdb.specs.Item.{item, item_kinds, item_leaves, item_name, item_schema, item_whole, low, high}
 use Rattle.fragdb.specs.Merge.{merged}
-use Rattle.fragdb.specs.Small.{RunsOnLists, inserted}
+use Rattle.fragdb.specs.Line.{RunsToLine}
+use Rattle.fragdb.specs.Small.{RunsOnLists, inserted, selected_answer}
 use Rattle.fragdb.proofs.SmallLaws.{one_leaf, whole_rows, merged_filters, filter_inserted}
 
 -- whether a key is there, after one more row
@@ -99,7 +101,7 @@ rebuilt first second rows is rebuilds =
 pub select_law : (select : Select) (first second : List (List Value)) (given : Answer) → IsSelectOf item_schema select → given ≡ answer.Rows (listed select.columns select.from.columns) (selected select (merged first second)) → RunsOnLists (statement.Select select) (first ∷ second ∷ []) (first ∷ second ∷ []) given
 select_law select first second given is gives = record {
   answered = λ rows relation rebuilds.
-    gives ∙ ap (λ found. answer.Rows (listed select.columns select.from.columns) (selected select found)) (rebuilt first second rows relation rebuilds ∙ sym (rows_whole rows) ∙ ap (rows_of (item_whole rows)) (sym (named_item select.from.name is.relation is.there).0));
+      gives ∙ ap (λ found. answer.Rows (listed select.columns select.from.columns) (selected select found)) (rebuilt first second rows relation rebuilds ∙ sym (rows_whole rows) ∙ ap (rows_of (item_whole rows)) (sym (named_item select.from.name is.relation is.there).0));
   rebuilt = λ rows relation rebuilds. let P : List (List Value) → Type 0 = Rebuilds item_leaves (first ∷ second ∷ []) in subst P (sym (rows_whole rows)) rebuilds;
 }
 
@@ -111,7 +113,7 @@ added first second rows row fits relation lists here is absent relation' =
     let first_part = whole_rows (conds_hold low.conds) (insert_row row rows) relation'.fit in
     let second_part = whole_rows (conds_hold high.conds) (insert_row row rows) relation'.fit in
     rw (first_part, second_part, in_first, in_second, one_leaf row fits, is, lists.first_is, lists.second_is)
-      (elim here as (λ t. cond t (insert_row row (filter (conds_hold low.conds) rows) ∷ filter (conds_hold high.conds) rows ∷ []) (filter (conds_hold low.conds) rows ∷ insert_row row (filter (conds_hold high.conds) rows) ∷ []) ≡ cond t (insert_row row (filter (conds_hold low.conds) rows)) (filter (conds_hold low.conds) rows) ∷ cond (not t) (insert_row row (filter (conds_hold high.conds) rows)) (filter (conds_hold high.conds) rows) ∷ []) [ true ↦ refl | false ↦ refl ])
+    (elim here as (λ t. cond t (insert_row row (filter (conds_hold low.conds) rows) ∷ filter (conds_hold high.conds) rows ∷ []) (filter (conds_hold low.conds) rows ∷ insert_row row (filter (conds_hold high.conds) rows) ∷ []) ≡ cond t (insert_row row (filter (conds_hold low.conds) rows)) (filter (conds_hold low.conds) rows) ∷ cond (not t) (insert_row row (filter (conds_hold high.conds) rows)) (filter (conds_hold high.conds) rows) ∷ []) [ true ↦ refl | false ↦ refl ])
 
 -- the meaning of an INSERT over the one relation
 abbrev inserted_whole : List Value → List (List Value) → Bool → Answer × Relations
@@ -128,13 +130,13 @@ inserted_lists row first second there here = cond there (answer.Exists, first, s
 pub insert_law : (insert : Insert) (first second first' second' : List (List Value)) (given : Answer) → IsInsertOf item_schema insert → given ≡ (inserted insert.row first second).0 → first' ≡ (inserted insert.row first second).1 → second' ≡ (inserted insert.row first second).2 → RunsOnLists (statement.Insert insert) (first ∷ second ∷ []) (first' ∷ second' ∷ []) given
 insert_law insert first second first' second' given is gives gives_first gives_second = record {
   answered = λ rows relation rebuilds.
-    let whole = meaning_item insert rows (named_item insert.into is.relation is.there).0 in
-    gives ∙ ap (λ t. (inserted_lists insert.row first second t (conds_hold low.conds insert.row)).0) (same rows relation rebuilds)
-    ∙ answers (has_key (key_of insert.row) rows) (conds_hold low.conds insert.row) rows ∙ ap (λ m. m.0) (sym whole);
+      let whole = meaning_item insert rows (named_item insert.into is.relation is.there).0 in
+      gives ∙ ap (λ t. (inserted_lists insert.row first second t (conds_hold low.conds insert.row)).0) (same rows relation rebuilds)
+      ∙ answers (has_key (key_of insert.row) rows) (conds_hold low.conds insert.row) rows ∙ ap (λ m. m.0) (sym whole);
   rebuilt = λ rows relation rebuilds.
-    let whole = meaning_item insert rows (named_item insert.into is.relation is.there).0 in
-    let fits : FitsKinds item_kinds insert.row = subst (λ (r : RelationSchema). FitsKinds (kinds_of r) insert.row) (named_item insert.into is.relation is.there).1 is.fits in
-    rw (whole, gives_first, gives_second, same rows relation rebuilds)
+      let whole = meaning_item insert rows (named_item insert.into is.relation is.there).0 in
+      let fits : FitsKinds item_kinds insert.row = subst (λ (r : RelationSchema). FitsKinds (kinds_of r) insert.row) (named_item insert.into is.relation is.there).1 is.fits in
+      rw (whole, gives_first, gives_second, same rows relation rebuilds)
       (contents rows relation rebuilds fits (has_key (key_of insert.row) rows) (conds_hold low.conds insert.row) refl refl);
 }
   where
@@ -157,15 +159,17 @@ insert_law insert first second first' second' given is gives gives_first gives_s
         parts true h = h
         parts false h = h
 
--- the same of a run that may want memory, where statement and lists are given by equations
-pub select_run : (result : Result Answer Memory) (s : Statement) (select : Select) (lists : List (List (List Value))) (first second : List (List Value)) → s ≡ statement.Select select → first ∷ second ∷ [] ≡ lists → IsStatementOf item_schema s → IfOk result (λ given. given ≡ answer.Rows (listed select.columns select.from.columns) (selected select (merged first second))) → IfOk result (λ given. RunsOnLists s lists lists given)
-select_run (Ok given) s select lists first second is lists_are of gives =
-    let of_select : IsStatementOf item_schema (statement.Select select) = subst (IsStatementOf item_schema) is of in
-    rw (is, ← lists_are) (select_law select first second given of_select gives)
-select_run (Err e) s select lists first second is lists_are of gives = tt
+-- The same of a line, where statement and lists are given by equations.
 
-pub insert_run : (result : Result Answer Memory) (s : Statement) (insert : Insert) (lists : List (List (List Value))) (first second first' second' : List (List Value)) → s ≡ statement.Insert insert → first ∷ second ∷ [] ≡ lists → IsStatementOf item_schema s → IfOk result (λ given. given ≡ (inserted insert.row first second).0) → IfOk result (λ given. first' ≡ (inserted insert.row first second).1) → IfOk result (λ given. second' ≡ (inserted insert.row first second).2) → IfOk result (λ given. RunsOnLists s lists (first' ∷ second' ∷ []) given)
-insert_run (Ok given) s insert lists first second first' second' is lists_are of gives gives_first gives_second =
+pub select_runs : (result : Result (String Global) Memory) (s : Statement) (select : Select) (lists : List (List (List Value))) (first second : List (List Value)) → s ≡ statement.Select select → first ∷ second ∷ [] ≡ lists → IsStatementOf item_schema s → IfOk result (λ line. string_bytes line ≡ answer_text (selected_answer select (merged first second))) → IfOk result (λ line. RunsToLine s lists lists (string_bytes line))
+select_runs (Ok line) s select lists first second is lists_are of prints =
+    let of_select : IsStatementOf item_schema (statement.Select select) = subst (IsStatementOf item_schema) is of in
+    rw (is, ← lists_are) (record { answer = selected_answer select (merged first second); runs = select_law select first second (selected_answer select (merged first second)) of_select refl; printed = prints })
+select_runs (Err e) s select lists first second is lists_are of prints = tt
+
+pub insert_runs : (result : Result (String Global) Memory) (s : Statement) (insert : Insert) (lists : List (List (List Value))) (first second first' second' : List (List Value)) → s ≡ statement.Insert insert → first ∷ second ∷ [] ≡ lists → IsStatementOf item_schema s → IfOk result (λ line. string_bytes line ≡ answer_text (inserted insert.row first second).0) → OnOk result (first' ≡ (inserted insert.row first second).1) → OnOk result (second' ≡ (inserted insert.row first second).2) → IfOk result (λ line. RunsToLine s lists (first' ∷ second' ∷ []) (string_bytes line))
+insert_runs (Ok line) s insert lists first second first' second' is lists_are of prints gives_first gives_second =
     let of_insert : IsStatementOf item_schema (statement.Insert insert) = subst (IsStatementOf item_schema) is of in
-    rw (is, ← lists_are) (insert_law insert first second first' second' given of_insert gives gives_first gives_second)
-insert_run (Err e) s insert lists first second first' second' is lists_are of gives gives_first gives_second = tt
+    let given = (inserted insert.row first second).0 in
+    rw (is, ← lists_are) (record { answer = given; runs = insert_law insert first second first' second' given of_insert refl gives_first gives_second; printed = prints })
+insert_runs (Err e) s insert lists first second first' second' is lists_are of prints gives_first gives_second = tt

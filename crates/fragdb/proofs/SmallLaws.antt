@@ -72,10 +72,10 @@ filter_inserted p row [] order = elim (p row) as (λ t. cond t (row ∷ []) [] �
 filter_inserted p row (other ∷ rows) order =
     elim (int_lt (key_of row) (key_of other)) as (λ t. int_lt (key_of row) (key_of other) ≡ t → filter p (cond t (row ∷ other ∷ rows) (other ∷ insert_row row rows)) ≡ cond (p row) (insert_row row (filter p (other ∷ rows))) (filter p (other ∷ rows))) [
       | true ↦ λ is.
-        let Below : List Value → Type 0 = λ later. key_of row <ℤ key_of later in
-        let below = lt_below (key_of row) (key_of other) is in
-        let all : AllByRecursion Below (other ∷ rows) = (below, below_all (key_of row) other rows below order.0) in
-        ap (λ front. cond (p row) front (filter p (other ∷ rows))) (sym (insert_first row (filter p (other ∷ rows)) (all_filtered Below p (other ∷ rows) all)))
+          let Below : List Value → Type 0 = λ later. key_of row <ℤ key_of later in
+          let below = lt_below (key_of row) (key_of other) is in
+          let all : AllByRecursion Below (other ∷ rows) = (below, below_all (key_of row) other rows below order.0) in
+          ap (λ front. cond (p row) front (filter p (other ∷ rows))) (sym (insert_first row (filter p (other ∷ rows)) (all_filtered Below p (other ∷ rows) all)))
       | false ↦ λ is. after p row other rows is (p row) (p other) (filter_inserted p row rows order.1)
     ] refl
   where

@@ -1,3 +1,4 @@
 pub mod Item
 pub mod Merge
 pub mod Small
+pub mod Line

@@ -1,11 +1,14 @@
 //! The built-in relation over two lists, one for each leaf.
 
-ghost use Rattle.std.specs.Prelude.{◌≡◌, [], ◌∷◌, IfOk, OnErr, MatchResult};
-ghost use Rattle.meaning.specs.Listed.{listed};
-ghost use Rattle.meaning.specs.Statement.{selected, IsStatementOf};
+ghost use Rattle.std.specs.Prelude.{◌≡◌, ◌≢◌, [], ◌∷◌, ◌++◌, IfOk, OnOk, OnErr, codes, string_bytes};
+ghost use Rattle.meaning.specs.Statement.{IsStatementOf};
+ghost use Rattle.reader.specs.declared.fault.Rule.TheVariants as rules;
+ghost use Rattle.reader.specs.Print.{answer_text};
+ghost use Rattle.reader.specs.Refusal.{fault_text};
 ghost use Rattle.fragdb.specs.Item.{item_schema};
+ghost use Rattle.fragdb.specs.Line.{AnswersLine, RunsToLine};
 ghost use Rattle.fragdb.specs.Merge.{merged};
-ghost use Rattle.fragdb.specs.Small.{inserted, RunsOnLists};
+ghost use Rattle.fragdb.specs.Small.{inserted, selected_answer};
 
 use crate::item;
 use crate::merge::select_merged;
@@ -13,6 +16,10 @@ use meaning::answer::Answer;
 use meaning::listed::listed;
 use meaning::relation::Relation;
 use meaning::statement::{Select, Statement};
+use reader::command::Command;
+use reader::fault::{ReadFault, Rule};
+use reader::print::print_answer;
+use reader::read::read;
 use std::alloc::Global;
 use std::marker::Model;
 use terms::cond::all_hold;
@@ -43,46 +50,95 @@ impl Small {
     pub fn new(alloc: Global) -> Small
         ensures { result ≡ [] ∷ [] ∷ [] }
     {
-        Small { alloc, first: Relation::new(alloc), second: Relation::new(alloc) }
+        Small {
+            alloc,
+            first: Relation::new(alloc),
+            second: Relation::new(alloc),
+        }
     }
 
-    /// Runs one statement of the built-in schema.
-    fn run(&mut self, statement: &Statement) -> Result<Answer, Memory>
+    /// The answer to a text, or the refusal of it, with no line feed at its end. Where memory runs
+    /// out nothing has changed.
+    pub fn line(&mut self, text: &str) -> Result<String, Memory>
+        ensures ok { IfOk result (λ line. AnswersLine text.now self.old self.new (string_bytes line)) }
+        ensures err { OnErr result (self.new ≡ self.old) }
+    {
+        let schema = item::schema(self.alloc)?;
+        match read(self.alloc, text, &schema) {
+            Ok(Command::Run(statement)) => self.answer(&statement),
+            Err(fault) => refusal(self.alloc, fault),
+        }
+    }
+
+    /// The answer of a statement of the built-in schema.
+    fn answer(&mut self, statement: &Statement) -> Result<String, Memory>
         requires { IsStatementOf item_schema statement.now }
-        ensures ok { IfOk result (λ answer. RunsOnLists statement.now self.old self.new answer) }
+        ensures ok { IfOk result (λ line. RunsToLine statement.now self.old self.new (string_bytes line)) }
         ensures err { OnErr result (self.new ≡ self.old) }
     {
         match statement {
-            Statement::Select(select) => select_rows(self.alloc, select, &self.first, &self.second),
-            Statement::Insert(insert) => insert_row(&mut self.first, &mut self.second, &insert.row),
+            Statement::Select(select) => select_line(self.alloc, select, &self.first, &self.second),
+            Statement::Insert(insert) => {
+                insert_line(self.alloc, &mut self.first, &mut self.second, &insert.row)
+            }
         }
     }
 }
 
-fn select_rows(alloc: Global, select: &Select, first: &Relation, second: &Relation) -> Result<Answer, Memory>
-    ensures { IfOk result (λ answer. answer ≡ Answer.Rows (listed select.now.columns select.now.from.columns) (selected select.now (merged first.now second.now))) }
+/// The line of a refusal. A refusal for want of memory is none of the text.
+fn refusal(alloc: Global, fault: ReadFault) -> Result<String, Memory>
+    ensures rule { IfOk result (λ _. fault.rule ≢ rules.Memory) }
+    ensures text { IfOk result (λ line. string_bytes line ≡ codes "refused read " ++ fault_text fault) }
+{
+    if fault.rule() == Rule::Memory {
+        return Err(Memory);
+    }
+    Ok(format!(in alloc; "refused read {fault}")?)
+}
+
+fn select_line(
+    alloc: Global,
+    select: &Select,
+    first: &Relation,
+    second: &Relation,
+) -> Result<String, Memory>
+    ensures { IfOk result (λ line. string_bytes line ≡ answer_text (selected_answer select.now (merged first.now second.now))) }
 {
     let columns = select.columns.as_slice();
     let header = listed(alloc, columns, select.from.columns.as_slice())?;
-    let rows = select_merged(alloc, select.conds.as_slice(), columns, first.rows(), second.rows())?;
-    Ok(Answer::Rows(Seq::new(header), Seq::new(rows)))
+    let rows = select_merged(
+        alloc,
+        select.conds.as_slice(),
+        columns,
+        first.rows(),
+        second.rows(),
+    )?;
+    print_answer(alloc, &Answer::Rows(Seq::new(header), Seq::new(rows)))
 }
 
-fn insert_row(first: &mut Relation, second: &mut Relation, row: &Row) -> Result<Answer, Memory>
-    ensures answer { IfOk result (λ answer. answer ≡ (inserted row.now first.old second.old).0) }
-    ensures first { IfOk result (λ _. first.new ≡ (inserted row.now first.old second.old).1) }
-    ensures second { IfOk result (λ _. second.new ≡ (inserted row.now first.old second.old).2) }
+/// Adds a row, unless its key is in either list. The line is made first, so that the row is added
+/// only where nothing is left that could fail.
+fn insert_line(
+    alloc: Global,
+    first: &mut Relation,
+    second: &mut Relation,
+    row: &Row,
+) -> Result<String, Memory>
+    ensures line { IfOk result (λ line. string_bytes line ≡ answer_text (inserted row.now first.old second.old).0) }
+    ensures first { OnOk result (first.new ≡ (inserted row.now first.old second.old).1) }
+    ensures second { OnOk result (second.new ≡ (inserted row.now first.old second.old).2) }
     ensures err_first { OnErr result (first.new ≡ first.old) }
     ensures err_second { OnErr result (second.new ≡ second.old) }
 {
     if first.contains_key_of(row) || second.contains_key_of(row) {
-        return Ok(Answer::Exists);
+        return print_answer(alloc, &Answer::Exists);
     }
+    let line = print_answer(alloc, &Answer::Changed(1))?;
     let copy = row.copy()?;
     if all_hold(&item::low_conds(), row.values()) {
         first.insert(copy)?;
     } else {
         second.insert(copy)?;
     }
-    Ok(Answer::Changed(1))
+    Ok(line)
 }

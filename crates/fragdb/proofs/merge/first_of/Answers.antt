@@ -9,11 +9,11 @@ returns-in-Some-None-clause-first c =
 pub returns-then-is_lt-clause-first : goal.returns-then-is_lt-clause-first
 returns-then-is_lt-clause-first c =
     first_left c.args.left.now c.args.right.now c.in-Some-Some.one.now c.in-Some-Some.rest.now c.in-Some-Some.other.now c.in-Some-Some.others.now
-        c.in-Some-Some.ensures.cases.0 c.in-Some-Some.ensures'.cases.0 c.requires.left c.requires.right
-        (ap is_lt (sym c.compare_keys.ensures) ∙ sym c.is_lt.ensures ∙ c.if-is_lt.true)
+    c.in-Some-Some.ensures.cases.0 c.in-Some-Some.ensures'.cases.0 c.requires.left c.requires.right
+    (ap is_lt (sym c.compare_keys.ensures) ∙ sym c.is_lt.ensures ∙ c.if-is_lt.true)
 
 pub returns-else-is_lt-clause-first : goal.returns-else-is_lt-clause-first
 returns-else-is_lt-clause-first c =
     first_right c.args.left.now c.args.right.now c.in-Some-Some.one.now c.in-Some-Some.rest.now c.in-Some-Some.other.now c.in-Some-Some.others.now
-        c.in-Some-Some.ensures.cases.0 c.in-Some-Some.ensures'.cases.0 c.requires.left c.requires.right
-        (ap is_lt (sym c.compare_keys.ensures) ∙ sym c.is_lt.ensures ∙ c.if-is_lt.false)
+    c.in-Some-Some.ensures.cases.0 c.in-Some-Some.ensures'.cases.0 c.requires.left c.requires.right
+    (ap is_lt (sym c.compare_keys.ensures) ∙ sym c.is_lt.ensures ∙ c.if-is_lt.false)

@@ -1,0 +1,6 @@
+use Rattle.fragdb.proofs.LineLaws.{refused}
+use Rattle.fragdb.proofs.small.Small.line.Goals as goal
+
+pub returns-clause-ok : goal.returns-clause-ok
+returns-clause-ok c =
+    refused c.refusal.result c.in_ok-schema.schema.relations c.args.text.now c.args.self.now c.in-Err.fault c.in_ok-schema.ensures c.in-Err.ensures.none c.in-Err.ensures.within c.refusal.ensures.rule c.refusal.ensures.text

@@ -1,0 +1,38 @@
+use Rattle.std.specs.Prelude.{◌≡◌, ◌≢◌, ◌≤◌, ◌⊎◌, ℕ, List, ◌++◌, length, codes}
+use Rattle.terms.specs.declared.value.Value.{Value}
+use Rattle.meaning.specs.declared.answer.Answer.{Answer}
+use Rattle.meaning.specs.declared.statement.Statement.{Statement}
+use Rattle.reader.specs.declared.command.Command.{Command}
+use Rattle.reader.specs.declared.command.Command.TheVariants.{Run}
+use Rattle.reader.specs.declared.fault.Rule.TheVariants as rules
+use Rattle.reader.specs.Command.{IsTextOf}
+use Rattle.reader.specs.Fault.{Fault}
+use Rattle.reader.specs.Print.{answer_text}
+use Rattle.reader.specs.Refusal.{fault_text}
+use Rattle.fragdb.specs.Item.{item_schema}
+use Rattle.fragdb.specs.Small.{RunsOnLists}
+
+-- the statement runs on the lists, and the line is its answer
+pub record RunsToLine (statement : Statement) (old new : List (List (List Value))) (line : List ℕ) : Type 0 where
+  pub answer : Answer
+  pub runs : RunsOnLists statement old new answer
+  pub printed : line ≡ answer_text answer
+
+-- the text is one of a statement, which runs on the lists to the line
+pub record Answers (text : List ℕ) (old new : List (List (List Value))) (line : List ℕ) : Type 0 where
+  pub statement : Statement
+  pub read : IsTextOf item_schema text (Run statement)
+  pub answered : RunsToLine statement old new line
+
+-- the text is one of no command, the line names a rule and a place in the text, and the lists stay
+pub record Refuses (text : List ℕ) (old new : List (List (List Value))) (line : List ℕ) : Type 0 where
+  pub fault : Fault
+  pub is_rule : fault.rule ≢ rules.Memory
+  pub within : fault.offset ≤ length text
+  pub no_command : (command : Command) → ¬ (IsTextOf item_schema text command)
+  pub printed : line ≡ codes "refused read " ++ fault_text fault
+  pub same : new ≡ old
+
+-- the answer to a line of a script, and the lists after it
+abbrev pub AnswersLine : List ℕ → List (List (List Value)) → List (List (List Value)) → List ℕ → Type 0
+AnswersLine text old new line = Answers text old new line ⊎ Refuses text old new line
