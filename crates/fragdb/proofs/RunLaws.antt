@@ -1,8 +1,8 @@
-use Rattle.std.proofs.Common.{◌≡◌, ℕ, ℤ, List, [], ◌∷◌, Option, Some, None, Bool, true, false, cond, not, ◌||◌, if◌then◌else◌, map, filter, unwrap_or, Result, Ok, Err, IfOk, OnOk, String, Global, string_bytes, int_lt, pos, nat_eq, refl, ap, sym, subst, ◌∙◌}
+use Rattle.std.proofs.Common.{◌≡◌, ℕ, ℤ, List, [], ◌∷◌, Some, None, Bool, true, false, cond, not, ◌||◌, map, filter, unwrap_or, Result, Ok, Err, IfOk, OnOk, String, Global, string_bytes, int_lt, nat_eq, refl, ap, sym, subst, ◌∙◌}
 use Rattle.std.specs.FinMap as finite
-use Rattle.std.specs.Cmp.Lexicographic.{slice_cmp, nat_list_cmp_total, pointwise}
+use Rattle.std.specs.Cmp.Lexicographic.{nat_list_cmp_total, pointwise}
 use Rattle.std.specs.List.{AllByRecursion}
-use Rattle.std.specs.Ordering.{int_eq, nat_cmp}
+use Rattle.std.specs.Ordering.{int_eq}
 use Rattle.std.proofs.lemmas.Slice.Eq.{bytes_eq-Decides}
 use Rattle.terms.specs.declared.memory.Memory.{Memory}
 use Rattle.terms.specs.declared.value.Value.{Value}
@@ -17,7 +17,7 @@ use Rattle.meaning.specs.declared.statement.Select.{Select}
 use Rattle.meaning.specs.declared.statement.Insert.{Insert}
 use Rattle.meaning.specs.Listed.{listed}
 use Rattle.meaning.specs.Meaning.{meaning}
-use Rattle.meaning.specs.Relation.{Ascends, IsRelation, has_key, insert_row}
+use Rattle.meaning.specs.Relation.{IsRelation, has_key, insert_row}
 use Rattle.meaning.specs.Schema.{relation_named, kinds_of}
 use Rattle.meaning.specs.Statement.{IsSelectOf, IsInsertOf, IsStatementOf, selected}
 use Rattle.meaning.specs.Whole.{Relations, rows_of}
@@ -26,7 +26,7 @@ use Rattle.reader.specs.Print.{answer_text}
 use Rattle.catalog.specs.Fragment.{content, Rebuilds}
 use Rattle.fragdb.specs.Item.{item, item_kinds, item_leaves, item_name, item_schema, item_whole, low, high}
 use Rattle.fragdb.specs.Merge.{merged}
-use Rattle.fragdb.specs.Line.{RunsToLine}
+use Rattle.fragdb.specs.Line.{RunsToLine, rows_text}
 use Rattle.fragdb.specs.Small.{RunsOnLists, inserted, selected_answer}
 use Rattle.fragdb.proofs.SmallLaws.{one_leaf, whole_rows, merged_filters, filter_inserted}
 
@@ -173,3 +173,17 @@ insert_runs (Ok line) s insert lists first second first' second' is lists_are of
     let given = (inserted insert.row first second).0 in
     rw (is, ← lists_are) (record { answer = given; runs = insert_law insert first second first' second' given of_insert refl gives_first gives_second; printed = prints })
 insert_runs (Err e) s insert lists first second first' second' is lists_are of prints gives_first gives_second = tt
+
+no_conds : (rows : List (List Value)) → filter (conds_hold []) rows ≡ rows
+no_conds [] = refl
+no_conds (row ∷ rows) = ap (λ rest. row ∷ rest) (no_conds rows)
+
+-- all columns of the rows of both lists are the relation that they rebuild
+pub all_rows : (first second rows : List (List Value)) (lists : List (List (List Value))) → first ∷ second ∷ [] ≡ lists → IsRelation item_kinds rows → Rebuilds item_leaves lists rows → map (listed (0 ∷ 1 ∷ 2 ∷ [])) (filter (conds_hold []) (merged first second)) ≡ rows
+all_rows first second rows lists are relation rebuilds =
+    let P : List (List (List Value)) → Type 0 = λ contents. Rebuilds item_leaves contents rows in
+    rw (rebuilt first second rows relation (subst P (sym are) rebuilds)) (whole_rows (conds_hold []) rows relation.fit ∙ no_conds rows)
+
+-- what is shown under the relation's name
+pub shown : (line : List ℕ) (named : Bool) (found rows : List (List Value)) → named ≡ true → line ≡ rows_text found → found ≡ rows → Some line ≡ cond named (Some (rows_text rows)) None
+shown line named found rows is prints same = rw is (ap Some (prints ∙ ap rows_text same))

@@ -1,19 +1,15 @@
-use Rattle.std.proofs.Common.{◌≡◌, ℕ, ◌<ℤ◌, List, [], ◌∷◌, Bool, true, false, cond, not, ◌&&◌, ◌||◌, if◌then◌else◌, map, filter, int_lt, pos, Less, Equal, Greater, refl, ap, sym, subst, ◌∙◌}
-use Rattle.std.specs.FinMap as map
-use Rattle.std.specs.Cmp.Lexicographic.{slice_cmp, nat_list_cmp_total}
+use Rattle.std.proofs.Common.{◌≡◌, ◌<ℤ◌, List, [], ◌∷◌, Bool, true, false, cond, not, ◌&&◌, map, filter, int_lt, pos, Less, Equal, Greater, refl, ap, sym, ◌∙◌}
 use Rattle.std.specs.List.{AllByRecursion}
-use Rattle.std.specs.Ordering.{int_cmp, int_eq, is_lt, is_ge, nat_cmp}
+use Rattle.std.specs.Ordering.{int_cmp, is_lt, is_ge}
 use Rattle.terms.specs.declared.value.Value.{Value}
 use Rattle.terms.specs.declared.value.Value.TheVariants.{Int, Text}
 use Rattle.terms.specs.Cond.{conds_hold}
 use Rattle.terms.specs.Row.{key_of, FitsKinds}
 use Rattle.meaning.specs.Listed.{listed}
-use Rattle.meaning.specs.Relation.{Ascends, IsRelation, has_key, insert_row}
-use Rattle.meaning.specs.Whole.{rows_of}
+use Rattle.meaning.specs.Relation.{Ascends, insert_row}
 use Rattle.meaning.proofs.Keys.{lt_below, lt_false}
 use Rattle.meaning.proofs.Rows.{below_all}
-use Rattle.catalog.specs.Fragment.{content, Rebuilds}
-use Rattle.fragdb.specs.Item.{item_kinds, item_leaves, item_name, item_whole, low, high}
+use Rattle.fragdb.specs.Item.{item_kinds, low, high}
 use Rattle.fragdb.specs.Merge.{merged}
 use Rattle.fragdb.proofs.MergeLaws.{insert_first}
 

@@ -6,6 +6,7 @@ use Rattle.terms.specs.declared.value.Kind.TheVariants as kinds
 use Rattle.terms.specs.declared.value.Value.{Value}
 use Rattle.terms.specs.declared.value.Value.TheVariants.{Int}
 use Rattle.meaning.specs.declared.schema.RelationSchema.{RelationSchema}
+use Rattle.meaning.specs.Schema.{names_of}
 use Rattle.meaning.specs.Whole.{Relations}
 use Rattle.catalog.specs.Fragment.{Fragment}
 
@@ -39,3 +40,7 @@ item_leaves = low ∷ high ∷ []
 -- the whole database that has this relation alone
 abbrev pub item_whole : List (List Value) → Relations
 item_whole rows = map.insert map.empty item_name rows
+
+-- the names of its columns
+abbrev pub item_columns : List (List ℕ)
+item_columns = names_of item

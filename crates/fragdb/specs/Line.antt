@@ -1,6 +1,8 @@
-use Rattle.std.specs.Prelude.{◌≡◌, ◌≢◌, ◌≤◌, ◌⊎◌, ℕ, List, ◌++◌, length, codes}
+use Rattle.std.specs.Prelude.{◌≡◌, ◌≢◌, ◌≤◌, ◌⊎◌, ℕ, List, [], ◌∷◌, ◌++◌, Option, Some, None, length, codes, bytes_eq, if◌then◌else◌}
+use Rattle.std.specs.List.{slice_get}
 use Rattle.terms.specs.declared.value.Value.{Value}
 use Rattle.meaning.specs.declared.answer.Answer.{Answer}
+use Rattle.meaning.specs.declared.answer.Answer.TheVariants.{Rows}
 use Rattle.meaning.specs.declared.statement.Statement.{Statement}
 use Rattle.reader.specs.declared.command.Command.{Command}
 use Rattle.reader.specs.declared.command.Command.TheVariants.{Run}
@@ -9,7 +11,7 @@ use Rattle.reader.specs.Command.{IsTextOf}
 use Rattle.reader.specs.Fault.{Fault}
 use Rattle.reader.specs.Print.{answer_text}
 use Rattle.reader.specs.Refusal.{fault_text}
-use Rattle.fragdb.specs.Item.{item_schema}
+use Rattle.fragdb.specs.Item.{item_columns, item_schema}
 use Rattle.fragdb.specs.Small.{RunsOnLists}
 
 -- the statement runs on the lists, and the line is its answer
@@ -36,3 +38,12 @@ pub record Refuses (text : List ℕ) (old new : List (List (List Value))) (line 
 -- the answer to a line of a script, and the lists after it
 abbrev pub AnswersLine : List ℕ → List (List (List Value)) → List (List (List Value)) → List ℕ → Type 0
 AnswersLine text old new line = Answers text old new line ⊎ Refuses text old new line
+
+-- the list that a leaf's name stands for
+abbrev pub leaf_named : List (List (List Value)) → List ℕ → Option (List (List Value))
+leaf_named [] name = None
+leaf_named (first ∷ others) name = if bytes_eq name (codes "item.1") then Some first else (if bytes_eq name (codes "item.2") then slice_get others 0 else None)
+
+-- rows under the relation's columns, as a SELECT of all columns prints them
+abbrev pub rows_text : List (List Value) → List ℕ
+rows_text rows = answer_text (Rows item_columns rows)

@@ -1,7 +1,7 @@
 //! The built-in catalogue: one relation, split by rows into two lists.
 
 ghost use Rattle.std.specs.Prelude.{◌≡◌, IfOk};
-ghost use Rattle.fragdb.specs.Item.{item_schema, item_name, low, high};
+ghost use Rattle.fragdb.specs.Item.{item_schema, item_columns, low, high};
 
 use meaning::schema::{Column, RelationSchema, Schema};
 use std::alloc::Global;
@@ -14,8 +14,11 @@ use terms::value::{Kind, Value};
 /// The relation's name.
 pub const ITEM: &str = "item";
 
-/// The names of its columns, the key first.
-pub const COLUMNS: [&str; 3] = ["id", "zone", "label"];
+/// The names of its leaves.
+pub const LEAVES: [&str; 2] = ["item.1", "item.2"];
+
+/// The places of its columns, the key first.
+pub const PLACES: [usize; 3] = [0, 1, 2];
 
 /// The place of the column by which the rows are split.
 const ZONE: usize = 1;
@@ -56,6 +59,17 @@ pub fn text(alloc: Global, characters: &str) -> Result<Text, Memory>
     ensures { IfOk result (λ text. text ≡ characters.now) }
 {
     Ok(Text::new(String::from_str(alloc, characters)?))
+}
+
+/// The names of the columns, the key first.
+pub fn header(alloc: Global) -> Result<Vec<Text>, Memory>
+    ensures { IfOk result (λ header. header.items ≡ item_columns) }
+{
+    let mut header = Vec::new(alloc);
+    header.push(text(alloc, "id")?)?;
+    header.push(text(alloc, "zone")?)?;
+    header.push(text(alloc, "label")?)?;
+    Ok(header)
 }
 
 /// The conditions of the first leaf.

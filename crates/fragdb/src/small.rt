@@ -1,12 +1,15 @@
 //! The built-in relation over two lists, one for each leaf.
 
-ghost use Rattle.std.specs.Prelude.{◌≡◌, ◌≢◌, [], ◌∷◌, ◌++◌, IfOk, OnOk, OnErr, codes, string_bytes};
+ghost use Rattle.std.specs.Prelude.{◌≡◌, ◌≢◌, List, [], ◌∷◌, ◌++◌, Some, None, IfOk, OnOk, OnErr, option_map, codes, string_bytes, bytes_eq, if◌then◌else◌};
+ghost use Rattle.terms.specs.declared.value.Value.{Value};
+ghost use Rattle.meaning.specs.Relation.{IsRelation};
 ghost use Rattle.meaning.specs.Statement.{IsStatementOf};
+ghost use Rattle.catalog.specs.Fragment.{Rebuilds};
 ghost use Rattle.reader.specs.declared.fault.Rule.TheVariants as rules;
 ghost use Rattle.reader.specs.Print.{answer_text};
 ghost use Rattle.reader.specs.Refusal.{fault_text};
-ghost use Rattle.fragdb.specs.Item.{item_schema};
-ghost use Rattle.fragdb.specs.Line.{AnswersLine, RunsToLine};
+ghost use Rattle.fragdb.specs.Item.{item_kinds, item_leaves, item_name, item_schema};
+ghost use Rattle.fragdb.specs.Line.{AnswersLine, RunsToLine, leaf_named, rows_text};
 ghost use Rattle.fragdb.specs.Merge.{merged};
 ghost use Rattle.fragdb.specs.Small.{inserted, selected_answer};
 
@@ -23,7 +26,7 @@ use reader::read::read;
 use std::alloc::Global;
 use std::marker::Model;
 use terms::cond::all_hold;
-use terms::copy::TryCopy;
+use terms::copy::{TryCopy, copy_all};
 use terms::memory::Memory;
 use terms::row::Row;
 use terms::seq::Seq;
@@ -70,6 +73,35 @@ impl Small {
         }
     }
 
+    /// The rows of the relation of this name, if there is one, as a SELECT of all columns prints them.
+    pub fn show(&self, name: &str) -> Result<Option<String>, Memory>
+        ensures { IfOk result (λ shown. (rows : List (List Value)) → IsRelation item_kinds rows → Rebuilds item_leaves self.now rows
+            → option_map string_bytes shown ≡ (if bytes_eq name.now item_name then Some (rows_text rows) else None)) }
+    {
+        if name != item::ITEM {
+            return Ok(None);
+        }
+        let first = self.first.rows();
+        let second = self.second.rows();
+        let rows = select_merged(self.alloc, &[], &item::PLACES, first, second)?;
+        Ok(Some(print_rows(self.alloc, rows)?))
+    }
+
+    /// The rows of the list of the leaf of this name, if there is one, printed as by `show`.
+    pub fn leaf(&self, name: &str) -> Result<Option<String>, Memory>
+        ensures { IfOk result (λ shown. option_map string_bytes shown ≡ option_map rows_text (leaf_named self.now name.now)) }
+    {
+        let list = if name == item::LEAVES[0] {
+            &self.first
+        } else if name == item::LEAVES[1] {
+            &self.second
+        } else {
+            return Ok(None);
+        };
+        let rows = copy_all(self.alloc, list.rows())?;
+        Ok(Some(print_rows(self.alloc, rows)?))
+    }
+
     /// The answer of a statement of the built-in schema.
     fn answer(&mut self, statement: &Statement) -> Result<String, Memory>
         requires { IsStatementOf item_schema statement.now }
@@ -83,6 +115,13 @@ impl Small {
             }
         }
     }
+}
+
+fn print_rows(alloc: Global, rows: Vec<Row>) -> Result<String, Memory>
+    ensures { IfOk result (λ text. string_bytes text ≡ rows_text rows.items) }
+{
+    let header = item::header(alloc)?;
+    print_answer(alloc, &Answer::Rows(Seq::new(header), Seq::new(rows)))
 }
 
 /// The line of a refusal. A refusal for want of memory is none of the text.
