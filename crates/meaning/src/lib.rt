@@ -15,4 +15,6 @@ pub mod relation;
 pub mod run;
 pub mod schema;
 pub mod statement;
+#[cfg(test)]
+mod tests;
 pub mod whole;

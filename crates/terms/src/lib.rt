@@ -15,5 +15,7 @@ pub mod leaf;
 pub mod memory;
 pub mod row;
 pub mod seq;
+#[cfg(test)]
+mod tests;
 pub mod text;
 pub mod value;

@@ -1,0 +1,16 @@
+use Rattle.std.proofs.Common.{◌≡◌, ℕ, List, Some, ap, codes, map, ◌∙◌, sym}
+use Rattle.clap.specs.Words.{app_of, found_of, is_simple, subcommand_of}
+use Rattle.fragdb.specs.Usage.{usage}
+use Rattle.fragdb.proofs.UsageLemmas.{command_given-at, subcommand_name_of-rows}
+use Rattle.clap.proofs.WalkLemmas.{first_value-rows}
+use Rattle.fragdb.proofs.usage.read_words.Goals as goal
+
+pub returns-clause-given : goal.returns-clause-given
+returns-clause-given g c =
+    let usage_is : app_of c.in_ok-command.command ≡ usage = c.in_ok-command.ensures in
+    let entered = (c.in_ok-matches.ensures.ok.2 (ap is_simple usage_is)).1 ∙ ap (λ a. subcommand_of a (map g.S.AsStr.text c.args.words.now)) usage_is in
+    let name = c.in-Some-solo-default.ensures.name ∙ subcommand_name_of-rows c.in_ok-matches.matches in
+    let rows = c.in-Some-solo-default.ensures.rows in
+    let script = c.in-Some.ensures in
+    λ _. command_given-at (map g.S.AsStr.text c.args.words.now) _ (codes "solo") _ c.in-Some.script.now entered
+    (ap (λ (t : List ℕ). Some t) (sym c.in-Some-solo-default.is-solo) ∙ name) rows (script ∙ first_value-rows (found_of c.in-Some-solo-default.solo.now) (codes "SCRIPT"))

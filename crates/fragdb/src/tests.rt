@@ -1,0 +1,276 @@
+//! Runs of whole scripts, and the words of the command line.
+
+ghost use Rattle.std.specs.Prelude.{◌≤◌, IfOk};
+
+use crate::fault::{ProgramFault, report};
+use crate::solo::do_solo;
+use crate::usage::{Request, read_words, show_usage};
+use std::alloc::Global;
+use std::io;
+use std::io::{ErrorKind, Read, Write};
+use std::test::Fail;
+
+const LIMIT: usize = 1_048_576;
+
+/// What a run wrote to its output and to its errors, and its status.
+#[derive(Debug, Drop)]
+struct Outcome {
+    output: Vec<u8>,
+    errors: Vec<u8>,
+    status: u8,
+}
+
+fn solo(alloc: Global, script: &[u8]) -> Outcome {
+    let mut output = Vec::new(alloc);
+    let mut errors = Vec::new(alloc);
+    let status = do_solo(alloc, "s.txt", script, &mut output, &mut errors);
+    Outcome {
+        output,
+        errors,
+        status,
+    }
+}
+
+#[test]
+fn runs_each_line(rt: HostRuntime) {
+    let cases: [(&[u8], &str, u8); 12] = [
+        (b"", "", 0),
+        (b"\n\n# nothing\n#", "", 0),
+        (b"INSERT INTO item VALUES (1, 3, 'a')", "changed 1\n", 0),
+        (
+            b"INSERT INTO item VALUES (1, 3, 'a')\n\nSELECT id FROM item WHERE id = 2\n",
+            "changed 1\nid\n0 rows\n",
+            0,
+        ),
+        (b".show item", "id\tzone\tlabel\n0 rows\n", 0),
+        (b".leaf item.1\n", "id\tzone\tlabel\n0 rows\n", 0),
+        (
+            b".show emp\n.leaf item",
+            "no relation emp\nno leaf item\n",
+            0,
+        ),
+        (b".leaf \xc3\xa9", "no leaf é\n", 0),
+        (
+            b"nonsense\nINSERT INTO item VALUES (1, 3, 'a')",
+            "refused read 3 Syntax at 0\nchanged 1\n",
+            1,
+        ),
+        // A line of blanks alone is not empty, and a carriage return is part of its line.
+        (b" \n", "refused read 3 Syntax at 1\n", 1),
+        (b"\r\n", "refused read 3 Syntax at 1\n", 1),
+        (b" #\n", "refused read 2 Character at 1\n", 1),
+    ];
+    for (script, output, status) in cases {
+        let outcome = solo(rt.alloc(), script);
+        assert_eq!(rt;
+            outcome.output.as_slice(),
+            output.as_bytes(),
+            "at {script:?}"
+        );
+        assert_eq!(rt; outcome.errors.as_slice(), b"".as_slice(), "at {script:?}");
+        assert_eq!(rt; outcome.status, status, "at {script:?}");
+    }
+}
+
+#[test]
+fn names_the_first_malformed_line(rt: HostRuntime) {
+    let cases: [(&[u8], &[u8]); 16] = [
+        (b".", b"fragdb: line 1\n"),
+        (b".show", b"fragdb: line 1\n"),
+        (b".show ", b"fragdb: line 1\n"),
+        (b".show  item", b"fragdb: line 1\n"),
+        (b".show item ", b"fragdb: line 1\n"),
+        (b".show\titem", b"fragdb: line 1\n"),
+        (b".show item\tx", b"fragdb: line 1\n"),
+        (b".show item\r\n", b"fragdb: line 1\n"),
+        (b".leaf a b", b"fragdb: line 1\n"),
+        (b".shw item", b"fragdb: line 1\n"),
+        (b".Show item", b"fragdb: line 1\n"),
+        (b"INSERT 1\n\n# x\n.leaf\n.show", b"fragdb: line 4\n"),
+        (b"\xff", b"fragdb: line 1\n"),
+        (b"# \xc3\nINSERT 1", b"fragdb: line 1\n"),
+        (b"INSERT 1\n\n\xe2\x82\n\xac", b"fragdb: line 3\n"),
+        (b"INSERT 1\nINSERT \xed\xa0\x80\n.bad", b"fragdb: line 2\n"),
+    ];
+    for (script, errors) in cases {
+        let outcome = solo(rt.alloc(), script);
+        assert_eq!(rt; outcome.errors.as_slice(), errors, "at {script:?}");
+        assert_eq!(rt; outcome.output.as_slice(), b"".as_slice(), "at {script:?}");
+        assert_eq!(rt; outcome.status, 1, "at {script:?}");
+    }
+}
+
+#[test]
+fn takes_a_script_up_to_the_limit(rt: HostRuntime) -> Result<(), Fail> {
+    let mut script = vec![in rt.alloc(); b'#'; LIMIT]?;
+    let outcome = solo(rt.alloc(), script.as_slice());
+    assert_eq!(rt; (outcome.status, outcome.errors.len()), (0, 0));
+    script.push(b'\n')?;
+    let outcome = solo(rt.alloc(), script.as_slice());
+    assert_eq!(rt; outcome.status, 1);
+    assert_eq!(rt; outcome.output.as_slice(), b"".as_slice());
+    assert_eq!(rt;
+        outcome.errors.as_slice(),
+        b"fragdb: script too long\n".as_slice()
+    );
+    Ok(())
+}
+
+/// A writer that takes this many bytes and then fails, and a reader that gives as many and then fails.
+#[derive(Drop)]
+struct Failing {
+    left: usize,
+    kind: ErrorKind,
+}
+
+impl Failing {
+    fn take(&mut self, wanted: usize) -> io::Result<usize>
+        ensures { IfOk result (λ count. count ≤ wanted) }
+    {
+        if self.left == 0 {
+            return Err(io::Error::from(self.kind));
+        }
+        let count = self.left.min(wanted);
+        self.left -= count;
+        Ok(count)
+    }
+}
+
+impl Write for Failing {
+    fn write(&mut self, buf: &[u8]) -> io::Result<usize> {
+        self.take(buf.len())
+    }
+
+    fn flush(&mut self) -> io::Result<()> {
+        Ok(())
+    }
+}
+
+impl Read for Failing {
+    fn read(&mut self, buf: &mut [u8]) -> io::Result<usize> {
+        self.take(buf.len())
+    }
+}
+
+#[test]
+fn ends_quietly_where_nobody_reads(rt: HostRuntime) -> Result<(), Fail> {
+    let mut script = Vec::new(rt.alloc());
+    for _ in 0..20_000 {
+        script.extend_from_slice(b".leaf item.1\n")?;
+    }
+    for left in [0, 5, 100_000] {
+        let mut output = Failing {
+            left,
+            kind: ErrorKind::BrokenPipe,
+        };
+        let mut errors = Vec::new(rt.alloc());
+        let input = script.as_slice();
+        let status = do_solo(rt.alloc(), "s.txt", input, &mut output, &mut errors);
+        assert_eq!(rt; (status, errors.len(), output.left), (1, 0, 0));
+    }
+    Ok(())
+}
+
+#[test]
+fn tells_a_read_that_fails(rt: HostRuntime) {
+    let cases: [(ErrorKind, &[u8], u8); 2] = [
+        (
+            ErrorKind::PermissionDenied,
+            b"fragdb: cannot read s.txt\n",
+            1,
+        ),
+        (ErrorKind::OutOfMemory, b"fragdb: out of memory\n", 4),
+    ];
+    for (kind, text, status) in cases {
+        let input = Failing { left: 3, kind };
+        let mut output = Vec::new(rt.alloc());
+        let mut errors = Vec::new(rt.alloc());
+        assert_eq!(rt;
+            do_solo(rt.alloc(), "s.txt", input, &mut output, &mut errors),
+            status
+        );
+        assert_eq!(rt; errors.as_slice(), text);
+        assert_eq!(rt; output.len(), 0);
+    }
+}
+
+#[test]
+fn reads_the_words(rt: HostRuntime) {
+    let cases: [(&[&str], &str); 4] = [
+        (&["fragdb"], "-"),
+        (&["fragdb", "solo", "-"], "-"),
+        (&["fragdb", "solo", "a b.txt"], "a b.txt"),
+        (&["fragdb", "solo", "--", "-x"], "-x"),
+    ];
+    for (words, script) in cases {
+        let Request::Solo { script: read } = read_words(rt.alloc(), words).expect(&rt, "a request");
+        assert_eq!(rt; read, script);
+    }
+}
+
+#[test]
+fn shows_how_it_is_called(rt: HostRuntime) -> Result<(), Fail> {
+    let cases: [(&[&str], u8, &str); 7] = [
+        (&["fragdb", "--help"], 0, "A relational database"),
+        (&["fragdb", "solo", "--help"], 0, "Runs a script"),
+        (&["fragdb", "--version"], 0, "fragdb 0.1.0\n"),
+        (&["fragdb", "solo"], 2, "error: the following required"),
+        (
+            &["fragdb", "solo", "a", "b"],
+            2,
+            "error: unexpected argument 'b'",
+        ),
+        (
+            &["fragdb", "--bad"],
+            2,
+            "error: unexpected argument '--bad'",
+        ),
+        (
+            &["fragdb", "sole"],
+            2,
+            "error: unrecognized subcommand 'sole'",
+        ),
+    ];
+    for (words, status, text) in cases {
+        let mut output = Vec::new(rt.alloc());
+        let mut errors = Vec::new(rt.alloc());
+        let error = read_words(rt.alloc(), words).expect_err(&rt, "no request");
+        assert_eq!(rt;
+            show_usage(&error, &mut output, &mut errors),
+            status,
+            "at {text}"
+        );
+        let (shown, empty) = if status == 0 {
+            (output, errors)
+        } else {
+            (errors, output)
+        };
+        assert!(rt; shown.as_slice().starts_with(text.as_bytes()), "at {text}");
+        assert_eq!(rt; empty.len(), 0, "at {text}");
+    }
+    Ok(())
+}
+
+#[test]
+fn says_each_fault(rt: HostRuntime) {
+    let cases: [(ProgramFault<'_>, &[u8], u8); 5] = [
+        (
+            ProgramFault::CannotRead { file: "a" },
+            b"fragdb: cannot read a\n",
+            1,
+        ),
+        (ProgramFault::ScriptTooLong, b"fragdb: script too long\n", 1),
+        (
+            ProgramFault::Malformed { line: 12 },
+            b"fragdb: line 12\n",
+            1,
+        ),
+        (ProgramFault::Memory, b"fragdb: out of memory\n", 4),
+        (ProgramFault::CannotWrite, b"", 1),
+    ];
+    for (fault, text, status) in cases {
+        let mut errors = Vec::new(rt.alloc());
+        assert_eq!(rt; report(&mut errors, &fault), status);
+        assert_eq!(rt; errors.as_slice(), text);
+    }
+}

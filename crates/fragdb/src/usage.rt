@@ -1,0 +1,95 @@
+//! The words of the command line.
+
+ghost use Rattle.std.specs.Prelude.{◌≡◌, ◌≤◌, ◌<◌, ◌⊎◌, Some, IfOk, IsOkAnd, codes, length, map};
+ghost use Rattle.std.specs.Io.KnownBytes.{Keeps};
+ghost use Rattle.std.specs.IoError.{error_kind};
+ghost use Rattle.clap.specs.Words.{app_of, kind_of};
+ghost use Rattle.fragdb.specs.Usage.{command_given, script_of, usage, usage_status};
+
+use crate::fault::{ProgramFault, report};
+use clap::error::ErrorKind;
+use clap::{Arg, Command, Error};
+use std::alloc::{AllocError, Global};
+use std::convert::AsStr;
+use std::io;
+use std::io::{ErrorKind as IoErrorKind, Write};
+
+/// What the command line asks for.
+#[derive(Clone, Copy, Debug, PartialEq, Eq)]
+pub enum Request<'a> {
+    /// To run this script, a file's name, or `-` for standard input.
+    Solo { script: &'a str },
+}
+
+/// What the words ask for, of which the first names the program. With no other word that is `solo -`.
+pub fn read_words<'a, S: AsStr>(alloc: Global, words: &'a [S]) -> Result<Request<'a>, Error>
+    ensures alone { length words.entry.now ≤ 1 → IsOkAnd result (λ request. script_of request ≡ codes "-") }
+    ensures given { IfOk result (λ request. 1 < length words.entry.now
+        → command_given (map S.text words.entry.now) ≡ Some (codes "solo", Some (script_of request))) }
+{
+    if words.len() <= 1 {
+        return Ok(Request::Solo { script: "-" });
+    }
+    let mut command = command(alloc)?;
+    let matches = command.try_get_matches_from_mut(words)?;
+    if let Some(("solo", solo)) = matches.subcommand()
+        && let Some(script) = solo.get_str("SCRIPT")
+    {
+        return Ok(Request::Solo { script });
+    }
+    Err(command.error(ErrorKind::MissingSubcommand, "a command is missing")?)
+}
+
+/// The fault of a command line that could not be read.
+pub fn unreadable_words(alloc: Global, error: &io::Error) -> Error
+    ensures memory { error_kind error.now ≡ IoErrorKind.OutOfMemory → kind_of result ≡ ErrorKind.OutOfMemory }
+    ensures kind { (kind_of result ≡ ErrorKind.InvalidValue) ⊎ (kind_of result ≡ ErrorKind.OutOfMemory) }
+{
+    if error.kind() == IoErrorKind::OutOfMemory {
+        return Error::from(AllocError);
+    }
+    not_text(alloc).unwrap_or_else(Error::from)
+}
+
+fn not_text(alloc: Global) -> Result<Error, AllocError>
+    ensures { IfOk result (λ error. kind_of error ≡ ErrorKind.InvalidValue) }
+{
+    let message = "invalid UTF-8 was detected in one or more arguments";
+    command(alloc)?.error(ErrorKind::InvalidValue, message)
+}
+
+fn command<'a>(alloc: Global) -> Result<Command<'a>, AllocError>
+    ensures { IfOk result (λ command. app_of command ≡ usage) }
+{
+    let script = Arg::new(alloc, "SCRIPT")
+        .required(true)
+        .help("A file with one item a line, or - for standard input");
+    let solo = Command::new(alloc, "solo")
+        .about("Runs a script of statements, one at a time")
+        .arg(script)?;
+    Command::new(alloc, "fragdb")
+        .version("0.1.0")
+        .about("A relational database in fragments")
+        .subcommand_required(true)
+        .subcommand(solo)
+}
+
+/// Writes clap's text where it belongs, and answers the exit status: 0 for what was asked for, 2 for
+/// a mistake, and 4 for the want of memory.
+pub fn show_usage<W: Write, E: Write>(error: &Error, output: &mut W, errors: &mut E) -> u8
+    ensures status { result ≡ usage_status (kind_of error.now) }
+    ensures asked_for { result ≡ 0 → Keeps (E.contents errors.old) (E.contents errors.new) }
+    ensures mistake { 0 < result → Keeps (W.contents output.old) (W.contents output.new) }
+{
+    match error.kind() {
+        ErrorKind::OutOfMemory => report(errors, &ProgramFault::Memory),
+        ErrorKind::DisplayHelp | ErrorKind::DisplayVersion => {
+            let _ = write!(output, "{error}").and_then(|()| output.flush());
+            0
+        }
+        _ => {
+            let _ = write!(errors, "{error}");
+            2
+        }
+    }
+}
