@@ -3,12 +3,15 @@
 ghost use Rattle.std.specs.Prelude.{◌≤◌, IfOk};
 
 use crate::fault::{ProgramFault, report};
+use crate::small::Small;
 use crate::solo::do_solo;
 use crate::usage::{Request, read_words, show_usage};
 use std::alloc::Global;
 use std::io;
 use std::io::{ErrorKind, Read, Write};
+use std::process::Abort;
 use std::test::Fail;
+use terms::memory::Memory;
 
 const LIMIT: usize = 1_048_576;
 
@@ -73,8 +76,154 @@ fn runs_each_line(rt: HostRuntime) {
 }
 
 #[test]
+fn answers_over_both_lists(rt: HostRuntime) {
+    let script = b"INSERT INTO item VALUES (1, 3, 'a')
+INSERT INTO item VALUES (1, 50, 'b')
+SELECT label FROM item WHERE id = 1
+.leaf item.1
+.leaf item.2
+INSERT INTO item VALUES (-7, 10, 'it''s')
+insert into item values (4, -9223372036854775808, '');
+SELECT * FROM item WHERE zone = 10
+SELECT label, item.id, id FROM item WHERE label = 'a'
+.show item
+.leaf item.2
+";
+    let output = "changed 1
+exists
+label
+a
+1 row
+id\tzone\tlabel
+1\t3\ta
+1 row
+id\tzone\tlabel
+0 rows
+changed 1
+changed 1
+id\tzone\tlabel
+-7\t10\tit's
+1 row
+label\tid\tid
+a\t1\t1
+1 row
+id\tzone\tlabel
+-7\t10\tit's
+1\t3\ta
+4\t-9223372036854775808\t
+3 rows
+id\tzone\tlabel
+-7\t10\tit's
+1 row
+";
+    let outcome = solo(rt.alloc(), script);
+    let told = str::from_utf8(outcome.output.as_slice()).ok();
+    assert_eq!(rt; told, Some(output));
+    assert_eq!(rt; outcome.status, 0);
+}
+
+#[test]
+fn refuses_by_rule_and_place(rt: HostRuntime) -> Result<(), Fail> {
+    let cases: [(&str, &str); 16] = [
+        ("SELECT nam FROM item WHERE id = 1", "5 NoColumn at 7"),
+        ("SELECT id FROM item WHERE", "3 Syntax at 25"),
+        ("SELECT id FROM item", "3 Syntax at 19"),
+        ("SELECT id FROM item WHERE label = 5", "7 Type at 34"),
+        ("SELECT id FROM item WHERE zone = 'a'", "7 Type at 33"),
+        ("INSERT INTO item VALUES (1, 2)", "10 Count at 29"),
+        ("SELECT id FROM item WHERE label = 'a", "2 Character at 34"),
+        ("SELECT id FROM itm WHERE id = 1", "4 NoRelation at 15"),
+        (
+            "INSERT INTO item VALUES (1, 9223372036854775808, 'a')",
+            "11 Limit at 28",
+        ),
+        (
+            "INSERT INTO item VALUES (1, -9223372036854775809, 'a')",
+            "11 Limit at 29",
+        ),
+        ("INSERT INTO item VALUES (1, -'a', 'a')", "3 Syntax at 29"),
+        ("INSERT INTO item VALUES ('1', 2, 'a')", "7 Type at 25"),
+        ("UPDATE item SET zone = 1", "3 Syntax at 0"),
+        ("SELECT id FROM item WHERE id < 1", "3 Syntax at 29"),
+        ("SELECT ID FROM item WHERE id = 1", "2 Character at 7"),
+        (
+            "SELECT item.id, emp.zone FROM item WHERE id = 1",
+            "5 NoColumn at 16",
+        ),
+    ];
+    for (text, refusal) in cases {
+        let outcome = solo(rt.alloc(), text.as_bytes());
+        let line = format!(in rt.alloc(); "refused read {refusal}\n")?;
+        let told = str::from_utf8(outcome.output.as_slice()).ok();
+        assert_eq!(rt; told, Some(line.as_str()), "at {text}");
+        assert_eq!(rt; outcome.status, 1);
+    }
+    for (bytes, refusal) in [(4096, "3 Syntax at 4096"), (4097, "1 TooLong at 4096")] {
+        let blanks = vec![in rt.alloc(); b' '; bytes]?;
+        let outcome = solo(rt.alloc(), blanks.as_slice());
+        let line = format!(in rt.alloc(); "refused read {refusal}\n")?;
+        assert_eq!(rt; outcome.output.as_slice(), line.as_bytes());
+    }
+    Ok(())
+}
+
+/// A line's answer, asked for again where memory ran out, which must have changed nothing.
+fn sure_line(rt: &impl Abort, small: &mut Small, text: &str) -> Result<String, Memory> {
+    let before = sure_show(small)?;
+    match small.line(text) {
+        Ok(line) => Ok(line),
+        Err(_) => {
+            assert!(rt; sure_show(small)?.as_str() == before.as_str());
+            small.line(text)
+        }
+    }
+}
+
+/// Both lists as they are shown, asked for again where memory ran out.
+fn sure_show(small: &Small) -> Result<String, Memory> {
+    let mut both = match small.leaf("item.1") {
+        Ok(shown) => shown,
+        Err(_) => small.leaf("item.1")?,
+    };
+    let second = match small.leaf("item.2") {
+        Ok(shown) => shown,
+        Err(_) => small.leaf("item.2")?,
+    };
+    if let (Some(both), Some(second)) = (&mut both, &second)
+        && both.push_str(second.as_str()).is_err()
+    {
+        both.push_str(second.as_str())?;
+    }
+    match both {
+        Some(both) => Ok(both),
+        None => Err(Memory),
+    }
+}
+
+/// With each allocation refused in turn (`rt try --test --fail-alloc N`) the answers stay the same.
+#[test]
+fn want_of_memory_changes_nothing(rt: HostRuntime) -> Result<(), Fail> {
+    let mut small = Small::new(rt.alloc());
+    let cases = [
+        ("INSERT INTO item VALUES (1, 3, 'a')", "changed 1"),
+        ("INSERT INTO item VALUES (2, 30, 'b')", "changed 1"),
+        ("INSERT INTO item VALUES (1, 50, 'b')", "exists"),
+        ("SELECT label FROM item WHERE id = 2", "label\nb\n1 row"),
+        (
+            "SELECT nam FROM item WHERE id = 2",
+            "refused read 5 NoColumn at 7",
+        ),
+    ];
+    for (text, answer) in cases {
+        let line = sure_line(&rt, &mut small, text).map_err(|_| "memory ran out twice")?;
+        assert_eq!(rt; line.as_str(), answer);
+    }
+    Ok(())
+}
+
+#[test]
 fn names_the_first_malformed_line(rt: HostRuntime) {
-    let cases: [(&[u8], &[u8]); 16] = [
+    let cases: [(&[u8], &[u8]); 17] = [
         (b".", b"fragdb: line 1\n"),
         (b".show", b"fragdb: line 1\n"),
         (b".show ", b"fragdb: line 1\n"),
@@ -86,6 +235,7 @@ fn names_the_first_malformed_line(rt: HostRuntime) {
         (b".leaf a b", b"fragdb: line 1\n"),
         (b".shw item", b"fragdb: line 1\n"),
         (b".Show item", b"fragdb: line 1\n"),
+        (b".show item\n.shw item", b"fragdb: line 2\n"),
         (b"INSERT 1\n\n# x\n.leaf\n.show", b"fragdb: line 4\n"),
         (b"\xff", b"fragdb: line 1\n"),
         (b"# \xc3\nINSERT 1", b"fragdb: line 1\n"),

@@ -1,5 +1,7 @@
 //! The one error of want of memory.
 
+ghost use Rattle.std.specs.Prelude.{Some, codes};
+
 use std::alloc::{AllocError, AllocFailed};
 use std::fmt;
 
@@ -8,6 +10,8 @@ use std::fmt;
 pub struct Memory;
 
 impl fmt::Display for Memory {
+    ghost output = { λ _. Some (codes "out of memory") };
+
     fn fmt<W: fmt::Write>(&self, f: &mut fmt::Formatter<W>) -> fmt::Result {
         write!(f, "out of memory")
     }
