@@ -4,8 +4,12 @@ ghost use Rattle.std.specs.Prelude.{◌≡◌, ◌≢◌, ◌≤◌, ◌<◌, �
 ghost use Rattle.std.specs.List.{starts_with};
 ghost use Rattle.std.specs.Borrow.{Bor};
 ghost use Rattle.std.specs.Io.KnownBytes.{Appends, Keeps};
+ghost use Rattle.terms.specs.declared.value.Value.{Value};
+ghost use Rattle.meaning.specs.Relation.{IsRelation};
+ghost use Rattle.catalog.specs.Fragment.{Rebuilds};
+ghost use Rattle.fragdb.specs.Item.{item_kinds, item_leaves};
 ghost use Rattle.fragdb.specs.Script.{first_unreadable, lines_of, task_of, tasks_of_lines};
-ghost use Rattle.fragdb.specs.Solo.{IsAccepted, IsOfRead, IsOfRun, IsRun, is_refusal, longest};
+ghost use Rattle.fragdb.specs.Solo.{IsAccepted, IsOfRead, IsOfRun, AnswersTask, IsRun, Lists, is_refusal, leaf_text, longest, relation_text};
 
 use crate::fault::{ProgramFault, report};
 use crate::script::{Item, items};
@@ -32,7 +36,7 @@ pub fn do_solo<R: Read + Drop, W: Write, E: Write>(
         → (0 < result) × Keeps (W.contents output.old) (W.contents output.new)) }
     ensures run { result ≡ 0 → IfSome (R.remaining input) (λ script. (written : List ℕ)
         × Appends (W.contents output.old) (W.contents output.new) written
-        × IsRun (tasks_of_lines (lines_of script)) written false) }
+        × (lists : Lists) × IsRun (tasks_of_lines (lines_of script)) written false lists) }
     ensures quiet { result ≡ 0 → Keeps (E.contents errors.old) (E.contents errors.new) }
 {
     match solo(alloc, file, input, output) {
@@ -51,7 +55,7 @@ fn solo<'a, R: Read + Drop, W: Write>(
     ensures accepted { OnOk result (IfSome (R.remaining input) IsAccepted) }
     ensures run { IfOk result (λ any_refused. IfSome (R.remaining input) (λ script. (written : List ℕ)
         × Appends (W.contents output.old) (W.contents output.new) written
-        × IsRun (tasks_of_lines (lines_of script)) written any_refused)) }
+        × (lists : Lists) × IsRun (tasks_of_lines (lines_of script)) written any_refused lists)) }
     ensures malformed { (line : ℕ) → result ≡ Err (ProgramFault.Malformed line)
         → IfSome (R.remaining input) (λ script. first_unreadable (lines_of script) ≡ Some line) }
     ensures too_long { result ≡ Err ProgramFault.ScriptTooLong → IfSome (R.remaining input) (λ script. longest < length script) }
@@ -99,7 +103,7 @@ fn run<'a, W: Write>(
     output: &mut W,
 ) -> Result<bool, ProgramFault<'a>>
     ensures ok { IfOk result (λ any_refused. (written : List ℕ) × Appends (W.contents output.old) (W.contents output.new) written
-        × IsRun (map task_of items.now) written any_refused) }
+        × (lists : Lists) × IsRun (map task_of items.now) written any_refused lists) }
     ensures err { IfErr result IsOfRun }
 {
     let mut database = Small::new(alloc);
@@ -120,27 +124,43 @@ struct Line {
 }
 
 fn answer(alloc: Global, database: &mut Small, item: Item<'_>) -> Result<Line, Memory>
-    ensures { IfOk result (λ line. line.is_refused ≡ is_refusal (task_of item.entry) (string_bytes line.text)) }
+    ensures text { IfOk result (λ line. AnswersTask (task_of item.entry) database.old database.new (string_bytes line.text)) }
+    ensures refused { IfOk result (λ line. line.is_refused ≡ is_refusal (task_of item.entry) (string_bytes line.text)) }
 {
-    let text = match item {
+    match item {
         Item::Statement(text) => {
             let text = database.line(text)?;
             let is_refused = is_refused(text.as_bytes());
-            return Ok(Line { text, is_refused });
+            Ok(Line { text, is_refused })
         }
-        Item::Show(name) => match database.show(name)? {
-            Some(text) => text,
-            None => format!(in alloc; "no relation {name}")?,
-        },
-        Item::Leaf(name) => match database.leaf(name)? {
-            Some(text) => text,
-            None => format!(in alloc; "no leaf {name}")?,
-        },
-    };
-    Ok(Line {
-        text,
-        is_refused: false,
-    })
+        Item::Show(name) => Ok(Line {
+            text: shown_relation(alloc, database, name)?,
+            is_refused: false,
+        }),
+        Item::Leaf(name) => Ok(Line {
+            text: shown_leaf(alloc, database, name)?,
+            is_refused: false,
+        }),
+    }
+}
+
+fn shown_relation(alloc: Global, database: &Small, name: &str) -> Result<String, Memory>
+    ensures { IfOk result (λ text. (rows : List (List Value)) → IsRelation item_kinds rows → Rebuilds item_leaves database.now rows
+        → string_bytes text ≡ relation_text name.now rows) }
+{
+    match database.show(name)? {
+        Some(text) => Ok(text),
+        None => Ok(format!(in alloc; "no relation {name}")?),
+    }
+}
+
+fn shown_leaf(alloc: Global, database: &Small, name: &str) -> Result<String, Memory>
+    ensures { IfOk result (λ text. string_bytes text ≡ leaf_text name.now database.now) }
+{
+    match database.leaf(name)? {
+        Some(text) => Ok(text),
+        None => Ok(format!(in alloc; "no leaf {name}")?),
+    }
 }
 
 fn is_refused(line: &[u8]) -> bool

@@ -9,5 +9,5 @@ loop-item-preserved g c =
       so_far.0 ++ (string_bytes c.in_ok-line.line.text ++ 10 ∷ []),
       Appends-more (g.W.Write.contents c.args.output.now) (g.W.Write.contents c.loop-item.output) (g.W.Write.contents c.writeln.new.self) so_far.0
           (string_bytes c.in_ok-line.line.text ++ 10 ∷ []) so_far.1 (at_ok c.writeln.result wrote c.writeln.ensures.bytes),
-      IsRun-next c.args.items.now c.loop-item.item-index _ so_far.0 c.loop-item.any_refused (string_bytes c.in_ok-line.line.text) c.in_ok-line.line.is_refused (omega arith) so_far.2 c.in_ok-line.ensures,
+      IsRun-next c.args.items.now c.loop-item.item-index _ so_far.0 c.loop-item.any_refused c.loop-item.database c.answer.new.database (string_bytes c.in_ok-line.line.text) c.in_ok-line.line.is_refused (omega arith) so_far.2 c.in_ok-line.ensures.text c.in_ok-line.ensures.refused,
     )
