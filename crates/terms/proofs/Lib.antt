@@ -1,0 +1,7 @@
+pub mod Floor
+pub mod Successors
+pub mod OneColumn
+pub mod Rows
+pub mod SortedTests
+pub mod SearchLaws
+pub mod LeastRow

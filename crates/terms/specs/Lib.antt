@@ -3,3 +3,5 @@ pub mod Value
 pub mod Order
 pub mod Row
 pub mod Cond
+pub mod TestValues
+pub mod Search

@@ -7,6 +7,7 @@ use crate::copy::{TryCopy, copy_all};
 use crate::memory::Memory;
 use crate::row::Row;
 use crate::value::Value;
+use std::alloc::Global;
 use std::marker::Model;
 
 /// A comparison.
@@ -101,6 +102,11 @@ impl Conds {
         self.conds.as_slice()
     }
 
+    /// The allocator that these conditions stand on.
+    pub(crate) fn allocator(&self) -> Global {
+        *self.conds.allocator()
+    }
+
     /// Whether all conditions hold of a row.
     pub fn hold(&self, row: &Row) -> bool
         ensures { result ≡ conds_hold self.now row.now }
@@ -118,7 +124,7 @@ pub fn all_hold(conds: &[Cond], values: &[Value]) -> bool
 
 impl TryCopy for Conds {
     fn copy(&self) -> Result<Conds, Memory> {
-        let conds = copy_all(*self.conds.allocator(), self.conds.as_slice())?;
+        let conds = copy_all(self.allocator(), self.conds.as_slice())?;
         Ok(Conds { conds })
     }
 }

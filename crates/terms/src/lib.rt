@@ -1,7 +1,7 @@
 //! Values, rows and the conditions on them: what the rest of fragdb speaks of.
 //!
-//! Stands on nothing but `std`. The contract that the crates above use: `Conds::hold` answers whether
-//! all conditions hold of a row.
+//! Stands on nothing but `std`. The contracts that the crates above use: `Conds::hold` answers whether
+//! all conditions hold of a row, and `Conds::satisfiable` gives a row exactly when they hold of one.
 //!
 //! ```text
 //! let conds = Conds::new(conds);            // zone = 3
@@ -14,7 +14,9 @@ pub mod copy;
 pub mod leaf;
 pub mod memory;
 pub mod row;
+pub mod satisfiable;
 pub mod seq;
+pub mod test_values;
 #[cfg(test)]
 mod tests;
 pub mod text;
