@@ -25,3 +25,6 @@ pub fn place(
     let values = listed(alloc, columns, row.values())?;
     Ok(Some(Row::new(values)))
 }
+
+#[cfg(test)]
+mod tests;

@@ -13,11 +13,13 @@ use crate::token::{Placed, Token};
 use crate::tree::{Constant, Named};
 use std::marker::Model;
 
+/// Stands for the end of a text, whatever its length: an offset beyond any byte.
+pub const BEYOND: usize = usize::MAX;
+
 /// The tokens of a text that are still to be read.
 #[derive(Drop)]
 pub struct Cursor<'a> {
     rest: &'a [Placed<'a>],
-    end: usize,
 }
 
 impl<'a> Model for Cursor<'a> {
@@ -30,11 +32,11 @@ impl<'a> Model for Cursor<'a> {
 }
 
 impl<'a> Cursor<'a> {
-    /// All tokens of a text that is `end` bytes long.
-    pub fn new(tokens: &'a [Placed<'a>], end: usize) -> Cursor<'a>
+    /// All tokens of a text.
+    pub fn new(tokens: &'a [Placed<'a>]) -> Cursor<'a>
         ensures { result ≡ symbols_of tokens.now }
     {
-        Cursor { rest: tokens, end }
+        Cursor { rest: tokens }
     }
 
     /// Whether no token is left.
@@ -44,9 +46,9 @@ impl<'a> Cursor<'a> {
         self.rest.is_empty()
     }
 
-    /// Where the next token stands, the text's length where none is left.
+    /// Where the next token stands, `BEYOND` where none is left. Offsets are in no contract.
     pub fn offset(&self) -> usize {
-        self.rest.first().map_or(self.end, |placed| placed.offset)
+        self.rest.first().map_or(BEYOND, |placed| placed.offset)
     }
 
     /// The refusal of the next token.

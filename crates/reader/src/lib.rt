@@ -11,7 +11,7 @@
 
 pub mod class;
 pub mod command;
-mod cursor;
+pub mod cursor;
 pub mod fault;
 mod integer;
 pub mod keyword;

@@ -174,20 +174,16 @@ fn command<'a>(alloc: Global, cursor: &mut Cursor<'a>) -> Result<Written<'a>, Re
     }
 }
 
-/// The command that the tokens of a text write, where the text is `end` bytes long.
+/// The command that the tokens of a text write.
 ///
-/// The refusal of tokens that write none stands at the first token with which no command goes on, or at `end` where the
-/// tokens end too early.
-pub fn parse<'a>(
-    alloc: Global,
-    tokens: &'a [Placed<'a>],
-    end: usize,
-) -> Result<Written<'a>, ReadFault>
+/// The refusal of tokens that write none stands at the first token with which no command goes on, or at
+/// `BEYOND` where the tokens end too early.
+pub fn parse<'a>(alloc: Global, tokens: &'a [Placed<'a>]) -> Result<Written<'a>, ReadFault>
     ensures found { IfOk result (λ written. Writes (symbols_of tokens.now) (written_of written)) }
     ensures none { IfErr result (λ fault. fault.rule ≢ rules.Memory → (written : tree.Written) → ¬ (Writes (symbols_of tokens.now) written)) }
     ensures rule { IfErr result (λ fault. (fault.rule ≡ rules.Syntax) ⊎ (fault.rule ≡ rules.Memory)) }
 {
-    command(alloc, &mut Cursor::new(tokens, end))
+    command(alloc, &mut Cursor::new(tokens))
 }
 
 /// Tokens write one command at most.

@@ -49,7 +49,10 @@ fn read_bytes(alloc: Global, text: &[u8], schema: &Schema) -> Result<Command, Re
         return Err(ReadFault::new(Rule::TooLong, TEXT_BYTES));
     }
     let tokens = tokens(alloc, text)?;
-    let written = parse(alloc, tokens.as_slice(), text.len())?;
+    let written = parse(alloc, tokens.as_slice())?;
     let statement = names::statement(alloc, schema, &written)?;
     Ok(Command::Run(statement))
 }
+
+#[cfg(test)]
+mod tests;

@@ -36,3 +36,7 @@ congr (Text s) (Text t) (Text u) = nat_list_cmp_total.congr s t u
 -- the order of values is total
 pub value_cmp_total : IsTotalOrder value_cmp
 value_cmp_total = record { antisymm = antisymm; trans = trans; congr = congr }
+
+-- values that compare as equal are the same
+abbrev pub EqualValuesAreOne : Type 0
+EqualValuesAreOne = (one other : Value) → value_cmp one other ≡ Equal → one ≡ other

@@ -4,7 +4,7 @@ ghost use Rattle.std.specs.Prelude.{◌≡◌, IfOk, IsTrue, ◌↔◌, Some, re
 ghost use Rattle.std.specs.Ordering.{eq_by_cmp};
 ghost use Rattle.std.specs.Cmp.{po, eq_by_cmp_equiv, partial_equiv_from_equiv};
 ghost use Rattle.terms.specs.Value.{Fits, kind_of, value_cmp};
-ghost use Rattle.terms.specs.Order.{value_cmp_total};
+ghost use Rattle.terms.specs.Order.{EqualValuesAreOne, value_cmp_total};
 
 use crate::copy::TryCopy;
 use crate::memory::Memory;
@@ -53,6 +53,11 @@ impl Value {
         }
     }
 }
+
+/// Values that compare as equal are the same, so that an order of values never ties two of them.
+pub fn equal_values_are_one()
+    ensures { EqualValuesAreOne }
+{}
 
 impl TryCopy for Value {
     fn copy(&self) -> Result<Value, Memory> {

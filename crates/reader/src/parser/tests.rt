@@ -1,4 +1,5 @@
 use super::*;
+use crate::cursor::BEYOND;
 use crate::fault::Rule;
 use crate::token::Token;
 use std::test::*;
@@ -44,9 +45,7 @@ fn select_tokens<'a>() -> [Placed<'a>; 10] {
 fn an_insert_with_its_offsets(rt: HostRuntime) -> Result<(), Fail> {
     let tokens = insert_tokens(String::from_str(rt.alloc(), "ab")?);
     for len in [10, 11] {
-        let written = parse(rt.alloc(), &tokens[..len], 34)
-            .ok()
-            .ok_or("an insert")?;
+        let written = parse(rt.alloc(), &tokens[..len]).ok().ok_or("an insert")?;
         let Written::Insert(insert) = written else {
             return Err("another command".into());
         };
@@ -77,7 +76,7 @@ fn an_insert_with_its_offsets(rt: HostRuntime) -> Result<(), Fail> {
 #[test]
 fn a_select_with_its_offsets(rt: HostRuntime) -> Result<(), Fail> {
     let tokens = select_tokens();
-    let written = parse(rt.alloc(), &tokens, 36).ok().ok_or("a select")?;
+    let written = parse(rt.alloc(), &tokens).ok().ok_or("a select")?;
     let Written::Select(select) = written else {
         return Err("another command".into());
     };
@@ -95,19 +94,17 @@ fn a_select_with_its_offsets(rt: HostRuntime) -> Result<(), Fail> {
     Ok(())
 }
 
-/// A command that ends too early is refused at the text's length, another at the first token with which none goes on.
+/// A command that ends too early is refused beyond its tokens, another at the first token with which none goes on.
 #[test]
 fn refusals(rt: HostRuntime) -> Result<(), Fail> {
     let tokens = insert_tokens(String::from_str(rt.alloc(), "ab")?);
     let tokens = &tokens[..];
     for len in 0..10 {
-        let fault = parse(rt.alloc(), &tokens[..len], 99)
-            .err()
-            .ok_or("too short")?;
-        assert_eq!(rt; fault, ReadFault::new(Rule::Syntax, 99), "{len} tokens");
+        let fault = parse(rt.alloc(), &tokens[..len]).err().ok_or("too short")?;
+        assert_eq!(rt; fault, ReadFault::new(Rule::Syntax, BEYOND), "{len} tokens");
     }
     for (from, offset) in [(1, 7), (2, 12), (9, 32)] {
-        let fault = parse(rt.alloc(), &tokens[from..], 99)
+        let fault = parse(rt.alloc(), &tokens[from..])
             .err()
             .ok_or("no beginning")?;
         assert_eq!(rt;
