@@ -1,0 +1,9 @@
+pub mod Trees
+pub mod Counts
+pub mod Exactly
+pub mod Somewhere
+pub mod Keyed
+pub mod Columns
+pub mod Fragments
+pub mod Halves
+pub mod Instances

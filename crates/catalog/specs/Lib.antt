@@ -1,1 +1,9 @@
 pub mod Fragment
+pub mod Split
+pub mod Counts
+pub mod Path
+pub mod Valid
+pub mod Keyed
+pub mod Laws
+pub mod Item
+pub mod Emp

@@ -1,13 +1,17 @@
-//! Fragments: which rows and columns of a relation a leaf of its fragment tree has, and when contents
-//! rebuild a relation.
+//! Fragments: how a relation is split over sites, which rows and columns a leaf of its fragment tree
+//! has, and when contents rebuild a relation.
 //!
-//! Stands on `terms` and `meaning`. The contract that the crates above use: `place` is a row's part
-//! in a leaf's content.
+//! Stands on `terms` and `meaning`. The contracts that the crates above use: `place` is a row's part
+//! in a leaf's content; a copy of a `Split` is the same tree; and the laws of valid trees, which
+//! `laws` has: exactly one leaf for a row and a column, and at most one relation from the contents.
 //!
 //! ```text
 //! let part = place(alloc, &conds, &columns, &row)?;     // zone < 10; id, zone, label
 //! // Some(part): the leaf has the row; None: its conditions don't hold of it
+//! let copy = split.copy()?;                             // the same tree
 //! ```
 #![tactic(auto)]
 
 pub mod fragment;
+pub mod laws;
+pub mod split;

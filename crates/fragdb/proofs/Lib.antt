@@ -5,3 +5,5 @@ pub mod SmallLaws
 pub mod ScriptLemmas
 pub mod SoloLemmas
 pub mod UsageLemmas
+pub mod GatherLaws
+pub mod ChangeLaws

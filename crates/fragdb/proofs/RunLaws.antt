@@ -1,10 +1,11 @@
-use Rattle.std.proofs.Common.{◌≡◌, ℕ, ℤ, List, [], ◌∷◌, Some, None, Bool, true, false, cond, not, ◌||◌, map, filter, unwrap_or, Result, Ok, Err, IfOk, OnOk, String, Global, string_bytes, int_lt, nat_eq, refl, ap, sym, subst, ◌∙◌}
+use Rattle.std.proofs.Common.{◌≡◌, ℕ, ℤ, List, [], ◌∷◌, Option, Some, None, Bool, true, false, cond, not, ◌||◌, map, filter, unwrap_or, Result, Ok, Err, IfOk, OnOk, String, Global, string_bytes, int_lt, nat_eq, refl, ap, sym, subst, ◌∙◌}
 use Rattle.std.specs.FinMap as finite
 use Rattle.std.specs.Cmp.Lexicographic.{nat_list_cmp_total, pointwise}
 use Rattle.std.specs.List.{AllByRecursion}
 use Rattle.std.specs.Ordering.{int_eq}
 use Rattle.std.proofs.lemmas.Slice.Eq.{bytes_eq-Decides}
 use Rattle.terms.specs.declared.memory.Memory.{Memory}
+use Rattle.terms.specs.declared.value.Kind.{Kind}
 use Rattle.terms.specs.declared.value.Value.{Value}
 use Rattle.terms.specs.Cond.{conds_hold}
 use Rattle.terms.specs.Row.{key_of, FitsKinds}
@@ -19,7 +20,9 @@ use Rattle.meaning.specs.Listed.{listed}
 use Rattle.meaning.specs.Meaning.{meaning}
 use Rattle.meaning.specs.Relation.{IsRelation, has_key, insert_row}
 use Rattle.meaning.specs.Schema.{relation_named, kinds_of}
-use Rattle.meaning.specs.Statement.{IsSelectOf, IsInsertOf, IsStatementOf, selected}
+use Rattle.meaning.specs.declared.statement.Join.{Join}
+use Rattle.meaning.specs.Selected.{names_read, rows_read, selected}
+use Rattle.meaning.specs.Statement.{IsSelectOf, IsInsertOf, IsStatementOf, MayJoin}
 use Rattle.meaning.specs.Whole.{Relations, rows_of}
 use Rattle.meaning.proofs.Kept.{IsRelation-insert_row}
 use Rattle.reader.specs.Print.{answer_text}
@@ -56,7 +59,7 @@ has_key-merged key (row ∷ rows) others =
     grouped false b c = refl
 
 -- the rows of the one relation
-rows_whole : (rows : List (List Value)) → rows_of (item_whole rows) item_name ≡ rows
+pub rows_whole : (rows : List (List Value)) → rows_of (item_whole rows) item_name ≡ rows
 rows_whole rows = ap (λ o. unwrap_or o []) (finite.get-insert nat_list_cmp_total finite.empty item_name rows item_name)
 
 rows_put : (rows after : List (List Value)) → rows_of (finite.insert (item_whole rows) item_name after) item_name ≡ after
@@ -66,7 +69,7 @@ rows_put rows after = ap (λ o. unwrap_or o []) (finite.get-insert nat_list_cmp_
 same_bytes : (xs ys : List ℕ) → pointwise nat_eq xs ys ≡ true → xs ≡ ys
 same_bytes xs ys is = (bytes_eq-Decides xs ys).0 is
 
-named_item : (name : List ℕ) (relation : RelationSchema) → relation_named name item_schema ≡ Some relation → (name ≡ item_name) × (relation ≡ item)
+pub named_item : (name : List ℕ) (relation : RelationSchema) → relation_named name item_schema ≡ Some relation → (name ≡ item_name) × (relation ≡ item)
 named_item name relation found = found_at (pointwise nat_eq item_name name) refl found
   where
     found_at : (t : Bool) → pointwise nat_eq item_name name ≡ t → cond t (Some item) None ≡ Some relation → (name ≡ item_name) × (relation ≡ item)
@@ -97,11 +100,18 @@ rebuilt first second rows is rebuilds =
     let lists = lists_of first second rows is rebuilds in
     rw (lists.first_is, lists.second_is) (merged_filters (conds_hold low.conds) (conds_hold high.conds) rows is.ascends (apart rows is.fit))
 
+-- there is one relation, so no other to join
+no_join : (relation : RelationSchema) (join : Option Join) (joined : List Kind) → relation ≡ item → MayJoin item_schema relation join joined → join ≡ None
+no_join relation None joined is may = refl
+no_join relation (Some join) joined is may = absurd (may.another (ap (λ (r : RelationSchema). r.name) ((named_item join.relation.name may.other may.there).1 ∙ sym is)))
+
 -- a SELECT over the rows of both lists is its meaning over the relation that they rebuild
 pub select_law : (select : Select) (first second : List (List Value)) (given : Answer) → IsSelectOf item_schema select → given ≡ answer.Rows (listed select.columns select.from.columns) (selected select (merged first second)) → RunsOnLists (statement.Select select) (first ∷ second ∷ []) (first ∷ second ∷ []) given
 select_law select first second given is gives = record {
   answered = λ rows relation rebuilds.
-      gives ∙ ap (λ found. answer.Rows (listed select.columns select.from.columns) (selected select found)) (rebuilt first second rows relation rebuilds ∙ sym (rows_whole rows) ∙ ap (rows_of (item_whole rows)) (sym (named_item select.from.name is.relation is.there).0));
+      let alone = no_join is.relation select.join is.joined (named_item select.from.name is.relation is.there).1 is.joins in
+      gives ∙ ap (λ found. answer.Rows (listed select.columns select.from.columns) (selected select found)) (rebuilt first second rows relation rebuilds ∙ sym (rows_whole rows) ∙ ap (rows_of (item_whole rows)) (sym (named_item select.from.name is.relation is.there).0))
+      ∙ ap (λ join. answer.Rows (listed select.columns (names_read select.from join)) (selected select (rows_read select.from join (item_whole rows)))) (sym alone);
   rebuilt = λ rows relation rebuilds. let P : List (List Value) → Type 0 = Rebuilds item_leaves (first ∷ second ∷ []) in subst P (sym (rows_whole rows)) rebuilds;
 }
 

@@ -8,7 +8,7 @@ use Rattle.terms.specs.Row.{key_of, FitsKinds}
 use Rattle.meaning.specs.Listed.{listed}
 use Rattle.meaning.specs.Relation.{Ascends, insert_row}
 use Rattle.meaning.proofs.Keys.{lt_below, lt_false}
-use Rattle.meaning.proofs.Rows.{below_all}
+use Rattle.meaning.proofs.Rows.{All-passed, below_all}
 use Rattle.fragdb.specs.Item.{item_kinds, low, high}
 use Rattle.fragdb.specs.Merge.{merged}
 use Rattle.fragdb.proofs.MergeLaws.{insert_first}
@@ -37,14 +37,6 @@ whole_rows p (row ∷ rows) fit =
       | false ↦ whole_rows p rows fit.1
     ]
 
-all_filtered : (P : List Value → Type 0) (p : List Value → Bool) (rows : List (List Value)) → AllByRecursion P rows → AllByRecursion P (filter p rows)
-all_filtered P p [] all = tt
-all_filtered P p (row ∷ rows) all =
-    elim (p row) as (λ t. AllByRecursion P (cond t (row ∷ filter p rows) (filter p rows))) [
-      | true ↦ (all.0, all_filtered P p rows all.1)
-      | false ↦ all_filtered P p rows all.1
-    ]
-
 -- a row below all others of a relation goes first among those of the other list
 merged_last : (row : List Value) (rows others : List (List Value)) → AllByRecursion (λ later. key_of row <ℤ key_of later) rows → merged rows (row ∷ others) ≡ row ∷ merged rows others
 merged_last row [] others below = refl
@@ -59,7 +51,7 @@ merged_filters p q (row ∷ rows) order apart =
     let rest = merged_filters p q rows order.1 apart.1 in
     rw (apart.0) (elim (p row) as (λ t. merged (cond t (row ∷ filter p rows) (filter p rows)) (cond (not t) (row ∷ filter q rows) (filter q rows)) ≡ row ∷ rows) [
       | true ↦ ap (insert_row row) rest ∙ insert_first row rows order.0
-      | false ↦ merged_last row (filter p rows) (filter q rows) (all_filtered Below p rows order.0) ∙ ap (λ later. row ∷ later) rest
+      | false ↦ merged_last row (filter p rows) (filter q rows) (All-passed Below p rows order.0) ∙ ap (λ later. row ∷ later) rest
     ])
 
 -- the rows that pass a test, after one more row
@@ -71,7 +63,7 @@ filter_inserted p row (other ∷ rows) order =
           let Below : List Value → Type 0 = λ later. key_of row <ℤ key_of later in
           let below = lt_below (key_of row) (key_of other) is in
           let all : AllByRecursion Below (other ∷ rows) = (below, below_all (key_of row) other rows below order.0) in
-          ap (λ front. cond (p row) front (filter p (other ∷ rows))) (sym (insert_first row (filter p (other ∷ rows)) (all_filtered Below p (other ∷ rows) all)))
+          ap (λ front. cond (p row) front (filter p (other ∷ rows))) (sym (insert_first row (filter p (other ∷ rows)) (All-passed Below p (other ∷ rows) all)))
       | false ↦ λ is. after p row other rows is (p row) (p other) (filter_inserted p row rows order.1)
     ] refl
   where

@@ -1,5 +1,6 @@
 pub mod Item
 pub mod Merge
+pub mod Gather
 pub mod Small
 pub mod Line
 pub mod Script

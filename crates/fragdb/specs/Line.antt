@@ -5,7 +5,7 @@ use Rattle.meaning.specs.declared.answer.Answer.{Answer}
 use Rattle.meaning.specs.declared.answer.Answer.TheVariants.{Rows}
 use Rattle.meaning.specs.declared.statement.Statement.{Statement}
 use Rattle.reader.specs.declared.command.Command.{Command}
-use Rattle.reader.specs.declared.command.Command.TheVariants.{Run}
+use Rattle.reader.specs.declared.command.Command.TheVariants.{Run, Begin, Commit, Rollback}
 use Rattle.reader.specs.declared.fault.Rule.TheVariants as rules
 use Rattle.reader.specs.Command.{IsTextOf}
 use Rattle.reader.specs.Fault.{Fault}
@@ -20,18 +20,33 @@ pub record RunsToLine (statement : Statement) (old new : List (List (List Value)
   pub runs : RunsOnLists statement old new answer
   pub printed : line ≡ answer_text answer
 
+-- the refusal of a command that is no statement: there are no transactions of several statements
+abbrev pub no_statement_here : Fault
+no_statement_here = record { rule = rules.Syntax; offset = 0 }
+
+-- a command that is refused so leaves the lists as they are
+abbrev pub IsNoStatement : List (List (List Value)) → List (List (List Value)) → List ℕ → Type 0
+IsNoStatement old new line = (line ≡ codes "refused read " ++ fault_text no_statement_here) × (new ≡ old)
+
+-- what a command does to the lists, and its line
+abbrev pub DoesCommand : Command → List (List (List Value)) → List (List (List Value)) → List ℕ → Type 0
+DoesCommand (Run statement) old new line = RunsToLine statement old new line
+DoesCommand Begin old new line = IsNoStatement old new line
+DoesCommand Commit old new line = IsNoStatement old new line
+DoesCommand Rollback old new line = IsNoStatement old new line
+
 -- the text is one of a statement, which runs on the lists to the line
 pub record Answers (text : List ℕ) (old new : List (List (List Value))) (line : List ℕ) : Type 0 where
   pub statement : Statement
   pub read : IsTextOf item_schema text (Run statement)
   pub answered : RunsToLine statement old new line
 
--- the text is one of no command, the line names a rule and a place in the text, and the lists stay
+-- the text is one of no statement, the line names a rule and a place in the text, and the lists stay
 pub record Refuses (text : List ℕ) (old new : List (List (List Value))) (line : List ℕ) : Type 0 where
   pub fault : Fault
   pub is_rule : fault.rule ≢ rules.Memory
   pub within : fault.offset ≤ length text
-  pub no_command : (command : Command) → ¬ (IsTextOf item_schema text command)
+  pub no_statement : (statement : Statement) → ¬ (IsTextOf item_schema text (Run statement))
   pub printed : line ≡ codes "refused read " ++ fault_text fault
   pub same : new ≡ old
 

@@ -9,7 +9,7 @@ use Rattle.meaning.specs.declared.statement.Select.{Select}
 use Rattle.meaning.specs.Listed.{listed}
 use Rattle.meaning.specs.Meaning.{meaning}
 use Rattle.meaning.specs.Relation.{IsRelation, has_key, insert_row}
-use Rattle.meaning.specs.Statement.{selected}
+use Rattle.meaning.specs.Selected.{selected}
 use Rattle.meaning.specs.Whole.{rows_of}
 use Rattle.catalog.specs.Fragment.{Rebuilds}
 use Rattle.fragdb.specs.Item.{item_kinds, item_leaves, item_name, item_whole, low}

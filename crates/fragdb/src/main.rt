@@ -5,7 +5,9 @@
 //! the whole relation that the two lists rebuild.
 #![tactic(auto)]
 
+mod change;
 mod fault;
+mod gather;
 mod item;
 mod merge;
 mod script;

@@ -38,7 +38,7 @@ pub fn select_merged(
 }
 
 /// The row with the least key, and what is left of each list.
-fn first_of<'a>(left: &'a [Row], right: &'a [Row]) -> Option<(&'a Row, &'a [Row], &'a [Row])>
+pub fn first_of<'a>(left: &'a [Row], right: &'a [Row]) -> Option<(&'a Row, &'a [Row], &'a [Row])>
     requires left { Ascends left.now }
     requires right { Ascends right.now }
     ensures none { IfNone result (merged left.now right.now ≡ []) }

@@ -6,13 +6,15 @@ ghost use Rattle.meaning.specs.Relation.{IsRelation};
 ghost use Rattle.meaning.specs.Statement.{IsStatementOf};
 ghost use Rattle.catalog.specs.Fragment.{Rebuilds};
 ghost use Rattle.reader.specs.declared.fault.Rule.TheVariants as rules;
+ghost use Rattle.reader.specs.Command.{IsCommandOf};
 ghost use Rattle.reader.specs.Print.{answer_text};
 ghost use Rattle.reader.specs.Refusal.{fault_text};
 ghost use Rattle.fragdb.specs.Item.{item_kinds, item_leaves, item_name, item_schema};
-ghost use Rattle.fragdb.specs.Line.{AnswersLine, RunsToLine, leaf_named, rows_text};
+ghost use Rattle.fragdb.specs.Line.{AnswersLine, DoesCommand, RunsToLine, leaf_named, no_statement_here, rows_text};
 ghost use Rattle.fragdb.specs.Merge.{merged};
 ghost use Rattle.fragdb.specs.Small.{inserted, selected_answer};
 
+use crate::change::changed;
 use crate::item;
 use crate::merge::select_merged;
 use meaning::answer::Answer;
@@ -61,14 +63,15 @@ impl Small {
     }
 
     /// The answer to a text, or the refusal of it, with no line feed at its end. Where memory runs
-    /// out nothing has changed.
+    /// out nothing has changed. There are no transactions here: `BEGIN`, `COMMIT` and `ROLLBACK`
+    /// are refused as no statement.
     pub fn line(&mut self, text: &str) -> Result<String, Memory>
         ensures ok { IfOk result (λ line. AnswersLine text.now self.old self.new (string_bytes line)) }
         ensures err { OnErr result (self.new ≡ self.old) }
     {
         let schema = item::schema(self.alloc)?;
         match read(self.alloc, text, &schema) {
-            Ok(Command::Run(statement)) => self.answer(&statement),
+            Ok(command) => self.command(&command),
             Err(fault) => refusal(self.alloc, fault),
         }
     }
@@ -102,6 +105,20 @@ impl Small {
         Ok(Some(print_rows(self.alloc, rows)?))
     }
 
+    /// The line of a command of the built-in schema.
+    fn command(&mut self, command: &Command) -> Result<String, Memory>
+        requires { IsCommandOf item_schema command.now }
+        ensures ok { IfOk result (λ line. DoesCommand command.now self.old self.new (string_bytes line)) }
+        ensures err { OnErr result (self.new ≡ self.old) }
+    {
+        match command {
+            Command::Run(statement) => self.answer(statement),
+            Command::Begin => no_transactions(self.alloc),
+            Command::Commit => no_transactions(self.alloc),
+            Command::Rollback => no_transactions(self.alloc),
+        }
+    }
+
     /// The answer of a statement of the built-in schema.
     fn answer(&mut self, statement: &Statement) -> Result<String, Memory>
         requires { IsStatementOf item_schema statement.now }
@@ -113,6 +130,9 @@ impl Small {
             Statement::Insert(insert) => {
                 insert_line(self.alloc, &mut self.first, &mut self.second, &insert.row)
             }
+            Statement::Update(_) | Statement::Delete(_) => {
+                change_line(self.alloc, &mut self.first, &mut self.second, statement)
+            }
         }
     }
 }
@@ -122,6 +142,13 @@ fn print_rows(alloc: Global, rows: Vec<Row>) -> Result<String, Memory>
 {
     let header = item::header(alloc)?;
     print_answer(alloc, &Answer::Rows(Seq::new(header), Seq::new(rows)))
+}
+
+/// The refusal of a command that is no statement.
+fn no_transactions(alloc: Global) -> Result<String, Memory>
+    ensures { IfOk result (λ line. string_bytes line ≡ codes "refused read " ++ fault_text no_statement_here) }
+{
+    refusal(alloc, ReadFault::new(Rule::Syntax, 0))
 }
 
 /// The line of a refusal. A refusal for want of memory is none of the text.
@@ -180,4 +207,24 @@ fn insert_line(
         second.insert(copy)?;
     }
     Ok(line)
+}
+
+/// The line of a statement that changes rows. The line and the new lists are made first, so that the lists
+/// are put in only where nothing is left that could fail.
+fn change_line(
+    alloc: Global,
+    first: &mut Relation,
+    second: &mut Relation,
+    statement: &Statement,
+) -> Result<String, Memory>
+    requires { IsStatementOf item_schema statement.now }
+    ensures line { IfOk result (λ line. RunsToLine statement.now (first.old ∷ second.old ∷ []) (first.new ∷ second.new ∷ []) (string_bytes line)) }
+    ensures err_first { OnErr result (first.new ≡ first.old) }
+    ensures err_second { OnErr result (second.new ≡ second.old) }
+{
+    let (answer, low, high) = changed(alloc, statement, first, second)?;
+    let text = print_answer(alloc, &answer)?;
+    *first = low;
+    *second = high;
+    Ok(text)
 }

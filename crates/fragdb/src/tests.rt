@@ -123,11 +123,62 @@ id\tzone\tlabel
 }
 
 #[test]
+fn rows_move_between_the_lists(rt: HostRuntime) {
+    let script = b"INSERT INTO item VALUES (1, 3, 'a')
+INSERT INTO item VALUES (2, 50, 'b')
+UPDATE item SET zone = zone + 40 WHERE id = 1
+.leaf item.1
+.leaf item.2
+UPDATE item SET zone = 0 WHERE zone < 0
+UPDATE item SET label = 'c', zone = zone + 9223372036854775807
+UPDATE item SET zone = 3 WHERE zone > 45 AND label = 'b'
+.show item
+DELETE FROM item WHERE zone >= 10
+.show item
+BEGIN
+delete from item;
+.leaf item.1
+";
+    let output = "changed 1
+changed 1
+changed 1
+id\tzone\tlabel
+0 rows
+id\tzone\tlabel
+1\t43\ta
+2\t50\tb
+2 rows
+changed 0
+overflow
+changed 1
+id\tzone\tlabel
+1\t43\ta
+2\t3\tb
+2 rows
+changed 1
+id\tzone\tlabel
+2\t3\tb
+1 row
+refused read 3 Syntax at 0
+changed 1
+id\tzone\tlabel
+0 rows
+";
+    let outcome = solo(rt.alloc(), script);
+    let told = str::from_utf8(outcome.output.as_slice()).ok();
+    assert_eq!(rt; told, Some(output));
+    assert_eq!(rt; outcome.status, 1);
+}
+
+#[test]
 fn refuses_by_rule_and_place(rt: HostRuntime) -> Result<(), Fail> {
     let cases: [(&str, &str); 16] = [
         ("SELECT nam FROM item WHERE id = 1", "5 NoColumn at 7"),
         ("SELECT id FROM item WHERE", "3 Syntax at 25"),
-        ("SELECT id FROM item", "3 Syntax at 19"),
+        (
+            "SELECT id FROM item JOIN item ON id = zone",
+            "9 JoinNotKey at 25",
+        ),
         ("SELECT id FROM item WHERE label = 5", "7 Type at 34"),
         ("SELECT id FROM item WHERE zone = 'a'", "7 Type at 33"),
         ("INSERT INTO item VALUES (1, 2)", "10 Count at 29"),
@@ -143,8 +194,11 @@ fn refuses_by_rule_and_place(rt: HostRuntime) -> Result<(), Fail> {
         ),
         ("INSERT INTO item VALUES (1, -'a', 'a')", "3 Syntax at 29"),
         ("INSERT INTO item VALUES ('1', 2, 'a')", "7 Type at 25"),
-        ("UPDATE item SET zone = 1", "3 Syntax at 0"),
-        ("SELECT id FROM item WHERE id < 1", "3 Syntax at 29"),
+        ("UPDATE item SET id = 2", "8 KeyColumn at 16"),
+        (
+            "UPDATE item SET zone = zone + 9223372036854775808",
+            "11 Limit at 30",
+        ),
         ("SELECT ID FROM item WHERE id = 1", "2 Character at 7"),
         (
             "SELECT item.id, emp.zone FROM item WHERE id = 1",
@@ -209,6 +263,8 @@ fn want_of_memory_changes_nothing(rt: HostRuntime) -> Result<(), Fail> {
         ("INSERT INTO item VALUES (2, 30, 'b')", "changed 1"),
         ("INSERT INTO item VALUES (1, 50, 'b')", "exists"),
         ("SELECT label FROM item WHERE id = 2", "label\nb\n1 row"),
+        ("UPDATE item SET zone = zone + 10", "changed 2"),
+        ("DELETE FROM item WHERE id = 2", "changed 1"),
         (
             "SELECT nam FROM item WHERE id = 2",
             "refused read 5 NoColumn at 7",

@@ -35,3 +35,6 @@ below_trans a b c h k = omega (arith, ints)
 
 pub less_from_below : (a b : ℤ) → a <ℤ b → int_cmp a b ≡ Less
 less_from_below a b h = grind (arith, ints)
+
+pub eq_same : (a b : ℤ) → a ≡ b → int_eq a b ≡ true
+eq_same a b h = grind (arith, ints)

@@ -1,4 +1,4 @@
-use Rattle.std.proofs.Common.{◌≡◌, ℕ, List, [], ◌∷◌, Option, Some, None, Bool, true, false, cond, if◌then◌else◌, unwrap_or, Result, Ok, Err, IfOk, OnErr, refl, ap, sym, ◌∙◌}
+use Rattle.std.proofs.Common.{◌≡◌, ℕ, List, [], ◌∷◌, Option, Some, None, Bool, true, false, cond, if◌then◌else◌, unwrap_or, is_some, Result, Ok, Err, IfOk, OnErr, refl, ap, sym, ◌∙◌}
 use Rattle.std.specs.FinMap.{from_entries, get, insert, find, same_map, get_tied, get-insert, get-from_entries, nat_cmp-IsAntisymmetric, slice_cmp-IsAntisymmetric}
 use Rattle.std.specs.BTreeMap.{is_at}
 use Rattle.std.specs.Map.{lookup}
@@ -9,7 +9,7 @@ use Rattle.std.specs.declared.cmp.Ordering.TheVariants.{Less, Equal, Greater}
 use Rattle.terms.specs.declared.memory.Memory.{Memory}
 use Rattle.terms.specs.declared.value.Value.{Value}
 use Rattle.meaning.specs.Relation.{insert_row}
-use Rattle.meaning.specs.Whole.{Relations, rows_of}
+use Rattle.meaning.specs.Whole.{Relations, rows_of, replaced}
 
 -- names and their relations, as a map keeps them
 abbrev pub Entries : Type 0
@@ -77,3 +77,15 @@ pub row_added : (old new : Entries) (whole : Relations) (name key : List ℕ) (r
 row_added old new whole name key row rows view absent same one differ =
     one_put old new key rows differ ∙ ap (λ k. insert (from_entries old) k rows) same ∙ ap (λ w. insert w name rows) view
     ∙ ap (insert whole name) (one ∙ ap (insert_row row) (sym (rows_absent old whole name view absent)))
+
+-- a relation written through its place
+pub rows_replaced : (old new : Entries) (whole : Relations) (name : List ℕ) (rows before : List (List Value)) → from_entries old ≡ whole → rows_at old name ≡ Some before → ((q : List ℕ) → rows_at new q ≡ cond (is_at (slice_cmp nat_cmp name) q) (Some rows) (rows_at old q)) → from_entries new ≡ replaced whole name rows
+rows_replaced old new whole name rows before view there differ =
+    let here : get whole name ≡ Some before = ap (λ w. get w name) (sym view) ∙ get_rows old name ∙ there in
+    one_put old new name rows differ ∙ ap (λ w. insert w name rows) view ∙ ap (λ o. cond (is_some o) (insert whole name rows) whole) (sym here)
+
+-- nothing is written where there is no relation
+pub none_replaced : (old : Entries) (whole : Relations) (name : List ℕ) (rows : List (List Value)) → from_entries old ≡ whole → rows_at old name ≡ None → from_entries old ≡ replaced whole name rows
+none_replaced old whole name rows view absent =
+    let none : get whole name ≡ None = ap (λ w. get w name) (sym view) ∙ get_rows old name ∙ absent in
+    view ∙ ap (λ o. cond (is_some o) (insert whole name rows) whole) (sym none)

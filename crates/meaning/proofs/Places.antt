@@ -18,7 +18,7 @@ abbrev pub ranked : ℤ → List Value → Ordering
 ranked key row = int_cmp (key_of row) key
 
 -- what holds of each row holds of the row at a place
-each_at : (P : List Value → Type 0) (rows : List (List Value)) (k : ℕ) (d : List Value) → AllByRecursion P rows → k < length rows → P (get_or rows k d)
+pub each_at : (P : List Value → Type 0) (rows : List (List Value)) (k : ℕ) (d : List Value) → AllByRecursion P rows → k < length rows → P (get_or rows k d)
 each_at P [] k d all within = absurd (omega arith)
 each_at P (row ∷ rows) zero d all within = all.0
 each_at P (row ∷ rows) (suc k) d all within = each_at P rows k d all.1 (omega arith)

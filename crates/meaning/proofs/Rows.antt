@@ -1,4 +1,4 @@
-use Rattle.std.proofs.Common.{◌≡◌, ℕ, ℤ, ◌<ℤ◌, List, [], ◌∷◌, Bool, true, false, cond, ◌||◌, int_lt, insert, subst, refl, ap, sym, ◌∙◌}
+use Rattle.std.proofs.Common.{◌≡◌, ℕ, ℤ, ◌<ℤ◌, List, [], ◌∷◌, Bool, true, false, cond, ◌||◌, int_lt, insert, filter, subst, refl, ap, sym, ◌∙◌}
 use Rattle.std.specs.List.{AllByRecursion}
 use Rattle.std.proofs.lemmas.Bool.{false≢true}
 use Rattle.std.specs.Ordering.{int_eq}
@@ -44,3 +44,21 @@ Ascends-insert found rows new row place same absent goes is order =
     let whole : new ≡ insert_row row rows = is ∙ ap (λ xs. insert xs place row) (sym same) ∙ goes.inserted ∙ ap (insert_row row) same in
     let P : List (List Value) → Type 0 = Ascends in
     subst P (sym whole) (Ascends-insert_row row rows (ap (has_key (key_of row)) (sym same) ∙ absent) order)
+
+-- what holds of each row holds of each row that passes a test
+pub All-passed : (P : List Value → Type 0) (test : List Value → Bool) (rows : List (List Value)) → AllByRecursion P rows → AllByRecursion P (filter test rows)
+All-passed P test [] all = tt
+All-passed P test (row ∷ rows) all =
+    elim (test row) as (λ t. AllByRecursion P (cond t (row ∷ filter test rows) (filter test rows))) [
+      | true ↦ (all.0, All-passed P test rows all.1)
+      | false ↦ All-passed P test rows all.1
+    ]
+
+-- the rows that pass a test keep their order
+pub Ascends-passed : (test : List Value → Bool) (rows : List (List Value)) → Ascends rows → Ascends (filter test rows)
+Ascends-passed test [] order = tt
+Ascends-passed test (row ∷ rows) order =
+    elim (test row) as (λ t. Ascends (cond t (row ∷ filter test rows) (filter test rows))) [
+      | true ↦ (All-passed (λ later. key_of row <ℤ key_of later) test rows order.0, Ascends-passed test rows order.1)
+      | false ↦ Ascends-passed test rows order.1
+    ]

@@ -3,4 +3,8 @@ pub mod Listed
 pub mod Relation
 pub mod Whole
 pub mod Statement
+pub mod Matched
+pub mod Selected
+pub mod Updated
 pub mod Meaning
+pub mod Laws

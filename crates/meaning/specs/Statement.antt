@@ -1,30 +1,50 @@
-use Rattle.std.specs.Prelude.{◌≡◌, ◌≢◌, ℕ, ◌≤◌, ◌<◌, List, [], length, Some, filter, map}
-use Rattle.std.specs.List.{AllByRecursion}
-use Rattle.terms.specs.declared.value.Value.{Value}
-use Rattle.terms.specs.Cond.{conds_hold, IsCondOf}
+use Rattle.std.specs.Prelude.{◌≡◌, ◌≢◌, ◌≤◌, ◌<◌, neg_ℤ, pos, ◌≤ℤ◌, List, [], ◌∷◌, ◌++◌, Option, Some, None, length}
+use Rattle.std.specs.List.{AllByRecursion, slice_get}
+use Rattle.terms.specs.declared.value.Kind.{Kind}
+use Rattle.terms.specs.declared.value.Kind.TheVariants as kinds
+use Rattle.terms.specs.Cond.{IsCondOf}
 use Rattle.terms.specs.Row.{FitsKinds}
+use Rattle.terms.specs.Value.{Fits, kind_of}
 use Rattle.meaning.specs.declared.schema.RelationSchema.{RelationSchema}
 use Rattle.meaning.specs.declared.statement.Statement.{Statement}
 use Rattle.meaning.specs.declared.statement.Statement.TheVariants as statement
+use Rattle.meaning.specs.declared.statement.Join.{Join}
 use Rattle.meaning.specs.declared.statement.Select.{Select}
 use Rattle.meaning.specs.declared.statement.Insert.{Insert}
-use Rattle.meaning.specs.Listed.{listed}
+use Rattle.meaning.specs.declared.statement.Assigned.{Assigned}
+use Rattle.meaning.specs.declared.statement.Assigned.TheVariants as assigned
+use Rattle.meaning.specs.declared.statement.Assignment.{Assignment}
+use Rattle.meaning.specs.declared.statement.Update.{Update}
+use Rattle.meaning.specs.declared.statement.Delete.{Delete}
 use Rattle.meaning.specs.Schema.{relation_named, kinds_of, names_of}
 
--- the rows of which the conditions hold, cut to the listed columns; equal rows stay
-abbrev pub selected : Select → List (List Value) → List (List Value)
-selected select rows = map (listed select.columns) (filter (conds_hold select.conds) rows)
+-- A join of the schema: another relation, there under its name, with its columns' names and an integer key;
+-- the column after FROM is an integer too. What is joined has columns of these types.
+pub record IsJoinOf (schema : List RelationSchema) (relation : RelationSchema) (join : Join) (joined : List Kind) : Type 0 where
+  pub other : RelationSchema
+  pub there : relation_named join.relation.name schema ≡ Some other
+  pub another : other.name ≢ relation.name
+  pub names : join.relation.columns ≡ names_of other
+  pub types : joined ≡ kinds_of other
+  pub key : slice_get joined 0 ≡ Some kinds.Int
+  pub column : slice_get (kinds_of relation) join.col ≡ Some kinds.Int
 
--- A SELECT of the schema: its relation is there under its name, with its columns' names; the listed columns
--- are the relation's, and so are those of the conditions, which fit them.
+abbrev pub MayJoin : List RelationSchema → RelationSchema → Option Join → List Kind → Type 0
+MayJoin schema relation None joined = joined ≡ []
+MayJoin schema relation (Some join) joined = IsJoinOf schema relation join joined
+
+-- A SELECT of the schema: its relation is there under its name, with its columns' names, and so is the joined
+-- one, if there is one; the listed columns are theirs, and so are those of the conditions, which fit them.
 pub record IsSelectOf (schema : List RelationSchema) (select : Select) : Type 0 where
   pub relation : RelationSchema
+  pub joined : List Kind
   pub there : relation_named select.from.name schema ≡ Some relation
   pub names : select.from.columns ≡ names_of relation
+  pub joins : MayJoin schema relation select.join joined
   pub few_columns : length select.columns ≤ 32
-  pub columns : AllByRecursion (λ column. column < length (names_of relation)) select.columns
+  pub columns : AllByRecursion (λ column. column < length (kinds_of relation ++ joined)) select.columns
   pub few_conds : length select.conds ≤ 8
-  pub conds : AllByRecursion (IsCondOf (kinds_of relation)) select.conds
+  pub conds : AllByRecursion (IsCondOf (kinds_of relation ++ joined)) select.conds
 
 -- an INSERT of the schema: its relation is there, and its row fits the relation's columns
 pub record IsInsertOf (schema : List RelationSchema) (insert : Insert) : Type 0 where
@@ -32,7 +52,44 @@ pub record IsInsertOf (schema : List RelationSchema) (insert : Insert) : Type 0 
   pub there : relation_named insert.into schema ≡ Some relation
   pub fits : FitsKinds (kinds_of relation) insert.row
 
+-- what a column of a type may be set to: a constant of the type, or an integer column and a number
+abbrev pub IsAssignable : List Kind → Kind → Assigned → Type 0
+IsAssignable columns kind (assigned.Constant value) = (kind_of value ≡ kind) × Fits value
+IsAssignable columns kind (assigned.Sum col number) =
+    (kind ≡ kinds.Int) × (slice_get columns col ≡ Some kinds.Int) × (neg_ℤ (pos 9223372036854775807) ≤ℤ number) × (number ≤ℤ pos 9223372036854775807)
+
+-- an assignment to a column that is not the key
+pub record IsAssignmentOf (kinds : List Kind) (assignment : Assignment) : Type 0 where
+  pub kind : Kind
+  pub not_key : assignment.col ≢ 0
+  pub column : slice_get kinds assignment.col ≡ Some kind
+  pub value : IsAssignable kinds kind assignment.value
+
+-- no two assignments are to one column
+abbrev pub AreApart : List Assignment → Type 0
+AreApart [] = Unit {0}
+AreApart (first ∷ others) = AllByRecursion (λ other. first.col ≢ other.col) others × AreApart others
+
+pub record IsUpdateOf (schema : List RelationSchema) (update : Update) : Type 0 where
+  pub relation : RelationSchema
+  pub there : relation_named update.relation.name schema ≡ Some relation
+  pub names : update.relation.columns ≡ names_of relation
+  pub some_set : update.sets ≢ []
+  pub apart : AreApart update.sets
+  pub sets : AllByRecursion (IsAssignmentOf (kinds_of relation)) update.sets
+  pub few_conds : length update.conds ≤ 8
+  pub conds : AllByRecursion (IsCondOf (kinds_of relation)) update.conds
+
+pub record IsDeleteOf (schema : List RelationSchema) (delete : Delete) : Type 0 where
+  pub relation : RelationSchema
+  pub there : relation_named delete.relation.name schema ≡ Some relation
+  pub names : delete.relation.columns ≡ names_of relation
+  pub few_conds : length delete.conds ≤ 8
+  pub conds : AllByRecursion (IsCondOf (kinds_of relation)) delete.conds
+
 -- a statement of the schema
 abbrev pub IsStatementOf : List RelationSchema → Statement → Type 0
 IsStatementOf schema (statement.Select select) = IsSelectOf schema select
 IsStatementOf schema (statement.Insert insert) = IsInsertOf schema insert
+IsStatementOf schema (statement.Update update) = IsUpdateOf schema update
+IsStatementOf schema (statement.Delete delete) = IsDeleteOf schema delete

@@ -1,4 +1,4 @@
-use Rattle.std.specs.Prelude.{◌≡◌, ℕ, List, [], Some, IsSome, unwrap_or}
+use Rattle.std.specs.Prelude.{◌≡◌, ℕ, List, [], Some, IsSome, is_some, unwrap_or, if◌then◌else◌}
 use Rattle.std.specs.Coded.{Coded, coded_list, coded_ℕ}
 use Rattle.std.specs.Cmp.Lexicographic.{slice_cmp}
 use Rattle.std.specs.FinMap as map
@@ -19,6 +19,10 @@ relations_code = map.code (coded_list coded_ℕ) (coded_list (coded_list (value.
 -- the rows of the relation of a name; where there is none, none
 abbrev pub rows_of : Relations → List ℕ → List (List Value)
 rows_of whole name = unwrap_or (map.get whole name) []
+
+-- other rows under a name that has some already; a name that has none stays without
+abbrev pub replaced : Relations → List ℕ → List (List Value) → Relations
+replaced whole name rows = if is_some (map.get whole name) then map.insert whole name rows else whole
 
 -- a whole database fits a schema: each relation of the schema is there, and fits its columns
 pub record FitsSchema (schema : List RelationSchema) (whole : Relations) : Type 0 where

@@ -1,7 +1,8 @@
 //! The serial meaning: what a statement answers over whole relations, and what it leaves of them.
 //!
 //! Stands on `terms`. The contract that the crates above use: `run` is the meaning of its statement,
-//! a definition that knows nothing of fragments.
+//! a definition that knows nothing of fragments. `laws` has what follows from it, as that a DELETE leaves
+//! just the rows of which its conditions don't hold.
 //!
 //! ```text
 //! let answer = run(alloc, &mut whole, &statement)?;     // INSERT INTO item VALUES (1, 3, 'a')
@@ -10,11 +11,17 @@
 #![tactic(auto)]
 
 pub mod answer;
+pub mod delete;
+pub mod insert;
+pub mod laws;
 pub mod listed;
+pub mod matched;
 pub mod relation;
 pub mod run;
 pub mod schema;
+pub mod select;
 pub mod statement;
 #[cfg(test)]
 mod tests;
+pub mod update;
 pub mod whole;

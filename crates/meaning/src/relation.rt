@@ -47,6 +47,14 @@ impl Relation {
         Ok(Relation { rows })
     }
 
+    /// A relation of rows in ascending order of their keys.
+    pub(crate) fn of_rows(rows: Vec<Row>) -> Relation
+        requires { Ascends rows.items }
+        ensures { result ≡ rows.items }
+    {
+        Relation { rows }
+    }
+
     pub fn rows(&self) -> &[Row]
         ensures rows { result.now ≡ self.now }
         ensures ascends { Ascends self.now }

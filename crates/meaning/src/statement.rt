@@ -8,26 +8,39 @@ use terms::memory::Memory;
 use terms::row::Row;
 use terms::seq::Seq;
 use terms::text::Text;
+use terms::value::Value;
 
 /// A statement. It holds the names that it is printed with, so no schema is wanted to run or print it.
 #[derive(Debug, Drop)]
 pub enum Statement {
     Select(Select),
     Insert(Insert),
+    Update(Update),
+    Delete(Delete),
 }
 
-/// A relation that a statement reads: its name, and the names of all its columns.
+/// A relation that a statement speaks of: its name, and the names of all its columns.
 #[derive(Debug, Drop)]
 pub struct Source {
     pub name: Text,
     pub columns: Seq<Text>,
 }
 
-/// `SELECT`: the listed columns of the rows of which all conditions hold.
+/// A join by the key of a second relation, which is compared with a column of the relation after FROM.
+#[derive(Debug, Drop)]
+pub struct Join {
+    pub relation: Source,
+    /// The column of the relation after FROM, counted from 0.
+    pub col: usize,
+}
+
+/// `SELECT`: the listed columns of the rows of which all conditions hold. In a join the columns of the
+/// second relation are counted on from those of the first.
 #[derive(Debug, Drop)]
 pub struct Select {
     pub from: Source,
-    /// Columns of the relation, counted from 0, in the order of the list.
+    pub join: Option<Join>,
+    /// Columns counted from 0, in the order of the list.
     pub columns: Seq<usize>,
     pub conds: Conds,
 }
@@ -39,11 +52,44 @@ pub struct Insert {
     pub row: Row,
 }
 
+/// What a column is set to.
+#[derive(Debug, Drop)]
+pub enum Assigned {
+    /// A constant.
+    Constant(Value),
+    /// The sum of a column's value before the change and a number.
+    Sum { col: usize, number: i64 },
+}
+
+/// A column, and what it is set to.
+#[derive(Debug, Drop)]
+pub struct Assignment {
+    pub col: usize,
+    pub value: Assigned,
+}
+
+/// `UPDATE`: the assignments for the rows of which all conditions hold.
+#[derive(Debug, Drop)]
+pub struct Update {
+    pub relation: Source,
+    pub sets: Seq<Assignment>,
+    pub conds: Conds,
+}
+
+/// `DELETE`: the rows of which all conditions hold.
+#[derive(Debug, Drop)]
+pub struct Delete {
+    pub relation: Source,
+    pub conds: Conds,
+}
+
 impl TryCopy for Statement {
     fn copy(&self) -> Result<Statement, Memory> {
         match self {
             Statement::Select(select) => Ok(Statement::Select(select.copy()?)),
             Statement::Insert(insert) => Ok(Statement::Insert(insert.copy()?)),
+            Statement::Update(update) => Ok(Statement::Update(update.copy()?)),
+            Statement::Delete(delete) => Ok(Statement::Delete(delete.copy()?)),
         }
     }
 }
@@ -57,12 +103,26 @@ impl TryCopy for Source {
     }
 }
 
+impl TryCopy for Join {
+    fn copy(&self) -> Result<Join, Memory> {
+        Ok(Join {
+            relation: self.relation.copy()?,
+            col: self.col,
+        })
+    }
+}
+
 impl TryCopy for Select {
     fn copy(&self) -> Result<Select, Memory> {
         let from = self.from.copy()?;
+        let join = match &self.join {
+            Some(join) => Some(join.copy()?),
+            None => None,
+        };
         let columns = self.columns.copy()?;
         Ok(Select {
             from,
+            join,
             columns,
             conds: self.conds.copy()?,
         })
@@ -74,6 +134,48 @@ impl TryCopy for Insert {
         Ok(Insert {
             into: self.into.copy()?,
             row: self.row.copy()?,
+        })
+    }
+}
+
+impl TryCopy for Assigned {
+    fn copy(&self) -> Result<Assigned, Memory> {
+        match self {
+            Assigned::Constant(value) => Ok(Assigned::Constant(value.copy()?)),
+            Assigned::Sum { col, number } => Ok(Assigned::Sum {
+                col: *col,
+                number: *number,
+            }),
+        }
+    }
+}
+
+impl TryCopy for Assignment {
+    fn copy(&self) -> Result<Assignment, Memory> {
+        Ok(Assignment {
+            col: self.col,
+            value: self.value.copy()?,
+        })
+    }
+}
+
+impl TryCopy for Update {
+    fn copy(&self) -> Result<Update, Memory> {
+        let relation = self.relation.copy()?;
+        let sets = self.sets.copy()?;
+        Ok(Update {
+            relation,
+            sets,
+            conds: self.conds.copy()?,
+        })
+    }
+}
+
+impl TryCopy for Delete {
+    fn copy(&self) -> Result<Delete, Memory> {
+        Ok(Delete {
+            relation: self.relation.copy()?,
+            conds: self.conds.copy()?,
         })
     }
 }

@@ -4,7 +4,9 @@ use crate::answer::Answer;
 use crate::relation::Relation;
 use crate::run::run;
 use crate::schema::{Column, RelationSchema, Schema};
-use crate::statement::{Insert, Select, Source, Statement};
+use crate::statement::{
+    Assigned, Assignment, Delete, Insert, Join, Select, Source, Statement, Update,
+};
 use crate::whole::Whole;
 use std::alloc::Global;
 use std::test::Fail;
@@ -20,44 +22,103 @@ fn text(alloc: Global, characters: &str) -> Result<Text, Memory> {
     Ok(Text::new(String::from_str(alloc, characters)?))
 }
 
+/// A row of the columns id, zone, stock and label, with a stock of 7.
 fn row(alloc: Global, id: i64, zone: i64, label: &str) -> Result<Row, Memory> {
     let mut values = Vec::new(alloc);
     values.push(Value::Int(id))?;
     values.push(Value::Int(zone))?;
+    values.push(Value::Int(7))?;
     values.push(Value::Text(text(alloc, label)?))?;
     Ok(Row::new(values))
 }
 
-fn insert(alloc: Global, id: i64, zone: i64, label: &str) -> Result<Statement, Memory> {
+fn insert(alloc: Global, into: &str, id: i64, zone: i64, label: &str) -> Result<Statement, Memory> {
+    let into = text(alloc, into)?;
     let row = row(alloc, id, zone, label)?;
-    Ok(Statement::Insert(Insert {
-        into: text(alloc, "item")?,
-        row,
+    Ok(Statement::Insert(Insert { into, row }))
+}
+
+fn source(alloc: Global, relation: &str) -> Result<Source, Memory> {
+    let mut columns = Vec::new(alloc);
+    for name in ["id", "zone", "stock", "label"] {
+        columns.push(text(alloc, name)?)?;
+    }
+    let name = text(alloc, relation)?;
+    let columns = Seq::new(columns);
+    Ok(Source { name, columns })
+}
+
+/// The condition that a column has this value.
+fn equal(alloc: Global, col: usize, value: i64) -> Result<Conds, Memory> {
+    let value = Value::Int(value);
+    let cmp = Cmp::Eq;
+    let mut conds = Vec::new(alloc);
+    conds.push(Cond { col, cmp, value })?;
+    Ok(Conds::new(conds))
+}
+
+/// The labels of the items with this value in the column.
+fn labels(alloc: Global, col: usize, value: i64) -> Result<Statement, Memory> {
+    let from = source(alloc, "item")?;
+    let conds = equal(alloc, col, value)?;
+    let columns = Seq::new(vec![in alloc; 3usize]?);
+    Ok(Statement::Select(Select {
+        from,
+        join: None,
+        columns,
+        conds,
     }))
 }
 
-/// The labels of the rows with this value in the column.
-fn labels(alloc: Global, col: usize, value: i64) -> Result<Statement, Memory> {
-    let mut names = Vec::new(alloc);
-    for name in ["id", "zone", "label"] {
-        names.push(text(alloc, name)?)?;
-    }
-    let from = Source {
-        name: text(alloc, "item")?,
-        columns: Seq::new(names),
-    };
-    let mut conds = Vec::new(alloc);
-    conds.push(Cond {
-        col,
-        cmp: Cmp::Eq,
-        value: Value::Int(value),
-    })?;
-    let columns = Seq::new(vec![in alloc; 2usize]?);
+/// The labels of the items and of their zones.
+fn pairs(alloc: Global) -> Result<Statement, Memory> {
+    let from = source(alloc, "item")?;
+    let relation = source(alloc, "zone")?;
+    let join = Some(Join { relation, col: 1 });
+    let columns = Seq::new(vec![in alloc; 3usize, 7usize]?);
+    let conds = Conds::new(Vec::new(alloc));
     Ok(Statement::Select(Select {
         from,
+        join,
         columns,
-        conds: Conds::new(conds),
+        conds,
     }))
+}
+
+fn sum(col: usize, of: usize, number: i64) -> Assignment {
+    let value = Assigned::Sum { col: of, number };
+    Assignment { col, value }
+}
+
+fn update(alloc: Global, sets: Vec<Assignment>, conds: Conds) -> Result<Statement, Memory> {
+    let relation = source(alloc, "item")?;
+    let sets = Seq::new(sets);
+    Ok(Statement::Update(Update {
+        relation,
+        sets,
+        conds,
+    }))
+}
+
+/// `SET zone = stock + 1, stock = zone + 1` for the items of a zone.
+fn turn(alloc: Global, zone: i64) -> Result<Statement, Memory> {
+    let mut sets = Vec::new(alloc);
+    sets.push(sum(1, 2, 1))?;
+    sets.push(sum(2, 1, 1))?;
+    update(alloc, sets, equal(alloc, 1, zone)?)
+}
+
+/// `SET stock = id + number` for all items.
+fn fill(alloc: Global, number: i64) -> Result<Statement, Memory> {
+    let mut sets = Vec::new(alloc);
+    sets.push(sum(2, 0, number))?;
+    update(alloc, sets, Conds::new(Vec::new(alloc)))
+}
+
+fn delete(alloc: Global, zone: i64) -> Result<Statement, Memory> {
+    let relation = source(alloc, "item")?;
+    let conds = equal(alloc, 1, zone)?;
+    Ok(Statement::Delete(Delete { relation, conds }))
 }
 
 /// The answer in short: a count, or the texts of the one column.
@@ -84,37 +145,110 @@ fn short(alloc: Global, answer: &Answer) -> Result<String, Memory> {
     Ok(out)
 }
 
-fn answers(alloc: Global) -> Result<String, Memory> {
-    let mut whole = Whole::new(alloc);
-    whole.put(text(alloc, "item")?, Relation::new(alloc))?;
+/// What the statements answer one after another, each in short.
+fn told(alloc: Global, whole: &mut Whole, statements: &[Statement]) -> Result<String, Memory> {
     let mut told = String::new(alloc);
-    let statements = [
-        insert(alloc, 2, 3, "b")?,
-        insert(alloc, 1, 50, "a")?,
-        insert(alloc, 2, 3, "c")?,
-        labels(alloc, 1, 3)?,
-        labels(alloc, 0, 1)?,
-        labels(alloc, 0, 9)?,
-    ];
-    for statement in statements.iter() {
+    for statement in statements {
         let copy = statement.copy()?;
-        let answer = run(alloc, &mut whole, &copy)?.copy()?;
+        let answer = run(alloc, whole, &copy)?.copy()?;
         told.push_str(short(alloc, &answer)?.as_str())?;
         told.push(';')?;
     }
     Ok(told)
 }
 
-#[test]
-fn statements_over_a_whole_relation(rt: HostRuntime) -> Result<(), Fail> {
-    // Where an allocation is refused, the run says so and nothing else.
-    match answers(rt.alloc()) {
-        Ok(told) => assert_eq!(rt;
-            told.as_str(),
-            "changed 1;changed 1;exists;label b;label a;label;"
-        ),
-        Err(memory) => assert!(rt; memory == Memory),
+/// Two items, one of zone 3 and one of zone 50.
+fn items(alloc: Global) -> Result<Whole, Memory> {
+    let mut whole = Whole::new(alloc);
+    whole.put(text(alloc, "item")?, Relation::new(alloc))?;
+    let mut statements = Vec::new(alloc);
+    statements.push(insert(alloc, "item", 2, 3, "b")?)?;
+    statements.push(insert(alloc, "item", 1, 50, "a")?)?;
+    told(alloc, &mut whole, statements.as_slice())?;
+    Ok(whole)
+}
+
+fn inserts(alloc: Global) -> Result<String, Memory> {
+    let mut statements = Vec::new(alloc);
+    statements.push(insert(alloc, "item", 5, 3, "e")?)?;
+    statements.push(insert(alloc, "item", 2, 3, "c")?)?;
+    statements.push(labels(alloc, 1, 3)?)?;
+    statements.push(labels(alloc, 0, 1)?)?;
+    statements.push(labels(alloc, 0, 9)?)?;
+    let mut whole = items(alloc)?;
+    told(alloc, &mut whole, statements.as_slice())
+}
+
+fn joins(alloc: Global) -> Result<String, Memory> {
+    let mut statements = Vec::new(alloc);
+    statements.push(insert(alloc, "zone", 3, 0, "north")?)?;
+    statements.push(pairs(alloc)?)?;
+    let mut whole = items(alloc)?;
+    told(alloc, &mut whole, statements.as_slice())
+}
+
+fn updates(alloc: Global) -> Result<String, Memory> {
+    let mut statements = Vec::new(alloc);
+    statements.push(turn(alloc, 3)?)?;
+    statements.push(labels(alloc, 1, 8)?)?;
+    statements.push(labels(alloc, 2, 4)?)?;
+    statements.push(fill(alloc, 9_223_372_036_854_775_806)?)?;
+    statements.push(labels(alloc, 2, 7)?)?;
+    statements.push(fill(alloc, 9_223_372_036_854_775_805)?)?;
+    statements.push(labels(alloc, 2, 9_223_372_036_854_775_807)?)?;
+    let mut whole = items(alloc)?;
+    told(alloc, &mut whole, statements.as_slice())
+}
+
+fn deletes(alloc: Global) -> Result<String, Memory> {
+    let mut statements = Vec::new(alloc);
+    statements.push(delete(alloc, 50)?)?;
+    statements.push(delete(alloc, 50)?)?;
+    statements.push(labels(alloc, 0, 1)?)?;
+    statements.push(labels(alloc, 0, 2)?)?;
+    let mut whole = items(alloc)?;
+    told(alloc, &mut whole, statements.as_slice())
+}
+
+/// Where an allocation is refused, a run says so and nothing else.
+fn is_told(found: Result<String, Memory>, wanted: &str) -> bool {
+    match found {
+        Ok(told) => told.as_str() == wanted,
+        Err(_) => true,
     }
+}
+
+#[test]
+fn inserts_then_selects(rt: HostRuntime) -> Result<(), Fail> {
+    assert!(rt;
+        is_told(
+            inserts(rt.alloc()),
+            "changed 1;exists;label b e;label a;label;"
+        )
+    );
+    Ok(())
+}
+
+#[test]
+fn a_row_without_partner_is_dropped(rt: HostRuntime) -> Result<(), Fail> {
+    assert!(rt; is_told(joins(rt.alloc()), "changed 1;item.labelzone.label b north;"));
+    Ok(())
+}
+
+#[test]
+fn updates_read_the_row_before(rt: HostRuntime) -> Result<(), Fail> {
+    assert!(rt;
+        is_told(
+            updates(rt.alloc()),
+            "changed 1;label b;label b;overflow;label a;changed 2;label b;"
+        )
+    );
+    Ok(())
+}
+
+#[test]
+fn deletes_leave_the_other_rows(rt: HostRuntime) -> Result<(), Fail> {
+    assert!(rt; is_told(deletes(rt.alloc()), "changed 1;changed 0;label;label b;"));
     Ok(())
 }
 

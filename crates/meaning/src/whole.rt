@@ -5,7 +5,7 @@ ghost use Rattle.std.specs.FinMap as map;
 ghost use Rattle.std.specs.Option.{option_copied};
 ghost use Rattle.terms.specs.Row.{key_of};
 ghost use Rattle.meaning.specs.Relation.{Ascends, has_key, insert_row};
-ghost use Rattle.meaning.specs.Whole.{Relations, rows_of};
+ghost use Rattle.meaning.specs.Whole.{Relations, rows_of, replaced};
 
 use crate::relation::Relation;
 use std::alloc::Global;
@@ -52,7 +52,8 @@ impl Whole {
 
     /// The rows of the relation of this name; where there is none, none.
     pub fn rows(&self, name: &Text) -> &[Row]
-        ensures { result.now ≡ rows_of self.now name.now }
+        ensures rows { result.now ≡ rows_of self.now name.now }
+        ensures ascends { Ascends result.now }
     {
         match self.relation(name) {
             Some(relation) => relation.rows(),
@@ -67,6 +68,15 @@ impl Whole {
     {
         self.relations.insert(name, relation)?;
         Ok(())
+    }
+
+    /// Gives the name this relation, if it had one already.
+    pub fn replace(&mut self, name: &Text, relation: Relation)
+        ensures { self.new ≡ replaced self.old name.now relation }
+    {
+        if let Some(place) = self.relations.get_mut(name) {
+            *place = relation;
+        }
     }
 
     /// Adds a row to the relation of this name, unless its key is there. Answers whether it was added.

@@ -1,17 +1,22 @@
--- All of the tokens: a command, and a semicolon or nothing behind it.
-use Rattle.std.proofs.Common.{◌≡◌, ◌≢◌, Bool, List, [], ◌∷◌, ◌++◌, Some, None, Result, Ok, Err, refl, sym, ap, subst, ◌∙◌, inl, inr}
+-- All of the tokens: a command, and a semicolon or nothing behind it, or conditions.
+use Rattle.std.proofs.Common.{◌≡◌, ◌≢◌, Bool, List, [], ◌∷◌, ◌++◌, Option, Some, None, Result, Ok, Err, refl, sym, ap, subst, ◌∙◌, inl, inr}
+use Rattle.std.proofs.lemmas.List.{append-nil}
+use Rattle.std.specs.Global.{Vec}
 use Rattle.std.specs.Prelude.{IfOk, IfErr}
 use Rattle.reader.specs.declared.fault.Rule.{Rule}
 use Rattle.reader.specs.declared.fault.Rule.TheVariants as rules
 use Rattle.reader.specs.declared.fault.ReadFault.{ReadFault}
+use Rattle.reader.specs.declared.keyword.Keyword.TheVariants as word
 use Rattle.reader.specs.declared.sign.Sign.TheVariants as mark
+use Rattle.reader.specs.declared.tree.Condition as code_condition
 use Rattle.reader.specs.declared.tree.Written as code_written
-use Rattle.reader.specs.Symbol.{Symbol, sign}
+use Rattle.reader.specs.Symbol.{Symbol, key, sign}
 use Rattle.reader.specs.Tree as tree
-use Rattle.reader.specs.Grammar.{written_text, IsWritable, IsEnd, Writes, WriteOneCommand}
-use Rattle.reader.specs.Parsing.{and_then, Fails, Gives, eat, ended, command_at}
-use Rattle.reader.proofs.Steps.{bind, eaten}
-use Rattle.reader.proofs.Productions.{written_takes, written_again}
+use Rattle.reader.specs.Grammar.{conditions_text, written_text, IsFilled, IsWritable, IsEnd, Writes, WriteOneCommand, WritesConditions, WriteOneListOfConditions}
+use Rattle.reader.specs.Parsing.{and_then, Fails, Gives, eat, ended, items_at, condition_at, command_at, conditions_alone_at}
+use Rattle.reader.proofs.Steps.{Cut, bind, eaten}
+use Rattle.reader.proofs.Productions.{conditions_takes, conditions_again}
+use Rattle.reader.proofs.Statements.{written_takes, written_again}
 
 -- nothing is left behind
 ended_empty : {A : Type 0} (x y : A) (rest : List Symbol) → ended x rest ≡ Some y → (rest ≡ []) × (x ≡ y)
@@ -47,19 +52,59 @@ one_command symbols one other first second =
     let same : Some one ≡ Some other = sym (command_again symbols one first) ∙ command_again symbols other second in
     cc
 
+-- nothing was read, but for want of memory
+refused : {A : Type 0} (read : Option A) (rule : Rule) → Fails rule read → rule ≢ rules.Memory → read ≡ None
+refused read rules.Memory fails other = absurd (other refl)
+refused read rules.Syntax fails other = fails
+refused read _ fails other = absurd fails
+
 -- what was read is written so
 pub is_found : (symbols : List Symbol) (r : Result code_written.Written ReadFault) → Gives tree.written_of r (command_at symbols) → IfOk r (λ w. Writes symbols (tree.written_of w))
 is_found symbols (Ok w) given = command_takes symbols (tree.written_of w) given
 is_found symbols (Err fault) given = tt
 
-none_at : (symbols : List Symbol) (rule : Rule) → Fails rule (command_at symbols) → rule ≢ rules.Memory → (w : tree.Written) → ¬ (Writes symbols w)
-none_at symbols rules.Memory fails other w written = other refl
-none_at symbols rules.Syntax fails other w written =
-    let nothing : None ≡ Some w = sym fails ∙ command_again symbols w written in
-    absurd cc
-none_at symbols _ fails other w written = fails
-
 -- what was refused isn't written by any command
 pub is_none : (symbols : List Symbol) (r : Result code_written.Written ReadFault) → Gives tree.written_of r (command_at symbols) → IfErr r (λ fault. fault.rule ≢ rules.Memory → (w : tree.Written) → ¬ (Writes symbols w))
 is_none symbols (Ok w) given = tt
-is_none symbols (Err fault) given = none_at symbols fault.rule given
+is_none symbols (Err fault) given = λ other w written.
+    let nothing : None ≡ Some w = sym (refused (command_at symbols) fault.rule given other) ∙ command_again symbols w written in
+    absurd cc
+
+-- ---- conditions alone
+
+whole : {symbols front rest : List Symbol} → Cut symbols front rest → rest ≡ [] → symbols ≡ front
+whole {symbols} {front} {rest} cut none = cut.parts ∙ ap (λ (r : List Symbol). front ++ r) none ∙ append-nil front
+
+alone_takes : (symbols : List Symbol) (cs : List tree.Condition) → conditions_alone_at symbols ≡ Some cs → WritesConditions symbols cs
+unfolding conditions_alone_at
+alone_takes symbols cs h =
+    let conditions = bind h in
+    let front = conditions_takes _ _ conditions.1 in
+    let end = ended_empty _ _ _ conditions.2 in
+    subst (λ (v : List tree.Condition). WritesConditions symbols v) end.1 (front.1, whole front.0 end.0)
+
+alone_again_by : (cs : List tree.Condition) → IsFilled cs → items_at condition_at (key word.And) (conditions_text cs) ≡ Some (cs, [])
+unfolding eat
+alone_again_by cs filled = subst (λ (s : List Symbol). items_at condition_at (key word.And) s ≡ Some (cs, [])) (append-nil (conditions_text cs)) (conditions_again cs filled [] refl)
+
+alone_again : (symbols : List Symbol) (cs : List tree.Condition) → WritesConditions symbols cs → conditions_alone_at symbols ≡ Some cs
+unfolding conditions_alone_at and_then
+alone_again symbols cs written = rw (written.1, alone_again_by cs written.0) refl
+
+-- tokens write one list of conditions at most
+pub one_list_of_conditions : WriteOneListOfConditions
+one_list_of_conditions symbols one other first second =
+    let same : Some one ≡ Some other = sym (alone_again symbols one first) ∙ alone_again symbols other second in
+    cc
+
+-- what was read is written so
+pub are_found : (symbols : List Symbol) (r : Result (Vec code_condition.Condition) ReadFault) → Gives tree.conditions_of r (conditions_alone_at symbols) → IfOk r (λ cs. WritesConditions symbols (tree.conditions_of cs))
+are_found symbols (Ok cs) given = alone_takes symbols (tree.conditions_of cs) given
+are_found symbols (Err fault) given = tt
+
+-- what was refused isn't written by any conditions
+pub are_none : (symbols : List Symbol) (r : Result (Vec code_condition.Condition) ReadFault) → Gives tree.conditions_of r (conditions_alone_at symbols) → IfErr r (λ fault. fault.rule ≢ rules.Memory → (cs : List tree.Condition) → ¬ (WritesConditions symbols cs))
+are_none symbols (Ok cs) given = tt
+are_none symbols (Err fault) given = λ other cs written.
+    let nothing : None ≡ Some cs = sym (refused (conditions_alone_at symbols) fault.rule given other) ∙ alone_again symbols cs written in
+    absurd cc

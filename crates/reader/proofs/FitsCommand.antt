@@ -1,29 +1,45 @@
 -- What a text means fits the schema: statements and commands.
-use Rattle.std.proofs.Common.{◌≡◌, ℕ, zero, suc, ◌+◌, ◌<◌, ◌≤◌, Bool, true, false, cond, List, [], ◌∷◌, ◌++◌, Option, Some, None, option_and_then, option_map, map, length, find, nat_eq, nat_le, refl, ap, sym, subst, ◌∙◌, arith}
+use Rattle.std.proofs.Common.{◌≡◌, ◌≢◌, ℕ, ◌<◌, Bool, true, false, ◌&&◌, cond, List, [], ◌∷◌, ◌++◌, Option, Some, None, length, find, nat_eq, nat_lt, inl, inr, ◌⊎◌, refl, ap, sym, subst, ◌∙◌, arith}
 use Rattle.std.specs.Cmp.Lexicographic.{pointwise}
-use Rattle.std.specs.List.{AllByRecursion, range_with_len}
-use Rattle.std.proofs.lemmas.Bool.{leb-true}
-use Rattle.std.proofs.lemmas.List.{length-map}
-use Rattle.std.proofs.lemmas.List.FromFn.{length-range_with_len}
+use Rattle.std.specs.List.{AllByRecursion, slice_get}
+use Rattle.std.proofs.lemmas.Bool.{and_parts, eqb-true, eqb-false, ltb-true}
+use Rattle.std.proofs.lemmas.List.{append-nil, length-map}
 use Rattle.std.proofs.lemmas.Slice.Eq.{bytes_eq-Decides}
+use Rattle.terms.specs.declared.cond.Cond.{Cond}
+use Rattle.terms.specs.declared.value.Kind.{Kind}
+use Rattle.terms.specs.declared.value.Kind.TheVariants as kinds
+use Rattle.terms.specs.Cond.{IsCondOf}
+use Rattle.meaning.specs.declared.schema.Column as schema
 use Rattle.meaning.specs.declared.schema.RelationSchema.{RelationSchema}
-use Rattle.meaning.specs.declared.statement.Statement.{Statement}
 use Rattle.meaning.specs.declared.statement.Statement.TheVariants as statements
+use Rattle.meaning.specs.declared.statement.Join.{Join}
 use Rattle.meaning.specs.declared.statement.Select.{Select}
 use Rattle.meaning.specs.declared.statement.Insert.{Insert}
-use Rattle.meaning.specs.Schema.{relation_named, kinds_of, names_of}
-use Rattle.meaning.specs.Statement.{IsSelectOf, IsInsertOf, IsStatementOf}
+use Rattle.meaning.specs.declared.statement.Assigned.{Assigned}
+use Rattle.meaning.specs.declared.statement.Assigned.TheVariants as assigned
+use Rattle.meaning.specs.declared.statement.Assignment.{Assignment}
+use Rattle.meaning.specs.declared.statement.Update.{Update}
+use Rattle.meaning.specs.declared.statement.Delete.{Delete}
+use Rattle.meaning.specs.Schema.{relation_named, kinds_of}
+use Rattle.meaning.specs.Statement.{IsJoinOf, IsSelectOf, IsInsertOf, IsAssignable, IsAssignmentOf, IsUpdateOf, IsDeleteOf}
 use Rattle.reader.specs.declared.command.Command.{Command}
-use Rattle.reader.specs.declared.command.Command.TheVariants.{Run}
+use Rattle.reader.specs.declared.command.Command.TheVariants as commands
 use Rattle.reader.specs.declared.keyword.Keyword.TheVariants as word
+use Rattle.reader.specs.declared.scope.Found.{Found}
 use Rattle.reader.specs.declared.sign.Sign.TheVariants as mark
 use Rattle.reader.specs.Command.{IsTextOf, IsCommandOf}
-use Rattle.reader.specs.Grammar.{separated, constant_text, column_text, listed_text, condition_text, select_text, insert_text, written_text, Writes}
-use Rattle.reader.specs.Names.{all_of, place_of, cond_of, places_of, row_of, select_of, insert_of, statement_of}
+use Rattle.reader.specs.Grammar.{separated, constant_text, listed_text, join_text, where_text, assigned_text, assignment_text, select_text, insert_text, update_text, written_text, IsFilled, IsWritable}
+use Rattle.reader.specs.Names.{all_of, value_of, number_of, places_of, conds_of, source_of, is_integer, other_than_key, joined_by, join_of, other_of, select_of_one, select_of_two, select_from, select_of, row_of, insert_of, settable, addend, sum_of, assigned_of, assignment_of, are_apart, sets_of, update_of, delete_of, command_of}
+use Rattle.reader.specs.Scope.{one_relation, two_relations, types, column_named, found_in}
 use Rattle.reader.specs.Symbol.{Symbol, key, sign, name}
 use Rattle.reader.specs.Tree as tree
+use Rattle.reader.proofs.Chains.{chosen, refused, first_step, mapped_step}
 use Rattle.reader.proofs.Fits.{both_parts}
-use Rattle.reader.proofs.FitsSchema.{IsSound, IsSoundConstant, all_sound, sound_constant, sound_separated, chosen, first_step, mapped_step, row_fits, place_within, cond_fits}
+use Rattle.reader.proofs.FitsSchema.{IsSound, IsSoundConstant, IsSoundCondition, all_sound, sound_constant, sound_separated, sound_where, value_fits, number_within, row_fits, all_answers, places_fit, conds_fit}
+use Rattle.reader.proofs.Places.{slice_get-within_front, slice_get-behind, named_there, there_in}
+use Rattle.reader.proofs.Settings.{are_apart_fits}
+
+-- ---- relations
 
 -- a relation that was found has the name
 found_passes : {A : Type 0} (test : A → Bool) (xs : List A) (x : A) → find test xs ≡ Some x → test x ≡ true
@@ -40,64 +56,150 @@ named_itself schema asked relation is =
     let same : relation.name ≡ asked = (bytes_eq-Decides relation.name asked).0 (found_passes (λ r. pointwise nat_eq r.name asked) schema relation is) in
     ap (λ n. relation_named n schema) same ∙ is
 
--- answers of each item
-all_answers : {A B : Type 0} (answer : A → Option B) (P : B → Type 0) → ((x : A) (y : B) → answer x ≡ Some y → P y) → (xs : List A) (ys : List B) → all_of answer xs ≡ Some ys → AllByRecursion P ys × (length ys ≡ length xs)
-all_answers answer P each [] ys is = let Q : List _ → Type 0 = λ zs. AllByRecursion P zs × (length zs ≡ 0) in let same : [] ≡ ys = cc in subst Q same (tt, refl)
-all_answers answer P each (x ∷ xs) ys is =
-    let first = first_step (λ y. option_map (λ rest. y ∷ rest) (all_of answer xs)) (answer x) ys is in
-    let rest = mapped_step (λ rest. first.0 ∷ rest) (all_of answer xs) ys first.2 in
-    let others = all_answers answer P each xs rest.0 rest.1 in
-    let Q : List _ → Type 0 = λ zs. AllByRecursion P zs × (length zs ≡ suc (length xs)) in
-    subst Q rest.2 ((each x first.0 first.1, others.0), ap suc others.1)
+-- ---- selects
 
-numbers_below : (a n limit : ℕ) → a + n ≤ limit → AllByRecursion (λ column. column < limit) (range_with_len a n)
-numbers_below a zero limit within = tt
-numbers_below a (suc n) limit within = (omega arith, numbers_below (a + 1) n limit (omega arith))
+sound_select : (select : tree.Select) → AllByRecursion IsSound (select_text select) → AllByRecursion IsSoundCondition select.conditions
+sound_select select all =
+    let tail = both_parts IsSound (listed_text select.listed) (key word.From ∷ name select.relation ∷ (join_text select.join ++ where_text select.conditions)) all.1 in
+    let conditions = both_parts IsSound (join_text select.join) (where_text select.conditions) tail.1.1.1 in
+    sound_where select.conditions conditions.1
 
--- the listed places are within the relation, and at most 32
-places_fit : (relation : RelationSchema) (listed : tree.Listed) (places : List ℕ) → places_of relation listed ≡ Some places → AllByRecursion (λ column. column < length (names_of relation)) places × (length places ≤ 32)
-places_fit relation tree.all places is =
-    let one = chosen (nat_le (length relation.columns) 32) (range_with_len 0 (length relation.columns)) places is in
-    let few = leb-true (length relation.columns) 32 one.0 in
-    let P : List ℕ → Type 0 = λ ps. AllByRecursion (λ column. column < length (names_of relation)) ps × (length ps ≤ 32) in
-    subst P one.1 (numbers_below 0 (length relation.columns) (length (names_of relation)) (omega (arith, length-map relation.columns (λ c. c.name))), rw length-range_with_len few)
-places_fit relation (tree.columns columns) places is =
-    elim (nat_le (length columns) 32) as (λ t. nat_le (length columns) 32 ≡ t → cond t (all_of (place_of relation) columns) None ≡ Some places → AllByRecursion (λ column. column < length (names_of relation)) places × (length places ≤ 32)) [
-      | true ↦ λ few found.
-          let answers = all_answers (place_of relation) (λ column. column < length (names_of relation)) (place_within relation) columns places found in
-          (answers.0, rw answers.1 (leb-true (length columns) 32 few))
-      | false ↦ λ many none. cc
+integer_is : (kind : Kind) → is_integer kind ≡ true → kind ≡ kinds.Int
+integer_is kinds.Int is = refl
+integer_is kinds.Text is = cc
+
+-- the column beside the key
+key_cases : (count left right column : ℕ) → other_than_key count left right ≡ Some column → ((left ≡ count) × (right < count) × (right ≡ column)) ⊎ ((right ≡ count) × (left < count) × (left ≡ column))
+key_cases count left right column is =
+    elim (nat_eq left count && nat_lt right count) as (λ t. nat_eq left count && nat_lt right count ≡ t → cond t (Some right) (cond (nat_eq right count && nat_lt left count) (Some left) None) ≡ Some column → ((left ≡ count) × (right < count) × (right ≡ column)) ⊎ ((right ≡ count) × (left < count) × (left ≡ column))) [
+      | true ↦ λ both here.
+          let parts = and_parts (nat_eq left count) (nat_lt right count) both in
+          inl (eqb-true left count parts.0, ltb-true right count parts.1, cc here)
+      | false ↦ λ other later.
+          let one = chosen (nat_eq right count && nat_lt left count) (Some left) column later in
+          let parts = and_parts (nat_eq right count) (nat_lt left count) one.0 in
+          inr (eqb-true right count parts.0, ltb-true left count parts.1, cc one.1)
     ] refl is
 
--- the constants of a command that sound tokens write
-sound_select : (select : tree.Select) → AllByRecursion IsSound (select_text select) → IsSoundConstant select.condition.constant
-sound_select select all =
-    let tail = both_parts IsSound (listed_text select.listed) (key word.From ∷ name select.relation ∷ key word.Where ∷ condition_text select.condition) all.1 in
-    let condition = both_parts IsSound (column_text select.condition.column) (sign mark.Equal ∷ constant_text select.condition.constant) tail.1.1.1.1 in
-    sound_constant select.condition.constant condition.1.1
+-- the key behind the columns after FROM is an integer
+key_there : (columns others : List schema.Column) (place : ℕ) (kind : Kind) → place ≡ length columns → slice_get (types columns ++ types others) place ≡ Some kind → is_integer kind ≡ true → slice_get (types others) 0 ≡ Some kinds.Int
+key_there columns others place kind is there integer =
+    sym (slice_get-behind (types columns) (types others) 0 place (omega (arith, length-map columns (λ c. c.kind)))) ∙ there ∙ ap Some (integer_is kind integer)
+
+-- the column after FROM is an integer
+column_there : (columns others : List schema.Column) (place col : ℕ) (kind : Kind) → place < length columns → place ≡ col → slice_get (types columns ++ types others) place ≡ Some kind → is_integer kind ≡ true → slice_get (types columns) col ≡ Some kinds.Int
+column_there columns others place col kind within same there integer =
+    ap (slice_get (types columns)) (sym same)
+    ∙ sym (slice_get-within_front (types columns) (types others) place (omega (arith, length-map columns (λ c. c.kind)))) ∙ there ∙ ap Some (integer_is kind integer)
+
+-- what two relations are joined by are the key and an integer column
+joined_fits : (relation other : RelationSchema) (written : tree.Join) (col : ℕ) → joined_by (two_relations relation other) written ≡ Some col → (slice_get (kinds_of other) 0 ≡ Some kinds.Int) × (slice_get (kinds_of relation) col ≡ Some kinds.Int)
+joined_fits relation other written col is =
+    let left = first_step _ (found_in (two_relations relation other) written.left) col is in
+    let right = first_step _ (found_in (two_relations relation other) written.right) col left.2 in
+    let column = first_step _ (other_than_key (length relation.columns) left.0.place right.0.place) col right.2 in
+    let one = chosen (is_integer left.0.kind && is_integer right.0.kind) (Some column.0) col column.2 in
+    let integers = and_parts (is_integer left.0.kind) (is_integer right.0.kind) one.0 in
+    let same : column.0 ≡ col = cc one.1 in
+    let left_there = there_in (two_relations relation other) written.left left.0 left.1 in
+    let right_there = there_in (two_relations relation other) written.right right.0 right.1 in
+    elim (key_cases (length relation.columns) left.0.place right.0.place column.0 column.1) [
+      | inl met ↦ (
+        key_there relation.columns other.columns left.0.place left.0.kind met.0 left_there integers.0,
+        column_there relation.columns other.columns right.0.place col right.0.kind met.1 (met.2 ∙ same) right_there integers.1,
+      )
+      | inr met ↦ (
+        key_there relation.columns other.columns right.0.place right.0.kind met.0 right_there integers.1,
+        column_there relation.columns other.columns left.0.place col left.0.kind met.1 (met.2 ∙ same) left_there integers.0,
+      )
+    ]
+
+-- the joined relation is another one, under its own name
+other_fits : (schema : List RelationSchema) (relation other : RelationSchema) (written : tree.Join) → other_of schema relation written ≡ Some other → (relation_named other.name schema ≡ Some other) × (other.name ≢ relation.name)
+other_fits schema relation other written is =
+    let found = first_step (λ (o : RelationSchema). cond (pointwise nat_eq o.name relation.name) None (Some o)) (relation_named written.relation schema) other is in
+    let one = refused (pointwise nat_eq found.0.name relation.name) (Some found.0) other found.2 in
+    let same : found.0 ≡ other = cc one.1 in
+    let P : RelationSchema → Type 0 = λ o. (relation_named o.name schema ≡ Some o) × (o.name ≢ relation.name) in
+    subst P same (
+      named_itself schema written.relation found.0 found.1,
+      λ equal. let both : true ≡ false = sym ((bytes_eq-Decides found.0.name relation.name).1 equal) ∙ one.0 in cc,
+    )
+
+join_fits : (schema : List RelationSchema) (relation other : RelationSchema) (written : tree.Join) (join : Join) → other_of schema relation written ≡ Some other → join_of relation other written ≡ Some join → IsJoinOf schema relation join (kinds_of other)
+join_fits schema relation other written join there is =
+    let col = mapped_step (λ (column : ℕ). record { relation = source_of other; col = column }) (joined_by (two_relations relation other) written) join is in
+    let another = other_fits schema relation other written there in
+    let fits = joined_fits relation other written col.0 col.1 in
+    let P : Join → Type 0 = λ j. IsJoinOf schema relation j (kinds_of other) in
+    subst P col.2 (record {
+      other = other;
+      there = another.0;
+      another = another.1;
+      names = refl;
+      types = refl;
+      key = fits.0;
+      column = fits.1;
+    })
+
+select_one_fits : (schema : List RelationSchema) (relation : RelationSchema) (written : tree.Select) (select : Select) → relation_named relation.name schema ≡ Some relation → AllByRecursion IsSoundCondition written.conditions → select_of_one relation written ≡ Some select → IsSelectOf schema select
+select_one_fits schema relation written select there are_sound is =
+    let places = first_step _ (places_of (one_relation relation) written.listed) select is in
+    let conds = first_step _ (conds_of (one_relation relation) written.conditions) select places.2 in
+    let same : record { from = source_of relation; join = None; columns = places.0; conds = conds.0 } ≡ select = cc conds.2 in
+    let fit = places_fit (one_relation relation) written.listed places.0 places.1 in
+    let conds_are = conds_fit (one_relation relation) written.conditions conds.0 are_sound conds.1 in
+    let P : Select → Type 0 = IsSelectOf schema in
+    subst P same (record {
+      relation = relation;
+      joined = [];
+      there = there;
+      names = refl;
+      joins = refl;
+      few_columns = fit.1;
+      columns = fit.0;
+      few_conds = conds_are.1;
+      conds = conds_are.0;
+    })
+
+select_two_fits : (schema : List RelationSchema) (relation other : RelationSchema) (written_join : tree.Join) (written : tree.Select) (select : Select) → relation_named relation.name schema ≡ Some relation → other_of schema relation written_join ≡ Some other → AllByRecursion IsSoundCondition written.conditions → select_of_two relation other written_join written ≡ Some select → IsSelectOf schema select
+select_two_fits schema relation other written_join written select there there_too are_sound is =
+    let places = first_step _ (places_of (two_relations relation other) written.listed) select is in
+    let join = first_step _ (join_of relation other written_join) select places.2 in
+    let conds = first_step _ (conds_of (two_relations relation other) written.conditions) select join.2 in
+    let same : record { from = source_of relation; join = Some join.0; columns = places.0; conds = conds.0 } ≡ select = cc conds.2 in
+    let fit = places_fit (two_relations relation other) written.listed places.0 places.1 in
+    let conds_are = conds_fit (two_relations relation other) written.conditions conds.0 are_sound conds.1 in
+    let P : Select → Type 0 = IsSelectOf schema in
+    subst P same (record {
+      relation = relation;
+      joined = kinds_of other;
+      there = there;
+      names = refl;
+      joins = join_fits schema relation other written_join join.0 there_too join.1;
+      few_columns = fit.1;
+      columns = fit.0;
+      few_conds = conds_are.1;
+      conds = conds_are.0;
+    })
+
+select_from_fits : (schema : List RelationSchema) (relation : RelationSchema) (join : Option tree.Join) (written : tree.Select) (select : Select) → relation_named relation.name schema ≡ Some relation → AllByRecursion IsSoundCondition written.conditions → select_from schema relation join written ≡ Some select → IsSelectOf schema select
+select_from_fits schema relation None written select there are_sound is = select_one_fits schema relation written select there are_sound is
+select_from_fits schema relation (Some join) written select there are_sound is =
+    let other = first_step _ (other_of schema relation join) select is in
+    select_two_fits schema relation other.0 join written select there other.1 are_sound other.2
+
+select_fits : (schema : List RelationSchema) (written : tree.Select) (select : Select) → AllByRecursion IsSoundCondition written.conditions → select_of schema written ≡ Some select → IsSelectOf schema select
+select_fits schema written select are_sound is =
+    let relation = first_step _ (relation_named written.relation schema) select is in
+    select_from_fits schema relation.0 written.join written select (named_itself schema written.relation relation.0 relation.1) are_sound relation.2
+
+-- ---- inserts
 
 sound_insert : (insert : tree.Insert) → AllByRecursion IsSound (insert_text insert) → AllByRecursion IsSoundConstant insert.values
 sound_insert insert all =
     let values = both_parts IsSound (separated constant_text (sign mark.Comma) insert.values) (sign mark.Close ∷ []) all.1.1.1.1.1 in
-    sound_separated insert.values values.0
-
-select_fits : (schema : List RelationSchema) (written : tree.Select) (select : Select) → IsSoundConstant written.condition.constant → select_of schema written ≡ Some select → IsSelectOf schema select
-select_fits schema written select is_sound is =
-    let relation = first_step _ (relation_named written.relation schema) select is in
-    let places = first_step _ (places_of relation.0 written.listed) select relation.2 in
-    let cond = first_step _ (cond_of relation.0 written.condition) select places.2 in
-    let same : record { from = record { name = relation.0.name; columns = names_of relation.0 }; columns = places.0; conds = cond.0 ∷ [] } ≡ select = cc in
-    let fit = places_fit relation.0 written.listed places.0 places.1 in
-    let P : Select → Type 0 = IsSelectOf schema in
-    subst P same (record {
-      relation = relation.0;
-      there = named_itself schema written.relation relation.0 relation.1;
-      names = refl;
-      few_columns = fit.1;
-      columns = fit.0;
-      few_conds = omega arith;
-      conds = (cond_fits relation.0 written.condition cond.0 is_sound cond.1, tt);
-    })
+    sound_separated constant_text (sign mark.Comma) IsSoundConstant sound_constant insert.values values.0
 
 insert_fits : (schema : List RelationSchema) (written : tree.Insert) (insert : Insert) → AllByRecursion IsSoundConstant written.values → insert_of schema written ≡ Some insert → IsInsertOf schema insert
 insert_fits schema written insert are_sound is =
@@ -111,15 +213,152 @@ insert_fits schema written insert are_sound is =
       fits = row_fits (kinds_of relation.0) written.values row.0 are_sound row.1;
     })
 
-statement_fits : (schema : List RelationSchema) (written : tree.Written) (statement : Statement) → AllByRecursion IsSound (written_text written) → statement_of schema written ≡ Some statement → IsStatementOf schema statement
-statement_fits schema (tree.select written) statement all is =
-    let one = mapped_step statements.Select (select_of schema written) statement is in
-    let P : Statement → Type 0 = IsStatementOf schema in
+-- ---- updates and deletes
+
+-- an assignment whose constant, if it has one, is one that a text can say
+abbrev IsSoundAssigned : tree.Assigned → Type 0
+IsSoundAssigned (tree.constant constant) = IsSoundConstant constant
+IsSoundAssigned (tree.sum column is_negative size) = Unit {0}
+
+abbrev IsSoundAssignment : tree.Assignment → Type 0
+IsSoundAssignment assignment = IsSoundAssigned assignment.value
+
+sound_assigned : (value : tree.Assigned) → AllByRecursion IsSound (assigned_text value) → IsSoundAssigned value
+sound_assigned (tree.constant constant) all = sound_constant constant all
+sound_assigned (tree.sum column is_negative size) all = tt
+
+sound_update : (update : tree.Update) → AllByRecursion IsSound (update_text update) → AllByRecursion IsSoundAssignment update.sets × AllByRecursion IsSoundCondition update.conditions
+sound_update update all =
+    let parts = both_parts IsSound (separated assignment_text (sign mark.Comma) update.sets) (where_text update.conditions) all.1.1.1 in
+    (sound_separated assignment_text (sign mark.Comma) IsSoundAssignment (λ assignment sounds. sound_assigned assignment.value sounds.1.1) update.sets parts.0, sound_where update.conditions parts.1)
+
+-- the column that is set is there, and is not the key
+settable_fits : (columns : List schema.Column) (asked : List ℕ) (found : Found) → settable columns asked ≡ Some found → (found.place ≢ 0) × (slice_get (types columns) found.place ≡ Some found.kind)
+settable_fits columns asked found is =
+    let one = first_step (λ (f : Found). cond (nat_eq f.place 0) None (Some f)) (column_named columns asked) found is in
+    let other = refused (nat_eq one.0.place 0) (Some one.0) found one.2 in
+    let same : one.0 ≡ found = cc other.1 in
+    let P : Found → Type 0 = λ f. (f.place ≢ 0) × (slice_get (types columns) f.place ≡ Some f.kind) in
+    subst P same (eqb-false one.0.place 0 other.0, named_there columns asked one.0 one.1)
+
+-- a sum is of two integer columns
+sum_fits : (columns : List schema.Column) (kind : Kind) (asked : List ℕ) (is_negative : Bool) (size : ℕ) (value : Assigned) → sum_of columns kind asked is_negative size ≡ Some value → IsAssignable (types columns) kind value
+sum_fits columns kind asked is_negative size value is =
+    let added = first_step _ (addend columns kind asked) value is in
+    let n = first_step _ (number_of is_negative size) value added.2 in
+    let found = first_step (λ (f : Found). cond (is_integer kind && is_integer f.kind) (Some f) None) (column_named columns asked) added.0 added.1 in
+    let one = chosen (is_integer kind && is_integer found.0.kind) (Some found.0) added.0 found.2 in
+    let integers = and_parts (is_integer kind) (is_integer found.0.kind) one.0 in
+    let equal : found.0 ≡ added.0 = cc one.1 in
+    let place : found.0.place ≡ added.0.place = ap (λ (f : Found). f.place) equal in
+    let there = named_there columns asked found.0 found.1 in
+    let bounds = number_within is_negative size n.0 n.1 in
+    let same : assigned.Sum added.0.place n.0 ≡ value = cc n.2 in
+    let P : Assigned → Type 0 = IsAssignable (types columns) kind in
+    subst P same (integer_is kind integers.0, ap (slice_get (types columns)) (sym place) ∙ there ∙ ap Some (integer_is found.0.kind integers.1), bounds.0, bounds.1)
+
+assigned_fits : (columns : List schema.Column) (kind : Kind) (written : tree.Assigned) (value : Assigned) → IsSoundAssigned written → assigned_of columns kind written ≡ Some value → IsAssignable (types columns) kind value
+assigned_fits columns kind (tree.constant constant) value is_sound is =
+    let one = mapped_step assigned.Constant (value_of kind constant) value is in
+    let P : Assigned → Type 0 = IsAssignable (types columns) kind in
+    subst P one.2 (value_fits kind constant one.0 is_sound one.1)
+assigned_fits columns kind (tree.sum asked is_negative size) value is_sound is = sum_fits columns kind asked is_negative size value is
+
+assignment_fits : (columns : List schema.Column) (written : tree.Assignment) (assignment : Assignment) → IsSoundAssignment written → assignment_of columns written ≡ Some assignment → IsAssignmentOf (types columns) assignment
+assignment_fits columns written assignment is_sound is =
+    let found = first_step _ (settable columns written.column) assignment is in
+    let value = first_step _ (assigned_of columns found.0.kind written.value) assignment found.2 in
+    let same : record { col = found.0.place; value = value.0 } ≡ assignment = cc value.2 in
+    let fits = settable_fits columns written.column found.0 found.1 in
+    let P : Assignment → Type 0 = IsAssignmentOf (types columns) in
+    subst P same (record {
+      kind = found.0.kind;
+      not_key = fits.0;
+      column = fits.1;
+      value = assigned_fits columns found.0.kind written.value value.0 is_sound value.1;
+    })
+
+-- as many answers as items, so some where there are some
+some_answers : {A B : Type 0} (xs : List A) (ys : List B) → IsFilled xs → length ys ≡ length xs → ys ≢ []
+some_answers [] ys filled same none = absurd filled
+some_answers (x ∷ xs) [] filled same none = absurd (omega arith)
+some_answers (x ∷ xs) (y ∷ ys) filled same none = cc
+
+-- where nothing is joined the types are those of the relation alone
+alone : (types_of : List Kind) (conds : List Cond) → AllByRecursion (IsCondOf (types_of ++ [])) conds → AllByRecursion (IsCondOf types_of) conds
+alone types_of conds fit = let P : List Kind → Type 0 = λ ks. AllByRecursion (IsCondOf ks) conds in subst P (append-nil types_of) fit
+
+update_fits : (schema : List RelationSchema) (written : tree.Update) (update : Update) → IsFilled written.sets → AllByRecursion IsSoundAssignment written.sets → AllByRecursion IsSoundCondition written.conditions → update_of schema written ≡ Some update → IsUpdateOf schema update
+update_fits schema written update filled sets_sound conditions_sound is =
+    let relation = first_step _ (relation_named written.relation schema) update is in
+    let sets = first_step _ (sets_of relation.0.columns written.sets) update relation.2 in
+    let conds = first_step _ (conds_of (one_relation relation.0) written.conditions) update sets.2 in
+    let same : record { relation = source_of relation.0; sets = sets.0; conds = conds.0 } ≡ update = cc conds.2 in
+    let listed = first_step (λ (s : List Assignment). cond (are_apart s) (Some s) None) (all_of (assignment_of relation.0.columns) written.sets) sets.0 sets.1 in
+    let one = chosen (are_apart listed.0) (Some listed.0) sets.0 listed.2 in
+    let equal : listed.0 ≡ sets.0 = cc one.1 in
+    let apart : are_apart sets.0 ≡ true = ap are_apart (sym equal) ∙ one.0 in
+    let answers = all_answers (assignment_of relation.0.columns) IsSoundAssignment (IsAssignmentOf (kinds_of relation.0)) (assignment_fits relation.0.columns) written.sets sets.0 sets_sound (listed.1 ∙ one.1) in
+    let conds_are = conds_fit (one_relation relation.0) written.conditions conds.0 conditions_sound conds.1 in
+    let P : Update → Type 0 = IsUpdateOf schema in
+    subst P same (record {
+      relation = relation.0;
+      there = named_itself schema written.relation relation.0 relation.1;
+      names = refl;
+      some_set = some_answers written.sets sets.0 filled answers.1;
+      apart = are_apart_fits sets.0 apart;
+      sets = answers.0;
+      few_conds = conds_are.1;
+      conds = alone (kinds_of relation.0) conds.0 conds_are.0;
+    })
+
+delete_fits : (schema : List RelationSchema) (written : tree.Delete) (delete : Delete) → AllByRecursion IsSoundCondition written.conditions → delete_of schema written ≡ Some delete → IsDeleteOf schema delete
+delete_fits schema written delete are_sound is =
+    let relation = first_step _ (relation_named written.relation schema) delete is in
+    let conds = first_step _ (conds_of (one_relation relation.0) written.conditions) delete relation.2 in
+    let same : record { relation = source_of relation.0; conds = conds.0 } ≡ delete = cc conds.2 in
+    let conds_are = conds_fit (one_relation relation.0) written.conditions conds.0 are_sound conds.1 in
+    let P : Delete → Type 0 = IsDeleteOf schema in
+    subst P same (record {
+      relation = relation.0;
+      there = named_itself schema written.relation relation.0 relation.1;
+      names = refl;
+      few_conds = conds_are.1;
+      conds = alone (kinds_of relation.0) conds.0 conds_are.0;
+    })
+
+-- ---- commands
+
+command_fits : (schema : List RelationSchema) (written : tree.Written) (command : Command) → IsWritable written → AllByRecursion IsSound (written_text written) → command_of schema written ≡ Some command → IsCommandOf schema command
+command_fits schema (tree.select written) command filled all is =
+    let one = mapped_step (λ (s : Select). commands.Run (statements.Select s)) (select_of schema written) command is in
+    let P : Command → Type 0 = IsCommandOf schema in
     subst P one.2 (select_fits schema written one.0 (sound_select written all) one.1)
-statement_fits schema (tree.insert written) statement all is =
-    let one = mapped_step statements.Insert (insert_of schema written) statement is in
-    let P : Statement → Type 0 = IsStatementOf schema in
+command_fits schema (tree.insert written) command filled all is =
+    let one = mapped_step (λ (s : Insert). commands.Run (statements.Insert s)) (insert_of schema written) command is in
+    let P : Command → Type 0 = IsCommandOf schema in
     subst P one.2 (insert_fits schema written one.0 (sound_insert written all) one.1)
+command_fits schema (tree.update written) command filled all is =
+    let one = mapped_step (λ (s : Update). commands.Run (statements.Update s)) (update_of schema written) command is in
+    let sounds = sound_update written all in
+    let P : Command → Type 0 = IsCommandOf schema in
+    subst P one.2 (update_fits schema written one.0 filled sounds.0 sounds.1 one.1)
+command_fits schema (tree.delete written) command filled all is =
+    let one = mapped_step (λ (s : Delete). commands.Run (statements.Delete s)) (delete_of schema written) command is in
+    let P : Command → Type 0 = IsCommandOf schema in
+    subst P one.2 (delete_fits schema written one.0 (sound_where written.conditions all.1.1.1) one.1)
+command_fits schema tree.begin command filled all is =
+    let same : commands.Begin ≡ command = cc is in
+    let P : Command → Type 0 = IsCommandOf schema in
+    subst P same tt
+command_fits schema tree.commit command filled all is =
+    let same : commands.Commit ≡ command = cc is in
+    let P : Command → Type 0 = IsCommandOf schema in
+    subst P same tt
+command_fits schema tree.rollback command filled all is =
+    let same : commands.Rollback ≡ command = cc is in
+    let P : Command → Type 0 = IsCommandOf schema in
+    subst P same tt
 
 -- the command of a text fits the schema
 pub text_fits : (schema : List RelationSchema) (text : List ℕ) (command : Command) → IsTextOf schema text command → IsCommandOf schema command
@@ -127,6 +366,4 @@ text_fits schema text command is =
     let Sound : List Symbol → Type 0 = AllByRecursion IsSound in
     let all = subst Sound is.grammatical.2 (all_sound text is.tokens is.spelled) in
     let parts = both_parts IsSound (written_text is.written) is.grammatical.1 all in
-    let one = mapped_step Run (statement_of schema is.written) command is.meant in
-    let P : Command → Type 0 = IsCommandOf schema in
-    subst P one.2 (statement_fits schema is.written one.0 parts.0 one.1)
+    command_fits schema is.written command is.grammatical.0 parts.0 is.meant

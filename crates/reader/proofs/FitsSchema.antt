@@ -1,13 +1,11 @@
--- What a text means fits the schema.
-use Rattle.std.proofs.Common.{◌≡◌, ℕ, zero, suc, pos, neg_ℤ, ◌+◌, ◌<◌, ◌≤◌, ◌^◌, ◌-◌, Bool, true, false, cond, List, [], ◌∷◌, ◌++◌, Option, Some, None, option_and_then, option_map, map, length, find, nat_eq, nat_le, refl, ap, sym, subst, ◌∙◌, arith, FitsSigned}
-use Rattle.std.specs.Cmp.Lexicographic.{pointwise}
+-- What a text means fits the schema: tokens, constants, columns and conditions.
+use Rattle.std.proofs.Common.{◌≡◌, ℕ, zero, suc, ℤ, pos, neg_ℤ, ◌+◌, ◌<◌, ◌≤◌, ◌≤ℤ◌, ◌^◌, ◌-◌, Bool, true, false, List, [], ◌∷◌, Option, Some, option_map, length, nat_le, refl, ap, sym, subst, ◌∙◌, arith, FitsSigned}
 use Rattle.std.specs.Int.{w64}
-use Rattle.std.specs.List.{AllByRecursion, position_from, range_with_len, slice_get}
+use Rattle.std.specs.List.{AllByRecursion, range_with_len}
 use Rattle.std.proofs.lemmas.Bool.{leb-true}
 use Rattle.std.proofs.lemmas.Int.{ints}
-use Rattle.std.proofs.lemmas.List.{length-map}
-use Rattle.std.proofs.lemmas.Slice.Eq.{bytes_eq-Decides}
-use Rattle.terms.specs.declared.cond.Cmp.TheVariants.{Eq}
+use Rattle.std.proofs.lemmas.List.FromFn.{length-range_with_len}
+use Rattle.std.proofs.lemmas.Option.{slice_get_within}
 use Rattle.terms.specs.declared.cond.Cond.{Cond}
 use Rattle.terms.specs.declared.value.Kind.{Kind}
 use Rattle.terms.specs.declared.value.Kind.TheVariants as kinds
@@ -17,22 +15,17 @@ use Rattle.terms.specs.Cond.{IsCondOf, FitsConstant}
 use Rattle.terms.specs.Row.{FitsKinds}
 use Rattle.terms.specs.Text.{IsTextUpTo}
 use Rattle.terms.specs.Value.{Fits, kind_of}
-use Rattle.meaning.specs.declared.schema.RelationSchema.{RelationSchema}
-use Rattle.meaning.specs.declared.statement.Statement.{Statement}
-use Rattle.meaning.specs.declared.statement.Select.{Select}
-use Rattle.meaning.specs.declared.statement.Insert.{Insert}
-use Rattle.meaning.specs.Schema.{relation_named, kinds_of, names_of}
-use Rattle.meaning.specs.Statement.{IsSelectOf, IsInsertOf, IsStatementOf}
-use Rattle.reader.specs.declared.command.Command.{Command}
-use Rattle.reader.specs.declared.command.Command.TheVariants.{Run}
-use Rattle.reader.specs.declared.sign.Sign.TheVariants as mark
-use Rattle.reader.specs.Command.{IsTextOf, IsCommandOf}
-use Rattle.reader.specs.Grammar.{continued, separated, constant_text, column_text, listed_text, condition_text, written_text, Writes}
-use Rattle.reader.specs.Names.{all_of, is_qualifier, place_of, signed, greatest, integer_of, value_of, compared_of, cond_of, places_of, row_of, select_of, insert_of, statement_of}
+use Rattle.reader.specs.declared.keyword.Keyword.TheVariants as word
+use Rattle.reader.specs.declared.scope.Found.{Found}
+use Rattle.reader.specs.Grammar.{continued, separated, constant_text, column_text, comparison_sign, condition_text, conditions_text, where_text}
+use Rattle.reader.specs.Names.{all_of, signed, greatest, integer_of, value_of, compared_of, number_of, place_in, places_of, cond_on, cond_of, conds_of, row_of}
+use Rattle.reader.specs.Scope.{Scope, types_in, found_in}
 use Rattle.reader.specs.Symbol.{Symbol, key, sign, name, number, text}
 use Rattle.reader.specs.Tokens.{AreTokens, Spells, IsTextValue}
 use Rattle.reader.specs.Tree as tree
+use Rattle.reader.proofs.Chains.{chosen, first_step, mapped_step}
 use Rattle.reader.proofs.Fits.{both_parts, fits_text}
+use Rattle.reader.proofs.Places.{there_in}
 
 -- a token's text is one that a text can say
 abbrev pub IsSound : Symbol → Type 0
@@ -62,17 +55,36 @@ pub sound_constant : (constant : tree.Constant) → AllByRecursion IsSound (cons
 sound_constant (tree.integer is_negative size) all = tt
 sound_constant (tree.text bytes) all = all.0
 
-sound_continued : (constants : List tree.Constant) → AllByRecursion IsSound (continued constant_text (sign mark.Comma) constants) → AllByRecursion IsSoundConstant constants
-sound_continued [] all = tt
-sound_continued (constant ∷ constants) all =
-    let parts = both_parts IsSound (constant_text constant) (continued constant_text (sign mark.Comma) constants) all.1 in
-    (sound_constant constant parts.0, sound_continued constants parts.1)
+-- items that sound tokens write, one by one
+sound_continued : {A : Type 0} (write : A → List Symbol) (separator : Symbol) (P : A → Type 0) → ((x : A) → AllByRecursion IsSound (write x) → P x) → (xs : List A) → AllByRecursion IsSound (continued write separator xs) → AllByRecursion P xs
+sound_continued write separator P each [] all = tt
+sound_continued write separator P each (x ∷ xs) all =
+    let parts = both_parts IsSound (write x) (continued write separator xs) all.1 in
+    (each x parts.0, sound_continued write separator P each xs parts.1)
 
-pub sound_separated : (constants : List tree.Constant) → AllByRecursion IsSound (separated constant_text (sign mark.Comma) constants) → AllByRecursion IsSoundConstant constants
-sound_separated [] all = tt
-sound_separated (constant ∷ constants) all =
-    let parts = both_parts IsSound (constant_text constant) (continued constant_text (sign mark.Comma) constants) all in
-    (sound_constant constant parts.0, sound_continued constants parts.1)
+pub sound_separated : {A : Type 0} (write : A → List Symbol) (separator : Symbol) (P : A → Type 0) → ((x : A) → AllByRecursion IsSound (write x) → P x) → (xs : List A) → AllByRecursion IsSound (separated write separator xs) → AllByRecursion P xs
+sound_separated write separator P each [] all = tt
+sound_separated write separator P each (x ∷ xs) all =
+    let parts = both_parts IsSound (write x) (continued write separator xs) all in
+    (each x parts.0, sound_continued write separator P each xs parts.1)
+
+-- a condition whose constant is one that a text can say
+abbrev pub IsSoundCondition : tree.Condition → Type 0
+IsSoundCondition condition = IsSoundConstant condition.constant
+
+sound_condition : (condition : tree.Condition) → AllByRecursion IsSound (condition_text condition) → IsSoundCondition condition
+sound_condition condition all =
+    let parts = both_parts IsSound (column_text condition.column) (sign (comparison_sign condition.comparison) ∷ constant_text condition.constant) all in
+    sound_constant condition.constant parts.1.1
+
+pub sound_conditions : (conditions : List tree.Condition) → AllByRecursion IsSound (conditions_text conditions) → AllByRecursion IsSoundCondition conditions
+sound_conditions conditions all = sound_separated condition_text (key word.And) IsSoundCondition sound_condition conditions all
+
+pub sound_where : (conditions : List tree.Condition) → AllByRecursion IsSound (where_text conditions) → AllByRecursion IsSoundCondition conditions
+sound_where [] all = tt
+sound_where (condition ∷ conditions) all = sound_conditions (condition ∷ conditions) all.1
+
+-- ---- constants
 
 -- an integer within its bound fits 64 bits
 fits_negative : (size : ℕ) → size ≤ 2 ^ 63 → FitsSigned w64 (neg_ℤ (pos size))
@@ -85,22 +97,18 @@ bounded : (is_negative : Bool) (size : ℕ) → nat_le size (greatest is_negativ
 bounded true size small = fits_negative size (leb-true size (2 ^ 63) small)
 bounded false size small = fits_positive size (leb-true size (2 ^ 63 - 1) small)
 
--- what a choice gives where its other side gives nothing
-pub chosen : {A : Type 0} (test : Bool) (x y : A) → cond test (Some x) None ≡ Some y → (test ≡ true) × (x ≡ y)
-chosen true x y is = (refl, cc)
-chosen false x y is = cc
-
 -- a value that fits its column
-abbrev FitsColumn : Kind → Value → Type 0
+abbrev pub FitsColumn : Kind → Value → Type 0
 FitsColumn kind value = (kind_of value ≡ kind) × Fits value
 
 integer_fits : (is_negative : Bool) (size : ℕ) (value : Value) → integer_of is_negative size ≡ Some value → FitsColumn kinds.Int value × FitsConstant value
 integer_fits is_negative size value is =
-    let one = chosen (nat_le size (greatest is_negative)) (values.Int (signed is_negative size)) value is in
+    let one = chosen (nat_le size (greatest is_negative)) (Some (values.Int (signed is_negative size))) value is in
+    let same : values.Int (signed is_negative size) ≡ value = cc one.1 in
     let P : Value → Type 0 = λ v. FitsColumn kinds.Int v × FitsConstant v in
-    subst P one.1 ((refl, bounded is_negative size one.0), bounded is_negative size one.0)
+    subst P same ((refl, bounded is_negative size one.0), bounded is_negative size one.0)
 
-value_fits : (kind : Kind) (constant : tree.Constant) (value : Value) → IsSoundConstant constant → value_of kind constant ≡ Some value → FitsColumn kind value
+pub value_fits : (kind : Kind) (constant : tree.Constant) (value : Value) → IsSoundConstant constant → value_of kind constant ≡ Some value → FitsColumn kind value
 value_fits kinds.Int (tree.integer is_negative size) value is_sound is = (integer_fits is_negative size value is).0
 value_fits kinds.Int (tree.text bytes) value is_sound is = cc
 value_fits kinds.Text (tree.integer is_negative size) value is_sound is = cc
@@ -118,18 +126,22 @@ compared_fits kinds.Int (tree.integer is_negative size) value is_sound is =
 compared_fits kinds.Int (tree.text bytes) value is_sound is = cc
 compared_fits kinds.Text (tree.integer is_negative size) value is_sound is = cc
 compared_fits kinds.Text (tree.text bytes) value is_sound is =
-    let one = chosen (nat_le (length bytes) 100) (values.Text bytes) value is in
+    let one = chosen (nat_le (length bytes) 100) (Some (values.Text bytes)) value is in
+    let same : values.Text bytes ≡ value = cc one.1 in
     let P : Value → Type 0 = λ v. (kind_of v ≡ kinds.Text) × FitsConstant v in
-    subst P one.1 (refl, shorter_text bytes (fits_text bytes is_sound) (leb-true (length bytes) 100 one.0))
+    subst P same (refl, shorter_text bytes (fits_text bytes is_sound) (leb-true (length bytes) 100 one.0))
 
--- the parts of a chain of steps that gave something
-pub first_step : {A B : Type 0} (step : A → Option B) (o : Option A) (y : B) → option_and_then step o ≡ Some y → (x : A) × (o ≡ Some x) × (step x ≡ Some y)
-first_step step None y is = cc
-first_step step (Some x) y is = (x, refl, is)
+-- the number of a sum is within the same bound on both sides
+signed_within : (is_negative : Bool) (size : ℕ) → size ≤ 2 ^ 63 - 1 → (neg_ℤ (pos 9223372036854775807) ≤ℤ signed is_negative size) × (signed is_negative size ≤ℤ pos 9223372036854775807)
+signed_within true size small = (omega (arith, ints), omega (arith, ints))
+signed_within false size small = (omega (arith, ints), omega (arith, ints))
 
-pub mapped_step : {A B : Type 0} (view : A → B) (o : Option A) (y : B) → option_map view o ≡ Some y → (x : A) × (o ≡ Some x) × (view x ≡ y)
-mapped_step view None y is = cc
-mapped_step view (Some x) y is = (x, refl, cc)
+pub number_within : (is_negative : Bool) (size : ℕ) (n : ℤ) → number_of is_negative size ≡ Some n → (neg_ℤ (pos 9223372036854775807) ≤ℤ n) × (n ≤ℤ pos 9223372036854775807)
+number_within is_negative size n is =
+    let one = chosen (nat_le size (2 ^ 63 - 1)) (Some (signed is_negative size)) n is in
+    let same : signed is_negative size ≡ n = cc one.1 in
+    let P : ℤ → Type 0 = λ m. (neg_ℤ (pos 9223372036854775807) ≤ℤ m) × (m ≤ℤ pos 9223372036854775807) in
+    subst P same (signed_within is_negative size (leb-true size (2 ^ 63 - 1) one.0))
 
 -- the row of an INSERT fits its relation
 pub row_fits : (kinds : List Kind) (constants : List tree.Constant) (row : List Value) → AllByRecursion IsSoundConstant constants → row_of kinds constants ≡ Some row → FitsKinds kinds row
@@ -143,29 +155,64 @@ row_fits (kind ∷ kinds) (constant ∷ constants) row all is =
     let P : List Value → Type 0 = FitsKinds (kind ∷ kinds) in
     subst P rest.2 (fits.0, fits.1, row_fits kinds constants rest.0 all.1 rest.1)
 
--- the place of a column is within its relation
-found_within : {A : Type 0} (test : A → Bool) (i : ℕ) (xs : List A) (place : ℕ) → position_from test i xs ≡ Some place → place < i + length xs
-found_within test i [] place is = cc
-found_within test i (x ∷ xs) place is =
-    elim (test x) as (λ t. cond t (Some i) (position_from test (i + 1) xs) ≡ Some place → place < i + suc (length xs)) [
-      | true ↦ λ here. let same : i ≡ place = cc in omega arith
-      | false ↦ λ later. let within = found_within test (i + 1) xs place later in omega arith
-    ] is
+-- ---- columns and conditions
 
-pub place_within : (relation : RelationSchema) (column : tree.Column) (place : ℕ) → place_of relation column ≡ Some place → place < length (names_of relation)
-place_within relation column place is =
-    elim (is_qualifier relation column.relation) as (λ t. cond t (position_from (λ c. pointwise nat_eq c.name column.name) 0 relation.columns) None ≡ Some place → place < length (names_of relation)) [
-      | true ↦ λ here. let within = found_within (λ c. pointwise nat_eq c.name column.name) 0 relation.columns place here in omega (arith, length-map relation.columns (λ c. c.name))
-      | false ↦ λ none. cc
-    ] is
+-- answers of each item
+pub all_answers : {A B : Type 0} (answer : A → Option B) (Sound : A → Type 0) (P : B → Type 0) → ((x : A) (y : B) → Sound x → answer x ≡ Some y → P y) → (xs : List A) (ys : List B) → AllByRecursion Sound xs → all_of answer xs ≡ Some ys → AllByRecursion P ys × (length ys ≡ length xs)
+all_answers {A} {B} answer Sound P each [] ys all is =
+    let Q : List B → Type 0 = λ zs. AllByRecursion P zs × (length zs ≡ 0) in
+    let same : [] ≡ ys = cc in
+    subst Q same (tt, refl)
+all_answers {A} {B} answer Sound P each (x ∷ xs) ys all is =
+    let first = first_step (λ y. option_map (λ rest. y ∷ rest) (all_of answer xs)) (answer x) ys is in
+    let rest = mapped_step (λ rest. first.0 ∷ rest) (all_of answer xs) ys first.2 in
+    let others = all_answers answer Sound P each xs rest.0 all.1 rest.1 in
+    let Q : List B → Type 0 = λ zs. AllByRecursion P zs × (length zs ≡ suc (length xs)) in
+    subst Q rest.2 ((each x first.0 all.0 first.1, others.0), ap suc others.1)
 
--- the condition of a SELECT fits its relation
-pub cond_fits : (relation : RelationSchema) (condition : tree.Condition) (c : Cond) → IsSoundConstant condition.constant → cond_of relation condition ≡ Some c → IsCondOf (kinds_of relation) c
-cond_fits relation condition c is_sound is =
-    let place = first_step _ (place_of relation condition.column) c is in
-    let kind = first_step _ (slice_get (kinds_of relation) place.0) c place.2 in
-    let value = first_step _ (compared_of kind.0 condition.constant) c kind.2 in
-    let fits = compared_fits kind.0 condition.constant value.0 is_sound value.1 in
-    let P : Cond → Type 0 = IsCondOf (kinds_of relation) in
-    let same : record { col = place.0; cmp = Eq; value = value.0 } ≡ c = cc in
-    subst P same (record { column = kind.1 ∙ ap Some (sym fits.0); constant = fits.1 })
+-- nothing is asked of these items
+pub any_items : {A : Type 0} (xs : List A) → AllByRecursion (λ x. Unit {0}) xs
+any_items [] = tt
+any_items (x ∷ xs) = (tt, any_items xs)
+
+-- a column's place is within its scope
+place_within : (scope : Scope) (column : tree.Column) (place : ℕ) → place_in scope column ≡ Some place → place < length (types_in scope)
+place_within scope column place is =
+    let one = mapped_step (λ (f : Found). f.place) (found_in scope column) place is in
+    let P : ℕ → Type 0 = λ n. n < length (types_in scope) in
+    subst P one.2 (slice_get_within (types_in scope) one.0.place one.0.kind (there_in scope column one.0 one.1))
+
+numbers_below : (a n limit : ℕ) → a + n ≤ limit → AllByRecursion (λ column. column < limit) (range_with_len a n)
+numbers_below a zero limit within = tt
+numbers_below a (suc n) limit within = (omega arith, numbers_below (a + 1) n limit (omega arith))
+
+-- the listed places are within the scope, and at most 32
+pub places_fit : (scope : Scope) (listed : tree.Listed) (places : List ℕ) → places_of scope listed ≡ Some places → AllByRecursion (λ column. column < length (types_in scope)) places × (length places ≤ 32)
+places_fit scope tree.all places is =
+    let one = chosen (nat_le (length (types_in scope)) 32) (Some (range_with_len 0 (length (types_in scope)))) places is in
+    let few = leb-true (length (types_in scope)) 32 one.0 in
+    let same : range_with_len 0 (length (types_in scope)) ≡ places = cc one.1 in
+    let P : List ℕ → Type 0 = λ ps. AllByRecursion (λ column. column < length (types_in scope)) ps × (length ps ≤ 32) in
+    subst P same (numbers_below 0 (length (types_in scope)) (length (types_in scope)) (omega arith), rw length-range_with_len few)
+places_fit scope (tree.columns columns) places is =
+    let one = chosen (nat_le (length columns) 32) (all_of (place_in scope) columns) places is in
+    let few = leb-true (length columns) 32 one.0 in
+    let answers = all_answers (place_in scope) (λ column. Unit {0}) (λ place. place < length (types_in scope)) (λ column place any. place_within scope column place) columns places (any_items columns) one.1 in
+    (answers.0, rw answers.1 few)
+
+-- a condition fits its scope
+cond_fits : (scope : Scope) (condition : tree.Condition) (c : Cond) → IsSoundCondition condition → cond_of scope condition ≡ Some c → IsCondOf (types_in scope) c
+cond_fits scope condition c is_sound is =
+    let found = first_step (λ (f : Found). cond_on f condition) (found_in scope condition.column) c is in
+    let value = mapped_step (λ (v : Value). record { col = found.0.place; cmp = condition.comparison; value = v }) (compared_of found.0.kind condition.constant) c found.2 in
+    let fits = compared_fits found.0.kind condition.constant value.0 is_sound value.1 in
+    let P : Cond → Type 0 = IsCondOf (types_in scope) in
+    subst P value.2 (record { column = there_in scope condition.column found.0 found.1 ∙ ap Some (sym fits.0); constant = fits.1 })
+
+-- conditions fit their scope, and are at most 8
+pub conds_fit : (scope : Scope) (conditions : List tree.Condition) (conds : List Cond) → AllByRecursion IsSoundCondition conditions → conds_of scope conditions ≡ Some conds → AllByRecursion (IsCondOf (types_in scope)) conds × (length conds ≤ 8)
+conds_fit scope conditions conds are_sound is =
+    let one = chosen (nat_le (length conditions) 8) (all_of (cond_of scope) conditions) conds is in
+    let few = leb-true (length conditions) 8 one.0 in
+    let answers = all_answers (cond_of scope) IsSoundCondition (IsCondOf (types_in scope)) (cond_fits scope) conditions conds are_sound one.1 in
+    (answers.0, rw answers.1 few)

@@ -10,9 +10,15 @@ pub mod Steps
 pub mod Lists
 pub mod Productions
 pub mod Commands
+pub mod Chains
+pub mod Places
 pub mod Each
+pub mod Kept
+pub mod Settings
 pub mod Fits
 pub mod FitsSchema
 pub mod FitsCommand
 pub mod NoMeaning
 pub mod Unique
+pub mod CondsOfText
+pub mod Statements

@@ -1,12 +1,15 @@
 -- The two laws of each production: what it reads is written so, and what is written so is read again.
-use Rattle.std.proofs.Common.{◌≡◌, ℕ, true, false, List, [], ◌∷◌, ◌++◌, Option, Some, None, refl, append_assoc, inl, inr}
+use Rattle.std.proofs.Common.{◌≡◌, ℕ, true, false, cond, List, [], ◌∷◌, ◌++◌, Option, Some, None, refl, ap, append_assoc, inl, inr}
+use Rattle.terms.specs.declared.cond.Cmp.{Cmp}
+use Rattle.terms.specs.declared.cond.Cmp.TheVariants as comparison
 use Rattle.reader.specs.declared.keyword.Keyword.TheVariants as word
+use Rattle.reader.specs.declared.sign.Sign.{Sign}
 use Rattle.reader.specs.declared.sign.Sign.TheVariants as mark
 use Rattle.reader.specs.Symbol.{Symbol, key, sign, name, number, text}
 use Rattle.reader.specs.Tree as tree
-use Rattle.reader.specs.Grammar.{separated, qualifier_text, column_text, constant_text, listed_text, condition_text, written_text, IsFilled, IsListable, IsWritable, IsEnd}
-use Rattle.reader.specs.Parsing.{and_then, eat, given, expect, name_at, number_at, plain_at, column_at, constant_at, listed_at, condition_at, select_at, insert_at, written_at}
-use Rattle.reader.proofs.Steps.{eat_again, ◌then◌, Takes, TakesWith, written, written_with, bind, taken, pair, expect_takes, name_takes, number_takes}
+use Rattle.reader.specs.Grammar.{separated, qualifier_text, column_text, constant_text, listed_text, comparison_sign, condition_text, conditions_text, where_text, join_text, assigned_text, assignment_text, IsFilled, IsListable}
+use Rattle.reader.specs.Parsing.{and_then, ◌>>=◌, is_same, eat, given, expect, name_at, number_at, is_name, comparison_of, comparison_at, plain_at, items_at, column_at, constant_at, listed_at, condition_at, where_at, joined_at, join_at, sum_at, assigned_at, assignment_at}
+use Rattle.reader.proofs.Steps.{Cut, eat_again, ◌then◌, Takes, TakesWith, written, written_with, bind, way, taken, pair, expect_takes, name_takes, number_takes}
 use Rattle.reader.proofs.Lists.{Again, items_takes, items_again}
 
 -- ---- columns
@@ -26,6 +29,11 @@ column_takes symbols y h =
 -- the token is not next
 abbrev pub Lacks : Symbol → List Symbol → Type 0
 Lacks t rest = eat t rest ≡ pair false rest
+
+-- another one is
+pub another : (t s : Symbol) (rest : List Symbol) → is_same t s ≡ false → Lacks t (s ∷ rest)
+unfolding eat
+another t s rest other = ap (λ b. cond b (pair true rest) (pair false (s ∷ rest))) other
 
 column_again_by : (relation : Option (List ℕ)) (column : List ℕ) (rest : List Symbol) → Lacks (sign mark.Dot) rest → column_at ((qualifier_text relation ++ name column ∷ []) ++ rest) ≡ Some (record { relation = relation; name = column }, rest)
 unfolding column_at and_then given name_at
@@ -61,7 +69,7 @@ constant_again (tree.text bytes) rest _ = refl
 
 -- ---- the list of a select
 
-listed_takes : TakesWith listed_at listed_text IsListable
+pub listed_takes : TakesWith listed_at listed_text IsListable
 unfolding listed_at
 listed_takes symbols y h =
     elim (taken _ _ _ _ h) [
@@ -85,7 +93,7 @@ comma_no_dot : (rest : List Symbol) → Lacks (sign mark.Dot) (sign mark.Comma �
 unfolding eat
 comma_no_dot rest = refl
 
-listed_again : (l : tree.Listed) → IsListable l → (rest : List Symbol) → Lacks (sign mark.Dot) rest → Lacks (sign mark.Comma) rest → listed_at (listed_text l ++ rest) ≡ Some (l, rest)
+pub listed_again : (l : tree.Listed) → IsListable l → (rest : List Symbol) → Lacks (sign mark.Dot) rest → Lacks (sign mark.Comma) rest → listed_at (listed_text l ++ rest) ≡ Some (l, rest)
 unfolding listed_at and_then given
 listed_again tree.all fine rest no_dot no_comma = rw (eat_again (sign mark.Star) rest refl) refl
 listed_again (tree.columns cs) fine rest no_dot no_comma =
@@ -93,94 +101,175 @@ listed_again (tree.columns cs) fine rest no_dot no_comma =
 
 -- ---- conditions
 
-condition_takes : Takes condition_at condition_text
+sign_is : (s : Sign) (c : Cmp) → comparison_of s ≡ Some c → s ≡ comparison_sign c
+unfolding comparison_of
+sign_is mark.Equal c h = let is : comparison.Eq ≡ c = cc in ap comparison_sign is
+sign_is mark.NotEqual c h = let is : comparison.Ne ≡ c = cc in ap comparison_sign is
+sign_is mark.Less c h = let is : comparison.Lt ≡ c = cc in ap comparison_sign is
+sign_is mark.LessOrEqual c h = let is : comparison.Le ≡ c = cc in ap comparison_sign is
+sign_is mark.Greater c h = let is : comparison.Gt ≡ c = cc in ap comparison_sign is
+sign_is mark.GreaterOrEqual c h = let is : comparison.Ge ≡ c = cc in ap comparison_sign is
+sign_is _ c h = absurd cc
+
+abbrev comparison_text : Cmp → List Symbol
+comparison_text c = sign (comparison_sign c) ∷ []
+
+comparison_takes : Takes comparison_at comparison_text
+unfolding comparison_at
+comparison_takes (sign s ∷ rest) y h =
+    let found = bind h in
+    written comparison_text found.2 (record { parts = ap (λ m. sign m ∷ rest) (sign_is s found.0 found.1) })
+comparison_takes _ y h = absurd cc
+
+comparison_again : Again comparison_at comparison_text (λ _. Unit {0})
+unfolding comparison_at and_then comparison_of
+comparison_again comparison.Eq rest _ = refl
+comparison_again comparison.Ne rest _ = refl
+comparison_again comparison.Lt rest _ = refl
+comparison_again comparison.Le rest _ = refl
+comparison_again comparison.Gt rest _ = refl
+comparison_again comparison.Ge rest _ = refl
+
+comparison_no_dot : (c : Cmp) (rest : List Symbol) → Lacks (sign mark.Dot) (sign (comparison_sign c) ∷ rest)
+unfolding eat
+comparison_no_dot comparison.Eq rest = refl
+comparison_no_dot comparison.Ne rest = refl
+comparison_no_dot comparison.Lt rest = refl
+comparison_no_dot comparison.Le rest = refl
+comparison_no_dot comparison.Gt rest = refl
+comparison_no_dot comparison.Ge rest = refl
+
+pub condition_takes : Takes condition_at condition_text
 unfolding condition_at
 condition_takes symbols y h =
     let column = bind h in
-    let equal = bind column.2 in
-    let constant = bind equal.2 in
-    written condition_text constant.2 (column_takes _ _ column.1 then expect_takes _ _ _ equal.1 then constant_takes _ _ constant.1)
+    let comparison = bind column.2 in
+    let constant = bind comparison.2 in
+    written condition_text constant.2 (column_takes _ _ column.1 then comparison_takes _ _ comparison.1 then constant_takes _ _ constant.1)
 
 condition_again : Again condition_at condition_text (λ _. Unit {0})
-unfolding condition_at and_then expect given eat
+unfolding condition_at and_then
 condition_again c rest _ =
-    rw (append_assoc (column_text c.column) (sign mark.Equal ∷ constant_text c.constant) rest, column_again c.column (sign mark.Equal ∷ (constant_text c.constant ++ rest)) refl, constant_again c.constant rest tt) refl
+    rw (
+      append_assoc (column_text c.column) (comparison_text c.comparison ++ constant_text c.constant) rest,
+      column_again c.column (comparison_text c.comparison ++ (constant_text c.constant ++ rest)) (comparison_no_dot c.comparison _),
+      comparison_again c.comparison (constant_text c.constant ++ rest) tt,
+      constant_again c.constant rest tt,
+    ) refl
 
--- ---- selects
+pub conditions_takes : TakesWith (items_at condition_at (key word.And)) conditions_text IsFilled
+conditions_takes symbols y h = items_takes condition_at condition_text (key word.And) condition_takes symbols y h
 
--- what follows SELECT
-abbrev select_rest : tree.Select → List Symbol
-select_rest s = listed_text s.listed ++ key word.From ∷ name s.relation ∷ key word.Where ∷ condition_text s.condition
+pub conditions_again : (cs : List tree.Condition) → IsFilled cs → (rest : List Symbol) → Lacks (key word.And) rest → items_at condition_at (key word.And) (conditions_text cs ++ rest) ≡ Some (cs, rest)
+conditions_again cs filled rest no_and = items_again condition_at condition_text (key word.And) (λ _. Unit {0}) condition_again (λ _. tt) refl cs filled rest tt no_and
 
-abbrev IsSelectable : tree.Select → Type 0
-IsSelectable s = IsListable s.listed
+-- ---- WHERE
 
-select_takes : TakesWith select_at select_rest IsSelectable
-unfolding select_at
-select_takes symbols y h =
-    let listed = bind h in
-    let from = bind listed.2 in
-    let relation = bind from.2 in
-    let kept = bind relation.2 in
-    let condition = bind kept.2 in
-    let front = listed_takes _ _ listed.1 in
-    written_with select_rest IsSelectable condition.2
-    (front.0 then expect_takes _ _ _ from.1 then name_takes _ _ relation.1 then expect_takes _ _ _ kept.1 then condition_takes _ _ condition.1)
-    front.1
+where_filled : (cs : List tree.Condition) → IsFilled cs → where_text cs ≡ key word.Where ∷ conditions_text cs
+where_filled [] filled = absurd filled
+where_filled (c ∷ cs) filled = refl
 
-select_again : (s : tree.Select) → IsSelectable s → (rest : List Symbol) → select_at (select_rest s ++ rest) ≡ Some (s, rest)
-unfolding select_at and_then expect given eat name_at
-select_again s fine rest =
-    rw (append_assoc (listed_text s.listed) _ rest, listed_again s.listed fine (key word.From ∷ name s.relation ∷ key word.Where ∷ (condition_text s.condition ++ rest)) refl refl, condition_again s.condition rest tt) refl
-
--- ---- inserts
-
--- what follows INSERT
-abbrev insert_rest : tree.Insert → List Symbol
-insert_rest i = key word.Into ∷ name i.relation ∷ key word.Values ∷ sign mark.Open ∷ (separated constant_text (sign mark.Comma) i.values ++ sign mark.Close ∷ [])
-
-abbrev IsInsertable : tree.Insert → Type 0
-IsInsertable i = IsFilled i.values
-
-insert_takes : TakesWith insert_at insert_rest IsInsertable
-unfolding insert_at
-insert_takes symbols y h =
-    let into = bind h in
-    let relation = bind into.2 in
-    let those = bind relation.2 in
-    let opened = bind those.2 in
-    let values = bind opened.2 in
-    let closed = bind values.2 in
-    let middle = items_takes constant_at constant_text (sign mark.Comma) constant_takes _ _ values.1 in
-    written_with insert_rest IsInsertable closed.2
-    (expect_takes _ _ _ into.1 then name_takes _ _ relation.1 then expect_takes _ _ _ those.1 then expect_takes _ _ _ opened.1 then middle.0 then expect_takes _ _ _ closed.1)
-    middle.1
-
-insert_again : (i : tree.Insert) → IsInsertable i → (rest : List Symbol) → insert_at (insert_rest i ++ rest) ≡ Some (i, rest)
-unfolding insert_at and_then expect given eat name_at
-insert_again i fine rest =
-    rw (append_assoc, items_again constant_at constant_text (sign mark.Comma) (λ _. Unit {0}) constant_again (λ _. tt) refl i.values fine (sign mark.Close ∷ rest) tt refl) refl
-
--- ---- commands
-
-pub written_takes : TakesWith written_at written_text IsWritable
-unfolding written_at
-written_takes symbols y h =
+pub where_takes : Takes where_at where_text
+unfolding where_at
+where_takes symbols y h =
     elim (taken _ _ _ _ h) [
-      | inl select ↦
-          let selected = bind select.2 in
-          let behind = select_takes _ _ selected.1 in
-          written_with written_text IsWritable selected.2 (select.1 then behind.0) behind.1
-      | inr other ↦ elim (taken _ _ _ _ other) [
-        | inl insert ↦
-            let inserted = bind insert.2 in
-            let behind = insert_takes _ _ inserted.1 in
-            written_with written_text IsWritable inserted.2 (insert.1 then behind.0) behind.1
-        | inr none ↦ absurd cc
-      ]
+      | inl there ↦
+          let behind = conditions_takes _ _ there.2 in
+          let cut : Cut symbols (key word.Where ∷ conditions_text y.0) y.1 = there.1 then behind.0 in
+          rw (where_filled y.0 behind.1) cut
+      | inr none ↦ written where_text none (record { parts = refl })
     ]
 
-pub written_again : (w : tree.Written) → IsWritable w → (rest : List Symbol) → IsEnd rest → written_at (written_text w ++ rest) ≡ Some (w, rest)
-unfolding written_at and_then given eat
-written_again (tree.select s) fine rest end = rw (select_again s fine rest) refl
-written_again (tree.insert i) fine rest end = rw (insert_again i fine rest) refl
+pub where_again : (cs : List tree.Condition) (rest : List Symbol) → Lacks (key word.Where) rest → Lacks (key word.And) rest → where_at (where_text cs ++ rest) ≡ Some (cs, rest)
+unfolding where_at given
+where_again [] rest no_where no_and = rw no_where refl
+where_again (c ∷ cs) rest no_where no_and = rw (eat_again (key word.Where) (conditions_text (c ∷ cs) ++ rest) refl, conditions_again (c ∷ cs) tt rest no_and) refl
+
+-- what is not next behind it is not next before it
+pub where_lacks : (t : Symbol) → is_same t (key word.Where) ≡ false → (cs : List tree.Condition) (rest : List Symbol) → Lacks t rest → Lacks t (where_text cs ++ rest)
+where_lacks t other [] rest lacks = lacks
+where_lacks t other (c ∷ cs) rest lacks = another t (key word.Where) (conditions_text (c ∷ cs) ++ rest) other
+
+-- ---- JOIN
+
+-- what follows JOIN
+abbrev joined_text : tree.Join → List Symbol
+joined_text j = name j.relation ∷ key word.On ∷ (column_text j.left ++ sign mark.Equal ∷ column_text j.right)
+
+joined_takes : Takes joined_at joined_text
+unfolding joined_at
+joined_takes symbols y h =
+    let relation = bind h in
+    let on = bind relation.2 in
+    let left = bind on.2 in
+    let equal = bind left.2 in
+    let right = bind equal.2 in
+    written joined_text right.2
+    (name_takes _ _ relation.1 then expect_takes _ _ _ on.1 then column_takes _ _ left.1 then expect_takes _ _ _ equal.1 then column_takes _ _ right.1)
+
+joined_again : Again joined_at joined_text (Lacks (sign mark.Dot))
+unfolding joined_at and_then expect given eat name_at
+joined_again j rest no_dot =
+    rw (append_assoc (column_text j.left) (sign mark.Equal ∷ column_text j.right) rest, column_again j.left (sign mark.Equal ∷ (column_text j.right ++ rest)) refl, column_again j.right rest no_dot) refl
+
+pub join_takes : Takes join_at join_text
+unfolding join_at
+join_takes symbols y h =
+    elim (taken _ _ _ _ h) [
+      | inl there ↦
+          let joined = bind there.2 in
+          written join_text joined.2 (there.1 then joined_takes _ _ joined.1)
+      | inr none ↦ written join_text none (record { parts = refl })
+    ]
+
+pub join_again : (j : Option tree.Join) (rest : List Symbol) → Lacks (key word.Join) rest → Lacks (sign mark.Dot) rest → join_at (join_text j ++ rest) ≡ Some (j, rest)
+unfolding join_at and_then given
+join_again None rest no_join no_dot = rw no_join refl
+join_again (Some j) rest no_join no_dot = rw (eat_again (key word.Join) (joined_text j ++ rest) refl, joined_again j rest no_dot) refl
+
+-- ---- what an update sets
+
+sum_takes : Takes sum_at assigned_text
+unfolding sum_at
+sum_takes symbols y h =
+    let column = bind h in
+    let front = name_takes _ _ column.1 in
+    elim (taken _ _ _ _ column.2) [
+      | inl minus ↦
+          let size = bind minus.2 in
+          written assigned_text size.2 (front then minus.1 then number_takes _ _ size.1)
+      | inr other ↦
+          let plus = bind other in
+          let size = bind plus.2 in
+          written assigned_text size.2 (front then expect_takes _ _ _ plus.1 then number_takes _ _ size.1)
+    ]
+
+assigned_takes : Takes assigned_at assigned_text
+unfolding assigned_at
+assigned_takes symbols y h =
+    elim (way (is_name symbols) (sum_at symbols) (constant_at symbols >>= λ value. Some (tree.constant value.0, value.1)) h) [
+      | inl sum ↦ sum_takes _ _ sum
+      | inr plain ↦
+          let value = bind plain in
+          written assigned_text value.2 (constant_takes _ _ value.1)
+    ]
+
+assigned_again : Again assigned_at assigned_text (λ _. Unit {0})
+unfolding assigned_at and_then is_name sum_at expect given eat name_at number_at constant_at plain_at
+assigned_again (tree.constant (tree.integer true size)) rest _ = refl
+assigned_again (tree.constant (tree.integer false size)) rest _ = refl
+assigned_again (tree.constant (tree.text bytes)) rest _ = refl
+assigned_again (tree.sum column true size) rest _ = refl
+assigned_again (tree.sum column false size) rest _ = refl
+
+pub assignment_takes : Takes assignment_at assignment_text
+unfolding assignment_at
+assignment_takes symbols y h =
+    let column = bind h in
+    let equal = bind column.2 in
+    let value = bind equal.2 in
+    written assignment_text value.2 (name_takes _ _ column.1 then expect_takes _ _ _ equal.1 then assigned_takes _ _ value.1)
+
+pub assignment_again : Again assignment_at assignment_text (λ _. Unit {0})
+unfolding assignment_at and_then expect given eat name_at
+assignment_again a rest _ = rw (assigned_again a.value rest tt) refl

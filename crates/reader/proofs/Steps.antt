@@ -41,6 +41,11 @@ unfolding and_then
 bind {o = None} h = absurd cc
 bind {o = Some x} h = (x, refl, h)
 
+-- which way a reader went that looked ahead
+pub way : {A : Type 0} (b : Bool) (one other : Option A) {y : A} → cond b one other ≡ Some y → (one ≡ Some y) ⊎ (other ≡ Some y)
+way true one other h = inl h
+way false one other h = inr h
+
 -- ---- keywords and signs
 
 keywords : List Keyword

@@ -1,10 +1,9 @@
-use Rattle.std.proofs.Common.{◌≡◌, ℕ, List, Option, Some, None, option_map, refl, ap, sym, subst, ◌∙◌}
+use Rattle.std.proofs.Common.{◌≡◌, ℕ, List, None, ap, subst}
 use Rattle.meaning.specs.declared.schema.RelationSchema.{RelationSchema}
 use Rattle.reader.specs.declared.command.Command.{Command}
-use Rattle.reader.specs.declared.command.Command.TheVariants.{Run}
 use Rattle.reader.specs.Command.{IsTextOf, OneCommandOfText}
 use Rattle.reader.specs.Grammar.{Writes}
-use Rattle.reader.specs.Names.{statement_of}
+use Rattle.reader.specs.Names.{command_of}
 use Rattle.reader.specs.Symbol.{Symbol}
 use Rattle.reader.specs.Tokens.{AreTokens}
 use Rattle.reader.specs.Tree as tree
@@ -21,7 +20,7 @@ tree_of_tokens schema text tokens command spelled is =
 pub unique : OneCommandOfText
 unique schema text one other a b =
     let same : a.written ≡ b.written = grammar.one_command b.tokens a.written b.written (tree_of_tokens schema text b.tokens one b.spelled a) b.grammatical in
-    let meant : option_map Run (statement_of schema a.written) ≡ option_map Run (statement_of schema b.written) = ap (λ w. option_map Run (statement_of schema w)) same in
+    let meant : command_of schema a.written ≡ command_of schema b.written = ap (command_of schema) same in
     cc (a.meant, b.meant, meant)
 
 -- tokens that write nothing
@@ -29,7 +28,7 @@ pub no_grammar : (schema : List RelationSchema) (text : List ℕ) (tokens : List
 no_grammar schema text tokens spelled nothing command is = nothing is.written (tree_of_tokens schema text tokens command spelled is)
 
 -- names that mean nothing
-pub no_names : (schema : List RelationSchema) (text : List ℕ) (tokens : List Symbol) (written : tree.Written) → AreTokens text tokens → Writes tokens written → statement_of schema written ≡ None → (command : Command) → ¬ (IsTextOf schema text command)
+pub no_names : (schema : List RelationSchema) (text : List ℕ) (tokens : List Symbol) (written : tree.Written) → AreTokens text tokens → Writes tokens written → command_of schema written ≡ None → (command : Command) → ¬ (IsTextOf schema text command)
 no_names schema text tokens written spelled grammatical none command is =
     let same : is.written ≡ written = grammar.one_command tokens is.written written (tree_of_tokens schema text tokens command spelled is) grammatical in
-    cc (is.meant, none, ap (λ w. option_map Run (statement_of schema w)) same)
+    cc (is.meant, none, ap (command_of schema) same)

@@ -1,10 +1,10 @@
-use Rattle.std.specs.Prelude.{◌≡◌, ℕ, ◌≤◌, List, Option, Some, length, option_map}
+use Rattle.std.specs.Prelude.{◌≡◌, ℕ, ◌≤◌, List, Some, length}
 use Rattle.meaning.specs.declared.schema.RelationSchema.{RelationSchema}
 use Rattle.meaning.specs.Statement.{IsStatementOf}
 use Rattle.reader.specs.declared.command.Command.{Command}
-use Rattle.reader.specs.declared.command.Command.TheVariants.{Run}
+use Rattle.reader.specs.declared.command.Command.TheVariants.{Run, Begin, Commit, Rollback}
 use Rattle.reader.specs.Grammar.{Writes}
-use Rattle.reader.specs.Names.{statement_of}
+use Rattle.reader.specs.Names.{command_of}
 use Rattle.reader.specs.Symbol.{Symbol}
 use Rattle.reader.specs.Tokens.{AreTokens}
 use Rattle.reader.specs.Tree as tree
@@ -17,11 +17,14 @@ pub record IsTextOf (schema : List RelationSchema) (text : List ℕ) (command : 
   pub short : length text ≤ 4096
   pub spelled : AreTokens text tokens
   pub grammatical : Writes tokens written
-  pub meant : option_map Run (statement_of schema written) ≡ Some command
+  pub meant : command_of schema written ≡ Some command
 
--- a command of the schema
+-- a command of the schema: its statement is one, if it runs one
 abbrev pub IsCommandOf : List RelationSchema → Command → Type 0
 IsCommandOf schema (Run statement) = IsStatementOf schema statement
+IsCommandOf schema Begin = Unit {0}
+IsCommandOf schema Commit = Unit {0}
+IsCommandOf schema Rollback = Unit {0}
 
 -- a text is one of one command at most
 abbrev pub OneCommandOfText : Type 0

@@ -8,8 +8,10 @@ pub mod Reading
 pub mod Tree
 pub mod Grammar
 pub mod Parsing
+pub mod Scope
 pub mod Names
 pub mod Resolving
 pub mod Command
+pub mod Conds
 pub mod Print
 pub mod Refusal

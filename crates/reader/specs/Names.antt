@@ -1,40 +1,37 @@
 -- Names: what a command means whose names, types and limits fit a schema.
-use Rattle.std.specs.Prelude.{ℕ, ℤ, pos, neg_ℤ, ◌^◌, ◌-◌, Bool, true, false, List, [], ◌∷◌, Option, Some, None, length, option_and_then, option_map, nat_eq, nat_le, if◌then◌else◌}
+use Rattle.std.specs.Prelude.{ℕ, ℤ, pos, neg_ℤ, ◌^◌, ◌-◌, Bool, true, false, not, ◌&&◌, List, [], ◌∷◌, Option, Some, None, length, option_and_then, option_map, nat_eq, nat_lt, nat_le, if◌then◌else◌}
 use Rattle.std.specs.Cmp.Lexicographic.{pointwise}
-use Rattle.std.specs.List.{position_from, range_with_len, slice_get}
-use Rattle.terms.specs.declared.cond.Cmp.TheVariants.{Eq}
+use Rattle.std.specs.List.{list_any, range_with_len}
 use Rattle.terms.specs.declared.cond.Cond.{Cond}
 use Rattle.terms.specs.declared.value.Kind.{Kind}
 use Rattle.terms.specs.declared.value.Kind.TheVariants as kinds
 use Rattle.terms.specs.declared.value.Value.{Value}
 use Rattle.terms.specs.declared.value.Value.TheVariants as values
+use Rattle.meaning.specs.declared.schema.Column as schema
 use Rattle.meaning.specs.declared.schema.RelationSchema.{RelationSchema}
-use Rattle.meaning.specs.declared.statement.Statement.{Statement}
 use Rattle.meaning.specs.declared.statement.Statement.TheVariants as statements
+use Rattle.meaning.specs.declared.statement.Source.{Source}
+use Rattle.meaning.specs.declared.statement.Join.{Join}
 use Rattle.meaning.specs.declared.statement.Select.{Select}
 use Rattle.meaning.specs.declared.statement.Insert.{Insert}
+use Rattle.meaning.specs.declared.statement.Assigned.{Assigned}
+use Rattle.meaning.specs.declared.statement.Assigned.TheVariants as assigned
+use Rattle.meaning.specs.declared.statement.Assignment.{Assignment}
+use Rattle.meaning.specs.declared.statement.Update.{Update}
+use Rattle.meaning.specs.declared.statement.Delete.{Delete}
 use Rattle.meaning.specs.Schema.{relation_named, kinds_of, names_of}
+use Rattle.reader.specs.declared.command.Command.{Command}
+use Rattle.reader.specs.declared.command.Command.TheVariants as commands
+use Rattle.reader.specs.declared.scope.Found.{Found}
+use Rattle.reader.specs.Scope.{◌>>=◌, Scope, one_relation, two_relations, types_in, column_named, found_in}
 use Rattle.reader.specs.Tree as tree
-
--- The answer of one step handed to the next, if it has one.
-infixl 10 ◌>>=◌
-abbrev pub ◌>>=◌ : {A B : Type 0} → Option A → (A → Option B) → Option B
-o >>= next = option_and_then next o
 
 -- each item's answer, if every item has one
 abbrev pub all_of : {A B : Type 0} → (A → Option B) → List A → Option (List B)
 all_of answer [] = Some []
 all_of answer (x ∷ xs) = option_and_then (λ y. option_map (λ ys. y ∷ ys) (all_of answer xs)) (answer x)
 
--- whether a qualifier, where there is one, is the relation's name
-abbrev pub is_qualifier : RelationSchema → Option (List ℕ) → Bool
-is_qualifier relation None = true
-is_qualifier relation (Some name) = pointwise nat_eq relation.name name
-
--- the place of a column in its relation: that of the first column of this name
-abbrev pub place_of : RelationSchema → tree.Column → Option ℕ
-place_of relation column =
-    if is_qualifier relation column.relation then position_from (λ c. pointwise nat_eq c.name column.name) 0 relation.columns else None
+-- ---- constants
 
 -- an integer with its sign, where it fits 64 bits
 abbrev pub signed : Bool → ℕ → ℤ
@@ -61,18 +58,91 @@ compared_of kinds.Int constant = value_of kinds.Int constant
 compared_of kinds.Text (tree.integer is_negative size) = None
 compared_of kinds.Text (tree.text bytes) = if nat_le (length bytes) 100 then Some (values.Text bytes) else None
 
--- a condition on a relation
-abbrev pub cond_of : RelationSchema → tree.Condition → Option Cond
-cond_of relation condition = do
-  place ← place_of relation condition.column
-  kind ← slice_get (kinds_of relation) place
-  value ← compared_of kind condition.constant
-  Some (record { col = place; cmp = Eq; value = value })
+-- the number that a sum adds: the same bound whether it is added or taken away
+abbrev pub number_of : Bool → ℕ → Option ℤ
+number_of is_negative size = if nat_le size (2 ^ 63 - 1) then Some (signed is_negative size) else None
+
+-- ---- columns and conditions
+
+-- the place of a column
+abbrev pub place_in : Scope → tree.Column → Option ℕ
+place_in scope column = option_map (λ found. found.place) (found_in scope column)
 
 -- the places of the listed columns, at most 32; `*` lists all
-abbrev pub places_of : RelationSchema → tree.Listed → Option (List ℕ)
-places_of relation tree.all = if nat_le (length relation.columns) 32 then Some (range_with_len 0 (length relation.columns)) else None
-places_of relation (tree.columns columns) = if nat_le (length columns) 32 then all_of (place_of relation) columns else None
+abbrev pub places_of : Scope → tree.Listed → Option (List ℕ)
+places_of scope tree.all = if nat_le (length (types_in scope)) 32 then Some (range_with_len 0 (length (types_in scope))) else None
+places_of scope (tree.columns columns) = if nat_le (length columns) 32 then all_of (place_in scope) columns else None
+
+-- a condition on a column
+abbrev pub cond_on : Found → tree.Condition → Option Cond
+cond_on found condition = option_map (λ value. record { col = found.place; cmp = condition.comparison; value = value }) (compared_of found.kind condition.constant)
+
+abbrev pub cond_of : Scope → tree.Condition → Option Cond
+cond_of scope condition = do
+  found ← found_in scope condition.column
+  cond_on found condition
+
+-- conditions, at most 8
+abbrev pub conds_of : Scope → List tree.Condition → Option (List Cond)
+conds_of scope conditions = if nat_le (length conditions) 8 then all_of (cond_of scope) conditions else None
+
+-- ---- selects
+
+-- what a statement is printed with: a relation's name and those of its columns
+abbrev pub source_of : RelationSchema → Source
+source_of relation = record { name = relation.name; columns = names_of relation }
+
+abbrev pub is_integer : Kind → Bool
+is_integer kinds.Int = true
+is_integer kinds.Text = false
+
+-- the column that is compared with the key behind the columns after FROM: one of these
+abbrev pub other_than_key : ℕ → ℕ → ℕ → Option ℕ
+other_than_key count left right =
+    if nat_eq left count && nat_lt right count then Some right else (if nat_eq right count && nat_lt left count then Some left else None)
+
+-- the column after FROM by which two relations are joined: it and the key are integers
+abbrev pub joined_by : Scope → tree.Join → Option ℕ
+joined_by scope join = do
+  left ← found_in scope join.left
+  right ← found_in scope join.right
+  column ← other_than_key (length scope.first.columns) left.place right.place
+  if is_integer left.kind && is_integer right.kind then Some column else None
+
+abbrev pub join_of : RelationSchema → RelationSchema → tree.Join → Option Join
+join_of relation other join = option_map (λ column. record { relation = source_of other; col = column }) (joined_by (two_relations relation other) join)
+
+-- the relation that is joined: another one
+abbrev pub other_of : List RelationSchema → RelationSchema → tree.Join → Option RelationSchema
+other_of schema relation join = do
+  other ← relation_named join.relation schema
+  if pointwise nat_eq other.name relation.name then None else Some other
+
+abbrev pub select_of_one : RelationSchema → tree.Select → Option Select
+select_of_one relation select = do
+  places ← places_of (one_relation relation) select.listed
+  conds ← conds_of (one_relation relation) select.conditions
+  Some (record { from = source_of relation; join = None; columns = places; conds = conds })
+
+abbrev pub select_of_two : RelationSchema → RelationSchema → tree.Join → tree.Select → Option Select
+select_of_two relation other written select = do
+  places ← places_of (two_relations relation other) select.listed
+  join ← join_of relation other written
+  conds ← conds_of (two_relations relation other) select.conditions
+  Some (record { from = source_of relation; join = Some join; columns = places; conds = conds })
+
+abbrev pub select_from : List RelationSchema → RelationSchema → Option tree.Join → tree.Select → Option Select
+select_from schema relation None select = select_of_one relation select
+select_from schema relation (Some join) select = do
+  other ← other_of schema relation join
+  select_of_two relation other join select
+
+abbrev pub select_of : List RelationSchema → tree.Select → Option Select
+select_of schema select = do
+  relation ← relation_named select.relation schema
+  select_from schema relation select.join select
+
+-- ---- inserts
 
 -- the values of a row: a constant for each column
 abbrev pub row_of : List Kind → List tree.Constant → Option (List Value)
@@ -81,20 +151,79 @@ row_of [] (constant ∷ constants) = None
 row_of (kind ∷ kinds) [] = None
 row_of (kind ∷ kinds) (constant ∷ constants) = option_and_then (λ value. option_map (λ row. value ∷ row) (row_of kinds constants)) (value_of kind constant)
 
-abbrev pub select_of : List RelationSchema → tree.Select → Option Select
-select_of schema select = do
-  relation ← relation_named select.relation schema
-  places ← places_of relation select.listed
-  cond ← cond_of relation select.condition
-  Some (record { from = record { name = relation.name; columns = names_of relation }; columns = places; conds = cond ∷ [] })
-
 abbrev pub insert_of : List RelationSchema → tree.Insert → Option Insert
 insert_of schema insert = do
   relation ← relation_named insert.relation schema
   row ← row_of (kinds_of relation) insert.values
   Some (record { into = relation.name; row = row })
 
--- the statement that a written one is under a schema, if its names, types and limits fit
-abbrev pub statement_of : List RelationSchema → tree.Written → Option Statement
-statement_of schema (tree.select select) = option_map statements.Select (select_of schema select)
-statement_of schema (tree.insert insert) = option_map statements.Insert (insert_of schema insert)
+-- ---- updates and deletes
+
+-- a column that is not the key
+abbrev pub settable : List schema.Column → List ℕ → Option Found
+settable columns name = do
+  found ← column_named columns name
+  if nat_eq found.place 0 then None else Some found
+
+-- the integer column to which a sum for an integer column adds
+abbrev pub addend : List schema.Column → Kind → List ℕ → Option Found
+addend columns kind name = do
+  found ← column_named columns name
+  if is_integer kind && is_integer found.kind then Some found else None
+
+abbrev pub sum_of : List schema.Column → Kind → List ℕ → Bool → ℕ → Option Assigned
+sum_of columns kind name is_negative size = do
+  found ← addend columns kind name
+  number ← number_of is_negative size
+  Some (assigned.Sum found.place number)
+
+-- what a column of a type is set to
+abbrev pub assigned_of : List schema.Column → Kind → tree.Assigned → Option Assigned
+assigned_of columns kind (tree.constant constant) = option_map assigned.Constant (value_of kind constant)
+assigned_of columns kind (tree.sum name is_negative size) = sum_of columns kind name is_negative size
+
+abbrev pub assignment_of : List schema.Column → tree.Assignment → Option Assignment
+assignment_of columns assignment = do
+  found ← settable columns assignment.column
+  value ← assigned_of columns found.kind assignment.value
+  Some (record { col = found.place; value = value })
+
+-- whether a column is set
+abbrev pub is_set : ℕ → List Assignment → Bool
+is_set column sets = list_any (λ set. nat_eq set.col column) sets
+
+-- whether no column is set twice
+abbrev pub are_apart : List Assignment → Bool
+are_apart [] = true
+are_apart (first ∷ others) = not (is_set first.col others) && are_apart others
+
+-- the assignments of an update, no two of them to one column
+abbrev pub sets_of : List schema.Column → List tree.Assignment → Option (List Assignment)
+sets_of columns assignments = do
+  sets ← all_of (assignment_of columns) assignments
+  if are_apart sets then Some sets else None
+
+abbrev pub update_of : List RelationSchema → tree.Update → Option Update
+update_of schema update = do
+  relation ← relation_named update.relation schema
+  sets ← sets_of relation.columns update.sets
+  conds ← conds_of (one_relation relation) update.conditions
+  Some (record { relation = source_of relation; sets = sets; conds = conds })
+
+abbrev pub delete_of : List RelationSchema → tree.Delete → Option Delete
+delete_of schema delete = do
+  relation ← relation_named delete.relation schema
+  conds ← conds_of (one_relation relation) delete.conditions
+  Some (record { relation = source_of relation; conds = conds })
+
+-- ---- commands
+
+-- the command that a written one is under a schema, if its names, types and limits fit
+abbrev pub command_of : List RelationSchema → tree.Written → Option Command
+command_of schema (tree.select select) = option_map (λ statement. commands.Run (statements.Select statement)) (select_of schema select)
+command_of schema (tree.insert insert) = option_map (λ statement. commands.Run (statements.Insert statement)) (insert_of schema insert)
+command_of schema (tree.update update) = option_map (λ statement. commands.Run (statements.Update statement)) (update_of schema update)
+command_of schema (tree.delete delete) = option_map (λ statement. commands.Run (statements.Delete statement)) (delete_of schema delete)
+command_of schema tree.begin = Some commands.Begin
+command_of schema tree.commit = Some commands.Commit
+command_of schema tree.rollback = Some commands.Rollback

@@ -9,6 +9,8 @@ use Rattle.reader.specs.declared.sign.Sign.{Sign}
 use Rattle.reader.specs.declared.sign.Sign.TheVariants as mark
 use Rattle.reader.specs.Symbol.{Symbol, key, sign, name, number, text}
 use Rattle.reader.specs.Tree as tree
+use Rattle.terms.specs.declared.cond.Cmp.{Cmp}
+use Rattle.terms.specs.declared.cond.Cmp.TheVariants as comparison
 
 unfoldable pub and_then : {A B : Type 0} → Option A → (A → Option B) → Option B
 and_then None f = None
@@ -94,6 +96,25 @@ unfoldable pub number_at : List Symbol → Option (ℕ × List Symbol)
 number_at (number size ∷ rest) = Some (size, rest)
 number_at _ = None
 
+-- whether a name is next
+unfoldable pub is_name : List Symbol → Bool
+is_name (name bytes ∷ rest) = true
+is_name _ = false
+
+-- the comparison that a sign is
+unfoldable pub comparison_of : Sign → Option Cmp
+comparison_of mark.Equal = Some comparison.Eq
+comparison_of mark.NotEqual = Some comparison.Ne
+comparison_of mark.Less = Some comparison.Lt
+comparison_of mark.LessOrEqual = Some comparison.Le
+comparison_of mark.Greater = Some comparison.Gt
+comparison_of mark.GreaterOrEqual = Some comparison.Ge
+comparison_of _ = None
+
+unfoldable pub comparison_at : List Symbol → Option (Cmp × List Symbol)
+comparison_at (sign s ∷ rest) = comparison_of s >>= λ c. Some (c, rest)
+comparison_at _ = None
+
 -- ---- productions
 
 -- one item, and others as long as a separator follows, at most as many as the fuel allows
@@ -136,9 +157,31 @@ listed_at symbols =
 unfoldable pub condition_at : List Symbol → Option (tree.Condition × List Symbol)
 condition_at symbols = do
   column ← column_at symbols
-  equal ← expect (sign mark.Equal) column.1
-  constant ← constant_at equal.1
-  Some (record { column = column.0; constant = constant.0 }, constant.1)
+  comparison ← comparison_at column.1
+  constant ← constant_at comparison.1
+  Some (record { column = column.0; comparison = comparison.0; constant = constant.0 }, constant.1)
+
+unfoldable pub where_at : List Symbol → Option (List tree.Condition × List Symbol)
+where_at symbols =
+    given (key word.Where) symbols
+    (items_at condition_at (key word.And))
+    (λ rest. Some ([], rest))
+
+-- what follows JOIN
+unfoldable pub joined_at : List Symbol → Option (tree.Join × List Symbol)
+joined_at symbols = do
+  relation ← name_at symbols
+  on ← expect (key word.On) relation.1
+  left ← column_at on.1
+  equal ← expect (sign mark.Equal) left.1
+  right ← column_at equal.1
+  Some (record { relation = relation.0; left = left.0; right = right.0 }, right.1)
+
+unfoldable pub join_at : List Symbol → Option (Option tree.Join × List Symbol)
+join_at symbols =
+    given (key word.Join) symbols
+    (λ rest. joined_at rest >>= λ j. Some (Some j.0, j.1))
+    (λ rest. Some (None, rest))
 
 -- what follows SELECT
 unfoldable pub select_at : List Symbol → Option (tree.Select × List Symbol)
@@ -146,9 +189,9 @@ select_at symbols = do
   listed ← listed_at symbols
   from ← expect (key word.From) listed.1
   relation ← name_at from.1
-  kept ← expect (key word.Where) relation.1
-  condition ← condition_at kept.1
-  Some (record { listed = listed.0; relation = relation.0; condition = condition.0 }, condition.1)
+  join ← join_at relation.1
+  conditions ← where_at join.1
+  Some (record { listed = listed.0; relation = relation.0; join = join.0; conditions = conditions.0 }, conditions.1)
 
 -- what follows INSERT
 unfoldable pub insert_at : List Symbol → Option (tree.Insert × List Symbol)
@@ -161,13 +204,65 @@ insert_at symbols = do
   closed ← expect (sign mark.Close) values.1
   Some (record { relation = relation.0; values = values.0 }, closed.1)
 
+-- a column and a number
+unfoldable pub sum_at : List Symbol → Option (tree.Assigned × List Symbol)
+sum_at symbols = do
+  column ← name_at symbols
+  given (sign mark.Minus) column.1
+      (λ rest. number_at rest >>= λ size. Some (tree.sum column.0 true size.0, size.1))
+      (λ rest. expect (sign mark.Plus) rest >>= λ plus. number_at plus.1 >>= λ size. Some (tree.sum column.0 false size.0, size.1))
+
+unfoldable pub assigned_at : List Symbol → Option (tree.Assigned × List Symbol)
+assigned_at symbols =
+    if is_name symbols then sum_at symbols
+    else (constant_at symbols >>= λ value. Some (tree.constant value.0, value.1))
+
+unfoldable pub assignment_at : List Symbol → Option (tree.Assignment × List Symbol)
+assignment_at symbols = do
+  column ← name_at symbols
+  equal ← expect (sign mark.Equal) column.1
+  value ← assigned_at equal.1
+  Some (record { column = column.0; value = value.0 }, value.1)
+
+-- what follows UPDATE
+unfoldable pub update_at : List Symbol → Option (tree.Update × List Symbol)
+update_at symbols = do
+  relation ← name_at symbols
+  set ← expect (key word.Set) relation.1
+  sets ← items_at assignment_at (sign mark.Comma) set.1
+  conditions ← where_at sets.1
+  Some (record { relation = relation.0; sets = sets.0; conditions = conditions.0 }, conditions.1)
+
+-- what follows DELETE
+unfoldable pub delete_at : List Symbol → Option (tree.Delete × List Symbol)
+delete_at symbols = do
+  from ← expect (key word.From) symbols
+  relation ← name_at from.1
+  conditions ← where_at relation.1
+  Some (record { relation = relation.0; conditions = conditions.0 }, conditions.1)
+
+-- BEGIN, COMMIT or ROLLBACK
+unfoldable pub bare_at : List Symbol → Option (tree.Written × List Symbol)
+bare_at symbols =
+    given (key word.Begin) symbols
+    (λ rest. Some (tree.begin, rest))
+    (λ rest. given (key word.Commit) rest
+    (λ rest. Some (tree.commit, rest))
+    (λ rest. given (key word.Rollback) rest
+    (λ rest. Some (tree.rollback, rest))
+    (λ _. None)))
+
 unfoldable pub written_at : List Symbol → Option (tree.Written × List Symbol)
 written_at symbols =
     given (key word.Select) symbols
     (λ rest. select_at rest >>= λ s. Some (tree.select s.0, s.1))
     (λ rest. given (key word.Insert) rest
     (λ rest. insert_at rest >>= λ i. Some (tree.insert i.0, i.1))
-    (λ _. None))
+    (λ rest. given (key word.Update) rest
+    (λ rest. update_at rest >>= λ u. Some (tree.update u.0, u.1))
+    (λ rest. given (key word.Delete) rest
+    (λ rest. delete_at rest >>= λ d. Some (tree.delete d.0, d.1))
+    bare_at)))
 
 abbrev pub ended : {A : Type 0} → A → List Symbol → Option A
 ended x [] = Some x
@@ -178,3 +273,8 @@ unfoldable pub command_at : List Symbol → Option tree.Written
 command_at symbols = do
   written ← written_at symbols
   ended written.0 (eat (sign mark.Semicolon) written.1).1
+
+unfoldable pub conditions_alone_at : List Symbol → Option (List tree.Condition)
+conditions_alone_at symbols = do
+  conditions ← items_at condition_at (key word.And) symbols
+  ended conditions.0 conditions.1

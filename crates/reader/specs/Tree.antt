@@ -1,4 +1,4 @@
-use Rattle.std.specs.Prelude.{ℕ, Bool, List, Option, map}
+use Rattle.std.specs.Prelude.{ℕ, Bool, List, Option, map, option_map}
 use Rattle.std.specs.Option.{option_copied}
 use Rattle.std.specs.Global.{Vec}
 use Rattle.reader.specs.declared.tree.Column as code_column
@@ -7,10 +7,17 @@ use Rattle.reader.specs.declared.tree.Constant.TheVariants as constants
 use Rattle.reader.specs.declared.tree.Listed as code_listed
 use Rattle.reader.specs.declared.tree.Listed.TheVariants as lists
 use Rattle.reader.specs.declared.tree.Condition as code_condition
+use Rattle.reader.specs.declared.tree.Join as code_join
 use Rattle.reader.specs.declared.tree.Select as code_select
 use Rattle.reader.specs.declared.tree.Insert as code_insert
+use Rattle.reader.specs.declared.tree.Assigned as code_assigned
+use Rattle.reader.specs.declared.tree.Assigned.TheVariants as assigned
+use Rattle.reader.specs.declared.tree.Assignment as code_assignment
+use Rattle.reader.specs.declared.tree.Update as code_update
+use Rattle.reader.specs.declared.tree.Delete as code_delete
 use Rattle.reader.specs.declared.tree.Written as code_written
 use Rattle.reader.specs.declared.tree.Written.TheVariants as commands
+use Rattle.terms.specs.declared.cond.Cmp.{Cmp}
 
 -- A column as it is written, with or without its relation.
 pub record Column : Type 0 where
@@ -27,23 +34,56 @@ pub data Listed : Type 0 where
   all : Listed
   columns : (cs : List Column) → Listed
 
+-- How the value in a column compares with a constant.
 pub record Condition : Type 0 where
   pub column : Column
+  pub comparison : Cmp
   pub constant : Constant
 
+-- The other relation, and the columns on both sides of the sign behind ON.
+pub record Join : Type 0 where
+  pub relation : List ℕ
+  pub left : Column
+  pub right : Column
+
+-- Where there is no WHERE, there is no condition.
 pub record Select : Type 0 where
   pub listed : Listed
   pub relation : List ℕ
-  pub condition : Condition
+  pub join : Option Join
+  pub conditions : List Condition
 
 pub record Insert : Type 0 where
   pub relation : List ℕ
   pub values : List Constant
 
+-- What a column is set to: a constant, or the value of a column and a number added or taken away.
+pub data Assigned : Type 0 where
+  constant : (value : Constant) → Assigned
+  sum : (column : List ℕ) (is_negative : Bool) (size : ℕ) → Assigned
+
+pub record Assignment : Type 0 where
+  pub column : List ℕ
+  pub value : Assigned
+
+pub record Update : Type 0 where
+  pub relation : List ℕ
+  pub sets : List Assignment
+  pub conditions : List Condition
+
+pub record Delete : Type 0 where
+  pub relation : List ℕ
+  pub conditions : List Condition
+
 -- A command as it is written, before its names mean anything.
 pub data Written : Type 0 where
   select : (selected : Select) → Written
   insert : (inserted : Insert) → Written
+  update : (updated : Update) → Written
+  delete : (deleted : Delete) → Written
+  begin : Written
+  commit : Written
+  rollback : Written
 
 -- The tree of the code without offsets.
 
@@ -65,14 +105,41 @@ listed_of (lists.All _) = all
 listed_of (lists.Columns cs) = columns (columns_of cs)
 
 abbrev pub condition_of : code_condition.Condition → Condition
-condition_of c = record { column = column_of c.column; constant = constant_of c.constant }
+condition_of c = record { column = column_of c.column; comparison = c.comparison; constant = constant_of c.constant }
+
+abbrev pub conditions_of : Vec code_condition.Condition → List Condition
+conditions_of cs = map condition_of cs.items
+
+abbrev pub join_of : code_join.Join → Join
+join_of j = record { relation = j.relation.name.now; left = column_of j.left; right = column_of j.right }
 
 abbrev pub select_of : code_select.Select → Select
-select_of s = record { listed = listed_of s.listed; relation = s.relation.name.now; condition = condition_of s.condition }
+select_of s = record { listed = listed_of s.listed; relation = s.relation.name.now; join = option_map join_of s.join; conditions = conditions_of s.conditions }
 
 abbrev pub insert_of : code_insert.Insert → Insert
 insert_of i = record { relation = i.relation.name.now; values = constants_of i.values }
 
+abbrev pub assigned_of : code_assigned.Assigned → Assigned
+assigned_of (assigned.Constant value) = constant (constant_of value)
+assigned_of (assigned.Sum column is_negative size _) = sum column.name.now is_negative size
+
+abbrev pub assignment_of : code_assignment.Assignment → Assignment
+assignment_of a = record { column = a.column.name.now; value = assigned_of a.value }
+
+abbrev pub assignments_of : Vec code_assignment.Assignment → List Assignment
+assignments_of sets = map assignment_of sets.items
+
+abbrev pub update_of : code_update.Update → Update
+update_of u = record { relation = u.relation.name.now; sets = assignments_of u.sets; conditions = conditions_of u.conditions }
+
+abbrev pub delete_of : code_delete.Delete → Delete
+delete_of d = record { relation = d.relation.name.now; conditions = conditions_of d.conditions }
+
 abbrev pub written_of : code_written.Written → Written
 written_of (commands.Select s) = select (select_of s)
 written_of (commands.Insert i) = insert (insert_of i)
+written_of (commands.Update u) = update (update_of u)
+written_of (commands.Delete d) = delete (delete_of d)
+written_of commands.Begin = begin
+written_of commands.Commit = commit
+written_of commands.Rollback = rollback

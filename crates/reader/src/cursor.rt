@@ -4,7 +4,7 @@ ghost use Rattle.std.specs.Prelude.{◌≡◌, ◌<◌, List, [], ◌∷◌, ◌
 ghost use Rattle.reader.specs.declared.fault.Rule.TheVariants as rules;
 ghost use Rattle.reader.specs.Symbol.{Symbol, symbol_of, symbols_of, key, sign};
 ghost use Rattle.reader.specs.Tree.{constant_of};
-ghost use Rattle.reader.specs.Parsing.{eat, expect, Reads, name_at, number_at, plain_at};
+ghost use Rattle.reader.specs.Parsing.{eat, expect, Reads, is_name, name_at, number_at, plain_at, comparison_at};
 
 use crate::fault::{ReadFault, Rule};
 use crate::keyword::Keyword;
@@ -12,6 +12,7 @@ use crate::sign::Sign;
 use crate::token::{Placed, Token};
 use crate::tree::{Constant, Named};
 use std::marker::Model;
+use terms::cond::Cmp;
 
 /// Stands for the end of a text, whatever its length: an offset beyond any byte.
 pub const BEYOND: usize = usize::MAX;
@@ -131,6 +132,14 @@ impl<'a> Cursor<'a> {
         }
     }
 
+    /// Whether a name is next.
+    #[tactic(auto, unfolding(crate::specs::Parsing::is_name))]
+    pub fn is_name(&self) -> bool
+        ensures { result ≡ is_name self.now }
+    {
+        matches!(self.peek(), Some(Token::Name(_)))
+    }
+
     /// Reads a name.
     #[tactic(auto, unfolding(crate::specs::Parsing::name_at))]
     pub fn named(&mut self) -> Result<Named<'a>, ReadFault>
@@ -159,6 +168,23 @@ impl<'a> Cursor<'a> {
                 self.advance();
                 Ok(*size)
             }
+            _ => Err(self.refusal()),
+        }
+    }
+
+    /// Reads the sign of a comparison.
+    #[tactic(auto, unfolding(crate::specs::Parsing::comparison_at, crate::specs::Parsing::and_then))]
+    pub fn comparison(&mut self) -> Result<Cmp, ReadFault>
+        ensures { Reads (λ c. c) result self.new (comparison_at self.old) }
+    {
+        match self.peek() {
+            Some(Token::Sign(sign)) => match sign.comparison() {
+                Some(comparison) => {
+                    self.advance();
+                    Ok(comparison)
+                }
+                None => Err(self.refusal()),
+            },
             _ => Err(self.refusal()),
         }
     }

@@ -9,8 +9,11 @@
 //! ```
 #![tactic(auto)]
 
+mod assignments;
 pub mod class;
 pub mod command;
+mod conditions;
+mod constants;
 pub mod cursor;
 pub mod fault;
 mod integer;
@@ -20,7 +23,11 @@ pub mod names;
 pub mod parser;
 pub mod print;
 pub mod read;
+pub mod read_conds;
+mod scope;
 pub mod sign;
+#[cfg(test)]
+mod tests;
 pub mod text;
 pub mod token;
 pub mod tree;

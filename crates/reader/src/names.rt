@@ -1,20 +1,24 @@
 //! Names, types and limits: what a written command means under a schema.
 
-ghost use Rattle.std.specs.Prelude.{◌≡◌, [], ◌∷◌, length, map, Some, None, IfOk, nat_eq, nat_le, if◌then◌else◌};
-ghost use Rattle.std.specs.Cmp.Lexicographic.{pointwise};
-ghost use Rattle.std.specs.List.{position_from, range_with_len, slice_get};
+ghost use Rattle.std.specs.Prelude.{◌≡◌, length, map, IfOk};
 ghost use Rattle.meaning.specs.Schema.{kinds_of, relation_named};
-ghost use Rattle.reader.specs.Tree.{column_of, constant_of, constants_of, listed_of, condition_of, written_of, select_of as tree_select, insert_of as tree_insert};
-ghost use Rattle.reader.specs.Names.{integer_of, value_of, compared_of, place_of, places_of, cond_of, row_of, select_of, insert_of, statement_of, all_of};
+ghost use Rattle.reader.specs.Tree.{constant_of, constants_of, written_of, join_of as tree_join, select_of as tree_select, insert_of as tree_insert, update_of as tree_update, delete_of as tree_delete};
+ghost use Rattle.reader.specs.Names.{source_of, row_of, other_than_key, joined_by, join_of, other_of, select_of_one, select_of_two, select_of, insert_of, update_of, delete_of, command_of};
 ghost use Rattle.reader.specs.Resolving.{Resolves};
+ghost use Rattle.reader.specs.Scope.{scope_of};
 
+use crate::assignments::assignments;
+use crate::command::Command;
+use crate::conditions::{conds, places};
+use crate::constants::value;
 use crate::fault::{ReadFault, Rule};
-use crate::tree::{Column, Condition, Constant, Insert, Listed, Named, Select, Written};
-use meaning::schema::{RelationSchema, Schema};
+use crate::scope::{Scope, find, of_one, of_two};
+use crate::tree::{Constant, Delete, Insert, Join, Named, Select, Update, Written};
+use meaning::schema::{Column, RelationSchema, Schema};
 use meaning::statement;
 use meaning::statement::{Source, Statement};
 use std::alloc::Global;
-use terms::cond::{Cmp, Cond, Conds};
+use terms::cond::Conds;
 use terms::copy::TryCopy;
 use terms::memory::Memory;
 use terms::row::Row;
@@ -22,23 +26,30 @@ use terms::seq::Seq;
 use terms::text::Text;
 use terms::value::{Kind, Value};
 
-/// The most columns that a SELECT lists.
-pub const LIST_LIMIT: usize = 32;
-
-/// The most bytes of a text that a condition compares with.
-pub const CONSTANT_LIMIT: usize = 100;
-
-/// The statement that a written command is under a schema.
-pub fn statement(
-    alloc: Global,
-    schema: &Schema,
-    written: &Written<'_>,
-) -> Result<Statement, ReadFault>
-    ensures { Resolves (λ s. s) result (statement_of schema.now.relations (written_of written.now)) }
+/// The command that a written one is under a schema.
+pub fn command(alloc: Global, schema: &Schema, written: &Written<'_>) -> Result<Command, ReadFault>
+    ensures { Resolves (λ c. c) result (command_of schema.now.relations (written_of written.now)) }
 {
     match written {
-        Written::Select(select) => Ok(Statement::Select(select_statement(alloc, schema, select)?)),
-        Written::Insert(insert) => Ok(Statement::Insert(insert_statement(alloc, schema, insert)?)),
+        Written::Select(written) => {
+            let select = select(alloc, schema, written)?;
+            Ok(Command::Run(Statement::Select(select)))
+        }
+        Written::Insert(written) => {
+            let insert = insert(alloc, schema, written)?;
+            Ok(Command::Run(Statement::Insert(insert)))
+        }
+        Written::Update(written) => {
+            let update = update(alloc, schema, written)?;
+            Ok(Command::Run(Statement::Update(update)))
+        }
+        Written::Delete(written) => {
+            let delete = delete(alloc, schema, written)?;
+            Ok(Command::Run(Statement::Delete(delete)))
+        }
+        Written::Begin => Ok(Command::Begin),
+        Written::Commit => Ok(Command::Commit),
+        Written::Rollback => Ok(Command::Rollback),
     }
 }
 
@@ -51,160 +62,159 @@ fn relation<'a>(schema: &'a Schema, named: &Named<'_>) -> Result<&'a RelationSch
     }
 }
 
-/// The place of a column in its relation.
-fn place(relation: &RelationSchema, column: &Column<'_>) -> Result<usize, ReadFault>
-    ensures { Resolves (λ place. place) result (place_of relation.now (column_of column.now)) }
+/// The relation that is joined: another than the one after FROM.
+fn other<'a>(
+    schema: &'a Schema,
+    from: &RelationSchema,
+    join: &Join<'_>,
+) -> Result<&'a RelationSchema, ReadFault>
+    ensures { Resolves (λ r. r.now) result (other_of schema.now.relations from.now (tree_join join.now)) }
 {
-    match found_place(relation, column) {
-        Some(place) => Ok(place),
-        None => Err(ReadFault::new(Rule::NoColumn, column.offset)),
+    let other = relation(schema, &join.relation)?;
+    if other.name.as_str().as_bytes() == from.name.as_str().as_bytes() {
+        return Err(ReadFault::new(Rule::JoinNotKey, join.relation.offset));
     }
+    Ok(other)
 }
 
-fn found_place(relation: &RelationSchema, column: &Column<'_>) -> Option<usize>
-    ensures { result ≡ place_of relation.now (column_of column.now) }
+/// What a statement is printed with.
+fn source(alloc: Global, relation: &RelationSchema) -> Result<Source, Memory>
+    ensures { IfOk result (λ source. source ≡ source_of relation.now) }
 {
-    if let Some(qualifier) = column.relation {
-        if relation.name.as_str().as_bytes() != qualifier {
-            return None;
-        }
-    }
-    first_named(relation.columns.as_slice(), column.name)
-}
-
-fn first_named(columns: &[meaning::schema::Column], name: &[u8]) -> Option<usize>
-    ensures { result ≡ position_from (λ c. pointwise nat_eq c.name name.now) 0 columns.now }
-{
-    columns
-        .iter()
-        .position(|column| column.name.as_str().as_bytes() == name)
-}
-
-/// An integer that fits 64 bits, or a Limit at its digits.
-fn integer(is_negative: bool, size: u64, digits: usize) -> Result<Value, ReadFault>
-    ensures { Resolves (λ v. v) result (integer_of is_negative size) }
-{
-    let greatest: u64 = if is_negative { 1 << 63 } else { (1 << 63) - 1 };
-    if size > greatest {
-        return Err(ReadFault::new(Rule::Limit, digits));
-    }
-    let number = i128::from(size);
-    Ok(Value::Int(if is_negative {
-        (-number) as i64
-    } else {
-        number as i64
-    }))
-}
-
-/// The value of a constant in a column of this type.
-fn value(alloc: Global, kind: Kind, constant: &Constant<'_>) -> Result<Value, ReadFault>
-    ensures { Resolves (λ v. v) result (value_of kind (constant_of constant.now)) }
-{
-    match (kind, constant) {
-        (
-            Kind::Int,
-            Constant::Integer {
-                is_negative,
-                size,
-                digits,
-                ..
-            },
-        ) => integer(*is_negative, *size, *digits),
-        (Kind::Text, Constant::Text { text, .. }) => Ok(Value::Text(Text::new(String::from_str(
-            alloc, text,
-        )?))),
-        (Kind::Int, Constant::Text { offset, .. }) => Err(ReadFault::new(Rule::WrongType, *offset)),
-        (Kind::Text, Constant::Integer { offset, .. }) => Err(ReadFault::new(
-            Rule::WrongType,
-            *offset,
-        )),
-    }
-}
-
-/// The value that a condition on a column of this type compares with.
-fn compared(alloc: Global, kind: Kind, constant: &Constant<'_>) -> Result<Value, ReadFault>
-    ensures { Resolves (λ v. v) result (compared_of kind (constant_of constant.now)) }
-{
-    if let (Kind::Text, Constant::Text { text, offset }) = (kind, constant) {
-        if text.len() > CONSTANT_LIMIT {
-            return Err(ReadFault::new(Rule::Limit, *offset));
-        }
-    }
-    value(alloc, kind, constant)
-}
-
-fn cond(
-    alloc: Global,
-    relation: &RelationSchema,
-    condition: &Condition<'_>,
-) -> Result<Cond, ReadFault>
-    ensures { Resolves (λ c. c) result (cond_of relation.now (condition_of condition.now)) }
-{
-    let col = place(relation, &condition.column)?;
-    let kind = kind_at(relation, &condition.column, col)?;
-    let value = compared(alloc, kind, &condition.constant)?;
-    Ok(Cond {
-        col,
-        cmp: Cmp::Eq,
-        value,
+    let columns = column_names(alloc, relation.columns.as_slice())?;
+    Ok(Source {
+        name: relation.name.copy()?,
+        columns: Seq::new(columns),
     })
 }
 
-fn kind_at(relation: &RelationSchema, column: &Column<'_>, place: usize) -> Result<Kind, ReadFault>
-    ensures { Resolves (λ kind. kind) result (slice_get (kinds_of relation.now) place) }
+fn column_names(alloc: Global, columns: &[Column]) -> Result<Vec<Text>, Memory>
+    ensures { IfOk result (λ names. names.items ≡ map (λ c. c.name) columns.now) }
 {
-    match relation.columns.as_slice().get(place) {
-        Some(found) => Ok(found.kind),
-        None => Err(ReadFault::new(Rule::NoColumn, column.offset)),
-    }
-}
-
-/// The places of the listed columns.
-fn places(
-    alloc: Global,
-    relation: &RelationSchema,
-    listed: &Listed<'_>,
-) -> Result<Vec<usize>, ReadFault>
-    ensures { Resolves (λ places. places.items) result (places_of relation.now (listed_of listed.now)) }
-{
-    match listed {
-        Listed::All { offset } => {
-            let count = relation.columns.as_slice().len();
-            if count > LIST_LIMIT {
-                return Err(ReadFault::new(Rule::Limit, *offset));
-            }
-            every_place(alloc, count)
-        }
-        Listed::Columns(columns) => listed_places(alloc, relation, columns.as_slice()),
-    }
-}
-
-fn every_place(alloc: Global, count: usize) -> Result<Vec<usize>, ReadFault>
-    ensures { Resolves (λ places. places.items) result (Some (range_with_len 0 count)) }
-{
-    let mut places = Vec::new(alloc);
-    for place in 0..count {
-        places.push(place)?;
-    }
-    Ok(places)
-}
-
-fn listed_places(
-    alloc: Global,
-    relation: &RelationSchema,
-    columns: &[Column<'_>],
-) -> Result<Vec<usize>, ReadFault>
-    ensures { Resolves (λ places. places.items) result (if nat_le (length columns.now) 32 then all_of (place_of relation.now) (map column_of columns.now) else None) }
-{
-    let mut places = Vec::new(alloc);
+    let mut names = Vec::new(alloc);
     for column in columns {
-        let found = place(relation, column)?;
-        if places.len() == LIST_LIMIT {
-            return Err(ReadFault::new(Rule::Limit, column.offset));
-        }
-        places.push(found)?;
+        names.push(column.name.copy()?)?;
     }
-    Ok(places)
+    Ok(names)
+}
+
+fn select(
+    alloc: Global,
+    schema: &Schema,
+    written: &Select<'_>,
+) -> Result<statement::Select, ReadFault>
+    ensures { Resolves (λ s. s) result (select_of schema.now.relations (tree_select written.now)) }
+{
+    let from = relation(schema, &written.relation)?;
+    match &written.join {
+        None => select_of_one(alloc, from, written),
+        Some(join) => {
+            let other = other(schema, from, join)?;
+            select_of_two(alloc, from, other, join, written)
+        }
+    }
+}
+
+fn select_of_one(
+    alloc: Global,
+    from: &RelationSchema,
+    written: &Select<'_>,
+) -> Result<statement::Select, ReadFault>
+    ensures { Resolves (λ s. s) result (select_of_one from.now (tree_select written.now)) }
+{
+    let scope = &of_one(from);
+    let columns = places(alloc, scope, &written.listed)?;
+    let conds = conds(alloc, scope, written.conditions.as_slice())?;
+    Ok(statement::Select {
+        from: source(alloc, from)?,
+        join: None,
+        columns: Seq::new(columns),
+        conds: Conds::new(conds),
+    })
+}
+
+fn select_of_two(
+    alloc: Global,
+    from: &RelationSchema,
+    other: &RelationSchema,
+    written_join: &Join<'_>,
+    written: &Select<'_>,
+) -> Result<statement::Select, ReadFault>
+    ensures { Resolves (λ s. s) result (select_of_two from.now other.now (tree_join written_join.now) (tree_select written.now)) }
+{
+    let scope = &of_two(from, other);
+    let columns = places(alloc, scope, &written.listed)?;
+    let join = join(alloc, from, other, written_join)?;
+    let conds = conds(alloc, scope, written.conditions.as_slice())?;
+    Ok(statement::Select {
+        from: source(alloc, from)?,
+        join: Some(join),
+        columns: Seq::new(columns),
+        conds: Conds::new(conds),
+    })
+}
+
+fn join(
+    alloc: Global,
+    from: &RelationSchema,
+    other: &RelationSchema,
+    written: &Join<'_>,
+) -> Result<statement::Join, ReadFault>
+    ensures { Resolves (λ j. j) result (join_of from.now other.now (tree_join written.now)) }
+{
+    let col = join_column(&of_two(from, other), written)?;
+    Ok(statement::Join {
+        relation: source(alloc, other)?,
+        col,
+    })
+}
+
+/// The column after FROM by which two relations are joined.
+fn join_column(scope: &Scope<'_>, join: &Join<'_>) -> Result<usize, ReadFault>
+    ensures { Resolves (λ column. column) result (joined_by (scope_of scope.now) (tree_join join.now)) }
+{
+    let left = find(scope, &join.left)?;
+    let right = find(scope, &join.right)?;
+    match beside_key(scope.first.columns.len(), left.place, right.place) {
+        None => Err(ReadFault::new(Rule::JoinNotKey, join.left.offset)),
+        Some(column) => {
+            if left.kind != Kind::Int {
+                return Err(ReadFault::new(Rule::WrongType, join.left.offset));
+            }
+            if right.kind != Kind::Int {
+                return Err(ReadFault::new(Rule::WrongType, join.right.offset));
+            }
+            Ok(column)
+        }
+    }
+}
+
+/// The one of two columns that is compared with the key behind the columns after FROM.
+fn beside_key(count: usize, left: usize, right: usize) -> Option<usize>
+    ensures { result ≡ other_than_key count left right }
+{
+    if left == count && right < count {
+        Some(right)
+    } else if right == count && left < count {
+        Some(left)
+    } else {
+        None
+    }
+}
+
+fn insert(
+    alloc: Global,
+    schema: &Schema,
+    written: &Insert<'_>,
+) -> Result<statement::Insert, ReadFault>
+    ensures { Resolves (λ i. i) result (insert_of schema.now.relations (tree_insert written.now)) }
+{
+    let relation = relation(schema, &written.relation)?;
+    let values = row(alloc, relation, written)?;
+    Ok(statement::Insert {
+        into: relation.name.copy()?,
+        row: Row::new(values),
+    })
 }
 
 /// The values of a row, one for each column.
@@ -225,7 +235,7 @@ fn row(
 
 fn values(
     alloc: Global,
-    columns: &[meaning::schema::Column],
+    columns: &[Column],
     constants: &[Constant<'_>],
 ) -> Result<Vec<Value>, ReadFault>
     requires { length constants.now ≡ length columns.now }
@@ -238,57 +248,34 @@ fn values(
     Ok(values)
 }
 
-fn names(alloc: Global, columns: &[meaning::schema::Column]) -> Result<Vec<Text>, Memory>
-    ensures { IfOk result (λ names. names.items ≡ map (λ c. c.name) columns.now) }
-{
-    let mut names = Vec::new(alloc);
-    for column in columns {
-        names.push(column.name.copy()?)?;
-    }
-    Ok(names)
-}
-
-fn select_statement(
+fn update(
     alloc: Global,
     schema: &Schema,
-    select: &Select<'_>,
-) -> Result<statement::Select, ReadFault>
-    ensures { Resolves (λ s. s) result (select_of schema.now.relations (tree_select select.now)) }
+    written: &Update<'_>,
+) -> Result<statement::Update, ReadFault>
+    ensures { Resolves (λ u. u) result (update_of schema.now.relations (tree_update written.now)) }
 {
-    let relation = relation(schema, &select.relation)?;
-    let columns = places(alloc, relation, &select.listed)?;
-    let cond = cond(alloc, relation, &select.condition)?;
-    let names = names(alloc, relation.columns.as_slice())?;
-    let from = Source {
-        name: relation.name.copy()?,
-        columns: Seq::new(names),
-    };
-    Ok(statement::Select {
-        from,
-        columns: Seq::new(columns),
-        conds: conds_of_one(alloc, cond)?,
+    let relation = relation(schema, &written.relation)?;
+    let sets = assignments(alloc, relation.columns.as_slice(), written.sets.as_slice())?;
+    let conds = conds(alloc, &of_one(relation), written.conditions.as_slice())?;
+    Ok(statement::Update {
+        relation: source(alloc, relation)?,
+        sets: Seq::new(sets),
+        conds: Conds::new(conds),
     })
 }
 
-fn conds_of_one(alloc: Global, cond: Cond) -> Result<Conds, Memory>
-    ensures { IfOk result (λ conds. conds ≡ cond ∷ []) }
-{
-    let mut conds = Vec::new(alloc);
-    conds.push(cond)?;
-    Ok(Conds::new(conds))
-}
-
-fn insert_statement(
+fn delete(
     alloc: Global,
     schema: &Schema,
-    insert: &Insert<'_>,
-) -> Result<statement::Insert, ReadFault>
-    ensures { Resolves (λ i. i) result (insert_of schema.now.relations (tree_insert insert.now)) }
+    written: &Delete<'_>,
+) -> Result<statement::Delete, ReadFault>
+    ensures { Resolves (λ d. d) result (delete_of schema.now.relations (tree_delete written.now)) }
 {
-    let relation = relation(schema, &insert.relation)?;
-    let values = row(alloc, relation, insert)?;
-    Ok(statement::Insert {
-        into: relation.name.copy()?,
-        row: Row::new(values),
+    let relation = relation(schema, &written.relation)?;
+    let conds = conds(alloc, &of_one(relation), written.conditions.as_slice())?;
+    Ok(statement::Delete {
+        relation: source(alloc, relation)?,
+        conds: Conds::new(conds),
     })
 }

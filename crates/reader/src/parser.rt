@@ -1,21 +1,25 @@
 //! The grammar of commands. Each production is a function, which reads as far as it goes and refuses the first token
 //! with which no command goes on.
 
-ghost use Rattle.std.specs.Prelude.{◌≡◌, ◌≢◌, ◌⊎◌, IfOk, IfErr};
+ghost use Rattle.std.specs.Prelude.{◌≡◌, ◌≢◌, ◌⊎◌, List, IfOk, IfErr, option_map};
 ghost use Rattle.reader.specs.declared.fault.Rule.TheVariants as rules;
 ghost use Rattle.reader.specs.declared.sign.Sign.TheVariants as mark;
-ghost use Rattle.reader.specs.Symbol.{symbols_of, sign};
-ghost use Rattle.reader.specs.Tree.{column_of, columns_of, constant_of, constants_of, listed_of, condition_of, select_of, insert_of, written_of};
+ghost use Rattle.reader.specs.declared.keyword.Keyword.TheVariants as word;
+ghost use Rattle.reader.specs.Symbol.{symbols_of, key, sign};
+ghost use Rattle.reader.specs.Tree.{column_of, columns_of, constant_of, constants_of, listed_of, condition_of, conditions_of, join_of, select_of, insert_of, assigned_of, assignment_of, assignments_of, update_of, delete_of, written_of};
 ghost use Rattle.reader.specs.Tree as tree;
-ghost use Rattle.reader.specs.Grammar.{Writes, WriteOneCommand};
-ghost use Rattle.reader.specs.Parsing.{Reads, Gives, items_at, column_at, constant_at, listed_at, condition_at, select_at, insert_at, written_at, command_at};
+ghost use Rattle.reader.specs.Grammar.{Writes, WriteOneCommand, WritesConditions, WriteOneListOfConditions};
+ghost use Rattle.reader.specs.Parsing.{Reads, Gives, items_at, column_at, constant_at, listed_at, condition_at, where_at, joined_at, join_at, select_at, insert_at, sum_at, assigned_at, assignment_at, update_at, delete_at, bare_at, written_at, command_at, conditions_alone_at};
 
 use crate::cursor::Cursor;
 use crate::fault::ReadFault;
 use crate::keyword::Keyword;
 use crate::sign::Sign;
 use crate::token::Placed;
-use crate::tree::{Column, Condition, Constant, Insert, Listed, Select, Written};
+use crate::tree::{
+    Assigned, Assignment, Column, Condition, Constant, Delete, Insert, Join, Listed, Select,
+    Update, Written,
+};
 use std::alloc::Global;
 
 /// `column = name [ "." name ]`
@@ -60,15 +64,19 @@ fn constant<'a>(cursor: &mut Cursor<'a>) -> Result<Constant<'a>, ReadFault>
     }
 }
 
-/// `condition = column "=" constant`
+/// `condition = column comparison constant`
 #[tactic(auto, unfolding(crate::specs::Parsing::condition_at, crate::specs::Parsing::and_then))]
 fn condition<'a>(cursor: &mut Cursor<'a>) -> Result<Condition<'a>, ReadFault>
     ensures { Reads condition_of result cursor.new (condition_at cursor.old) }
 {
     let column = column(cursor)?;
-    cursor.expect_sign(Sign::Equal)?;
+    let comparison = cursor.comparison()?;
     let constant = constant(cursor)?;
-    Ok(Condition { column, constant })
+    Ok(Condition {
+        column,
+        comparison,
+        constant,
+    })
 }
 
 /// `columns = column { "," column }`
@@ -97,6 +105,31 @@ fn constants<'a>(alloc: Global, cursor: &mut Cursor<'a>) -> Result<Vec<Constant<
     }
 }
 
+/// `conditions = condition { AND condition }`
+fn conditions<'a>(alloc: Global, cursor: &mut Cursor<'a>) -> Result<Vec<Condition<'a>>, ReadFault>
+    ensures { Reads conditions_of result cursor.new (items_at condition_at (key word.And) cursor.old) }
+{
+    let mut conditions = Vec::new(alloc);
+    loop {
+        conditions.push(condition(cursor)?)?;
+        if !cursor.eat_keyword(Keyword::And) {
+            return Ok(conditions);
+        }
+    }
+}
+
+/// `[ WHERE conditions ]`
+#[tactic(auto, unfolding(crate::specs::Parsing::where_at, crate::specs::Parsing::given))]
+fn kept<'a>(alloc: Global, cursor: &mut Cursor<'a>) -> Result<Vec<Condition<'a>>, ReadFault>
+    ensures { Reads conditions_of result cursor.new (where_at cursor.old) }
+{
+    if cursor.eat_keyword(Keyword::Where) {
+        conditions(alloc, cursor)
+    } else {
+        Ok(Vec::new(alloc))
+    }
+}
+
 /// `list = "*" | columns`
 #[tactic(auto, unfolding(crate::specs::Parsing::listed_at, crate::specs::Parsing::and_then, crate::specs::Parsing::given))]
 fn listed<'a>(alloc: Global, cursor: &mut Cursor<'a>) -> Result<Listed<'a>, ReadFault>
@@ -110,7 +143,36 @@ fn listed<'a>(alloc: Global, cursor: &mut Cursor<'a>) -> Result<Listed<'a>, Read
     }
 }
 
-/// `select = list FROM name WHERE condition`, which follows SELECT.
+/// `joined = name ON column "=" column`, which follows JOIN.
+#[tactic(auto, unfolding(crate::specs::Parsing::joined_at, crate::specs::Parsing::and_then))]
+fn joined<'a>(cursor: &mut Cursor<'a>) -> Result<Join<'a>, ReadFault>
+    ensures { Reads join_of result cursor.new (joined_at cursor.old) }
+{
+    let relation = cursor.named()?;
+    cursor.expect_keyword(Keyword::On)?;
+    let left = column(cursor)?;
+    cursor.expect_sign(Sign::Equal)?;
+    let right = column(cursor)?;
+    Ok(Join {
+        relation,
+        left,
+        right,
+    })
+}
+
+/// `[ JOIN joined ]`
+#[tactic(auto, unfolding(crate::specs::Parsing::join_at, crate::specs::Parsing::and_then, crate::specs::Parsing::given))]
+fn join<'a>(cursor: &mut Cursor<'a>) -> Result<Option<Join<'a>>, ReadFault>
+    ensures { Reads (option_map join_of) result cursor.new (join_at cursor.old) }
+{
+    if cursor.eat_keyword(Keyword::Join) {
+        Ok(Some(joined(cursor)?))
+    } else {
+        Ok(None)
+    }
+}
+
+/// `select = list FROM name [ JOIN joined ] [ WHERE conditions ]`, which follows SELECT.
 #[tactic(auto, unfolding(crate::specs::Parsing::select_at, crate::specs::Parsing::and_then))]
 fn select<'a>(alloc: Global, cursor: &mut Cursor<'a>) -> Result<Select<'a>, ReadFault>
     ensures { Reads select_of result cursor.new (select_at cursor.old) }
@@ -118,12 +180,13 @@ fn select<'a>(alloc: Global, cursor: &mut Cursor<'a>) -> Result<Select<'a>, Read
     let listed = listed(alloc, cursor)?;
     cursor.expect_keyword(Keyword::From)?;
     let relation = cursor.named()?;
-    cursor.expect_keyword(Keyword::Where)?;
-    let condition = condition(cursor)?;
+    let join = join(cursor)?;
+    let conditions = kept(alloc, cursor)?;
     Ok(Select {
         listed,
         relation,
-        condition,
+        join,
+        conditions,
     })
 }
 
@@ -146,7 +209,109 @@ fn insert<'a>(alloc: Global, cursor: &mut Cursor<'a>) -> Result<Insert<'a>, Read
     })
 }
 
-/// `written = SELECT select | INSERT insert`
+/// `sum = name ( "+" | "-" ) integer`
+#[tactic(auto, unfolding(crate::specs::Parsing::sum_at, crate::specs::Parsing::and_then, crate::specs::Parsing::given))]
+fn sum<'a>(cursor: &mut Cursor<'a>) -> Result<Assigned<'a>, ReadFault>
+    ensures { Reads assigned_of result cursor.new (sum_at cursor.old) }
+{
+    let column = cursor.named()?;
+    let is_negative = cursor.eat_sign(Sign::Minus);
+    if !is_negative {
+        cursor.expect_sign(Sign::Plus)?;
+    }
+    let digits = cursor.offset();
+    let size = cursor.number()?;
+    Ok(Assigned::Sum {
+        column,
+        is_negative,
+        size,
+        digits,
+    })
+}
+
+/// `assigned = constant | sum`
+#[tactic(auto, unfolding(crate::specs::Parsing::assigned_at, crate::specs::Parsing::and_then))]
+fn assigned<'a>(cursor: &mut Cursor<'a>) -> Result<Assigned<'a>, ReadFault>
+    ensures { Reads assigned_of result cursor.new (assigned_at cursor.old) }
+{
+    if cursor.is_name() {
+        sum(cursor)
+    } else {
+        Ok(Assigned::Constant(constant(cursor)?))
+    }
+}
+
+/// `assignment = name "=" assigned`
+#[tactic(auto, unfolding(crate::specs::Parsing::assignment_at, crate::specs::Parsing::and_then))]
+fn assignment<'a>(cursor: &mut Cursor<'a>) -> Result<Assignment<'a>, ReadFault>
+    ensures { Reads assignment_of result cursor.new (assignment_at cursor.old) }
+{
+    let column = cursor.named()?;
+    cursor.expect_sign(Sign::Equal)?;
+    let value = assigned(cursor)?;
+    Ok(Assignment { column, value })
+}
+
+/// `assignments = assignment { "," assignment }`
+fn assignments<'a>(alloc: Global, cursor: &mut Cursor<'a>) -> Result<Vec<Assignment<'a>>, ReadFault>
+    ensures { Reads assignments_of result cursor.new (items_at assignment_at (sign mark.Comma) cursor.old) }
+{
+    let mut assignments = Vec::new(alloc);
+    loop {
+        assignments.push(assignment(cursor)?)?;
+        if !cursor.eat_sign(Sign::Comma) {
+            return Ok(assignments);
+        }
+    }
+}
+
+/// `update = name SET assignments [ WHERE conditions ]`, which follows UPDATE.
+#[tactic(auto, unfolding(crate::specs::Parsing::update_at, crate::specs::Parsing::and_then))]
+fn update<'a>(alloc: Global, cursor: &mut Cursor<'a>) -> Result<Update<'a>, ReadFault>
+    ensures { Reads update_of result cursor.new (update_at cursor.old) }
+{
+    let relation = cursor.named()?;
+    cursor.expect_keyword(Keyword::Set)?;
+    let sets = assignments(alloc, cursor)?;
+    let conditions = kept(alloc, cursor)?;
+    Ok(Update {
+        relation,
+        sets,
+        conditions,
+    })
+}
+
+/// `delete = FROM name [ WHERE conditions ]`, which follows DELETE.
+#[tactic(auto, unfolding(crate::specs::Parsing::delete_at, crate::specs::Parsing::and_then))]
+fn delete<'a>(alloc: Global, cursor: &mut Cursor<'a>) -> Result<Delete<'a>, ReadFault>
+    ensures { Reads delete_of result cursor.new (delete_at cursor.old) }
+{
+    cursor.expect_keyword(Keyword::From)?;
+    let relation = cursor.named()?;
+    let conditions = kept(alloc, cursor)?;
+    Ok(Delete {
+        relation,
+        conditions,
+    })
+}
+
+/// `bare = BEGIN | COMMIT | ROLLBACK`
+#[tactic(auto, unfolding(crate::specs::Parsing::bare_at, crate::specs::Parsing::given))]
+fn bare<'a>(cursor: &mut Cursor<'a>) -> Result<Written<'a>, ReadFault>
+    ensures { Reads written_of result cursor.new (bare_at cursor.old) }
+{
+    if cursor.eat_keyword(Keyword::Begin) {
+        Ok(Written::Begin)
+    } else if cursor.eat_keyword(Keyword::Commit) {
+        Ok(Written::Commit)
+    } else if cursor.eat_keyword(Keyword::Rollback) {
+        Ok(Written::Rollback)
+    } else {
+        Err(cursor.refusal())
+    }
+}
+
+/// `written = SELECT select | INSERT insert | UPDATE update | DELETE delete | bare`
 #[tactic(auto, unfolding(crate::specs::Parsing::written_at, crate::specs::Parsing::and_then, crate::specs::Parsing::given))]
 fn written<'a>(alloc: Global, cursor: &mut Cursor<'a>) -> Result<Written<'a>, ReadFault>
     ensures { Reads written_of result cursor.new (written_at cursor.old) }
@@ -155,8 +320,12 @@ fn written<'a>(alloc: Global, cursor: &mut Cursor<'a>) -> Result<Written<'a>, Re
         Ok(Written::Select(select(alloc, cursor)?))
     } else if cursor.eat_keyword(Keyword::Insert) {
         Ok(Written::Insert(insert(alloc, cursor)?))
+    } else if cursor.eat_keyword(Keyword::Update) {
+        Ok(Written::Update(update(alloc, cursor)?))
+    } else if cursor.eat_keyword(Keyword::Delete) {
+        Ok(Written::Delete(delete(alloc, cursor)?))
     } else {
-        Err(cursor.refusal())
+        bare(cursor)
     }
 }
 
@@ -189,6 +358,42 @@ pub fn parse<'a>(alloc: Global, tokens: &'a [Placed<'a>]) -> Result<Written<'a>,
 /// Tokens write one command at most.
 pub fn one_reading()
     ensures { WriteOneCommand }
+{}
+
+/// `conditions`, and nothing behind them.
+#[tactic(auto, unfolding(crate::specs::Parsing::conditions_alone_at, crate::specs::Parsing::and_then))]
+fn conditions_alone<'a>(
+    alloc: Global,
+    cursor: &mut Cursor<'a>,
+) -> Result<Vec<Condition<'a>>, ReadFault>
+    ensures { Gives conditions_of result (conditions_alone_at cursor.old) }
+{
+    let conditions = conditions(alloc, cursor)?;
+    if cursor.is_at_end() {
+        Ok(conditions)
+    } else {
+        Err(cursor.refusal())
+    }
+}
+
+/// The conditions that the tokens of a text write, with no WHERE before and no semicolon behind.
+///
+/// The refusal of tokens that write none stands at the first token with which no conditions go on, or at
+/// `BEYOND` where the tokens end too early.
+pub fn parse_conditions<'a>(
+    alloc: Global,
+    tokens: &'a [Placed<'a>],
+) -> Result<Vec<Condition<'a>>, ReadFault>
+    ensures found { IfOk result (λ conditions. WritesConditions (symbols_of tokens.now) (conditions_of conditions)) }
+    ensures none { IfErr result (λ fault. fault.rule ≢ rules.Memory → (conditions : List tree.Condition) → ¬ (WritesConditions (symbols_of tokens.now) conditions)) }
+    ensures rule { IfErr result (λ fault. (fault.rule ≡ rules.Syntax) ⊎ (fault.rule ≡ rules.Memory)) }
+{
+    conditions_alone(alloc, &mut Cursor::new(tokens))
+}
+
+/// Tokens write one list of conditions at most.
+pub fn one_reading_of_conditions()
+    ensures { WriteOneListOfConditions }
 {}
 
 #[cfg(test)]

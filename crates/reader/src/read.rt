@@ -50,8 +50,8 @@ fn read_bytes(alloc: Global, text: &[u8], schema: &Schema) -> Result<Command, Re
     }
     let tokens = tokens(alloc, text)?;
     let written = parse(alloc, tokens.as_slice())?;
-    let statement = names::statement(alloc, schema, &written)?;
-    Ok(Command::Run(statement))
+    let command = names::command(alloc, schema, &written)?;
+    Ok(command)
 }
 
 #[cfg(test)]

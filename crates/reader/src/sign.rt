@@ -3,6 +3,9 @@
 ghost use Rattle.std.specs.Prelude.{◌≡◌};
 ghost use Rattle.reader.specs.Sign.{sign_text};
 ghost use Rattle.reader.specs.Reading.{sign_of};
+ghost use Rattle.reader.specs.Parsing.{comparison_of};
+
+use terms::cond::Cmp;
 
 /// A sign of one or two characters.
 #[derive(Clone, Copy, Debug, PartialEq, Eq)]
@@ -73,5 +76,20 @@ impl Sign {
             .iter()
             .copied()
             .find(|sign| bytes.starts_with(sign.text()))
+    }
+    /// The comparison that it is, if it is one.
+    #[tactic(auto, unfolding(crate::specs::Parsing::comparison_of))]
+    pub(crate) fn comparison(self) -> Option<Cmp>
+        ensures { result ≡ comparison_of self }
+    {
+        match self {
+            Sign::Equal => Some(Cmp::Eq),
+            Sign::NotEqual => Some(Cmp::Ne),
+            Sign::Less => Some(Cmp::Lt),
+            Sign::LessOrEqual => Some(Cmp::Le),
+            Sign::Greater => Some(Cmp::Gt),
+            Sign::GreaterOrEqual => Some(Cmp::Ge),
+            _ => None,
+        }
     }
 }

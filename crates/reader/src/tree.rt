@@ -1,6 +1,8 @@
 //! A command as it is written, before its names mean anything. It borrows from the text's tokens.
 
-/// The name of a relation.
+use terms::cond::Cmp;
+
+/// A name without a qualifier: that of a relation, or of a column that an update sets or adds to.
 #[derive(Clone, Copy, Debug)]
 pub struct Named<'a> {
     pub name: &'a [u8],
@@ -45,19 +47,32 @@ pub enum Listed<'a> {
     Columns(Vec<Column<'a>>),
 }
 
-/// The column has the constant's value.
+/// The column's value compares so with the constant.
 #[derive(Clone, Copy, Debug)]
 pub struct Condition<'a> {
     pub column: Column<'a>,
+    pub comparison: Cmp,
     pub constant: Constant<'a>,
 }
 
-/// `SELECT .. FROM .. WHERE ..`
+/// `JOIN .. ON .. = ..`
+#[derive(Clone, Copy, Debug)]
+pub struct Join<'a> {
+    pub relation: Named<'a>,
+    /// The column before the `=`.
+    pub left: Column<'a>,
+    /// The column behind it.
+    pub right: Column<'a>,
+}
+
+/// `SELECT .. FROM .. [JOIN ..] [WHERE ..]`
 #[derive(Debug, Drop)]
 pub struct Select<'a> {
     pub listed: Listed<'a>,
     pub relation: Named<'a>,
-    pub condition: Condition<'a>,
+    pub join: Option<Join<'a>>,
+    /// None where there is no WHERE.
+    pub conditions: Vec<Condition<'a>>,
 }
 
 /// `INSERT INTO .. VALUES (..)`
@@ -70,9 +85,55 @@ pub struct Insert<'a> {
     pub close: usize,
 }
 
+/// What an update sets a column to.
+#[derive(Clone, Copy, Debug)]
+pub enum Assigned<'a> {
+    Constant(Constant<'a>),
+    /// The value of a column, with a number added or taken away.
+    Sum {
+        column: Named<'a>,
+        /// Whether the number is taken away.
+        is_negative: bool,
+        /// The number without its sign; `u64::MAX` stands for every larger one.
+        size: u64,
+        /// Where its digits stand.
+        digits: usize,
+    },
+}
+
+/// A column that an update sets, and what to.
+#[derive(Clone, Copy, Debug)]
+pub struct Assignment<'a> {
+    pub column: Named<'a>,
+    pub value: Assigned<'a>,
+}
+
+/// `UPDATE .. SET .. [WHERE ..]`
+#[derive(Debug, Drop)]
+pub struct Update<'a> {
+    pub relation: Named<'a>,
+    /// One at least.
+    pub sets: Vec<Assignment<'a>>,
+    /// None where there is no WHERE.
+    pub conditions: Vec<Condition<'a>>,
+}
+
+/// `DELETE FROM .. [WHERE ..]`
+#[derive(Debug, Drop)]
+pub struct Delete<'a> {
+    pub relation: Named<'a>,
+    /// None where there is no WHERE.
+    pub conditions: Vec<Condition<'a>>,
+}
+
 /// A command.
 #[derive(Debug, Drop)]
 pub enum Written<'a> {
     Select(Select<'a>),
     Insert(Insert<'a>),
+    Update(Update<'a>),
+    Delete(Delete<'a>),
+    Begin,
+    Commit,
+    Rollback,
 }

@@ -1,117 +1,240 @@
 use super::*;
-use crate::cursor::BEYOND;
-use crate::fault::Rule;
-use crate::token::Token;
+use crate::lexer::tokens;
+use crate::tree::Named;
+use std::str::from_utf8;
 use std::test::*;
 
-fn placed<'a>(token: Token<'a>, offset: usize) -> Placed<'a> {
-    Placed { token, offset }
+fn put_named(alloc: Global, line: &mut String, named: &Named<'_>) -> Result<(), Fail> {
+    let name = from_utf8(named.name)?;
+    line.push_str(&format!(in alloc; "{name}@{} ", named.offset)?)?;
+    Ok(())
 }
 
-/// `INSERT INTO emp VALUES (-7, 'ab')`, and a `;`.
-fn insert_tokens<'a>(text: String) -> [Placed<'a>; 11] {
-    [
-        placed(Token::Keyword(Keyword::Insert), 0),
-        placed(Token::Keyword(Keyword::Into), 7),
-        placed(Token::Name(b"emp"), 12),
-        placed(Token::Keyword(Keyword::Values), 16),
-        placed(Token::Sign(Sign::Open), 23),
-        placed(Token::Sign(Sign::Minus), 24),
-        placed(Token::Integer(7), 25),
-        placed(Token::Sign(Sign::Comma), 26),
-        placed(Token::Text(text), 28),
-        placed(Token::Sign(Sign::Close), 32),
-        placed(Token::Sign(Sign::Semicolon), 33),
-    ]
+fn put_column(alloc: Global, line: &mut String, column: &Column<'_>) -> Result<(), Fail> {
+    if let Some(relation) = column.relation {
+        line.push_str(from_utf8(relation)?)?;
+        line.push_str(".")?;
+    }
+    let name = from_utf8(column.name)?;
+    line.push_str(&format!(in alloc; "{name}@{} ", column.offset)?)?;
+    Ok(())
 }
 
-/// `SELECT emp.pay FROM emp WHERE id = 3`.
-fn select_tokens<'a>() -> [Placed<'a>; 10] {
-    [
-        placed(Token::Keyword(Keyword::Select), 0),
-        placed(Token::Name(b"emp"), 7),
-        placed(Token::Sign(Sign::Dot), 10),
-        placed(Token::Name(b"pay"), 11),
-        placed(Token::Keyword(Keyword::From), 15),
-        placed(Token::Name(b"emp"), 20),
-        placed(Token::Keyword(Keyword::Where), 24),
-        placed(Token::Name(b"id"), 30),
-        placed(Token::Sign(Sign::Equal), 33),
-        placed(Token::Integer(3), 35),
-    ]
+/// An integer with its offset and that of its digits.
+fn put_constant(alloc: Global, line: &mut String, constant: &Constant<'_>) -> Result<(), Fail> {
+    let shown = match constant {
+        Constant::Integer {
+            is_negative,
+            size,
+            offset,
+            digits,
+        } => {
+            let sign = if *is_negative { "-" } else { "" };
+            format!(in alloc; "{sign}{size}@{offset},{digits} ")?
+        }
+        Constant::Text { text, offset } => format!(in alloc; "'{text}'@{offset} ")?,
+    };
+    line.push_str(&shown)?;
+    Ok(())
 }
 
-#[test]
-fn an_insert_with_its_offsets(rt: HostRuntime) -> Result<(), Fail> {
-    let tokens = insert_tokens(String::from_str(rt.alloc(), "ab")?);
-    for len in [10, 11] {
-        let written = parse(rt.alloc(), &tokens[..len]).ok().ok_or("an insert")?;
-        let Written::Insert(insert) = written else {
-            return Err("another command".into());
-        };
-        assert_eq!(rt; insert.relation.name, b"emp".as_slice());
-        assert_eq!(rt; insert.relation.offset, 12);
-        assert_eq!(rt; insert.close, 32);
-        assert!(rt;
-            matches!(
-                insert.values.as_slice(),
-                [
-                    Constant::Integer {
-                        is_negative: true,
-                        size: 7,
-                        offset: 24,
-                        digits: 25
-                    },
-                    Constant::Text {
-                        text: "ab",
-                        offset: 28
-                    },
-                ]
-            )
-        );
+fn put_conditions(
+    alloc: Global,
+    line: &mut String,
+    conditions: &[Condition<'_>],
+) -> Result<(), Fail> {
+    for condition in conditions {
+        line.push_str("| ")?;
+        put_column(alloc, line, &condition.column)?;
+        line.push_str(&format!(in alloc; "{:?} ", condition.comparison)?)?;
+        put_constant(alloc, line, &condition.constant)?;
     }
     Ok(())
 }
 
+fn put_select(alloc: Global, line: &mut String, select: &Select<'_>) -> Result<(), Fail> {
+    line.push_str("Select ")?;
+    match &select.listed {
+        Listed::All { offset } => line.push_str(&format!(in alloc; "*@{offset} ")?)?,
+        Listed::Columns(columns) => {
+            for column in columns {
+                put_column(alloc, line, column)?;
+            }
+        }
+    }
+    line.push_str("from ")?;
+    put_named(alloc, line, &select.relation)?;
+    if let Some(join) = &select.join {
+        line.push_str("join ")?;
+        put_named(alloc, line, &join.relation)?;
+        put_column(alloc, line, &join.left)?;
+        put_column(alloc, line, &join.right)?;
+    }
+    put_conditions(alloc, line, &select.conditions)
+}
+
+fn put_insert(alloc: Global, line: &mut String, insert: &Insert<'_>) -> Result<(), Fail> {
+    line.push_str("Insert ")?;
+    put_named(alloc, line, &insert.relation)?;
+    for value in &insert.values {
+        put_constant(alloc, line, value)?;
+    }
+    line.push_str(&format!(in alloc; ")@{} ", insert.close)?)?;
+    Ok(())
+}
+
+fn put_update(alloc: Global, line: &mut String, update: &Update<'_>) -> Result<(), Fail> {
+    line.push_str("Update ")?;
+    put_named(alloc, line, &update.relation)?;
+    for set in &update.sets {
+        line.push_str("set ")?;
+        put_named(alloc, line, &set.column)?;
+        match &set.value {
+            Assigned::Constant(constant) => put_constant(alloc, line, constant)?,
+            Assigned::Sum {
+                column,
+                is_negative,
+                size,
+                digits,
+            } => {
+                put_named(alloc, line, column)?;
+                let sign = if *is_negative { "-" } else { "+" };
+                line.push_str(&format!(in alloc; "{sign} {size}@{digits} ")?)?;
+            }
+        }
+    }
+    put_conditions(alloc, line, &update.conditions)
+}
+
+/// The command with its offsets, or the fault, in a line.
+fn shown(alloc: Global, text: &str) -> Result<String, Fail> {
+    let tokens = tokens(alloc, text.as_bytes()).ok().ok_or("no tokens")?;
+    let mut line = String::new(alloc);
+    match parse(alloc, &tokens) {
+        Ok(Written::Select(select)) => put_select(alloc, &mut line, &select)?,
+        Ok(Written::Insert(insert)) => put_insert(alloc, &mut line, &insert)?,
+        Ok(Written::Update(update)) => put_update(alloc, &mut line, &update)?,
+        Ok(Written::Delete(delete)) => {
+            line.push_str("Delete ")?;
+            put_named(alloc, &mut line, &delete.relation)?;
+            put_conditions(alloc, &mut line, &delete.conditions)?;
+        }
+        Ok(Written::Begin) => line.push_str("Begin ")?,
+        Ok(Written::Commit) => line.push_str("Commit ")?,
+        Ok(Written::Rollback) => line.push_str("Rollback ")?,
+        Err(fault) => {
+            let fault = fault.within(text.len());
+            line.push_str(&format!(in alloc; "{:?} at {}", fault.rule(), fault.offset())?)?;
+        }
+    }
+    Ok(line)
+}
+
 #[test]
-fn a_select_with_its_offsets(rt: HostRuntime) -> Result<(), Fail> {
-    let tokens = select_tokens();
-    let written = parse(rt.alloc(), &tokens).ok().ok_or("a select")?;
-    let Written::Select(select) = written else {
-        return Err("another command".into());
-    };
-    assert_eq!(rt; select.relation.offset, 20);
-    assert_eq!(rt; select.condition.column.offset, 30);
-    let Listed::Columns(columns) = select.listed else {
-        return Err("all columns".into());
-    };
-    assert_eq!(rt; columns.len(), 1);
-    for column in &columns {
-        assert_eq!(rt; column.relation, Some(b"emp".as_slice()));
-        assert_eq!(rt; column.name, b"pay".as_slice());
-        assert_eq!(rt; column.offset, 7);
+fn commands_with_their_offsets(rt: HostRuntime) -> Result<(), Fail> {
+    let cases = [
+        ("select * from emp", "Select *@7 from emp@14 "),
+        (
+            "SELECT emp.pay, id FROM emp WHERE id = -3;",
+            "Select emp.pay@7 id@16 from emp@24 | id@34 Eq -3@39,40 ",
+        ),
+        (
+            "SELECT a FROM emp JOIN dept ON dept = dept.no WHERE b <> 1",
+            "Select a@7 from emp@14 join dept@23 dept@31 dept.no@38 | b@52 Ne 1@57,57 ",
+        ),
+        (
+            "DELETE FROM r WHERE a < 1 AND b <= 2 AND c > 3 AND d >= 'x'",
+            "Delete r@12 | a@20 Lt 1@24,24 | b@30 Le 2@35,35 | c@41 Gt 3@45,45 | d@51 Ge 'x'@56 ",
+        ),
+        ("delete from r;", "Delete r@12 "),
+        (
+            "INSERT INTO emp VALUES (-7, 'ab')",
+            "Insert emp@12 -7@24,25 'ab'@28 )@32 ",
+        ),
+        (
+            "UPDATE r SET a = 1, b = c - 20, d = d + 3 WHERE k = 'z'",
+            "Update r@7 set a@13 1@17,17 set b@20 c@24 - 20@28 set d@32 d@36 + 3@40 | k@48 Eq 'z'@52 ",
+        ),
+        ("UPDATE r SET a = -1;", "Update r@7 set a@13 -1@17,18 "),
+        ("BEGIN", "Begin "),
+        ("commit;", "Commit "),
+        ("Rollback ;", "Rollback "),
+    ];
+    for (text, want) in cases {
+        let line = shown(rt.alloc(), text)?;
+        assert_eq!(rt; line.as_str(), want, "at {text}");
     }
     Ok(())
 }
 
-/// A command that ends too early is refused beyond its tokens, another at the first token with which none goes on.
+/// A command that ends too early is refused at the text's length, another at the first token with which none goes on.
 #[test]
 fn refusals(rt: HostRuntime) -> Result<(), Fail> {
-    let tokens = insert_tokens(String::from_str(rt.alloc(), "ab")?);
-    let tokens = &tokens[..];
-    for len in 0..10 {
-        let fault = parse(rt.alloc(), &tokens[..len]).err().ok_or("too short")?;
-        assert_eq!(rt; fault, ReadFault::new(Rule::Syntax, BEYOND), "{len} tokens");
+    let cases = [
+        ("", "Syntax at 0"),
+        (";", "Syntax at 0"),
+        ("refragment", "Syntax at 0"),
+        ("begin commit", "Syntax at 6"),
+        ("begin;;", "Syntax at 6"),
+        ("select from r", "Syntax at 7"),
+        ("select a, from r", "Syntax at 10"),
+        ("select *, a from r", "Syntax at 8"),
+        ("select a.b.c from r", "Syntax at 10"),
+        ("select a ", "Syntax at 9"),
+        ("select a from r where", "Syntax at 21"),
+        ("select a from r join s", "Syntax at 22"),
+        ("select a from r join s on a < b", "Syntax at 28"),
+        ("select a from r join s on a = 1", "Syntax at 30"),
+        ("select a from r where b = c", "Syntax at 26"),
+        ("select a from r where b == 1", "Syntax at 25"),
+        ("select a from r where b = 1 and", "Syntax at 31"),
+        ("select a from r where b = 1, c = 2", "Syntax at 27"),
+        ("insert into r values ()", "Syntax at 22"),
+        ("insert into r values (1,)", "Syntax at 24"),
+        ("insert into r values (+1)", "Syntax at 22"),
+        ("insert into r values (-'a')", "Syntax at 23"),
+        ("update r where a = 1", "Syntax at 9"),
+        ("update r set a.b = 1", "Syntax at 14"),
+        ("update r set a = b", "Syntax at 18"),
+        ("update r set a = b * 2", "Syntax at 19"),
+        ("update r set a = b + -2", "Syntax at 21"),
+        ("update r set a = 1 + b", "Syntax at 19"),
+        ("update r set a = 1 and b = 2", "Syntax at 19"),
+        ("delete r", "Syntax at 7"),
+        ("delete from r where a = 1 ; ;", "Syntax at 28"),
+    ];
+    for (text, want) in cases {
+        let line = shown(rt.alloc(), text)?;
+        assert_eq!(rt; line.as_str(), want, "at {text}");
     }
-    for (from, offset) in [(1, 7), (2, 12), (9, 32)] {
-        let fault = parse(rt.alloc(), &tokens[from..])
-            .err()
-            .ok_or("no beginning")?;
-        assert_eq!(rt;
-            fault,
-            ReadFault::new(Rule::Syntax, offset),
-            "from token {from}"
-        );
+    Ok(())
+}
+
+#[test]
+fn conditions_alone_with_their_offsets(rt: HostRuntime) -> Result<(), Fail> {
+    let cases = [
+        ("zone < 10", "| zone@0 Lt 10@7,7 "),
+        (
+            "zone >= 10 and r.label = 'a'",
+            "| zone@0 Ge 10@8,8 | r.label@15 Eq 'a'@25 ",
+        ),
+        ("", "Syntax at 0"),
+        ("zone < 10;", "Syntax at 9"),
+        ("where zone < 10", "Syntax at 0"),
+        ("zone < 10 and ", "Syntax at 14"),
+        ("zone 10", "Syntax at 5"),
+    ];
+    for (text, want) in cases {
+        let tokens = tokens(rt.alloc(), text.as_bytes()).ok().ok_or("no tokens")?;
+        let mut line = String::new(rt.alloc());
+        match parse_conditions(rt.alloc(), &tokens) {
+            Ok(conditions) => put_conditions(rt.alloc(), &mut line, &conditions)?,
+            Err(fault) => {
+                let fault = fault.within(text.len());
+                line.push_str(&format!(in rt.alloc(); "{:?} at {}", fault.rule(), fault.offset())?)?
+            }
+        }
+        assert_eq!(rt; line.as_str(), want, "at {text}");
     }
     Ok(())
 }

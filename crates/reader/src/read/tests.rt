@@ -1,153 +1,142 @@
-//! What no clause says: which rule refuses and where, and that calls succeed with ample memory. With any one
-//! allocation refused the tests pass too.
-
-use crate::command::Command;
-use crate::fault::{ReadFault, Rule};
-use crate::print::print_answer;
-use crate::read::read;
-use meaning::answer::Answer;
-use meaning::schema::{Column, RelationSchema, Schema};
-use meaning::statement::Statement;
-use std::alloc::Global;
-use std::test::Fail;
-use terms::copy::TryCopy;
-use terms::memory::Memory;
-use terms::row::Row;
+use super::*;
+use meaning::schema::{Column, RelationSchema};
+use meaning::statement::{Assigned, Select, Statement};
+use std::test::*;
 use terms::seq::Seq;
 use terms::text::Text;
-use terms::value::{Kind, Value};
+use terms::value::Kind;
 
-fn text(alloc: Global, characters: &str) -> Result<Text, Memory> {
-    Ok(Text::new(String::from_str(alloc, characters)?))
+fn text(alloc: Global, text: &str) -> Result<Text, Fail> {
+    Ok(Text::new(String::from_str(alloc, text)?))
 }
 
-/// The relation item(id int, zone int, label text).
-fn schema(alloc: Global) -> Result<Schema, Memory> {
+fn relation(alloc: Global, name: &str, named: &[(&str, Kind)]) -> Result<RelationSchema, Fail> {
     let mut columns = Vec::new(alloc);
-    for (name, kind) in [
+    for (name, kind) in named {
+        columns.push(Column {
+            name: text(alloc, name)?,
+            kind: *kind,
+        })?;
+    }
+    Ok(RelationSchema {
+        name: text(alloc, name)?,
+        columns: Seq::new(columns),
+    })
+}
+
+fn schema(alloc: Global) -> Result<Schema, Fail> {
+    let emp = [
+        ("id", Kind::Int),
+        ("name", Kind::Text),
+        ("dept", Kind::Int),
+        ("pay", Kind::Int),
+    ];
+    let mut relations = Vec::new(alloc);
+    relations.push(relation(alloc, "emp", &emp)?)?;
+    relations.push(relation(alloc, "dept", &[("no", Kind::Int), ("title", Kind::Text)])?)?;
+    let item = [
         ("id", Kind::Int),
         ("zone", Kind::Int),
         ("label", Kind::Text),
-    ] {
-        columns.push(Column {
-            name: text(alloc, name)?,
-            kind,
-        })?;
-    }
-    let mut relations = Vec::new(alloc);
-    relations.push(RelationSchema {
-        name: text(alloc, "item")?,
-        columns: Seq::new(columns),
-    })?;
+    ];
+    relations.push(relation(alloc, "item", &item)?)?;
+    relations.push(relation(alloc, "a", &[("id", Kind::Int), ("x", Kind::Int)])?)?;
+    relations.push(relation(alloc, "b", &[("id", Kind::Int), ("y", Kind::Text)])?)?;
     Ok(Schema {
         relations: Seq::new(relations),
     })
 }
 
-fn read_once(alloc: Global, text: &str) -> Result<Command, ReadFault> {
-    let schema = schema(alloc)?;
-    Ok(read(alloc, text, &schema)?.copy()?)
+/// The places of a select: those listed, those of its conditions, and that of its join.
+fn places(alloc: Global, select: &Select) -> Result<String, Fail> {
+    let mut line = format!(in alloc; "select {:?}", select.columns.as_slice())?;
+    for cond in select.conds.as_slice() {
+        line.push_str(&format!(in alloc; " {} {:?}", cond.col, cond.cmp)?)?;
+    }
+    if let Some(join) = &select.join {
+        line.push_str(&format!(in alloc; " by {}", join.col)?)?;
+    }
+    Ok(line)
 }
 
-#[test]
-fn refuses_by_rule_and_place(rt: HostRuntime) {
-    let cases = [
-        ("", Rule::Syntax, 0),
-        ("SELECT", Rule::Syntax, 6),
-        ("SELECT nam FROM item WHERE id = 1", Rule::NoColumn, 7),
-        (
-            "SELECT id, itm.id FROM item WHERE id = 1",
-            Rule::NoColumn,
-            11,
-        ),
-        ("SELECT id FROM itm WHERE nam = 1", Rule::NoRelation, 15),
-        ("SELECT id FROM item WHERE label = 5", Rule::WrongType, 34),
-        ("SELECT id FROM item WHERE id = -'a'", Rule::Syntax, 32),
-        ("INSERT INTO item VALUES (1, 2)", Rule::Count, 29),
-        ("INSERT INTO item VALUES ('a', 2)", Rule::Count, 31),
-        (
-            "INSERT INTO item VALUES (-9223372036854775809, 2, 'a')",
-            Rule::Limit,
-            26,
-        ),
-        (
-            "INSERT INTO item VALUES (1, 9223372036854775808, 3)",
-            Rule::Limit,
-            28,
-        ),
-        ("SELECT id FROM item WHERE label = 'a", Rule::Character, 34),
-        ("SELECT id FROM item WHERE id = 1;;", Rule::Syntax, 33),
-        ("DELETE FROM item", Rule::Syntax, 0),
-    ];
-    for (text, rule, offset) in cases {
-        match read_once(rt.alloc(), text) {
-            Err(fault) if fault.rule() == Rule::Memory => assert_eq!(rt; fault.offset(), 0),
-            Err(fault) => assert_eq!(rt;
-                (fault.rule(), fault.offset()),
-                (rule, offset),
-                "at {text}"
-            ),
-            Ok(_) => assert!(rt; false, "at {text}"),
+/// What a text is read as, in a line.
+fn shown(alloc: Global, schema: &Schema, text: &str) -> Result<String, Fail> {
+    let command = match read(alloc, text, schema) {
+        Ok(command) => command,
+        Err(fault) => return Ok(format!(in alloc; "{:?} at {}", fault.rule(), fault.offset())?),
+    };
+    match &command {
+        Command::Run(Statement::Select(select)) => places(alloc, select),
+        Command::Run(Statement::Insert(insert)) => {
+            Ok(format!(in alloc; "insert {}", insert.row.values().len())?)
         }
-    }
-}
-
-#[test]
-fn reads_each_form(rt: HostRuntime) {
-    let cases = [
-        (
-            "INSERT INTO item VALUES (9223372036854775807, -9223372036854775808, 'it''s')",
-            0,
-        ),
-        ("insert\tinto item values(007,1,'');", 0),
-        ("SELECT * FROM item WHERE id = 1", 3),
-        (
-            "Select item.label ,id From item Where item.label = 'a' ;",
-            2,
-        ),
-    ];
-    for (text, listed) in cases {
-        match read_once(rt.alloc(), text) {
-            Ok(Command::Run(Statement::Select(select))) => assert_eq!(rt;
-                select.columns.as_slice().len(),
-                listed
-            ),
-            Ok(Command::Run(Statement::Insert(insert))) => assert_eq!(rt;
-                insert.row.values().len(),
-                3
-            ),
-            Err(fault) => assert_eq!(rt; fault.rule(), Rule::Memory, "at {text}"),
+        Command::Run(Statement::Update(update)) => {
+            let mut line = String::from_str(alloc, "update")?;
+            for set in update.sets.as_slice() {
+                if let Assigned::Sum { col, number } = &set.value {
+                    line.push_str(&format!(in alloc; " {} {col} {number}", set.col)?)?;
+                }
+            }
+            Ok(line)
         }
+        Command::Run(Statement::Delete(delete)) => {
+            Ok(format!(in alloc; "delete {}", delete.conds.as_slice().len())?)
+        }
+        Command::Begin => Ok(String::from_str(alloc, "begin")?),
+        Command::Commit => Ok(String::from_str(alloc, "commit")?),
+        Command::Rollback => Ok(String::from_str(alloc, "rollback")?),
     }
-}
-
-fn printed(alloc: Global) -> Result<String, Memory> {
-    let mut header = Vec::new(alloc);
-    for name in ["id", "label"] {
-        header.push(text(alloc, name)?)?;
-    }
-    let mut rows = Vec::new(alloc);
-    for (id, label) in [(-7, "a b"), (12, "")] {
-        let mut values = Vec::new(alloc);
-        values.push(Value::Int(id))?;
-        values.push(Value::Text(text(alloc, label)?))?;
-        rows.push(Row::new(values))?;
-    }
-    let mut told = print_answer(alloc, &Answer::Rows(Seq::new(header), Seq::new(rows)))?;
-    for answer in [Answer::Changed(2), Answer::Exists, Answer::Overflow] {
-        told.push('/')?;
-        told.push_str(print_answer(alloc, &answer)?.as_str())?;
-    }
-    Ok(told)
 }
 
 #[test]
-fn prints_answers(rt: HostRuntime) {
-    match printed(rt.alloc()) {
-        Ok(told) => assert_eq!(rt;
-            told.as_str(),
-            "id\tlabel\n-7\ta b\n12\t\n2 rows/changed 2/exists/overflow"
+fn commands_of_texts(rt: HostRuntime) -> Result<(), Fail> {
+    let schema = schema(rt.alloc())?;
+    let cases = [
+        ("SELECT nam FROM emp", "NoColumn at 7"),
+        ("SELECT id FROM emp WHERE", "Syntax at 24"),
+        ("SELECT id FROM emp WHERE name < 5", "WrongType at 32"),
+        ("UPDATE emp SET id = 2", "KeyColumn at 15"),
+        (
+            "SELECT dept.no FROM dept JOIN emp ON emp.dept = dept.no",
+            "JoinNotKey at 37",
         ),
-        Err(memory) => assert!(rt; memory == Memory),
+        ("INSERT INTO item VALUES (1, 2)", "Count at 29"),
+        ("SELECT id FROM item WHERE label = 'a", "Character at 34"),
+        (
+            "UPDATE item SET zone = zone + 9223372036854775808",
+            "Limit at 30",
+        ),
+        ("SELECT id FROM a JOIN b ON a.x = b.id", "Ambiguous at 7"),
+        (
+            "SELECT * FROM emp JOIN dept ON no = dept WHERE dept >= 5 AND title <> 'x'",
+            "select [0, 1, 2, 3, 4, 5] 2 Ge 5 Ne by 2",
+        ),
+        (
+            "UPDATE emp SET pay = dept - 9223372036854775807;",
+            "update 3 2 -9223372036854775807",
+        ),
+        (
+            "INSERT INTO dept VALUES (-9223372036854775808, '')",
+            "insert 2",
+        ),
+        ("DELETE FROM item", "delete 0"),
+        ("Begin", "begin"),
+    ];
+    for (text, want) in cases {
+        let line = shown(rt.alloc(), &schema, text)?;
+        assert_eq!(rt; line.as_str(), want, "at {text}");
     }
+    Ok(())
+}
+
+#[test]
+fn long_text(rt: HostRuntime) -> Result<(), Fail> {
+    let schema = schema(rt.alloc())?;
+    let mut text = String::new(rt.alloc());
+    for _ in 0..4097 {
+        text.push_str(" ")?;
+    }
+    let line = shown(rt.alloc(), &schema, &text)?;
+    assert_eq!(rt; line.as_str(), "TooLong at 4096");
+    Ok(())
 }

@@ -1,7 +1,6 @@
 use Rattle.std.proofs.Common.{refl}
 use Rattle.std.proofs.lemmas.Result.{err_from_is_err_and}
-use Rattle.reader.specs.declared.command.Command.TheVariants.{Run}
-use Rattle.reader.specs.Names.{statement_of}
+use Rattle.reader.specs.Names.{command_of}
 use Rattle.reader.specs.Symbol.{symbols_of}
 use Rattle.reader.specs.Tokens.{AreTokens}
 use Rattle.reader.specs.Tree as tree
@@ -15,12 +14,12 @@ returns-in_err-written-clause-none c =
     let spelled : AreTokens c.args.text.now (symbols_of c.as_slice.result.now) = rw c.as_slice.ensures.value c.in_ok-tokens.ensures.found in
     rw (p.1, p.2) (λ rule. no_grammar c.args.schema.now.relations c.args.text.now (symbols_of c.as_slice.result.now) spelled (c.in_err-written.ensures.none rule))
 
-pub returns-in_err-statement-clause-none : goal.returns-in_err-statement-clause-none
-returns-in_err-statement-clause-none c =
-    let p = err_from_is_err_and c.from_residual-in_err-statement.result c.from_residual-in_err-statement.ensures.1 in
+pub returns-in_err-command-clause-none : goal.returns-in_err-command-clause-none
+returns-in_err-command-clause-none c =
+    let p = err_from_is_err_and c.from_residual-in_err-command.result c.from_residual-in_err-command.ensures.1 in
     let spelled : AreTokens c.args.text.now (symbols_of c.as_slice.result.now) = rw c.as_slice.ensures.value c.in_ok-tokens.ensures.found in
     rw (p.1, p.2) (λ rule. no_names c.args.schema.now.relations c.args.text.now (symbols_of c.as_slice.result.now) (tree.written_of c.in_ok-written.written) spelled c.in_ok-written.ensures.found
-    (none_by_rule c.in_err-statement.field-0.0.rule (statement_of c.args.schema.now.relations (tree.written_of c.in_ok-written.written)) rule c.in_err-statement.ensures))
+    (none_by_rule c.in_err-command.field-0.0.rule (command_of c.args.schema.now.relations (tree.written_of c.in_ok-written.written)) rule c.in_err-command.ensures))
 
 pub returns-clause-found : goal.returns-clause-found
 returns-clause-found c =
@@ -31,5 +30,5 @@ returns-clause-found c =
       short = c.if-text-gt-TEXT_BYTES.false;
       spelled = spelled;
       grammatical = c.in_ok-written.ensures.found;
-      meant = rw c.in_ok-statement.ensures refl;
+      meant = rw c.in_ok-command.ensures refl;
     }

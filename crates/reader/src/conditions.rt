@@ -1,0 +1,111 @@
+//! Conditions and lists of columns, over a scope.
+
+ghost use Rattle.std.specs.Prelude.{◌≡◌, Some, None, length, map, nat_le, if◌then◌else◌};
+ghost use Rattle.std.specs.List.{range_with_len};
+ghost use Rattle.reader.specs.Names.{all_of, place_in, places_of, cond_on, conds_of};
+ghost use Rattle.reader.specs.Resolving.{Resolves};
+ghost use Rattle.reader.specs.Scope.{scope_of, types_in};
+ghost use Rattle.reader.specs.Tree.{column_of, condition_of, listed_of};
+
+use crate::constants::compared;
+use crate::fault::{ReadFault, Rule};
+use crate::scope::{Found, Scope, find};
+use crate::tree::{Column, Condition, Listed};
+use std::alloc::Global;
+use terms::cond::Cond;
+
+/// The most columns that a SELECT lists.
+pub const LIST_LIMIT: usize = 32;
+
+/// The most conditions that a statement has.
+pub const COND_LIMIT: usize = 8;
+
+/// The places of the listed columns.
+pub fn places(
+    alloc: Global,
+    scope: &Scope<'_>,
+    listed: &Listed<'_>,
+) -> Result<Vec<usize>, ReadFault>
+    ensures { Resolves (λ places. places.items) result (places_of (scope_of scope.now) (listed_of listed.now)) }
+{
+    match listed {
+        Listed::All { offset } => {
+            let count = column_count(scope);
+            if count > LIST_LIMIT {
+                return Err(ReadFault::new(Rule::Limit, *offset));
+            }
+            every_place(alloc, count)
+        }
+        Listed::Columns(columns) => listed_places(alloc, scope, columns.as_slice()),
+    }
+}
+
+/// The number of all columns of a scope.
+fn column_count(scope: &Scope<'_>) -> usize
+    ensures { result ≡ length (types_in (scope_of scope.now)) }
+{
+    let first = scope.first.columns.len();
+    match &scope.joined {
+        Some(table) => first + table.columns.len(),
+        None => first,
+    }
+}
+
+fn every_place(alloc: Global, count: usize) -> Result<Vec<usize>, ReadFault>
+    ensures { Resolves (λ places. places.items) result (Some (range_with_len 0 count)) }
+{
+    let mut places = Vec::new(alloc);
+    for place in 0..count {
+        places.push(place)?;
+    }
+    Ok(places)
+}
+
+fn listed_places(
+    alloc: Global,
+    scope: &Scope<'_>,
+    columns: &[Column<'_>],
+) -> Result<Vec<usize>, ReadFault>
+    ensures { Resolves (λ places. places.items) result (if nat_le (length columns.now) 32 then all_of (place_in (scope_of scope.now)) (map column_of columns.now) else None) }
+{
+    let mut places = Vec::new(alloc);
+    for column in columns {
+        let found = find(scope, column)?;
+        if places.len() == LIST_LIMIT {
+            return Err(ReadFault::new(Rule::Limit, column.offset));
+        }
+        places.push(found.place)?;
+    }
+    Ok(places)
+}
+
+/// The conditions, each on its column.
+pub fn conds(
+    alloc: Global,
+    scope: &Scope<'_>,
+    conditions: &[Condition<'_>],
+) -> Result<Vec<Cond>, ReadFault>
+    ensures { Resolves (λ conds. conds.items) result (conds_of (scope_of scope.now) (map condition_of conditions.now)) }
+{
+    let mut conds = Vec::new(alloc);
+    for condition in conditions {
+        let found = find(scope, &condition.column)?;
+        if conds.len() == COND_LIMIT {
+            return Err(ReadFault::new(Rule::Limit, condition.column.offset));
+        }
+        conds.push(cond(alloc, found, condition)?)?;
+    }
+    Ok(conds)
+}
+
+/// A condition on a column that was found.
+fn cond(alloc: Global, found: Found, condition: &Condition<'_>) -> Result<Cond, ReadFault>
+    ensures { Resolves (λ c. c) result (cond_on found (condition_of condition.now)) }
+{
+    let value = compared(alloc, found.kind, &condition.constant)?;
+    Ok(Cond {
+        col: found.place,
+        cmp: condition.comparison,
+        value,
+    })
+}

@@ -1,0 +1,60 @@
+//! Conditions alone, read from their texts.
+
+ghost use Rattle.std.specs.Prelude.{◌≡◌, ◌≢◌, ◌≤◌, List, length, IfOk, IfErr};
+ghost use Rattle.std.specs.List.{AllByRecursion};
+ghost use Rattle.terms.specs.declared.cond.Cond.{Cond};
+ghost use Rattle.terms.specs.Cond.{IsCondOf};
+ghost use Rattle.reader.specs.declared.fault.Rule.TheVariants as rules;
+ghost use Rattle.reader.specs.Conds.{AreCondsOf, OneListOfCondsOfText};
+ghost use Rattle.reader.specs.Scope.{types};
+
+use crate::conditions::conds;
+use crate::fault::{ReadFault, Rule};
+use crate::lexer::tokens;
+use crate::parser::parse_conditions;
+use crate::read::TEXT_BYTES;
+use crate::scope::of_columns;
+use meaning::schema::Column;
+use std::alloc::Global;
+use terms::cond::Conds;
+
+/// The conditions of a text on these columns, which go by plain names: a qualified one is none of them.
+///
+/// A refused text is refused by one of the rules, in the passes of `read`.
+pub fn read_conds(alloc: Global, text: &str, columns: &[Column]) -> Result<Conds, ReadFault>
+    // An accepted text is one of the conditions, and they fit the columns.
+    ensures found { IfOk result (λ conds. AreCondsOf columns.now text.now conds) }
+    ensures fits { IfOk result (λ conds. AllByRecursion (IsCondOf (types columns.now)) conds) }
+    ensures few { IfOk result (λ conds. length conds ≤ 8) }
+    // A text that is refused by a rule is one of no conditions.
+    ensures none { IfErr result (λ fault. fault.rule ≢ rules.Memory
+        → (conds : List Cond) → ¬ (AreCondsOf columns.now text.now conds)) }
+    ensures within { IfErr result (λ fault. fault.offset ≤ length text.now) }
+{
+    match read_bytes(alloc, text.as_bytes(), columns) {
+        Ok(conds) => Ok(conds),
+        Err(fault) => Err(fault.within(text.len())),
+    }
+}
+
+/// A text is one of one list of conditions at most.
+pub fn one_list_of_conds()
+    ensures { OneListOfCondsOfText }
+{}
+
+fn read_bytes(alloc: Global, text: &[u8], columns: &[Column]) -> Result<Conds, ReadFault>
+    ensures found { IfOk result (λ conds. AreCondsOf columns.now text.now conds) }
+    ensures none { IfErr result (λ fault. fault.rule ≢ rules.Memory
+        → (conds : List Cond) → ¬ (AreCondsOf columns.now text.now conds)) }
+{
+    if text.len() > TEXT_BYTES {
+        return Err(ReadFault::new(Rule::TooLong, TEXT_BYTES));
+    }
+    let tokens = tokens(alloc, text)?;
+    let written = parse_conditions(alloc, tokens.as_slice())?;
+    let conds = conds(alloc, &of_columns(columns), written.as_slice())?;
+    Ok(Conds::new(conds))
+}
+
+#[cfg(test)]
+mod tests;
