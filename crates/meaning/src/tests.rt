@@ -1,4 +1,5 @@
-//! What no clause says: that calls succeed with ample memory, and what statements mean in examples.
+//! What no clause says: that calls succeed with ample memory, and what statements mean in examples. Each is asked
+//! for again where memory ran out, so that the tests pass with any one allocation refused.
 
 use crate::answer::Answer;
 use crate::relation::Relation;
@@ -210,11 +211,10 @@ fn deletes(alloc: Global) -> Result<String, Memory> {
     told(alloc, &mut whole, statements.as_slice())
 }
 
-/// Where an allocation is refused, a run says so and nothing else.
 fn is_told(found: Result<String, Memory>, wanted: &str) -> bool {
     match found {
         Ok(told) => told.as_str() == wanted,
-        Err(_) => true,
+        Err(_) => false,
     }
 }
 
@@ -222,7 +222,7 @@ fn is_told(found: Result<String, Memory>, wanted: &str) -> bool {
 fn inserts_then_selects(rt: HostRuntime) -> Result<(), Fail> {
     assert!(rt;
         is_told(
-            inserts(rt.alloc()),
+            inserts(rt.alloc()).or_else(|_| inserts(rt.alloc())),
             "changed 1;exists;label b e;label a;label;"
         )
     );
@@ -231,7 +231,12 @@ fn inserts_then_selects(rt: HostRuntime) -> Result<(), Fail> {
 
 #[test]
 fn a_row_without_partner_is_dropped(rt: HostRuntime) -> Result<(), Fail> {
-    assert!(rt; is_told(joins(rt.alloc()), "changed 1;item.labelzone.label b north;"));
+    assert!(rt;
+        is_told(
+            joins(rt.alloc()).or_else(|_| joins(rt.alloc())),
+            "changed 1;item.labelzone.label b north;"
+        )
+    );
     Ok(())
 }
 
@@ -239,7 +244,7 @@ fn a_row_without_partner_is_dropped(rt: HostRuntime) -> Result<(), Fail> {
 fn updates_read_the_row_before(rt: HostRuntime) -> Result<(), Fail> {
     assert!(rt;
         is_told(
-            updates(rt.alloc()),
+            updates(rt.alloc()).or_else(|_| updates(rt.alloc())),
             "changed 1;label b;label b;overflow;label a;changed 2;label b;"
         )
     );
@@ -248,7 +253,12 @@ fn updates_read_the_row_before(rt: HostRuntime) -> Result<(), Fail> {
 
 #[test]
 fn deletes_leave_the_other_rows(rt: HostRuntime) -> Result<(), Fail> {
-    assert!(rt; is_told(deletes(rt.alloc()), "changed 1;changed 0;label;label b;"));
+    assert!(rt;
+        is_told(
+            deletes(rt.alloc()).or_else(|_| deletes(rt.alloc())),
+            "changed 1;changed 0;label;label b;"
+        )
+    );
     Ok(())
 }
 
