@@ -34,12 +34,12 @@ fn placed(alloc: Global, zone: i64) -> Result<Option<Vec<i64>>, Memory> {
 #[test]
 fn a_row_is_in_its_leaf(rt: HostRuntime) -> Result<(), Fail> {
     for (zone, part) in [(9, Some([7, 30])), (10, None)] {
-        match placed(rt.alloc(), zone) {
+        match placed(rt.alloc(), zone).or_else(|_| placed(rt.alloc(), zone)) {
             Ok(found) => assert_eq!(rt;
                 found.as_ref().map(|numbers| numbers.as_slice()),
                 part.as_ref().map(|numbers| numbers.as_slice())
             ),
-            Err(memory) => assert!(rt; memory == Memory),
+            Err(_) => assert!(rt; false, "memory ran out twice"),
         }
     }
     Ok(())
