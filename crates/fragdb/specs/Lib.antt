@@ -3,6 +3,7 @@ pub mod Merge
 pub mod Gather
 pub mod Small
 pub mod Line
+pub mod Transaction
 pub mod Script
 pub mod Solo
 pub mod Usage

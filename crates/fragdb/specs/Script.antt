@@ -1,7 +1,8 @@
 -- What a script says, line by line.
-use Rattle.std.specs.Prelude.{ℕ, ◌+◌, ◌==◌, ◌||◌, ◌&&◌, Bool, true, false, not, if◌then◌else◌, List, [], ◌∷◌, length, drop, codes, flat_map, nat_eq, Option, Some, None}
+use Rattle.std.specs.Prelude.{ℕ, ◌+◌, ◌==◌, ◌&&◌, Bool, true, false, not, if◌then◌else◌, List, [], ◌∷◌, length, drop, codes, flat_map, nat_eq, Option, Some, None}
 use Rattle.std.specs.List.{list_any, slice_split, starts_with}
 use Rattle.std.specs.Str.{is_utf8}
+use Rattle.fragdb.specs.Transaction.{is_blank, is_transaction}
 use Rattle.fragdb.specs.declared.script.Item.{Item}
 use Rattle.fragdb.specs.declared.script.Item.TheVariants.{Statement, Show, Leaf}
 use Rattle.fragdb.specs.declared.script.Line.{Line}
@@ -18,10 +19,6 @@ pub data Reading : Type 0 where
 -- a line ends at its line feed, which is no part of it; what follows the last line feed is a line too
 abbrev pub lines_of : List ℕ → List (List ℕ)
 lines_of script = slice_split (λ byte. byte == 10) script
-
--- a space, a tab, a line feed or a carriage return
-abbrev pub is_blank : ℕ → Bool
-is_blank byte = byte == 32 || byte == 9 || byte == 10 || byte == 13
 
 -- one or more bytes, none of them a blank
 abbrev pub is_word : List ℕ → Bool
@@ -43,11 +40,15 @@ reading_of_command line =
     reading_of_argument (argument_of line (codes ".show ")) ShowsRelation
     (reading_of_argument (argument_of line (codes ".leaf ")) ShowsLeaf Unreadable)
 
+-- a line of a statement; while there are no transactions of several statements, none can begin or end
+abbrev pub reading_of_statement : List ℕ → Reading
+reading_of_statement line = if is_transaction line then Unreadable else Runs line
+
 -- a line of text: an empty one and a comment (35 is '#') say nothing, and 46 is the dot of a command
 abbrev pub reading_of_text : List ℕ → Reading
 reading_of_text [] = Nothing
 reading_of_text (byte ∷ bytes) =
-    if byte == 35 then Nothing else (if byte == 46 then reading_of_command (byte ∷ bytes) else Runs (byte ∷ bytes))
+    if byte == 35 then Nothing else (if byte == 46 then reading_of_command (byte ∷ bytes) else reading_of_statement (byte ∷ bytes))
 
 -- a line of any bytes
 abbrev pub reading_of : List ℕ → Reading

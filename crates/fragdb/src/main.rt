@@ -15,6 +15,7 @@ mod small;
 mod solo;
 #[cfg(test)]
 mod tests;
+mod transaction;
 mod usage;
 
 use crate::fault::{ProgramFault, report};

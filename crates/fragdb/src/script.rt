@@ -2,9 +2,10 @@
 
 ghost use Rattle.std.specs.Prelude.{◌≡◌, ℕ, Some, None, map, IfOk, OnOk, option_map};
 ghost use Rattle.fragdb.specs.Script as spec;
-ghost use Rattle.fragdb.specs.Script.{argument_of, first_unreadable, lines_of, reading_of, reading_of_command, reading_of_line, task_of, tasks_of_lines};
+ghost use Rattle.fragdb.specs.Script.{argument_of, first_unreadable, lines_of, reading_of, reading_of_command, reading_of_line, reading_of_statement, task_of, tasks_of_lines};
 ghost use Rattle.fragdb.specs.declared.script.ScriptFault.TheVariants.{Memory};
 
+use crate::transaction::is_transaction;
 use std::alloc::{AllocFailed, Global};
 
 /// One thing that a script asks for.
@@ -69,7 +70,18 @@ fn read_line(line: &[u8]) -> Line<'_>
     match line.first() {
         None | Some(b'#') => Line::PassedOver,
         Some(b'.') => read_command(text),
-        Some(_) => Line::Asks(Item::Statement(text)),
+        Some(_) => read_statement(text),
+    }
+}
+
+/// A line that is a statement, if it does not begin or end a transaction of several.
+fn read_statement(line: &str) -> Line<'_>
+    ensures { reading_of_line result ≡ reading_of_statement line.now }
+{
+    if is_transaction(line.as_bytes()) {
+        Line::Malformed
+    } else {
+        Line::Asks(Item::Statement(line))
     }
 }
 
@@ -103,3 +115,6 @@ fn is_word(text: &str) -> bool
             .bytes()
             .any(|byte| matches!(byte, b' ' | b'\t' | b'\n' | b'\r'))
 }
+
+#[cfg(test)]
+mod tests;

@@ -281,13 +281,12 @@ fn copied_schema(alloc: Global) -> Result<Schema, Memory> {
 
 #[test]
 fn relations_by_name(rt: HostRuntime) -> Result<(), Fail> {
-    match copied_schema(rt.alloc()) {
-        Ok(schema) => {
-            assert!(rt; schema.relation(b"item").is_some());
-            assert!(rt; schema.relation(b"ite").is_none());
-        }
-        Err(memory) => assert!(rt; memory == Memory),
-    }
+    let Ok(schema) = copied_schema(rt.alloc()).or_else(|_| copied_schema(rt.alloc())) else {
+        assert!(rt; false, "no memory, asked twice");
+        return Ok(());
+    };
+    assert!(rt; schema.relation(b"item").is_some());
+    assert!(rt; schema.relation(b"ite").is_none());
     Ok(())
 }
 
@@ -304,9 +303,7 @@ fn kept_relation(alloc: Global) -> Result<(bool, usize), Memory> {
 
 #[test]
 fn relations_keep_their_rows(rt: HostRuntime) -> Result<(), Fail> {
-    match kept_relation(rt.alloc()) {
-        Ok(kept) => assert_eq!(rt; kept, (false, 1)),
-        Err(memory) => assert!(rt; memory == Memory),
-    }
+    let kept = kept_relation(rt.alloc()).or_else(|_| kept_relation(rt.alloc()));
+    assert_eq!(rt; kept, Ok((false, 1)));
     Ok(())
 }

@@ -1,5 +1,5 @@
-//! What no clause says: which rule refuses and where, and that calls succeed with ample memory. With any one
-//! allocation refused the tests pass too.
+//! What no clause says: which rule refuses and where, and that calls succeed with ample memory. Each asks
+//! again where memory ran out, so with any one allocation refused the tests pass too.
 
 use crate::command::Command;
 use crate::fault::{ReadFault, Rule};
@@ -49,6 +49,14 @@ fn read_once(alloc: Global, text: &str) -> Result<Command, ReadFault> {
     Ok(read(alloc, text, &schema)?.copy()?)
 }
 
+/// What a text is read as, asked again where memory ran out, which it does once at most.
+fn read_at_last(alloc: Global, text: &str) -> Result<Command, ReadFault> {
+    match read_once(alloc, text) {
+        Err(fault) if fault.rule() == Rule::Memory => read_once(alloc, text),
+        answer => answer,
+    }
+}
+
 #[test]
 fn refuses_by_rule_and_place(rt: HostRuntime) {
     let cases = [
@@ -88,8 +96,7 @@ fn refuses_by_rule_and_place(rt: HostRuntime) {
         ("DELETE FROM itm", Rule::NoRelation, 12),
     ];
     for (text, rule, offset) in cases {
-        match read_once(rt.alloc(), text) {
-            Err(fault) if fault.rule() == Rule::Memory => assert_eq!(rt; fault.offset(), 0),
+        match read_at_last(rt.alloc(), text) {
             Err(fault) => assert_eq!(rt;
                 (fault.rule(), fault.offset()),
                 (rule, offset),
@@ -126,7 +133,7 @@ fn reads_each_form(rt: HostRuntime) {
         ("ROLLBACK", 0),
     ];
     for (text, listed) in cases {
-        match read_once(rt.alloc(), text) {
+        match read_at_last(rt.alloc(), text) {
             Ok(Command::Run(Statement::Select(select))) => assert_eq!(rt;
                 select.columns.as_slice().len(),
                 listed
@@ -144,7 +151,7 @@ fn reads_each_form(rt: HostRuntime) {
                 listed
             ),
             Ok(Command::Begin | Command::Commit | Command::Rollback) => assert_eq!(rt; listed, 0),
-            Err(fault) => assert_eq!(rt; fault.rule(), Rule::Memory, "at {text}"),
+            Err(_) => assert!(rt; false, "at {text}"),
         }
     }
 }
@@ -171,11 +178,7 @@ fn printed(alloc: Global) -> Result<String, Memory> {
 
 #[test]
 fn prints_answers(rt: HostRuntime) {
-    match printed(rt.alloc()) {
-        Ok(told) => assert_eq!(rt;
-            told.as_str(),
-            "id\tlabel\n-7\ta b\n12\t\n2 rows/changed 2/exists/overflow"
-        ),
-        Err(memory) => assert!(rt; memory == Memory),
-    }
+    let want = "id\tlabel\n-7\ta b\n12\t\n2 rows/changed 2/exists/overflow";
+    let told = printed(rt.alloc()).or_else(|_| printed(rt.alloc()));
+    assert!(rt; told.is_ok_and(|told| told.as_str() == want));
 }

@@ -2,7 +2,7 @@ use Rattle.std.proofs.Common.{rules}
 use Rattle.std.proofs.lemmas.Bool.Decides.{nat_tests}
 use Rattle.std.proofs.lemmas.Iterator.Adapters.{YieldsList-from_bytes}
 use Rattle.std.proofs.lemmas.Iterator.Search.{any_from_yields_List}
-use Rattle.fragdb.specs.Script.{is_blank}
+use Rattle.fragdb.specs.Transaction.{is_blank}
 use Rattle.fragdb.proofs.ScriptLemmas.{is_word-some}
 use Rattle.fragdb.proofs.script.is_word.Goals as goal
 
