@@ -6,6 +6,7 @@ pub mod Words
 pub mod Front
 pub mod Loop
 pub mod Printing
+pub mod Spellable
 pub mod Steps
 pub mod Lists
 pub mod Productions
