@@ -22,4 +22,5 @@ pub mod FitsCommand
 pub mod NoMeaning
 pub mod Unique
 pub mod CondsOfText
+pub mod ResolvedColumns
 pub mod Statements
