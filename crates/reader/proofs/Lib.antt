@@ -23,4 +23,5 @@ pub mod NoMeaning
 pub mod Unique
 pub mod CondsOfText
 pub mod ResolvedColumns
+pub mod ResolvedConds
 pub mod Statements
