@@ -24,4 +24,5 @@ pub mod Unique
 pub mod CondsOfText
 pub mod ResolvedColumns
 pub mod ResolvedConds
+pub mod Spellings
 pub mod Statements
