@@ -42,7 +42,7 @@ use Rattle.reader.proofs.Settings.{are_apart_fits}
 -- ---- relations
 
 -- a relation that was found has the name
-found_passes : {A : Type 0} (test : A → Bool) (xs : List A) (x : A) → find test xs ≡ Some x → test x ≡ true
+pub found_passes : {A : Type 0} (test : A → Bool) (xs : List A) (x : A) → find test xs ≡ Some x → test x ≡ true
 found_passes test [] x is = cc
 found_passes test (y ∷ xs) x is =
     elim (test y) as (λ t. test y ≡ t → cond t (Some y) (find test xs) ≡ Some x → test x ≡ true) [

@@ -25,4 +25,5 @@ pub mod CondsOfText
 pub mod ResolvedColumns
 pub mod ResolvedConds
 pub mod Spellings
+pub mod Resolved
 pub mod Statements
