@@ -279,7 +279,7 @@ assignment_fits columns written assignment is_sound is =
     })
 
 -- as many answers as items, so some where there are some
-some_answers : {A B : Type 0} (xs : List A) (ys : List B) → IsFilled xs → length ys ≡ length xs → ys ≢ []
+pub some_answers : {A B : Type 0} (xs : List A) (ys : List B) → IsFilled xs → length ys ≡ length xs → ys ≢ []
 some_answers [] ys filled same none = absurd filled
 some_answers (x ∷ xs) [] filled same none = absurd (omega arith)
 some_answers (x ∷ xs) (y ∷ ys) filled same none = cc

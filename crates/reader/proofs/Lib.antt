@@ -26,4 +26,6 @@ pub mod ResolvedColumns
 pub mod ResolvedConds
 pub mod Spellings
 pub mod Resolved
+pub mod ResolvedAlone
+pub mod PrintableText
 pub mod Statements

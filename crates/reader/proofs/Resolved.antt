@@ -54,7 +54,7 @@ found_among P test (y ∷ xs) x all is =
 relation_named_so : (schema : List RelationSchema) (asked : List ℕ) (relation : RelationSchema) → relation_named asked schema ≡ Some relation → relation.name ≡ asked
 relation_named_so schema asked relation is = (bytes_eq-Decides relation.name asked).0 (found_passes (λ r. pointwise nat_eq r.name asked) schema relation is)
 
-relation_is_named : (schema : List RelationSchema) (asked : List ℕ) (relation : RelationSchema) → AreNamed schema → relation_named asked schema ≡ Some relation → IsNamed relation
+pub relation_is_named : (schema : List RelationSchema) (asked : List ℕ) (relation : RelationSchema) → AreNamed schema → relation_named asked schema ≡ Some relation → IsNamed relation
 relation_is_named schema asked relation named is = found_among IsNamed (λ r. pointwise nat_eq r.name asked) schema relation named is
 
 -- the source of a relation
@@ -195,7 +195,7 @@ insert_again schema named insert is =
 -- ---- updates and deletes
 
 -- where nothing is joined the types are those of the relation alone
-with_none : (types_of : List Kind) (conds : List Cond) → AllByRecursion (IsCondOf types_of) conds → AllByRecursion (IsCondOf (types_of ++ [])) conds
+pub with_none : (types_of : List Kind) (conds : List Cond) → AllByRecursion (IsCondOf types_of) conds → AllByRecursion (IsCondOf (types_of ++ [])) conds
 with_none types_of conds fit = let P : List Kind → Type 0 = λ ks. AllByRecursion (IsCondOf ks) conds in subst P (sym (append-nil types_of)) fit
 
 record ReadsUpdate (schema : List RelationSchema) (update : Update) : Type 0 where
