@@ -28,4 +28,5 @@ pub mod Spellings
 pub mod Resolved
 pub mod ResolvedAlone
 pub mod PrintableText
+pub mod ReadAgain
 pub mod Statements

@@ -1,6 +1,9 @@
 -- Statements that are read again as they are printed.
-use Rattle.std.specs.Prelude.{◌≡◌, ◌≢◌, ℕ, ◌≤◌, List, [], ◌∷◌, length}
+use Rattle.std.specs.Prelude.{◌≡◌, ◌≢◌, ℕ, ◌≤◌, List, [], ◌∷◌, length, map}
 use Rattle.std.specs.List.{AllByRecursion}
+use Rattle.terms.specs.declared.cond.Cond.{Cond}
+use Rattle.terms.specs.Cond.{IsCondOf}
+use Rattle.meaning.specs.declared.schema.Column.{Column}
 use Rattle.meaning.specs.declared.schema.RelationSchema.{RelationSchema}
 use Rattle.meaning.specs.declared.statement.Statement.{Statement}
 use Rattle.meaning.specs.declared.statement.Statement.TheVariants as statements
@@ -9,7 +12,9 @@ use Rattle.meaning.specs.Statement.{IsStatementOf}
 use Rattle.reader.specs.declared.command.Command.{Command}
 use Rattle.reader.specs.declared.command.Command.TheVariants.{Run, Begin, Commit, Rollback}
 use Rattle.reader.specs.Command.{IsTextOf}
-use Rattle.reader.specs.Printed.{statement_bytes}
+use Rattle.reader.specs.Conds.{AreCondsOf}
+use Rattle.reader.specs.Printed.{statement_bytes, conds_bytes}
+use Rattle.reader.specs.Scope.{types}
 use Rattle.reader.specs.Tokens.{IsName}
 
 -- no two of these names are the same
@@ -52,3 +57,14 @@ IsPrintableCommand schema (Run statement) = IsPrintable schema statement
 IsPrintableCommand schema Begin = Unit {0}
 IsPrintableCommand schema Commit = Unit {0}
 IsPrintableCommand schema Rollback = Unit {0}
+
+-- the names of columns
+abbrev pub column_names : List Column → List (List ℕ)
+column_names columns = map (λ column. column.name) columns
+
+-- the law for conditions alone: what at most 8 conditions that fit the columns, and at least one, are printed as
+-- is a text of them, where it is short enough, and each column has a name of its own
+abbrev pub PrintedCondsAreRead : Type 0
+PrintedCondsAreRead = (columns : List Column) (conds : List Cond) → AllByRecursion IsName (column_names columns) → AreDistinct (column_names columns) →
+    conds ≢ [] → length conds ≤ 8 → AllByRecursion (IsCondOf (types columns)) conds →
+    length (conds_bytes (column_names columns) conds) ≤ 4096 → AreCondsOf columns (conds_bytes (column_names columns) conds) conds

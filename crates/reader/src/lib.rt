@@ -24,6 +24,7 @@ pub mod parser;
 pub mod print;
 pub mod printed;
 pub mod read;
+pub mod read_again;
 pub mod read_conds;
 mod scope;
 pub mod sign;
