@@ -33,7 +33,7 @@ use Rattle.reader.specs.Printable.{IsNamed, AreNamed, IsPrintable}
 use Rattle.reader.specs.Scope.{one_relation, two_relations, types, types_in, found_in}
 use Rattle.reader.specs.Tree as tree
 use Rattle.reader.specs.Written.{plain_column, qualified_column, column_of_two, constant_as, conditions_as, join_as, select_as, insert_as, assignment_as, update_as, delete_as, written_as}
-use Rattle.reader.proofs.FitsCommand.{found_passes}
+use Rattle.reader.proofs.FitsCommand.{found_by_name, named_itself}
 use Rattle.reader.proofs.ResolvedColumns.{next_step, passed, not_passed, same_bytes, other_bytes, first_found, second_found, one_found, two_found}
 use Rattle.reader.proofs.ResolvedConds.{row_again, places_again, conds_again, sets_again}
 use Rattle.reader.proofs.Spellable.{IsSelect, IsInsert, IsUpdate, IsDelete, IsSpellable}
@@ -50,10 +50,7 @@ found_among P test (y ∷ xs) x all is =
       | false ↦ λ later. found_among P test xs x all.1 later
     ] is
 
--- a relation that is found has the name, and its names are names
-relation_named_so : (schema : List RelationSchema) (asked : List ℕ) (relation : RelationSchema) → relation_named asked schema ≡ Some relation → relation.name ≡ asked
-relation_named_so schema asked relation is = (bytes_eq-Decides relation.name asked).0 (found_passes (λ r. pointwise nat_eq r.name asked) schema relation is)
-
+-- a relation that is found is one that a text can speak of
 pub relation_is_named : (schema : List RelationSchema) (asked : List ℕ) (relation : RelationSchema) → AreNamed schema → relation_named asked schema ≡ Some relation → IsNamed relation
 relation_is_named schema asked relation named is = found_among IsNamed (λ r. pointwise nat_eq r.name asked) schema relation named is
 
@@ -134,8 +131,8 @@ two_again schema relation other col columns conds there there_too unlike named o
 
 select_again : (schema : List RelationSchema) → AreNamed schema → (from : Source) (join : Option Join) (columns : List ℕ) (conds : List Cond) → IsSelectOf schema (record { from = from; join = join; columns = columns; conds = conds }) → ReadsSelect schema (record { from = from; join = join; columns = columns; conds = conds })
 select_again schema named from None columns conds is =
-    let name = relation_named_so schema from.name is.relation is.there in
-    let there : relation_named is.relation.name schema ≡ Some is.relation = ap (λ n. relation_named n schema) name ∙ is.there in
+    let name = found_by_name schema from.name is.relation is.there in
+    let there = named_itself schema from.name is.relation is.there in
     let none : is.joined ≡ [] = is.joins in
     let Q : List Kind → Type 0 = λ ks. AllByRecursion (λ column. column < length (kinds_of is.relation ++ ks)) columns in
     let R : List Kind → Type 0 = λ ks. AllByRecursion (IsCondOf (kinds_of is.relation ++ ks)) conds in
@@ -144,10 +141,10 @@ select_again schema named from None columns conds is =
     (one_again schema is.relation columns conds there (relation_is_named schema from.name is.relation named is.there) is.few_columns (subst Q none is.columns) is.few_conds (subst R none is.conds))
 select_again schema named from (Some join) columns conds is =
     let joins : IsJoinOf schema is.relation join is.joined = is.joins in
-    let name = relation_named_so schema from.name is.relation is.there in
-    let there : relation_named is.relation.name schema ≡ Some is.relation = ap (λ n. relation_named n schema) name ∙ is.there in
-    let other_name = relation_named_so schema join.relation.name joins.other joins.there in
-    let there_too : relation_named joins.other.name schema ≡ Some joins.other = ap (λ n. relation_named n schema) other_name ∙ joins.there in
+    let name = found_by_name schema from.name is.relation is.there in
+    let there = named_itself schema from.name is.relation is.there in
+    let other_name = found_by_name schema join.relation.name joins.other joins.there in
+    let there_too = named_itself schema join.relation.name joins.other joins.there in
     let Q : List Kind → Type 0 = λ ks. AllByRecursion (λ column. column < length (kinds_of is.relation ++ ks)) columns in
     let R : List Kind → Type 0 = λ ks. AllByRecursion (IsCondOf (kinds_of is.relation ++ ks)) conds in
     let K : List Kind → Type 0 = λ ks. slice_get ks 0 ≡ Some kinds.Int in
@@ -179,10 +176,10 @@ nothing_mapped f (x ∷ xs) none = absurd cc
 
 insert_again : (schema : List RelationSchema) → AreNamed schema → (insert : Insert) → IsInsertOf schema insert → ReadsInsert schema insert
 insert_again schema named insert is =
-    let name = relation_named_so schema insert.into is.relation is.there in
+    let name = found_by_name schema insert.into is.relation is.there in
     let names = relation_is_named schema insert.into is.relation named is.there in
     let P : List ℕ → Type 0 = λ into. ReadsInsert schema (record { into = into; row = insert.row }) in
-    let there : relation_named is.relation.name schema ≡ Some is.relation = ap (λ n. relation_named n schema) name ∙ is.there in
+    let there = named_itself schema insert.into is.relation is.there in
     let canonical : Insert = record { into = is.relation.name; row = insert.row } in
     subst P name (record {
       means =
@@ -210,9 +207,9 @@ filled_again write (x ∷ xs) some = tt
 
 update_again : (schema : List RelationSchema) → AreNamed schema → (update : Update) → IsUpdateOf schema update → ReadsUpdate schema update
 update_again schema named update is =
-    let name = relation_named_so schema update.relation.name is.relation is.there in
+    let name = found_by_name schema update.relation.name is.relation is.there in
     let names = relation_is_named schema update.relation.name is.relation named is.there in
-    let there : relation_named is.relation.name schema ≡ Some is.relation = ap (λ n. relation_named n schema) name ∙ is.there in
+    let there = named_itself schema update.relation.name is.relation is.there in
     let P : Source → Type 0 = λ s. ReadsUpdate schema (record { relation = s; sets = update.sets; conds = update.conds }) in
     let canonical : Update = record { relation = source_of is.relation; sets = update.sets; conds = update.conds } in
     let write : ℕ → tree.Column = plain_column (names_of is.relation) in
@@ -236,9 +233,9 @@ record ReadsDelete (schema : List RelationSchema) (delete : Delete) : Type 0 whe
 
 delete_again : (schema : List RelationSchema) → AreNamed schema → (delete : Delete) → IsDeleteOf schema delete → ReadsDelete schema delete
 delete_again schema named delete is =
-    let name = relation_named_so schema delete.relation.name is.relation is.there in
+    let name = found_by_name schema delete.relation.name is.relation is.there in
     let names = relation_is_named schema delete.relation.name is.relation named is.there in
-    let there : relation_named is.relation.name schema ≡ Some is.relation = ap (λ n. relation_named n schema) name ∙ is.there in
+    let there = named_itself schema delete.relation.name is.relation is.there in
     let P : Source → Type 0 = λ s. ReadsDelete schema (record { relation = s; conds = delete.conds }) in
     let canonical : Delete = record { relation = source_of is.relation; conds = delete.conds } in
     let write : ℕ → tree.Column = plain_column (names_of is.relation) in
