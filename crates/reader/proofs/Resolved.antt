@@ -73,9 +73,9 @@ one_again schema relation columns conds there named few columns_fit few_conds co
     let are_spelled = one_spelled relation named.columns in
     record {
       means =
-        next_step _ (relation_named relation.name schema) relation (Some select) there
-        (next_step _ (places_of (one_relation relation) (tree.columns (map write columns))) columns (Some select) (places_again (one_relation relation) write are_found columns few columns_fit)
-        (next_step _ (conds_of (one_relation relation) (conditions_as write conds)) conds (Some select) (conds_again (one_relation relation) write are_found conds few_conds conds_fit) refl));
+          next_step _ (relation_named relation.name schema) relation (Some select) there
+          (next_step _ (places_of (one_relation relation) (tree.columns (map write columns))) columns (Some select) (places_again (one_relation relation) write are_found columns few columns_fit)
+          (next_step _ (conds_of (one_relation relation) (conditions_as write conds)) conds (Some select) (conds_again (one_relation relation) write are_found conds few_conds conds_fit) refl));
       spells = record {
         listed = places_spelled (one_relation relation) write are_spelled columns columns_fit;
         relation = named.name;
@@ -112,11 +112,11 @@ two_again schema relation other col columns conds there there_too unlike named o
     next_step _ (relation_named other.name schema) other (Some other) there_too (not_passed (pointwise nat_eq other.name relation.name) _ _ _ (other_bytes other.name relation.name unlike) refl) in
     record {
       means =
-        next_step _ (relation_named relation.name schema) relation (Some select) there
-        (next_step _ (other_of schema relation (join_as (source_of relation) join)) other (Some select) another
-        (next_step _ (places_of scope (tree.columns (map write columns))) columns (Some select) (places_again scope write are_found columns few columns_fit)
-        (next_step _ (join_of relation other (join_as (source_of relation) join)) join (Some select) (join_again relation other col unlike named other_named key column)
-        (next_step _ (conds_of scope (conditions_as write conds)) conds (Some select) (conds_again scope write are_found conds few_conds conds_fit) refl))));
+          next_step _ (relation_named relation.name schema) relation (Some select) there
+          (next_step _ (other_of schema relation (join_as (source_of relation) join)) other (Some select) another
+          (next_step _ (places_of scope (tree.columns (map write columns))) columns (Some select) (places_again scope write are_found columns few columns_fit)
+          (next_step _ (join_of relation other (join_as (source_of relation) join)) join (Some select) (join_again relation other col unlike named other_named key column)
+          (next_step _ (conds_of scope (conditions_as write conds)) conds (Some select) (conds_again scope write are_found conds few_conds conds_fit) refl))));
       spells = record {
         listed = places_spelled scope write are_spelled columns columns_fit;
         relation = named.name;
@@ -183,8 +183,8 @@ insert_again schema named insert is =
     let canonical : Insert = record { into = is.relation.name; row = insert.row } in
     subst P name (record {
       means =
-        next_step _ (relation_named is.relation.name schema) is.relation (Some canonical) there
-        (next_step _ (row_of (kinds_of is.relation) (map constant_as insert.row)) insert.row (Some canonical) (row_again (kinds_of is.relation) insert.row is.fits) refl);
+          next_step _ (relation_named is.relation.name schema) is.relation (Some canonical) there
+          (next_step _ (row_of (kinds_of is.relation) (map constant_as insert.row)) insert.row (Some canonical) (row_again (kinds_of is.relation) insert.row is.fits) refl);
       writes = row_filled (kinds_of is.relation) insert.row (λ none. names.filled (nothing_mapped (λ c. c.kind) is.relation.columns none)) is.fits;
       spells = record { relation = names.name; values = row_spelled (kinds_of is.relation) insert.row is.fits };
     })
@@ -216,9 +216,9 @@ update_again schema named update is =
     let conds_fit = with_none (kinds_of is.relation) update.conds is.conds in
     subst P (is_source update.relation is.relation name is.names) (record {
       means =
-        next_step _ (relation_named is.relation.name schema) is.relation (Some canonical) there
-        (next_step _ (sets_of is.relation.columns (map (assignment_as (names_of is.relation)) update.sets)) update.sets (Some canonical) (sets_again is.relation.columns names.distinct update.sets is.apart is.sets)
-        (next_step _ (conds_of (one_relation is.relation) (conditions_as write update.conds)) update.conds (Some canonical) (conds_again (one_relation is.relation) write (one_found is.relation names.distinct) update.conds is.few_conds conds_fit) refl));
+          next_step _ (relation_named is.relation.name schema) is.relation (Some canonical) there
+          (next_step _ (sets_of is.relation.columns (map (assignment_as (names_of is.relation)) update.sets)) update.sets (Some canonical) (sets_again is.relation.columns names.distinct update.sets is.apart is.sets)
+          (next_step _ (conds_of (one_relation is.relation) (conditions_as write update.conds)) update.conds (Some canonical) (conds_again (one_relation is.relation) write (one_found is.relation names.distinct) update.conds is.few_conds conds_fit) refl));
       writes = filled_again (assignment_as (names_of is.relation)) update.sets is.some_set;
       spells = record {
         relation = names.name;
@@ -242,8 +242,8 @@ delete_again schema named delete is =
     let conds_fit = with_none (kinds_of is.relation) delete.conds is.conds in
     subst P (is_source delete.relation is.relation name is.names) (record {
       means =
-        next_step _ (relation_named is.relation.name schema) is.relation (Some canonical) there
-        (next_step _ (conds_of (one_relation is.relation) (conditions_as write delete.conds)) delete.conds (Some canonical) (conds_again (one_relation is.relation) write (one_found is.relation names.distinct) delete.conds is.few_conds conds_fit) refl);
+          next_step _ (relation_named is.relation.name schema) is.relation (Some canonical) there
+          (next_step _ (conds_of (one_relation is.relation) (conditions_as write delete.conds)) delete.conds (Some canonical) (conds_again (one_relation is.relation) write (one_found is.relation names.distinct) delete.conds is.few_conds conds_fit) refl);
       spells = record {
         relation = names.name;
         conditions = conds_spelled (one_relation is.relation) write (one_spelled is.relation names.columns) delete.conds conds_fit;

@@ -75,8 +75,8 @@ named_at columns place kind distinct is =
     let P : List ℕ → Type 0 = λ n. column_named columns n ≡ Some (record { place = place; kind = kind }) in
     let same : name_in (map (λ c. c.name) columns) place ≡ name.0 = ap or_nothing name.1 in
     subst P (sym same) (
-      next_step _ (position_from (λ c. pointwise nat_eq c.name name.0) 0 columns) place (Some (record { place = place; kind = kind })) (first_named columns place 0 name.0 distinct name.1 ∙ (let e : place + 0 ≡ place = omega arith in ap Some e))
-      (next_step _ (slice_get (types columns) place) kind (Some (record { place = place; kind = kind })) is refl)
+    next_step _ (position_from (λ c. pointwise nat_eq c.name name.0) 0 columns) place (Some (record { place = place; kind = kind })) (first_named columns place 0 name.0 distinct name.1 ∙ (let e : place + 0 ≡ place = omega arith in ap Some e))
+    (next_step _ (slice_get (types columns) place) kind (Some (record { place = place; kind = kind })) is refl)
     )
 
 -- ---- scopes

@@ -57,10 +57,10 @@ char_bytes : (c : ℕ) → IsPrintable c → AllByRecursion (λ b. is_ascii_cont
 char_bytes c is =
     let P : ℕ → Type 0 = λ b. is_ascii_control b ≡ false in
     recursion_from_All P (encode c) (All-from_get_or P (encode c) 0 (λ i within.
-      elim (cases_lt (get_or (encode c) i 0) 128) [
-        | inl low ↦ subst P (inside_one c [] (encode c) i (sym (append-nil (encode c))) within low) (no_control c is)
-        | inr high ↦ high_is_no_control (get_or (encode c) i 0) high
-      ]))
+    elim (cases_lt (get_or (encode c) i 0) 128) [
+      | inl low ↦ subst P (inside_one c [] (encode c) i (sym (append-nil (encode c))) within low) (no_control c is)
+      | inr high ↦ high_is_no_control (get_or (encode c) i 0) high
+    ]))
 
 chars_bytes : (cs : List ℕ) → AllByRecursion IsPrintable cs → AllByRecursion (λ b. is_ascii_control b ≡ false) (encodes cs)
 chars_bytes [] all = tt
@@ -70,8 +70,8 @@ chars_bytes (c ∷ cs) all = all_of_both (λ b. is_ascii_control b ≡ false) (e
 pub text_value : (limit : ℕ) (bytes : List ℕ) → limit ≤ 200 → IsTextUpTo limit bytes → IsTextValue bytes
 text_value limit bytes small is = record {
   is_printable =
-    let P : List ℕ → Type 0 = AllByRecursion (λ b. is_ascii_control b ≡ false) in
-    subst P (encodes-chars bytes is.utf8) (chars_bytes (chars bytes) (recursion_from_All IsPrintable (chars bytes) is.printable));
+      let P : List ℕ → Type 0 = AllByRecursion (λ b. is_ascii_control b ≡ false) in
+      subst P (encodes-chars bytes is.utf8) (chars_bytes (chars bytes) (recursion_from_All IsPrintable (chars bytes) is.printable));
   is_utf8 = is.utf8;
   is_short = let short : length bytes ≤ limit = is.short in omega arith;
 }
