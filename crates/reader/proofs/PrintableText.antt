@@ -1,6 +1,6 @@
 -- The statement of a text is printable, under a schema of relations that have names.
-use Rattle.std.proofs.Common.{◌≡◌, ◌≢◌, ℕ, suc, ◌+◌, ◌<◌, ◌≤◌, List, [], ◌∷◌, ◌++◌, Option, Some, None, length, nat_le, refl, ap, subst, ◌∙◌, arith}
-use Rattle.std.specs.List.{AllByRecursion, range_with_len}
+use Rattle.std.proofs.Common.{◌≡◌, ◌≢◌, ℕ, ◌<◌, List, [], ◌∷◌, ◌++◌, Option, Some, None, length, nat_le, refl, ap, subst, arith}
+use Rattle.std.specs.List.{range_with_len}
 use Rattle.std.proofs.lemmas.List.FromFn.{length-range_with_len}
 use Rattle.terms.specs.declared.value.Kind.{Kind}
 use Rattle.meaning.specs.declared.schema.Column as schema
@@ -16,7 +16,7 @@ use Rattle.reader.specs.declared.command.Command.TheVariants as commands
 use Rattle.reader.specs.Command.{IsTextOf, IsCommandOf}
 use Rattle.reader.specs.Grammar.{IsListable, IsWritable}
 use Rattle.reader.specs.Names.{all_of, place_in, places_of, conds_of, source_of, join_of, other_of, select_of_one, select_of_two, select_from, select_of, insert_of, update_of, delete_of, command_of}
-use Rattle.reader.specs.Printable.{IsNamed, AreNamed, ListsSome, IsPrintableCommand}
+use Rattle.reader.specs.Printable.{AreNamed, ListsSome, IsPrintableCommand}
 use Rattle.reader.specs.Scope.{Scope, one_relation, two_relations, types, types_in}
 use Rattle.reader.specs.Tree as tree
 use Rattle.reader.proofs.Chains.{chosen, first_step, mapped_step}

@@ -1,11 +1,10 @@
 -- The tree that a printable statement is written as means the statement, and is writable and spellable.
-use Rattle.std.proofs.Common.{◌≡◌, ◌≢◌, ℕ, zero, suc, ◌+◌, ◌<◌, ◌≤◌, ◌&&◌, Bool, true, false, cond, List, [], ◌∷◌, ◌++◌, Option, Some, None, option_map, length, map, find, nat_eq, nat_lt, refl, ap, sym, subst, ◌∙◌, arith}
+use Rattle.std.proofs.Common.{◌≡◌, ◌≢◌, ℕ, ◌+◌, ◌<◌, ◌≤◌, ◌&&◌, Bool, true, false, cond, List, [], ◌∷◌, ◌++◌, Option, Some, None, option_map, length, map, find, nat_eq, nat_lt, refl, ap, sym, subst, arith}
 use Rattle.std.specs.Cmp.Lexicographic.{pointwise}
 use Rattle.std.specs.List.{AllByRecursion, slice_get}
 use Rattle.std.proofs.lemmas.Bool.{and_from, and_left, eq-eqb, ne_eqb, lt-ltb}
 use Rattle.std.proofs.lemmas.List.{append-nil, length-map}
 use Rattle.std.proofs.lemmas.Option.{slice_get_within}
-use Rattle.std.proofs.lemmas.Slice.Eq.{bytes_eq-Decides}
 use Rattle.terms.specs.declared.cond.Cond.{Cond}
 use Rattle.terms.specs.declared.value.Kind.{Kind}
 use Rattle.terms.specs.declared.value.Kind.TheVariants as kinds
@@ -19,22 +18,19 @@ use Rattle.meaning.specs.declared.statement.Source.{Source}
 use Rattle.meaning.specs.declared.statement.Join.{Join}
 use Rattle.meaning.specs.declared.statement.Select.{Select}
 use Rattle.meaning.specs.declared.statement.Insert.{Insert}
-use Rattle.meaning.specs.declared.statement.Assignment.{Assignment}
 use Rattle.meaning.specs.declared.statement.Update.{Update}
 use Rattle.meaning.specs.declared.statement.Delete.{Delete}
 use Rattle.meaning.specs.Schema.{relation_named, kinds_of, names_of}
-use Rattle.meaning.specs.Statement.{AreApart, IsAssignmentOf, IsJoinOf, MayJoin, IsSelectOf, IsInsertOf, IsUpdateOf, IsDeleteOf}
-use Rattle.reader.specs.declared.command.Command.{Command}
+use Rattle.meaning.specs.Statement.{IsJoinOf, IsSelectOf, IsInsertOf, IsUpdateOf, IsDeleteOf}
 use Rattle.reader.specs.declared.command.Command.TheVariants as commands
-use Rattle.reader.specs.declared.scope.Found.{Found}
 use Rattle.reader.specs.Grammar.{IsFilled, IsWritable}
-use Rattle.reader.specs.Names.{places_of, conds_of, source_of, other_than_key, is_integer, joined_by, join_of, other_of, select_of_two, select_of, row_of, insert_of, sets_of, update_of, delete_of, command_of}
+use Rattle.reader.specs.Names.{places_of, conds_of, source_of, other_than_key, join_of, other_of, select_of, row_of, insert_of, sets_of, update_of, delete_of, command_of}
 use Rattle.reader.specs.Printable.{IsNamed, AreNamed, IsPrintable}
-use Rattle.reader.specs.Scope.{one_relation, two_relations, types, types_in, found_in}
+use Rattle.reader.specs.Scope.{one_relation, two_relations, types_in, found_in}
 use Rattle.reader.specs.Tree as tree
 use Rattle.reader.specs.Written.{plain_column, qualified_column, column_of_two, constant_as, conditions_as, join_as, select_as, insert_as, assignment_as, update_as, delete_as, written_as}
 use Rattle.reader.proofs.FitsCommand.{found_by_name, named_itself}
-use Rattle.reader.proofs.ResolvedColumns.{next_step, passed, not_passed, same_bytes, other_bytes, first_found, second_found, one_found, two_found}
+use Rattle.reader.proofs.ResolvedColumns.{next_step, passed, not_passed, other_bytes, first_found, second_found, one_found, two_found}
 use Rattle.reader.proofs.ResolvedConds.{row_again, places_again, conds_again, sets_again}
 use Rattle.reader.proofs.Spellable.{IsSelect, IsInsert, IsUpdate, IsDelete, IsSpellable}
 use Rattle.reader.proofs.Spellings.{one_spelled, two_spelled, qualified_spelled, places_spelled, conds_spelled, row_spelled, sets_spelled}

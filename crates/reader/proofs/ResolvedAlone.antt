@@ -1,5 +1,5 @@
 -- Conditions alone: what they are written as means them, and is spellable.
-use Rattle.std.proofs.Common.{◌≡◌, ℕ, ◌≤◌, List, Some, length, map}
+use Rattle.std.proofs.Common.{◌≡◌, ◌≤◌, List, Some, length, map}
 use Rattle.std.specs.List.{AllByRecursion}
 use Rattle.terms.specs.declared.cond.Cond.{Cond}
 use Rattle.terms.specs.Cond.{IsCondOf}

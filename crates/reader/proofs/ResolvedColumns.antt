@@ -1,18 +1,17 @@
 -- Columns as they are written are found: the name at a place is the place's.
-use Rattle.std.proofs.Common.{◌≡◌, ◌≢◌, ℕ, zero, suc, ◌+◌, ◌<◌, ◌-◌, Bool, true, false, cond, List, [], ◌∷◌, ◌++◌, Option, Some, None, option_and_then, option_map, length, map, nat_eq, nat_lt, inl, inr, refl, ap, sym, subst, ◌∙◌, arith}
+use Rattle.std.proofs.Common.{◌≡◌, ◌≢◌, ℕ, zero, suc, ◌+◌, ◌<◌, ◌-◌, Bool, true, false, cond, List, [], ◌∷◌, Option, Some, None, option_and_then, option_map, length, map, nat_eq, nat_lt, inl, inr, refl, ap, sym, subst, ◌∙◌, arith}
 use Rattle.std.specs.Cmp.Lexicographic.{pointwise}
 use Rattle.std.specs.List.{AllByRecursion, position_from, slice_get}
 use Rattle.std.proofs.lemmas.Bool.{cases_lt, lt-ltb, le-ltb, false_from_ne_true}
 use Rattle.std.proofs.lemmas.List.{append-nil, length-map}
-use Rattle.std.proofs.lemmas.Option.{slice_get-map, slice_get_within}
+use Rattle.std.proofs.lemmas.Option.{slice_get-map}
 use Rattle.std.proofs.lemmas.Slice.Eq.{bytes_eq-Decides}
 use Rattle.terms.specs.declared.value.Kind.{Kind}
 use Rattle.meaning.specs.declared.schema.Column as schema
 use Rattle.meaning.specs.declared.schema.RelationSchema.{RelationSchema}
-use Rattle.reader.specs.declared.scope.Found.{Found}
 use Rattle.reader.specs.Names.{source_of}
 use Rattle.reader.specs.Printable.{AreDistinct}
-use Rattle.reader.specs.Scope.{Scope, Table, one_relation, two_relations, columns_alone, relation_table, types, types_in, column_named, is_qualifier, only_one, counted_on, found_in_table, found_in_joined, found_in}
+use Rattle.reader.specs.Scope.{Scope, one_relation, two_relations, columns_alone, relation_table, types, types_in, column_named, only_one, counted_on, found_in_table, found_in}
 use Rattle.reader.specs.Tree as tree
 use Rattle.reader.specs.Written.{or_nothing, name_in, plain_column, qualified_column, column_of_two}
 use Rattle.reader.proofs.Chains.{mapped_step}

@@ -1,5 +1,5 @@
 -- Constants, conditions, rows and assignments as they are written mean themselves.
-use Rattle.std.proofs.Common.{◌≡◌, ◌≢◌, ℕ, suc, ℤ, pos, negsuc, neg_ℤ, ◌<◌, ◌≤◌, ◌≤ℤ◌, ◌^◌, ◌-◌, ◌&&◌, true, false, not, List, [], ◌∷◌, Option, Some, option_and_then, option_map, length, map, nat_eq, nat_le, refl, ap, sym, subst, ◌∙◌, arith, FitsSigned}
+use Rattle.std.proofs.Common.{◌≡◌, ◌≢◌, ℕ, suc, ℤ, pos, negsuc, neg_ℤ, ◌<◌, ◌≤◌, ◌≤ℤ◌, ◌^◌, ◌-◌, ◌&&◌, true, false, not, List, [], ◌∷◌, Option, Some, option_map, length, map, nat_eq, nat_le, refl, ap, sym, arith, FitsSigned}
 use Rattle.std.specs.Int.{w64}
 use Rattle.std.specs.List.{AllByRecursion, slice_get}
 use Rattle.std.proofs.lemmas.Bool.{le-leb, ne_eqb, and_from, or_from, not_from_false}
@@ -19,7 +19,7 @@ use Rattle.meaning.specs.declared.statement.Assigned.TheVariants as assigned
 use Rattle.meaning.specs.declared.statement.Assignment.{Assignment}
 use Rattle.meaning.specs.Statement.{IsAssignable, IsAssignmentOf, AreApart}
 use Rattle.reader.specs.declared.scope.Found.{Found}
-use Rattle.reader.specs.Names.{all_of, integer_of, value_of, compared_of, number_of, place_in, places_of, cond_on, cond_of, conds_of, row_of, is_integer, settable, addend, sum_of, assigned_of, assignment_of, is_set, are_apart, sets_of}
+use Rattle.reader.specs.Names.{all_of, value_of, compared_of, number_of, place_in, places_of, cond_of, conds_of, row_of, is_integer, settable, addend, assigned_of, assignment_of, is_set, are_apart, sets_of}
 use Rattle.reader.specs.Printable.{AreDistinct}
 use Rattle.reader.specs.Scope.{Scope, types, types_in, column_named, found_in}
 use Rattle.reader.specs.Tree as tree

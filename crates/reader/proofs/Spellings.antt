@@ -1,5 +1,5 @@
 -- The columns, constants and conditions of a printable statement are spellable.
-use Rattle.std.proofs.Common.{◌≡◌, ◌≢◌, ℕ, suc, ℤ, pos, negsuc, neg_ℤ, ◌+◌, ◌<◌, ◌≤◌, ◌≤ℤ◌, ◌^◌, ◌-◌, false, List, [], ◌∷◌, ◌++◌, Some, length, map, get_or, nat_lt, inl, inr, refl, ap, sym, subst, ◌∙◌, arith, FitsSigned}
+use Rattle.std.proofs.Common.{◌≡◌, ℕ, ℤ, pos, negsuc, neg_ℤ, ◌<◌, ◌≤◌, ◌≤ℤ◌, ◌-◌, false, List, [], ◌∷◌, ◌++◌, Some, length, map, get_or, nat_lt, inl, inr, refl, ap, sym, subst, ◌∙◌, arith, FitsSigned}
 use Rattle.std.specs.Char.{is_ascii_control}
 use Rattle.std.specs.Int.{w64}
 use Rattle.std.specs.List.{AllByRecursion, slice_get}

@@ -1,5 +1,5 @@
 -- Statements that are read again as they are printed.
-use Rattle.std.specs.Prelude.{◌≡◌, ◌≢◌, ℕ, ◌≤◌, List, [], ◌∷◌, length, map}
+use Rattle.std.specs.Prelude.{◌≢◌, ℕ, ◌≤◌, List, [], ◌∷◌, length, map}
 use Rattle.std.specs.List.{AllByRecursion}
 use Rattle.terms.specs.declared.cond.Cond.{Cond}
 use Rattle.terms.specs.Cond.{IsCondOf}
