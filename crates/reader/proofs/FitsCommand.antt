@@ -41,7 +41,7 @@ use Rattle.reader.proofs.Settings.{are_apart_fits}
 
 -- ---- relations
 
--- a relation that was found has the name
+-- what is found passes the test
 found_passes : {A : Type 0} (test : A → Bool) (xs : List A) (x : A) → find test xs ≡ Some x → test x ≡ true
 found_passes test [] x is = cc
 found_passes test (y ∷ xs) x is =
@@ -50,11 +50,13 @@ found_passes test (y ∷ xs) x is =
       | false ↦ λ fails later. found_passes test xs x later
     ] refl is
 
+-- a relation that was found has the name
+pub found_by_name : (schema : List RelationSchema) (asked : List ℕ) (relation : RelationSchema) → relation_named asked schema ≡ Some relation → relation.name ≡ asked
+found_by_name schema asked relation is = (bytes_eq-Decides relation.name asked).0 (found_passes (λ r. pointwise nat_eq r.name asked) schema relation is)
+
 -- a relation is found under its own name
-named_itself : (schema : List RelationSchema) (asked : List ℕ) (relation : RelationSchema) → relation_named asked schema ≡ Some relation → relation_named relation.name schema ≡ Some relation
-named_itself schema asked relation is =
-    let same : relation.name ≡ asked = (bytes_eq-Decides relation.name asked).0 (found_passes (λ r. pointwise nat_eq r.name asked) schema relation is) in
-    ap (λ n. relation_named n schema) same ∙ is
+pub named_itself : (schema : List RelationSchema) (asked : List ℕ) (relation : RelationSchema) → relation_named asked schema ≡ Some relation → relation_named relation.name schema ≡ Some relation
+named_itself schema asked relation is = ap (λ n. relation_named n schema) (found_by_name schema asked relation is) ∙ is
 
 -- ---- selects
 
@@ -279,7 +281,7 @@ assignment_fits columns written assignment is_sound is =
     })
 
 -- as many answers as items, so some where there are some
-some_answers : {A B : Type 0} (xs : List A) (ys : List B) → IsFilled xs → length ys ≡ length xs → ys ≢ []
+pub some_answers : {A B : Type 0} (xs : List A) (ys : List B) → IsFilled xs → length ys ≡ length xs → ys ≢ []
 some_answers [] ys filled same none = absurd filled
 some_answers (x ∷ xs) [] filled same none = absurd (omega arith)
 some_answers (x ∷ xs) (y ∷ ys) filled same none = cc

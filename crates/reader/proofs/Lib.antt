@@ -6,6 +6,8 @@ pub mod Words
 pub mod Front
 pub mod Loop
 pub mod Printing
+pub mod Spellable
+pub mod Spelled
 pub mod Steps
 pub mod Lists
 pub mod Productions
@@ -21,4 +23,11 @@ pub mod FitsCommand
 pub mod NoMeaning
 pub mod Unique
 pub mod CondsOfText
+pub mod ResolvedColumns
+pub mod ResolvedConds
+pub mod Spellings
+pub mod Resolved
+pub mod ResolvedAlone
+pub mod PrintableText
+pub mod ReadAgain
 pub mod Statements

@@ -14,4 +14,7 @@ pub mod Resolving
 pub mod Command
 pub mod Conds
 pub mod Print
+pub mod Written
+pub mod Printed
+pub mod Printable
 pub mod Refusal

@@ -4,6 +4,7 @@ ghost use Rattle.std.specs.Prelude.{◌≡◌, ◌≢◌, ◌≤◌, List, lengt
 ghost use Rattle.reader.specs.declared.command.Command.{Command};
 ghost use Rattle.reader.specs.declared.fault.Rule.TheVariants as rules;
 ghost use Rattle.reader.specs.Command.{IsTextOf, IsCommandOf, OneCommandOfText};
+ghost use Rattle.reader.specs.Printable.{AreNamed, IsPrintableCommand};
 
 use crate::command::Command;
 use crate::fault::{ReadFault, Rule};
@@ -24,6 +25,9 @@ pub fn read(alloc: Global, text: &str, schema: &Schema) -> Result<Command, ReadF
     // An accepted text is one of the command, and the command fits the schema.
     ensures found { IfOk result (λ command. IsTextOf schema.now.relations text.now command) }
     ensures fits { IfOk result (λ command. IsCommandOf schema.now.relations command) }
+    // It is printable where the names of the schema can stand in a text.
+    ensures printable { IfOk result (λ command. AreNamed schema.now.relations
+        → IsPrintableCommand schema.now.relations command) }
     // A text that is refused by a rule is one of no command.
     ensures none { IfErr result (λ fault. fault.rule ≢ rules.Memory
         → (command : Command) → ¬ (IsTextOf schema.now.relations text.now command)) }

@@ -1,0 +1,5 @@
+use Rattle.reader.proofs.ReadAgain.{statement_again}
+use Rattle.reader.proofs.read_again.printed_is_read.Goals as goal
+
+pub returns : goal.returns
+returns c = statement_again
