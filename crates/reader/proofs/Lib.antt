@@ -8,6 +8,7 @@ pub mod Loop
 pub mod Printing
 pub mod Spellable
 pub mod Doubled
+pub mod Spelled
 pub mod Steps
 pub mod Lists
 pub mod Productions

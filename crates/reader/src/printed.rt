@@ -1,13 +1,13 @@
 //! The text of statements: as `read` takes it, with keywords in capitals.
 
-ghost use Rattle.std.specs.Prelude.{◌≡◌, ℕ, ◌++◌, Some, codes, map, IfOk, OnOk, string_bytes};
+ghost use Rattle.std.specs.Prelude.{◌≡◌, ℕ, ◌++◌, codes, map, option_map, IfOk, OnOk, string_bytes};
 ghost use Rattle.std.specs.List.{flat_map};
 ghost use Rattle.meaning.specs.declared.statement.Assigned.TheVariants.{Sum};
 ghost use Rattle.reader.specs.Columns.{column_at};
 ghost use Rattle.reader.specs.Grammar.{comparison_sign};
 ghost use Rattle.reader.specs.Sign.{sign_text};
 ghost use Rattle.reader.specs.Tokens.{doubled, quoted};
-ghost use Rattle.reader.specs.Written.{name_in, plain_column, qualified_column, constant_as, condition_as, conditions_as, join_as, select_as, insert_as, assigned_as, assignment_as, update_as, delete_as};
+ghost use Rattle.reader.specs.Written.{name_in, column_in, qualified_column, constant_as, condition_as, conditions_as, join_as, select_as, insert_as, assigned_as, assignment_as, update_as, delete_as};
 ghost use Rattle.reader.specs.Printed.{separated_bytes, column_bytes, constant_bytes, constants_bytes, condition_bytes, conditions_bytes, where_bytes, listed_bytes, join_bytes, select_bytes, insert_bytes, assigned_bytes, assignment_bytes, update_bytes, delete_bytes, statement_bytes, conds_bytes, part_bytes};
 
 use meaning::schema::Column;
@@ -63,7 +63,17 @@ enum Columns<'a> {
     OfTwo(&'a Source, &'a Source),
 }
 
-impl Columns<'_> {
+impl<'a> Columns<'a> {
+    /// Those that a select's places count.
+    fn of_select(select: &'a Select) -> Columns<'a>
+        ensures { column_at result ≡ column_in select.now.from select.now.join }
+    {
+        match &select.join {
+            Some(join) => Columns::OfTwo(&select.from, &join.relation),
+            None => Columns::OfOne(&select.from),
+        }
+    }
+
     /// The column at a place.
     fn put(&self, out: &mut String, place: usize) -> Result<(), Memory>
         ensures { OnOk result (string_bytes out.new ≡ string_bytes out.old ++ column_bytes (column_at self.now place)) }
@@ -106,17 +116,11 @@ fn put_qualified(out: &mut String, source: &Source, place: usize) -> Result<(), 
 fn put_select(out: &mut String, select: &Select) -> Result<(), Memory>
     ensures { OnOk result (string_bytes out.new ≡ string_bytes out.old ++ select_bytes (select_as select.now)) }
 {
-    let columns = match &select.join {
-        Some(join) => Columns::OfTwo(&select.from, &join.relation),
-        None => Columns::OfOne(&select.from),
-    };
+    let columns = Columns::of_select(select);
     out.push_str("SELECT ")?;
     put_list(out, &columns, select.columns.as_slice())?;
-    out.push_str(" FROM ")?;
-    out.push_str(select.from.name.as_str())?;
-    if let Some(join) = &select.join {
-        put_join(out, &select.from, join)?;
-    }
+    write!(out, " FROM {}", select.from.name)?;
+    put_join(out, &select.from, &select.join)?;
     put_where(out, &columns, select.conds.as_slice())
 }
 
@@ -134,12 +138,14 @@ fn put_list(out: &mut String, columns: &Columns<'_>, places: &[usize]) -> Result
     Ok(())
 }
 
-fn put_join(out: &mut String, from: &Source, join: &Join) -> Result<(), Memory>
-    ensures { OnOk result (string_bytes out.new ≡ string_bytes out.old ++ join_bytes (Some (join_as from.now join.now))) }
+/// A JOIN, if there is one.
+fn put_join(out: &mut String, from: &Source, join: &Option<Join>) -> Result<(), Memory>
+    ensures { OnOk result (string_bytes out.new ≡ string_bytes out.old ++ join_bytes (option_map (join_as from.now) join.now)) }
 {
-    out.push_str(" JOIN ")?;
-    out.push_str(join.relation.name.as_str())?;
-    out.push_str(" ON ")?;
+    let Some(join) = join else {
+        return Ok(());
+    };
+    write!(out, " JOIN {} ON ", join.relation.name)?;
     put_qualified(out, from, join.col)?;
     out.push_str(" = ")?;
     put_qualified(out, &join.relation, 0)
@@ -197,9 +203,7 @@ fn put_comparison(out: &mut String, comparison: Cmp) -> Result<(), Memory>
 fn put_insert(out: &mut String, insert: &Insert) -> Result<(), Memory>
     ensures { OnOk result (string_bytes out.new ≡ string_bytes out.old ++ insert_bytes (insert_as insert.now)) }
 {
-    out.push_str("INSERT INTO ")?;
-    out.push_str(insert.into.as_str())?;
-    out.push_str(" VALUES (")?;
+    write!(out, "INSERT INTO {} VALUES (", insert.into)?;
     put_constants(out, insert.row.values())?;
     out.push(')')?;
     Ok(())
@@ -251,9 +255,7 @@ fn put_doubled(out: &mut String, text: &str) -> Result<(), Memory>
 fn put_update(out: &mut String, update: &Update) -> Result<(), Memory>
     ensures { OnOk result (string_bytes out.new ≡ string_bytes out.old ++ update_bytes (update_as update.now)) }
 {
-    out.push_str("UPDATE ")?;
-    out.push_str(update.relation.name.as_str())?;
-    out.push_str(" SET ")?;
+    write!(out, "UPDATE {} SET ", update.relation.name)?;
     put_assignments(
         out,
         update.relation.columns.as_slice(),
@@ -304,8 +306,7 @@ fn put_sum(out: &mut String, names: &[Text], col: usize, number: i64) -> Result<
 fn put_delete(out: &mut String, delete: &Delete) -> Result<(), Memory>
     ensures { OnOk result (string_bytes out.new ≡ string_bytes out.old ++ delete_bytes (delete_as delete.now)) }
 {
-    out.push_str("DELETE FROM ")?;
-    out.push_str(delete.relation.name.as_str())?;
+    write!(out, "DELETE FROM {}", delete.relation.name)?;
     put_where(
         out,
         &Columns::OfOne(&delete.relation),
