@@ -1,5 +1,5 @@
 -- What a tree is printed as is its tokens, production by production.
-use Rattle.std.proofs.Common.{◌≡◌, ℕ, true, false, List, [], ◌∷◌, ◌++◌, Option, Some, None, refl, subst, append_assoc}
+use Rattle.std.proofs.Common.{◌≡◌, ℕ, true, false, List, [], ◌∷◌, ◌++◌, Option, Some, None, refl, subst, append_assoc, codes}
 use Rattle.std.specs.List.{AllByRecursion, flat_map}
 use Rattle.reader.specs.declared.keyword.Keyword.{Keyword}
 use Rattle.reader.specs.declared.keyword.Keyword.TheVariants as word
@@ -28,7 +28,7 @@ record Separates (first : ℕ) (others : List ℕ) (t : Symbol) : Type 0 where
   before : {bytes : List ℕ} {ts : List Symbol} → Prints bytes ts → Prints (first ∷ (others ++ bytes)) (t ∷ ts)
 
 module _ {A : Type 0} (P : A → Type 0) (write : A → List ℕ) (spell : A → List Symbol) (item : (x : A) → P x → Prints (write x) (spell x)) (first : ℕ) (others : List ℕ) (t : Symbol) (separates : Separates first others t) where
-  continued_bytes : List A → List ℕ
+  abbrev continued_bytes : List A → List ℕ
   continued_bytes xs = flat_map (λ y. (first ∷ others) ++ write y) xs
 
   continued_calm : (xs : List A) → Stops joins (continued_bytes xs)
@@ -86,11 +86,14 @@ prints_listed : (l : tree.Listed) → IsListed l → Prints (listed_bytes l) (li
 prints_listed tree.all is = prints_sign mark.Star
 prints_listed (tree.columns cs) are = prints_separated IsColumn column_bytes column_text prints_column _ _ _ comma cs are
 
+six : (a b c d e f : List ℕ) → a ++ (b ++ (c ++ (d ++ (e ++ f)))) ≡ a ++ b ++ c ++ d ++ e ++ f
+six a b c d e f = simp append_assoc
+
 prints_join : (j : Option tree.Join) → MayBeJoin j → Prints (join_bytes j) (join_text j)
 prints_join None is = prints_nothing
 prints_join (Some j) is =
     let columns = spaced (prints_column j.left is.left) (spaced (prints_sign mark.Equal) (prints_column j.right is.right)) in
-    regrouped (simp append_assoc) (prints_blank (spaced (prints_key word.Join) (spaced (prints_name is.relation) (spaced (prints_key word.On) columns))))
+    regrouped (six (codes " JOIN ") j.relation (codes " ON ") (column_bytes j.left) (codes " = ") (column_bytes j.right)) (prints_blank (spaced (prints_key word.Join) (spaced (prints_name is.relation) (spaced (prints_key word.On) columns))))
 
 join_calm : (j : Option tree.Join) (cs : List tree.Condition) → Stops joins (join_bytes j ++ where_bytes cs)
 join_calm None cs = where_calm cs
