@@ -313,3 +313,6 @@ fn put_delete(out: &mut String, delete: &Delete) -> Result<(), Memory>
         delete.conds.as_slice(),
     )
 }
+
+#[cfg(test)]
+mod tests;
