@@ -20,6 +20,9 @@ use terms::memory::Memory;
 use terms::text::Text;
 use terms::value::Value;
 
+/// What stands between the items of a list, but for conditions.
+const SEPARATOR: &str = ", ";
+
 /// A statement, as it is read again.
 pub fn print(alloc: Global, statement: &Statement) -> Result<String, Memory>
     ensures { IfOk result (λ text. string_bytes text ≡ statement_bytes statement.now) }
@@ -132,7 +135,7 @@ fn put_list(out: &mut String, columns: &Columns<'_>, places: &[usize]) -> Result
     };
     columns.put(out, *first)?;
     for place in others {
-        out.push_str(", ")?;
+        out.push_str(SEPARATOR)?;
         columns.put(out, *place)?;
     }
     Ok(())
@@ -217,7 +220,7 @@ fn put_constants(out: &mut String, values: &[Value]) -> Result<(), Memory>
     };
     put_constant(out, first)?;
     for value in others {
-        out.push_str(", ")?;
+        out.push_str(SEPARATOR)?;
         put_constant(out, value)?;
     }
     Ok(())
@@ -276,7 +279,7 @@ fn put_assignments(out: &mut String, names: &[Text], sets: &[Assignment]) -> Res
     };
     put_assignment(out, names, first)?;
     for set in others {
-        out.push_str(", ")?;
+        out.push_str(SEPARATOR)?;
         put_assignment(out, names, set)?;
     }
     Ok(())
