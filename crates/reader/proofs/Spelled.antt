@@ -1,7 +1,6 @@
 -- What a tree is printed as is its tokens, production by production.
 use Rattle.std.proofs.Common.{◌≡◌, ℕ, true, false, List, [], ◌∷◌, ◌++◌, Option, Some, None, refl, subst, append_assoc, codes}
 use Rattle.std.specs.List.{AllByRecursion, flat_map}
-use Rattle.reader.specs.declared.keyword.Keyword.{Keyword}
 use Rattle.reader.specs.declared.keyword.Keyword.TheVariants as word
 use Rattle.reader.specs.declared.sign.Sign.TheVariants as mark
 use Rattle.reader.specs.Symbol.{Symbol, key, sign, name}
@@ -10,7 +9,7 @@ use Rattle.reader.specs.Tokens.{Stops, AreTokens}
 use Rattle.reader.specs.Grammar.{continued, separated, qualifier_text, column_text, constant_text, listed_text, comparison_sign, condition_text, conditions_text, where_text, join_text, select_text, insert_text, sum_sign, assigned_text, assignment_text, update_text, delete_text, written_text, IsFilled, IsWritable}
 use Rattle.reader.specs.Printed.{separated_bytes, qualifier_bytes, column_bytes, constant_bytes, condition_bytes, conditions_bytes, where_bytes, listed_bytes, join_bytes, select_bytes, insert_bytes, assigned_bytes, assignment_bytes, update_bytes, delete_bytes, written_bytes}
 use Rattle.reader.proofs.Printing.{Prints, joins, prints_nothing, prints_blank, prints_both, prints_open, prints_whole, prints_key, prints_sign, prints_name, prints_text, prints_number}
-use Rattle.reader.proofs.Spellable.{IsQualifier, IsColumn, IsConstant, IsCondition, IsListed, IsJoin, MayBeJoin, IsSelect, IsInsert, IsAssigned, IsAssignment, IsUpdate, IsDelete, IsSpellable}
+use Rattle.reader.proofs.Spellable.{IsQualifier, IsColumn, IsConstant, IsCondition, IsListed, MayBeJoin, IsSelect, IsInsert, IsAssigned, IsAssignment, IsUpdate, IsDelete, IsSpellable}
 
 -- the same bytes, grouped in another way
 regrouped : {bytes others : List ℕ} {ts : List Symbol} → bytes ≡ others → Prints bytes ts → Prints others ts
