@@ -1,4 +1,4 @@
--- The columns that printed places count.
+-- The columns over which places are counted in print.
 use Rattle.std.specs.Prelude.{ℕ, map}
 use Rattle.reader.specs.declared.printed.Columns.{Columns}
 use Rattle.reader.specs.declared.printed.Columns.TheVariants.{OfSchema, OfOne, OfTwo}

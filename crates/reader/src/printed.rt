@@ -1,14 +1,13 @@
 //! The text of statements: as `read` takes it, with keywords in capitals.
 
-ghost use Rattle.std.specs.Prelude.{◌≡◌, ℕ, ◌++◌, codes, map, option_map, IfOk, OnOk, string_bytes};
-ghost use Rattle.std.specs.List.{flat_map};
+ghost use Rattle.std.specs.Prelude.{◌≡◌, ◌++◌, codes, map, option_map, IfOk, OnOk, string_bytes};
 ghost use Rattle.meaning.specs.declared.statement.Assigned.TheVariants.{Sum};
 ghost use Rattle.reader.specs.Columns.{column_at};
 ghost use Rattle.reader.specs.Grammar.{comparison_sign};
 ghost use Rattle.reader.specs.Sign.{sign_text};
-ghost use Rattle.reader.specs.Tokens.{doubled, quoted};
+ghost use Rattle.reader.specs.Tokens.{doubled};
 ghost use Rattle.reader.specs.Written.{name_in, column_in, qualified_column, constant_as, condition_as, conditions_as, join_as, select_as, insert_as, assigned_as, assignment_as, update_as, delete_as};
-ghost use Rattle.reader.specs.Printed.{separated_bytes, column_bytes, constant_bytes, constants_bytes, condition_bytes, conditions_bytes, where_bytes, listed_bytes, join_bytes, select_bytes, insert_bytes, assigned_bytes, assignment_bytes, update_bytes, delete_bytes, statement_bytes, conds_bytes, part_bytes};
+ghost use Rattle.reader.specs.Printed.{separated_bytes, column_bytes, constant_bytes, constants_bytes, condition_bytes, conditions_bytes, where_bytes, join_bytes, select_bytes, insert_bytes, assigned_bytes, assignment_bytes, update_bytes, delete_bytes, statement_bytes, conds_bytes, part_bytes};
 
 use meaning::schema::Column;
 use meaning::statement::{
@@ -55,19 +54,19 @@ pub fn print_part(alloc: Global, part: &[Value]) -> Result<String, Memory>
     Ok(out)
 }
 
-/// The columns that places count.
+/// The columns over which places are counted.
 #[derive(Clone, Copy)]
 enum Columns<'a> {
     /// Those of a schema, by their plain names.
     OfSchema(&'a [Column]),
     /// Those of one relation, by their plain names.
     OfOne(&'a Source),
-    /// Those of two relations, each with its relation's name: the second's are counted on from the first's.
+    /// Those of two relations, with their relations' names: the second's are counted on from the first's.
     OfTwo(&'a Source, &'a Source),
 }
 
 impl<'a> Columns<'a> {
-    /// Those that a select's places count.
+    /// Those of a select.
     fn of_select(select: &'a Select) -> Columns<'a>
         ensures { column_at result ≡ column_in select.now.from select.now.join }
     {
