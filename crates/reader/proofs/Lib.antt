@@ -7,6 +7,7 @@ pub mod Front
 pub mod Loop
 pub mod Printing
 pub mod Spellable
+pub mod Doubled
 pub mod Spelled
 pub mod Steps
 pub mod Lists

@@ -15,6 +15,7 @@ pub mod Command
 pub mod Conds
 pub mod Print
 pub mod Written
+pub mod Columns
 pub mod Printed
 pub mod Printable
 pub mod Refusal
