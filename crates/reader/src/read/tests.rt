@@ -140,3 +140,55 @@ fn long_text(rt: HostRuntime) -> Result<(), Fail> {
     assert_eq!(rt; line.as_str(), "TooLong at 4096");
     Ok(())
 }
+
+/// A statement of each form, and some that are refused.
+const TEXTS: [&str; 14] = [
+    "SELECT nam FROM emp",
+    "SELECT id FROM emp WHERE",
+    "SELECT id FROM emp WHERE name < 5",
+    "UPDATE emp SET id = 2",
+    "SELECT dept.no FROM dept JOIN emp ON emp.dept = dept.no",
+    "INSERT INTO item VALUES (1, 2)",
+    "SELECT id FROM item WHERE label = 'a",
+    "UPDATE item SET zone = zone + 9223372036854775808",
+    "SELECT id FROM a JOIN b ON a.x = b.id",
+    "SELECT * FROM emp JOIN dept ON no = dept WHERE dept >= 5 AND title <> 'x'",
+    "update item set zone=zone- 1 , label='it''s' where id>=2;",
+    "INSERT INTO dept VALUES (-9223372036854775808, '')",
+    "DELETE FROM item WHERE zone <= 10",
+    "Begin ;",
+];
+
+/// Whether a text is accepted, or refused at an offset that is not past its length.
+fn is_answered(alloc: Global, schema: &Schema, text: &str) -> bool {
+    match read(alloc, text, schema) {
+        Ok(_) => true,
+        Err(fault) => fault.rule() != Rule::Memory && fault.offset() <= text.len(),
+    }
+}
+
+#[test]
+fn every_beginning_is_answered(rt: HostRuntime) -> Result<(), Fail> {
+    let schema = schema(rt.alloc())?;
+    for text in TEXTS {
+        for end in 0..text.len() {
+            let beginning = text.get(..end).unwrap_or_default();
+            assert!(rt; is_answered(rt.alloc(), &schema, beginning), "before {end} of {text}");
+        }
+    }
+    Ok(())
+}
+
+#[test]
+fn each_byte_made_zero_is_answered(rt: HostRuntime) -> Result<(), Fail> {
+    let schema = schema(rt.alloc())?;
+    for text in TEXTS {
+        for place in 0..text.len() {
+            let mut other = String::from_str(rt.alloc(), text.get(..place).unwrap_or_default())?;
+            other.push('\0')?;
+            other.push_str(text.get(place + 1..).unwrap_or_default())?;
+            assert!(rt; is_answered(rt.alloc(), &schema, &other), "at {place} of {text}");
+        }
+    }
+    Ok(())
+}
