@@ -7,3 +7,4 @@ pub mod Columns
 pub mod Fragments
 pub mod Halves
 pub mod Instances
+pub mod Cells

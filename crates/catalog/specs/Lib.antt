@@ -3,6 +3,7 @@ pub mod Split
 pub mod Counts
 pub mod Path
 pub mod Valid
+pub mod Cells
 pub mod Keyed
 pub mod Laws
 pub mod Item
