@@ -8,3 +8,6 @@ pub mod Fragments
 pub mod Halves
 pub mod Instances
 pub mod Cells
+pub mod CellCount
+pub mod Combined
+pub mod TestColumns

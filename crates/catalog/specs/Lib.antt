@@ -4,6 +4,7 @@ pub mod Counts
 pub mod Path
 pub mod Valid
 pub mod Cells
+pub mod Exactness
 pub mod Keyed
 pub mod Laws
 pub mod Item

@@ -12,6 +12,7 @@
 //! ```
 #![tactic(auto)]
 
+pub mod exact;
 pub mod fragment;
 pub mod laws;
 pub mod split;
