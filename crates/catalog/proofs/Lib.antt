@@ -9,5 +9,6 @@ pub mod Halves
 pub mod Instances
 pub mod Cells
 pub mod CellCount
+pub mod ColumnParts
 pub mod Combined
 pub mod TestColumns

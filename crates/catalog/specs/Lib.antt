@@ -5,6 +5,7 @@ pub mod Path
 pub mod Valid
 pub mod Cells
 pub mod Exactness
+pub mod Parts
 pub mod Keyed
 pub mod Laws
 pub mod Item

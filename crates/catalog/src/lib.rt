@@ -15,4 +15,5 @@
 pub mod exact;
 pub mod fragment;
 pub mod laws;
+pub mod parts;
 pub mod split;
