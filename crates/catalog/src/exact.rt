@@ -186,3 +186,6 @@ fn named(branches: &[Conds], cell: &Row) -> Result<Exactness, Memory>
         Ok(Exactness::Overlap(copy))
     }
 }
+
+#[cfg(test)]
+mod tests;

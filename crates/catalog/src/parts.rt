@@ -70,3 +70,6 @@ fn first_absent<'a>(others: &[usize], columns: &'a [usize]) -> Option<&'a usize>
 {
     columns.iter().find(|col| !others.contains(col))
 }
+
+#[cfg(test)]
+mod tests;
