@@ -9,6 +9,7 @@ pub mod Halves
 pub mod Instances
 pub mod Cells
 pub mod CellCount
+pub mod OneList
 pub mod ColumnParts
 pub mod Combined
 pub mod TestColumns
