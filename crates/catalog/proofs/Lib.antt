@@ -7,3 +7,9 @@ pub mod Columns
 pub mod Fragments
 pub mod Halves
 pub mod Instances
+pub mod Cells
+pub mod CellCount
+pub mod OneList
+pub mod ColumnParts
+pub mod Combined
+pub mod TestColumns

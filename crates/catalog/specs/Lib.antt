@@ -3,6 +3,9 @@ pub mod Split
 pub mod Counts
 pub mod Path
 pub mod Valid
+pub mod Cells
+pub mod Exactness
+pub mod Parts
 pub mod Keyed
 pub mod Laws
 pub mod Item

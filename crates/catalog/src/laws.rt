@@ -1,8 +1,11 @@
 //! The laws of fragmentation, each as the contract of a function that does nothing.
 
 ghost use Rattle.catalog.specs.Laws.{ExactlyOneLeaf, SomeLeaf, OneRebuilt};
+ghost use Rattle.catalog.specs.Cells.{CellsAreFixed, CellsDecide};
 ghost use Rattle.catalog.specs.Item.{ItemIsValid, ItemFragments};
 ghost use Rattle.catalog.specs.Emp.{EmpIsValid, EmpFragments};
+
+use terms::test_values::{test_rows_suffice, test_values_fit};
 
 /// For every row that fits and every column outside the key exactly one leaf whose conditions hold
 /// has the column.
@@ -19,6 +22,21 @@ pub fn some_leaf()
 pub fn one_rebuilt()
     ensures { OneRebuilt }
 {}
+
+/// A row split fixes its cells and their order.
+pub fn cells_are_fixed()
+    ensures { CellsAreFixed }
+{}
+
+/// A row split is exact where no cell is a fault; and the first cell that is one is a row that fits,
+/// meets the conditions on the way, and meets no branch or two or more. A caller that writes this call
+/// knows so.
+pub fn cells_decide()
+    ensures { CellsDecide }
+{
+    test_rows_suffice();
+    test_values_fit();
+}
 
 /// The built-in split of `item` by zones is valid, and its leaves have all columns.
 pub fn item_split()

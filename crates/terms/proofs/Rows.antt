@@ -14,9 +14,9 @@ use Rattle.terms.specs.declared.cond.Cmp.{Cmp}
 use Rattle.terms.specs.Value.{value_cmp, kind_of}
 use Rattle.terms.specs.Row.{FitsKinds}
 use Rattle.terms.specs.Cond.{IsCondOf, cond_holds, compares, cmp_holds, holds_of}
-use Rattle.terms.specs.TestValues.{test_values, constants, order_in, HasTests, TestRowsSuffice}
+use Rattle.terms.specs.TestValues.{test_values, constants, order_in, HasTests, TestRowsSuffice, TestValuesFit}
 use Rattle.terms.proofs.Successors.{IsValueOf}
-use Rattle.terms.proofs.OneColumn.{IsConstantOf, stand_in, stand_in_is, stand_in_is_test, stand_in_alike}
+use Rattle.terms.proofs.OneColumn.{IsConstantOf, stand_in, stand_in_is, stand_in_is_test, stand_in_alike, tests_are_values}
 
 -- the constants of a column are of its type
 pub constants_are : (kinds : List Kind) (conds : List Cond) (col : ℕ) (kind : Kind) → AllByRecursion (IsCondOf kinds) conds → slice_get kinds col ≡ Some kind → AllByRecursion (IsConstantOf kind) (constants conds col)
@@ -142,3 +142,11 @@ test_row kinds conds row fit fits =
         holds = alike.1;
       },
     )
+
+-- a test value of a column fits it
+pub test_value_fits : TestValuesFit
+test_value_fits kinds conds col kind value fit at there =
+    let tests = test_values kind (constants conds col) in
+    let are = tests_are_values kind (constants conds col) (constants_are kinds conds col kind fit at) in
+    let is = All-contains (IsValueOf kind) tests value (All-from_recursion (IsValueOf kind) tests are) there in
+    (is.of_kind, is.fits)

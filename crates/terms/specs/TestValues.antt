@@ -8,7 +8,7 @@ use Rattle.terms.specs.declared.value.Kind.{Kind}
 use Rattle.terms.specs.declared.value.Kind.TheVariants as kinds
 use Rattle.terms.specs.declared.value.Value.{Value}
 use Rattle.terms.specs.declared.value.Value.TheVariants.{Int, Text}
-use Rattle.terms.specs.Value.{value_cmp}
+use Rattle.terms.specs.Value.{Fits, kind_of, value_cmp}
 use Rattle.terms.specs.Row.{FitsKinds}
 use Rattle.terms.specs.Cond.{IsCondOf, compares, cond_holds}
 
@@ -66,3 +66,7 @@ pub record StandsIn (kinds : List Kind) (conds : List Cond) (row tests : List Va
 -- for every row that fits, a row of test values compares alike with every constant
 abbrev pub TestRowsSuffice : Type 0
 TestRowsSuffice = (kinds : List Kind) (conds : List Cond) (row : List Value) → AllByRecursion (IsCondOf kinds) conds → FitsKinds kinds row → (tests : List Value) × StandsIn kinds conds row tests
+
+-- every test value of a column is of the column's type, and fits
+abbrev pub TestValuesFit : Type 0
+TestValuesFit = (kinds : List Kind) (conds : List Cond) (col : ℕ) (kind : Kind) (value : Value) → AllByRecursion (IsCondOf kinds) conds → slice_get kinds col ≡ Some kind → Contains (test_values kind (constants conds col)) value → (kind_of value ≡ kind) × Fits value

@@ -3,7 +3,7 @@
 ghost use Rattle.std.specs.Prelude.{◌≡◌, IfOk, OnOk, ◌↔◌, ◌++◌, Contains};
 ghost use Rattle.std.specs.List.Sorted.{IsStrictlySortedBy};
 ghost use Rattle.terms.specs.Value.{value_cmp};
-ghost use Rattle.terms.specs.TestValues.{least, after, test_values, constants, with_after, column_holds, TestRowsSuffice};
+ghost use Rattle.terms.specs.TestValues.{least, after, test_values, constants, with_after, column_holds, TestRowsSuffice, TestValuesFit};
 
 use crate::cond::Cond;
 use crate::copy::TryCopy;
@@ -58,6 +58,11 @@ pub(crate) fn column_holds(conds: &[Cond], col: usize, value: &Value) -> bool
 #[tactic(auto, using(crate::proofs::Rows::test_row))]
 pub fn test_rows_suffice()
     ensures { TestRowsSuffice }
+{}
+
+/// Where conditions fit, every test value of a column is of the column's type and fits.
+pub fn test_values_fit()
+    ensures { TestValuesFit }
 {}
 
 /// The test values of a column for these conditions, ascending, without repeats.
