@@ -11,47 +11,7 @@ program=${2:-$top/crates/fragdb/out/fragdb}
 folder=$(mktemp -d)
 trap 'rm -rf "$folder"' EXIT
 
-cat > "$folder/refuse.c" <<'C'
-#define _GNU_SOURCE
-#include <dlfcn.h>
-#include <errno.h>
-#include <stdio.h>
-#include <stdlib.h>
-
-static long wanted = -1, calls;
-
-/* Whether this call is the one that REFUSE names. */
-static int refused(void)
-{
-    if (wanted < 0) {
-        const char *text = getenv("REFUSE");
-        wanted = text ? atol(text) : 0;
-    }
-    return ++calls == wanted;
-}
-
-void *malloc(size_t size)
-{
-    static void *(*next)(size_t);
-    if (!next) next = dlsym(RTLD_NEXT, "malloc");
-    if (refused()) { errno = ENOMEM; return NULL; }
-    return next(size);
-}
-
-void *realloc(void *old, size_t size)
-{
-    static void *(*next)(void *, size_t);
-    if (!next) next = dlsym(RTLD_NEXT, "realloc");
-    if (refused()) { errno = ENOMEM; return NULL; }
-    return next(old, size);
-}
-
-__attribute__((destructor)) static void tell(void)
-{
-    dprintf(9, "%ld\n", calls);
-}
-C
-cc -shared -fPIC -O1 -o "$folder/refuse.so" "$folder/refuse.c" -ldl
+cc -shared -fPIC -O1 -o "$folder/refuse.so" "$top/bench/refuse.c" -ldl
 
 REFUSE=0 LD_PRELOAD=$folder/refuse.so "$program" solo "$script" 9> "$folder/calls" > "$folder/whole" 2> /dev/null || true
 calls=$(cat "$folder/calls")

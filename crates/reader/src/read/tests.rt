@@ -173,7 +173,10 @@ fn every_beginning_is_answered(rt: HostRuntime) -> Result<(), Fail> {
     for text in TEXTS {
         for end in 0..text.len() {
             let beginning = text.get(..end).unwrap_or_default();
-            assert!(rt; is_answered(rt.alloc(), &schema, beginning), "before {end} of {text}");
+            assert!(rt;
+                is_answered(rt.alloc(), &schema, beginning),
+                "before {end} of {text}"
+            );
         }
     }
     Ok(())
@@ -187,7 +190,10 @@ fn each_byte_made_zero_is_answered(rt: HostRuntime) -> Result<(), Fail> {
             let mut other = String::from_str(rt.alloc(), text.get(..place).unwrap_or_default())?;
             other.push('\0')?;
             other.push_str(text.get(place + 1..).unwrap_or_default())?;
-            assert!(rt; is_answered(rt.alloc(), &schema, &other), "at {place} of {text}");
+            assert!(rt;
+                is_answered(rt.alloc(), &schema, &other),
+                "at {place} of {text}"
+            );
         }
     }
     Ok(())
