@@ -108,7 +108,9 @@ fn put_update(alloc: Global, line: &mut String, update: &Update<'_>) -> Result<(
 
 /// The command with its offsets, or the fault, in a line.
 fn shown(alloc: Global, text: &str) -> Result<String, Fail> {
-    let tokens = tokens(alloc, text.as_bytes()).ok().ok_or("no memory for tokens")?;
+    let tokens = tokens(alloc, text.as_bytes())
+        .ok()
+        .ok_or("no memory for tokens")?;
     let mut line = String::new(alloc);
     match parse(alloc, &tokens) {
         Ok(Written::Select(select)) => put_select(alloc, &mut line, &select)?,
@@ -225,7 +227,9 @@ fn conditions_alone_with_their_offsets(rt: HostRuntime) -> Result<(), Fail> {
         ("zone 10", "Syntax at 5"),
     ];
     for (text, want) in cases {
-        let tokens = tokens(rt.alloc(), text.as_bytes()).ok().ok_or("no memory for tokens")?;
+        let tokens = tokens(rt.alloc(), text.as_bytes())
+            .ok()
+            .ok_or("no memory for tokens")?;
         let mut line = String::new(rt.alloc());
         match parse_conditions(rt.alloc(), &tokens) {
             Ok(conditions) => put_conditions(rt.alloc(), &mut line, &conditions)?,
