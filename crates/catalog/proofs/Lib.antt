@@ -8,3 +8,4 @@ pub mod Fragments
 pub mod Halves
 pub mod Instances
 pub mod Cells
+pub mod Nodes

@@ -4,6 +4,12 @@ pub mod Counts
 pub mod Path
 pub mod Valid
 pub mod Cells
+pub mod Fault
+pub mod Node
+pub mod Form
+pub mod Describes
+pub mod Frame
+pub mod Refuses
 pub mod Keyed
 pub mod Laws
 pub mod Item

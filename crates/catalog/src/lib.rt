@@ -12,6 +12,10 @@
 //! ```
 #![tactic(auto)]
 
+pub mod fault;
+mod form;
+mod frame;
 pub mod fragment;
 pub mod laws;
 pub mod split;
+mod tree;

@@ -22,7 +22,6 @@ pub mod lexer;
 pub mod names;
 pub mod parser;
 pub mod print;
-pub mod printed;
 pub mod read;
 pub mod read_conds;
 mod scope;

@@ -1,0 +1,12 @@
+use Rattle.std.specs.Prelude.{List, map}
+use Rattle.toml.specs.View.{view}
+use Rattle.catalog.specs.declared.form.Form as code
+use Rattle.catalog.specs.declared.form.Form.TheVariants as forms
+use Rattle.catalog.specs.Node.{Form, AtSite, SplitByRows, SplitByCols, Ill}
+
+-- what a node says, seen as the definition says it
+abbrev pub form_view : code.Form → Form
+form_view (forms.AtSite name) = AtSite name.now
+form_view (forms.ByRows branches) = SplitByRows (map view branches.now)
+form_view (forms.ByCols groups) = SplitByCols (map view groups.now)
+form_view forms.Ill = Ill

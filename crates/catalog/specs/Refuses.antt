@@ -1,0 +1,59 @@
+-- What the refusal of a node of a catalogue's document says.
+use Rattle.std.specs.Prelude.{◌≡◌, ◌≤◌, ◌+◌, ◌==◌, ℕ, suc, Bool, if◌then◌else◌, List, [], ◌∷◌, Some, length}
+use Rattle.std.specs.List.{list_any}
+use Rattle.toml.specs.Data.{Data}
+use Rattle.terms.specs.declared.cond.Cond.{Cond}
+use Rattle.terms.specs.declared.value.Value.{Value}
+use Rattle.meaning.specs.declared.schema.Column.{Column}
+use Rattle.catalog.specs.declared.fault.Cell.{Cell}
+use Rattle.catalog.specs.declared.fault.Rule.{Rule}
+use Rattle.catalog.specs.declared.fault.Rule.TheVariants.{Gap, Overlap, Memory}
+use Rattle.catalog.specs.declared.fault.Shown.{Shown}
+use Rattle.catalog.specs.Cells.{AllFit, IsFirstFault, conds_of_split, met_by}
+use Rattle.catalog.specs.Describes.{Frame, kinds_in, Describes}
+use Rattle.catalog.specs.Path.{paths}
+use Rattle.catalog.specs.Split.{Tree}
+use Rattle.catalog.specs.Valid.{IsValidWithin}
+
+-- whether a condition names a column
+abbrev pub is_named_by : List Cond → ℕ → Bool
+is_named_by conds place = list_any (λ cond. cond.col == place) conds
+
+-- the columns that conditions name, each with its value in a row; the first has this place
+abbrev pub shown_from : ℕ → List Cond → List Column → List Value → List Shown
+shown_from place conds (column ∷ columns) (value ∷ values) =
+    if is_named_by conds place then record { column = column.name; value = value } ∷ shown_from (suc place) conds columns values
+    else shown_from (suc place) conds columns values
+shown_from place conds columns values = []
+
+-- a cell is the first faulty one of a row split over the columns of a relation, with what is shown of it
+pub record IsFirstCell (frame : Frame) (way : List Cond) (branches : List (List Cond)) (cell : Cell) : Type 0 where
+  pub fit : AllFit (kinds_in frame) way branches
+  pub first : IsFirstFault (kinds_in frame) way branches 4096 (Some cell.row)
+  pub shown : cell.shown ≡ shown_from 0 (conds_of_split way branches) frame.columns cell.row
+
+-- it meets no branch
+abbrev pub IsGap : Frame → Cell → Type 0
+IsGap frame cell = (way : List Cond) × (branches : List (List Cond)) × IsFirstCell frame way branches cell × (met_by branches cell.row ≡ 0)
+
+-- it meets two branches or more
+abbrev pub IsOverlap : Frame → Cell → Type 0
+IsOverlap frame cell = (way : List Cond) × (branches : List (List Cond)) × IsFirstCell frame way branches cell × (2 ≤ met_by branches cell.row)
+
+-- no tree that a node describes is valid
+abbrev pub NoneIsValid : Frame → ℕ → List Cond → List ℕ → List ℕ → Data → Type 0
+NoneIsValid frame splits way within beside node =
+    (tree : Tree) → Describes frame splits way within beside node tree → IsValidWithin (kinds_in frame) way within tree → ⊥
+
+-- a node describes no tree that has at most 32 leaves together with these
+abbrev pub NoneIsDescribed : Frame → ℕ → List Cond → List ℕ → List ℕ → Data → ℕ → Type 0
+NoneIsDescribed frame splits way within beside node leaves =
+    (tree : Tree) → Describes frame splits way within beside node tree → leaves + length (paths tree) ≤ 32 → ⊥
+
+-- A refusal by the rule, where these leaves are there before: want of memory says nothing; a gap or an overlap shows a
+-- row split that is not exact, and then no tree that is described is valid; by any other rule no tree is described.
+abbrev pub Refuses : Frame → ℕ → List Cond → List ℕ → List ℕ → Data → ℕ → Rule → Type 0
+Refuses frame splits way within beside node leaves Memory = Unit {0}
+Refuses frame splits way within beside node leaves (Gap cell) = IsGap frame cell × NoneIsValid frame splits way within beside node
+Refuses frame splits way within beside node leaves (Overlap cell) = IsOverlap frame cell × NoneIsValid frame splits way within beside node
+Refuses frame splits way within beside node leaves _ = NoneIsDescribed frame splits way within beside node leaves
