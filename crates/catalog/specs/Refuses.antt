@@ -7,10 +7,10 @@ use Rattle.terms.specs.declared.value.Value.{Value}
 use Rattle.meaning.specs.declared.schema.Column.{Column}
 use Rattle.catalog.specs.declared.fault.Cell.{Cell}
 use Rattle.catalog.specs.declared.fault.Rule.{Rule}
-use Rattle.catalog.specs.declared.fault.Rule.TheVariants.{Gap, Overlap, Memory}
+use Rattle.catalog.specs.declared.fault.Rule.TheVariants.{Gap, Overlap, Limit, Memory}
 use Rattle.catalog.specs.declared.fault.Shown.{Shown}
 use Rattle.catalog.specs.Cells.{AllFit, IsFirstFault, conds_of_split, met_by}
-use Rattle.catalog.specs.Describes.{Frame, kinds_in, Describes}
+use Rattle.catalog.specs.Describes.{Frame, kinds_in, Each, IsWhere, AreNamedIn, HasFewCells, Describes}
 use Rattle.catalog.specs.Path.{paths}
 use Rattle.catalog.specs.Split.{Tree}
 use Rattle.catalog.specs.Valid.{IsValidWithin}
@@ -57,3 +57,25 @@ Refuses frame splits way within beside node leaves Memory = Unit {0}
 Refuses frame splits way within beside node leaves (Gap cell) = IsGap frame cell × NoneIsValid frame splits way within beside node
 Refuses frame splits way within beside node leaves (Overlap cell) = IsOverlap frame cell × NoneIsValid frame splits way within beside node
 Refuses frame splits way within beside node leaves _ = NoneIsDescribed frame splits way within beside node leaves
+
+-- a refusal of the branches' conditions by the rule: but for want of memory, there are no such conditions
+abbrev pub RefusesConds : Frame → List ℕ → List Data → Rule → Type 0
+RefusesConds frame within nodes Memory = Unit {0}
+RefusesConds frame within nodes (Gap cell) = ⊥
+RefusesConds frame within nodes (Overlap cell) = ⊥
+RefusesConds frame within nodes _ = (branches : List (List Cond)) → Each (IsWhere frame within) nodes branches → ⊥
+
+-- a refusal of a row split: a gap or an overlap at its first faulty cell, or too many cells
+abbrev pub RefusesSplit : Frame → List Cond → List (List Cond) → Rule → Type 0
+RefusesSplit frame way branches Memory = Unit {0}
+RefusesSplit frame way branches (Gap cell) = IsFirstCell frame way branches cell × (met_by branches cell.row ≡ 0)
+RefusesSplit frame way branches (Overlap cell) = IsFirstCell frame way branches cell × (2 ≤ met_by branches cell.row)
+RefusesSplit frame way branches Limit = HasFewCells (kinds_in frame) way branches → ⊥
+RefusesSplit frame way branches _ = ⊥
+
+-- a refusal of the groups' columns: but for want of memory, the groups name no such columns
+abbrev pub RefusesNamed : Frame → List ℕ → List Data → Rule → Type 0
+RefusesNamed frame within nodes Memory = Unit {0}
+RefusesNamed frame within nodes (Gap cell) = ⊥
+RefusesNamed frame within nodes (Overlap cell) = ⊥
+RefusesNamed frame within nodes _ = (named : List (List ℕ)) → AreNamedIn frame within nodes named → ⊥

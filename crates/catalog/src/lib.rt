@@ -16,6 +16,8 @@ pub mod fault;
 mod form;
 mod frame;
 pub mod fragment;
+mod groups;
 pub mod laws;
 pub mod split;
 mod tree;
+mod wheres;

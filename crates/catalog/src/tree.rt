@@ -1,6 +1,6 @@
 //! The fragment tree that the nodes of a document describe.
 
-ghost use Rattle.std.specs.Prelude.{◌≡◌, ◌≤◌, ◌+◌, length, map, IfOk, IfErr};
+ghost use Rattle.std.specs.Prelude.{◌≡◌, ◌≤◌, ◌+◌, ◌++◌, length, map, IfOk, IfErr};
 ghost use Rattle.std.specs.List.{AllByRecursion};
 ghost use Rattle.terms.specs.Cond.{IsCondOf};
 ghost use Rattle.toml.specs.View.{view};
@@ -13,9 +13,15 @@ ghost use Rattle.catalog.specs.Valid.{IsValidWithin};
 
 use crate::fault::Rule;
 use crate::form::{Form, form_of_node};
-use crate::frame::Frame;
-use crate::split::Split;
+use crate::frame::{Frame, in_order};
+use crate::groups::named_columns;
+use crate::split::{Branch, Group, Split};
+use crate::wheres::{branch_conds, require_exact};
+use std::alloc::Global;
 use terms::cond::Cond;
+use terms::copy::{TryCopy, copy_all};
+use terms::memory::Memory;
+use terms::seq::Seq;
 use toml::Value;
 
 /// The most leaves of a relation.
@@ -103,4 +109,15 @@ fn by_cols(
         groups.push(Group { columns, split })?;
     }
     Ok(Split::ByCols(groups))
+}
+
+/// The conditions, and more behind them.
+fn joined(alloc: Global, conds: &[Cond], more: &[Cond]) -> Result<Vec<Cond>, Memory>
+    ensures { IfOk result (λ all. all.items ≡ conds.now ++ more.now) }
+{
+    let mut all = copy_all(alloc, conds)?;
+    for cond in more {
+        all.push(cond.copy()?)?;
+    }
+    Ok(all)
 }

@@ -1,0 +1,73 @@
+//! The conditions of the branches of a row split, and whether they are exact.
+
+ghost use Rattle.std.specs.Prelude.{◌≡◌, map, IfOk, IfErr, OnOk};
+ghost use Rattle.std.specs.List.{AllByRecursion};
+ghost use Rattle.terms.specs.Cond.{IsCondOf};
+ghost use Rattle.toml.specs.View.{view};
+ghost use Rattle.catalog.specs.Cells.{AllFit};
+ghost use Rattle.catalog.specs.Describes.{kinds_in, Each, IsWhere, HasFewCells};
+ghost use Rattle.catalog.specs.Frame.{frame_of};
+ghost use Rattle.catalog.specs.Refuses.{RefusesConds, RefusesSplit};
+ghost use Rattle.catalog.specs.Valid.{AreExact};
+
+use crate::fault::Rule;
+use crate::form::text_at;
+use crate::frame::Frame;
+use meaning::schema::Column;
+use reader::read_conds::read_conds;
+use std::alloc::Global;
+use terms::cond::{Cond, Conds};
+use toml::Value;
+
+/// The conditions of each branch, from its `where`.
+pub(crate) fn branch_conds(
+    frame: &Frame<'_>,
+    within: &[usize],
+    nodes: &[Value],
+) -> Result<Vec<Conds>, Rule>
+    ensures found { IfOk result (λ conds. Each (IsWhere (frame_of frame.now) within.now) (map view nodes.now) conds.items) }
+    ensures fit { IfOk result (λ conds. AllByRecursion (λ cs. AllByRecursion (IsCondOf (kinds_in (frame_of frame.now))) cs) conds.items) }
+    ensures none { IfErr result (λ rule. RefusesConds (frame_of frame.now) within.now (map view nodes.now) rule) }
+{
+    let columns = frame.visible(within)?;
+    let mut conds = Vec::new(frame.alloc);
+    for node in nodes {
+        conds.push(where_of(frame.alloc, columns.as_slice(), node)?)?;
+    }
+    Ok(conds)
+}
+
+fn where_of(alloc: Global, columns: &[Column], node: &Value) -> Result<Conds, Rule> {
+    let Some(text) = text_at("where", node) else {
+        return Err(Rule::Field);
+    };
+    match read_conds(alloc, text, columns) {
+        Ok(conds) => Ok(conds),
+        Err(fault) => Err(rule_of(fault.rule())),
+    }
+}
+
+/// The catalogue's rule that stands for one of the reader.
+fn rule_of(rule: reader::fault::Rule) -> Rule {
+    match rule {
+        reader::fault::Rule::NoColumn => Rule::ColumnAbsent,
+        reader::fault::Rule::WrongType => Rule::WrongType,
+        reader::fault::Rule::Limit => Rule::Limit,
+        reader::fault::Rule::Memory => Rule::Memory,
+        _ => Rule::Field,
+    }
+}
+
+/// Refuses a row split that is not exact, or has too many cells.
+pub(crate) fn require_exact(
+    frame: &Frame<'_>,
+    way: &[Cond],
+    branches: &[Conds],
+) -> Result<(), Rule>
+    requires { AllFit (kinds_in (frame_of frame.now)) way.now branches.now }
+    ensures exact { OnOk result (AreExact (kinds_in (frame_of frame.now)) way.now branches.now) }
+    ensures few { OnOk result (HasFewCells (kinds_in (frame_of frame.now)) way.now branches.now) }
+    ensures none { IfErr result (λ rule. RefusesSplit (frame_of frame.now) way.now branches.now rule) }
+{
+    Err(Rule::Memory)
+}
