@@ -9,3 +9,5 @@ pub mod Halves
 pub mod Instances
 pub mod Cells
 pub mod Nodes
+pub mod Pairs
+pub mod BranchConds

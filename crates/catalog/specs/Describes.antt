@@ -45,15 +45,26 @@ visible_from place within (column ∷ columns) = shown within place column ∷ v
 abbrev pub visible : List ℕ → List Column → List Column
 visible within columns = visible_from 0 within columns
 
--- a branch's conditions: those of its `where`, on the key and the columns around it
-pub record IsWhere (frame : Frame) (within : List ℕ) (node : Data) (conds : List Cond) : Type 0 where
+-- a branch's conditions on columns: those of its `where`
+pub record IsWhereOn (columns : List Column) (node : Data) (conds : List Cond) : Type 0 where
   pub text : List ℕ
   pub there : text_at (codes "where") node ≡ Some text
-  pub reads : AreCondsOf (visible within frame.columns) text conds
+  pub reads : AreCondsOf columns text conds
+
+-- they are on the key and the columns around the branch
+abbrev pub IsWhere : Frame → List ℕ → Data → List Cond → Type 0
+IsWhere frame within node conds = IsWhereOn (visible within frame.columns) node conds
+
+-- the place of the column of this name
+abbrev pub column_numbered : List Column → List ℕ → Option ℕ
+column_numbered columns name = position_from (λ column. pointwise nat_eq column.name name) 0 columns
+
+abbrev pub only_if : Bool → ℕ → Option ℕ
+only_if is_one place = if is_one then Some place else None
 
 -- the place of the column of this name, if it is among those around a node
 abbrev pub place_within : Frame → List ℕ → List ℕ → Option ℕ
-place_within frame within name = option_and_then (λ place. if has within place then Some place else None) (position_from (λ column. pointwise nat_eq column.name name) 0 frame.columns)
+place_within frame within name = option_and_then (λ place. only_if (has within place) place) (column_numbered frame.columns name)
 
 -- each item's answer, if every item has one
 abbrev pub all_of : {A B : Type 0} → (A → Option B) → List A → Option (List B)

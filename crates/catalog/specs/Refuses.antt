@@ -5,12 +5,14 @@ use Rattle.toml.specs.Data.{Data}
 use Rattle.terms.specs.declared.cond.Cond.{Cond}
 use Rattle.terms.specs.declared.value.Value.{Value}
 use Rattle.meaning.specs.declared.schema.Column.{Column}
+use Rattle.reader.specs.declared.fault.Rule as readers
+use Rattle.reader.specs.declared.fault.Rule.TheVariants as reading
 use Rattle.catalog.specs.declared.fault.Cell.{Cell}
 use Rattle.catalog.specs.declared.fault.Rule.{Rule}
-use Rattle.catalog.specs.declared.fault.Rule.TheVariants.{Gap, Overlap, Limit, Memory}
+use Rattle.catalog.specs.declared.fault.Rule.TheVariants.{Field, ColumnAbsent, WrongType, Gap, Overlap, Limit, Memory}
 use Rattle.catalog.specs.declared.fault.Shown.{Shown}
 use Rattle.catalog.specs.Cells.{AllFit, IsFirstFault, conds_of_split, met_by}
-use Rattle.catalog.specs.Describes.{Frame, kinds_in, Each, IsWhere, AreNamedIn, HasFewCells, Describes}
+use Rattle.catalog.specs.Describes.{Frame, kinds_in, Each, IsWhereOn, AreNamedIn, HasFewCells, Describes}
 use Rattle.catalog.specs.Path.{paths}
 use Rattle.catalog.specs.Split.{Tree}
 use Rattle.catalog.specs.Valid.{IsValidWithin}
@@ -58,12 +60,27 @@ Refuses frame splits way within beside node leaves (Gap cell) = IsGap frame cell
 Refuses frame splits way within beside node leaves (Overlap cell) = IsOverlap frame cell × NoneIsValid frame splits way within beside node
 Refuses frame splits way within beside node leaves _ = NoneIsDescribed frame splits way within beside node leaves
 
+-- the catalogue's rule that stands for one of the reader
+abbrev pub rule_of : readers.Rule → Rule
+rule_of reading.NoColumn = ColumnAbsent
+rule_of reading.WrongType = WrongType
+rule_of reading.Limit = Limit
+rule_of reading.Memory = Memory
+rule_of _ = Field
+
+-- a refusal of one branch's conditions by the rule
+abbrev pub RefusesWhere : List Column → Data → Rule → Type 0
+RefusesWhere columns node Memory = Unit {0}
+RefusesWhere columns node (Gap cell) = ⊥
+RefusesWhere columns node (Overlap cell) = ⊥
+RefusesWhere columns node _ = (conds : List Cond) → IsWhereOn columns node conds → ⊥
+
 -- a refusal of the branches' conditions by the rule: but for want of memory, there are no such conditions
-abbrev pub RefusesConds : Frame → List ℕ → List Data → Rule → Type 0
-RefusesConds frame within nodes Memory = Unit {0}
-RefusesConds frame within nodes (Gap cell) = ⊥
-RefusesConds frame within nodes (Overlap cell) = ⊥
-RefusesConds frame within nodes _ = (branches : List (List Cond)) → Each (IsWhere frame within) nodes branches → ⊥
+abbrev pub RefusesConds : List Column → List Data → Rule → Type 0
+RefusesConds columns nodes Memory = Unit {0}
+RefusesConds columns nodes (Gap cell) = ⊥
+RefusesConds columns nodes (Overlap cell) = ⊥
+RefusesConds columns nodes _ = (branches : List (List Cond)) → Each (IsWhereOn columns) nodes branches → ⊥
 
 -- a refusal of a row split: a gap or an overlap at its first faulty cell, or too many cells
 abbrev pub RefusesSplit : Frame → List Cond → List (List Cond) → Rule → Type 0

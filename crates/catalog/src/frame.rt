@@ -3,7 +3,7 @@
 ghost use Rattle.std.specs.Prelude.{◌≡◌, map, IfOk, if◌then◌else◌};
 ghost use Rattle.catalog.specs.Counts as counts;
 ghost use Rattle.catalog.specs.Describes as spec;
-ghost use Rattle.catalog.specs.Describes.{kinds_in, visible, place_within, site_numbered, in_order};
+ghost use Rattle.catalog.specs.Describes.{kinds_in, visible, place_within, site_numbered, column_numbered, in_order};
 ghost use Rattle.catalog.specs.Frame.{frame_of};
 
 use meaning::schema::Column;
@@ -33,45 +33,69 @@ impl<'a> Frame<'a> {
     pub(crate) fn place_within(&self, within: &[usize], name: &str) -> Option<usize>
         ensures { result ≡ place_within (frame_of self.now) within.now name.now }
     {
-        let place = self.columns.iter().position(|column| column.name.as_str() == name)?;
-        if has(within, place) { Some(place) } else { None }
+        match self.column(name) {
+            Some(place) => only_if(has(within, place), place),
+            None => None,
+        }
+    }
+
+    fn column(&self, name: &str) -> Option<usize>
+        ensures { result ≡ column_numbered (frame_of self.now).columns name.now }
+    {
+        self.columns.iter().position(|column| column.name.as_str() == name)
     }
 
     /// The types of the columns.
     pub(crate) fn kinds(&self) -> Result<Vec<Kind>, Memory>
         ensures { IfOk result (λ kinds. kinds.items ≡ kinds_in (frame_of self.now)) }
     {
-        let mut kinds = Vec::new(self.alloc);
-        for column in self.columns {
-            kinds.push(column.kind)?;
-        }
-        Ok(kinds)
+        kinds_of(self.alloc, self.columns)
     }
 
     /// The columns at their places; one that is neither the key nor one of these goes by no name.
     pub(crate) fn visible(&self, within: &[usize]) -> Result<Vec<Column>, Memory>
         ensures { IfOk result (λ columns. columns.items ≡ visible within.now (frame_of self.now).columns) }
     {
-        let mut columns = Vec::new(self.alloc);
-        let mut place = 0;
-        for column in self.columns {
-            columns.push(self.shown(within, place, column)?)?;
-            place += 1;
-        }
-        Ok(columns)
+        visible_columns(self.alloc, within, self.columns)
     }
+}
 
-    fn shown(&self, within: &[usize], place: usize, column: &Column) -> Result<Column, Memory>
-        ensures { IfOk result (λ shown. shown ≡ spec.shown within.now place column.now) }
-    {
-        if place == 0 || has(within, place) {
-            return column.copy();
-        }
-        Ok(Column {
-            name: Text::new(String::new(self.alloc)),
-            kind: column.kind,
-        })
+fn kinds_of(alloc: Global, columns: &[Column]) -> Result<Vec<Kind>, Memory>
+    ensures { IfOk result (λ kinds. kinds.items ≡ map (λ column. column.kind) columns.now) }
+{
+    let mut kinds = Vec::new(alloc);
+    for column in columns {
+        kinds.push(column.kind)?;
     }
+    Ok(kinds)
+}
+
+fn visible_columns(alloc: Global, within: &[usize], columns: &[Column]) -> Result<Vec<Column>, Memory>
+    ensures { IfOk result (λ shown. shown.items ≡ visible within.now columns.now) }
+{
+    let mut visible = Vec::new(alloc);
+    for place in 0..columns.len() {
+        visible.push(shown(alloc, within, place, &columns[place])?)?;
+    }
+    Ok(visible)
+}
+
+fn shown(alloc: Global, within: &[usize], place: usize, column: &Column) -> Result<Column, Memory>
+    ensures { IfOk result (λ shown. shown ≡ spec.shown within.now place column.now) }
+{
+    if place == 0 || has(within, place) {
+        return column.copy();
+    }
+    Ok(Column {
+        name: Text::new(String::new(alloc)),
+        kind: column.kind,
+    })
+}
+
+fn only_if(is_one: bool, place: usize) -> Option<usize>
+    ensures { result ≡ spec.only_if is_one place }
+{
+    if is_one { Some(place) } else { None }
 }
 
 /// Whether a column is one of these.

@@ -33,6 +33,7 @@ pub const SPLITS: usize = 4;
 /// The tree that a node describes, below these conditions, within these columns, with at most so many
 /// splits on a way; beside the key of its split the node has the one that its place asks for. The
 /// leaves are counted on.
+#[cycle(nodes)]
 pub(crate) fn tree(
     frame: &Frame<'_>,
     splits: usize,
@@ -72,6 +73,7 @@ fn site(frame: &Frame<'_>, name: &str, leaves: &mut usize) -> Result<Split, Rule
 }
 
 /// A split by rows: the conditions of all branches first, then the cells, then what is below.
+#[cycle(nodes)]
 fn by_rows(
     frame: &Frame<'_>,
     splits: usize,
@@ -92,6 +94,7 @@ fn by_rows(
 }
 
 /// A split by columns: the names of all groups first, then what is below.
+#[cycle(nodes)]
 fn by_cols(
     frame: &Frame<'_>,
     splits: usize,

@@ -5,9 +5,11 @@ ghost use Rattle.std.specs.List.{AllByRecursion};
 ghost use Rattle.terms.specs.Cond.{IsCondOf};
 ghost use Rattle.toml.specs.View.{view};
 ghost use Rattle.catalog.specs.Cells.{AllFit};
-ghost use Rattle.catalog.specs.Describes.{kinds_in, Each, IsWhere, HasFewCells};
+ghost use Rattle.reader.specs.Scope.{types};
+ghost use Rattle.catalog.specs.Describes.{kinds_in, Each, IsWhereOn, IsWhere, HasFewCells, visible};
 ghost use Rattle.catalog.specs.Frame.{frame_of};
-ghost use Rattle.catalog.specs.Refuses.{RefusesConds, RefusesSplit};
+ghost use Rattle.catalog.specs.Refuses as spec;
+ghost use Rattle.catalog.specs.Refuses.{RefusesWhere, RefusesConds, RefusesSplit};
 ghost use Rattle.catalog.specs.Valid.{AreExact};
 
 use crate::fault::Rule;
@@ -20,6 +22,7 @@ use terms::cond::{Cond, Conds};
 use toml::Value;
 
 /// The conditions of each branch, from its `where`.
+#[tactic(auto, using(crate::proofs::BranchConds::types_visible))]
 pub(crate) fn branch_conds(
     frame: &Frame<'_>,
     within: &[usize],
@@ -27,17 +30,30 @@ pub(crate) fn branch_conds(
 ) -> Result<Vec<Conds>, Rule>
     ensures found { IfOk result (λ conds. Each (IsWhere (frame_of frame.now) within.now) (map view nodes.now) conds.items) }
     ensures fit { IfOk result (λ conds. AllByRecursion (λ cs. AllByRecursion (IsCondOf (kinds_in (frame_of frame.now))) cs) conds.items) }
-    ensures none { IfErr result (λ rule. RefusesConds (frame_of frame.now) within.now (map view nodes.now) rule) }
+    ensures none { IfErr result (λ rule. RefusesConds (visible within.now (frame_of frame.now).columns) (map view nodes.now) rule) }
 {
     let columns = frame.visible(within)?;
-    let mut conds = Vec::new(frame.alloc);
+    conds_on(frame.alloc, columns.as_slice(), nodes)
+}
+
+/// The conditions of each branch on these columns.
+fn conds_on(alloc: Global, columns: &[Column], nodes: &[Value]) -> Result<Vec<Conds>, Rule>
+    ensures found { IfOk result (λ conds. Each (IsWhereOn columns.now) (map view nodes.now) conds.items) }
+    ensures fit { IfOk result (λ conds. AllByRecursion (λ cs. AllByRecursion (IsCondOf (types columns.now)) cs) conds.items) }
+    ensures none { IfErr result (λ rule. RefusesConds columns.now (map view nodes.now) rule) }
+{
+    let mut conds = Vec::new(alloc);
     for node in nodes {
-        conds.push(where_of(frame.alloc, columns.as_slice(), node)?)?;
+        conds.push(where_of(alloc, columns, node)?)?;
     }
     Ok(conds)
 }
 
-fn where_of(alloc: Global, columns: &[Column], node: &Value) -> Result<Conds, Rule> {
+fn where_of(alloc: Global, columns: &[Column], node: &Value) -> Result<Conds, Rule>
+    ensures found { IfOk result (λ conds. IsWhereOn columns.now (view node.now) conds) }
+    ensures fit { IfOk result (λ conds. AllByRecursion (IsCondOf (types columns.now)) conds) }
+    ensures none { IfErr result (λ rule. RefusesWhere columns.now (view node.now) rule) }
+{
     let Some(text) = text_at("where", node) else {
         return Err(Rule::Field);
     };
@@ -48,13 +64,22 @@ fn where_of(alloc: Global, columns: &[Column], node: &Value) -> Result<Conds, Ru
 }
 
 /// The catalogue's rule that stands for one of the reader.
-fn rule_of(rule: reader::fault::Rule) -> Rule {
+fn rule_of(rule: reader::fault::Rule) -> Rule
+    ensures { result ≡ spec.rule_of rule }
+{
     match rule {
         reader::fault::Rule::NoColumn => Rule::ColumnAbsent,
         reader::fault::Rule::WrongType => Rule::WrongType,
         reader::fault::Rule::Limit => Rule::Limit,
         reader::fault::Rule::Memory => Rule::Memory,
-        _ => Rule::Field,
+        reader::fault::Rule::TooLong
+        | reader::fault::Rule::Character
+        | reader::fault::Rule::Syntax
+        | reader::fault::Rule::NoRelation
+        | reader::fault::Rule::Ambiguous
+        | reader::fault::Rule::KeyColumn
+        | reader::fault::Rule::JoinNotKey
+        | reader::fault::Rule::Count => Rule::Field,
     }
 }
 
