@@ -11,3 +11,7 @@ pub mod Cells
 pub mod Nodes
 pub mod Pairs
 pub mod BranchConds
+pub mod CellCount
+pub mod ColumnParts
+pub mod Combined
+pub mod TestColumns

@@ -11,6 +11,8 @@ pub mod Describes
 pub mod Frame
 pub mod Refuses
 pub mod Catalogue
+pub mod Exactness
+pub mod Parts
 pub mod Keyed
 pub mod Laws
 pub mod Item

@@ -15,9 +15,11 @@
 pub mod fault;
 mod form;
 mod frame;
+pub mod exact;
 pub mod fragment;
 mod groups;
 pub mod laws;
+pub mod parts;
 pub mod split;
 mod tree;
 mod wheres;
