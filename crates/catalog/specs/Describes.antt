@@ -11,8 +11,10 @@ use Rattle.reader.specs.Conds.{AreCondsOf}
 use Rattle.catalog.specs.Cells.{AreSplitColumns, cell_count}
 use Rattle.catalog.specs.Counts.{has}
 use Rattle.catalog.specs.Node.{AtSite, SplitByRows, SplitByCols, form_of, text_at, texts_at}
+use Rattle.catalog.specs.Parts.{named, AreApart}
 use Rattle.catalog.specs.Path.{branch_conds, group_columns}
 use Rattle.catalog.specs.Split.{Tree, Site, ByRows, ByCols, Branches, NoBranch, Branch, Groups, NoGroup, Group}
+use Rattle.catalog.specs.Valid.{AreParts}
 
 -- what the nodes of a relation speak of: the catalogue's sites, and the relation's columns
 pub record Frame : Type 0 where
@@ -75,20 +77,15 @@ all_of answer (x ∷ xs) = option_and_then (λ y. option_map (λ ys. y ∷ ys) (
 abbrev pub named_in : Frame → List ℕ → Data → Option (List ℕ)
 named_in frame within node = option_and_then (λ names. all_of (place_within frame within) names) (texts_at (codes "of") node)
 
--- no column stands twice
-abbrev pub AreDistinctPlaces : List ℕ → Type 0
-AreDistinctPlaces [] = Unit {0}
-AreDistinctPlaces (first ∷ others) = (has others first ≡ false) × AreDistinctPlaces others
-
--- groups name these columns: none of them twice, and none of the columns around them is lost
-pub record AreNamedIn (frame : Frame) (within : List ℕ) (nodes : List Data) (named : List (List ℕ)) : Type 0 where
-  pub names : all_of (named_in frame within) nodes ≡ Some named
-  pub once : AreDistinctPlaces (flat_map (λ places. places) named)
-  pub all : AllByRecursion (λ place. has (flat_map (λ places. places) named) place ≡ true) within
+-- groups name these columns: each of those around them in one group, and none of them twice
+pub record AreNamedIn (frame : Frame) (within : List ℕ) (nodes : List Data) (groups : List (List ℕ)) : Type 0 where
+  pub names : all_of (named_in frame within) nodes ≡ Some groups
+  pub parts : AreParts within groups
+  pub apart : AreApart (named groups)
 
 -- columns of a group in the order of the relation
 abbrev pub in_order : List ℕ → List ℕ → List ℕ
-in_order within named = filter (has named) within
+in_order within group = filter (has group) within
 
 -- a row split has at most 4,096 cells
 pub record HasFewCells (kinds : List Kind) (way : List Cond) (branches : List (List Cond)) : Type 0 where
@@ -108,8 +105,8 @@ abbrev mutual
       × HasFewCells (kinds_in frame) way (branch_conds branches) × AreBranches frame splits way within nodes branches
   Describes frame zero way within beside node (ByCols groups) = ⊥
   Describes frame (suc splits) way within beside node (ByCols groups) =
-      (nodes : List Data) × (form_of beside node ≡ SplitByCols nodes) × (named : List (List ℕ)) × AreNamedIn frame within nodes named
-      × (group_columns groups ≡ map (in_order within) named) × AreGroups frame splits way nodes groups
+      (nodes : List Data) × (form_of beside node ≡ SplitByCols nodes) × (columns : List (List ℕ)) × AreNamedIn frame within nodes columns
+      × (group_columns groups ≡ map (in_order within) columns) × AreGroups frame splits way nodes groups
 
   pub AreBranches : Frame → ℕ → List Cond → List ℕ → List Data → Branches → Type 0
   AreBranches frame splits way within [] NoBranch = Unit {0}

@@ -1,5 +1,5 @@
 -- What the refusal of a node of a catalogue's document says.
-use Rattle.std.specs.Prelude.{◌≡◌, ◌≤◌, ◌+◌, ◌==◌, ℕ, suc, Bool, if◌then◌else◌, List, [], ◌∷◌, Some, length}
+use Rattle.std.specs.Prelude.{◌≡◌, ◌≤◌, ◌+◌, ◌==◌, ℕ, suc, Bool, if◌then◌else◌, List, [], ◌∷◌, Some, None, length}
 use Rattle.std.specs.List.{list_any}
 use Rattle.toml.specs.Data.{Data}
 use Rattle.terms.specs.declared.cond.Cond.{Cond}
@@ -12,7 +12,7 @@ use Rattle.catalog.specs.declared.fault.Rule.{Rule}
 use Rattle.catalog.specs.declared.fault.Rule.TheVariants.{Field, ColumnAbsent, WrongType, Gap, Overlap, Limit, Memory}
 use Rattle.catalog.specs.declared.fault.Shown.{Shown}
 use Rattle.catalog.specs.Cells.{AllFit, IsFirstFault, conds_of_split, met_by}
-use Rattle.catalog.specs.Describes.{Frame, kinds_in, Each, IsWhereOn, AreNamedIn, HasFewCells, Describes}
+use Rattle.catalog.specs.Describes.{Frame, kinds_in, Each, IsWhereOn, named_in, AreNamedIn, HasFewCells, Describes}
 use Rattle.catalog.specs.Path.{paths}
 use Rattle.catalog.specs.Split.{Tree}
 use Rattle.catalog.specs.Valid.{IsValidWithin}
@@ -95,4 +95,11 @@ abbrev pub RefusesNamed : Frame → List ℕ → List Data → Rule → Type 0
 RefusesNamed frame within nodes Memory = Unit {0}
 RefusesNamed frame within nodes (Gap cell) = ⊥
 RefusesNamed frame within nodes (Overlap cell) = ⊥
-RefusesNamed frame within nodes _ = (named : List (List ℕ)) → AreNamedIn frame within nodes named → ⊥
+RefusesNamed frame within nodes _ = (groups : List (List ℕ)) → AreNamedIn frame within nodes groups → ⊥
+
+-- a refusal of one group by the rule: but for want of memory, it names no columns among these
+abbrev pub RefusesGroup : Frame → List ℕ → Data → Rule → Type 0
+RefusesGroup frame within node Memory = Unit {0}
+RefusesGroup frame within node (Gap cell) = ⊥
+RefusesGroup frame within node (Overlap cell) = ⊥
+RefusesGroup frame within node _ = named_in frame within node ≡ None
