@@ -15,3 +15,5 @@ pub mod CellCount
 pub mod ColumnParts
 pub mod Combined
 pub mod TestColumns
+pub mod ShownValues
+pub mod OneTestColumn

@@ -1,5 +1,5 @@
 -- What the refusal of a node of a catalogue's document says.
-use Rattle.std.specs.Prelude.{◌≡◌, ◌≤◌, ◌+◌, ◌==◌, ℕ, suc, Bool, if◌then◌else◌, List, [], ◌∷◌, Some, None, length}
+use Rattle.std.specs.Prelude.{◌≡◌, ◌≤◌, ◌+◌, ◌==◌, ℕ, suc, Bool, if◌then◌else◌, List, [], ◌∷◌, ◌++◌, Some, None, length}
 use Rattle.std.specs.List.{list_any}
 use Rattle.toml.specs.Data.{Data}
 use Rattle.terms.specs.declared.cond.Cond.{Cond}
@@ -21,12 +21,15 @@ use Rattle.catalog.specs.Valid.{IsValidWithin}
 abbrev pub is_named_by : List Cond → ℕ → Bool
 is_named_by conds place = list_any (λ cond. cond.col == place) conds
 
+-- the column at a place with its value, if a condition names it
+abbrev pub shown_here : ℕ → List Cond → Column → Value → List Shown
+shown_here place conds column value = if is_named_by conds place then record { column = column.name; value = value } ∷ [] else []
+
 -- the columns that conditions name, each with its value in a row; the first has this place
 abbrev pub shown_from : ℕ → List Cond → List Column → List Value → List Shown
-shown_from place conds (column ∷ columns) (value ∷ values) =
-    if is_named_by conds place then record { column = column.name; value = value } ∷ shown_from (suc place) conds columns values
-    else shown_from (suc place) conds columns values
-shown_from place conds columns values = []
+shown_from place conds [] values = []
+shown_from place conds (column ∷ columns) [] = []
+shown_from place conds (column ∷ columns) (value ∷ values) = shown_here place conds column value ++ shown_from (suc place) conds columns values
 
 -- a cell is the first faulty one of a row split over the columns of a relation, with what is shown of it
 pub record IsFirstCell (frame : Frame) (way : List Cond) (branches : List (List Cond)) (cell : Cell) : Type 0 where

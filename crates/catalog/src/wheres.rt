@@ -1,6 +1,6 @@
 //! The conditions of the branches of a row split, and whether they are exact.
 
-ghost use Rattle.std.specs.Prelude.{◌≡◌, map, IfOk, IfErr, OnOk};
+ghost use Rattle.std.specs.Prelude.{◌≡◌, ◌++◌, map, IfOk, IfErr, OnOk};
 ghost use Rattle.std.specs.List.{AllByRecursion};
 ghost use Rattle.terms.specs.Cond.{IsCondOf};
 ghost use Rattle.toml.specs.View.{view};
@@ -9,7 +9,7 @@ ghost use Rattle.reader.specs.Scope.{types};
 ghost use Rattle.catalog.specs.Describes.{kinds_in, Each, IsWhereOn, IsWhere, HasFewCells, visible};
 ghost use Rattle.catalog.specs.Frame.{frame_of};
 ghost use Rattle.catalog.specs.Refuses as spec;
-ghost use Rattle.catalog.specs.Refuses.{RefusesWhere, RefusesConds, RefusesSplit, shown_from};
+ghost use Rattle.catalog.specs.Refuses.{RefusesWhere, RefusesConds, RefusesSplit, shown_here, shown_from};
 ghost use Rattle.catalog.specs.Valid.{AreExact};
 
 use crate::exact::{Exactness, conds_of_split, try_cells};
@@ -119,6 +119,7 @@ fn cell(frame: &Frame<'_>, way: &[Cond], branches: &[Conds], row: Row) -> Result
     Ok(Cell { row, shown })
 }
 
+
 fn shown_values(
     alloc: Global,
     conds: &[Cond],
@@ -129,13 +130,26 @@ fn shown_values(
 {
     let mut shown = Vec::new(alloc);
     for place in 0..columns.len().min(values.len()) {
-        if is_named_by(conds, place) {
-            let column = columns[place].name.copy()?;
-            let value = values[place].copy()?;
-            shown.push(Shown { column, value })?;
-        }
+        push_shown(&mut shown, place, conds, &columns[place], &values[place])?;
     }
     Ok(shown)
+}
+
+fn push_shown(
+    shown: &mut Vec<Shown>,
+    place: usize,
+    conds: &[Cond],
+    column: &Column,
+    value: &Value,
+) -> Result<(), Memory>
+    ensures { OnOk result (shown.new.items ≡ shown.old.items ++ shown_here place conds.now column.now value.now) }
+{
+    if is_named_by(conds, place) {
+        let column = column.name.copy()?;
+        let value = value.copy()?;
+        shown.push(Shown { column, value })?;
+    }
+    Ok(())
 }
 
 fn is_named_by(conds: &[Cond], place: usize) -> bool
