@@ -1,6 +1,7 @@
 -- What the refusal of a node of a catalogue's document says.
-use Rattle.std.specs.Prelude.{◌≡◌, ◌≤◌, ◌+◌, ◌==◌, ℕ, suc, Bool, if◌then◌else◌, List, [], ◌∷◌, ◌++◌, Some, None, length}
+use Rattle.std.specs.Prelude.{◌≡◌, ◌≤◌, ◌+◌, ◌==◌, ℕ, suc, Bool, true, false, if◌then◌else◌, List, [], ◌∷◌, ◌++◌, Some, None, length}
 use Rattle.std.specs.List.{list_any}
+use Rattle.reader.specs.Names.{all_of}
 use Rattle.toml.specs.Data.{Data}
 use Rattle.terms.specs.declared.cond.Cond.{Cond}
 use Rattle.terms.specs.declared.value.Value.{Value}
@@ -15,7 +16,8 @@ use Rattle.catalog.specs.Cells.{AllFit, IsFirstFault, conds_of_split, met_by}
 use Rattle.catalog.specs.Describes.{Frame, kinds_in, Each, IsWhereOn, named_in, AreNamedIn, HasFewCells, Describes}
 use Rattle.catalog.specs.Path.{paths}
 use Rattle.catalog.specs.Split.{Tree}
-use Rattle.catalog.specs.Valid.{IsValidWithin}
+use Rattle.catalog.specs.Parts.{named, AreApart}
+use Rattle.catalog.specs.Valid.{AreParts, IsValidWithin}
 
 -- whether a condition names a column
 abbrev pub is_named_by : List Cond → ℕ → Bool
@@ -100,9 +102,30 @@ RefusesNamed frame within nodes (Gap cell) = ⊥
 RefusesNamed frame within nodes (Overlap cell) = ⊥
 RefusesNamed frame within nodes _ = (groups : List (List ℕ)) → AreNamedIn frame within nodes groups → ⊥
 
+-- whether a rule is broken by a text, and not shown by a cell nor a want of memory
+abbrev pub is_of_text : Rule → Bool
+is_of_text Memory = false
+is_of_text (Gap cell) = false
+is_of_text (Overlap cell) = false
+is_of_text _ = true
+
+-- a refusal of groups of these columns by the rule: but for want of memory, they don't share out the columns around them
+abbrev pub RefusesParts : List ℕ → List (List ℕ) → Rule → Type 0
+RefusesParts within groups Memory = Unit {0}
+RefusesParts within groups (Gap cell) = ⊥
+RefusesParts within groups (Overlap cell) = ⊥
+RefusesParts within groups _ = AreParts within groups → AreApart (named groups) → ⊥
+
 -- a refusal of one group by the rule: but for want of memory, it names no columns among these
 abbrev pub RefusesGroup : Frame → List ℕ → Data → Rule → Type 0
 RefusesGroup frame within node Memory = Unit {0}
 RefusesGroup frame within node (Gap cell) = ⊥
 RefusesGroup frame within node (Overlap cell) = ⊥
 RefusesGroup frame within node _ = named_in frame within node ≡ None
+
+-- a refusal of all groups by the rule: but for want of memory, some group names no columns among these
+abbrev pub RefusesGroups : Frame → List ℕ → List Data → Rule → Type 0
+RefusesGroups frame within nodes Memory = Unit {0}
+RefusesGroups frame within nodes (Gap cell) = ⊥
+RefusesGroups frame within nodes (Overlap cell) = ⊥
+RefusesGroups frame within nodes _ = all_of (named_in frame within) nodes ≡ None
