@@ -1,5 +1,5 @@
 -- Counting up to a limit: a product cut off at the greatest number is below the limit exactly where the whole product is.
-use Rattle.std.proofs.Common.{◌≡◌, ◌≤◌, ◌↔◌, ◌*◌, ◌+◌, ◌<◌, ◌^◌, ◌-◌, ℕ, suc, zero, List, [], ◌∷◌, ◌⊎◌, inl, inr, length, drop, get_or, min, refl, sym, ap, ◌∙◌, subst, arith}
+use Rattle.std.proofs.Common.{◌≡◌, ◌≤◌, ◌↔◌, ◌*◌, ◌+◌, ◌<◌, ℕ, suc, zero, List, length, drop, get_or, min, sym, ap, ◌∙◌, subst, arith}
 use Rattle.std.proofs.Math.Nat.{mul-suc, mul-zero, mul_assoc}
 use Rattle.std.proofs.Math.Seq.{drop-cons}
 use Rattle.catalog.specs.Cells.{cell_count}

@@ -1,5 +1,5 @@
 -- Cells decide whether a row split is exact: every row that fits is met as a cell is, and cells are rows that fit.
-use Rattle.std.proofs.Common.{◌≡◌, ◌≢◌, ◌+◌, ◌==◌, ℕ, zero, suc, Bool, true, false, cond, not, ◌&&◌, List, [], ◌∷◌, ◌++◌, map, flat_map, Option, Some, None, Contains, refl, sym, ap, ap₂, ◌∙◌, subst, arith}
+use Rattle.std.proofs.Common.{◌≡◌, ◌≢◌, ◌+◌, ◌==◌, ℕ, suc, Bool, true, false, cond, not, ◌&&◌, List, [], ◌∷◌, ◌++◌, map, flat_map, Some, None, Contains, refl, sym, ap, ap₂, ◌∙◌, subst, arith}
 use Rattle.std.specs.List.{AllByRecursion, find, slice_get}
 use Rattle.std.proofs.lemmas.Bool.{eqb-true, eq-eqb}
 use Rattle.std.proofs.lemmas.List.Elements.{All-from_recursion, recursion_from_All, All-contains, All-contains_itself}
@@ -9,9 +9,9 @@ use Rattle.terms.specs.declared.value.Value.{Value}
 use Rattle.terms.specs.Value.{Fits, kind_of}
 use Rattle.terms.specs.Cond.{IsCondOf, cond_holds, conds_hold}
 use Rattle.terms.specs.Row.{FitsKinds}
-use Rattle.terms.specs.TestValues.{test_values, constants, StandsIn, TestRowsSuffice, TestValuesFit}
+use Rattle.terms.specs.TestValues.{test_values, constants, TestRowsSuffice, TestValuesFit}
 use Rattle.catalog.specs.Valid.{AreExact}
-use Rattle.catalog.specs.Cells.{product, conds_of_split, IsTestColumn, AreTestColumns, AreSplitColumns, met_by, is_fault, first_fault, IsFault, AllFit, CellsDecide}
+use Rattle.catalog.specs.Cells.{product, conds_of_split, AreTestColumns, AreSplitColumns, met_by, is_fault, first_fault, IsFault, AllFit, CellsDecide}
 use Rattle.catalog.proofs.Counts.{and_true}
 
 all_append : {X : Type 0} (P : X → Type 0) (xs ys : List X) → AllByRecursion P xs → AllByRecursion P ys → AllByRecursion P (xs ++ ys)
@@ -94,8 +94,8 @@ cells_fit law all conds col (kind ∷ kinds) (values ∷ lists) fit columns ther
     let at_col = there 0 col kind (omega arith) refl in
     let Fitting : Value → Type 0 = λ value. (kind_of value ≡ kind) × Fits value in
     let values_fit : AllByRecursion Fitting values = weaker (Contains values) Fitting values
-        (λ value own. law all conds col kind value fit at_col (((columns.0).members value).0 own))
-        (recursion_from_All (Contains values) values (All-contains_itself values)) in
+    (λ value own. law all conds col kind value fit at_col (((columns.0).members value).0 own))
+    (recursion_from_All (Contains values) values (All-contains_itself values)) in
     all_joined (FitsKinds (kind ∷ kinds)) (λ value. map (λ row. value ∷ row) (product lists)) values
     (weaker Fitting (λ value. AllByRecursion (FitsKinds (kind ∷ kinds)) (map (λ row. value ∷ row) (product lists))) values
     (λ value own. map_all (FitsKinds (kind ∷ kinds)) (FitsKinds kinds) (λ row. value ∷ row) (product lists) (λ row row_fits. (own.0, own.1, row_fits)) rest)

@@ -12,6 +12,7 @@ pub mod Nodes
 pub mod Pairs
 pub mod BranchConds
 pub mod CellCount
+pub mod OneList
 pub mod ColumnParts
 pub mod Combined
 pub mod TestColumns

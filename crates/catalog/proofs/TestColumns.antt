@@ -1,5 +1,5 @@
 -- One more column's test values.
-use Rattle.std.proofs.Common.{◌≡◌, ◌+◌, ◌<◌, ℕ, zero, suc, List, [], ◌∷◌, ◌++◌, length, length-take, take, get_or, sym, subst, arith}
+use Rattle.std.proofs.Common.{◌≡◌, ◌+◌, ◌<◌, ℕ, suc, List, [], ◌∷◌, ◌++◌, length, length-take, take, get_or, sym, subst, arith}
 use Rattle.std.proofs.lemmas.List.{take_more}
 use Rattle.terms.specs.declared.cond.Cond.{Cond}
 use Rattle.terms.specs.declared.value.Kind.{Kind}

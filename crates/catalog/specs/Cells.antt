@@ -73,6 +73,10 @@ pub record IsFault (kinds : List Kind) (way : List Cond) (branches : List (List 
   pub holds : conds_hold way row ≡ true
   pub not_one : met_by branches row ≢ 1
 
+-- the lists of test values are fixed by the row split, and so are its cells, their number and their order
+abbrev pub CellsAreFixed : Type 0
+CellsAreFixed = (kinds : List Kind) (way : List Cond) (branches : List (List Cond)) (one other : List (List Value)) → AreSplitColumns kinds way branches one → AreSplitColumns kinds way branches other → one ≡ other
+
 -- all conditions of a row split fit columns of these types
 pub record AllFit (kinds : List Kind) (way : List Cond) (branches : List (List Cond)) : Type 0 where
   pub on_way : AllByRecursion (IsCondOf kinds) way

@@ -1,4 +1,4 @@
-use Rattle.std.specs.Prelude.{◌≡◌, ℕ, Bool, true, false, not, List, [], ◌∷◌, ◌++◌, flat_map, find, Option, Some, None}
+use Rattle.std.specs.Prelude.{◌≡◌, ℕ, true, false, not, List, [], ◌∷◌, ◌++◌, flat_map, find, Option, Some, None}
 use Rattle.catalog.specs.declared.parts.PartFault.{PartFault}
 use Rattle.catalog.specs.declared.parts.PartFault.TheVariants.{Twice, Lost}
 use Rattle.catalog.specs.Counts.{has}

@@ -127,7 +127,12 @@ fn with_first(alloc: Global, values: &[Value], rows: &[Row]) -> Result<Vec<Row>,
 }
 
 /// Adds each row with the value before it.
-fn push_behind(alloc: Global, longer: &mut Vec<Row>, value: &Value, rows: &[Row]) -> Result<(), Memory>
+fn push_behind(
+    alloc: Global,
+    longer: &mut Vec<Row>,
+    value: &Value,
+    rows: &[Row],
+) -> Result<(), Memory>
     ensures { OnOk result (longer.new.items ≡ longer.old.items ++ map (λ row. value.now ∷ row) rows.now) }
 {
     for row in rows {

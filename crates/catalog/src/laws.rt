@@ -1,7 +1,7 @@
 //! The laws of fragmentation, each as the contract of a function that does nothing.
 
 ghost use Rattle.catalog.specs.Laws.{ExactlyOneLeaf, SomeLeaf, OneRebuilt};
-ghost use Rattle.catalog.specs.Cells.{CellsDecide};
+ghost use Rattle.catalog.specs.Cells.{CellsAreFixed, CellsDecide};
 ghost use Rattle.catalog.specs.Item.{ItemIsValid, ItemFragments};
 ghost use Rattle.catalog.specs.Emp.{EmpIsValid, EmpFragments};
 
@@ -21,6 +21,11 @@ pub fn some_leaf()
 /// At most one relation is rebuilt from the contents of the leaves of a valid tree.
 pub fn one_rebuilt()
     ensures { OneRebuilt }
+{}
+
+/// A row split fixes its cells and their order.
+pub fn cells_are_fixed()
+    ensures { CellsAreFixed }
 {}
 
 /// A row split is exact where no cell is a fault; and the first cell that is one is a row that fits,

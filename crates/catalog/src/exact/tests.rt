@@ -150,13 +150,31 @@ fn finds_overlaps(rt: HostRuntime) {
     let alloc = rt.alloc();
     let upto = [(1, Cmp::Le, 10)];
     let from = [(1, Cmp::Ge, 10)];
-    assert!(rt; gives(alloc, &[], &upto, &from, Word::Overlap, &[i64::MIN, 10, i64::MIN]));
+    assert!(rt;
+        gives(
+            alloc,
+            &[],
+            &upto,
+            &from,
+            Word::Overlap,
+            &[i64::MIN, 10, i64::MIN]
+        )
+    );
 }
 
 #[test]
 fn accepts_exact_branches(rt: HostRuntime) {
     let alloc = rt.alloc();
-    assert!(rt; gives(alloc, &[], &[(1, Cmp::Le, 4)], &[(1, Cmp::Ge, 5)], Word::Exact, &[]));
+    assert!(rt;
+        gives(
+            alloc,
+            &[],
+            &[(1, Cmp::Le, 4)],
+            &[(1, Cmp::Ge, 5)],
+            Word::Exact,
+            &[]
+        )
+    );
 }
 
 #[test]
@@ -166,7 +184,16 @@ fn asks_the_way(rt: HostRuntime) {
     let same = [(1, Cmp::Eq, 10)];
     assert!(rt; gives(alloc, &way, &same, &[(1, Cmp::Gt, 10)], Word::Exact, &[]));
     let far = [(1, Cmp::Gt, 20)];
-    assert!(rt; gives(alloc, &way, &same, &far, Word::Gap, &[i64::MIN, 11, i64::MIN]));
+    assert!(rt;
+        gives(
+            alloc,
+            &way,
+            &same,
+            &far,
+            Word::Gap,
+            &[i64::MIN, 11, i64::MIN]
+        )
+    );
 }
 
 /// What the cells of `name <= 'm'` and `name > 'm'` show.

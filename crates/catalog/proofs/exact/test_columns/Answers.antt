@@ -1,4 +1,4 @@
-use Rattle.std.proofs.Common.{◌≡◌, ◌++◌, ◌∷◌, [], List, ap, ◌∙◌}
+use Rattle.std.proofs.Common.{◌++◌, ◌∷◌, [], List, ap, ◌∙◌}
 use Rattle.terms.specs.declared.value.Value.{Value}
 use Rattle.catalog.proofs.TestColumns.{one_column}
 use Rattle.catalog.proofs.exact.test_columns.Goals as goal
