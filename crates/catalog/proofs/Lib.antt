@@ -11,6 +11,10 @@ pub mod Cells
 pub mod Nodes
 pub mod Pairs
 pub mod BranchConds
+pub mod Refusals
+pub mod Children
+pub mod Leaves
+pub mod Below
 pub mod CellCount
 pub mod ColumnParts
 pub mod Combined
