@@ -1,7 +1,7 @@
 -- What is below a split, as a loop finds it branch by branch or group by group.
-use Rattle.std.proofs.Common.{◌≡◌, ◌≤◌, ◌<◌, ◌+◌, ℕ, zero, suc, List, [], ◌∷◌, ◌++◌, length, map, take, get_or, refl, sym, ap, ap₂, ◌∙◌, subst, arith, add-one, map-append}
+use Rattle.std.proofs.Common.{◌≡◌, ◌≤◌, ◌<◌, ◌+◌, ℕ, zero, suc, List, [], ◌∷◌, ◌++◌, length, map, take, get_or, refl, sym, ap, ap₂, ◌∙◌, subst, arith}
 use Rattle.std.specs.Prelude.{codes}
-use Rattle.std.proofs.lemmas.List.{take_more}
+use Rattle.std.proofs.lemmas.List.{take_more, map-append}
 use Rattle.toml.specs.Data.{Data}
 use Rattle.terms.specs.declared.cond.Cond.{Cond}
 use Rattle.catalog.specs.Describes.{Frame, kinds_in, Each, Describes, AreBranches, AreGroups}
@@ -111,3 +111,22 @@ pub cols_pushed : {D : Type 0} (seen : D → TreeGroup) (zs all : List D) (z : D
 cols_pushed seen zs all z before now next pushed so_far here =
     let more = ap (λ (gs : List TreeGroup). length (paths_by_cols [] (groups_of gs))) (seen_pushed seen zs all z pushed) ∙ cols_last [] (map seen zs) (seen z) in
     omega (arith, so_far, here, more)
+
+-- a branch by its conditions, and a group by its columns
+pub is_branch : (frame : Frame) (splits : ℕ) (way : List Cond) (within : List ℕ) (node : Data) (branch : TreeBranch) (conds : List Cond) → branch.conds ≡ conds →
+    Describes frame splits (way ++ conds) within (codes "where") node branch.tree → IsValidWithin (kinds_in frame) (way ++ conds) within branch.tree → IsBranch frame splits way within node branch
+is_branch frame splits way within node branch conds is described valid =
+    let P : List Cond → Type 0 = λ cs. Describes frame splits (way ++ cs) within (codes "where") node branch.tree × IsValidWithin (kinds_in frame) (way ++ cs) within branch.tree in
+    subst P (sym is) (described, valid)
+
+pub is_group : (frame : Frame) (splits : ℕ) (way : List Cond) (node : Data) (group : TreeGroup) (columns : List ℕ) → group.columns ≡ columns →
+    Describes frame splits way columns (codes "of") node group.tree → IsValidWithin (kinds_in frame) way columns group.tree → IsGroup frame splits way node group
+is_group frame splits way node group columns is described valid =
+    let P : List ℕ → Type 0 = λ cs. Describes frame splits way cs (codes "of") node group.tree × IsValidWithin (kinds_in frame) way cs group.tree in
+    subst P (sym is) (described, valid)
+
+pub all_taken : {A : Type 0} (items : List A) (i : ℕ) → length items ≤ i → take i items ≡ items
+all_taken [] zero past = refl
+all_taken [] (suc i) past = refl
+all_taken (item ∷ items) zero past = absurd (omega arith)
+all_taken {A} (item ∷ items) (suc i) past = ap (λ (rest : List A). item ∷ rest) (all_taken items i (omega arith))

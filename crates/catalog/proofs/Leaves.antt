@@ -1,5 +1,6 @@
 -- How many leaves the trees that a node describes have: as many the one as the other.
-use Rattle.std.proofs.Common.{◌≡◌, ◌+◌, ℕ, zero, suc, List, [], ◌∷◌, ◌++◌, length, map, refl, sym, ap, ap₂, ◌∙◌, subst, length-append, length-map, arith}
+use Rattle.std.proofs.Common.{◌≡◌, ◌+◌, ℕ, zero, suc, List, [], ◌∷◌, ◌++◌, length, map, refl, sym, ap, ap₂, ◌∙◌, subst, length-append, arith}
+use Rattle.std.proofs.lemmas.List.{length-map}
 use Rattle.std.specs.Prelude.{codes}
 use Rattle.toml.specs.Data.{Data}
 use Rattle.terms.specs.declared.cond.Cond.{Cond}
@@ -63,20 +64,20 @@ mutual
   one_count frame zero way road within among beside node (Site a) (ByCols bs) one two = absurd two
   one_count frame zero way road within among beside node (ByRows bs) other one two = absurd one
   one_count frame zero way road within among beside node (ByCols bs) other one two = absurd one
-  one_count frame (suc splits) way road within among beside node (Site a) (ByRows bs) one two = absurd (site_rows (form_of beside node) one.0 two.0 one.1.0 two.1.0)
-  one_count frame (suc splits) way road within among beside node (Site a) (ByCols bs) one two = absurd (site_cols (form_of beside node) one.0 two.0 one.1.0 two.1.0)
-  one_count frame (suc splits) way road within among beside node (ByRows bs) (Site b) one two = absurd (site_rows (form_of beside node) two.0 one.0 two.1.0 one.1.0)
+  one_count frame (suc splits) way road within among beside node (Site a) (ByRows bs) one two = absurd (site_rows (form_of beside node) one.0 two.0 one.1 two.1)
+  one_count frame (suc splits) way road within among beside node (Site a) (ByCols bs) one two = absurd (site_cols (form_of beside node) one.0 two.0 one.1 two.1)
+  one_count frame (suc splits) way road within among beside node (ByRows bs) (Site b) one two = absurd (site_rows (form_of beside node) two.0 one.0 two.1 one.1)
   one_count frame (suc splits) way road within among beside node (ByRows bs) (ByRows cs) one two =
-      let same : two.0 ≡ one.0 = one_rows (form_of beside node) two.0 one.0 two.1.0 one.1.0 in
+      let same : two.0 ≡ one.0 = one_rows (form_of beside node) two.0 one.0 two.1 one.1 in
       let P : List Data → Type 0 = λ nodes. AreBranches frame splits road among nodes cs in
-      one_count_rows frame splits way road within among one.0 bs cs one.1.1.1.1 (subst P same two.1.1.1.1)
-  one_count frame (suc splits) way road within among beside node (ByRows bs) (ByCols cs) one two = absurd (rows_cols (form_of beside node) one.0 two.0 one.1.0 two.1.0)
-  one_count frame (suc splits) way road within among beside node (ByCols bs) (Site b) one two = absurd (site_cols (form_of beside node) two.0 one.0 two.1.0 one.1.0)
-  one_count frame (suc splits) way road within among beside node (ByCols bs) (ByRows cs) one two = absurd (rows_cols (form_of beside node) two.0 one.0 two.1.0 one.1.0)
+      one_count_rows frame splits way road within among one.0 bs cs one.4 (subst P same two.4)
+  one_count frame (suc splits) way road within among beside node (ByRows bs) (ByCols cs) one two = absurd (rows_cols (form_of beside node) one.0 two.0 one.1 two.1)
+  one_count frame (suc splits) way road within among beside node (ByCols bs) (Site b) one two = absurd (site_cols (form_of beside node) two.0 one.0 two.1 one.1)
+  one_count frame (suc splits) way road within among beside node (ByCols bs) (ByRows cs) one two = absurd (rows_cols (form_of beside node) two.0 one.0 two.1 one.1)
   one_count frame (suc splits) way road within among beside node (ByCols bs) (ByCols cs) one two =
-      let same : two.0 ≡ one.0 = one_cols (form_of beside node) two.0 one.0 two.1.0 one.1.0 in
+      let same : two.0 ≡ one.0 = one_cols (form_of beside node) two.0 one.0 two.1 one.1 in
       let P : List Data → Type 0 = λ nodes. AreGroups frame splits road nodes cs in
-      one_count_cols frame splits way road [] [] one.0 bs cs one.1.1.1.1.1 (subst P same two.1.1.1.1.1)
+      one_count_cols frame splits way road [] [] one.0 bs cs one.5 (subst P same two.5)
 
   one_count_rows : (frame : Frame) (splits : ℕ) (way road : List Cond) (within among : List ℕ) (nodes : List Data) (branches others : Branches) →
       AreBranches frame splits way within nodes branches → AreBranches frame splits road among nodes others → length (paths_by_rows branches) ≡ length (paths_by_rows others)

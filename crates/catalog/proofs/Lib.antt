@@ -11,6 +11,8 @@ pub mod Cells
 pub mod Nodes
 pub mod Pairs
 pub mod BranchConds
+pub mod Splits
+pub mod Ordered
 pub mod Refusals
 pub mod Children
 pub mod Leaves

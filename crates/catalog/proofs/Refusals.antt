@@ -72,8 +72,8 @@ not_exact law frame way branches cell found exact =
 pub split_refused : CellsDecide → (frame : Frame) (way : List Cond) (branches : List (List Cond)) (rule : Rule) → RefusesSplit frame way branches rule →
     RefusesBy frame (AreExact (kinds_in frame) way branches → ⊥) (HasFewCells (kinds_in frame) way branches → ⊥) rule
 split_refused law frame way branches Memory r = tt
-split_refused law frame way branches (Gap cell) r = ((way, (branches, r)), not_exact law frame way branches cell r.0)
-split_refused law frame way branches (Overlap cell) r = ((way, (branches, r)), not_exact law frame way branches cell r.0)
+split_refused law frame way branches (Gap cell) r = ((way, branches, r.0, r.1), not_exact law frame way branches cell r.0)
+split_refused law frame way branches (Overlap cell) r = ((way, branches, r.0, r.1), not_exact law frame way branches cell r.0)
 split_refused law frame way branches Limit r = r
 split_refused law frame way branches Toml r = absurd r
 split_refused law frame way branches Field r = absurd r

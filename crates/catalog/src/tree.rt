@@ -221,7 +221,8 @@ fn groups(
     let mut groups = Vec::new(frame.alloc);
     for i in 0..nodes.len() {
         let columns = in_order(frame.alloc, within, named[i].as_slice())?;
-        groups.push(group(frame, splits, way, &nodes[i], columns, leaves)?)?;
+        let next = group(frame, splits, way, &nodes[i], columns, leaves)?;
+        groups.push(next)?;
     }
     Ok(groups)
 }
