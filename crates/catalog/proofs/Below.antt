@@ -6,9 +6,9 @@ use Rattle.toml.specs.Data.{Data}
 use Rattle.terms.specs.declared.cond.Cond.{Cond}
 use Rattle.catalog.specs.Describes.{Frame, kinds_in, Each, Describes, AreBranches, AreGroups}
 use Rattle.catalog.specs.Path.{paths, paths_by_rows, paths_by_cols, branch_conds, group_columns}
-use Rattle.catalog.specs.Split.{Tree, Branches, NoBranch, Branch, Groups, NoGroup, Group, TreeBranch, TreeGroup, branches_of, groups_of}
+use Rattle.catalog.specs.Split.{TreeBranch, TreeGroup, branches_of, groups_of}
 use Rattle.catalog.specs.Valid.{IsValidWithin, AreValidBranches, AreValidGroups}
-use Rattle.catalog.proofs.Leaves.{rows_first, cols_first, rows_last, cols_last, one_count}
+use Rattle.catalog.proofs.Leaves.{rows_last, cols_last}
 use Rattle.catalog.proofs.Pairs.{each_next}
 
 -- a branch that a node describes, and that is valid

@@ -1,5 +1,5 @@
 -- A child of a split that is refused, and what that says of the split.
-use Rattle.std.proofs.Common.{◌≡◌, ◌≤◌, ◌<◌, ◌+◌, ℕ, zero, suc, List, [], ◌∷◌, ◌++◌, length, map, take, get_or, refl, sym, ap, ◌∙◌, subst, arith}
+use Rattle.std.proofs.Common.{◌≡◌, ◌≤◌, ◌<◌, ◌+◌, ℕ, zero, suc, List, [], ◌∷◌, ◌++◌, length, map, take, get_or, sym, ap, ◌∙◌, subst, arith}
 use Rattle.std.specs.Prelude.{codes}
 use Rattle.toml.specs.Data.{Data}
 use Rattle.terms.specs.declared.cond.Cond.{Cond}
@@ -56,16 +56,16 @@ pub branches_refused : {A : Type 0} (frame : Frame) (splits : ℕ) (way : List C
     RefusesBranches frame splits way within (map view nodes) conds before rule
 branches_refused frame splits way within view nodes i d x conds e c so_far before now rule is here inside each count =
     refuses_map frame (NoneIsValid frame splits (way ++ c) within (codes "where") (view x)) (NoneIsDescribed frame splits (way ++ c) within (codes "where") (view x) now)
-        ((branches : Branches) → branch_conds branches ≡ conds → AreBranches frame splits way within (map view nodes) branches → AreValidBranches (kinds_in frame) way within branches → ⊥)
-        ((branches : Branches) → branch_conds branches ≡ conds → AreBranches frame splits way within (map view nodes) branches → before + length (paths_by_rows branches) ≤ 32 → ⊥)
-        rule
-        (λ none branches all are valid.
-          let at = row_at frame splits way within view nodes i d x conds e c so_far branches is here inside each all are in
-          none at.tree at.described (at.valid valid))
-        (λ none branches all are few.
-          let at = row_at frame splits way within view nodes i d x conds e c so_far branches is here inside each all are in
-          let most = at.counted in
-          none at.tree at.described (omega (arith, count, most, few)))
+    ((branches : Branches) → branch_conds branches ≡ conds → AreBranches frame splits way within (map view nodes) branches → AreValidBranches (kinds_in frame) way within branches → ⊥)
+    ((branches : Branches) → branch_conds branches ≡ conds → AreBranches frame splits way within (map view nodes) branches → before + length (paths_by_rows branches) ≤ 32 → ⊥)
+    rule
+    (λ none branches all are valid.
+    let at = row_at frame splits way within view nodes i d x conds e c so_far branches is here inside each all are in
+    none at.tree at.described (at.valid valid))
+    (λ none branches all are few.
+    let at = row_at frame splits way within view nodes i d x conds e c so_far branches is here inside each all are in
+    let most = at.counted in
+    none at.tree at.described (omega (arith, count, most, few)))
 
 -- the tree of a group of these columns, behind groups with so many leaves
 pub record ColAt (frame : Frame) (splits : ℕ) (way : List Cond) (node : Data) (columns : List ℕ) (front : List (List ℕ)) (before : ℕ) (groups : Groups) : Type 0 where
@@ -109,13 +109,13 @@ pub groups_refused : {A : Type 0} (frame : Frame) (splits : ℕ) (way : List Con
     RefusesGroups frame splits way (map view nodes) (map order named) before rule
 groups_refused frame splits way view nodes i d x order named e c so_far before now rule is here inside each count =
     refuses_map frame (NoneIsValid frame splits way c (codes "of") (view x)) (NoneIsDescribed frame splits way c (codes "of") (view x) now)
-        ((groups : Groups) → group_columns groups ≡ map order named → AreGroups frame splits way (map view nodes) groups → AreValidGroups (kinds_in frame) way groups → ⊥)
-        ((groups : Groups) → group_columns groups ≡ map order named → AreGroups frame splits way (map view nodes) groups → before + length (paths_by_cols [] groups) ≤ 32 → ⊥)
-        rule
-        (λ none groups all are valid.
-          let at = col_at frame splits way view nodes i d x order named e c so_far groups is here inside each all are in
-          none at.tree at.described (at.valid valid))
-        (λ none groups all are few.
-          let at = col_at frame splits way view nodes i d x order named e c so_far groups is here inside each all are in
-          let most = at.counted in
-          none at.tree at.described (omega (arith, count, most, few)))
+    ((groups : Groups) → group_columns groups ≡ map order named → AreGroups frame splits way (map view nodes) groups → AreValidGroups (kinds_in frame) way groups → ⊥)
+    ((groups : Groups) → group_columns groups ≡ map order named → AreGroups frame splits way (map view nodes) groups → before + length (paths_by_cols [] groups) ≤ 32 → ⊥)
+    rule
+    (λ none groups all are valid.
+    let at = col_at frame splits way view nodes i d x order named e c so_far groups is here inside each all are in
+    none at.tree at.described (at.valid valid))
+    (λ none groups all are few.
+    let at = col_at frame splits way view nodes i d x order named e c so_far groups is here inside each all are in
+    let most = at.counted in
+    none at.tree at.described (omega (arith, count, most, few)))

@@ -89,7 +89,7 @@ mutual
   one_count_rows frame splits way road within among (node ∷ nodes) (Branch c t branches) (Branch d u others) one two =
       rows_first c t branches
       ∙ ap₂ (λ (m n : ℕ). m + n) (one_count frame splits (way ++ c) (road ++ d) within among (codes "where") node t u one.0 two.0)
-          (one_count_rows frame splits way road within among nodes branches others one.1 two.1)
+      (one_count_rows frame splits way road within among nodes branches others one.1 two.1)
       ∙ sym (rows_first d u others)
 
   one_count_cols : (frame : Frame) (splits : ℕ) (way road : List Cond) (before front : List (List ℕ)) (nodes : List Data) (groups others : Groups) →
@@ -102,5 +102,5 @@ mutual
   one_count_cols frame splits way road before front (node ∷ nodes) (Group c t groups) (Group d u others) one two =
       cols_first before c t groups
       ∙ ap₂ (λ (m n : ℕ). m + n) (one_count frame splits way road c d (codes "of") node t u one.0 two.0)
-          (one_count_cols frame splits way road (before ++ c ∷ []) (front ++ d ∷ []) nodes groups others one.1 two.1)
+      (one_count_cols frame splits way road (before ++ c ∷ []) (front ++ d ∷ []) nodes groups others one.1 two.1)
       ∙ sym (cols_first front d u others)

@@ -1,22 +1,18 @@
 -- What the reading of a split says of the node that is split.
-use Rattle.std.proofs.Common.{◌≡◌, ◌≢◌, ◌≤◌, ◌<◌, ◌+◌, ◌-◌, ◌==◌, ◌&&◌, ◌||◌, ℕ, zero, suc, Bool, true, false, cond, List, [], ◌∷◌, ◌++◌, Option, Some, None, Ok, Err, Result, IfOk, IfErr, length, map, option_map, filter, refl, sym, ap, ap₂, ◌∙◌, subst, arith}
-use Rattle.std.specs.Prelude.{codes, option_and_then}
-use Rattle.std.proofs.lemmas.Bool.{eqb-true}
+use Rattle.std.proofs.Common.{◌≡◌, ◌≤◌, ◌+◌, ℕ, zero, suc, List, [], Some, Ok, Err, Result, IfOk, IfErr, length, map, sym, ap, ◌∙◌, subst}
 use Rattle.toml.specs.Data.{Data}
 use Rattle.terms.specs.declared.cond.Cond.{Cond}
-use Rattle.terms.specs.declared.value.Kind.{Kind}
 use Rattle.meaning.specs.declared.schema.Column.{Column}
 use Rattle.reader.specs.Conds.{AreCondsOf, OneListOfCondsOfText}
 use Rattle.catalog.specs.declared.fault.Rule.{Rule}
 use Rattle.catalog.specs.Below.{AreRows, AreCols, RefusesSite, RefusesRows, RefusesBranches, RefusesCols, RefusesGroups}
 use Rattle.catalog.specs.Cells.{CellsDecide}
-use Rattle.catalog.specs.Counts.{has, how_many}
-use Rattle.catalog.specs.Describes.{Frame, kinds_in, Each, IsWhereOn, IsWhere, visible, all_of, named_in, AreNamedIn, HasFewCells, in_order, site_numbered, Describes, AreBranches, AreGroups}
-use Rattle.catalog.specs.Node.{Form, AtSite, SplitByRows, SplitByCols, Ill, form_of, text_at}
+use Rattle.catalog.specs.Describes.{Frame, kinds_in, Each, IsWhereOn, IsWhere, visible, AreNamedIn, HasFewCells, in_order, site_numbered, Describes, AreBranches, AreGroups}
+use Rattle.catalog.specs.Node.{AtSite, SplitByRows, SplitByCols, Ill, form_of}
 use Rattle.catalog.specs.Path.{paths, paths_by_rows, paths_by_cols, branch_conds, group_columns}
 use Rattle.catalog.specs.Refuses.{Refuses, NoneIsValid, NoneIsDescribed, RefusesConds, RefusesSplit, RefusesNamed}
 use Rattle.catalog.specs.Split.{Tree, Site, ByRows, ByCols, Branches, Groups}
-use Rattle.catalog.specs.Valid.{AreExact, AreParts, IsValidWithin, AreValidBranches, AreValidGroups}
+use Rattle.catalog.specs.Valid.{AreExact, IsValidWithin, AreValidBranches, AreValidGroups}
 use Rattle.catalog.proofs.Leaves.{one_rows, one_cols}
 use Rattle.catalog.proofs.Pairs.{each_one}
 use Rattle.catalog.proofs.Refusals.{refuses_map, conds_refused, named_refused, split_refused}
@@ -54,38 +50,38 @@ pub rows_no_conds : (frame : Frame) (splits : ℕ) (way : List Cond) (within : L
     RefusesConds (visible within frame.columns) nodes rule → RefusesRows frame splits way within nodes leaves rule
 rows_no_conds frame splits way within nodes leaves rule refused =
     refuses_map frame ⊥ ((branches : List (List Cond)) → Each (IsWhere frame within) nodes branches → ⊥)
-        ((branches : Branches) → AreRows frame splits way within nodes branches → IsValidWithin (kinds_in frame) way within (ByRows branches) → ⊥)
-        ((branches : Branches) → AreRows frame splits way within nodes branches → leaves + length (paths_by_rows branches) ≤ 32 → ⊥)
-        rule (λ no. absurd no) (λ none branches rows few. none (branch_conds branches) (rows_each frame splits way within nodes branches rows))
-        (conds_refused frame (visible within frame.columns) nodes rule refused)
+    ((branches : Branches) → AreRows frame splits way within nodes branches → IsValidWithin (kinds_in frame) way within (ByRows branches) → ⊥)
+    ((branches : Branches) → AreRows frame splits way within nodes branches → leaves + length (paths_by_rows branches) ≤ 32 → ⊥)
+    rule (λ no. absurd no) (λ none branches rows few. none (branch_conds branches) (rows_each frame splits way within nodes branches rows))
+    (conds_refused frame (visible within frame.columns) nodes rule refused)
 
 pub rows_no_split : OneListOfCondsOfText → CellsDecide → (frame : Frame) (splits : ℕ) (way : List Cond) (within : List ℕ) (nodes : List Data) (leaves : ℕ) (conds found : List (List Cond)) (rule : Rule) →
     conds ≡ found → Each (IsWhere frame within) nodes found → RefusesSplit frame way conds rule → RefusesRows frame splits way within nodes leaves rule
 rows_no_split law cells frame splits way within nodes leaves conds found rule is each refused =
     let same : (branches : Branches) → AreRows frame splits way within nodes branches → branch_conds branches ≡ conds =
-        λ branches rows. one_conds law frame within nodes (branch_conds branches) found (rows_each frame splits way within nodes branches rows) each ∙ sym is in
+    λ branches rows. one_conds law frame within nodes (branch_conds branches) found (rows_each frame splits way within nodes branches rows) each ∙ sym is in
     refuses_map frame (AreExact (kinds_in frame) way conds → ⊥) (HasFewCells (kinds_in frame) way conds → ⊥)
-        ((branches : Branches) → AreRows frame splits way within nodes branches → IsValidWithin (kinds_in frame) way within (ByRows branches) → ⊥)
-        ((branches : Branches) → AreRows frame splits way within nodes branches → leaves + length (paths_by_rows branches) ≤ 32 → ⊥)
-        rule
-        (λ no branches rows valid. let P : List (List Cond) → Type 0 = λ cs. AreExact (kinds_in frame) way cs in no (subst P (same branches rows) valid.0))
-        (λ no branches rows few. let P : List (List Cond) → Type 0 = λ cs. HasFewCells (kinds_in frame) way cs in no (subst P (same branches rows) (rows_few frame splits way within nodes branches rows)))
-        (split_refused cells frame way conds rule refused)
+    ((branches : Branches) → AreRows frame splits way within nodes branches → IsValidWithin (kinds_in frame) way within (ByRows branches) → ⊥)
+    ((branches : Branches) → AreRows frame splits way within nodes branches → leaves + length (paths_by_rows branches) ≤ 32 → ⊥)
+    rule
+    (λ no branches rows valid. let P : List (List Cond) → Type 0 = λ cs. AreExact (kinds_in frame) way cs in no (subst P (same branches rows) valid.0))
+    (λ no branches rows few. let P : List (List Cond) → Type 0 = λ cs. HasFewCells (kinds_in frame) way cs in no (subst P (same branches rows) (rows_few frame splits way within nodes branches rows)))
+    (split_refused cells frame way conds rule refused)
 
 rows_child : OneListOfCondsOfText → (frame : Frame) (splits : ℕ) (way : List Cond) (within : List ℕ) (nodes : List Data) (leaves : ℕ) (conds found : List (List Cond)) →
     conds ≡ found → Each (IsWhere frame within) nodes found → (rule : Rule) → RefusesBranches frame splits way within nodes conds leaves rule → RefusesRows frame (suc splits) way within nodes leaves rule
 rows_child law frame splits way within nodes leaves conds found is each rule refused =
     let same : (branches : Branches) → AreRows frame (suc splits) way within nodes branches → branch_conds branches ≡ conds =
-        λ branches rows. one_conds law frame within nodes (branch_conds branches) found rows.0 each ∙ sym is in
+    λ branches rows. one_conds law frame within nodes (branch_conds branches) found rows.0 each ∙ sym is in
     refuses_map frame
-        ((branches : Branches) → branch_conds branches ≡ conds → AreBranches frame splits way within nodes branches → AreValidBranches (kinds_in frame) way within branches → ⊥)
-        ((branches : Branches) → branch_conds branches ≡ conds → AreBranches frame splits way within nodes branches → leaves + length (paths_by_rows branches) ≤ 32 → ⊥)
-        ((branches : Branches) → AreRows frame (suc splits) way within nodes branches → IsValidWithin (kinds_in frame) way within (ByRows branches) → ⊥)
-        ((branches : Branches) → AreRows frame (suc splits) way within nodes branches → leaves + length (paths_by_rows branches) ≤ 32 → ⊥)
-        rule
-        (λ none branches rows valid. none branches (same branches rows) rows.2 valid.1)
-        (λ none branches rows few. none branches (same branches rows) rows.2 few)
-        refused
+    ((branches : Branches) → branch_conds branches ≡ conds → AreBranches frame splits way within nodes branches → AreValidBranches (kinds_in frame) way within branches → ⊥)
+    ((branches : Branches) → branch_conds branches ≡ conds → AreBranches frame splits way within nodes branches → leaves + length (paths_by_rows branches) ≤ 32 → ⊥)
+    ((branches : Branches) → AreRows frame (suc splits) way within nodes branches → IsValidWithin (kinds_in frame) way within (ByRows branches) → ⊥)
+    ((branches : Branches) → AreRows frame (suc splits) way within nodes branches → leaves + length (paths_by_rows branches) ≤ 32 → ⊥)
+    rule
+    (λ none branches rows valid. none branches (same branches rows) rows.2 valid.1)
+    (λ none branches rows few. none branches (same branches rows) rows.2 few)
+    refused
 
 pub rows_below : OneListOfCondsOfText → (frame : Frame) (splits less : ℕ) (way : List Cond) (within : List ℕ) (nodes : List Data) (leaves : ℕ) (conds found : List (List Cond)) → splits ≡ suc less →
     conds ≡ found → Each (IsWhere frame within) nodes found → (rule : Rule) → RefusesBranches frame less way within nodes conds leaves rule → RefusesRows frame splits way within nodes leaves rule
@@ -101,11 +97,11 @@ pub cols_no_names : (frame : Frame) (splits : ℕ) (way : List Cond) (within : L
     RefusesNamed frame within nodes rule → RefusesCols frame splits way within nodes leaves rule
 cols_no_names frame splits way within nodes leaves rule refused =
     refuses_map frame ⊥ ((groups : List (List ℕ)) → AreNamedIn frame within nodes groups → ⊥)
-        ((groups : Groups) → AreCols frame splits way within nodes groups → IsValidWithin (kinds_in frame) way within (ByCols groups) → ⊥)
-        ((groups : Groups) → AreCols frame splits way within nodes groups → leaves + length (paths_by_cols [] groups) ≤ 32 → ⊥)
-        rule (λ no. absurd no)
-        (λ none groups cols few. let there = cols_named frame splits way within nodes groups cols in none there.0 there.1)
-        (named_refused frame within nodes rule refused)
+    ((groups : Groups) → AreCols frame splits way within nodes groups → IsValidWithin (kinds_in frame) way within (ByCols groups) → ⊥)
+    ((groups : Groups) → AreCols frame splits way within nodes groups → leaves + length (paths_by_cols [] groups) ≤ 32 → ⊥)
+    rule (λ no. absurd no)
+    (λ none groups cols few. let there = cols_named frame splits way within nodes groups cols in none there.0 there.1)
+    (named_refused frame within nodes rule refused)
 
 one_names : (frame : Frame) (within : List ℕ) (nodes : List Data) (one other : List (List ℕ)) → AreNamedIn frame within nodes one → AreNamedIn frame within nodes other → one ≡ other
 one_names frame within nodes one other a b = let both : Some one ≡ Some other = sym a.names ∙ b.names in cc
@@ -114,16 +110,16 @@ cols_child : (frame : Frame) (splits : ℕ) (way : List Cond) (within : List ℕ
     named ≡ found → AreNamedIn frame within nodes found → (rule : Rule) → RefusesGroups frame splits way nodes (map (in_order within) named) leaves rule → RefusesCols frame (suc splits) way within nodes leaves rule
 cols_child frame splits way within nodes leaves named found is are rule refused =
     let same : (groups : Groups) → AreCols frame (suc splits) way within nodes groups → group_columns groups ≡ map (in_order within) named =
-        λ groups cols. cols.2 ∙ ap (map (in_order within)) (one_names frame within nodes cols.0 found cols.1 are ∙ sym is) in
+    λ groups cols. cols.2 ∙ ap (map (in_order within)) (one_names frame within nodes cols.0 found cols.1 are ∙ sym is) in
     refuses_map frame
-        ((groups : Groups) → group_columns groups ≡ map (in_order within) named → AreGroups frame splits way nodes groups → AreValidGroups (kinds_in frame) way groups → ⊥)
-        ((groups : Groups) → group_columns groups ≡ map (in_order within) named → AreGroups frame splits way nodes groups → leaves + length (paths_by_cols [] groups) ≤ 32 → ⊥)
-        ((groups : Groups) → AreCols frame (suc splits) way within nodes groups → IsValidWithin (kinds_in frame) way within (ByCols groups) → ⊥)
-        ((groups : Groups) → AreCols frame (suc splits) way within nodes groups → leaves + length (paths_by_cols [] groups) ≤ 32 → ⊥)
-        rule
-        (λ none groups cols valid. none groups (same groups cols) cols.3 valid.1)
-        (λ none groups cols few. none groups (same groups cols) cols.3 few)
-        refused
+    ((groups : Groups) → group_columns groups ≡ map (in_order within) named → AreGroups frame splits way nodes groups → AreValidGroups (kinds_in frame) way groups → ⊥)
+    ((groups : Groups) → group_columns groups ≡ map (in_order within) named → AreGroups frame splits way nodes groups → leaves + length (paths_by_cols [] groups) ≤ 32 → ⊥)
+    ((groups : Groups) → AreCols frame (suc splits) way within nodes groups → IsValidWithin (kinds_in frame) way within (ByCols groups) → ⊥)
+    ((groups : Groups) → AreCols frame (suc splits) way within nodes groups → leaves + length (paths_by_cols [] groups) ≤ 32 → ⊥)
+    rule
+    (λ none groups cols valid. none groups (same groups cols) cols.3 valid.1)
+    (λ none groups cols few. none groups (same groups cols) cols.3 few)
+    refused
 
 pub cols_below : (frame : Frame) (splits less : ℕ) (way : List Cond) (within : List ℕ) (nodes : List Data) (leaves : ℕ) (named found : List (List ℕ)) → splits ≡ suc less →
     named ≡ found → AreNamedIn frame within nodes found → (rule : Rule) → RefusesGroups frame less way nodes (map (in_order within) named) leaves rule → RefusesCols frame splits way within nodes leaves rule
@@ -181,29 +177,29 @@ pub site_refused : (frame : Frame) (splits : ℕ) (way : List Cond) (within : Li
     (rule : Rule) → RefusesSite frame name leaves rule → Refuses frame splits way within beside node leaves rule
 site_refused frame splits way within beside node leaves name form rule refused =
     refuses_map frame ⊥ ((site : ℕ) → site_numbered frame.sites name ≡ Some site → leaves + 1 ≤ 32 → ⊥)
-        (NoneIsValid frame splits way within beside node) (NoneIsDescribed frame splits way within beside node leaves) rule
-        (λ no. absurd no)
-        (λ none. none_at_site frame splits way within beside node name (λ tree. leaves + length (paths tree) ≤ 32) form none)
-        refused
+    (NoneIsValid frame splits way within beside node) (NoneIsDescribed frame splits way within beside node leaves) rule
+    (λ no. absurd no)
+    (λ none. none_at_site frame splits way within beside node name (λ tree. leaves + length (paths tree) ≤ 32) form none)
+    refused
 
 pub rows_refused : (frame : Frame) (splits : ℕ) (way : List Cond) (within : List ℕ) (beside : List ℕ) (node : Data) (leaves : ℕ) (nodes : List Data) → form_of beside node ≡ SplitByRows nodes →
     (rule : Rule) → RefusesRows frame splits way within nodes leaves rule → Refuses frame splits way within beside node leaves rule
 rows_refused frame splits way within beside node leaves nodes form rule refused =
     refuses_map frame
-        ((branches : Branches) → AreRows frame splits way within nodes branches → IsValidWithin (kinds_in frame) way within (ByRows branches) → ⊥)
-        ((branches : Branches) → AreRows frame splits way within nodes branches → leaves + length (paths_by_rows branches) ≤ 32 → ⊥)
-        (NoneIsValid frame splits way within beside node) (NoneIsDescribed frame splits way within beside node leaves) rule
-        (λ none. none_by_rows frame splits way within beside node nodes (λ tree. IsValidWithin (kinds_in frame) way within tree) form none)
-        (λ none. none_by_rows frame splits way within beside node nodes (λ tree. leaves + length (paths tree) ≤ 32) form none)
-        refused
+    ((branches : Branches) → AreRows frame splits way within nodes branches → IsValidWithin (kinds_in frame) way within (ByRows branches) → ⊥)
+    ((branches : Branches) → AreRows frame splits way within nodes branches → leaves + length (paths_by_rows branches) ≤ 32 → ⊥)
+    (NoneIsValid frame splits way within beside node) (NoneIsDescribed frame splits way within beside node leaves) rule
+    (λ none. none_by_rows frame splits way within beside node nodes (λ tree. IsValidWithin (kinds_in frame) way within tree) form none)
+    (λ none. none_by_rows frame splits way within beside node nodes (λ tree. leaves + length (paths tree) ≤ 32) form none)
+    refused
 
 pub cols_refused : (frame : Frame) (splits : ℕ) (way : List Cond) (within : List ℕ) (beside : List ℕ) (node : Data) (leaves : ℕ) (nodes : List Data) → form_of beside node ≡ SplitByCols nodes →
     (rule : Rule) → RefusesCols frame splits way within nodes leaves rule → Refuses frame splits way within beside node leaves rule
 cols_refused frame splits way within beside node leaves nodes form rule refused =
     refuses_map frame
-        ((groups : Groups) → AreCols frame splits way within nodes groups → IsValidWithin (kinds_in frame) way within (ByCols groups) → ⊥)
-        ((groups : Groups) → AreCols frame splits way within nodes groups → leaves + length (paths_by_cols [] groups) ≤ 32 → ⊥)
-        (NoneIsValid frame splits way within beside node) (NoneIsDescribed frame splits way within beside node leaves) rule
-        (λ none. none_by_cols frame splits way within beside node nodes (λ tree. IsValidWithin (kinds_in frame) way within tree) form none)
-        (λ none. none_by_cols frame splits way within beside node nodes (λ tree. leaves + length (paths tree) ≤ 32) form none)
-        refused
+    ((groups : Groups) → AreCols frame splits way within nodes groups → IsValidWithin (kinds_in frame) way within (ByCols groups) → ⊥)
+    ((groups : Groups) → AreCols frame splits way within nodes groups → leaves + length (paths_by_cols [] groups) ≤ 32 → ⊥)
+    (NoneIsValid frame splits way within beside node) (NoneIsDescribed frame splits way within beside node leaves) rule
+    (λ none. none_by_cols frame splits way within beside node nodes (λ tree. IsValidWithin (kinds_in frame) way within tree) form none)
+    (λ none. none_by_cols frame splits way within beside node nodes (λ tree. leaves + length (paths tree) ≤ 32) form none)
+    refused

@@ -1,5 +1,5 @@
 -- What is below a split: the branches or the groups of the nodes under it.
-use Rattle.std.specs.Prelude.{◌≡◌, ◌≤◌, ◌+◌, ℕ, zero, suc, List, [], ◌∷◌, Some, length, map}
+use Rattle.std.specs.Prelude.{◌≡◌, ◌≤◌, ◌+◌, ℕ, zero, suc, List, [], Some, length, map}
 use Rattle.toml.specs.Data.{Data}
 use Rattle.terms.specs.declared.cond.Cond.{Cond}
 use Rattle.catalog.specs.declared.fault.Rule.{Rule}
@@ -38,22 +38,22 @@ RefusesSite frame name leaves rule = RefusesBy frame ⊥ ((site : ℕ) → site_
 abbrev pub RefusesRows : Frame → ℕ → List Cond → List ℕ → List Data → ℕ → Rule → Type 0
 RefusesRows frame splits way within nodes leaves rule =
     RefusesBy frame ((branches : Branches) → AreRows frame splits way within nodes branches → IsValidWithin (kinds_in frame) way within (ByRows branches) → ⊥)
-        ((branches : Branches) → AreRows frame splits way within nodes branches → leaves + length (paths_by_rows branches) ≤ 32 → ⊥) rule
+    ((branches : Branches) → AreRows frame splits way within nodes branches → leaves + length (paths_by_rows branches) ≤ 32 → ⊥) rule
 
 -- a refusal of what is below a row split whose branches have these conditions
 abbrev pub RefusesBranches : Frame → ℕ → List Cond → List ℕ → List Data → List (List Cond) → ℕ → Rule → Type 0
 RefusesBranches frame splits way within nodes conds leaves rule =
     RefusesBy frame ((branches : Branches) → branch_conds branches ≡ conds → AreBranches frame splits way within nodes branches → AreValidBranches (kinds_in frame) way within branches → ⊥)
-        ((branches : Branches) → branch_conds branches ≡ conds → AreBranches frame splits way within nodes branches → leaves + length (paths_by_rows branches) ≤ 32 → ⊥) rule
+    ((branches : Branches) → branch_conds branches ≡ conds → AreBranches frame splits way within nodes branches → leaves + length (paths_by_rows branches) ≤ 32 → ⊥) rule
 
 -- a refusal of a column split
 abbrev pub RefusesCols : Frame → ℕ → List Cond → List ℕ → List Data → ℕ → Rule → Type 0
 RefusesCols frame splits way within nodes leaves rule =
     RefusesBy frame ((groups : Groups) → AreCols frame splits way within nodes groups → IsValidWithin (kinds_in frame) way within (ByCols groups) → ⊥)
-        ((groups : Groups) → AreCols frame splits way within nodes groups → leaves + length (paths_by_cols [] groups) ≤ 32 → ⊥) rule
+    ((groups : Groups) → AreCols frame splits way within nodes groups → leaves + length (paths_by_cols [] groups) ≤ 32 → ⊥) rule
 
 -- a refusal of what is below a column split into groups of these columns
 abbrev pub RefusesGroups : Frame → ℕ → List Cond → List Data → List (List ℕ) → ℕ → Rule → Type 0
 RefusesGroups frame splits way nodes columns leaves rule =
     RefusesBy frame ((groups : Groups) → group_columns groups ≡ columns → AreGroups frame splits way nodes groups → AreValidGroups (kinds_in frame) way groups → ⊥)
-        ((groups : Groups) → group_columns groups ≡ columns → AreGroups frame splits way nodes groups → leaves + length (paths_by_cols [] groups) ≤ 32 → ⊥) rule
+    ((groups : Groups) → group_columns groups ≡ columns → AreGroups frame splits way nodes groups → leaves + length (paths_by_cols [] groups) ≤ 32 → ⊥) rule

@@ -105,6 +105,7 @@ fn by_rows(
     ensures few { IfOk result (λ branches. leaves.new ≤ 32) }
     ensures none { IfErr result (λ rule. RefusesRows (frame_of frame.now) splits way.now within.now (map view nodes.now) leaves.old rule) }
 {
+    // A refusal rests on these two laws.
     one_list_of_conds();
     cells_decide();
     if splits == 0 {
@@ -112,7 +113,15 @@ fn by_rows(
     }
     let conds = branch_conds(frame, within, nodes)?;
     require_exact(frame, way, conds.as_slice())?;
-    branches(frame, splits - 1, way, within, nodes, conds.as_slice(), leaves)
+    branches(
+        frame,
+        splits - 1,
+        way,
+        within,
+        nodes,
+        conds.as_slice(),
+        leaves,
+    )
 }
 
 /// The branches with these conditions.
@@ -167,7 +176,15 @@ fn branch(
     ensures none { IfErr result (λ rule. Refuses (frame_of frame.now) splits (way.now ++ conds.now) within.now (codes "where") (view node.now) leaves.old rule) }
 {
     let longer = joined(frame.alloc, way, conds.as_slice())?;
-    let split = tree(frame, splits, longer.as_slice(), within, "where", node, leaves)?;
+    let split = tree(
+        frame,
+        splits,
+        longer.as_slice(),
+        within,
+        "where",
+        node,
+        leaves,
+    )?;
     let conds = conds.copy()?;
     Ok(Branch { conds, split })
 }
@@ -194,7 +211,15 @@ fn by_cols(
         return Err(Rule::Limit);
     }
     let named = named_columns(frame, within, nodes)?;
-    groups(frame, splits - 1, way, within, nodes, named.as_slice(), leaves)
+    groups(
+        frame,
+        splits - 1,
+        way,
+        within,
+        nodes,
+        named.as_slice(),
+        leaves,
+    )
 }
 
 /// The groups that name these columns.

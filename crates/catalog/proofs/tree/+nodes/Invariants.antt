@@ -1,7 +1,7 @@
 use Rattle.std.proofs.Common.{◌≡◌, ◌≤◌, ◌+◌, ◌*◌, [], map, take, length}
 use Rattle.toml.specs.View.{view}
 use Rattle.catalog.specs.Below.{branches_seen, groups_seen}
-use Rattle.catalog.specs.Describes.{kinds_in, in_order, Each}
+use Rattle.catalog.specs.Describes.{in_order, Each}
 use Rattle.catalog.specs.Frame.{frame_of}
 use Rattle.catalog.specs.Path.{branch_conds, group_columns, paths_by_rows, paths_by_cols}
 use Rattle.catalog.specs.Split.{tree_branch, tree_group}
