@@ -11,6 +11,12 @@ pub mod Cells
 pub mod Nodes
 pub mod Pairs
 pub mod BranchConds
+pub mod Splits
+pub mod Ordered
+pub mod Refusals
+pub mod Children
+pub mod Leaves
+pub mod Below
 pub mod CellCount
 pub mod OneList
 pub mod ColumnParts

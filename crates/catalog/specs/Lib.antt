@@ -10,6 +10,7 @@ pub mod Form
 pub mod Describes
 pub mod Frame
 pub mod Refuses
+pub mod Below
 pub mod Catalogue
 pub mod Exactness
 pub mod Parts

@@ -57,13 +57,19 @@ abbrev pub NoneIsDescribed : Frame → ℕ → List Cond → List ℕ → List �
 NoneIsDescribed frame splits way within beside node leaves =
     (tree : Tree) → Describes frame splits way within beside node tree → leaves + length (paths tree) ≤ 32 → ⊥
 
--- A refusal by the rule, where these leaves are there before: want of memory says nothing; a gap or an overlap shows a
--- row split that is not exact, and then no tree that is described is valid; by any other rule no tree is described.
+-- A refusal by the rule: want of memory says nothing; a gap or an overlap shows a row split that is not exact, and then
+-- this holds; by any other rule that holds.
+abbrev pub RefusesBy : Frame → Type 0 → Type 0 → Rule → Type 0
+RefusesBy frame this that Memory = Unit {0}
+RefusesBy frame this that (Gap cell) = IsGap frame cell × this
+RefusesBy frame this that (Overlap cell) = IsOverlap frame cell × this
+RefusesBy frame this that _ = that
+
+-- A refusal of a node, where these leaves are there before: where a row split is not exact, no tree that is described is
+-- valid; by any other rule but for want of memory, no tree is described.
 abbrev pub Refuses : Frame → ℕ → List Cond → List ℕ → List ℕ → Data → ℕ → Rule → Type 0
-Refuses frame splits way within beside node leaves Memory = Unit {0}
-Refuses frame splits way within beside node leaves (Gap cell) = IsGap frame cell × NoneIsValid frame splits way within beside node
-Refuses frame splits way within beside node leaves (Overlap cell) = IsOverlap frame cell × NoneIsValid frame splits way within beside node
-Refuses frame splits way within beside node leaves _ = NoneIsDescribed frame splits way within beside node leaves
+Refuses frame splits way within beside node leaves rule =
+    RefusesBy frame (NoneIsValid frame splits way within beside node) (NoneIsDescribed frame splits way within beside node leaves) rule
 
 -- the catalogue's rule that stands for one of the reader
 abbrev pub rule_of : readers.Rule → Rule
