@@ -5,7 +5,8 @@ use Rattle.std.proofs.lemmas.Bool.{eqb-true}
 use Rattle.terms.specs.declared.cond.Cond.{Cond}
 use Rattle.terms.specs.declared.value.Kind.{Kind}
 use Rattle.catalog.specs.Counts.{has, how_many}
-use Rattle.catalog.specs.Describes.{all_of, in_order}
+use Rattle.reader.specs.Names.{all_of}
+use Rattle.catalog.specs.Describes.{in_order}
 use Rattle.catalog.specs.Path.{group_columns}
 use Rattle.catalog.specs.Split.{ByCols, Groups}
 use Rattle.catalog.specs.Valid.{AreParts, IsValidWithin, AreValidGroups}
