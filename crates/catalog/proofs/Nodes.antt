@@ -3,7 +3,7 @@ use Rattle.std.proofs.Common.{◌≡◌, ◌≢◌, ℕ, suc, ◌==◌, ◌&&◌
 use Rattle.toml.specs.Data.{Data, string, integer, float, boolean, datetime, array, table, Items, no_items, item, Members, no_members, member, as_str, as_array, as_table, get, get_member}
 use Rattle.toml.specs.View.{view, items_of, items_view, members_of, members_view}
 use Rattle.toml.specs.declared.value.Value.{Value}
-use Rattle.catalog.specs.Node.{Form, AtSite, SplitByRows, SplitByCols, Ill, listed_items, key_count, list_form, site_form, split_form, node_form, form_of}
+use Rattle.catalog.specs.Node.{Form, AtSite, SplitByRows, SplitByCols, Ill, listed_items, some_items, key_count, list_form, site_form, split_form, node_form, form_of}
 
 pub listed_items_of : (ds : List Data) → listed_items (items_of ds) ≡ ds
 listed_items_of [] = refl
@@ -69,3 +69,17 @@ there_of (Some v) o b e is = rw (← e) (sym is)
 pub not_both : (n : ℕ) (there : Bool) → ((n ≡ 2) × (there ≡ false)) ⊎ (n ≡ 2 → ⊥) → (n == 2 && there) ≡ false
 not_both n there (inl both) = rw (both.0, both.1) refl
 not_both n there (inr other) = rw (ne_eqb n 2 other) refl
+
+-- an array with items, and what is none
+pub some_items_of : (vs : List Value) (d : Data) → Some (items_view vs) ≡ as_array d → vs ≢ [] → Some (map view vs) ≡ some_items d
+some_items_of [] d is some = absurd (some refl)
+some_items_of (v ∷ vs) (array items) is some =
+    let P : Items → Type 0 = λ its. Some (map view (v ∷ vs)) ≡ some_items (array its) in
+    let same : items_view (v ∷ vs) ≡ items = cc in
+    subst P same (ap (λ rest. Some (view v ∷ rest)) (sym (listed_items_of (map view vs))))
+some_items_of (v ∷ vs) (string s) is some = absurd cc
+some_items_of (v ∷ vs) (integer z) is some = absurd cc
+some_items_of (v ∷ vs) (float x) is some = absurd cc
+some_items_of (v ∷ vs) (boolean b) is some = absurd cc
+some_items_of (v ∷ vs) (datetime dt) is some = absurd cc
+some_items_of (v ∷ vs) (table ms) is some = absurd cc

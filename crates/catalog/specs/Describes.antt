@@ -8,6 +8,7 @@ use Rattle.terms.specs.declared.value.Kind.{Kind}
 use Rattle.terms.specs.declared.value.Value.{Value}
 use Rattle.meaning.specs.declared.schema.Column.{Column}
 use Rattle.reader.specs.Conds.{AreCondsOf}
+use Rattle.reader.specs.Names.{all_of}
 use Rattle.catalog.specs.Cells.{AreSplitColumns, cell_count}
 use Rattle.catalog.specs.Counts.{has}
 use Rattle.catalog.specs.Node.{AtSite, SplitByRows, SplitByCols, form_of, text_at, texts_at}
@@ -67,11 +68,6 @@ only_if is_one place = if is_one then Some place else None
 -- the place of the column of this name, if it is among those around a node
 abbrev pub place_within : Frame → List ℕ → List ℕ → Option ℕ
 place_within frame within name = option_and_then (λ place. only_if (has within place) place) (column_numbered frame.columns name)
-
--- each item's answer, if every item has one
-abbrev pub all_of : {A B : Type 0} → (A → Option B) → List A → Option (List B)
-all_of answer [] = Some []
-all_of answer (x ∷ xs) = option_and_then (λ y. option_map (λ ys. y ∷ ys) (all_of answer xs)) (answer x)
 
 -- the places of the columns that a group names in its `of`
 abbrev pub named_in : Frame → List ℕ → Data → Option (List ℕ)

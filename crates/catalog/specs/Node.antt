@@ -1,5 +1,6 @@
 -- What a node of a catalogue's document says, before its texts are read: a site, or branches of rows, or groups of columns.
-use Rattle.std.specs.Prelude.{ℕ, suc, ◌==◌, ◌&&◌, Bool, true, false, if◌then◌else◌, List, [], ◌∷◌, Option, Some, None, is_some, option_map, option_and_then, codes}
+use Rattle.std.specs.Prelude.{ℕ, suc, ◌==◌, ◌&&◌, Bool, true, false, if◌then◌else◌, List, [], ◌∷◌, Option, Some, None, is_some, option_and_then, codes}
+use Rattle.reader.specs.Names.{all_of}
 use Rattle.toml.specs.Data.{Data, string, array, table, Items, no_items, item, Members, no_members, member, get, get_member, as_str}
 
 -- the items of an array
@@ -51,16 +52,14 @@ form_of beside _ = Ill
 abbrev pub text_at : List ℕ → Data → Option (List ℕ)
 text_at key node = option_and_then as_str (get key node)
 
--- the texts that the items of an array are, if all are texts
-abbrev pub texts_of : List Data → Option (List (List ℕ))
-texts_of [] = Some []
-texts_of (string text ∷ items) = option_map (λ texts. text ∷ texts) (texts_of items)
-texts_of (_ ∷ items) = None
+-- the items of an array of at least one
+abbrev pub some_items : Data → Option (List Data)
+some_items (array (item first rest)) = Some (first ∷ listed_items rest)
+some_items _ = None
 
--- the texts of an array of at least one
+-- the texts that a value lists, at least one
 abbrev pub some_texts : Data → Option (List (List ℕ))
-some_texts (array (item first rest)) = texts_of (first ∷ listed_items rest)
-some_texts _ = None
+some_texts value = option_and_then (all_of as_str) (some_items value)
 
 -- the texts at a key of a table, at least one
 abbrev pub texts_at : List ℕ → Data → Option (List (List ℕ))

@@ -1,13 +1,16 @@
 //! What the nodes of a catalogue's document say, before their texts are read.
 
-ghost use Rattle.std.specs.Prelude.{◌≡◌, map, option_map, codes};
-ghost use Rattle.toml.specs.Data.{get};
+ghost use Rattle.std.specs.Prelude.{◌≡◌, map, option_map, codes, IfOk};
+ghost use Rattle.toml.specs.Data.{get, as_str};
 ghost use Rattle.toml.specs.View.{view, table_view};
 ghost use Rattle.catalog.specs.Node as spec;
 ghost use Rattle.catalog.specs.Node.{key_count, form_of, node_form, split_form, site_form, list_form, text_at};
-ghost use Rattle.catalog.specs.Form.{form_view};
+ghost use Rattle.catalog.specs.Form.{form_view, texts_of};
+ghost use Rattle.reader.specs.Names.{all_of};
 
-use toml::{Table, Value};
+use std::alloc::Global;
+use terms::memory::Memory;
+use toml::Value;
 
 /// What a node says: where its leaf is, or how it is split.
 #[derive(Drop)]
@@ -86,4 +89,52 @@ pub(crate) fn text_at<'a>(key: &str, node: &'a Value) -> Option<&'a str>
     ensures { option_map (λ text. text.now) result ≡ text_at key.now (view node.entry.now) }
 {
     node.get(key)?.as_str()
+}
+
+/// The items of an array of at least one.
+#[tactic(auto, using(crate::proofs::Nodes::some_items_of))]
+pub(crate) fn some_items<'a>(value: &'a Value) -> Option<&'a [Value]>
+    ensures { option_map (λ items. map view items.now) result ≡ spec.some_items (view value.entry.now) }
+{
+    match value.as_array() {
+        Some(items) if !items.is_empty() => Some(items.as_slice()),
+        _ => None,
+    }
+}
+
+/// The texts that a value lists, at least one, if all that it lists are texts.
+pub(crate) fn some_texts<'a>(alloc: Global, value: &'a Value) -> Result<Option<Vec<&'a str>>, Memory>
+    ensures { IfOk result (λ found. option_map texts_of found ≡ spec.some_texts (view value.entry.now)) }
+{
+    match some_items(value) {
+        Some(items) => all_texts(alloc, items),
+        None => Ok(None),
+    }
+}
+
+fn all_texts<'a>(alloc: Global, items: &'a [Value]) -> Result<Option<Vec<&'a str>>, Memory>
+    ensures { IfOk result (λ found. option_map texts_of found ≡ all_of as_str (map view items.entry.now)) }
+{
+    let mut texts = Vec::new(alloc);
+    for item in items {
+        let Some(text) = item.as_str() else {
+            return Ok(None);
+        };
+        texts.push(text)?;
+    }
+    Ok(Some(texts))
+}
+
+/// The texts at a key of a table, at least one, if all that it lists are texts.
+pub(crate) fn texts_at<'a>(
+    alloc: Global,
+    key: &str,
+    node: &'a Value,
+) -> Result<Option<Vec<&'a str>>, Memory>
+    ensures { IfOk result (λ found. option_map texts_of found ≡ spec.texts_at key.now (view node.entry.now)) }
+{
+    match node.get(key) {
+        Some(value) => some_texts(alloc, value),
+        None => Ok(None),
+    }
 }
