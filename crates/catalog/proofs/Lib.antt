@@ -17,3 +17,5 @@ pub mod Combined
 pub mod TestColumns
 pub mod ShownValues
 pub mod OneTestColumn
+pub mod Distinct
+pub mod SiteNames

@@ -11,6 +11,7 @@ pub mod Describes
 pub mod Frame
 pub mod Refuses
 pub mod Catalogue
+pub mod Sites
 pub mod Exactness
 pub mod Parts
 pub mod Keyed

@@ -20,6 +20,7 @@ pub mod fragment;
 mod groups;
 pub mod laws;
 pub mod parts;
+mod sites;
 pub mod split;
 mod tree;
 mod wheres;
