@@ -19,3 +19,4 @@ pub mod ShownValues
 pub mod OneTestColumn
 pub mod Distinct
 pub mod SiteNames
+pub mod ColumnTexts

@@ -13,6 +13,7 @@
 #![tactic(auto)]
 
 pub mod fault;
+mod column_texts;
 mod form;
 mod frame;
 pub mod exact;
