@@ -103,6 +103,7 @@ refuses_relation texts columns rule each none = by_rule rule none
     never unfit others are =
         let same : others ≡ columns = each_one IsColumnText one_column texts others columns are.each each in
         unfit (subst FitRelation same (record { few = are.few; key = are.key }))
+
     by_rule : (r : Rule) → RefusesRelation columns r → RefusesColumns texts r
     by_rule Memory unfit = tt
     by_rule (Gap cell) unfit = unfit
@@ -140,14 +141,17 @@ next_of_columns {A} view texts i d x before shown is within same so_far columns 
     let first = each_at view texts i d within columns are.each in
     let front : take i columns ≡ before = each_one IsColumnText one_column (map view (take i texts)) (take i columns) before first.1 so_far in
     let P : A → Type 0 = λ t. IsColumnText (view t) (get_or columns i default) in
-    let Q : List Column → Type 0 = λ others. has_column others (get_or columns i default).name ≡ false in
-    (get_or columns i default, record {
-      says = subst P (sym is) first.0;
-      new = subst Q (front ∙ sym same) (has_column_named (take i columns) _ ∙ new_at (λ column. column.name) columns i default (shorter view texts i within columns are.each) are.distinct);
-    })
+    let Q : List Column → Type 0 = λ others. has_column others (get_or columns i default).name ≡ false in (
+      get_or columns i default,
+      record {
+        says = subst P (sym is) first.0;
+        new = subst Q (front ∙ sym same) (has_column_named (take i columns) _ ∙ new_at (λ column. column.name) columns i default (shorter view texts i within columns are.each) are.distinct);
+      },
+    )
   where
     default : Column
     default = record { name = []; kind = kinds.Int }
+
     each_at : (see : A → List ℕ) (items : List A) (j : ℕ) (e : A) → j < length items → (cs : List Column) → Each IsColumnText (map see items) cs →
         IsColumnText (see (get_or items j e)) (get_or cs j default) × Each IsColumnText (map see (take j items)) (take j cs)
     each_at see [] j e inside cs each = absurd (omega arith)
@@ -155,6 +159,7 @@ next_of_columns {A} view texts i d x before shown is within same so_far columns 
     each_at see (item ∷ items) zero e inside (c ∷ cs) each = (each.0, tt)
     each_at see (item ∷ items) (suc j) e inside (c ∷ cs) each =
         let rest = each_at see items j e (omega arith) cs each.1 in (rest.0, (each.0, rest.1))
+
     shorter : (see : A → List ℕ) (items : List A) (j : ℕ) → j < length items → (cs : List Column) → Each IsColumnText (map see items) cs → j < length cs
     shorter see [] j inside cs each = absurd (omega arith)
     shorter see (item ∷ items) j inside [] each = absurd each

@@ -90,3 +90,6 @@ fn require_relation(columns: &[Column]) -> Result<(), Rule>
         None => Err(Rule::Field),
     }
 }
+
+#[cfg(test)]
+mod tests;
