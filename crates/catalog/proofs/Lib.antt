@@ -26,3 +26,6 @@ pub mod ShownValues
 pub mod OneTestColumn
 pub mod Answered
 pub mod GroupNames
+pub mod Distinct
+pub mod SiteNames
+pub mod ColumnTexts

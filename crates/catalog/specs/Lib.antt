@@ -12,6 +12,8 @@ pub mod Frame
 pub mod Refuses
 pub mod Below
 pub mod Catalogue
+pub mod Sites
+pub mod Columns
 pub mod Exactness
 pub mod Parts
 pub mod Keyed

@@ -16,6 +16,7 @@
 #![tactic(auto)]
 
 pub mod fault;
+mod column_texts;
 mod form;
 mod frame;
 pub mod exact;
@@ -23,6 +24,7 @@ pub mod fragment;
 mod groups;
 pub mod laws;
 pub mod parts;
+mod sites;
 pub mod split;
 mod tree;
 mod wheres;
