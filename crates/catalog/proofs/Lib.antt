@@ -29,3 +29,4 @@ pub mod GroupNames
 pub mod Distinct
 pub mod SiteNames
 pub mod ColumnTexts
+pub mod RelationTexts

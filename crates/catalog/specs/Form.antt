@@ -1,6 +1,5 @@
 use Rattle.std.specs.Prelude.{ℕ, List, map}
 use Rattle.std.specs.Global.{Vec}
-use Rattle.std.specs.Prelude.{ℕ, List, map, Vec}
 use Rattle.std.specs.Borrow.{Bor}
 use Rattle.toml.specs.View.{view}
 use Rattle.catalog.specs.declared.form.Form as code

@@ -24,6 +24,7 @@ pub mod fragment;
 mod groups;
 pub mod laws;
 pub mod parts;
+pub mod relation;
 mod sites;
 pub mod split;
 mod tree;
