@@ -9,7 +9,7 @@ use Rattle.catalog.specs.Counts.{how_many, has}
 use Rattle.catalog.specs.Valid.{AreParts}
 use Rattle.catalog.specs.Parts.{named, AreApart, IsFirstAgain, first_lost}
 
-has-append : (columns more : List ℕ) (col : ℕ) → has (columns ++ more) col ≡ (has columns col || has more col)
+pub has-append : (columns more : List ℕ) (col : ℕ) → has (columns ++ more) col ≡ (has columns col || has more col)
 has-append columns more col = list_any-append (λ other. other == col) columns more
 
 apart_back : (columns more : List ℕ) → AreApart (columns ++ more) → AreApart more
@@ -25,7 +25,7 @@ right_false true b h = cc
 right_false false b h = h
 
 -- what stands in front doesn't stand behind
-not_behind : (columns more : List ℕ) (col : ℕ) → AreApart (columns ++ more) → has columns col ≡ true → has more col ≡ false
+pub not_behind : (columns more : List ℕ) (col : ℕ) → AreApart (columns ++ more) → has columns col ≡ true → has more col ≡ false
 not_behind [] more col apart there = cc
 not_behind (first ∷ columns) more col apart there =
     elim (first == col) as (λ b. (first == col) ≡ b → (b || has columns col) ≡ true → has more col ≡ false) [
@@ -41,7 +41,7 @@ one_group true behind count apart is = let none = apart refl in let zero_is : co
 one_group false behind count apart is = is
 
 -- where no column is named twice, each named one is in one group
-in_one : (groups : List (List ℕ)) (col : ℕ) → AreApart (named groups) → how_many (λ group. has group col) groups ≡ cond (has (named groups) col) 1 0
+pub in_one : (groups : List (List ℕ)) (col : ℕ) → AreApart (named groups) → how_many (λ group. has group col) groups ≡ cond (has (named groups) col) 1 0
 in_one [] col apart = refl
 in_one (group ∷ groups) col apart =
     one_group (has group col) (has (named groups) col) (how_many (λ other. has other col) groups) (not_behind group (named groups) col apart) (in_one groups col (apart_back group (named groups) apart))

@@ -4,6 +4,17 @@ pub mod Counts
 pub mod Path
 pub mod Valid
 pub mod Cells
+pub mod Fault
+pub mod Node
+pub mod Form
+pub mod Describes
+pub mod Frame
+pub mod Refuses
+pub mod Below
+pub mod Catalogue
+pub mod Relation
+pub mod Sites
+pub mod Columns
 pub mod Exactness
 pub mod Parts
 pub mod Keyed

@@ -15,8 +15,17 @@
 //! ```
 #![tactic(auto)]
 
+pub mod fault;
+mod column_texts;
+mod form;
+mod frame;
 pub mod exact;
 pub mod fragment;
+mod groups;
 pub mod laws;
 pub mod parts;
+pub mod relation;
+mod sites;
 pub mod split;
+mod tree;
+mod wheres;

@@ -1,5 +1,5 @@
 -- Words: keywords and names.
-use Rattle.std.proofs.Common.{◌≡◌, ℕ, Bool, true, false, cond, List, [], ◌∷◌, length, map, Option, Some, None, find, nat_lt, refl, ap, subst, ◌∙◌, inl, inr, ltb-false, le-ltb, bytes_eq}
+use Rattle.std.proofs.Common.{◌≡◌, ℕ, ◌≤◌, Bool, true, false, cond, List, [], ◌∷◌, length, map, Option, Some, None, find, nat_lt, refl, ap, subst, ◌∙◌, inl, inr, ltb-false, le-ltb, bytes_eq}
 use Rattle.std.specs.Char.{to_ascii_lowercase, is_ascii_uppercase}
 use Rattle.std.specs.List.{AllByRecursion, list_any}
 use Rattle.std.specs.Str.{str_eq_ignore_ascii_case}
@@ -110,3 +110,19 @@ key_again word k same = rw (keyword_again word k same) refl
 pub name_again : (word : List ℕ) → IsName word → word_of word ≡ Some (name word)
 unfolding word_of name_of
 name_again word is_name = rw (keyword_none word is_name.is_no_keyword (keyword_of word) refl, list_any-none is_ascii_uppercase word is_name.has_no_capital, le-ltb _ _ is_name.is_short) refl
+
+-- ---- whether bytes are a name
+
+pub is_name_so : (word : List ℕ) → IsWord word → list_any is_ascii_uppercase word ≡ false → keyword_of word ≡ None → length word ≤ NAME_LIMIT → IsName word
+is_name_so word is_word small no_keyword short = record {
+  is_word = is_word;
+  has_no_capital = none_passes is_ascii_uppercase word small;
+  is_no_keyword = λ k same_letters. absurd (let found = keyword_again word k same_letters in cc);
+  is_short = short;
+}
+
+pub name_small : (word : List ℕ) → IsName word → list_any is_ascii_uppercase word ≡ false
+name_small word is_name = list_any-none is_ascii_uppercase word is_name.has_no_capital
+
+pub name_no_keyword : (word : List ℕ) → IsName word → keyword_of word ≡ None
+name_no_keyword word is_name = keyword_none word is_name.is_no_keyword (keyword_of word) refl

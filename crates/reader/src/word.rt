@@ -1,17 +1,47 @@
 //! Words: keywords and names.
 
-ghost use Rattle.std.specs.Prelude.{◌≡◌, IfErr};
+ghost use Rattle.std.specs.Prelude.{◌≡◌, ◌↔◌, IsTrue, IfErr};
 ghost use Rattle.std.specs.Char.{is_ascii_uppercase};
 ghost use Rattle.std.specs.List.{list_any};
+ghost use Rattle.reader.specs.Class.{AreAll};
 ghost use Rattle.reader.specs.Symbol.{symbol_of};
 ghost use Rattle.reader.specs.Reading.{Gives, word_of, name_of};
+ghost use Rattle.reader.specs.Tokens.{IsWord, IsName};
 
+use crate::class::Class;
 use crate::fault::{ReadFault, Rule};
 use crate::keyword::Keyword;
 use crate::token::Token;
 
 /// The largest number of bytes of a name.
 pub const NAME_LIMIT: usize = 24;
+
+/// Whether bytes are a name: a short word without capitals that is no keyword.
+#[tactic(auto, using(crate::proofs::Words::is_name_so, crate::proofs::Words::name_small, crate::proofs::Words::name_no_keyword))]
+pub fn is_name(word: &[u8]) -> bool
+    ensures { IsTrue result ↔ IsName word.now }
+{
+    is_word(word)
+        && !has_capital(word)
+        && Keyword::of_word(word).is_none()
+        && word.len() <= NAME_LIMIT
+}
+
+/// Whether bytes are a letter, and behind it letters, digits and underscores.
+fn is_word(word: &[u8]) -> bool
+    ensures { IsTrue result ↔ IsWord word.now }
+{
+    match word.split_first() {
+        Some((first, others)) => Class::Letter.has(*first) && are_word_bytes(others),
+        None => false,
+    }
+}
+
+fn are_word_bytes(bytes: &[u8]) -> bool
+    ensures { IsTrue result ↔ AreAll Class.WordByte bytes.now }
+{
+    bytes.iter().all(|byte| Class::WordByte.has(*byte))
+}
 
 /// Whether one of the letters is a capital.
 fn has_capital(word: &[u8]) -> bool

@@ -1,0 +1,53 @@
+-- The texts of a relation's columns.
+use Rattle.std.specs.Prelude.{◌≡◌, ◌≤◌, ℕ, Bool, false, List, Some, length, map, nat_eq}
+use Rattle.std.specs.List.{list_any, slice_get}
+use Rattle.std.specs.Cmp.Lexicographic.{pointwise}
+use Rattle.terms.specs.declared.value.Kind.TheVariants as kinds
+use Rattle.meaning.specs.declared.schema.Column.{Column}
+use Rattle.reader.specs.Printable.{AreDistinct}
+use Rattle.catalog.specs.Catalogue.{IsColumnText}
+use Rattle.catalog.specs.Describes.{Each}
+use Rattle.catalog.specs.declared.fault.Rule.{Rule}
+use Rattle.catalog.specs.declared.fault.Rule.TheVariants.{Gap, Overlap, Memory}
+
+-- the columns of a relation that texts say: each name once, at most 16, and an integer as the key
+pub record AreColumns (texts : List (List ℕ)) (columns : List Column) : Type 0 where
+  pub each : Each IsColumnText texts columns
+  pub distinct : AreDistinct (map (λ column. column.name) columns)
+  pub few : length columns ≤ 16
+  pub key : slice_get (map (λ column. column.kind) columns) 0 ≡ Some kinds.Int
+
+-- a refusal of the texts by the rule: but for want of memory, they say no columns of a relation
+abbrev pub RefusesColumns : List (List ℕ) → Rule → Type 0
+RefusesColumns texts Memory = Unit {0}
+RefusesColumns texts (Gap cell) = ⊥
+RefusesColumns texts (Overlap cell) = ⊥
+RefusesColumns texts _ = (columns : List Column) → AreColumns texts columns → ⊥
+
+-- whether a column of this name stands among these
+abbrev pub has_column : List Column → List ℕ → Bool
+has_column columns name = list_any (λ column. pointwise nat_eq column.name name) columns
+
+-- a text says a column whose name is none of those before it
+pub record IsNextColumn (before : List Column) (text : List ℕ) (column : Column) : Type 0 where
+  pub says : IsColumnText text column
+  pub new : has_column before column.name ≡ false
+
+-- a refusal of a text behind other columns by the rule
+abbrev pub RefusesColumn : List Column → List ℕ → Rule → Type 0
+RefusesColumn before text Memory = Unit {0}
+RefusesColumn before text (Gap cell) = ⊥
+RefusesColumn before text (Overlap cell) = ⊥
+RefusesColumn before text _ = (column : Column) → IsNextColumn before text column → ⊥
+
+-- columns that can be those of a relation, as to how many there are and what the key is
+pub record FitRelation (columns : List Column) : Type 0 where
+  pub few : length columns ≤ 16
+  pub key : slice_get (map (λ column. column.kind) columns) 0 ≡ Some kinds.Int
+
+-- a refusal of columns as those of a relation by the rule
+abbrev pub RefusesRelation : List Column → Rule → Type 0
+RefusesRelation columns Memory = ⊥
+RefusesRelation columns (Gap cell) = ⊥
+RefusesRelation columns (Overlap cell) = ⊥
+RefusesRelation columns _ = FitRelation columns → ⊥

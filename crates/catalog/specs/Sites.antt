@@ -1,0 +1,37 @@
+-- The names of a catalogue's sites.
+use Rattle.std.specs.Prelude.{◌≡◌, ◌≤◌, ℕ, Bool, false, List, length, nat_eq}
+use Rattle.std.specs.Cmp.Lexicographic.{pointwise}
+use Rattle.std.specs.List.{AllByRecursion, list_any}
+use Rattle.reader.specs.Printable.{AreDistinct}
+use Rattle.catalog.specs.Catalogue.{IsSiteName}
+use Rattle.catalog.specs.declared.fault.Rule.{Rule}
+use Rattle.catalog.specs.declared.fault.Rule.TheVariants.{Gap, Overlap, Memory}
+
+-- whether a name stands among these
+abbrev pub has_name : List (List ℕ) → List ℕ → Bool
+has_name names name = list_any (λ other. pointwise nat_eq other name) names
+
+-- the sites that a catalogue may have: names of sites, each once, at most 16
+pub record AreSites (sites : List (List ℕ)) : Type 0 where
+  pub names : AllByRecursion IsSiteName sites
+  pub distinct : AreDistinct sites
+  pub few : length sites ≤ 16
+
+-- a refusal of the sites by the rule: but for want of memory, a catalogue may not have these
+abbrev pub RefusesSites : List (List ℕ) → Rule → Type 0
+RefusesSites sites Memory = Unit {0}
+RefusesSites sites (Gap cell) = ⊥
+RefusesSites sites (Overlap cell) = ⊥
+RefusesSites sites _ = AreSites sites → ⊥
+
+-- a name of a site that is none of those before it
+pub record IsNextSite (before : List (List ℕ)) (site : List ℕ) : Type 0 where
+  pub name : IsSiteName site
+  pub new : has_name before site ≡ false
+
+-- a refusal of a site behind others by the rule
+abbrev pub RefusesSite : List (List ℕ) → List ℕ → Rule → Type 0
+RefusesSite before site Memory = Unit {0}
+RefusesSite before site (Gap cell) = ⊥
+RefusesSite before site (Overlap cell) = ⊥
+RefusesSite before site _ = IsNextSite before site → ⊥

@@ -1,0 +1,95 @@
+//! The columns of a relation, from their texts.
+
+ghost use Rattle.std.specs.Prelude.{◌≡◌, ◌≢◌, false, ◌++◌, ◌∷◌, map, IfOk, IfErr, IfSome, IfNone, OnOk};
+ghost use Rattle.catalog.specs.Catalogue.{IsColumnText, kind_word};
+ghost use Rattle.catalog.specs.Columns as spec;
+ghost use Rattle.catalog.specs.Columns.{AreColumns, RefusesColumns, RefusesColumn, FitRelation, RefusesRelation};
+
+use crate::fault::Rule;
+use meaning::schema::Column;
+use reader::word::is_name;
+use std::alloc::Global;
+use terms::text::Text;
+use terms::value::Kind;
+
+/// The largest number of columns of a relation.
+const COLUMNS: usize = 16;
+
+/// The columns that texts say, each name once, and an integer as the key.
+pub(crate) fn columns(alloc: Global, texts: &[&str]) -> Result<Vec<Column>, Rule>
+    ensures found { IfOk result (λ columns. AreColumns (map (λ text. text.now) texts.now) columns.items) }
+    ensures none { IfErr result (λ rule. RefusesColumns (map (λ text. text.now) texts.now) rule) }
+{
+    let mut columns = Vec::new(alloc);
+    for text in texts {
+        let column = next_column(alloc, columns.as_slice(), text)?;
+        columns.push(column)?;
+    }
+    require_relation(columns.as_slice())?;
+    Ok(columns)
+}
+
+/// The column that a text says behind others.
+fn next_column(alloc: Global, before: &[Column], text: &str) -> Result<Column, Rule>
+    ensures says { IfOk result (λ column. IsColumnText text.now column) }
+    ensures new { IfOk result (λ column. spec.has_column before.now column.name ≡ false) }
+    ensures none { IfErr result (λ rule. RefusesColumn before.now text.now rule) }
+{
+    let Some((name, kind)) = name_and_kind(text) else {
+        return Err(Rule::Field);
+    };
+    if !is_name(name.as_bytes()) {
+        return Err(Rule::Name);
+    }
+    if has_column(before, name) {
+        return Err(Rule::Twice);
+    }
+    let name = Text::new(String::from_str(alloc, name)?);
+    Ok(Column { name, kind })
+}
+
+/// The two words of a text, of which the second is a type's.
+fn name_and_kind(text: &str) -> Option<(&str, Kind)>
+    ensures some { IfSome result (λ found. text.now ≡ found.0.now ++ 32 ∷ kind_word found.1) }
+    ensures none { IfNone result ((column : Column) → IsColumnText text.now column → ⊥) }
+{
+    let (name, word) = text.split_once(' ')?;
+    let kind = kind_of(word)?;
+    Some((name, kind))
+}
+
+fn kind_of(word: &str) -> Option<Kind>
+    ensures some { IfSome result (λ kind. word.now ≡ kind_word kind) }
+    ensures none { IfNone result ((kind : Kind) → word.now ≢ kind_word kind) }
+{
+    match word {
+        "int" => Some(Kind::Int),
+        "text" => Some(Kind::Text),
+        _ => None,
+    }
+}
+
+/// Whether a column of this name stands among those before it.
+fn has_column(before: &[Column], name: &str) -> bool
+    ensures { result ≡ spec.has_column before.now name.now }
+{
+    before.iter().any(|other| other.name.as_str() == name)
+}
+
+/// Refuses too many columns, and a key that is no integer.
+fn require_relation(columns: &[Column]) -> Result<(), Rule>
+    ensures fit { OnOk result (FitRelation columns.now) }
+    ensures none { IfErr result (λ rule. RefusesRelation columns.now rule) }
+{
+    if columns.len() > COLUMNS {
+        return Err(Rule::Limit);
+    }
+    match columns.first() {
+        Some(key) if key.kind == Kind::Int => Ok(()),
+        Some(_) => Err(Rule::KeyType),
+        None => Err(Rule::Field),
+    }
+}
+
+#[cfg(test)]
+mod tests;

@@ -1,0 +1,130 @@
+//! Why a catalogue was refused.
+
+ghost use Rattle.std.specs.Prelude.{◌≡◌};
+ghost use Rattle.catalog.specs.Fault.{rule_number, rule_name};
+ghost use Rattle.catalog.specs.declared.fault.Rule.TheVariants as rules;
+
+use std::alloc::{AllocError, AllocFailed};
+use terms::memory::Memory;
+use terms::row::Row;
+use terms::seq::Seq;
+use terms::text::Text;
+use terms::value::Value;
+
+/// A column and its value in a cell.
+#[derive(Debug, Drop)]
+pub struct Shown {
+    pub column: Text,
+    pub value: Value,
+}
+
+/// A cell of a row split: a row, and what tells it from the other cells.
+#[derive(Debug, Drop)]
+pub struct Cell {
+    pub row: Row,
+    /// The values in the columns that a condition of the split names, in the relation's order.
+    pub shown: Seq<Shown>,
+}
+
+/// The rule that a catalogue breaks.
+#[derive(Debug, Drop)]
+pub enum Rule {
+    /// The text is no TOML, or no UTF-8.
+    Toml,
+    /// A key is missing, unknown, or has a value of another kind.
+    Field,
+    /// A name is no name.
+    Name,
+    /// A name stands twice.
+    Twice,
+    /// The catalogue has no such site.
+    NoSite,
+    /// The first column of a relation is no integer.
+    KeyType,
+    /// A column is named twice in the groups of a split.
+    ColumnTwice,
+    /// A column is in no group of a split.
+    ColumnLost,
+    /// A column is not there, or not among those around a node.
+    ColumnAbsent,
+    /// A constant is of another type than its column.
+    WrongType,
+    /// A row that meets the conditions on the way to a split meets no branch.
+    Gap(Cell),
+    /// A row that meets the conditions on the way to a split meets two branches or more.
+    Overlap(Cell),
+    /// Something is larger than a catalogue may be.
+    Limit,
+    /// Memory ran out, which says nothing of the text.
+    Memory,
+}
+
+impl Rule {
+    /// The rule's number in messages.
+    pub fn number(&self) -> u8
+        ensures { result ≡ rule_number self.now }
+    {
+        match self {
+            Rule::Toml => 1,
+            Rule::Field => 2,
+            Rule::Name => 3,
+            Rule::Twice => 4,
+            Rule::NoSite => 5,
+            Rule::KeyType => 6,
+            Rule::ColumnTwice => 7,
+            Rule::ColumnLost => 8,
+            Rule::ColumnAbsent => 9,
+            Rule::WrongType => 10,
+            Rule::Gap(_) => 11,
+            Rule::Overlap(_) => 12,
+            Rule::Limit => 13,
+            Rule::Memory => 14,
+        }
+    }
+
+    /// The rule's name in messages.
+    pub fn name(&self) -> &'static str
+        ensures { result.now ≡ rule_name self.now }
+    {
+        match self {
+            Rule::Toml => "Toml",
+            Rule::Field => "Field",
+            Rule::Name => "Name",
+            Rule::Twice => "Twice",
+            Rule::NoSite => "NoSite",
+            Rule::KeyType => "KeyType",
+            Rule::ColumnTwice => "ColumnTwice",
+            Rule::ColumnLost => "ColumnLost",
+            Rule::ColumnAbsent => "ColumnAbsent",
+            Rule::WrongType => "Type",
+            Rule::Gap(_) => "Gap",
+            Rule::Overlap(_) => "Overlap",
+            Rule::Limit => "Limit",
+            Rule::Memory => "Memory",
+        }
+    }
+}
+
+impl From<Memory> for Rule {
+    ghost from_gives = { λ _ rule. rule ≡ rules.Memory };
+
+    fn from(_error: Memory) -> Rule {
+        Rule::Memory
+    }
+}
+
+impl From<AllocError> for Rule {
+    ghost from_gives = { λ _ rule. rule ≡ rules.Memory };
+
+    fn from(_error: AllocError) -> Rule {
+        Rule::Memory
+    }
+}
+
+impl<T: Drop> From<AllocFailed<T>> for Rule {
+    ghost from_gives = { λ _ rule. rule ≡ rules.Memory };
+
+    fn from(_error: AllocFailed<T>) -> Rule {
+        Rule::Memory
+    }
+}

@@ -1,0 +1,99 @@
+//! A relation of a document: its columns and its fragment tree.
+
+ghost use Rattle.std.specs.Prelude.{◌≡◌, ◌≤◌, [], codes, length, map, IfOk, IfErr};
+ghost use Rattle.toml.specs.View.{view};
+ghost use Rattle.meaning.specs.Schema.{kinds_of};
+ghost use Rattle.catalog.specs.Catalogue.{IsRelationIn};
+ghost use Rattle.catalog.specs.Describes.{Describes};
+ghost use Rattle.catalog.specs.Path.{columns_beside_key, paths};
+ghost use Rattle.catalog.specs.Refuses.{Refuses};
+ghost use Rattle.catalog.specs.Relation.{relation_of, RefusesRelation};
+ghost use Rattle.catalog.specs.Split.{tree_of};
+ghost use Rattle.catalog.specs.Valid.{IsValid};
+
+use crate::column_texts::columns;
+use crate::fault::Rule;
+use crate::form::texts_at;
+use crate::frame::Frame;
+use crate::split::Split;
+use crate::tree::{SPLITS, tree};
+use meaning::schema::{Column, RelationSchema};
+use reader::word::is_name;
+use std::alloc::Global;
+use terms::memory::Memory;
+use terms::seq::Seq;
+use terms::text::Text;
+use toml::Value;
+
+/// A relation, and how it is split.
+#[derive(Debug, Drop)]
+pub struct SplitRelation {
+    pub schema: RelationSchema,
+    pub split: Split,
+}
+
+/// The relation that a document says under this name.
+pub(crate) fn relation(
+    alloc: Global,
+    sites: &[Text],
+    name: &str,
+    node: &Value,
+) -> Result<SplitRelation, Rule>
+    ensures found { IfOk result (λ relation. IsRelationIn sites.now (name.now, view node.now) (relation_of relation)) }
+    ensures valid { IfOk result (λ relation. IsValid (kinds_of relation.schema) (tree_of relation.split)) }
+    ensures none { IfErr result (λ rule. RefusesRelation sites.now (name.now, view node.now) rule) }
+{
+    if !is_name(name.as_bytes()) {
+        return Err(Rule::Name);
+    }
+    let Some(texts) = texts_at(alloc, "columns", node)? else {
+        return Err(Rule::Field);
+    };
+    let columns = columns(alloc, texts.as_slice())?;
+    let split = split(alloc, sites, columns.as_slice(), node)?;
+    let name = Text::new(String::from_str(alloc, name)?);
+    let columns = Seq::new(columns);
+    let schema = RelationSchema { name, columns };
+    Ok(SplitRelation { schema, split })
+}
+
+/// The fragment tree that a node describes for a relation of these columns.
+fn split(
+    alloc: Global,
+    sites: &[Text],
+    columns: &[Column],
+    node: &Value,
+) -> Result<Split, Rule>
+    ensures found { IfOk result (λ split. Describes (record { sites = sites.now; columns = columns.now }) 4 [] (columns_beside_key (map (λ column. column.kind) columns.now)) (codes "columns") (view node.now) (tree_of split)) }
+    ensures valid { IfOk result (λ split. IsValid (map (λ column. column.kind) columns.now) (tree_of split)) }
+    ensures few { IfOk result (λ split. length (paths (tree_of split)) ≤ 32) }
+    ensures none { IfErr result (λ rule. Refuses (record { sites = sites.now; columns = columns.now }) 4 [] (columns_beside_key (map (λ column. column.kind) columns.now)) (codes "columns") (view node.now) 0 rule) }
+{
+    let within = beside_key(alloc, columns)?;
+    let frame = Frame {
+        alloc,
+        sites,
+        columns,
+    };
+    let mut leaves = 0;
+    tree(
+        &frame,
+        SPLITS,
+        &[],
+        within.as_slice(),
+        "columns",
+        node,
+        &mut leaves,
+    )
+}
+
+/// The places of the columns beside the key.
+fn beside_key(alloc: Global, columns: &[Column]) -> Result<Vec<usize>, Memory>
+    ensures { IfOk result (λ places. places.items ≡ columns_beside_key (map (λ column. column.kind) columns.now)) }
+{
+    let mut places = Vec::new(alloc);
+    for place in 1..columns.len() {
+        places.push(place)?;
+    }
+    Ok(places)
+}

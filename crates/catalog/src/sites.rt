@@ -1,0 +1,64 @@
+//! The names of a catalogue's sites.
+
+ghost use Rattle.std.specs.Prelude.{◌≡◌, ◌↔◌, map, IsTrue, IfOk, IfErr};
+ghost use Rattle.catalog.specs.Catalogue.{IsSiteName};
+ghost use Rattle.catalog.specs.Sites as spec;
+ghost use Rattle.catalog.specs.Sites.{AreSites, RefusesSites, IsNextSite, RefusesSite};
+
+use crate::fault::Rule;
+use reader::word::is_name;
+use std::alloc::Global;
+use terms::text::Text;
+
+/// The largest number of sites of a catalogue.
+const SITES: usize = 16;
+
+/// The coordinator, which is no site.
+const COORDINATOR: &str = "desk";
+
+/// The names of the sites that texts list, each once.
+pub(crate) fn sites(alloc: Global, texts: &[&str]) -> Result<Vec<Text>, Rule>
+    ensures found { IfOk result (λ sites. (sites.items ≡ map (λ text. text.now) texts.now) × AreSites (map (λ text. text.now) texts.now)) }
+    ensures none { IfErr result (λ rule. RefusesSites (map (λ text. text.now) texts.now) rule) }
+{
+    let mut sites = Vec::new(alloc);
+    for text in texts {
+        let site = next_site(alloc, sites.as_slice(), text)?;
+        sites.push(site)?;
+    }
+    if sites.len() > SITES {
+        return Err(Rule::Limit);
+    }
+    Ok(sites)
+}
+
+/// The name of a site behind others.
+fn next_site(alloc: Global, before: &[Text], text: &str) -> Result<Text, Rule>
+    ensures found { IfOk result (λ site. site ≡ text.now) }
+    ensures next { IfOk result (λ site. IsNextSite before.now site) }
+    ensures none { IfErr result (λ rule. RefusesSite before.now text.now rule) }
+{
+    if !is_site_name(text) {
+        return Err(Rule::Name);
+    }
+    if has_name(before, text) {
+        return Err(Rule::Twice);
+    }
+    Ok(Text::new(String::from_str(alloc, text)?))
+}
+
+fn is_site_name(text: &str) -> bool
+    ensures { IsTrue result ↔ IsSiteName text.now }
+{
+    is_name(text.as_bytes()) && text != COORDINATOR
+}
+
+/// Whether a name stands among those before it.
+fn has_name(before: &[Text], name: &str) -> bool
+    ensures { result ≡ spec.has_name before.now name.now }
+{
+    before.iter().any(|other| other.as_str() == name)
+}
+
+#[cfg(test)]
+mod tests;
