@@ -58,12 +58,7 @@ pub(crate) fn relation(
 }
 
 /// The fragment tree that a node describes for a relation of these columns.
-fn split(
-    alloc: Global,
-    sites: &[Text],
-    columns: &[Column],
-    node: &Value,
-) -> Result<Split, Rule>
+fn split(alloc: Global, sites: &[Text], columns: &[Column], node: &Value) -> Result<Split, Rule>
     ensures found { IfOk result (λ split. Describes (record { sites = sites.now; columns = columns.now }) 4 [] (columns_beside_key (map (λ column. column.kind) columns.now)) (codes "columns") (view node.now) (tree_of split)) }
     ensures valid { IfOk result (λ split. IsValid (map (λ column. column.kind) columns.now) (tree_of split)) }
     ensures few { IfOk result (λ split. length (paths (tree_of split)) ≤ 32) }
