@@ -1,5 +1,5 @@
 -- The answers of items, as a loop over the items collects them.
-use Rattle.std.proofs.Common.{◌≡◌, ℕ, zero, suc, ◌<◌, List, [], ◌∷◌, ◌++◌, Option, Some, None, option_and_then, option_map, map, take, length, get_or, refl, subst, sym, arith}
+use Rattle.std.proofs.Common.{◌≡◌, ℕ, zero, suc, ◌<◌, List, [], ◌∷◌, ◌++◌, Option, Some, None, option_and_then, option_map, map, take, length, get_or, refl, subst, arith}
 use Rattle.reader.specs.Names.{all_of}
 
 -- a first answer before the others, one more at their end

@@ -1,7 +1,6 @@
 -- The conditions of branches, by what the reader answers.
-use Rattle.std.proofs.Common.{◌≡◌, ◌≢◌, ℕ, suc, zero, Bool, true, false, ◌==◌, ◌||◌, if◌then◌else◌, List, [], ◌∷◌, ◌++◌, Some, map, refl, sym, ap, subst, ◌∙◌}
+use Rattle.std.proofs.Common.{◌≡◌, ◌≢◌, ℕ, suc, Bool, true, false, ◌==◌, ◌||◌, if◌then◌else◌, List, [], ◌∷◌, ◌++◌, Some, map, refl, sym, subst, ◌∙◌}
 use Rattle.terms.specs.declared.cond.Cond.{Cond}
-use Rattle.terms.specs.declared.value.Kind.{Kind}
 use Rattle.meaning.specs.declared.schema.Column.{Column}
 use Rattle.reader.specs.Conds.{AreCondsOf}
 use Rattle.reader.specs.Scope.{types}

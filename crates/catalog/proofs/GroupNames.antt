@@ -1,13 +1,12 @@
 -- The columns that groups name, by the answers of the calls that look for them.
-use Rattle.std.proofs.Common.{◌≡◌, ◌≢◌, ℕ, suc, Bool, true, false, not, ◌==◌, ◌||◌, if◌then◌else◌, List, [], ◌∷◌, ◌++◌, Option, Some, None, option_and_then, option_map, map, flat_map, find, refl, sym, ap, subst, ◌∙◌, inl, inr, ◌⊎◌}
-use Rattle.std.specs.List.{AllByRecursion, list_any}
+use Rattle.std.proofs.Common.{◌≡◌, ℕ, Bool, true, false, not, ◌==◌, ◌||◌, if◌then◌else◌, List, [], ◌∷◌, ◌++◌, Option, Some, None, option_and_then, option_map, refl, sym, subst, ◌∙◌}
+use Rattle.std.specs.List.{AllByRecursion}
 use Rattle.std.proofs.lemmas.Bool.{eq-eqb}
 use Rattle.catalog.proofs.ColumnParts.{in_one, not_behind}
 use Rattle.reader.specs.Names.{all_of}
 use Rattle.toml.specs.Data.{Data}
 use Rattle.catalog.specs.Counts.{has, how_many}
 use Rattle.catalog.specs.Describes.{Frame, AreNamedIn, named_in, place_within, column_numbered, only_if}
-use Rattle.catalog.specs.Node.{texts_at}
 use Rattle.catalog.specs.Parts.{named, AreApart, IsFirstAgain, first_lost}
 use Rattle.catalog.specs.Refuses.{RefusesGroup, RefusesGroups, RefusesNamed, RefusesParts, is_of_text}
 use Rattle.catalog.specs.Valid.{AreParts}

@@ -1,9 +1,9 @@
 -- What a node says, by what the calls on its value give.
-use Rattle.std.proofs.Common.{◌≡◌, ◌≢◌, ℕ, suc, ◌==◌, ◌&&◌, Bool, true, false, not, if◌then◌else◌, List, [], ◌∷◌, length, map, Option, Some, None, is_some, option_map, Bor, ◌⊎◌, inl, inr, ne_eqb, refl, sym, ap, subst, ◌∙◌, codes, rules, String, Global}
-use Rattle.toml.specs.Data.{Data, string, integer, float, boolean, datetime, array, table, Items, no_items, item, Members, no_members, member, as_str, as_array, as_table, get, get_member}
-use Rattle.toml.specs.View.{view, items_of, items_view, members_of, members_view}
+use Rattle.std.proofs.Common.{◌≡◌, ◌≢◌, ℕ, suc, ◌==◌, ◌&&◌, Bool, true, false, if◌then◌else◌, List, [], ◌∷◌, length, map, Option, Some, None, is_some, option_map, Bor, ◌⊎◌, inl, inr, ne_eqb, refl, sym, ap, subst, codes, String, Global}
+use Rattle.toml.specs.Data.{Data, string, integer, float, boolean, datetime, array, table, Items, Members, as_array, as_table, get}
+use Rattle.toml.specs.View.{view, items_of, items_view, members_view}
 use Rattle.toml.specs.declared.value.Value.{Value}
-use Rattle.catalog.specs.Node.{Form, AtSite, SplitByRows, SplitByCols, Ill, listed_items, some_items, key_count, list_form, site_form, split_form, node_form, form_of}
+use Rattle.catalog.specs.Node.{Form, Ill, listed_items, some_items, key_count, list_form, split_form, form_of}
 
 pub listed_items_of : (ds : List Data) → listed_items (items_of ds) ≡ ds
 listed_items_of [] = refl

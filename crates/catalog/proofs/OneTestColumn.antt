@@ -1,5 +1,5 @@
 -- The lists of a row split's test values are determined, so it can't have few cells and more.
-use Rattle.std.proofs.Common.{◌≡◌, ◌≤◌, ◌<◌, ◌↔◌, ℕ, zero, suc, List, [], ◌∷◌, length, Contains, inl, inr, ◌⊎◌, Ordering, Less, Equal, Greater, refl, sym, ap, subst, ◌∙◌, arith}
+use Rattle.std.proofs.Common.{◌≡◌, ◌<◌, ◌↔◌, ℕ, zero, suc, List, [], ◌∷◌, Contains, inl, inr, ◌⊎◌, Less, refl, sym, subst, arith}
 use Rattle.std.specs.List.{AllByRecursion}
 use Rattle.std.specs.List.Sorted.{IsStrictlySortedBy}
 use Rattle.terms.specs.declared.cond.Cond.{Cond}
@@ -7,7 +7,7 @@ use Rattle.terms.specs.declared.value.Kind.{Kind}
 use Rattle.terms.specs.declared.value.Value.{Value}
 use Rattle.terms.specs.Order.{value_cmp_total}
 use Rattle.terms.specs.Value.{value_cmp}
-use Rattle.catalog.specs.Cells.{AreTestColumns, IsTestColumn, HasMoreCells, cell_count}
+use Rattle.catalog.specs.Cells.{AreTestColumns, HasMoreCells, cell_count}
 use Rattle.catalog.specs.Describes.{HasFewCells}
 
 -- the first, or one of the others

@@ -1,17 +1,16 @@
 -- What a document says of a relation, by its columns and by the tree below.
-use Rattle.std.proofs.Common.{◌≡◌, ◌≤◌, ◌+◌, ◌<◌, ℕ, zero, suc, List, [], ◌∷◌, ◌++◌, Some, length, map, drop, refl, sym, ap, subst, ◌∙◌, append_assoc, append-nil, arith, codes}
+use Rattle.std.proofs.Common.{◌≡◌, ◌<◌, ℕ, suc, List, [], ◌∷◌, ◌++◌, Some, length, map, drop, sym, ap, subst, ◌∙◌, append_assoc, arith, codes}
 use Rattle.std.proofs.Math.Seq.{drop-cons}
 use Rattle.std.proofs.lemmas.List.{length-map}
 use Rattle.toml.specs.Data.{Data}
 use Rattle.terms.specs.declared.value.Kind.{Kind}
-use Rattle.terms.specs.declared.value.Kind.TheVariants as kinds
 use Rattle.meaning.specs.declared.schema.Column.{Column}
 use Rattle.catalog.specs.declared.fault.Rule.{Rule}
 use Rattle.catalog.specs.declared.fault.Rule.TheVariants.{Toml, Field, Name, Twice, NoSite, KeyType, ColumnTwice, ColumnLost, ColumnAbsent, WrongType, Gap, Overlap, Limit, Memory}
 use Rattle.catalog.specs.Catalogue.{SplitRelation, IsRelationIn, IsColumnText}
 use Rattle.catalog.specs.Describes.{Describes, Each}
 use Rattle.catalog.specs.Node.{texts_at}
-use Rattle.catalog.specs.Path.{columns_beside_key, places_from, paths}
+use Rattle.catalog.specs.Path.{columns_beside_key, places_from}
 use Rattle.catalog.specs.Refuses.{Refuses, NoneIsValid, NoneIsDescribed}
 use Rattle.catalog.specs.Relation.{RefusesRelation, SaysNoRelation, SaysNoneValid}
 use Rattle.catalog.specs.Valid.{IsValid}

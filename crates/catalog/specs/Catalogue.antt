@@ -1,5 +1,5 @@
 -- Catalogues: sites, relations and their fragment trees, and the text of one.
-use Rattle.std.specs.Prelude.{◌≡◌, ◌≢◌, ◌≤◌, ℕ, List, [], ◌∷◌, ◌++◌, Option, Some, length, codes}
+use Rattle.std.specs.Prelude.{◌≡◌, ◌≢◌, ◌≤◌, ℕ, List, [], ◌∷◌, ◌++◌, Some, length, codes}
 use Rattle.std.specs.List.{AllByRecursion, slice_get}
 use Rattle.toml.specs.Data.{Data, table, Members, no_members, member, get_member}
 use Rattle.toml.specs.Parse.{parse_document}

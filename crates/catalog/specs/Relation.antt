@@ -1,5 +1,5 @@
 -- Relations as the code has them, and their refusals.
-use Rattle.std.specs.Prelude.{ℕ, List, map}
+use Rattle.std.specs.Prelude.{ℕ, List}
 use Rattle.toml.specs.Data.{Data}
 use Rattle.meaning.specs.declared.schema.Column.{Column}
 use Rattle.meaning.specs.Schema.{kinds_of}

@@ -1,4 +1,4 @@
-use Rattle.std.proofs.Common.{add-one, ap, sym, ◌∙◌, Some, map, ◌++◌, ◌∷◌, [], List, ℕ}
+use Rattle.std.proofs.Common.{add-one, ap, sym, ◌∙◌, Some, map, ◌∷◌, []}
 use Rattle.std.proofs.lemmas.List.{map-append}
 use Rattle.std.specs.Option.{option_copied}
 use Rattle.toml.specs.Data.{as_str}

@@ -1,4 +1,4 @@
-use Rattle.std.proofs.Common.{Some, option_map, ap, sym, ◌∙◌, refl}
+use Rattle.std.proofs.Common.{option_map, ap, sym, ◌∙◌, refl}
 use Rattle.toml.specs.View.{view, table_view}
 use Rattle.catalog.proofs.Nodes.{form_of_two, form_of_ill, there_of, not_both}
 use Rattle.catalog.proofs.form.form_of_node.Goals as goal

@@ -1,4 +1,4 @@
-use Rattle.std.proofs.Common.{add-one, map, sym, ap, ◌∙◌, Some, refl}
+use Rattle.std.proofs.Common.{add-one, sym, ap, ◌∙◌, Some, refl}
 use Rattle.catalog.specs.Describes.{place_within}
 use Rattle.catalog.specs.Frame.{frame_of}
 use Rattle.catalog.proofs.Answered.{answered_next, answered_not}

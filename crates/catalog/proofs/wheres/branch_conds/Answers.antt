@@ -1,11 +1,11 @@
-use Rattle.std.proofs.Common.{List, map, subst, sym, ap, ◌∙◌, IfOk}
+use Rattle.std.proofs.Common.{List, map, subst, ap, ◌∙◌, IfOk}
 use Rattle.std.specs.List.{AllByRecursion}
 use Rattle.terms.specs.Cond.{IsCondOf}
 use Rattle.terms.specs.declared.value.Kind.{Kind}
 use Rattle.meaning.specs.declared.schema.Column.{Column}
 use Rattle.reader.specs.Scope.{types}
 use Rattle.toml.specs.View.{view}
-use Rattle.catalog.specs.Describes.{Each, IsWhereOn, kinds_in}
+use Rattle.catalog.specs.Describes.{Each, IsWhereOn}
 use Rattle.catalog.specs.Frame.{frame_of}
 use Rattle.catalog.proofs.BranchConds.{types_visible}
 use Rattle.catalog.proofs.wheres.branch_conds.Goals as goal

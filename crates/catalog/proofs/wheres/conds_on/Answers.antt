@@ -1,4 +1,4 @@
-use Rattle.std.proofs.Common.{add-one, get_or, map, subst, List}
+use Rattle.std.proofs.Common.{add-one, map}
 use Rattle.std.specs.List.{AllByRecursion}
 use Rattle.std.proofs.lemmas.Result.{err_from_is_err_and}
 use Rattle.terms.specs.Cond.{IsCondOf}

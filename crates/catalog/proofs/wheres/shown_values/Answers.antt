@@ -1,4 +1,4 @@
-use Rattle.std.proofs.Common.{add-one, ◌≤◌, min, length, subst, ℕ, refl}
+use Rattle.std.proofs.Common.{add-one}
 use Rattle.catalog.proofs.ShownValues.{shown_past, shown_next}
 use Rattle.catalog.proofs.wheres.shown_values.Goals as goal
 
