@@ -1,7 +1,7 @@
 -- The names of sites, as a loop goes over them.
-use Rattle.std.proofs.Common.{◌≡◌, sym, subst, ◌∙◌, ap, ℕ, false, ◌<◌, List, map, take, length, get_or}
+use Rattle.std.proofs.Common.{◌≡◌, ℕ, ◌<◌, List, map, take, length, get_or}
 use Rattle.catalog.specs.Catalogue.{IsSiteName}
-use Rattle.catalog.specs.Sites.{has_name, AreSites, RefusesSites, IsNextSite, RefusesSite}
+use Rattle.catalog.specs.Sites.{AreSites, RefusesSites, IsNextSite, RefusesSite}
 use Rattle.catalog.specs.declared.fault.Rule.{Rule}
 use Rattle.catalog.specs.declared.fault.Rule.TheVariants.{Toml, Field, Name, Twice, NoSite, KeyType, ColumnTwice, ColumnLost, ColumnAbsent, WrongType, Gap, Overlap, Limit, Memory}
 use Rattle.catalog.proofs.Distinct.{all_at, new_at}

@@ -1,4 +1,4 @@
-use Rattle.std.proofs.Common.{◌≡◌, ◌++◌, ◌∷◌, sym, ◌∙◌, rules}
+use Rattle.std.proofs.Common.{sym}
 use Rattle.catalog.proofs.ColumnTexts.{parts_of, no_parts, two_parts}
 use Rattle.catalog.proofs.column_texts.name_and_kind.Goals as goal
 

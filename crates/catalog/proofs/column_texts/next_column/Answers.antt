@@ -1,6 +1,5 @@
-use Rattle.std.proofs.Common.{◌≡◌, ℕ, List, true, false, sym, subst, ◌∙◌}
+use Rattle.std.proofs.Common.{◌≡◌, true, false, sym, subst, ◌∙◌}
 use Rattle.reader.specs.Tokens.{IsName}
-use Rattle.catalog.specs.Columns.{has_column}
 use Rattle.catalog.proofs.ColumnTexts.{named_so}
 use Rattle.catalog.proofs.column_texts.next_column.Goals as goal
 

@@ -1,9 +1,7 @@
-use Rattle.std.proofs.Common.{◌≡◌, ℕ, List, add-one, map, length, take, rules, refl, sym, subst, ◌∙◌}
-use Rattle.std.specs.List.{AllByRecursion}
+use Rattle.std.proofs.Common.{ℕ, List, add-one, map, refl, subst, ◌∙◌}
 use Rattle.std.proofs.lemmas.Result.{err_from_is_err_and}
-use Rattle.reader.specs.Printable.{AreDistinct}
 use Rattle.catalog.specs.Catalogue.{IsSiteName}
-use Rattle.catalog.specs.Sites.{IsNextSite, RefusesSite}
+use Rattle.catalog.specs.Sites.{IsNextSite}
 use Rattle.catalog.proofs.BranchConds.{all_more}
 use Rattle.catalog.proofs.Distinct.{distinct_more, taken_more}
 use Rattle.catalog.proofs.SiteNames.{next_of_sites, refuses_sites}
