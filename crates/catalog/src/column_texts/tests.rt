@@ -14,7 +14,11 @@ const SEVENTEEN: [&str; 17] = [
 
 /// Whether the texts are refused by the rule of this name, or accepted if it is empty.
 fn gives(alloc: Global, texts: &[&str], want: &str) -> bool {
-    match columns(alloc, texts).or_else(|_| columns(alloc, texts)) {
+    let answer = match columns(alloc, texts) {
+        Err(Rule::Memory) => columns(alloc, texts),
+        answer => answer,
+    };
+    match answer {
         Ok(columns) => want.is_empty() && columns.len() == texts.len(),
         Err(rule) => rule.name() == want,
     }

@@ -12,7 +12,11 @@ const SEVENTEEN: [&str; 17] = [
 
 /// Whether the texts are refused by the rule of this name, or accepted if it is empty.
 fn gives(alloc: Global, texts: &[&str], want: &str) -> bool {
-    match sites(alloc, texts).or_else(|_| sites(alloc, texts)) {
+    let answer = match sites(alloc, texts) {
+        Err(Rule::Memory) => sites(alloc, texts),
+        answer => answer,
+    };
+    match answer {
         Ok(sites) => want.is_empty() && sites.len() == texts.len(),
         Err(rule) => rule.name() == want,
     }

@@ -1,10 +1,10 @@
-use Rattle.std.proofs.Common.{◌≡◌, IsTrue, length, rules, None, false, ◌≤◌, sym, ◌∙◌}
+use Rattle.std.proofs.Common.{◌≡◌, length, rules, None, false, ◌≤◌}
 use Rattle.std.specs.Char.{is_ascii_uppercase}
 use Rattle.std.specs.List.{list_any}
 use Rattle.reader.specs.declared.word.TheConstants.{NAME_LIMIT}
 use Rattle.reader.specs.Reading.{keyword_of}
 use Rattle.reader.specs.Tokens.{IsWord}
-use Rattle.reader.proofs.Words.{is_name_so, name_small, name_no_keyword}
+use Rattle.reader.proofs.Words.{is_name_so}
 use Rattle.reader.proofs.word.is_name.Goals as goal
 use Rattle.reader.proofs.word.is_name.Goals.{then-is_word, else-is_word, then-not-has_capital, else-not-has_capital}
 
