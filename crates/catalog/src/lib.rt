@@ -16,6 +16,7 @@
 #![tactic(auto)]
 
 pub mod fault;
+mod catalogue;
 mod column_texts;
 mod form;
 mod frame;
