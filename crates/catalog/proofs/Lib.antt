@@ -30,3 +30,5 @@ pub mod Distinct
 pub mod SiteNames
 pub mod ColumnTexts
 pub mod RelationTexts
+pub mod DocumentParts
+pub mod Entries

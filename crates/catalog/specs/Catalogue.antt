@@ -1,7 +1,7 @@
 -- Catalogues: sites, relations and their fragment trees, and the text of one.
-use Rattle.std.specs.Prelude.{◌≡◌, ◌≢◌, ◌≤◌, ℕ, List, [], ◌∷◌, ◌++◌, Some, length, codes}
+use Rattle.std.specs.Prelude.{◌≡◌, ◌≢◌, ◌≤◌, ◌==◌, ℕ, if◌then◌else◌, List, [], ◌∷◌, ◌++◌, Option, Some, None, option_and_then, length, codes}
 use Rattle.std.specs.List.{AllByRecursion, slice_get}
-use Rattle.toml.specs.Data.{Data, table, Members, no_members, member, get_member}
+use Rattle.toml.specs.Data.{Data, table, Members, no_members, member, get_member, as_table}
 use Rattle.toml.specs.Parse.{parse_document}
 use Rattle.terms.specs.declared.value.Kind.{Kind}
 use Rattle.terms.specs.declared.value.Kind.TheVariants as kinds
@@ -58,17 +58,25 @@ entries (member key value rest) = (key, value) ∷ entries rest
 abbrev pub IsSiteName : List ℕ → Type 0
 IsSiteName name = IsName name × (name ≢ codes "desk")
 
+-- what stands at the two keys of a document: the texts of its sites, and the table of its relations
+abbrev pub both_parts : Option (List (List ℕ)) → Option Members → Option (List (List ℕ) × Members)
+both_parts (Some sites) (Some relations) = Some (sites, relations)
+both_parts _ _ = None
+
+abbrev pub document_parts : Data → Option (List (List ℕ) × Members)
+document_parts (table document) =
+    if key_count document == 2
+    then both_parts (option_and_then some_texts (get_member (codes "sites") document)) (option_and_then as_table (get_member (codes "relations") document))
+    else None
+document_parts _ = None
+
 -- a document of sites and relations alone, each with something in it
 pub record IsDocumentOf (document : Members) (catalogue : Catalogue) : Type 0 where
-  pub two_keys : key_count document ≡ 2
-  pub listed : Data
-  pub sites_there : get_member (codes "sites") document ≡ Some listed
-  pub sites : some_texts listed ≡ Some catalogue.sites
+  pub members : Members
+  pub parts : document_parts (table document) ≡ Some (catalogue.sites, members)
   pub site_names : AllByRecursion IsSiteName catalogue.sites
   pub distinct : AreDistinct catalogue.sites
   pub few_sites : length catalogue.sites ≤ 16
-  pub members : Members
-  pub relations_there : get_member (codes "relations") document ≡ Some (table members)
   pub relations : Each (IsRelationIn catalogue.sites) (entries members) catalogue.relations
   pub some : catalogue.relations ≢ []
   pub few_relations : length catalogue.relations ≤ 32
@@ -80,6 +88,10 @@ pub record IsCatalogueText (text : List ℕ) (catalogue : Catalogue) : Type 0 wh
   pub parses : parse_document text ≡ Some document
   pub describes : IsDocumentOf document catalogue
 
--- each relation's fragment tree is valid
+-- a relation's fragment tree is valid
+abbrev pub IsValidRelation : SplitRelation → Type 0
+IsValidRelation relation = IsValid (kinds_of relation.schema) relation.tree
+
+-- and so is each relation's
 abbrev pub IsValidCatalogue : Catalogue → Type 0
-IsValidCatalogue catalogue = AllByRecursion (λ relation. IsValid (kinds_of relation.schema) relation.tree) catalogue.relations
+IsValidCatalogue catalogue = AllByRecursion IsValidRelation catalogue.relations

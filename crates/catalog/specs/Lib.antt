@@ -12,6 +12,7 @@ pub mod Frame
 pub mod Refuses
 pub mod Below
 pub mod Catalogue
+pub mod Document
 pub mod Relation
 pub mod Sites
 pub mod Columns

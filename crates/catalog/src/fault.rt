@@ -1,10 +1,10 @@
 //! Why a catalogue was refused.
 
-ghost use Rattle.std.specs.Prelude.{◌≡◌};
+ghost use Rattle.std.specs.Prelude.{◌≡◌, ◌⊎◌};
 ghost use Rattle.catalog.specs.Fault.{rule_number, rule_name};
 ghost use Rattle.catalog.specs.declared.fault.Rule.TheVariants as rules;
 
-use std::alloc::{AllocError, AllocFailed};
+use std::alloc::{AllocError, AllocFailed, Global};
 use terms::memory::Memory;
 use terms::row::Row;
 use terms::seq::Seq;
@@ -102,6 +102,55 @@ impl Rule {
             Rule::Limit => "Limit",
             Rule::Memory => "Memory",
         }
+    }
+}
+
+/// A refusal of a catalogue: the rule that it breaks, and the relation in which it does, if it is in one.
+#[derive(Debug, Drop)]
+pub struct CatFault {
+    pub rule: Rule,
+    pub relation: Option<Text>,
+}
+
+impl CatFault {
+    /// A fault in the relation of this name.
+    pub(crate) fn in_relation(alloc: Global, name: &str, rule: Rule) -> CatFault
+        ensures { (result.rule ≡ rule) ⊎ (result.rule ≡ Rule.Memory) }
+    {
+        match String::from_str(alloc, name) {
+            Ok(name) => CatFault {
+                rule,
+                relation: Some(Text::new(name)),
+            },
+            Err(_) => CatFault::from(Rule::Memory),
+        }
+    }
+}
+
+impl From<Rule> for CatFault {
+    ghost from_gives = { λ rule fault. fault.rule ≡ rule };
+
+    fn from(rule: Rule) -> CatFault {
+        CatFault {
+            rule,
+            relation: None,
+        }
+    }
+}
+
+impl From<Memory> for CatFault {
+    ghost from_gives = { λ _ fault. fault.rule ≡ rules.Memory };
+
+    fn from(_error: Memory) -> CatFault {
+        CatFault::from(Rule::Memory)
+    }
+}
+
+impl<T: Drop> From<AllocFailed<T>> for CatFault {
+    ghost from_gives = { λ _ fault. fault.rule ≡ rules.Memory };
+
+    fn from(_error: AllocFailed<T>) -> CatFault {
+        CatFault::from(Rule::Memory)
     }
 }
 

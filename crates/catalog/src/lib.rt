@@ -15,6 +15,7 @@
 //! ```
 #![tactic(auto)]
 
+mod catalogue;
 mod column_texts;
 pub mod exact;
 pub mod fault;

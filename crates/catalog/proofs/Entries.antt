@@ -1,0 +1,68 @@
+-- The relations of a table, one after another.
+use Rattle.std.proofs.Common.{◌≡◌, List, [], ◌∷◌, ◌++◌, ℕ, refl, ap, sym, subst, String, Global, string_bytes, ◌⊎◌, inl, inr}
+use Rattle.std.specs.List.{AllByRecursion}
+use Rattle.toml.specs.Data.{Data}
+use Rattle.toml.specs.View.{view, members_view}
+use Rattle.toml.specs.declared.value.Value.{Value}
+use Rattle.meaning.specs.declared.schema.Column.{Column}
+use Rattle.catalog.specs.declared.fault.Rule.{Rule}
+use Rattle.catalog.specs.declared.fault.Rule.TheVariants.{Toml, Field, Name, Twice, NoSite, KeyType, ColumnTwice, ColumnLost, ColumnAbsent, WrongType, Gap, Overlap, Limit, Memory}
+use Rattle.catalog.specs.Catalogue.{SplitRelation, IsRelationIn, IsValidRelation, entries}
+use Rattle.catalog.specs.Describes.{Each}
+use Rattle.catalog.specs.Document.{RefusesRelations, SaysNoRelations, SaysNoneValid}
+use Rattle.catalog.specs.Relation as one
+use Rattle.catalog.specs.Relation.{RefusesRelation}
+
+abbrev pub Entry : Type 0
+Entry = String Global × Value
+
+-- one entry, and others behind it
+pub entries_both : (es : List Entry) (e : Entry) (more : List Entry) → entries (members_view (es ++ e ∷ more)) ≡ entries (members_view es) ++ (string_bytes e.0, view e.1) ∷ entries (members_view more)
+entries_both [] e more = refl
+entries_both (x ∷ es) e more = ap (λ rest. (string_bytes x.0, view x.1) ∷ rest) (entries_both es e more)
+
+-- one more on both sides
+pub each_last : {A B : Type 0} (R : A → B → Type 0) (xs : List A) (ys : List B) (x : A) (y : B) → Each R xs ys → R x y → Each R (xs ++ x ∷ []) (ys ++ y ∷ [])
+each_last R [] [] x y each here = (here, tt)
+each_last R [] (z ∷ ys) x y each here = absurd each
+each_last R (w ∷ xs) [] x y each here = absurd each
+each_last R (w ∷ xs) (z ∷ ys) x y each here = (each.0, each_last R xs ys x y each.1 here)
+
+pub all_last : {B : Type 0} (P : B → Type 0) (ys : List B) (y : B) → AllByRecursion P ys → P y → AllByRecursion P (ys ++ y ∷ [])
+all_last P [] y all here = (here, tt)
+all_last P (z ∷ ys) y all here = (all.0, all_last P ys y all.1 here)
+
+-- one with which nothing goes, or nothing that passes
+none_at : {A B : Type 0} (R : A → B → Type 0) (xs more : List A) (x : A) → ((y : B) → R x y → ⊥) → (ys : List B) → Each R (xs ++ x ∷ more) ys → ⊥
+none_at R [] more x none [] each = each
+none_at R [] more x none (y ∷ ys) each = none y each.0
+none_at R (w ∷ xs) more x none [] each = each
+none_at R (w ∷ xs) more x none (y ∷ ys) each = none_at R xs more x none ys each.1
+
+none_passes : {A B : Type 0} (R : A → B → Type 0) (P : B → Type 0) (xs more : List A) (x : A) → ((y : B) → R x y → P y → ⊥) → (ys : List B) → Each R (xs ++ x ∷ more) ys → AllByRecursion P ys → ⊥
+none_passes R P [] more x none [] each all = each
+none_passes R P [] more x none (y ∷ ys) each all = none y each.0 all.0
+none_passes R P (w ∷ xs) more x none [] each all = each
+none_passes R P (w ∷ xs) more x none (y ∷ ys) each all = none_passes R P xs more x none ys each.1 all.1
+
+-- a refusal of one relation is one of all
+pub refuses_all : (sites : List (List ℕ)) (before more : List (List ℕ × Data)) (entry : List ℕ × Data) (rule : Rule) → RefusesRelation sites entry rule → RefusesRelations sites (before ++ entry ∷ more) rule
+refuses_all sites before more entry Memory h = tt
+refuses_all sites before more entry (Gap cell) h = (h.0, h.1, none_passes (IsRelationIn sites) IsValidRelation before more entry h.2)
+refuses_all sites before more entry (Overlap cell) h = (h.0, h.1, none_passes (IsRelationIn sites) IsValidRelation before more entry h.2)
+refuses_all sites before more entry Toml h = none_at (IsRelationIn sites) before more entry h
+refuses_all sites before more entry Field h = none_at (IsRelationIn sites) before more entry h
+refuses_all sites before more entry Name h = none_at (IsRelationIn sites) before more entry h
+refuses_all sites before more entry Twice h = none_at (IsRelationIn sites) before more entry h
+refuses_all sites before more entry NoSite h = none_at (IsRelationIn sites) before more entry h
+refuses_all sites before more entry KeyType h = none_at (IsRelationIn sites) before more entry h
+refuses_all sites before more entry ColumnTwice h = none_at (IsRelationIn sites) before more entry h
+refuses_all sites before more entry ColumnLost h = none_at (IsRelationIn sites) before more entry h
+refuses_all sites before more entry ColumnAbsent h = none_at (IsRelationIn sites) before more entry h
+refuses_all sites before more entry WrongType h = none_at (IsRelationIn sites) before more entry h
+refuses_all sites before more entry Limit h = none_at (IsRelationIn sites) before more entry h
+
+-- the same rule, or want of memory
+pub same_or_memory : (sites : List (List ℕ)) (said : List (List ℕ × Data)) (rule told : Rule) → (told ≡ rule) ⊎ (told ≡ Memory) → RefusesRelations sites said rule → RefusesRelations sites said told
+same_or_memory sites said rule told (inl same) h = let P : Rule → Type 0 = RefusesRelations sites said in subst P (sym same) h
+same_or_memory sites said rule told (inr memory) h = let P : Rule → Type 0 = RefusesRelations sites said in subst P (sym memory) tt
