@@ -23,6 +23,7 @@ pub mod exact;
 pub mod fragment;
 mod groups;
 pub mod laws;
+mod leaf_list;
 pub mod parts;
 mod sites;
 pub mod split;
