@@ -78,11 +78,7 @@ fn put_branches(
 
 /// Puts the leaves of each group behind others.
 #[cycle(listing)]
-fn put_groups(
-    leaves: &mut Vec<FragmentLeaf>,
-    way: &[Cond],
-    groups: &[Group],
-) -> Result<(), Memory>
+fn put_groups(leaves: &mut Vec<FragmentLeaf>, way: &[Cond], groups: &[Group]) -> Result<(), Memory>
     ensures fragments { OnOk result (map fragment_of leaves.new.items ≡ map fragment_of leaves.old.items ++ flat_map (λ group. map (leaf_below way.now group.columns) (paths group.tree)) (map tree_group groups.now)) }
     ensures sites { OnOk result (map site_of leaves.new.items ≡ map site_of leaves.old.items ++ flat_map (λ group. site_numbers group.tree) (map tree_group groups.now)) }
 {
@@ -93,12 +89,7 @@ fn put_groups(
 }
 
 /// The leaf at a site, with these conditions on its way and these columns beside the key.
-fn leaf(
-    alloc: Global,
-    way: &[Cond],
-    columns: &[usize],
-    site: usize,
-) -> Result<FragmentLeaf, Memory>
+fn leaf(alloc: Global, way: &[Cond], columns: &[usize], site: usize) -> Result<FragmentLeaf, Memory>
     ensures fragment { IfOk result (λ leaf. fragment_of leaf ≡ leaf_below way.now columns.now []) }
     ensures site { IfOk result (λ leaf. leaf.site ≡ site) }
 {
@@ -122,3 +113,6 @@ fn put_conds(conds: &mut Vec<Cond>, more: &[Cond]) -> Result<(), Memory>
     }
     Ok(())
 }
+
+#[cfg(test)]
+mod tests;

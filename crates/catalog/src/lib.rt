@@ -15,12 +15,12 @@
 //! ```
 #![tactic(auto)]
 
-pub mod fault;
 mod column_texts;
-mod form;
-mod frame;
 pub mod exact;
+pub mod fault;
+mod form;
 pub mod fragment;
+mod frame;
 mod groups;
 pub mod laws;
 mod leaf_list;
