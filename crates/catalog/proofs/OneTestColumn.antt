@@ -23,9 +23,9 @@ among_all x y xs (k, within, is) = (suc k, omega arith, is)
 below : (x y : Value) (ys : List Value) → AllByRecursion (λ z. value_cmp x z ≡ Less) ys → Contains ys y → value_cmp x y ≡ Less
 below x y [] all there = absurd (omega (arith, there.1))
 below x y (z ∷ ys) all there = elim (first_or_other z y ys there) [
-  | inl is ↦ let P : Value → Type 0 = λ v. value_cmp x v ≡ Less in subst P is all.0
-  | inr other ↦ below x y ys all.1 other
-]
+    | inl is ↦ let P : Value → Type 0 = λ v. value_cmp x v ≡ Less in subst P is all.0
+    | inr other ↦ below x y ys all.1 other
+  ]
 
 -- nothing is below itself, and no two are below each other
 not_itself : (x : Value) → value_cmp x x ≡ Less → ⊥
@@ -38,19 +38,19 @@ not_both x y one other = not_itself x (value_cmp_total.trans x y x one other)
 same_first : (x y : Value) (xs ys : List Value) → AllByRecursion (λ z. value_cmp x z ≡ Less) xs → AllByRecursion (λ z. value_cmp y z ≡ Less) ys →
     Contains (y ∷ ys) x → Contains (x ∷ xs) y → x ≡ y
 same_first x y xs ys x_least y_least there here = elim (first_or_other y x ys there) [
-  | inl is ↦ sym is
-  | inr later ↦ elim (first_or_other x y xs here) [
-    | inl is ↦ is
-    | inr behind ↦ absurd (not_both x y (below x y xs x_least behind) (below y x ys y_least later))
+    | inl is ↦ sym is
+    | inr later ↦ elim (first_or_other x y xs here) [
+        | inl is ↦ is
+        | inr behind ↦ absurd (not_both x y (below x y xs x_least behind) (below y x ys y_least later))
+      ]
   ]
-]
 
 -- members behind the same head
 behind_head : (x z : Value) (xs ys : List Value) → AllByRecursion (λ v. value_cmp x v ≡ Less) xs → Contains xs z → Contains (x ∷ ys) z → Contains ys z
 behind_head x z xs ys least here there = elim (first_or_other x z ys there) [
-  | inl is ↦ absurd (not_itself x (let P : Value → Type 0 = λ v. value_cmp x v ≡ Less in subst P (sym is) (below x z xs least here)))
-  | inr other ↦ other
-]
+    | inl is ↦ absurd (not_itself x (let P : Value → Type 0 = λ v. value_cmp x v ≡ Less in subst P (sym is) (below x z xs least here)))
+    | inr other ↦ other
+  ]
 
 -- lists that ascend strictly and have the same members are the same
 pub one_ascending : (xs ys : List Value) → IsStrictlySortedBy value_cmp xs → IsStrictlySortedBy value_cmp ys → ((z : Value) → Contains xs z ↔ Contains ys z) → xs ≡ ys
@@ -65,9 +65,9 @@ one_ascending (x ∷ xs) (y ∷ ys) a b same =
     let y_least = subst P (sym first) b.0 in
     let all_same = subst Q (sym first) same in
     let rest = one_ascending xs ys a.1 b.1 (λ z. (
-      λ here. behind_head x z xs ys a.0 here ((all_same z).0 (among_all x z xs here)),
-      λ here. behind_head x z ys xs y_least here ((all_same z).1 (among_all x z ys here)),
-    )) in
+        λ here. behind_head x z xs ys a.0 here ((all_same z).0 (among_all x z xs here)),
+        λ here. behind_head x z ys xs y_least here ((all_same z).1 (among_all x z ys here)),
+      )) in
     rw (first, rest) refl
 
 -- the test values of the columns are determined

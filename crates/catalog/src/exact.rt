@@ -56,11 +56,7 @@ pub fn try_cells(
 }
 
 /// The conditions on the way and those of the branches.
-pub(crate) fn conds_of_split(
-    alloc: Global,
-    way: &[Cond],
-    branches: &[Conds],
-) -> Result<Vec<Cond>, Memory>
+pub(crate) fn conds_of_split(alloc: Global, way: &[Cond], branches: &[Conds]) -> Result<Vec<Cond>, Memory>
     ensures { IfOk result (λ conds. conds.items ≡ conds_of_split way.now branches.now) }
 {
     let mut conds = copy_all(alloc, way)?;

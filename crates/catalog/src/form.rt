@@ -103,10 +103,7 @@ pub(crate) fn some_items<'a>(value: &'a Value) -> Option<&'a [Value]>
 }
 
 /// The texts that a value lists, at least one, if all that it lists are texts.
-pub(crate) fn some_texts<'a>(
-    alloc: Global,
-    value: &'a Value,
-) -> Result<Option<Vec<&'a str>>, Memory>
+pub(crate) fn some_texts<'a>(alloc: Global, value: &'a Value) -> Result<Option<Vec<&'a str>>, Memory>
     ensures { IfOk result (λ found. option_map texts_of found ≡ spec.some_texts (view value.entry.now)) }
 {
     match some_items(value) {

@@ -42,9 +42,7 @@ impl<'a> Frame<'a> {
     fn column(&self, name: &str) -> Option<usize>
         ensures { result ≡ column_numbered (frame_of self.now).columns name.now }
     {
-        self.columns
-            .iter()
-            .position(|column| column.name.as_str() == name)
+        self.columns.iter().position(|column| column.name.as_str() == name)
     }
 
     /// The types of the columns.
@@ -72,11 +70,7 @@ fn kinds_of(alloc: Global, columns: &[Column]) -> Result<Vec<Kind>, Memory>
     Ok(kinds)
 }
 
-fn visible_columns(
-    alloc: Global,
-    within: &[usize],
-    columns: &[Column],
-) -> Result<Vec<Column>, Memory>
+fn visible_columns(alloc: Global, within: &[usize], columns: &[Column]) -> Result<Vec<Column>, Memory>
     ensures { IfOk result (λ shown. shown.items ≡ visible within.now columns.now) }
 {
     let mut visible = Vec::new(alloc);
@@ -112,11 +106,7 @@ pub(crate) fn has(columns: &[usize], col: usize) -> bool
 }
 
 /// Those of the columns that are named, in their order.
-pub(crate) fn in_order(
-    alloc: Global,
-    within: &[usize],
-    named: &[usize],
-) -> Result<Vec<usize>, Memory>
+pub(crate) fn in_order(alloc: Global, within: &[usize], named: &[usize]) -> Result<Vec<usize>, Memory>
     ensures { IfOk result (λ columns. columns.items ≡ in_order within.now named.now) }
 {
     let mut columns = Vec::new(alloc);

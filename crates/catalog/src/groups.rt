@@ -34,7 +34,11 @@ pub(crate) fn named_columns(
 }
 
 /// The places that each group names.
-fn all_groups(frame: &Frame<'_>, within: &[usize], nodes: &[Value]) -> Result<Vec<Seq<usize>>, Rule>
+fn all_groups(
+    frame: &Frame<'_>,
+    within: &[usize],
+    nodes: &[Value],
+) -> Result<Vec<Seq<usize>>, Rule>
     ensures found { IfOk result (λ groups. all_of (named_in (frame_of frame.now) within.now) (map view nodes.now) ≡ Some groups.items) }
     ensures none { IfErr result (λ rule. RefusesGroups (frame_of frame.now) within.now (map view nodes.now) rule) }
 {

@@ -89,7 +89,11 @@ fn rule_of(rule: reader::fault::Rule) -> Rule
 }
 
 /// Refuses a row split that is not exact, or has too many cells.
-pub(crate) fn require_exact(frame: &Frame<'_>, way: &[Cond], branches: &[Conds]) -> Result<(), Rule>
+pub(crate) fn require_exact(
+    frame: &Frame<'_>,
+    way: &[Cond],
+    branches: &[Conds],
+) -> Result<(), Rule>
     requires { AllFit (kinds_in (frame_of frame.now)) way.now branches.now }
     ensures exact { OnOk result (AreExact (kinds_in (frame_of frame.now)) way.now branches.now) }
     ensures few { OnOk result (HasFewCells (kinds_in (frame_of frame.now)) way.now branches.now) }
@@ -114,6 +118,7 @@ fn cell(frame: &Frame<'_>, way: &[Cond], branches: &[Conds], row: Row) -> Result
     let shown = Seq::new(shown);
     Ok(Cell { row, shown })
 }
+
 
 fn shown_values(
     alloc: Global,
