@@ -1,6 +1,6 @@
 //! The leaves of a fragment tree, listed.
 
-ghost use Rattle.std.specs.Prelude.{◌≡◌, ◌++◌, ◌∷◌, [], map, flat_map, IfOk, OnOk};
+ghost use Rattle.std.specs.Prelude.{◌≡◌, ◌++◌, [], map, flat_map, IfOk, OnOk};
 ghost use Rattle.catalog.specs.Leaves.{fragment_of, site_of, site_numbers, leaf_below};
 ghost use Rattle.catalog.specs.Path.{leaf_at, paths};
 ghost use Rattle.catalog.specs.Split.{tree_of, tree_branch, tree_group};

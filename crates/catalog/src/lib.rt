@@ -15,12 +15,12 @@
 //! ```
 #![tactic(auto)]
 
-mod column_texts;
-pub mod exact;
 pub mod fault;
+mod column_texts;
 mod form;
-pub mod fragment;
 mod frame;
+pub mod exact;
+pub mod fragment;
 mod groups;
 pub mod laws;
 mod leaf_list;
