@@ -16,6 +16,7 @@ pub mod Ordered
 pub mod Refusals
 pub mod Children
 pub mod Leaves
+pub mod LeafWays
 pub mod Below
 pub mod CellCount
 pub mod OneList

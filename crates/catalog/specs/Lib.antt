@@ -2,6 +2,7 @@ pub mod Fragment
 pub mod Split
 pub mod Counts
 pub mod Path
+pub mod Leaves
 pub mod Valid
 pub mod Cells
 pub mod Fault

@@ -24,6 +24,7 @@ pub mod fragment;
 mod frame;
 mod groups;
 pub mod laws;
+mod leaf_list;
 pub mod parts;
 pub mod relation;
 mod sites;
