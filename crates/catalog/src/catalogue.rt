@@ -39,7 +39,10 @@ pub(crate) fn document(alloc: Global, text: &str) -> Result<Value, Rule>
 }
 
 /// What stands at the two keys of a document, if nothing else does.
-pub(crate) fn document_parts<'a>(alloc: Global, root: &'a Value) -> Result<Option<Parts<'a>>, Memory>
+pub(crate) fn document_parts<'a>(
+    alloc: Global,
+    root: &'a Value,
+) -> Result<Option<Parts<'a>>, Memory>
     ensures { IfOk result (λ found. option_map parts_of found ≡ spec.document_parts (view root.entry.now)) }
 {
     let Some(document) = root.as_table() else {
