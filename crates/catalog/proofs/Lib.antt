@@ -33,3 +33,4 @@ pub mod ColumnTexts
 pub mod RelationTexts
 pub mod DocumentParts
 pub mod Entries
+pub mod CatalogueTexts

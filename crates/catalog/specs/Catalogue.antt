@@ -71,9 +71,9 @@ document_parts (table document) =
 document_parts _ = None
 
 -- a document of sites and relations alone, each with something in it
-pub record IsDocumentOf (document : Members) (catalogue : Catalogue) : Type 0 where
+pub record IsDocumentOf (document : Data) (catalogue : Catalogue) : Type 0 where
   pub members : Members
-  pub parts : document_parts (table document) ≡ Some (catalogue.sites, members)
+  pub parts : document_parts document ≡ Some (catalogue.sites, members)
   pub site_names : AllByRecursion IsSiteName catalogue.sites
   pub distinct : AreDistinct catalogue.sites
   pub few_sites : length catalogue.sites ≤ 16
@@ -86,7 +86,7 @@ pub record IsCatalogueText (text : List ℕ) (catalogue : Catalogue) : Type 0 wh
   pub short : length text ≤ 65536
   pub document : Members
   pub parses : parse_document text ≡ Some document
-  pub describes : IsDocumentOf document catalogue
+  pub describes : IsDocumentOf (table document) catalogue
 
 -- a relation's fragment tree is valid
 abbrev pub IsValidRelation : SplitRelation → Type 0

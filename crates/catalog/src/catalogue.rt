@@ -6,18 +6,106 @@ ghost use Rattle.toml.specs.Data.{as_table};
 ghost use Rattle.toml.specs.Parse.{parse_document};
 ghost use Rattle.toml.specs.View.{view, table_view};
 ghost use Rattle.catalog.specs.Catalogue as spec;
-ghost use Rattle.catalog.specs.Catalogue.{IsRelationIn, IsValidRelation, entries};
+ghost use Rattle.catalog.specs.Catalogue.{IsRelationIn, IsDocumentOf, IsCatalogueText, IsValidRelation, IsValidCatalogue, entries};
 ghost use Rattle.catalog.specs.Describes.{Each};
-ghost use Rattle.catalog.specs.Relation.{relation_of};
-ghost use Rattle.catalog.specs.Document.{parts_of, RefusesDocument, RefusesRelations};
+ghost use Rattle.catalog.specs.Relation.{relation_of, catalogue_of};
+ghost use Rattle.catalog.specs.Document.{parts_of, RefusesDocument, RefusesRelations, RefusesRoot, RefusesText, are_tables};
 
 use crate::fault::{CatFault, Rule};
 use crate::form::some_texts;
 use crate::relation::{SplitRelation, relation};
+use crate::sites::sites;
 use std::alloc::Global;
+use std::marker::Model;
 use terms::memory::Memory;
 use terms::text::Text;
 use toml::{Table, Value};
+
+/// The most bytes of a catalogue's text.
+const TEXT_BYTES: usize = 65_536;
+
+/// The most relations of a catalogue.
+const RELATIONS: usize = 32;
+
+/// The sites, and the relations with their fragment trees. There is no catalogue that is not valid.
+#[derive(Debug, Drop)]
+pub struct Catalog {
+    sites: Vec<Text>,
+    relations: Vec<SplitRelation>,
+}
+
+impl Model for Catalog {
+    ghost use Rattle.std.specs.Prelude.{ℕ, List};
+    ghost use Rattle.catalog.specs.declared.relation.SplitRelation.{SplitRelation as Relation};
+    ghost use Rattle.catalog.specs.Catalogue.{IsValidCatalogue};
+    ghost use Rattle.catalog.specs.Relation.{catalogue_of};
+
+    ghost use Rattle.std.specs.Coded.{codes};
+    ghost use Rattle.catalog.specs.contracts.split.Split as split;
+
+    ghost Value = { List (List ℕ) × List Relation };
+
+    ghost coded = { Prim.hlevel (codes, split.the_row.coded) };
+
+    ghost view = { λ c. (c.sites.items, c.relations.items) };
+
+    ghost invariant = { λ c. IsValidCatalogue (catalogue_of (c.sites.items, c.relations.items)) };
+}
+
+impl Catalog {
+    /// The catalogue of a text.
+    ///
+    /// A refused text breaks a rule; of several the first in the order of the checks answers.
+    pub fn read(alloc: Global, text: &str) -> Result<Catalog, CatFault>
+        // An accepted text is one of the catalogue, and the catalogue is valid.
+        ensures found { IfOk result (λ catalog. IsCatalogueText text.now (catalogue_of catalog)) }
+        ensures valid { IfOk result (λ catalog. IsValidCatalogue (catalogue_of catalog)) }
+        // A text that is refused by a rule is one of no catalogue; by a gap or an overlap, which is shown, of no valid one.
+        ensures none { IfErr result (λ fault. RefusesText text.now fault.rule) }
+    {
+        if text.len() > TEXT_BYTES {
+            return Err(CatFault::from(Rule::Limit));
+        }
+        let root = document(alloc, text)?;
+        catalog_of(alloc, &root)
+    }
+}
+
+/// The catalogue that a document says.
+fn catalog_of(alloc: Global, root: &Value) -> Result<Catalog, CatFault>
+    ensures found { IfOk result (λ catalog. IsDocumentOf (view root.now) (catalogue_of catalog)) }
+    ensures valid { IfOk result (λ catalog. IsValidCatalogue (catalogue_of catalog)) }
+    ensures none { IfErr result (λ fault. RefusesRoot (view root.now) fault.rule) }
+{
+    let Some(parts) = document_parts(alloc, root)? else {
+        return Err(CatFault::from(Rule::Field));
+    };
+    if !are_tables(parts.relations) {
+        return Err(CatFault::from(Rule::Field));
+    }
+    let sites = sites(alloc, parts.sites.as_slice())?;
+    let count = parts.relations.len();
+    if count == 0 {
+        return Err(CatFault::from(Rule::Field));
+    }
+    if count > RELATIONS {
+        return Err(CatFault::from(Rule::Limit));
+    }
+    let relations = relations(alloc, sites.as_slice(), parts.relations)?;
+    Ok(Catalog { sites, relations })
+}
+
+/// Whether all values of a table are tables.
+fn are_tables(table: &Table) -> bool
+    ensures { result ≡ are_tables (entries (table_view table.now)) }
+{
+    for (_name, node) in table.iter() {
+        if node.as_table().is_none() {
+            return false;
+        }
+    }
+    true
+}
 
 /// The texts of a document's sites, and its relations.
 #[derive(Drop)]

@@ -15,7 +15,7 @@
 //! ```
 #![tactic(auto)]
 
-mod catalogue;
+pub mod catalogue;
 mod column_texts;
 pub mod exact;
 pub mod fault;
