@@ -39,7 +39,6 @@ impl Model for Catalog {
     ghost use Rattle.catalog.specs.declared.relation.SplitRelation.{SplitRelation as Relation};
     ghost use Rattle.catalog.specs.Catalogue.{IsValidCatalogue};
     ghost use Rattle.catalog.specs.Relation.{catalogue_of};
-
     ghost use Rattle.std.specs.Coded.{codes};
     ghost use Rattle.catalog.specs.contracts.split.Split as split;
 
@@ -68,6 +67,20 @@ impl Catalog {
         }
         let root = document(alloc, text)?;
         catalog_of(alloc, &root)
+    }
+
+    /// The names of the sites, in the order of the text.
+    pub fn sites(&self) -> &[Text]
+        ensures { result.now ≡ self.now.0 }
+    {
+        self.sites.as_slice()
+    }
+
+    /// The relations, by their names.
+    pub fn relations(&self) -> &[SplitRelation]
+        ensures { result.now ≡ self.now.1 }
+    {
+        self.relations.as_slice()
     }
 }
 
@@ -170,3 +183,6 @@ pub(crate) fn relations(
     }
     Ok(relations)
 }
+
+#[cfg(test)]
+mod tests;
