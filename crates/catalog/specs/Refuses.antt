@@ -108,6 +108,12 @@ RefusesNamed frame within nodes (Gap cell) = ⊥
 RefusesNamed frame within nodes (Overlap cell) = ⊥
 RefusesNamed frame within nodes _ = (groups : List (List ℕ)) → AreNamedIn frame within nodes groups → ⊥
 
+-- whether a rule is shown by a cell
+abbrev pub is_shown : Rule → Bool
+is_shown (Gap cell) = true
+is_shown (Overlap cell) = true
+is_shown _ = false
+
 -- whether a rule is broken by a text, and not shown by a cell nor a want of memory
 abbrev pub is_of_text : Rule → Bool
 is_of_text Memory = false

@@ -3,6 +3,7 @@
 ghost use Rattle.std.specs.Prelude.{◌≡◌, ◌≢◌, false, ◌++◌, ◌∷◌, map, IfOk, IfErr, IfSome, IfNone, OnOk};
 ghost use Rattle.catalog.specs.Catalogue.{IsColumnText, kind_word};
 ghost use Rattle.catalog.specs.Columns as spec;
+ghost use Rattle.catalog.specs.Refuses.{is_shown};
 ghost use Rattle.catalog.specs.Columns.{AreColumns, RefusesColumns, RefusesColumn, FitRelation, RefusesRelation};
 
 use crate::fault::Rule;
@@ -11,6 +12,7 @@ use reader::word::is_name;
 use std::alloc::Global;
 use terms::text::Text;
 use terms::value::Kind;
+use toml::Value;
 
 /// The largest number of columns of a relation.
 const COLUMNS: usize = 16;
@@ -27,6 +29,28 @@ pub(crate) fn columns(alloc: Global, texts: &[&str]) -> Result<Vec<Column>, Rule
     }
     require_relation(columns.as_slice())?;
     Ok(columns)
+}
+
+/// The rule that columns break which are not all said by texts: the first fault of those before the
+/// first that is no text, or that it is none.
+pub(crate) fn broken_columns(alloc: Global, items: &[Value]) -> Rule
+    ensures { is_shown result ≡ false }
+{
+    let mut columns = Vec::new(alloc);
+    for item in items {
+        let Some(text) = item.as_str() else {
+            return Rule::Field;
+        };
+        match next_column(alloc, columns.as_slice(), text) {
+            Ok(column) => {
+                if columns.push(column).is_err() {
+                    return Rule::Memory;
+                }
+            }
+            Err(rule) => return rule,
+        }
+    }
+    Rule::Field
 }
 
 /// The column that a text says behind others.

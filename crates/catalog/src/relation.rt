@@ -1,19 +1,19 @@
 //! A relation of a document: its columns and its fragment tree.
 
-ghost use Rattle.std.specs.Prelude.{◌≡◌, ◌≤◌, [], codes, length, map, IfOk, IfErr};
+ghost use Rattle.std.specs.Prelude.{◌≡◌, ◌≤◌, false, [], codes, length, map, IfOk, IfErr};
 ghost use Rattle.toml.specs.View.{view};
 ghost use Rattle.meaning.specs.Schema.{kinds_of};
 ghost use Rattle.catalog.specs.Catalogue.{IsRelationIn};
 ghost use Rattle.catalog.specs.Describes.{Describes};
 ghost use Rattle.catalog.specs.Path.{columns_beside_key, paths};
-ghost use Rattle.catalog.specs.Refuses.{Refuses};
+ghost use Rattle.catalog.specs.Refuses.{Refuses, is_shown};
 ghost use Rattle.catalog.specs.Relation.{relation_of, RefusesRelation};
 ghost use Rattle.catalog.specs.Split.{tree_of};
 ghost use Rattle.catalog.specs.Valid.{IsValid};
 
-use crate::column_texts::columns;
+use crate::column_texts::{broken_columns, columns};
 use crate::fault::Rule;
-use crate::form::texts_at;
+use crate::form::{some_items, texts_at};
 use crate::frame::Frame;
 use crate::split::Split;
 use crate::tree::{SPLITS, tree};
@@ -47,7 +47,7 @@ pub(crate) fn relation(
         return Err(Rule::Name);
     }
     let Some(texts) = texts_at(alloc, "columns", node)? else {
-        return Err(Rule::Field);
+        return Err(no_columns(alloc, node));
     };
     let columns = columns(alloc, texts.as_slice())?;
     let split = split(alloc, sites, columns.as_slice(), node)?;
@@ -55,6 +55,19 @@ pub(crate) fn relation(
     let columns = Seq::new(columns);
     let schema = RelationSchema { name, columns };
     Ok(SplitRelation { schema, split })
+}
+
+/// The rule that a relation breaks whose columns are not all said by texts.
+fn no_columns(alloc: Global, node: &Value) -> Rule
+    ensures { is_shown result ≡ false }
+{
+    let Some(listed) = node.get("columns") else {
+        return Rule::Field;
+    };
+    match some_items(listed) {
+        Some(items) => broken_columns(alloc, items),
+        None => Rule::Field,
+    }
 }
 
 /// The fragment tree that a node describes for a relation of these columns.

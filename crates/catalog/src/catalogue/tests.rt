@@ -169,6 +169,14 @@ fn refuses_documents_by_rule(rt: HostRuntime) {
             "2 Field t",
         ),
         (
+            "sites = ['s']\nrelations.t = { columns = ['Id int', 5] }",
+            "3 Name t",
+        ),
+        (
+            "sites = ['s']\nrelations.t = { columns = ['id int', 5, 'Id int'] }",
+            "2 Field t",
+        ),
+        (
             "sites = ['s']\nrelations.t = { columns = ['id text'], site = 'u' }",
             "6 KeyType t",
         ),
