@@ -1,15 +1,14 @@
 -- What a text says of a catalogue, by what is read of its document.
-use Rattle.std.proofs.Common.{◌≡◌, ◌≢◌, ◌≤◌, ◌<◌, ℕ, Bool, true, false, ◌&&◌, List, [], ◌∷◌, ◌++◌, Option, Some, None, is_some, option_map, not, length, refl, sym, ap, subst, ◌∙◌, arith, string_bytes, codes, String, Global}
-use Rattle.std.specs.List.{AllByRecursion, list_all}
-use Rattle.toml.specs.Data.{Data, string, integer, float, boolean, datetime, array, table, Members, no_members, member, as_table}
+use Rattle.std.proofs.Common.{◌≡◌, ◌≢◌, ◌≤◌, ◌<◌, ℕ, Bool, true, false, ◌&&◌, List, [], ◌∷◌, ◌++◌, Option, Some, None, is_some, option_map, not, length, refl, sym, ap, subst, ◌∙◌, arith, codes, String, Global}
+use Rattle.toml.specs.Data.{Data, string, integer, float, boolean, datetime, array, table, Members, as_table}
 use Rattle.toml.specs.Parse.{parse_document}
-use Rattle.toml.specs.View.{view, members_view}
+use Rattle.toml.specs.View.{members_view}
 use Rattle.toml.specs.declared.value.Value.{Value}
 use Rattle.catalog.specs.declared.fault.Rule.{Rule}
 use Rattle.catalog.specs.declared.fault.Rule.TheVariants.{Toml, Field, Name, Twice, NoSite, KeyType, ColumnTwice, ColumnLost, ColumnAbsent, WrongType, Gap, Overlap, Limit, Memory}
-use Rattle.catalog.specs.Catalogue.{Catalogue, SplitRelation, IsRelationIn, IsDocumentOf, IsCatalogueText, IsValidRelation, IsValidCatalogue, document_parts, entries}
+use Rattle.catalog.specs.Catalogue.{Catalogue, SplitRelation, IsRelationIn, IsDocumentOf, IsCatalogueText, document_parts, entries}
 use Rattle.catalog.specs.Describes.{Each}
-use Rattle.catalog.specs.Document.{RefusesDocument, RefusesRelations, RefusesRoot, RefusesText, ShowsOr, IsOfNone, IsOfNoneValid, are_tables}
+use Rattle.catalog.specs.Document.{RefusesDocument, RefusesRelations, RefusesRoot, RefusesText, ShowsOr, IsOfNone, are_tables}
 use Rattle.catalog.specs.Node.{texts_at}
 use Rattle.catalog.specs.Sites.{AreSites, RefusesSites}
 

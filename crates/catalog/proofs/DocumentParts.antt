@@ -1,9 +1,9 @@
 -- What stands at the keys of a document, by what the calls on its value give.
-use Rattle.std.proofs.Common.{◌≡◌, ◌≢◌, ℕ, ◌==◌, List, Some, None, Option, length, refl, sym, ap, subst, ◌∙◌, ne_eqb, codes, String, Global, Bor, option_map}
+use Rattle.std.proofs.Common.{◌≡◌, ◌≢◌, ℕ, List, Some, None, Option, length, refl, sym, ap, subst, ◌∙◌, ne_eqb, codes, String, Global, Bor, option_map}
 use Rattle.toml.specs.Data.{Data, string, integer, float, boolean, datetime, array, table, Members, as_table, get}
 use Rattle.toml.specs.View.{view, members_view}
 use Rattle.toml.specs.declared.value.Value.{Value}
-use Rattle.catalog.specs.Catalogue.{document_parts, both_parts}
+use Rattle.catalog.specs.Catalogue.{document_parts}
 use Rattle.catalog.specs.Node.{key_count, some_texts}
 use Rattle.catalog.proofs.Nodes.{key_count_of}
 

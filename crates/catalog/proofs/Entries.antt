@@ -4,13 +4,11 @@ use Rattle.std.specs.List.{AllByRecursion}
 use Rattle.toml.specs.Data.{Data}
 use Rattle.toml.specs.View.{view, members_view}
 use Rattle.toml.specs.declared.value.Value.{Value}
-use Rattle.meaning.specs.declared.schema.Column.{Column}
 use Rattle.catalog.specs.declared.fault.Rule.{Rule}
 use Rattle.catalog.specs.declared.fault.Rule.TheVariants.{Toml, Field, Name, Twice, NoSite, KeyType, ColumnTwice, ColumnLost, ColumnAbsent, WrongType, Gap, Overlap, Limit, Memory}
-use Rattle.catalog.specs.Catalogue.{SplitRelation, IsRelationIn, IsValidRelation, entries}
+use Rattle.catalog.specs.Catalogue.{IsRelationIn, IsValidRelation, entries}
 use Rattle.catalog.specs.Describes.{Each}
-use Rattle.catalog.specs.Document.{RefusesRelations, SaysNoRelations, SaysNoneValid}
-use Rattle.catalog.specs.Relation as one
+use Rattle.catalog.specs.Document.{RefusesRelations}
 use Rattle.catalog.specs.Relation.{RefusesRelation}
 
 abbrev pub Entry : Type 0

@@ -1,6 +1,5 @@
-use Rattle.std.proofs.Common.{◌≡◌, false, true, not, List, [], ◌∷◌, ◌++◌, ℕ, ap, sym, subst, ◌∙◌, append_assoc, string_bytes}
-use Rattle.toml.specs.Data.{Data}
-use Rattle.toml.specs.View.{view, members_view, table_view}
+use Rattle.std.proofs.Common.{◌≡◌, not, [], ◌∷◌, ◌++◌, ap, sym, ◌∙◌, append_assoc}
+use Rattle.toml.specs.View.{members_view, table_view}
 use Rattle.catalog.specs.Catalogue.{entries}
 use Rattle.catalog.specs.Document.{are_tables}
 use Rattle.catalog.proofs.CatalogueTexts.{not_all, all_also, some_of}

@@ -1,4 +1,4 @@
-use Rattle.std.proofs.Common.{◌≡◌, List, ℕ, Bor, Some, map, option_map, ap, sym, subst, ◌∙◌, arith}
+use Rattle.std.proofs.Common.{List, ℕ, Bor, map, option_map, ap, sym, subst, ◌∙◌}
 use Rattle.toml.specs.View.{view, table_view}
 use Rattle.catalog.specs.declared.fault.Rule.{Rule}
 use Rattle.catalog.specs.Catalogue.{IsRelationIn, entries}

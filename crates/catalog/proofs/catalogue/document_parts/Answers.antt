@@ -1,4 +1,4 @@
-use Rattle.std.proofs.Common.{Some, option_map, ap, sym, ◌∙◌, refl}
+use Rattle.std.proofs.Common.{option_map, ap, sym, ◌∙◌}
 use Rattle.toml.specs.View.{view, table_view}
 use Rattle.catalog.specs.Form.{texts_of}
 use Rattle.catalog.proofs.DocumentParts.{no_parts, two_parts, seen}
