@@ -125,20 +125,20 @@ no_sites root sites members parts none catalogue is =
     none (subst P same.0 (record { names = is.site_names; distinct = is.distinct; few = is.few_sites }))
 
 pub refuses_sites : (root : Data) (sites : List (List ℕ)) (members : Members) (rule : Rule) → Some (sites, members) ≡ document_parts root → RefusesSites sites rule → RefusesRoot root rule
-refuses_sites root sites members Memory parts h = tt
-refuses_sites root sites members (Gap cell) parts h = absurd h
-refuses_sites root sites members (Overlap cell) parts h = absurd h
-refuses_sites root sites members Toml parts h = no_sites root sites members parts h
-refuses_sites root sites members Field parts h = no_sites root sites members parts h
-refuses_sites root sites members Name parts h = no_sites root sites members parts h
-refuses_sites root sites members Twice parts h = no_sites root sites members parts h
-refuses_sites root sites members NoSite parts h = no_sites root sites members parts h
-refuses_sites root sites members KeyType parts h = no_sites root sites members parts h
-refuses_sites root sites members ColumnTwice parts h = no_sites root sites members parts h
-refuses_sites root sites members ColumnLost parts h = no_sites root sites members parts h
-refuses_sites root sites members ColumnAbsent parts h = no_sites root sites members parts h
-refuses_sites root sites members WrongType parts h = no_sites root sites members parts h
-refuses_sites root sites members Limit parts h = no_sites root sites members parts h
+refuses_sites root sites said Memory parts h = tt
+refuses_sites root sites said (Gap cell) parts h = absurd h
+refuses_sites root sites said (Overlap cell) parts h = absurd h
+refuses_sites root sites said Toml parts h = no_sites root sites said parts h
+refuses_sites root sites said Field parts h = no_sites root sites said parts h
+refuses_sites root sites said Name parts h = no_sites root sites said parts h
+refuses_sites root sites said Twice parts h = no_sites root sites said parts h
+refuses_sites root sites said NoSite parts h = no_sites root sites said parts h
+refuses_sites root sites said KeyType parts h = no_sites root sites said parts h
+refuses_sites root sites said ColumnTwice parts h = no_sites root sites said parts h
+refuses_sites root sites said ColumnLost parts h = no_sites root sites said parts h
+refuses_sites root sites said ColumnAbsent parts h = no_sites root sites said parts h
+refuses_sites root sites said WrongType parts h = no_sites root sites said parts h
+refuses_sites root sites said Limit parts h = no_sites root sites said parts h
 
 -- as many relations as entries
 pub each_count : {A B : Type 0} (R : A → B → Type 0) (xs : List A) (ys : List B) → Each R xs ys → length xs ≡ length ys
@@ -175,20 +175,20 @@ relations_of root sites members parts catalogue is =
     subst Q same.1 (subst P same.0 is.relations)
 
 pub refuses_relations : (root : Data) (sites : List (List ℕ)) (members : Members) (rule : Rule) → Some (sites, members) ≡ document_parts root → RefusesRelations sites (entries members) rule → RefusesRoot root rule
-refuses_relations root sites members Memory parts h = tt
-refuses_relations root sites members (Gap cell) parts h = (sites, h.0, h.1, λ catalogue is valid. h.2 catalogue.relations (relations_of root sites members parts catalogue is) valid)
-refuses_relations root sites members (Overlap cell) parts h = (sites, h.0, h.1, λ catalogue is valid. h.2 catalogue.relations (relations_of root sites members parts catalogue is) valid)
-refuses_relations root sites members Toml parts h = λ catalogue is. h catalogue.relations (relations_of root sites members parts catalogue is)
-refuses_relations root sites members Field parts h = λ catalogue is. h catalogue.relations (relations_of root sites members parts catalogue is)
-refuses_relations root sites members Name parts h = λ catalogue is. h catalogue.relations (relations_of root sites members parts catalogue is)
-refuses_relations root sites members Twice parts h = λ catalogue is. h catalogue.relations (relations_of root sites members parts catalogue is)
-refuses_relations root sites members NoSite parts h = λ catalogue is. h catalogue.relations (relations_of root sites members parts catalogue is)
-refuses_relations root sites members KeyType parts h = λ catalogue is. h catalogue.relations (relations_of root sites members parts catalogue is)
-refuses_relations root sites members ColumnTwice parts h = λ catalogue is. h catalogue.relations (relations_of root sites members parts catalogue is)
-refuses_relations root sites members ColumnLost parts h = λ catalogue is. h catalogue.relations (relations_of root sites members parts catalogue is)
-refuses_relations root sites members ColumnAbsent parts h = λ catalogue is. h catalogue.relations (relations_of root sites members parts catalogue is)
-refuses_relations root sites members WrongType parts h = λ catalogue is. h catalogue.relations (relations_of root sites members parts catalogue is)
-refuses_relations root sites members Limit parts h = λ catalogue is. h catalogue.relations (relations_of root sites members parts catalogue is)
+refuses_relations root sites said Memory parts h = tt
+refuses_relations root sites said (Gap cell) parts h = (sites, h.0, h.1, λ catalogue is valid. h.2 catalogue.relations (relations_of root sites said parts catalogue is) valid)
+refuses_relations root sites said (Overlap cell) parts h = (sites, h.0, h.1, λ catalogue is valid. h.2 catalogue.relations (relations_of root sites said parts catalogue is) valid)
+refuses_relations root sites said Toml parts h = λ catalogue is. h catalogue.relations (relations_of root sites said parts catalogue is)
+refuses_relations root sites said Field parts h = λ catalogue is. h catalogue.relations (relations_of root sites said parts catalogue is)
+refuses_relations root sites said Name parts h = λ catalogue is. h catalogue.relations (relations_of root sites said parts catalogue is)
+refuses_relations root sites said Twice parts h = λ catalogue is. h catalogue.relations (relations_of root sites said parts catalogue is)
+refuses_relations root sites said NoSite parts h = λ catalogue is. h catalogue.relations (relations_of root sites said parts catalogue is)
+refuses_relations root sites said KeyType parts h = λ catalogue is. h catalogue.relations (relations_of root sites said parts catalogue is)
+refuses_relations root sites said ColumnTwice parts h = λ catalogue is. h catalogue.relations (relations_of root sites said parts catalogue is)
+refuses_relations root sites said ColumnLost parts h = λ catalogue is. h catalogue.relations (relations_of root sites said parts catalogue is)
+refuses_relations root sites said ColumnAbsent parts h = λ catalogue is. h catalogue.relations (relations_of root sites said parts catalogue is)
+refuses_relations root sites said WrongType parts h = λ catalogue is. h catalogue.relations (relations_of root sites said parts catalogue is)
+refuses_relations root sites said Limit parts h = λ catalogue is. h catalogue.relations (relations_of root sites said parts catalogue is)
 
 -- ---- whether all values are tables
 

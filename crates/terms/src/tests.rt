@@ -90,20 +90,28 @@ fn conditions_hold(rt: HostRuntime) -> Result<(), Fail> {
 fn copies_are_made(rt: HostRuntime) -> Result<(), Fail> {
     let alloc = rt.alloc();
     let row = row(alloc, 7, "kent")?;
-    let copy = row.copy().map_err(|_| Fail::from("copy"))?;
+    let copy = row.copy().map_err(|_| Fail::from("no memory for a copy"))?;
     assert_eq!(rt; copy.key(), 7);
     assert_eq!(rt; copy.values().len(), 2);
     let conds = conds(alloc, 0, Cmp::Le, Value::Int(7))?;
-    assert!(rt; conds.copy().map_err(|_| Fail::from("copy"))?.hold(&row));
+    assert!(rt;
+        conds
+            .copy()
+            .map_err(|_| Fail::from("no memory for a copy"))?
+            .hold(&row)
+    );
     let leaf = Leaf {
         relation: text(alloc, "item")?,
         number: 2,
     };
-    let other = leaf.copy().map_err(|_| Fail::from("copy"))?;
+    let other = leaf.copy().map_err(|_| Fail::from("no memory for a copy"))?;
     assert!(rt; leaf == other);
     let kinds = Seq::new(vec![in alloc; 3usize, 4]?);
     assert_eq!(rt;
-        kinds.copy().map_err(|_| Fail::from("copy"))?.as_slice(),
+        kinds
+            .copy()
+            .map_err(|_| Fail::from("no memory for a copy"))?
+            .as_slice(),
         [3usize, 4].as_slice()
     );
     assert!(rt; Value::Int(1).kind() == Kind::Int);

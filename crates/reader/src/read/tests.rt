@@ -159,9 +159,14 @@ const TEXTS: [&str; 14] = [
     "Begin ;",
 ];
 
-/// Whether a text is accepted, or refused at an offset that is not past its length.
+/// Whether a text is accepted, or refused at an offset that is not past its length. It is read again
+/// where memory ran out.
 fn is_answered(alloc: Global, schema: &Schema, text: &str) -> bool {
-    match read(alloc, text, schema) {
+    let answer = match read(alloc, text, schema) {
+        Err(fault) if fault.rule() == Rule::Memory => read(alloc, text, schema),
+        answer => answer,
+    };
+    match answer {
         Ok(_) => true,
         Err(fault) => fault.rule() != Rule::Memory && fault.offset() <= text.len(),
     }
