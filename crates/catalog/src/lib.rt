@@ -1,17 +1,16 @@
 //! Fragments: how a relation is split over sites, which rows and columns a leaf of its fragment tree
 //! has, and when contents rebuild a relation.
 //!
-//! Stands on `terms` and `meaning`. The contracts that the crates above use: `place` is a row's part
-//! in a leaf's content; a copy of a `Split` is the same tree; `try_cells` and `part_fault` find the first
-//! fault of a split of rows and of columns, or none where the split is valid; and the laws of valid trees,
-//! which `laws` has: exactly one leaf for a row and a column, and at most one relation from the contents.
+//! Stands on `terms`, `meaning`, `reader` and the kit's `toml`. The contracts that the crates above use:
+//! `Catalog::read` accepts a text exactly when it is one of a catalogue whose fragment trees are all
+//! valid; `place` is a row's part in a leaf's content; and the laws of valid trees, which `laws` has:
+//! exactly one leaf for a row and a column, and at most one relation from the contents.
 //!
 //! ```text
+//! let catalog = Catalog::read(alloc, text)?;            // or Gap: a row that no branch has
+//! catalog.sites();                                      // north, south
 //! let part = place(alloc, &conds, &columns, &row)?;     // zone < 10; id, zone, label
 //! // Some(part): the leaf has the row; None: its conditions don't hold of it
-//! let copy = split.copy()?;                             // the same tree
-//! let shown = try_cells(alloc, &kinds, &way, &branches)?;
-//! // Gap(cell): no branch has this row; Exact: one branch has each row
 //! ```
 #![tactic(auto)]
 
