@@ -10,7 +10,7 @@ use crate::text::Text;
 #[derive(Debug, Drop, PartialEq, Eq, PartialOrd, Ord)]
 pub struct Leaf {
     pub relation: Text,
-    pub number: u32,
+    pub number: usize,
 }
 
 impl TryCopy for Leaf {
