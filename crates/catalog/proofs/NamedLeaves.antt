@@ -18,7 +18,7 @@ pub named-last : (relation : List ℕ) (number : ℕ) (listed : List ListedLeaf)
     named relation number (listed ++ leaf ∷ []) ≡ named relation number listed ++ under relation leaf (number + length listed) ∷ []
 named-last relation number [] leaf =
     let same : number ≡ number + 0 = omega arith in
-    ap (λ (n : ℕ). ◌∷◌ {A = FragmentLeaf} (under relation leaf n) []) same
+    ap (λ (n : ℕ). under relation leaf n ∷ []) same
 named-last relation number (first ∷ listed) leaf =
     let same : suc number + length listed ≡ number + suc (length listed) = omega arith in
     ap (λ (others : List FragmentLeaf). under relation first number ∷ others)

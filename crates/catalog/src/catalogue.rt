@@ -117,7 +117,12 @@ impl Catalog {
         match find_leaf(self.leaves.as_slice(), leaf) {
             Some(leaf) => {
                 let conds = leaf.conds.as_slice();
-                place(*self.leaves.allocator(), conds, leaf.columns.as_slice(), row)
+                place(
+                    *self.leaves.allocator(),
+                    conds,
+                    leaf.columns.as_slice(),
+                    row,
+                )
             }
             None => Ok(None),
         }
@@ -158,11 +163,11 @@ fn catalog_of(alloc: Global, root: &Value) -> Result<Catalog, CatFault>
         return Err(CatFault::from(Rule::Limit));
     }
     let relations = relations(alloc, sites.as_slice(), parts.relations)?;
-    Ok(catalog(alloc, sites, relations)?)
+    Ok(with_leaves(alloc, sites, relations)?)
 }
 
-/// The catalogue of these sites and relations.
-fn catalog(
+/// The catalogue of these sites and relations, with its schema and leaves.
+fn with_leaves(
     alloc: Global,
     sites: Vec<Text>,
     relations: Vec<SplitRelation>,

@@ -42,7 +42,7 @@ pub(crate) fn all_leaves(
     alloc: Global,
     relations: &[SplitRelation],
 ) -> Result<Vec<FragmentLeaf>, Memory>
-    ensures { IfOk result (λ leaves. leaves.items ≡ flat_map (λ relation. leaves_of (relation_of relation)) relations.now) }
+    ensures { IfOk result (λ leaves. leaves.items ≡ flat_map leaves_of (map relation_of relations.now)) }
 {
     let mut leaves = Vec::new(alloc);
     for relation in relations {

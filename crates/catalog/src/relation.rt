@@ -60,7 +60,7 @@ pub(crate) fn copy_relations(
 
 /// The schema of relations.
 pub(crate) fn schema_of(alloc: Global, relations: &[SplitRelation]) -> Result<Schema, Memory>
-    ensures { IfOk result (λ schema. schema.relations ≡ map (λ relation. relation.schema) relations.now) }
+    ensures { IfOk result (λ schema. schema.relations ≡ map (λ relation. relation.schema) (map relation_of relations.now)) }
 {
     let mut schemas = Vec::new(alloc);
     for relation in relations {
