@@ -35,3 +35,5 @@ pub mod DocumentParts
 pub mod Entries
 pub mod CatalogueTexts
 pub mod NamedLeaves
+pub mod FormedTrees
+pub mod FormedCatalogues

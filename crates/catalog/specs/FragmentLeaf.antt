@@ -1,12 +1,11 @@
 -- The leaves of a catalogue, each with its name: the relation's, and the leaf's number in the order of the document.
-use Rattle.std.specs.Prelude.{ℕ, suc, ◌==◌, ◌&&◌, Bool, List, [], ◌∷◌, Option, find, flat_map, map, nat_eq, ◌≡◌}
+use Rattle.std.specs.Prelude.{ℕ, suc, ◌==◌, ◌&&◌, Bool, List, [], ◌∷◌, Option, find, flat_map, map, nat_eq}
 use Rattle.std.specs.Cmp.Lexicographic.{pointwise}
 use Rattle.terms.specs.declared.leaf.Leaf.{Leaf}
 use Rattle.meaning.specs.declared.schema.RelationSchema.{RelationSchema}
-use Rattle.meaning.specs.declared.schema.Schema.{Schema}
 use Rattle.meaning.specs.Schema.{kinds_of}
 use Rattle.catalog.specs.declared.fragment_leaf.FragmentLeaf.{FragmentLeaf}
-use Rattle.catalog.specs.Catalogue.{SplitRelation, Catalogue, IsValidCatalogue}
+use Rattle.catalog.specs.Catalogue.{SplitRelation, Catalogue}
 use Rattle.catalog.specs.Fragment.{Fragment}
 use Rattle.catalog.specs.Leaves.{site_numbers}
 use Rattle.catalog.specs.Path.{fragments}
@@ -42,9 +41,3 @@ unnamed leaf = record { conds = leaf.conds; columns = leaf.columns }
 -- the names and columns of a catalogue's relations
 abbrev pub schemas_of : Catalogue → List RelationSchema
 schemas_of catalogue = map (λ relation. relation.schema) catalogue.relations
-
--- what the code keeps of a catalogue: it is valid, and schema and leaves are its own
-pub record IsCatalog (catalogue : Catalogue) (schema : Schema) (leaves : List FragmentLeaf) : Type 0 where
-  pub valid : IsValidCatalogue catalogue
-  pub schemas : schema.relations ≡ schemas_of catalogue
-  pub listed : leaves ≡ catalogue_leaves catalogue

@@ -16,6 +16,7 @@ pub mod Catalogue
 pub mod Document
 pub mod Relation
 pub mod FragmentLeaf
+pub mod Formed
 pub mod Sites
 pub mod Columns
 pub mod Exactness

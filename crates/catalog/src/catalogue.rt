@@ -1,14 +1,16 @@
 //! Catalogues, read from their texts.
 
-ghost use Rattle.std.specs.Prelude.{◌≡◌, map, option_map, option_and_then, IfOk, IfErr};
+ghost use Rattle.std.specs.Prelude.{◌≡◌, ◌<◌, length, map, option_map, option_and_then, IfOk, IfErr};
 ghost use Rattle.std.specs.List.{AllByRecursion};
 ghost use Rattle.toml.specs.Data.{as_table};
 ghost use Rattle.toml.specs.Parse.{parse_document};
 ghost use Rattle.toml.specs.View.{view, table_view};
+ghost use Rattle.reader.specs.Printable.{AreNamed};
 ghost use Rattle.catalog.specs.Catalogue as spec;
 ghost use Rattle.catalog.specs.Catalogue.{IsRelationIn, IsDocumentOf, IsCatalogueText, IsValidRelation, IsValidCatalogue, entries};
 ghost use Rattle.catalog.specs.Describes.{Each};
 ghost use Rattle.catalog.specs.Relation.{relation_of, catalogue_of};
+ghost use Rattle.catalog.specs.Formed.{IsFormed};
 ghost use Rattle.catalog.specs.Fragment.{part};
 ghost use Rattle.catalog.specs.FragmentLeaf.{catalogue_leaves, leaf_named, schemas_of, unnamed};
 ghost use Rattle.catalog.specs.Document.{parts_of, RefusesDocument, RefusesRelations, RefusesRoot, RefusesText, are_tables};
@@ -20,6 +22,7 @@ use crate::fragment_leaf::{FragmentLeaf, all_leaves, find_leaf};
 use crate::relation::{SplitRelation, copy_relations, relation, schema_of};
 use crate::sites::sites;
 use meaning::schema::Schema;
+use reader::read_conds::conds_of_a_text_fit;
 use std::alloc::Global;
 use std::marker::Model;
 use terms::copy::{TryCopy, copy_all};
@@ -49,7 +52,7 @@ pub struct Catalog {
 impl Model for Catalog {
     ghost use Rattle.std.specs.Prelude.{ℕ, List};
     ghost use Rattle.catalog.specs.declared.relation.SplitRelation.{SplitRelation as Relation};
-    ghost use Rattle.catalog.specs.FragmentLeaf.{IsCatalog};
+    ghost use Rattle.catalog.specs.Formed.{IsCatalog};
     ghost use Rattle.catalog.specs.Relation.{catalogue_of};
     ghost use Rattle.std.specs.Coded.{codes};
     ghost use Rattle.catalog.specs.contracts.split.Split as split;
@@ -90,21 +93,27 @@ impl Catalog {
 
     /// The relations, by their names.
     pub fn relations(&self) -> &[SplitRelation]
-        ensures { result.now ≡ self.now.1 }
+        ensures relations { result.now ≡ self.now.1 }
+        // What holds of every catalogue.
+        ensures valid { IsValidCatalogue (catalogue_of self.now) }
+        ensures formed { IsFormed (catalogue_of self.now) }
     {
         self.relations.as_slice()
     }
 
     /// The names and columns of the relations.
     pub fn schema(&self) -> &Schema
-        ensures { result.now.relations ≡ schemas_of (catalogue_of self.now) }
+        ensures schemas { result.now.relations ≡ schemas_of (catalogue_of self.now) }
+        // A statement's text can speak of each of them.
+        ensures named { AreNamed result.now.relations }
     {
         &self.schema
     }
 
     /// The leaves, relation by relation, in each in the order of the text and numbered from 1.
     pub fn leaves(&self) -> &[FragmentLeaf]
-        ensures { result.now ≡ catalogue_leaves (catalogue_of self.now) }
+        ensures leaves { result.now ≡ catalogue_leaves (catalogue_of self.now) }
+        ensures sited { AllByRecursion (λ leaf. leaf.site < length self.now.0) result.now }
     {
         self.leaves.as_slice()
     }
@@ -163,6 +172,8 @@ fn catalog_of(alloc: Global, root: &Value) -> Result<Catalog, CatFault>
         return Err(CatFault::from(Rule::Limit));
     }
     let relations = relations(alloc, sites.as_slice(), parts.relations)?;
+    // That the conditions fit their columns rests on this law.
+    conds_of_a_text_fit();
     Ok(with_leaves(alloc, sites, relations)?)
 }
 
@@ -172,7 +183,8 @@ fn with_leaves(
     sites: Vec<Text>,
     relations: Vec<SplitRelation>,
 ) -> Result<Catalog, Memory>
-    requires { IsValidCatalogue (catalogue_of (sites.items, relations.items)) }
+    requires valid { IsValidCatalogue (catalogue_of (sites.items, relations.items)) }
+    requires formed { IsFormed (catalogue_of (sites.items, relations.items)) }
     ensures { IfOk result (λ catalog. catalog ≡ (sites.items, relations.items)) }
 {
     let schema = schema_of(alloc, relations.as_slice())?;

@@ -5,7 +5,7 @@ ghost use Rattle.std.specs.List.{AllByRecursion};
 ghost use Rattle.terms.specs.declared.cond.Cond.{Cond};
 ghost use Rattle.terms.specs.Cond.{IsCondOf};
 ghost use Rattle.reader.specs.declared.fault.Rule.TheVariants as rules;
-ghost use Rattle.reader.specs.Conds.{AreCondsOf, OneListOfCondsOfText};
+ghost use Rattle.reader.specs.Conds.{AreCondsOf, CondsOfTextFit, OneListOfCondsOfText};
 ghost use Rattle.reader.specs.Scope.{types};
 
 use crate::conditions::conds;
@@ -40,6 +40,11 @@ pub fn read_conds(alloc: Global, text: &str, columns: &[Column]) -> Result<Conds
 /// A text is one of one list of conditions at most.
 pub fn one_list_of_conds()
     ensures { OneListOfCondsOfText }
+{}
+
+/// The conditions of a text fit its columns, and are eight at most.
+pub fn conds_of_a_text_fit()
+    ensures { CondsOfTextFit }
 {}
 
 fn read_bytes(alloc: Global, text: &[u8], columns: &[Column]) -> Result<Conds, ReadFault>
