@@ -21,13 +21,13 @@ pub mod Below
 pub mod CellCount
 pub mod OneList
 pub mod ColumnParts
-pub mod Combined
 pub mod TestColumns
 pub mod ShownValues
 pub mod OneTestColumn
 pub mod Answered
 pub mod GroupNames
 pub mod Distinct
+pub mod Seeking
 pub mod SiteNames
 pub mod ColumnTexts
 pub mod RelationTexts

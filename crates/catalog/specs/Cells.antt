@@ -1,4 +1,5 @@
-use Rattle.std.specs.Prelude.{◌≡◌, ◌≢◌, ◌<◌, ◌≤◌, ◌*◌, ◌↔◌, ℕ, suc, ◌==◌, Bool, true, not, ◌&&◌, List, [], ◌∷◌, ◌++◌, map, flat_map, find, length, Option, Some, None, Contains}
+use Rattle.std.specs.Prelude.{◌≡◌, ◌≢◌, ◌<◌, ◌≤◌, ◌*◌, ◌↔◌, ℕ, suc, ◌==◌, Bool, true, false, not, ◌&&◌, List, [], ◌∷◌, ◌++◌, map, flat_map, find, length, Option, Some, None, Contains}
+use Rattle.std.specs.Borrow.{Bor}
 use Rattle.std.specs.List.{AllByRecursion}
 use Rattle.std.specs.List.Sorted.{IsStrictlySortedBy}
 use Rattle.terms.specs.declared.cond.Cond.{Cond}
@@ -55,6 +56,19 @@ is_fault way branches row = conds_hold way row && not (met_by branches row == 1)
 -- the first cell that is a fault, if there is one
 abbrev pub first_fault : List Cond → List (List Cond) → List (List Value) → Option (List Value)
 first_fault way branches lists = find (is_fault way branches) (product lists)
+
+-- the same among the cells that begin with these values, and have an item of each list behind them
+abbrev pub first_fault_behind : List Cond → List (List Cond) → List Value → List (List Value) → Option (List Value)
+first_fault_behind way branches before lists = find (is_fault way branches) (map (λ rest. before ++ rest) (product lists))
+
+-- the values that are borrowed
+abbrev pub values_of : List (Bor Value) → List Value
+values_of row = map (λ value. value.now) row
+
+-- what a search answers that is to find this cell, if there is one: whether there is one, and its values in the place of those that it began with
+abbrev pub IsSought : Option (List Value) → Bool → List (Bor Value) → List (Bor Value) → Type 0
+IsSought first true old new = first ≡ Some (values_of new)
+IsSought first false old new = (first ≡ None) × (new ≡ old)
 
 -- the first fault of a row split over columns of these types, which has at most so many cells
 pub record IsFirstFault (kinds : List Kind) (way : List Cond) (branches : List (List Cond)) (limit : ℕ) (found : Option (List Value)) : Type 0 where

@@ -1,14 +1,15 @@
 //! Whether each row meets exactly one branch of a row split. Its cells decide that: rows of the test
 //! values of each column.
 
-ghost use Rattle.std.specs.Prelude.{◌≡◌, ◌≤◌, ◌↔◌, ◌++◌, ◌∷◌, ◌&&◌, ◌==◌, not, IfOk, OnOk, IsTrue, map, flat_map, find, if◌then◌else◌};
-ghost use Rattle.std.specs.Option.{option_copied};
-ghost use Rattle.catalog.specs.Cells.{product, cell_count, conds_of_split, AreTestColumns, AreSplitColumns, met_by, is_fault, AllFit};
+ghost use Rattle.std.specs.Prelude.{◌≡◌, ◌≤◌, ◌↔◌, ◌++◌, ◌∷◌, [], ◌==◌, IfOk, OnOk, IsTrue, if◌then◌else◌};
+ghost use Rattle.terms.specs.Cond.{cond_holds, conds_hold};
+ghost use Rattle.terms.specs.TestValues.{column_holds};
+ghost use Rattle.catalog.specs.Cells.{cell_count, conds_of_split, AreTestColumns, met_by, is_fault, first_fault_behind, values_of, IsSought, AllFit};
 ghost use Rattle.catalog.specs.Exactness.{IsAnswer};
 
 use crate::laws::cells_decide;
 use std::alloc::Global;
-use terms::cond::{Cond, Conds, all_hold};
+use terms::cond::{Cond, Conds};
 use terms::copy::{TryCopy, copy_all};
 use terms::memory::Memory;
 use terms::row::Row;
@@ -48,10 +49,11 @@ pub fn try_cells(
     if !are_few(columns.as_slice()) {
         return Ok(Exactness::TooMany);
     }
-    let cells = product(alloc, columns.as_slice())?;
-    match first_fault(way, branches, cells.as_slice()) {
-        Some(cell) => named(branches, cell),
-        None => Ok(Exactness::Exact),
+    let mut cell = Vec::new(alloc);
+    if seek_fault(way, branches, columns.as_slice(), &mut cell)? {
+        named(alloc, branches, cell.as_slice())
+    } else {
+        Ok(Exactness::Exact)
     }
 }
 
@@ -102,98 +104,115 @@ fn are_few(columns: &[Seq<Value>]) -> bool
     cells <= CELLS
 }
 
-/// The cells, the first column's values vary slowest.
-fn product(alloc: Global, columns: &[Seq<Value>]) -> Result<Vec<Row>, Memory>
-    ensures { IfOk result (λ cells. cells.items ≡ product columns.now) }
+/// Looks for the first faulty cell among those that begin with the values of `row`, and have a value of
+/// each of the columns behind them. The first column's values vary slowest. Where there is such a cell,
+/// `row` is then that cell, else it is as before.
+#[cycle(cells)]
+fn seek_fault<'a>(
+    way: &[Cond],
+    branches: &[Conds],
+    columns: &'a [Seq<Value>],
+    row: &mut Vec<&'a Value>,
+) -> Result<bool, Memory>
+    ensures { IfOk result (λ found. IsSought (first_fault_behind way.now branches.now (values_of row.old.items) columns.now) found row.old.items row.new.items) }
 {
-    match columns.split_first() {
-        Some((values, rest)) => {
-            let cells = product(alloc, rest)?;
-            with_first(alloc, values.as_slice(), cells.as_slice())
+    let Some((values, rest)) = columns.split_first() else {
+        return Ok(is_fault(way, branches, row.as_slice()));
+    };
+    for value in values.as_slice() {
+        if seek_fault_with(way, branches, rest, row, value)? {
+            return Ok(true);
         }
-        None => {
-            let mut cells = Vec::new(alloc);
-            cells.push(Row::new(Vec::new(alloc)))?;
-            Ok(cells)
-        }
     }
+    Ok(false)
 }
 
-/// Each value before each of the rows.
-fn with_first(alloc: Global, values: &[Value], rows: &[Row]) -> Result<Vec<Row>, Memory>
-    ensures { IfOk result (λ longer. longer.items ≡ flat_map (λ value. map (λ row. value ∷ row) rows.now) values.now) }
+/// The same where this value comes next. Where it fails a condition on the way, no cell is faulty.
+#[cycle(cells)]
+fn seek_fault_with<'a>(
+    way: &[Cond],
+    branches: &[Conds],
+    columns: &'a [Seq<Value>],
+    row: &mut Vec<&'a Value>,
+    value: &'a Value,
+) -> Result<bool, Memory>
+    ensures { IfOk result (λ found. IsSought (first_fault_behind way.now branches.now (values_of row.old.items ++ value.now ∷ []) columns.now) found row.old.items row.new.items) }
 {
-    let mut longer = Vec::new(alloc);
-    for value in values {
-        push_behind(alloc, &mut longer, value, rows)?;
+    if !column_holds(way, row.len(), value) {
+        return Ok(false);
     }
-    Ok(longer)
+    row.push(value)?;
+    let found = seek_fault(way, branches, columns, row)?;
+    if !found {
+        row.pop();
+    }
+    Ok(found)
 }
 
-/// Adds each row with the value before it.
-fn push_behind(
-    alloc: Global,
-    longer: &mut Vec<Row>,
-    value: &Value,
-    rows: &[Row],
-) -> Result<(), Memory>
-    ensures { OnOk result (longer.new.items ≡ longer.old.items ++ map (λ row. value.now ∷ row) rows.now) }
+/// Whether a value meets the conditions on a column.
+fn column_holds(conds: &[Cond], col: usize, value: &Value) -> bool
+    ensures { result ≡ column_holds conds.now col value.now }
 {
-    for row in rows {
-        longer.push(behind(alloc, value, row)?)?;
-    }
-    Ok(())
-}
-
-/// The row with the value before it.
-fn behind(alloc: Global, value: &Value, row: &Row) -> Result<Row, Memory>
-    ensures { IfOk result (λ longer. longer ≡ value.now ∷ row.now) }
-{
-    let mut values = Vec::new(alloc);
-    values.push(value.copy()?)?;
-    for other in row.values() {
-        values.push(other.copy()?)?;
-    }
-    Ok(Row::new(values))
-}
-
-/// The first cell that is a fault, if there is one.
-fn first_fault<'a>(way: &[Cond], branches: &[Conds], cells: &'a [Row]) -> Option<&'a Row>
-    ensures { option_copied result ≡ find (is_fault way.now branches.now) cells.now }
-{
-    cells.iter().find(|cell| is_fault(way, branches, cell))
+    conds.iter().all(|cond| cond.col != col || cond.cmp.compares(value, &cond.value))
 }
 
 /// Whether a cell meets the conditions on the way, but not exactly one branch.
-fn is_fault(way: &[Cond], branches: &[Conds], cell: &Row) -> bool
-    ensures { result ≡ is_fault way.now branches.now cell.now }
+fn is_fault(way: &[Cond], branches: &[Conds], cell: &[&Value]) -> bool
+    ensures { result ≡ is_fault way.now branches.now (values_of cell.now) }
 {
-    all_hold(way, cell.values()) && met_by(branches, cell) != 1
+    all_hold(way, cell) && met_by(branches, cell) != 1
 }
 
 /// How many branches a cell meets.
-fn met_by(branches: &[Conds], cell: &Row) -> usize
-    ensures { result ≡ met_by branches.now cell.now }
+fn met_by(branches: &[Conds], cell: &[&Value]) -> usize
+    ensures { result ≡ met_by branches.now (values_of cell.now) }
 {
     let mut met = 0;
     for conds in branches {
-        if conds.hold(cell) {
+        if all_hold(conds.as_slice(), cell) {
             met += 1;
         }
     }
     met
 }
 
-/// A faulty cell by its kind.
-fn named(branches: &[Conds], cell: &Row) -> Result<Exactness, Memory>
-    ensures { IfOk result (λ answer. answer ≡ (if met_by branches.now cell.now == 0 then Exactness.Gap cell.now else Exactness.Overlap cell.now)) }
+/// Whether all conditions hold of a cell.
+fn all_hold(conds: &[Cond], cell: &[&Value]) -> bool
+    ensures { result ≡ conds_hold conds.now (values_of cell.now) }
 {
-    let copy = cell.copy()?;
-    if met_by(branches, cell) == 0 {
-        Ok(Exactness::Gap(copy))
-    } else {
-        Ok(Exactness::Overlap(copy))
+    conds.iter().all(|cond| holds(cond, cell))
+}
+
+fn holds(cond: &Cond, cell: &[&Value]) -> bool
+    ensures { result ≡ cond_holds cond.now (values_of cell.now) }
+{
+    match cell.get(cond.col) {
+        Some(value) => cond.cmp.compares(value, &cond.value),
+        None => false,
     }
+}
+
+/// A faulty cell by its kind.
+fn named(alloc: Global, branches: &[Conds], cell: &[&Value]) -> Result<Exactness, Memory>
+    ensures { IfOk result (λ answer. answer ≡ (if met_by branches.now (values_of cell.now) == 0 then Exactness.Gap (values_of cell.now) else Exactness.Overlap (values_of cell.now))) }
+{
+    let row = row_of(alloc, cell)?;
+    if met_by(branches, cell) == 0 {
+        Ok(Exactness::Gap(row))
+    } else {
+        Ok(Exactness::Overlap(row))
+    }
+}
+
+/// A row of these values.
+fn row_of(alloc: Global, cell: &[&Value]) -> Result<Row, Memory>
+    ensures { IfOk result (λ row. row ≡ values_of cell.now) }
+{
+    let mut values = Vec::new(alloc);
+    for value in cell {
+        values.push(value.copy()?)?;
+    }
+    Ok(Row::new(values))
 }
 
 #[cfg(test)]
