@@ -34,3 +34,4 @@ pub mod RelationTexts
 pub mod DocumentParts
 pub mod Entries
 pub mod CatalogueTexts
+pub mod NamedLeaves

@@ -1,7 +1,7 @@
 -- The leaves of a fragment tree in a list, each with its site.
 use Rattle.std.specs.Prelude.{ℕ, List, [], ◌∷◌, ◌++◌}
 use Rattle.terms.specs.declared.cond.Cond.{Cond}
-use Rattle.catalog.specs.declared.leaf_list.FragmentLeaf.{FragmentLeaf}
+use Rattle.catalog.specs.declared.leaf_list.ListedLeaf.{ListedLeaf}
 use Rattle.catalog.specs.Fragment.{Fragment}
 use Rattle.catalog.specs.Path.{Step, path_conds, path_columns}
 use Rattle.catalog.specs.Split.{Tree, Site, ByRows, ByCols, Branches, NoBranch, Branch, Groups, NoGroup, Group}
@@ -22,11 +22,11 @@ abbrev mutual
   site_numbers_by_cols (Group columns tree rest) = site_numbers tree ++ site_numbers_by_cols rest
 
 -- a listed leaf without its site
-abbrev pub fragment_of : FragmentLeaf → Fragment
+abbrev pub fragment_of : ListedLeaf → Fragment
 fragment_of leaf = record { conds = leaf.conds; columns = leaf.columns }
 
 -- the site of a listed leaf
-abbrev pub site_of : FragmentLeaf → ℕ
+abbrev pub site_of : ListedLeaf → ℕ
 site_of leaf = leaf.site
 
 -- the leaf at the end of a way on from a place in a tree: these conditions stand on the way to the place, and these columns are there

@@ -15,6 +15,7 @@ pub mod Below
 pub mod Catalogue
 pub mod Document
 pub mod Relation
+pub mod FragmentLeaf
 pub mod Sites
 pub mod Columns
 pub mod Exactness

@@ -1,6 +1,6 @@
 //! Catalogues, read from their texts.
 
-ghost use Rattle.std.specs.Prelude.{◌≡◌, map, option_map, IfOk, IfErr};
+ghost use Rattle.std.specs.Prelude.{◌≡◌, map, option_map, option_and_then, IfOk, IfErr};
 ghost use Rattle.std.specs.List.{AllByRecursion};
 ghost use Rattle.toml.specs.Data.{as_table};
 ghost use Rattle.toml.specs.Parse.{parse_document};
@@ -9,15 +9,23 @@ ghost use Rattle.catalog.specs.Catalogue as spec;
 ghost use Rattle.catalog.specs.Catalogue.{IsRelationIn, IsDocumentOf, IsCatalogueText, IsValidRelation, IsValidCatalogue, entries};
 ghost use Rattle.catalog.specs.Describes.{Each};
 ghost use Rattle.catalog.specs.Relation.{relation_of, catalogue_of};
+ghost use Rattle.catalog.specs.Fragment.{part};
+ghost use Rattle.catalog.specs.FragmentLeaf.{catalogue_leaves, leaf_named, schemas_of, unnamed};
 ghost use Rattle.catalog.specs.Document.{parts_of, RefusesDocument, RefusesRelations, RefusesRoot, RefusesText, are_tables};
 
 use crate::fault::{CatFault, Rule};
 use crate::form::some_texts;
-use crate::relation::{SplitRelation, relation};
+use crate::fragment::place;
+use crate::fragment_leaf::{FragmentLeaf, all_leaves, find_leaf};
+use crate::relation::{SplitRelation, copy_relations, relation, schema_of};
 use crate::sites::sites;
+use meaning::schema::Schema;
 use std::alloc::Global;
 use std::marker::Model;
+use terms::copy::{TryCopy, copy_all};
+use terms::leaf::Leaf;
 use terms::memory::Memory;
+use terms::row::Row;
 use terms::text::Text;
 use toml::{Table, Value};
 
@@ -28,16 +36,20 @@ const TEXT_BYTES: usize = 65_536;
 const RELATIONS: usize = 32;
 
 /// The sites, and the relations with their fragment trees. There is no catalogue that is not valid.
+///
+/// It keeps the schema and the leaves of the relations at hand.
 #[derive(Debug, Drop)]
 pub struct Catalog {
     sites: Vec<Text>,
     relations: Vec<SplitRelation>,
+    schema: Schema,
+    leaves: Vec<FragmentLeaf>,
 }
 
 impl Model for Catalog {
     ghost use Rattle.std.specs.Prelude.{ℕ, List};
     ghost use Rattle.catalog.specs.declared.relation.SplitRelation.{SplitRelation as Relation};
-    ghost use Rattle.catalog.specs.Catalogue.{IsValidCatalogue};
+    ghost use Rattle.catalog.specs.FragmentLeaf.{IsCatalog};
     ghost use Rattle.catalog.specs.Relation.{catalogue_of};
     ghost use Rattle.std.specs.Coded.{codes};
     ghost use Rattle.catalog.specs.contracts.split.Split as split;
@@ -48,7 +60,7 @@ impl Model for Catalog {
 
     ghost view = { λ c. (c.sites.items, c.relations.items) };
 
-    ghost invariant = { λ c. IsValidCatalogue (catalogue_of (c.sites.items, c.relations.items)) };
+    ghost invariant = { λ c. IsCatalog (catalogue_of (c.sites.items, c.relations.items)) c.schema c.leaves.items };
 }
 
 impl Catalog {
@@ -82,6 +94,52 @@ impl Catalog {
     {
         self.relations.as_slice()
     }
+
+    /// The names and columns of the relations.
+    pub fn schema(&self) -> &Schema
+        ensures { result.now.relations ≡ schemas_of (catalogue_of self.now) }
+    {
+        &self.schema
+    }
+
+    /// The leaves, relation by relation, in each in the order of the text and numbered from 1.
+    pub fn leaves(&self) -> &[FragmentLeaf]
+        ensures { result.now ≡ catalogue_leaves (catalogue_of self.now) }
+    {
+        self.leaves.as_slice()
+    }
+
+    /// The row's part in the content of the leaf of this name, or none where the leaf's conditions
+    /// don't hold of it. A leaf that is not there has no part.
+    pub fn place(&self, row: &Row, leaf: &Leaf) -> Result<Option<Row>, Memory>
+        ensures { IfOk result (λ placed. placed ≡ option_and_then (λ there. part (unnamed there) row.now) (leaf_named leaf.now (catalogue_leaves (catalogue_of self.now)))) }
+    {
+        match find_leaf(self.leaves.as_slice(), leaf) {
+            Some(leaf) => {
+                let conds = leaf.conds.as_slice();
+                place(
+                    *self.leaves.allocator(),
+                    conds,
+                    leaf.columns.as_slice(),
+                    row,
+                )
+            }
+            None => Ok(None),
+        }
+    }
+
+    /// The same catalogue once more.
+    pub fn copy(&self) -> Result<Catalog, Memory>
+        ensures { IfOk result (λ copy. catalogue_of copy ≡ catalogue_of self.now) }
+    {
+        let alloc = *self.leaves.allocator();
+        Ok(Catalog {
+            sites: copy_all(alloc, self.sites.as_slice())?,
+            relations: copy_relations(alloc, self.relations.as_slice())?,
+            schema: self.schema.copy()?,
+            leaves: copy_all(alloc, self.leaves.as_slice())?,
+        })
+    }
 }
 
 /// The catalogue that a document says.
@@ -105,7 +163,26 @@ fn catalog_of(alloc: Global, root: &Value) -> Result<Catalog, CatFault>
         return Err(CatFault::from(Rule::Limit));
     }
     let relations = relations(alloc, sites.as_slice(), parts.relations)?;
-    Ok(Catalog { sites, relations })
+    Ok(with_leaves(alloc, sites, relations)?)
+}
+
+/// The catalogue of these sites and relations, with its schema and leaves.
+fn with_leaves(
+    alloc: Global,
+    sites: Vec<Text>,
+    relations: Vec<SplitRelation>,
+) -> Result<Catalog, Memory>
+    requires { IsValidCatalogue (catalogue_of (sites.items, relations.items)) }
+    ensures { IfOk result (λ catalog. catalog ≡ (sites.items, relations.items)) }
+{
+    let schema = schema_of(alloc, relations.as_slice())?;
+    let leaves = all_leaves(alloc, relations.as_slice())?;
+    Ok(Catalog {
+        sites,
+        relations,
+        schema,
+        leaves,
+    })
 }
 
 /// Whether all values of a table are tables.

@@ -1,4 +1,4 @@
-//! The leaves of a fragment tree, listed.
+//! The leaves of a fragment tree, listed without their names.
 
 ghost use Rattle.std.specs.Prelude.{◌≡◌, ◌++◌, [], map, flat_map, IfOk, OnOk};
 ghost use Rattle.catalog.specs.Leaves.{fragment_of, site_of, site_numbers, leaf_below};
@@ -14,18 +14,18 @@ use terms::seq::Seq;
 
 /// A leaf of a fragment tree: the conditions on its path, its columns (the key first) and its site.
 #[derive(Debug, Drop)]
-pub struct FragmentLeaf {
+pub(crate) struct ListedLeaf {
     pub conds: Conds,
     pub columns: Seq<usize>,
     pub site: usize,
 }
 
 /// The leaves of a tree over these columns beside the key, in the order of the document.
-pub(crate) fn leaves(
+pub(crate) fn listed_leaves(
     alloc: Global,
     columns: &[usize],
     split: &Split,
-) -> Result<Vec<FragmentLeaf>, Memory>
+) -> Result<Vec<ListedLeaf>, Memory>
     ensures fragments { IfOk result (λ leaves. map fragment_of leaves.items ≡ map (leaf_at columns.now) (paths (tree_of split.now))) }
     ensures sites { IfOk result (λ leaves. map site_of leaves.items ≡ site_numbers (tree_of split.now)) }
 {
@@ -38,7 +38,7 @@ pub(crate) fn leaves(
 /// columns are left there.
 #[cycle(listing)]
 fn put_leaves(
-    leaves: &mut Vec<FragmentLeaf>,
+    leaves: &mut Vec<ListedLeaf>,
     way: &[Cond],
     columns: &[usize],
     split: &Split,
@@ -60,7 +60,7 @@ fn put_leaves(
 /// Puts the leaves of each branch behind others.
 #[cycle(listing)]
 fn put_branches(
-    leaves: &mut Vec<FragmentLeaf>,
+    leaves: &mut Vec<ListedLeaf>,
     way: &[Cond],
     columns: &[usize],
     branches: &[Branch],
@@ -78,7 +78,7 @@ fn put_branches(
 
 /// Puts the leaves of each group behind others.
 #[cycle(listing)]
-fn put_groups(leaves: &mut Vec<FragmentLeaf>, way: &[Cond], groups: &[Group]) -> Result<(), Memory>
+fn put_groups(leaves: &mut Vec<ListedLeaf>, way: &[Cond], groups: &[Group]) -> Result<(), Memory>
     ensures fragments { OnOk result (map fragment_of leaves.new.items ≡ map fragment_of leaves.old.items ++ flat_map (λ group. map (leaf_below way.now group.columns) (paths group.tree)) (map tree_group groups.now)) }
     ensures sites { OnOk result (map site_of leaves.new.items ≡ map site_of leaves.old.items ++ flat_map (λ group. site_numbers group.tree) (map tree_group groups.now)) }
 {
@@ -89,7 +89,7 @@ fn put_groups(leaves: &mut Vec<FragmentLeaf>, way: &[Cond], groups: &[Group]) ->
 }
 
 /// The leaf at a site, with these conditions on its way and these columns beside the key.
-fn leaf(alloc: Global, way: &[Cond], columns: &[usize], site: usize) -> Result<FragmentLeaf, Memory>
+fn leaf(alloc: Global, way: &[Cond], columns: &[usize], site: usize) -> Result<ListedLeaf, Memory>
     ensures fragment { IfOk result (λ leaf. fragment_of leaf ≡ leaf_below way.now columns.now []) }
     ensures site { IfOk result (λ leaf. leaf.site ≡ site) }
 {
@@ -97,7 +97,7 @@ fn leaf(alloc: Global, way: &[Cond], columns: &[usize], site: usize) -> Result<F
     let mut all = Vec::new(alloc);
     all.push(0)?;
     all.extend_from_slice(columns)?;
-    Ok(FragmentLeaf {
+    Ok(ListedLeaf {
         conds,
         columns: Seq::new(all),
         site,

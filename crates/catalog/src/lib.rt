@@ -20,6 +20,7 @@ pub mod exact;
 pub mod fault;
 mod form;
 pub mod fragment;
+pub mod fragment_leaf;
 mod frame;
 mod groups;
 pub mod laws;

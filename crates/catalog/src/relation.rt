@@ -17,9 +17,10 @@ use crate::form::{some_items, texts_at};
 use crate::frame::Frame;
 use crate::split::Split;
 use crate::tree::{SPLITS, tree};
-use meaning::schema::{Column, RelationSchema};
+use meaning::schema::{Column, RelationSchema, Schema};
 use reader::word::is_name;
 use std::alloc::Global;
+use terms::copy::TryCopy;
 use terms::memory::Memory;
 use terms::seq::Seq;
 use terms::text::Text;
@@ -30,6 +31,43 @@ use toml::Value;
 pub struct SplitRelation {
     pub schema: RelationSchema,
     pub split: Split,
+}
+
+impl SplitRelation {
+    /// The same relation once more.
+    pub fn copy(&self) -> Result<SplitRelation, Memory>
+        ensures { IfOk result (λ copy. relation_of copy ≡ relation_of self.now) }
+    {
+        let schema = self.schema.copy()?;
+        let split = self.split.copy()?;
+        Ok(SplitRelation { schema, split })
+    }
+}
+
+/// Copies of relations.
+pub(crate) fn copy_relations(
+    alloc: Global,
+    relations: &[SplitRelation],
+) -> Result<Vec<SplitRelation>, Memory>
+    ensures { IfOk result (λ copies. map relation_of copies.items ≡ map relation_of relations.now) }
+{
+    let mut copies = Vec::new(alloc);
+    for relation in relations {
+        copies.push(relation.copy()?)?;
+    }
+    Ok(copies)
+}
+
+/// The schema of relations.
+pub(crate) fn schema_of(alloc: Global, relations: &[SplitRelation]) -> Result<Schema, Memory>
+    ensures { IfOk result (λ schema. schema.relations ≡ map (λ relation. relation.schema) (map relation_of relations.now)) }
+{
+    let mut schemas = Vec::new(alloc);
+    for relation in relations {
+        schemas.push(relation.schema.copy()?)?;
+    }
+    let relations = Seq::new(schemas);
+    Ok(Schema { relations })
 }
 
 /// The relation that a document says under this name.
@@ -96,7 +134,7 @@ fn split(alloc: Global, sites: &[Text], columns: &[Column], node: &Value) -> Res
 }
 
 /// The places of the columns beside the key.
-fn beside_key(alloc: Global, columns: &[Column]) -> Result<Vec<usize>, Memory>
+pub(crate) fn beside_key(alloc: Global, columns: &[Column]) -> Result<Vec<usize>, Memory>
     ensures { IfOk result (λ places. places.items ≡ columns_beside_key (map (λ column. column.kind) columns.now)) }
 {
     let mut places = Vec::new(alloc);

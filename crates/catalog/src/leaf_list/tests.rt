@@ -18,7 +18,7 @@ fn is_cond(cond: &Cond, given: &Given) -> bool {
     }
 }
 
-fn is_leaf(leaf: &FragmentLeaf, want: &Want<'_>) -> bool {
+fn is_leaf(leaf: &ListedLeaf, want: &Want<'_>) -> bool {
     let (given, columns, site) = want;
     let conds = leaf.conds.as_slice();
     conds.len() == given.len()
@@ -30,7 +30,7 @@ fn is_leaf(leaf: &FragmentLeaf, want: &Want<'_>) -> bool {
         && leaf.site == *site
 }
 
-fn are_leaves(leaves: &[FragmentLeaf], want: &[Want<'_>]) -> bool {
+fn are_leaves(leaves: &[ListedLeaf], want: &[Want<'_>]) -> bool {
     leaves.len() == want.len()
         && leaves
             .iter()
@@ -63,33 +63,33 @@ fn group(alloc: Global, places: &[usize], split: Split) -> Result<Group, Memory>
 }
 
 /// item(id, zone, label), by zone.
-fn of_item(alloc: Global) -> Result<Vec<FragmentLeaf>, Memory> {
+fn of_item(alloc: Global) -> Result<Vec<ListedLeaf>, Memory> {
     let split = at_ten(alloc, 1, Split::Leaf(0), Split::Leaf(1))?;
-    leaves(alloc, &[1, 2], &split)
+    listed_leaves(alloc, &[1, 2], &split)
 }
 
 /// emp(id, name, dept, pay): the name alone, and the rest by dept.
-fn of_emp(alloc: Global) -> Result<Vec<FragmentLeaf>, Memory> {
+fn of_emp(alloc: Global) -> Result<Vec<ListedLeaf>, Memory> {
     let by_dept = at_ten(alloc, 2, Split::Leaf(0), Split::Leaf(1))?;
     let mut groups = Vec::new(alloc);
     groups.push(group(alloc, &[1], Split::Leaf(0))?)?;
     groups.push(group(alloc, &[2, 3], by_dept)?)?;
-    leaves(alloc, &[1, 2, 3], &Split::ByCols(groups))
+    listed_leaves(alloc, &[1, 2, 3], &Split::ByCols(groups))
 }
 
 /// A relation of three columns, by the second, and below ten by the third too.
-fn of_nested(alloc: Global) -> Result<Vec<FragmentLeaf>, Memory> {
+fn of_nested(alloc: Global) -> Result<Vec<ListedLeaf>, Memory> {
     let inner = at_ten(alloc, 2, Split::Leaf(2), Split::Leaf(1))?;
     let split = at_ten(alloc, 1, inner, Split::Leaf(0))?;
-    leaves(alloc, &[1, 2], &split)
+    listed_leaves(alloc, &[1, 2], &split)
 }
 
-fn of_leaf(alloc: Global) -> Result<Vec<FragmentLeaf>, Memory> {
-    leaves(alloc, &[1, 2], &Split::Leaf(3))
+fn of_leaf(alloc: Global) -> Result<Vec<ListedLeaf>, Memory> {
+    listed_leaves(alloc, &[1, 2], &Split::Leaf(3))
 }
 
 /// Whether these leaves were listed.
-fn gives(listed: &Result<Vec<FragmentLeaf>, Memory>, want: &[Want<'_>]) -> bool {
+fn gives(listed: &Result<Vec<ListedLeaf>, Memory>, want: &[Want<'_>]) -> bool {
     match listed {
         Ok(leaves) => are_leaves(leaves.as_slice(), want),
         Err(_) => false,

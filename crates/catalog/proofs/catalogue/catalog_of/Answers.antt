@@ -1,11 +1,12 @@
 use Rattle.std.proofs.Common.{List, ℕ, Bor, map, option_map, ap, sym, subst, ◌∙◌}
 use Rattle.toml.specs.View.{view, table_view}
 use Rattle.catalog.specs.declared.fault.Rule.{Rule}
-use Rattle.catalog.specs.Catalogue.{IsRelationIn, entries}
+use Rattle.catalog.specs.Catalogue.{IsRelationIn, IsDocumentOf, entries}
 use Rattle.catalog.specs.Describes.{Each}
 use Rattle.catalog.specs.Document.{RefusesRoot, parts_of}
 use Rattle.catalog.specs.Form.{texts_of}
-use Rattle.catalog.specs.Relation.{relation_of}
+use Rattle.catalog.specs.Relation.{relation_of, catalogue_of}
+use Rattle.catalog.specs.declared.relation.SplitRelation as code
 use Rattle.catalog.specs.Sites.{AreSites}
 use Rattle.catalog.proofs.CatalogueTexts.{no_tables, too_many_entries, catalogue_is}
 use Rattle.catalog.proofs.catalogue.catalog_of.Goals as goal
@@ -27,6 +28,8 @@ returns-clause-found c =
     let same = ap (map (λ (text : Bor (List ℕ)). text.now)) c.as_slice.ensures.value in
     let P : List (List ℕ) → Type 0 = AreSites in
     let Q : List (List ℕ) → Type 0 = λ sites. Each (IsRelationIn sites) (entries (table_view c.in-Some.parts.relations.now)) (map relation_of c.in_ok-relations.relations.items) in
+    let S : List (List ℕ) × List code.SplitRelation → Type 0 = λ catalog. IsDocumentOf (view c.args.root.now) (catalogue_of catalog) in
+    subst S (sym c.in_ok-with_leaves.ensures) (
     catalogue_is (view c.args.root.now) (texts_of c.in-Some.parts.sites) c.in_ok-sites.sites.items c.in-Some.parts.relations.now.entries (map relation_of c.in_ok-relations.relations.items)
     (ap (option_map parts_of) (sym c.in-Some.is) ∙ c.in_ok-parts.ensures) (c.in_ok-sites.ensures.found.0 ∙ same) (subst P same c.in_ok-sites.ensures.found.1)
-    (subst Q c.as_slice-2.ensures.value c.in_ok-relations.ensures.found) (λ none. c.if-count-eq0.false (c.len-count.ensures.len ∙ none)) (rw (← c.len-count.ensures.len) c.if-count-gt-RELATIONS.false)
+    (subst Q c.as_slice-2.ensures.value c.in_ok-relations.ensures.found) (λ none. c.if-count-eq0.false (c.len-count.ensures.len ∙ none)) (rw (← c.len-count.ensures.len) c.if-count-gt-RELATIONS.false))
