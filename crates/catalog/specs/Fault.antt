@@ -1,4 +1,11 @@
-use Rattle.std.specs.Prelude.{ℕ, List, codes}
+-- The numbers and names of rules, and the text of a refusal.
+use Rattle.std.specs.Prelude.{ℕ, List, [], ◌∷◌, ◌++◌, Option, Some, None, codes}
+use Rattle.std.specs.Fmt.{decimal}
+use Rattle.reader.specs.Printed.{constant_bytes, separated_bytes}
+use Rattle.reader.specs.Written.{constant_as}
+use Rattle.catalog.specs.declared.fault.CatFault.{CatFault}
+use Rattle.catalog.specs.declared.fault.Cell.{Cell}
+use Rattle.catalog.specs.declared.fault.Shown.{Shown}
 use Rattle.catalog.specs.declared.fault.Rule.{Rule}
 use Rattle.catalog.specs.declared.fault.Rule.TheVariants.{Toml, Field, Name, Twice, NoSite, KeyType, ColumnTwice, ColumnLost, ColumnAbsent, WrongType, Gap, Overlap, Limit, Memory}
 
@@ -33,3 +40,26 @@ rule_name (Gap cell) = codes "Gap"
 rule_name (Overlap cell) = codes "Overlap"
 rule_name Limit = codes "Limit"
 rule_name Memory = codes "Memory"
+
+-- a column and its value, as in a condition
+abbrev pub shown_text : Shown → List ℕ
+shown_text shown = shown.column ++ codes " = " ++ constant_bytes (constant_as shown.value)
+
+-- what tells a cell from the others
+abbrev pub cell_text : Cell → List ℕ
+cell_text cell = separated_bytes shown_text (codes ", ") cell.shown
+
+-- the relation in which a rule is broken, if it is in one
+abbrev pub relation_text : Option (List ℕ) → List ℕ
+relation_text None = []
+relation_text (Some relation) = 32 ∷ relation
+
+-- the cell that shows a gap or an overlap
+abbrev pub witness_text : Rule → List ℕ
+witness_text (Gap cell) = 32 ∷ cell_text cell
+witness_text (Overlap cell) = 32 ∷ cell_text cell
+witness_text _ = []
+
+-- a refusal in messages, as `11 Gap emp dept = 10`
+abbrev pub fault_text : CatFault → List ℕ
+fault_text fault = decimal (rule_number fault.rule) ++ 32 ∷ rule_name fault.rule ++ relation_text fault.relation ++ witness_text fault.rule

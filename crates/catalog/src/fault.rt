@@ -1,10 +1,12 @@
 //! Why a catalogue was refused.
 
-ghost use Rattle.std.specs.Prelude.{◌≡◌, ◌⊎◌};
-ghost use Rattle.catalog.specs.Fault.{rule_number, rule_name};
+ghost use Rattle.std.specs.Prelude.{◌≡◌, ◌⊎◌, Some};
+ghost use Rattle.catalog.specs.Fault.{rule_number, rule_name, shown_text, cell_text, fault_text};
 ghost use Rattle.catalog.specs.declared.fault.Rule.TheVariants as rules;
 
+use reader::printed_constant::PrintedConstant;
 use std::alloc::{AllocError, AllocFailed, Global};
+use std::fmt;
 use terms::memory::Memory;
 use terms::row::Row;
 use terms::seq::Seq;
@@ -18,12 +20,35 @@ pub struct Shown {
     pub value: Value,
 }
 
+impl fmt::Display for Shown {
+    ghost output = { λ shown. Some (shown_text shown) };
+
+    fn fmt<W: fmt::Write>(&self, f: &mut fmt::Formatter<W>) -> fmt::Result {
+        write!(f, "{} = {}", self.column, PrintedConstant(&self.value))
+    }
+}
+
 /// A cell of a row split: a row, and what tells it from the other cells.
 #[derive(Debug, Drop)]
 pub struct Cell {
     pub row: Row,
     /// The values in the columns that a condition of the split names, in the relation's order.
     pub shown: Seq<Shown>,
+}
+
+impl fmt::Display for Cell {
+    ghost output = { λ cell. Some (cell_text cell) };
+
+    fn fmt<W: fmt::Write>(&self, f: &mut fmt::Formatter<W>) -> fmt::Result {
+        let Some((first, others)) = self.shown.as_slice().split_first() else {
+            return Ok(());
+        };
+        write!(f, "{first}")?;
+        for shown in others {
+            write!(f, ", {shown}")?;
+        }
+        Ok(())
+    }
 }
 
 /// The rule that a catalogue breaks.
@@ -123,6 +148,21 @@ impl CatFault {
                 relation: Some(Text::new(name)),
             },
             Err(_) => CatFault::from(Rule::Memory),
+        }
+    }
+}
+
+impl fmt::Display for CatFault {
+    ghost output = { λ fault. Some (fault_text fault) };
+
+    fn fmt<W: fmt::Write>(&self, f: &mut fmt::Formatter<W>) -> fmt::Result {
+        write!(f, "{} {}", self.rule.number(), self.rule.name())?;
+        if let Some(relation) = &self.relation {
+            write!(f, " {relation}")?;
+        }
+        match &self.rule {
+            Rule::Gap(cell) | Rule::Overlap(cell) => write!(f, " {cell}"),
+            _ => Ok(()),
         }
     }
 }

@@ -23,6 +23,7 @@ pub mod names;
 pub mod parser;
 pub mod print;
 pub mod printed;
+pub mod printed_constant;
 pub mod read;
 pub mod read_again;
 pub mod read_conds;

@@ -5,10 +5,10 @@ ghost use Rattle.meaning.specs.declared.statement.Assigned.TheVariants.{Sum};
 ghost use Rattle.reader.specs.Columns.{column_at};
 ghost use Rattle.reader.specs.Grammar.{comparison_sign};
 ghost use Rattle.reader.specs.Sign.{sign_text};
-ghost use Rattle.reader.specs.Tokens.{doubled};
 ghost use Rattle.reader.specs.Written.{name_in, column_in, qualified_column, constant_as, condition_as, conditions_as, join_as, select_as, insert_as, assigned_as, assignment_as, update_as, delete_as};
 ghost use Rattle.reader.specs.Printed.{separated_bytes, column_bytes, constant_bytes, constants_bytes, condition_bytes, conditions_bytes, where_bytes, join_bytes, select_bytes, insert_bytes, assigned_bytes, assignment_bytes, update_bytes, delete_bytes, statement_bytes, conds_bytes, part_bytes};
 
+use crate::printed_constant::PrintedConstant;
 use meaning::schema::Column;
 use meaning::statement::{
     Assigned, Assignment, Delete, Insert, Join, Select, Source, Statement, Update,
@@ -225,32 +225,10 @@ fn put_constants(out: &mut String, values: &[Value]) -> Result<(), Memory>
     Ok(())
 }
 
-/// An integer in decimal, or a text in quotes.
 fn put_constant(out: &mut String, value: &Value) -> Result<(), Memory>
     ensures { OnOk result (string_bytes out.new ≡ string_bytes out.old ++ constant_bytes (constant_as value.now)) }
 {
-    match value {
-        Value::Int(number) => write!(out, "{number}")?,
-        Value::Text(text) => {
-            out.push('\'')?;
-            put_doubled(out, text.as_str())?;
-            out.push('\'')?;
-        }
-    }
-    Ok(())
-}
-
-/// A text, each quote doubled.
-fn put_doubled(out: &mut String, text: &str) -> Result<(), Memory>
-    ensures { OnOk result (string_bytes out.new ≡ string_bytes out.old ++ doubled text.now) }
-{
-    let mut rest = text;
-    while let Some((before, behind)) = rest.split_once('\'') {
-        out.push_str(before)?;
-        out.push_str("''")?;
-        rest = behind;
-    }
-    out.push_str(rest)?;
+    write!(out, "{}", PrintedConstant(value))?;
     Ok(())
 }
 

@@ -5,3 +5,4 @@ pub mod Row
 pub mod Cond
 pub mod TestValues
 pub mod Search
+pub mod Leaf

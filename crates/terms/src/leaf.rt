@@ -1,10 +1,12 @@
 //! Names of fragments.
 
-ghost use Rattle.std.specs.Prelude.{◌≡◌, IfOk};
+ghost use Rattle.std.specs.Prelude.{◌≡◌, IfOk, Some};
+ghost use Rattle.terms.specs.Leaf.{leaf_text};
 
 use crate::copy::TryCopy;
 use crate::memory::Memory;
 use crate::text::Text;
+use std::fmt;
 
 /// A leaf of a relation's fragment tree, by the relation's name and the leaf's number from 1.
 #[derive(Debug, Drop, PartialEq, Eq, PartialOrd, Ord)]
@@ -19,5 +21,13 @@ impl TryCopy for Leaf {
             relation: self.relation.copy()?,
             number: self.number,
         })
+    }
+}
+
+impl fmt::Display for Leaf {
+    ghost output = { λ leaf. Some (leaf_text leaf) };
+
+    fn fmt<W: fmt::Write>(&self, f: &mut fmt::Formatter<W>) -> fmt::Result {
+        write!(f, "{}.{}", self.relation, self.number)
     }
 }
