@@ -8,7 +8,6 @@ use terms::value::Value as CellValue;
 mod limits;
 mod placed;
 
-
 /// Two relations: one split by columns and then by rows, the other by rows.
 const EMP_AND_DEPT: &str = "sites = [\"north\", \"south\"]
 
