@@ -161,10 +161,16 @@ fn refuses_documents_by_rule(rt: HostRuntime) {
         ("sites = ['S']\nrelations.t = 5", "2 Field"),
         ("sites = ['desk']\nrelations.t = {}", "3 Name"),
         ("sites = ['s', 's', 'S']\nrelations.t = {}", "4 Twice"),
+        ("sites = ['s', 'S', 's']\nrelations.t = {}", "3 Name"),
+        ("sites = ['S']\nrelations = {}", "3 Name"),
         ("sites = ['s']\nrelations = {}", "2 Field"),
         (
             "sites = ['s']\nrelations.T = {}\nrelations.u = {}",
             "3 Name T",
+        ),
+        (
+            "sites = ['s']\nrelations.u = {}\nrelations.t = { columns = ['id text'] }",
+            "6 KeyType t",
         ),
         ("sites = ['s']\nrelations.t = {}", "2 Field t"),
         (
@@ -216,6 +222,34 @@ fn refuses_nodes_by_rule(rt: HostRuntime) -> Result<(), Fail> {
         ),
         ("rows = [{ where = 'b = 1', site = 's' }]", "10 Type t"),
         (
+            "rows = [{ where = 'b = 1 AND c = 1', site = 's' }]",
+            "10 Type t",
+        ),
+        (
+            "rows = [{ where = 'c = 1 AND b = 1', site = 's' }]",
+            "9 ColumnAbsent t",
+        ),
+        (
+            "rows = [{ where = 'a < 0', site = 's' }, { where = 'b = 1', site = 's' }]",
+            "10 Type t",
+        ),
+        (
+            "rows = [{ where = 'a < 0', site = 'north' }]",
+            "11 Gap t a=0",
+        ),
+        (
+            "rows = [{ where = 'a <= 5', site = 'north' }, { where = 'a >= 5 AND a < 9', site = 's' }]",
+            "12 Overlap t a=5",
+        ),
+        (
+            "rows = [{ where = 'a < 5', site = 's' }, { where = 'a >= 6 AND a > 3', rows = [] }]",
+            "11 Gap t a=5",
+        ),
+        (
+            "rows = [{ where = 'a < 5', cols = [] }, { where = 'a >= 5', site = 'north' }]",
+            "2 Field t",
+        ),
+        (
             "rows = [{ where = 'a = 9223372036854775808', site = 's' }]",
             "13 Limit t",
         ),
@@ -238,7 +272,16 @@ fn refuses_nodes_by_rule(rt: HostRuntime) -> Result<(), Fail> {
             "cols = [{ of = ['a'], site = 's' }, { of = ['a', 'b'], site = 's' }]",
             "7 ColumnTwice t",
         ),
+        (
+            "cols = [{ of = ['c'], site = 's' }, { of = ['a', 'a'], site = 's' }]",
+            "9 ColumnAbsent t",
+        ),
+        (
+            "cols = [{ of = ['a', 'a'], site = 'north' }]",
+            "7 ColumnTwice t",
+        ),
         ("cols = [{ of = ['a'], site = 's' }]", "8 ColumnLost t"),
+        ("cols = [{ of = ['a'], site = 'north' }]", "8 ColumnLost t"),
         (
             "cols = [{ of = ['a'], site = 's' }, { of = ['b'], rows = [{ where = 'a = 1', site = 's' }] }]",
             "9 ColumnAbsent t",
