@@ -7,8 +7,11 @@ use Rattle.toml.specs.declared.value.Value.{Value}
 use Rattle.catalog.specs.declared.fault.Rule.{Rule}
 use Rattle.catalog.specs.declared.fault.Rule.TheVariants.{Toml, Field, Name, Twice, NoSite, KeyType, ColumnTwice, ColumnLost, ColumnAbsent, WrongType, Gap, Overlap, Limit, Memory}
 use Rattle.catalog.specs.Catalogue.{Catalogue, SplitRelation, IsRelationIn, IsDocumentOf, IsCatalogueText, document_parts, entries}
-use Rattle.catalog.specs.Describes.{Each}
-use Rattle.catalog.specs.Document.{RefusesDocument, RefusesRelations, RefusesRoot, RefusesText, ShowsOr, IsOfNone, are_tables}
+use Rattle.catalog.specs.Describes.{Frame, Each}
+use Rattle.terms.specs.declared.cond.Cond.{Cond}
+use Rattle.catalog.specs.declared.fault.Cell.{Cell}
+use Rattle.catalog.specs.Document.{RefusesDocument, RefusesRelations, RefusesRoot, RefusesText, ShowsInDocument, ShowsInText, ShowsOr, IsShown, IsOfNone, IsOfNoneValid, are_tables}
+use Rattle.catalog.specs.Refuses.{IsGapOf, IsOverlapOf}
 use Rattle.catalog.specs.Node.{texts_at}
 use Rattle.catalog.specs.Sites.{AreSites, RefusesSites}
 
@@ -56,10 +59,77 @@ shows_also ColumnAbsent valid any h = any h
 shows_also WrongType valid any h = any h
 shows_also Limit valid any h = any h
 
+-- what a document is refused by says so of the text
+loosened : (root : Data) (told : Option (List ℕ)) (rule : Rule) → RefusesRoot root told rule → ShowsOr (IsOfNoneValid root) (IsOfNone root) rule
+loosened root told Memory h = tt
+loosened root told (Gap cell) h = loose h.0 h.1
+  where
+    loose : ShowsInDocument IsGapOf root told cell → IsOfNoneValid root → ShowsOr (IsOfNoneValid root) (IsOfNone root) (Gap cell)
+    loose shown none = (shown.0, shown.3.3.0, (shown.3.3.2, shown.3.3.3, shown.3.3.4), none)
+loosened root told (Overlap cell) h = loose h.0 h.1
+  where
+    loose : ShowsInDocument IsOverlapOf root told cell → IsOfNoneValid root → ShowsOr (IsOfNoneValid root) (IsOfNone root) (Overlap cell)
+    loose shown none = (shown.0, shown.3.3.0, (shown.3.3.2, shown.3.3.3, shown.3.3.4), none)
+loosened root told Toml h = h
+loosened root told Field h = h
+loosened root told Name h = h
+loosened root told Twice h = h
+loosened root told NoSite h = h
+loosened root told KeyType h = h
+loosened root told ColumnTwice h = h
+loosened root told ColumnLost h = h
+loosened root told ColumnAbsent h = h
+loosened root told WrongType h = h
+loosened root told Limit h = h
+
 -- a refusal of the document is one of the text
-pub refuses_root : (text : List ℕ) (root : Data) (rule : Rule) → as_table root ≡ parse_document text → RefusesRoot root rule → RefusesText text rule
-refuses_root text root rule parses h =
-    shows_also rule (λ none catalogue is valid. none catalogue (document_is text root catalogue parses is) valid) (λ none catalogue is. none catalogue (document_is text root catalogue parses is)) h
+pub refuses_root : (text : List ℕ) (root : Data) (told : Option (List ℕ)) (rule : Rule) → as_table root ≡ parse_document text → RefusesRoot root told rule → RefusesText text rule
+refuses_root text root told rule parses h =
+    shows_also rule (λ none catalogue is valid. none catalogue (document_is text root catalogue parses is) valid) (λ none catalogue is. none catalogue (document_is text root catalogue parses is))
+    (loosened root told rule h)
+
+-- what is shown in the document of a text is shown in the text
+shown_in : (shows : Frame → List Cond → List (List Cond) → Cell → Type 0) (text : List ℕ) (root : Data) (told : Option (List ℕ)) (cell : Cell) → as_table root ≡ parse_document text → ShowsInDocument shows root told cell → ShowsInText shows text told cell
+shown_in shows text (table document) told cell parses shown = (document, sym parses, shown)
+shown_in shows text (string s) told cell parses shown = absurd (let parts = shown.2 in cc)
+shown_in shows text (integer z) told cell parses shown = absurd (let parts = shown.2 in cc)
+shown_in shows text (float x) told cell parses shown = absurd (let parts = shown.2 in cc)
+shown_in shows text (boolean b) told cell parses shown = absurd (let parts = shown.2 in cc)
+shown_in shows text (datetime dt) told cell parses shown = absurd (let parts = shown.2 in cc)
+shown_in shows text (array items) told cell parses shown = absurd (let parts = shown.2 in cc)
+
+pub shown_root : (text : List ℕ) (root : Data) (told : Option (List ℕ)) (rule : Rule) → as_table root ≡ parse_document text → RefusesRoot root told rule → IsShown text told rule
+shown_root text root told Memory parses h = tt
+shown_root text root told (Gap cell) parses h = shown_in IsGapOf text root told cell parses h.0
+shown_root text root told (Overlap cell) parses h = shown_in IsOverlapOf text root told cell parses h.0
+shown_root text root told Toml parses h = tt
+shown_root text root told Field parses h = tt
+shown_root text root told Name parses h = tt
+shown_root text root told Twice parses h = tt
+shown_root text root told NoSite parses h = tt
+shown_root text root told KeyType parses h = tt
+shown_root text root told ColumnTwice parses h = tt
+shown_root text root told ColumnLost parses h = tt
+shown_root text root told ColumnAbsent parses h = tt
+shown_root text root told WrongType parses h = tt
+shown_root text root told Limit parses h = tt
+
+-- where there is no document, nothing is to be shown
+pub shown_of_none : (text : List ℕ) (told : Option (List ℕ)) (rule : Rule) → RefusesDocument text rule → IsShown text told rule
+shown_of_none text told (Gap cell) h = absurd h
+shown_of_none text told (Overlap cell) h = absurd h
+shown_of_none text told Memory h = tt
+shown_of_none text told Toml h = tt
+shown_of_none text told Field h = tt
+shown_of_none text told Name h = tt
+shown_of_none text told Twice h = tt
+shown_of_none text told NoSite h = tt
+shown_of_none text told KeyType h = tt
+shown_of_none text told ColumnTwice h = tt
+shown_of_none text told ColumnLost h = tt
+shown_of_none text told ColumnAbsent h = tt
+shown_of_none text told WrongType h = tt
+shown_of_none text told Limit h = tt
 
 no_document : (text : List ℕ) → parse_document text ≡ None → (catalogue : Catalogue) → IsCatalogueText text catalogue → ⊥
 no_document text none catalogue is = let some = is.parses in cc
@@ -124,21 +194,21 @@ no_sites root sites members parts none catalogue is =
     let P : List (List ℕ) → Type 0 = AreSites in
     none (subst P same.0 (record { names = is.site_names; distinct = is.distinct; few = is.few_sites }))
 
-pub refuses_sites : (root : Data) (sites : List (List ℕ)) (members : Members) (rule : Rule) → Some (sites, members) ≡ document_parts root → RefusesSites sites rule → RefusesRoot root rule
-refuses_sites root sites said Memory parts h = tt
-refuses_sites root sites said (Gap cell) parts h = absurd h
-refuses_sites root sites said (Overlap cell) parts h = absurd h
-refuses_sites root sites said Toml parts h = no_sites root sites said parts h
-refuses_sites root sites said Field parts h = no_sites root sites said parts h
-refuses_sites root sites said Name parts h = no_sites root sites said parts h
-refuses_sites root sites said Twice parts h = no_sites root sites said parts h
-refuses_sites root sites said NoSite parts h = no_sites root sites said parts h
-refuses_sites root sites said KeyType parts h = no_sites root sites said parts h
-refuses_sites root sites said ColumnTwice parts h = no_sites root sites said parts h
-refuses_sites root sites said ColumnLost parts h = no_sites root sites said parts h
-refuses_sites root sites said ColumnAbsent parts h = no_sites root sites said parts h
-refuses_sites root sites said WrongType parts h = no_sites root sites said parts h
-refuses_sites root sites said Limit parts h = no_sites root sites said parts h
+pub refuses_sites : (root : Data) (sites : List (List ℕ)) (members : Members) (told : Option (List ℕ)) (rule : Rule) → Some (sites, members) ≡ document_parts root → RefusesSites sites rule → RefusesRoot root told rule
+refuses_sites root sites said told Memory parts h = tt
+refuses_sites root sites said told (Gap cell) parts h = absurd h
+refuses_sites root sites said told (Overlap cell) parts h = absurd h
+refuses_sites root sites said told Toml parts h = no_sites root sites said parts h
+refuses_sites root sites said told Field parts h = no_sites root sites said parts h
+refuses_sites root sites said told Name parts h = no_sites root sites said parts h
+refuses_sites root sites said told Twice parts h = no_sites root sites said parts h
+refuses_sites root sites said told NoSite parts h = no_sites root sites said parts h
+refuses_sites root sites said told KeyType parts h = no_sites root sites said parts h
+refuses_sites root sites said told ColumnTwice parts h = no_sites root sites said parts h
+refuses_sites root sites said told ColumnLost parts h = no_sites root sites said parts h
+refuses_sites root sites said told ColumnAbsent parts h = no_sites root sites said parts h
+refuses_sites root sites said told WrongType parts h = no_sites root sites said parts h
+refuses_sites root sites said told Limit parts h = no_sites root sites said parts h
 
 -- as many relations as entries
 pub each_count : {A B : Type 0} (R : A → B → Type 0) (xs : List A) (ys : List B) → Each R xs ys → length xs ≡ length ys
@@ -174,21 +244,21 @@ relations_of root sites members parts catalogue is =
     let Q : Members → Type 0 = λ ms. Each (IsRelationIn sites) (entries ms) catalogue.relations in
     subst Q same.1 (subst P same.0 is.relations)
 
-pub refuses_relations : (root : Data) (sites : List (List ℕ)) (members : Members) (rule : Rule) → Some (sites, members) ≡ document_parts root → RefusesRelations sites (entries members) rule → RefusesRoot root rule
-refuses_relations root sites said Memory parts h = tt
-refuses_relations root sites said (Gap cell) parts h = (sites, h.0, h.1, λ catalogue is valid. h.2 catalogue.relations (relations_of root sites said parts catalogue is) valid)
-refuses_relations root sites said (Overlap cell) parts h = (sites, h.0, h.1, λ catalogue is valid. h.2 catalogue.relations (relations_of root sites said parts catalogue is) valid)
-refuses_relations root sites said Toml parts h = λ catalogue is. h catalogue.relations (relations_of root sites said parts catalogue is)
-refuses_relations root sites said Field parts h = λ catalogue is. h catalogue.relations (relations_of root sites said parts catalogue is)
-refuses_relations root sites said Name parts h = λ catalogue is. h catalogue.relations (relations_of root sites said parts catalogue is)
-refuses_relations root sites said Twice parts h = λ catalogue is. h catalogue.relations (relations_of root sites said parts catalogue is)
-refuses_relations root sites said NoSite parts h = λ catalogue is. h catalogue.relations (relations_of root sites said parts catalogue is)
-refuses_relations root sites said KeyType parts h = λ catalogue is. h catalogue.relations (relations_of root sites said parts catalogue is)
-refuses_relations root sites said ColumnTwice parts h = λ catalogue is. h catalogue.relations (relations_of root sites said parts catalogue is)
-refuses_relations root sites said ColumnLost parts h = λ catalogue is. h catalogue.relations (relations_of root sites said parts catalogue is)
-refuses_relations root sites said ColumnAbsent parts h = λ catalogue is. h catalogue.relations (relations_of root sites said parts catalogue is)
-refuses_relations root sites said WrongType parts h = λ catalogue is. h catalogue.relations (relations_of root sites said parts catalogue is)
-refuses_relations root sites said Limit parts h = λ catalogue is. h catalogue.relations (relations_of root sites said parts catalogue is)
+pub refuses_relations : (root : Data) (sites : List (List ℕ)) (members : Members) (told : Option (List ℕ)) (rule : Rule) → Some (sites, members) ≡ document_parts root → RefusesRelations sites (entries members) told rule → RefusesRoot root told rule
+refuses_relations root sites said told Memory parts h = tt
+refuses_relations root sites said told (Gap cell) parts h = ((sites, said, sym parts, h.0), λ catalogue is valid. h.1 catalogue.relations (relations_of root sites said parts catalogue is) valid)
+refuses_relations root sites said told (Overlap cell) parts h = ((sites, said, sym parts, h.0), λ catalogue is valid. h.1 catalogue.relations (relations_of root sites said parts catalogue is) valid)
+refuses_relations root sites said told Toml parts h = λ catalogue is. h catalogue.relations (relations_of root sites said parts catalogue is)
+refuses_relations root sites said told Field parts h = λ catalogue is. h catalogue.relations (relations_of root sites said parts catalogue is)
+refuses_relations root sites said told Name parts h = λ catalogue is. h catalogue.relations (relations_of root sites said parts catalogue is)
+refuses_relations root sites said told Twice parts h = λ catalogue is. h catalogue.relations (relations_of root sites said parts catalogue is)
+refuses_relations root sites said told NoSite parts h = λ catalogue is. h catalogue.relations (relations_of root sites said parts catalogue is)
+refuses_relations root sites said told KeyType parts h = λ catalogue is. h catalogue.relations (relations_of root sites said parts catalogue is)
+refuses_relations root sites said told ColumnTwice parts h = λ catalogue is. h catalogue.relations (relations_of root sites said parts catalogue is)
+refuses_relations root sites said told ColumnLost parts h = λ catalogue is. h catalogue.relations (relations_of root sites said parts catalogue is)
+refuses_relations root sites said told ColumnAbsent parts h = λ catalogue is. h catalogue.relations (relations_of root sites said parts catalogue is)
+refuses_relations root sites said told WrongType parts h = λ catalogue is. h catalogue.relations (relations_of root sites said parts catalogue is)
+refuses_relations root sites said told Limit parts h = λ catalogue is. h catalogue.relations (relations_of root sites said parts catalogue is)
 
 -- ---- whether all values are tables
 

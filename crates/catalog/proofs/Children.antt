@@ -9,10 +9,12 @@ use Rattle.catalog.specs.Describes.{Frame, kinds_in, Each, Describes, AreBranche
 use Rattle.catalog.specs.Path.{paths, paths_by_rows, paths_by_cols, branch_conds, group_columns}
 use Rattle.catalog.specs.Refuses.{Refuses, NoneIsValid, NoneIsDescribed}
 use Rattle.catalog.specs.Split.{Tree, Branches, NoBranch, Branch, Groups, NoGroup, Group, TreeBranch, TreeGroup, branches_of, groups_of}
+use Rattle.catalog.specs.Stands.{StandsAt, StandsInBranches, StandsInGroups}
 use Rattle.catalog.specs.Valid.{IsValidWithin, AreValidBranches, AreValidGroups}
 use Rattle.catalog.proofs.Below.{IsBranch, IsGroup}
 use Rattle.catalog.proofs.Leaves.{rows_first, cols_first, one_count}
 use Rattle.catalog.proofs.Refusals.{refuses_map}
+use Rattle.catalog.proofs.Standing.{stands_in_branch, stands_in_group}
 
 -- the tree of a branch of these conditions, behind branches with so many leaves
 pub record RowAt (frame : Frame) (splits : ℕ) (way : List Cond) (within : List ℕ) (node : Data) (conds : List Cond) (before : ℕ) (branches : Branches) : Type 0 where
@@ -52,16 +54,24 @@ row_at {A} frame splits way within view nodes i d x conds e c so_far branches is
 
 pub branches_refused : {A : Type 0} (frame : Frame) (splits : ℕ) (way : List Cond) (within : List ℕ) (view : A → Data) (nodes : List A) (i : ℕ) (d x : A) (conds : List (List Cond)) (e c : List Cond) (so_far : List TreeBranch) (before now : ℕ) (rule : Rule) →
     x ≡ get_or nodes i d → c ≡ get_or conds i e → i < length nodes → Each (IsBranch frame splits way within) (map view (take i nodes)) so_far →
-    now ≡ before + length (paths_by_rows (branches_of so_far)) → Refuses frame splits (way ++ c) within (codes "where") (view x) now rule →
+    now ≡ before + length (paths_by_rows (branches_of so_far)) → i < length conds → Refuses frame splits (way ++ c) within (codes "where") (view x) now rule →
     RefusesBranches frame splits way within (map view nodes) conds before rule
-branches_refused frame splits way within view nodes i d x conds e c so_far before now rule is here inside each count =
-    refuses_map frame (NoneIsValid frame splits (way ++ c) within (codes "where") (view x)) (NoneIsDescribed frame splits (way ++ c) within (codes "where") (view x) now)
-    ((branches : Branches) → branch_conds branches ≡ conds → AreBranches frame splits way within (map view nodes) branches → AreValidBranches (kinds_in frame) way within branches → ⊥)
+branches_refused {A} frame splits way within view nodes i d x conds e c so_far before now rule is here inside each count among =
+    let P : List Cond → List (List Cond) → A → Type 0 = λ to split y. StandsAt frame splits (way ++ c) within (codes "where") (view y) to split in
+    let Q : List Cond → List (List Cond) → List Cond → Type 0 = λ to split own. StandsAt frame splits (way ++ own) within (codes "where") (view (get_or nodes i d)) to split in
+    refuses_map frame
+    (λ to split. StandsAt frame splits (way ++ c) within (codes "where") (view x) to split × NoneIsValid frame splits (way ++ c) within (codes "where") (view x))
+    (λ to split. StandsInBranches frame splits way within (map view nodes) conds to split
+    × ((branches : Branches) → branch_conds branches ≡ conds → AreBranches frame splits way within (map view nodes) branches → AreValidBranches (kinds_in frame) way within branches → ⊥))
+    (NoneIsDescribed frame splits (way ++ c) within (codes "where") (view x) now)
     ((branches : Branches) → branch_conds branches ≡ conds → AreBranches frame splits way within (map view nodes) branches → before + length (paths_by_rows branches) ≤ 32 → ⊥)
     rule
-    (λ none branches all are valid.
-    let at = row_at frame splits way within view nodes i d x conds e c so_far branches is here inside each all are in
-    none at.tree at.described (at.valid valid))
+    (λ to split none. (
+      stands_in_branch frame splits way within view nodes conds i d e to split inside among (subst (Q to split) here (subst (P to split) is none.0)),
+      λ branches all are valid.
+      let at = row_at frame splits way within view nodes i d x conds e c so_far branches is here inside each all are in
+      none.1 at.tree at.described (at.valid valid),
+    ))
     (λ none branches all are few.
     let at = row_at frame splits way within view nodes i d x conds e c so_far branches is here inside each all are in
     let most = at.counted in
@@ -105,16 +115,24 @@ col_at {A} frame splits way view nodes i d x order named e c so_far groups is he
 
 pub groups_refused : {A : Type 0} (frame : Frame) (splits : ℕ) (way : List Cond) (view : A → Data) (nodes : List A) (i : ℕ) (d x : A) (order : List ℕ → List ℕ) (named : List (List ℕ)) (e c : List ℕ) (so_far : List TreeGroup) (before now : ℕ) (rule : Rule) →
     x ≡ get_or nodes i d → c ≡ get_or (map order named) i e → i < length nodes → Each (IsGroup frame splits way) (map view (take i nodes)) so_far →
-    now ≡ before + length (paths_by_cols [] (groups_of so_far)) → Refuses frame splits way c (codes "of") (view x) now rule →
+    now ≡ before + length (paths_by_cols [] (groups_of so_far)) → i < length (map order named) → Refuses frame splits way c (codes "of") (view x) now rule →
     RefusesGroups frame splits way (map view nodes) (map order named) before rule
-groups_refused frame splits way view nodes i d x order named e c so_far before now rule is here inside each count =
-    refuses_map frame (NoneIsValid frame splits way c (codes "of") (view x)) (NoneIsDescribed frame splits way c (codes "of") (view x) now)
-    ((groups : Groups) → group_columns groups ≡ map order named → AreGroups frame splits way (map view nodes) groups → AreValidGroups (kinds_in frame) way groups → ⊥)
+groups_refused {A} frame splits way view nodes i d x order named e c so_far before now rule is here inside each count among =
+    let P : List Cond → List (List Cond) → A → Type 0 = λ to split y. StandsAt frame splits way c (codes "of") (view y) to split in
+    let Q : List Cond → List (List Cond) → List ℕ → Type 0 = λ to split own. StandsAt frame splits way own (codes "of") (view (get_or nodes i d)) to split in
+    refuses_map frame
+    (λ to split. StandsAt frame splits way c (codes "of") (view x) to split × NoneIsValid frame splits way c (codes "of") (view x))
+    (λ to split. StandsInGroups frame splits way (map view nodes) (map order named) to split
+    × ((groups : Groups) → group_columns groups ≡ map order named → AreGroups frame splits way (map view nodes) groups → AreValidGroups (kinds_in frame) way groups → ⊥))
+    (NoneIsDescribed frame splits way c (codes "of") (view x) now)
     ((groups : Groups) → group_columns groups ≡ map order named → AreGroups frame splits way (map view nodes) groups → before + length (paths_by_cols [] groups) ≤ 32 → ⊥)
     rule
-    (λ none groups all are valid.
-    let at = col_at frame splits way view nodes i d x order named e c so_far groups is here inside each all are in
-    none at.tree at.described (at.valid valid))
+    (λ to split none. (
+      stands_in_group frame splits way view nodes (map order named) i d e to split inside among (subst (Q to split) here (subst (P to split) is none.0)),
+      λ groups all are valid.
+      let at = col_at frame splits way view nodes i d x order named e c so_far groups is here inside each all are in
+      none.1 at.tree at.described (at.valid valid),
+    ))
     (λ none groups all are few.
     let at = col_at frame splits way view nodes i d x order named e c so_far groups is here inside each all are in
     let most = at.counted in

@@ -1,5 +1,6 @@
 -- The relations of a table, one after another.
-use Rattle.std.proofs.Common.{◌≡◌, List, [], ◌∷◌, ◌++◌, ℕ, refl, ap, sym, subst, String, Global, string_bytes, ◌⊎◌, inl, inr}
+use Rattle.std.proofs.Common.{◌≡◌, List, [], ◌∷◌, ◌++◌, ℕ, suc, Option, Some, refl, ap, sym, subst, String, Global, string_bytes, ◌⊎◌, inl, inr, arith}
+use Rattle.std.specs.Prelude.{Contains}
 use Rattle.std.specs.List.{AllByRecursion}
 use Rattle.toml.specs.Data.{Data}
 use Rattle.toml.specs.View.{view, members_view}
@@ -43,11 +44,16 @@ none_passes R P [] more x none (y ∷ ys) each all = none y each.0 all.0
 none_passes R P (w ∷ xs) more x none [] each all = each
 none_passes R P (w ∷ xs) more x none (y ∷ ys) each all = none_passes R P xs more x none ys each.1 all.1
 
+-- an item stands between those before and behind it
+stands_among : {A : Type 0} (before more : List A) (x : A) → Contains (before ++ x ∷ more) x
+stands_among [] more x = (0, omega arith, refl)
+stands_among (y ∷ before) more x = let rest = stands_among before more x in (suc rest.0, omega (arith, rest.1), rest.2)
+
 -- a refusal of one relation is one of all
-pub refuses_all : (sites : List (List ℕ)) (before more : List (List ℕ × Data)) (entry : List ℕ × Data) (rule : Rule) → RefusesRelation sites entry rule → RefusesRelations sites (before ++ entry ∷ more) rule
+pub refuses_all : (sites : List (List ℕ)) (before more : List (List ℕ × Data)) (entry : List ℕ × Data) (rule : Rule) → RefusesRelation sites entry rule → RefusesRelations sites (before ++ entry ∷ more) (Some entry.0) rule
 refuses_all sites before more entry Memory h = tt
-refuses_all sites before more entry (Gap cell) h = (h.0, h.1, none_passes (IsRelationIn sites) IsValidRelation before more entry h.2)
-refuses_all sites before more entry (Overlap cell) h = (h.0, h.1, none_passes (IsRelationIn sites) IsValidRelation before more entry h.2)
+refuses_all sites before more entry (Gap cell) h = ((entry, stands_among before more entry, refl, h.0), none_passes (IsRelationIn sites) IsValidRelation before more entry h.1)
+refuses_all sites before more entry (Overlap cell) h = ((entry, stands_among before more entry, refl, h.0), none_passes (IsRelationIn sites) IsValidRelation before more entry h.1)
 refuses_all sites before more entry Toml h = none_at (IsRelationIn sites) before more entry h
 refuses_all sites before more entry Field h = none_at (IsRelationIn sites) before more entry h
 refuses_all sites before more entry Name h = none_at (IsRelationIn sites) before more entry h
@@ -60,7 +66,11 @@ refuses_all sites before more entry ColumnAbsent h = none_at (IsRelationIn sites
 refuses_all sites before more entry WrongType h = none_at (IsRelationIn sites) before more entry h
 refuses_all sites before more entry Limit h = none_at (IsRelationIn sites) before more entry h
 
--- the same rule, or want of memory
-pub same_or_memory : (sites : List (List ℕ)) (said : List (List ℕ × Data)) (rule told : Rule) → (told ≡ rule) ⊎ (told ≡ Memory) → RefusesRelations sites said rule → RefusesRelations sites said told
-same_or_memory sites said rule told (inl same) h = let P : Rule → Type 0 = RefusesRelations sites said in subst P (sym same) h
-same_or_memory sites said rule told (inr memory) h = let P : Rule → Type 0 = RefusesRelations sites said in subst P (sym memory) tt
+-- the same rule of the same relation, or want of memory
+pub same_or_memory : (sites : List (List ℕ)) (said : List (List ℕ × Data)) (name : List ℕ) (rule : Rule) (told : Option (List ℕ)) (answered : Rule) →
+    ((answered ≡ rule) × (told ≡ Some name)) ⊎ (answered ≡ Memory) → RefusesRelations sites said (Some name) rule → RefusesRelations sites said told answered
+same_or_memory sites said name rule told answered (inl same) h =
+    let P : Option (List ℕ) → Type 0 = λ one. RefusesRelations sites said one rule in
+    let Q : Rule → Type 0 = RefusesRelations sites said told in
+    subst Q (sym same.0) (subst P (sym same.1) h)
+same_or_memory sites said name rule told answered (inr memory) h = let Q : Rule → Type 0 = RefusesRelations sites said told in subst Q (sym memory) tt

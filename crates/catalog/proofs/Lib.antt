@@ -13,6 +13,7 @@ pub mod Pairs
 pub mod BranchConds
 pub mod Splits
 pub mod Ordered
+pub mod Standing
 pub mod Refusals
 pub mod Children
 pub mod Leaves

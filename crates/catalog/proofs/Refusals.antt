@@ -1,5 +1,5 @@
 -- Refusals of the nodes of a document, handed on from what is below a node to the node.
-use Rattle.std.proofs.Common.{ℕ, List}
+use Rattle.std.proofs.Common.{◌≡◌, ℕ, List, refl}
 use Rattle.toml.specs.Data.{Data}
 use Rattle.terms.specs.declared.cond.Cond.{Cond}
 use Rattle.meaning.specs.declared.schema.Column.{Column}
@@ -12,24 +12,25 @@ use Rattle.catalog.specs.Refuses.{RefusesBy, RefusesConds, RefusesSplit, Refuses
 use Rattle.catalog.specs.Valid.{AreExact}
 
 -- what follows from what a refusal says is said by a refusal too
-pub refuses_map : (frame : Frame) (this that these those : Type 0) (rule : Rule) → (this → these) → (that → those) → RefusesBy frame this that rule → RefusesBy frame these those rule
-refuses_map frame this that these those Memory f g r = tt
-refuses_map frame this that these those (Gap cell) f g r = (r.0, f r.1)
-refuses_map frame this that these those (Overlap cell) f g r = (r.0, f r.1)
-refuses_map frame this that these those Toml f g r = g r
-refuses_map frame this that these those Field f g r = g r
-refuses_map frame this that these those Name f g r = g r
-refuses_map frame this that these those Twice f g r = g r
-refuses_map frame this that these those NoSite f g r = g r
-refuses_map frame this that these those KeyType f g r = g r
-refuses_map frame this that these those ColumnTwice f g r = g r
-refuses_map frame this that these those ColumnLost f g r = g r
-refuses_map frame this that these those ColumnAbsent f g r = g r
-refuses_map frame this that these those WrongType f g r = g r
-refuses_map frame this that these those Limit f g r = g r
+pub refuses_map : (frame : Frame) (this these : List Cond → List (List Cond) → Type 0) (that those : Type 0) (rule : Rule) →
+    ((to : List Cond) (split : List (List Cond)) → this to split → these to split) → (that → those) → RefusesBy frame this that rule → RefusesBy frame these those rule
+refuses_map frame this these that those Memory f g r = tt
+refuses_map frame this these that those (Gap cell) f g r = (r.0, r.1, r.2, f r.0 r.1 r.3)
+refuses_map frame this these that those (Overlap cell) f g r = (r.0, r.1, r.2, f r.0 r.1 r.3)
+refuses_map frame this these that those Toml f g r = g r
+refuses_map frame this these that those Field f g r = g r
+refuses_map frame this these that those Name f g r = g r
+refuses_map frame this these that those Twice f g r = g r
+refuses_map frame this these that those NoSite f g r = g r
+refuses_map frame this these that those KeyType f g r = g r
+refuses_map frame this these that those ColumnTwice f g r = g r
+refuses_map frame this these that those ColumnLost f g r = g r
+refuses_map frame this these that those ColumnAbsent f g r = g r
+refuses_map frame this these that those WrongType f g r = g r
+refuses_map frame this these that those Limit f g r = g r
 
 pub conds_refused : (frame : Frame) (columns : List Column) (nodes : List Data) (rule : Rule) → RefusesConds columns nodes rule →
-    RefusesBy frame ⊥ ((branches : List (List Cond)) → Each (IsWhereOn columns) nodes branches → ⊥) rule
+    RefusesBy frame (λ to split. ⊥) ((branches : List (List Cond)) → Each (IsWhereOn columns) nodes branches → ⊥) rule
 conds_refused frame columns nodes Memory r = tt
 conds_refused frame columns nodes (Gap cell) r = absurd r
 conds_refused frame columns nodes (Overlap cell) r = absurd r
@@ -46,7 +47,7 @@ conds_refused frame columns nodes WrongType r = r
 conds_refused frame columns nodes Limit r = r
 
 pub named_refused : (frame : Frame) (within : List ℕ) (nodes : List Data) (rule : Rule) → RefusesNamed frame within nodes rule →
-    RefusesBy frame ⊥ ((groups : List (List ℕ)) → AreNamedIn frame within nodes groups → ⊥) rule
+    RefusesBy frame (λ to split. ⊥) ((groups : List (List ℕ)) → AreNamedIn frame within nodes groups → ⊥) rule
 named_refused frame within nodes Memory r = tt
 named_refused frame within nodes (Gap cell) r = absurd r
 named_refused frame within nodes (Overlap cell) r = absurd r
@@ -69,10 +70,10 @@ not_exact law frame way branches cell found exact =
     fault.not_one (exact cell.row fault.fits fault.holds)
 
 pub split_refused : CellsDecide → (frame : Frame) (way : List Cond) (branches : List (List Cond)) (rule : Rule) → RefusesSplit frame way branches rule →
-    RefusesBy frame (AreExact (kinds_in frame) way branches → ⊥) (HasFewCells (kinds_in frame) way branches → ⊥) rule
+    RefusesBy frame (λ to split. (to ≡ way) × (split ≡ branches) × (AreExact (kinds_in frame) way branches → ⊥)) (HasFewCells (kinds_in frame) way branches → ⊥) rule
 split_refused law frame way branches Memory r = tt
-split_refused law frame way branches (Gap cell) r = ((way, branches, r.0, r.1), not_exact law frame way branches cell r.0)
-split_refused law frame way branches (Overlap cell) r = ((way, branches, r.0, r.1), not_exact law frame way branches cell r.0)
+split_refused law frame way branches (Gap cell) r = (way, branches, r, (refl, refl, not_exact law frame way branches cell r.0))
+split_refused law frame way branches (Overlap cell) r = (way, branches, r, (refl, refl, not_exact law frame way branches cell r.0))
 split_refused law frame way branches Limit r = r
 split_refused law frame way branches Toml r = absurd r
 split_refused law frame way branches Field r = absurd r

@@ -49,8 +49,8 @@ none_valid sites entry texts columns there each none relation is valid =
 pub refuses_tree : (sites : List (List ℕ)) (entry : List ℕ × Data) (texts : List (List ℕ)) (columns : List Column) (rule : Rule) → texts_at (codes "columns") entry.1 ≡ Some texts → Each IsColumnText texts columns →
     Refuses (record { sites = sites; columns = columns }) 4 [] (columns_beside_key (map (λ column. column.kind) columns)) (codes "columns") entry.1 0 rule → RefusesRelation sites entry rule
 refuses_tree sites entry texts columns Memory there each h = tt
-refuses_tree sites entry texts columns (Gap cell) there each h = (columns, h.0, none_valid sites entry texts columns there each h.1)
-refuses_tree sites entry texts columns (Overlap cell) there each h = (columns, h.0, none_valid sites entry texts columns there each h.1)
+refuses_tree sites entry texts columns (Gap cell) there each h = ((columns, (texts, there, each), h.0, h.1, h.2, h.3.0), none_valid sites entry texts columns there each h.3.1)
+refuses_tree sites entry texts columns (Overlap cell) there each h = ((columns, (texts, there, each), h.0, h.1, h.2, h.3.0), none_valid sites entry texts columns there each h.3.1)
 refuses_tree sites entry texts columns Toml there each h = no_relation sites entry texts columns there each h
 refuses_tree sites entry texts columns Field there each h = no_relation sites entry texts columns there each h
 refuses_tree sites entry texts columns Name there each h = no_relation sites entry texts columns there each h

@@ -1,5 +1,5 @@
 -- What the reading of a split says of the node that is split.
-use Rattle.std.proofs.Common.{◌≡◌, ◌≤◌, ◌+◌, ℕ, zero, suc, List, [], Some, Ok, Err, Result, IfOk, IfErr, length, map, sym, ap, ◌∙◌, subst}
+use Rattle.std.proofs.Common.{◌≡◌, ◌≤◌, ◌+◌, ℕ, zero, suc, List, [], Some, Ok, Err, Result, IfOk, IfErr, length, map, sym, ap, ◌∙◌, subst, inr}
 use Rattle.toml.specs.Data.{Data}
 use Rattle.terms.specs.declared.cond.Cond.{Cond}
 use Rattle.meaning.specs.declared.schema.Column.{Column}
@@ -12,9 +12,11 @@ use Rattle.catalog.specs.Node.{AtSite, SplitByRows, SplitByCols, Ill, form_of}
 use Rattle.catalog.specs.Path.{paths, paths_by_rows, paths_by_cols, branch_conds, group_columns}
 use Rattle.catalog.specs.Refuses.{Refuses, NoneIsValid, NoneIsDescribed, RefusesConds, RefusesSplit, RefusesNamed}
 use Rattle.catalog.specs.Split.{Tree, Site, ByRows, ByCols, Branches, Groups}
+use Rattle.catalog.specs.Stands.{StandsAt, StandsInRows, StandsInBranches, StandsInCols, StandsInGroups}
 use Rattle.catalog.specs.Valid.{AreExact, IsValidWithin, AreValidBranches, AreValidGroups}
 use Rattle.catalog.proofs.Leaves.{one_rows, one_cols}
 use Rattle.catalog.proofs.Pairs.{each_one}
+use Rattle.catalog.proofs.Standing.{stands_here, stands_by_rows, stands_by_cols}
 use Rattle.catalog.proofs.Refusals.{refuses_map, conds_refused, named_refused, split_refused}
 
 -- what follows from an error's fact, and from two facts of a value
@@ -49,22 +51,27 @@ rows_few frame (suc splits) way within nodes branches rows = rows.1
 pub rows_no_conds : (frame : Frame) (splits : ℕ) (way : List Cond) (within : List ℕ) (nodes : List Data) (leaves : ℕ) (rule : Rule) →
     RefusesConds (visible within frame.columns) nodes rule → RefusesRows frame splits way within nodes leaves rule
 rows_no_conds frame splits way within nodes leaves rule refused =
-    refuses_map frame ⊥ ((branches : List (List Cond)) → Each (IsWhere frame within) nodes branches → ⊥)
-    ((branches : Branches) → AreRows frame splits way within nodes branches → IsValidWithin (kinds_in frame) way within (ByRows branches) → ⊥)
+    refuses_map frame (λ to split. ⊥)
+    (λ to split. StandsInRows frame splits way within nodes to split × ((branches : Branches) → AreRows frame splits way within nodes branches → IsValidWithin (kinds_in frame) way within (ByRows branches) → ⊥))
+    ((branches : List (List Cond)) → Each (IsWhere frame within) nodes branches → ⊥)
     ((branches : Branches) → AreRows frame splits way within nodes branches → leaves + length (paths_by_rows branches) ≤ 32 → ⊥)
-    rule (λ no. absurd no) (λ none branches rows few. none (branch_conds branches) (rows_each frame splits way within nodes branches rows))
+    rule (λ to split no. absurd no) (λ none branches rows few. none (branch_conds branches) (rows_each frame splits way within nodes branches rows))
     (conds_refused frame (visible within frame.columns) nodes rule refused)
 
-pub rows_no_split : OneListOfCondsOfText → CellsDecide → (frame : Frame) (splits : ℕ) (way : List Cond) (within : List ℕ) (nodes : List Data) (leaves : ℕ) (conds found : List (List Cond)) (rule : Rule) →
+pub rows_no_split : OneListOfCondsOfText → CellsDecide → (frame : Frame) (splits : ℕ) (way : List Cond) (within : List ℕ) (nodes : List Data) (leaves : ℕ) (conds found : List (List Cond)) (rule : Rule) → (less : ℕ) → splits ≡ suc less →
     conds ≡ found → Each (IsWhere frame within) nodes found → RefusesSplit frame way conds rule → RefusesRows frame splits way within nodes leaves rule
-rows_no_split law cells frame splits way within nodes leaves conds found rule is each refused =
+rows_no_split law cells frame splits way within nodes leaves conds found rule less more is each refused =
     let same : (branches : Branches) → AreRows frame splits way within nodes branches → branch_conds branches ≡ conds =
     λ branches rows. one_conds law frame within nodes (branch_conds branches) found (rows_each frame splits way within nodes branches rows) each ∙ sym is in
-    refuses_map frame (AreExact (kinds_in frame) way conds → ⊥) (HasFewCells (kinds_in frame) way conds → ⊥)
-    ((branches : Branches) → AreRows frame splits way within nodes branches → IsValidWithin (kinds_in frame) way within (ByRows branches) → ⊥)
+    refuses_map frame (λ to split. (to ≡ way) × (split ≡ conds) × (AreExact (kinds_in frame) way conds → ⊥))
+    (λ to split. StandsInRows frame splits way within nodes to split × ((branches : Branches) → AreRows frame splits way within nodes branches → IsValidWithin (kinds_in frame) way within (ByRows branches) → ⊥))
+    (HasFewCells (kinds_in frame) way conds → ⊥)
     ((branches : Branches) → AreRows frame splits way within nodes branches → leaves + length (paths_by_rows branches) ≤ 32 → ⊥)
     rule
-    (λ no branches rows valid. let P : List (List Cond) → Type 0 = λ cs. AreExact (kinds_in frame) way cs in no (subst P (same branches rows) valid.0))
+    (λ to split no. (
+      stands_here frame splits less way within nodes conds found to split more is each no.0 no.1,
+      λ branches rows valid. let P : List (List Cond) → Type 0 = λ cs. AreExact (kinds_in frame) way cs in no.2 (subst P (same branches rows) valid.0),
+    ))
     (λ no branches rows few. let P : List (List Cond) → Type 0 = λ cs. HasFewCells (kinds_in frame) way cs in no (subst P (same branches rows) (rows_few frame splits way within nodes branches rows)))
     (split_refused cells frame way conds rule refused)
 
@@ -73,13 +80,14 @@ rows_child : OneListOfCondsOfText → (frame : Frame) (splits : ℕ) (way : List
 rows_child law frame splits way within nodes leaves conds found is each rule refused =
     let same : (branches : Branches) → AreRows frame (suc splits) way within nodes branches → branch_conds branches ≡ conds =
     λ branches rows. one_conds law frame within nodes (branch_conds branches) found rows.0 each ∙ sym is in
+    let P : List (List Cond) → Type 0 = λ cs. Each (IsWhere frame within) nodes cs in
     refuses_map frame
-    ((branches : Branches) → branch_conds branches ≡ conds → AreBranches frame splits way within nodes branches → AreValidBranches (kinds_in frame) way within branches → ⊥)
+    (λ to split. StandsInBranches frame splits way within nodes conds to split × ((branches : Branches) → branch_conds branches ≡ conds → AreBranches frame splits way within nodes branches → AreValidBranches (kinds_in frame) way within branches → ⊥))
+    (λ to split. StandsInRows frame (suc splits) way within nodes to split × ((branches : Branches) → AreRows frame (suc splits) way within nodes branches → IsValidWithin (kinds_in frame) way within (ByRows branches) → ⊥))
     ((branches : Branches) → branch_conds branches ≡ conds → AreBranches frame splits way within nodes branches → leaves + length (paths_by_rows branches) ≤ 32 → ⊥)
-    ((branches : Branches) → AreRows frame (suc splits) way within nodes branches → IsValidWithin (kinds_in frame) way within (ByRows branches) → ⊥)
     ((branches : Branches) → AreRows frame (suc splits) way within nodes branches → leaves + length (paths_by_rows branches) ≤ 32 → ⊥)
     rule
-    (λ none branches rows valid. none branches (same branches rows) rows.2 valid.1)
+    (λ to split none. ((conds, subst P (sym is) each, inr none.0), λ branches rows valid. none.1 branches (same branches rows) rows.2 valid.1))
     (λ none branches rows few. none branches (same branches rows) rows.2 few)
     refused
 
@@ -96,10 +104,11 @@ cols_named frame (suc splits) way within nodes groups cols = (cols.0, cols.1)
 pub cols_no_names : (frame : Frame) (splits : ℕ) (way : List Cond) (within : List ℕ) (nodes : List Data) (leaves : ℕ) (rule : Rule) →
     RefusesNamed frame within nodes rule → RefusesCols frame splits way within nodes leaves rule
 cols_no_names frame splits way within nodes leaves rule refused =
-    refuses_map frame ⊥ ((groups : List (List ℕ)) → AreNamedIn frame within nodes groups → ⊥)
-    ((groups : Groups) → AreCols frame splits way within nodes groups → IsValidWithin (kinds_in frame) way within (ByCols groups) → ⊥)
+    refuses_map frame (λ to split. ⊥)
+    (λ to split. StandsInCols frame splits way within nodes to split × ((groups : Groups) → AreCols frame splits way within nodes groups → IsValidWithin (kinds_in frame) way within (ByCols groups) → ⊥))
+    ((groups : List (List ℕ)) → AreNamedIn frame within nodes groups → ⊥)
     ((groups : Groups) → AreCols frame splits way within nodes groups → leaves + length (paths_by_cols [] groups) ≤ 32 → ⊥)
-    rule (λ no. absurd no)
+    rule (λ to split no. absurd no)
     (λ none groups cols few. let there = cols_named frame splits way within nodes groups cols in none there.0 there.1)
     (named_refused frame within nodes rule refused)
 
@@ -111,13 +120,14 @@ cols_child : (frame : Frame) (splits : ℕ) (way : List Cond) (within : List ℕ
 cols_child frame splits way within nodes leaves named found is are rule refused =
     let same : (groups : Groups) → AreCols frame (suc splits) way within nodes groups → group_columns groups ≡ map (in_order within) named =
     λ groups cols. cols.2 ∙ ap (map (in_order within)) (one_names frame within nodes cols.0 found cols.1 are ∙ sym is) in
+    let P : List (List ℕ) → Type 0 = λ columns. AreNamedIn frame within nodes columns in
     refuses_map frame
-    ((groups : Groups) → group_columns groups ≡ map (in_order within) named → AreGroups frame splits way nodes groups → AreValidGroups (kinds_in frame) way groups → ⊥)
+    (λ to split. StandsInGroups frame splits way nodes (map (in_order within) named) to split × ((groups : Groups) → group_columns groups ≡ map (in_order within) named → AreGroups frame splits way nodes groups → AreValidGroups (kinds_in frame) way groups → ⊥))
+    (λ to split. StandsInCols frame (suc splits) way within nodes to split × ((groups : Groups) → AreCols frame (suc splits) way within nodes groups → IsValidWithin (kinds_in frame) way within (ByCols groups) → ⊥))
     ((groups : Groups) → group_columns groups ≡ map (in_order within) named → AreGroups frame splits way nodes groups → leaves + length (paths_by_cols [] groups) ≤ 32 → ⊥)
-    ((groups : Groups) → AreCols frame (suc splits) way within nodes groups → IsValidWithin (kinds_in frame) way within (ByCols groups) → ⊥)
     ((groups : Groups) → AreCols frame (suc splits) way within nodes groups → leaves + length (paths_by_cols [] groups) ≤ 32 → ⊥)
     rule
-    (λ none groups cols valid. none groups (same groups cols) cols.3 valid.1)
+    (λ to split none. ((named, subst P (sym is) are, none.0), λ groups cols valid. none.1 groups (same groups cols) cols.3 valid.1))
     (λ none groups cols few. none groups (same groups cols) cols.3 few)
     refused
 
@@ -176,9 +186,10 @@ none_ill frame (suc splits) way within beside node form (ByCols groups) d = let 
 pub site_refused : (frame : Frame) (splits : ℕ) (way : List Cond) (within : List ℕ) (beside : List ℕ) (node : Data) (leaves : ℕ) (name : List ℕ) → form_of beside node ≡ AtSite name →
     (rule : Rule) → RefusesSite frame name leaves rule → Refuses frame splits way within beside node leaves rule
 site_refused frame splits way within beside node leaves name form rule refused =
-    refuses_map frame ⊥ ((site : ℕ) → site_numbered frame.sites name ≡ Some site → leaves + 1 ≤ 32 → ⊥)
-    (NoneIsValid frame splits way within beside node) (NoneIsDescribed frame splits way within beside node leaves) rule
-    (λ no. absurd no)
+    refuses_map frame (λ to split. ⊥)
+    (λ to split. StandsAt frame splits way within beside node to split × NoneIsValid frame splits way within beside node)
+    ((site : ℕ) → site_numbered frame.sites name ≡ Some site → leaves + 1 ≤ 32 → ⊥) (NoneIsDescribed frame splits way within beside node leaves) rule
+    (λ to split no. absurd no)
     (λ none. none_at_site frame splits way within beside node name (λ tree. leaves + length (paths tree) ≤ 32) form none)
     refused
 
@@ -186,10 +197,13 @@ pub rows_refused : (frame : Frame) (splits : ℕ) (way : List Cond) (within : Li
     (rule : Rule) → RefusesRows frame splits way within nodes leaves rule → Refuses frame splits way within beside node leaves rule
 rows_refused frame splits way within beside node leaves nodes form rule refused =
     refuses_map frame
-    ((branches : Branches) → AreRows frame splits way within nodes branches → IsValidWithin (kinds_in frame) way within (ByRows branches) → ⊥)
-    ((branches : Branches) → AreRows frame splits way within nodes branches → leaves + length (paths_by_rows branches) ≤ 32 → ⊥)
-    (NoneIsValid frame splits way within beside node) (NoneIsDescribed frame splits way within beside node leaves) rule
-    (λ none. none_by_rows frame splits way within beside node nodes (λ tree. IsValidWithin (kinds_in frame) way within tree) form none)
+    (λ to split. StandsInRows frame splits way within nodes to split × ((branches : Branches) → AreRows frame splits way within nodes branches → IsValidWithin (kinds_in frame) way within (ByRows branches) → ⊥))
+    (λ to split. StandsAt frame splits way within beside node to split × NoneIsValid frame splits way within beside node)
+    ((branches : Branches) → AreRows frame splits way within nodes branches → leaves + length (paths_by_rows branches) ≤ 32 → ⊥) (NoneIsDescribed frame splits way within beside node leaves) rule
+    (λ to split none. (
+      stands_by_rows frame splits way within beside node nodes to split form none.0,
+      none_by_rows frame splits way within beside node nodes (λ tree. IsValidWithin (kinds_in frame) way within tree) form none.1,
+    ))
     (λ none. none_by_rows frame splits way within beside node nodes (λ tree. leaves + length (paths tree) ≤ 32) form none)
     refused
 
@@ -197,9 +211,12 @@ pub cols_refused : (frame : Frame) (splits : ℕ) (way : List Cond) (within : Li
     (rule : Rule) → RefusesCols frame splits way within nodes leaves rule → Refuses frame splits way within beside node leaves rule
 cols_refused frame splits way within beside node leaves nodes form rule refused =
     refuses_map frame
-    ((groups : Groups) → AreCols frame splits way within nodes groups → IsValidWithin (kinds_in frame) way within (ByCols groups) → ⊥)
-    ((groups : Groups) → AreCols frame splits way within nodes groups → leaves + length (paths_by_cols [] groups) ≤ 32 → ⊥)
-    (NoneIsValid frame splits way within beside node) (NoneIsDescribed frame splits way within beside node leaves) rule
-    (λ none. none_by_cols frame splits way within beside node nodes (λ tree. IsValidWithin (kinds_in frame) way within tree) form none)
+    (λ to split. StandsInCols frame splits way within nodes to split × ((groups : Groups) → AreCols frame splits way within nodes groups → IsValidWithin (kinds_in frame) way within (ByCols groups) → ⊥))
+    (λ to split. StandsAt frame splits way within beside node to split × NoneIsValid frame splits way within beside node)
+    ((groups : Groups) → AreCols frame splits way within nodes groups → leaves + length (paths_by_cols [] groups) ≤ 32 → ⊥) (NoneIsDescribed frame splits way within beside node leaves) rule
+    (λ to split none. (
+      stands_by_cols frame splits way within beside node nodes to split form none.0,
+      none_by_cols frame splits way within beside node nodes (λ tree. IsValidWithin (kinds_in frame) way within tree) form none.1,
+    ))
     (λ none. none_by_cols frame splits way within beside node nodes (λ tree. leaves + length (paths tree) ≤ 32) form none)
     refused

@@ -8,6 +8,7 @@ use Rattle.catalog.specs.declared.split.Group as group
 use Rattle.catalog.specs.Describes.{Frame, kinds_in, Each, IsWhere, AreNamedIn, HasFewCells, in_order, site_numbered, AreBranches, AreGroups}
 use Rattle.catalog.specs.Path.{branch_conds, group_columns, paths_by_rows, paths_by_cols}
 use Rattle.catalog.specs.Refuses.{RefusesBy}
+use Rattle.catalog.specs.Stands.{StandsInRows, StandsInBranches, StandsInCols, StandsInGroups}
 use Rattle.catalog.specs.Split.{ByRows, ByCols, Branches, Groups, branches_of, groups_of, tree_branch, tree_group}
 use Rattle.catalog.specs.Valid.{IsValidWithin, AreValidBranches, AreValidGroups}
 
@@ -32,28 +33,32 @@ AreCols frame (suc splits) way within nodes groups =
 
 -- a refusal of a leaf: there is no such site, or no room for one leaf more
 abbrev pub RefusesSite : Frame → List ℕ → ℕ → Rule → Type 0
-RefusesSite frame name leaves rule = RefusesBy frame ⊥ ((site : ℕ) → site_numbered frame.sites name ≡ Some site → leaves + 1 ≤ 32 → ⊥) rule
+RefusesSite frame name leaves rule = RefusesBy frame (λ to split. ⊥) ((site : ℕ) → site_numbered frame.sites name ≡ Some site → leaves + 1 ≤ 32 → ⊥) rule
 
 -- a refusal of a row split
 abbrev pub RefusesRows : Frame → ℕ → List Cond → List ℕ → List Data → ℕ → Rule → Type 0
 RefusesRows frame splits way within nodes leaves rule =
-    RefusesBy frame ((branches : Branches) → AreRows frame splits way within nodes branches → IsValidWithin (kinds_in frame) way within (ByRows branches) → ⊥)
+    RefusesBy frame (λ to split. StandsInRows frame splits way within nodes to split
+    × ((branches : Branches) → AreRows frame splits way within nodes branches → IsValidWithin (kinds_in frame) way within (ByRows branches) → ⊥))
     ((branches : Branches) → AreRows frame splits way within nodes branches → leaves + length (paths_by_rows branches) ≤ 32 → ⊥) rule
 
 -- a refusal of what is below a row split whose branches have these conditions
 abbrev pub RefusesBranches : Frame → ℕ → List Cond → List ℕ → List Data → List (List Cond) → ℕ → Rule → Type 0
 RefusesBranches frame splits way within nodes conds leaves rule =
-    RefusesBy frame ((branches : Branches) → branch_conds branches ≡ conds → AreBranches frame splits way within nodes branches → AreValidBranches (kinds_in frame) way within branches → ⊥)
+    RefusesBy frame (λ to split. StandsInBranches frame splits way within nodes conds to split
+    × ((branches : Branches) → branch_conds branches ≡ conds → AreBranches frame splits way within nodes branches → AreValidBranches (kinds_in frame) way within branches → ⊥))
     ((branches : Branches) → branch_conds branches ≡ conds → AreBranches frame splits way within nodes branches → leaves + length (paths_by_rows branches) ≤ 32 → ⊥) rule
 
 -- a refusal of a column split
 abbrev pub RefusesCols : Frame → ℕ → List Cond → List ℕ → List Data → ℕ → Rule → Type 0
 RefusesCols frame splits way within nodes leaves rule =
-    RefusesBy frame ((groups : Groups) → AreCols frame splits way within nodes groups → IsValidWithin (kinds_in frame) way within (ByCols groups) → ⊥)
+    RefusesBy frame (λ to split. StandsInCols frame splits way within nodes to split
+    × ((groups : Groups) → AreCols frame splits way within nodes groups → IsValidWithin (kinds_in frame) way within (ByCols groups) → ⊥))
     ((groups : Groups) → AreCols frame splits way within nodes groups → leaves + length (paths_by_cols [] groups) ≤ 32 → ⊥) rule
 
 -- a refusal of what is below a column split into groups of these columns
 abbrev pub RefusesGroups : Frame → ℕ → List Cond → List Data → List (List ℕ) → ℕ → Rule → Type 0
 RefusesGroups frame splits way nodes columns leaves rule =
-    RefusesBy frame ((groups : Groups) → group_columns groups ≡ columns → AreGroups frame splits way nodes groups → AreValidGroups (kinds_in frame) way groups → ⊥)
+    RefusesBy frame (λ to split. StandsInGroups frame splits way nodes columns to split
+    × ((groups : Groups) → group_columns groups ≡ columns → AreGroups frame splits way nodes groups → AreValidGroups (kinds_in frame) way groups → ⊥))
     ((groups : Groups) → group_columns groups ≡ columns → AreGroups frame splits way nodes groups → leaves + length (paths_by_cols [] groups) ≤ 32 → ⊥) rule

@@ -9,6 +9,7 @@ pub mod Fault
 pub mod Node
 pub mod Form
 pub mod Describes
+pub mod Stands
 pub mod Frame
 pub mod Refuses
 pub mod Below

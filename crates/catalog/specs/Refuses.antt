@@ -16,6 +16,7 @@ use Rattle.catalog.specs.Cells.{AllFit, IsFirstFault, conds_of_split, met_by}
 use Rattle.catalog.specs.Describes.{Frame, kinds_in, Each, IsWhereOn, named_in, AreNamedIn, HasFewCells, Describes}
 use Rattle.catalog.specs.Path.{paths}
 use Rattle.catalog.specs.Split.{Tree}
+use Rattle.catalog.specs.Stands.{StandsAt}
 use Rattle.catalog.specs.Parts.{named, AreApart}
 use Rattle.catalog.specs.Valid.{AreParts, IsValidWithin}
 
@@ -39,13 +40,19 @@ pub record IsFirstCell (frame : Frame) (way : List Cond) (branches : List (List 
   pub first : IsFirstFault (kinds_in frame) way branches 4096 (Some cell.row)
   pub shown : cell.shown ≡ shown_from 0 (conds_of_split way branches) frame.columns cell.row
 
--- it meets no branch
+-- it meets no branch of the row split of these branches
+abbrev pub IsGapOf : Frame → List Cond → List (List Cond) → Cell → Type 0
+IsGapOf frame way branches cell = IsFirstCell frame way branches cell × (met_by branches cell.row ≡ 0)
+
 abbrev pub IsGap : Frame → Cell → Type 0
-IsGap frame cell = (way : List Cond) × (branches : List (List Cond)) × IsFirstCell frame way branches cell × (met_by branches cell.row ≡ 0)
+IsGap frame cell = (way : List Cond) × (branches : List (List Cond)) × IsGapOf frame way branches cell
 
 -- it meets two branches or more
+abbrev pub IsOverlapOf : Frame → List Cond → List (List Cond) → Cell → Type 0
+IsOverlapOf frame way branches cell = IsFirstCell frame way branches cell × (2 ≤ met_by branches cell.row)
+
 abbrev pub IsOverlap : Frame → Cell → Type 0
-IsOverlap frame cell = (way : List Cond) × (branches : List (List Cond)) × IsFirstCell frame way branches cell × (2 ≤ met_by branches cell.row)
+IsOverlap frame cell = (way : List Cond) × (branches : List (List Cond)) × IsOverlapOf frame way branches cell
 
 -- no tree that a node describes is valid
 abbrev pub NoneIsValid : Frame → ℕ → List Cond → List ℕ → List ℕ → Data → Type 0
@@ -57,19 +64,19 @@ abbrev pub NoneIsDescribed : Frame → ℕ → List Cond → List ℕ → List �
 NoneIsDescribed frame splits way within beside node leaves =
     (tree : Tree) → Describes frame splits way within beside node tree → leaves + length (paths tree) ≤ 32 → ⊥
 
--- A refusal by the rule: want of memory says nothing; a gap or an overlap shows a row split that is not exact, and then
+-- A refusal by the rule: want of memory says nothing; a gap or an overlap shows a row split that is not exact, of which
 -- this holds; by any other rule that holds.
-abbrev pub RefusesBy : Frame → Type 0 → Type 0 → Rule → Type 0
+abbrev pub RefusesBy : Frame → (List Cond → List (List Cond) → Type 0) → Type 0 → Rule → Type 0
 RefusesBy frame this that Memory = Unit {0}
-RefusesBy frame this that (Gap cell) = IsGap frame cell × this
-RefusesBy frame this that (Overlap cell) = IsOverlap frame cell × this
+RefusesBy frame this that (Gap cell) = (to : List Cond) × (split : List (List Cond)) × IsGapOf frame to split cell × this to split
+RefusesBy frame this that (Overlap cell) = (to : List Cond) × (split : List (List Cond)) × IsOverlapOf frame to split cell × this to split
 RefusesBy frame this that _ = that
 
--- A refusal of a node, where these leaves are there before: where a row split is not exact, no tree that is described is
--- valid; by any other rule but for want of memory, no tree is described.
+-- A refusal of a node, where these leaves are there before: where a row split at it or below it is not exact, no tree that is
+-- described is valid; by any other rule but for want of memory, no tree is described.
 abbrev pub Refuses : Frame → ℕ → List Cond → List ℕ → List ℕ → Data → ℕ → Rule → Type 0
 Refuses frame splits way within beside node leaves rule =
-    RefusesBy frame (NoneIsValid frame splits way within beside node) (NoneIsDescribed frame splits way within beside node leaves) rule
+    RefusesBy frame (λ to split. StandsAt frame splits way within beside node to split × NoneIsValid frame splits way within beside node) (NoneIsDescribed frame splits way within beside node leaves) rule
 
 -- the catalogue's rule that stands for one of the reader
 abbrev pub rule_of : readers.Rule → Rule
@@ -96,8 +103,8 @@ RefusesConds columns nodes _ = (branches : List (List Cond)) → Each (IsWhereOn
 -- a refusal of a row split: a gap or an overlap at its first faulty cell, or too many cells
 abbrev pub RefusesSplit : Frame → List Cond → List (List Cond) → Rule → Type 0
 RefusesSplit frame way branches Memory = Unit {0}
-RefusesSplit frame way branches (Gap cell) = IsFirstCell frame way branches cell × (met_by branches cell.row ≡ 0)
-RefusesSplit frame way branches (Overlap cell) = IsFirstCell frame way branches cell × (2 ≤ met_by branches cell.row)
+RefusesSplit frame way branches (Gap cell) = IsGapOf frame way branches cell
+RefusesSplit frame way branches (Overlap cell) = IsOverlapOf frame way branches cell
 RefusesSplit frame way branches Limit = HasFewCells (kinds_in frame) way branches → ⊥
 RefusesSplit frame way branches _ = ⊥
 

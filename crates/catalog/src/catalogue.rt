@@ -13,7 +13,7 @@ ghost use Rattle.catalog.specs.Relation.{relation_of, catalogue_of};
 ghost use Rattle.catalog.specs.Formed.{IsFormed};
 ghost use Rattle.catalog.specs.Fragment.{part};
 ghost use Rattle.catalog.specs.FragmentLeaf.{catalogue_leaves, leaf_named, schemas_of, unnamed};
-ghost use Rattle.catalog.specs.Document.{parts_of, RefusesDocument, RefusesRelations, RefusesRoot, RefusesText, are_tables};
+ghost use Rattle.catalog.specs.Document.{parts_of, RefusesDocument, RefusesRelations, RefusesRoot, RefusesText, IsShown, are_tables};
 
 use crate::fault::{CatFault, Rule};
 use crate::form::some_texts;
@@ -76,6 +76,8 @@ impl Catalog {
         ensures valid { IfOk result (λ catalog. IsValidCatalogue (catalogue_of catalog)) }
         // A text that is refused by a rule is one of no catalogue; by a gap or an overlap, which is shown, of no valid one.
         ensures none { IfErr result (λ fault. RefusesText text.now fault.rule) }
+        // The row split of which it is shown stands in the text, in the relation that is named.
+        ensures shown { IfErr result (λ fault. IsShown text.now fault.relation fault.rule) }
     {
         if text.len() > TEXT_BYTES {
             return Err(CatFault::from(Rule::Limit));
@@ -155,7 +157,7 @@ impl Catalog {
 fn catalog_of(alloc: Global, root: &Value) -> Result<Catalog, CatFault>
     ensures found { IfOk result (λ catalog. IsDocumentOf (view root.now) (catalogue_of catalog)) }
     ensures valid { IfOk result (λ catalog. IsValidCatalogue (catalogue_of catalog)) }
-    ensures none { IfErr result (λ fault. RefusesRoot (view root.now) fault.rule) }
+    ensures none { IfErr result (λ fault. RefusesRoot (view root.now) fault.relation fault.rule) }
 {
     let Some(parts) = document_parts(alloc, root)? else {
         return Err(CatFault::from(Rule::Field));
@@ -261,7 +263,7 @@ pub(crate) fn relations(
 ) -> Result<Vec<SplitRelation>, CatFault>
     ensures found { IfOk result (λ found. Each (IsRelationIn sites.now) (entries (table_view table.now)) (map relation_of found.items)) }
     ensures valid { IfOk result (λ found. AllByRecursion IsValidRelation (map relation_of found.items)) }
-    ensures none { IfErr result (λ fault. RefusesRelations sites.now (entries (table_view table.now)) fault.rule) }
+    ensures none { IfErr result (λ fault. RefusesRelations sites.now (entries (table_view table.now)) fault.relation fault.rule) }
 {
     let mut relations = Vec::new(alloc);
     for (name, node) in table.iter() {

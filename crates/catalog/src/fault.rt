@@ -140,7 +140,7 @@ pub struct CatFault {
 impl CatFault {
     /// A fault in the relation of this name.
     pub(crate) fn in_relation(alloc: Global, name: &str, rule: Rule) -> CatFault
-        ensures { (result.rule ≡ rule) ⊎ (result.rule ≡ Rule.Memory) }
+        ensures { ((result.rule ≡ rule) × (result.relation ≡ Some name.now)) ⊎ (result.rule ≡ Rule.Memory) }
     {
         match String::from_str(alloc, name) {
             Ok(name) => CatFault {

@@ -14,13 +14,13 @@ use Rattle.catalog.proofs.catalogue.catalog_of.Goals as goal
 
 pub returns-then-not-are_tables-clause-none : goal.returns-then-not-are_tables-clause-none
 returns-then-not-are_tables-clause-none c =
-    let P : Rule → Type 0 = RefusesRoot (view c.args.root.now) in
+    let P : Rule → Type 0 = RefusesRoot (view c.args.root.now) c.from-then-not-are_tables.result.relation in
     subst P (sym c.from-then-not-are_tables.ensures) (no_tables (view c.args.root.now) (texts_of c.in-Some.parts.sites) (table_view c.in-Some.parts.relations.now)
     (ap (option_map parts_of) (sym c.in-Some.is) ∙ c.in_ok-parts.ensures) (sym c.are_tables.ensures ∙ c.if-not-are_tables.true))
 
 pub returns-then-count-gt-RELATIONS-clause-none : goal.returns-then-count-gt-RELATIONS-clause-none
 returns-then-count-gt-RELATIONS-clause-none c =
-    let P : Rule → Type 0 = RefusesRoot (view c.args.root.now) in
+    let P : Rule → Type 0 = RefusesRoot (view c.args.root.now) c.from-then-count-gt-RELATIONS.result.relation in
     subst P (sym c.from-then-count-gt-RELATIONS.ensures) (too_many_entries (view c.args.root.now) (texts_of c.in-Some.parts.sites) c.in-Some.parts.relations.now.entries
     (ap (option_map parts_of) (sym c.in-Some.is) ∙ c.in_ok-parts.ensures) (rw (← c.len-count.ensures.len) c.if-count-gt-RELATIONS.true))
 

@@ -1,8 +1,9 @@
-use Rattle.std.proofs.Common.{◌≡◌, List, [], ◌∷◌, ◌++◌, ℕ, ap, sym, subst, ◌∙◌, append_assoc, map, string_bytes}
+use Rattle.std.proofs.Common.{◌≡◌, ◌⊎◌, List, [], ◌∷◌, ◌++◌, ℕ, Some, ap, sym, subst, ◌∙◌, append_assoc, map, string_bytes}
 use Rattle.std.proofs.lemmas.List.{map-append}
 use Rattle.std.specs.List.{AllByRecursion}
 use Rattle.toml.specs.Data.{Data}
 use Rattle.toml.specs.View.{view, members_view}
+use Rattle.catalog.specs.declared.fault.Rule.TheVariants.{Memory}
 use Rattle.catalog.specs.Catalogue.{SplitRelation, IsRelationIn, IsValidRelation, entries}
 use Rattle.catalog.specs.Describes.{Each}
 use Rattle.catalog.specs.Document.{RefusesRelations}
@@ -40,6 +41,8 @@ returns-in-Err-clause-none c =
     let all : c.args.table.now.entries ≡ done ++ e ∷ left = l.invariant.1 ∙ ap (λ es. done ++ es) c.in-Some.ensures.steps in
     let P : List ℕ → Type 0 = λ name. RefusesRelation c.args.sites.now (name, view c.in-Some.node.now) c.in-Err.rule in
     let here : RefusesRelation c.args.sites.now (string_bytes c.in-Some.name.now, view c.in-Some.node.now) c.in-Err.rule = subst P c.as_str.ensures.value c.in-Err.ensures.none in
-    let Q : List (List ℕ × Data) → Type 0 = λ said. RefusesRelations c.args.sites.now said c.in-Err.rule in
-    same_or_memory c.args.sites.now _ c.in-Err.rule c.in_relation.result.rule c.in_relation.ensures
+    let name = string_bytes c.in-Some.name.now in
+    let R : List ℕ → Type 0 = λ own. ((c.in_relation.result.rule ≡ c.in-Err.rule) × (c.in_relation.result.relation ≡ Some own)) ⊎ (c.in_relation.result.rule ≡ Memory) in
+    let Q : List (List ℕ × Data) → Type 0 = λ said. RefusesRelations c.args.sites.now said (Some name) c.in-Err.rule in
+    same_or_memory c.args.sites.now _ name c.in-Err.rule c.in_relation.result.relation c.in_relation.result.rule (subst R c.as_str-in-Err.ensures.value c.in_relation.ensures)
     (subst Q (sym (ap (λ es. entries (members_view es)) all ∙ entries_both done e left)) (refuses_all c.args.sites.now (entries (members_view done)) (entries (members_view left)) _ c.in-Err.rule here))

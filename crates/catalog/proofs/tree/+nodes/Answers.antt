@@ -24,7 +24,7 @@ branches-returns-in_err-next-clause-none t c =
     let p = err_from_is_err_and c.from_residual.result c.from_residual.ensures.1 in
     rw (p.1, p.2) (branches_refused (frame_of c.args.frame.now) c.args.splits c.args.way.now c.args.within.now view c.args.nodes.now c.loop-i.i c.index-nodes-i.result c.index-nodes-i.result
     c.args.conds.now c.index-conds-i.result c.index-conds-i.result (map tree_branch c.loop-i.branches.items) c.args.leaves.now c.loop-i.leaves c.in_err-next.field-0.0
-    c.index-nodes-i.is c.index-conds-i.is c.loop-i-test.true c.loop-i.invariant.each c.loop-i.invariant.counted c.in_err-next.ensures.none)
+    c.index-nodes-i.is c.index-conds-i.is c.loop-i-test.true c.loop-i.invariant.each c.loop-i.invariant.counted (omega (arith, c.requires.same_length, c.loop-i-test.true)) c.in_err-next.ensures.none)
 
 pub branches-loop-i-preserved : goal.branches-loop-i-preserved
 branches-loop-i-preserved t c =
@@ -62,7 +62,7 @@ pub by_rows-returns-in_err-require_exact-clause-none : goal.by_rows-returns-in_e
 by_rows-returns-in_err-require_exact-clause-none t c =
     let p = err_from_is_err_and c.from_residual-in_err-require_exact.result c.from_residual-in_err-require_exact.ensures.1 in
     rw (p.1, p.2) (rows_no_split c.one_list_of_conds.ensures c.cells_decide.ensures (frame_of c.args.frame.now) c.args.splits c.args.way.now c.args.within.now (map view c.args.nodes.now) c.args.leaves.now
-    c.as_slice.result.now c.in_ok-conds.conds.items c.in_err-require_exact.field-0.0 c.as_slice.ensures.value c.in_ok-conds.ensures.found c.in_err-require_exact.ensures.none)
+    c.as_slice.result.now c.in_ok-conds.conds.items c.in_err-require_exact.field-0.0 (c.args.splits - 1) (omega (arith, c.if-splits-eq0.false)) c.as_slice.ensures.value c.in_ok-conds.ensures.found c.in_err-require_exact.ensures.none)
 
 pub by_rows-returns-clause-none : goal.by_rows-returns-clause-none
 by_rows-returns-clause-none t c =
@@ -137,9 +137,10 @@ groups-returns-in_err-next-clause-none t c =
     let inside : c.loop-i.i < length c.args.named.now = omega (arith, c.requires.same_length, c.loop-i-test.true) in
     let here : c.in_ok-columns.columns.items ≡ get_or (map order c.args.named.now) c.loop-i.i [] =
     c.in_ok-columns.ensures ∙ ap order (c.as_slice.ensures ∙ c.index-named-i.is) ∙ sym (get_or-map order c.args.named.now c.loop-i.i c.index-named-i.result [] inside) in
+    let among : c.loop-i.i < length (map order c.args.named.now) = rw (length-map c.args.named.now order) inside in
     rw (p.1, p.2) (groups_refused (frame_of c.args.frame.now) c.args.splits c.args.way.now view c.args.nodes.now c.loop-i.i c.index-nodes-i.result c.index-nodes-i.result
     order c.args.named.now [] c.in_ok-columns.columns.items (map tree_group c.loop-i.groups.items) c.args.leaves.now c.loop-i.leaves c.in_err-next.field-0.0
-    c.index-nodes-i.is here c.loop-i-test.true c.loop-i.invariant.each c.loop-i.invariant.counted c.in_err-next.ensures.none)
+    c.index-nodes-i.is here c.loop-i-test.true c.loop-i.invariant.each c.loop-i.invariant.counted among c.in_err-next.ensures.none)
 
 pub groups-loop-i-preserved : goal.groups-loop-i-preserved
 groups-loop-i-preserved t c =
