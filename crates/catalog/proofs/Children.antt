@@ -69,8 +69,8 @@ branches_refused {A} frame splits way within view nodes i d x conds e c so_far b
     (λ to split none. (
       stands_in_branch frame splits way within view nodes conds i d e to split inside among (subst (Q to split) here (subst (P to split) is none.0)),
       λ branches all are valid.
-      let at = row_at frame splits way within view nodes i d x conds e c so_far branches is here inside each all are in
-      none.1 at.tree at.described (at.valid valid),
+          let at = row_at frame splits way within view nodes i d x conds e c so_far branches is here inside each all are in
+          none.1 at.tree at.described (at.valid valid),
     ))
     (λ none branches all are few.
     let at = row_at frame splits way within view nodes i d x conds e c so_far branches is here inside each all are in
@@ -130,8 +130,8 @@ groups_refused {A} frame splits way view nodes i d x order named e c so_far befo
     (λ to split none. (
       stands_in_group frame splits way view nodes (map order named) i d e to split inside among (subst (Q to split) here (subst (P to split) is none.0)),
       λ groups all are valid.
-      let at = col_at frame splits way view nodes i d x order named e c so_far groups is here inside each all are in
-      none.1 at.tree at.described (at.valid valid),
+          let at = col_at frame splits way view nodes i d x order named e c so_far groups is here inside each all are in
+          none.1 at.tree at.described (at.valid valid),
     ))
     (λ none groups all are few.
     let at = col_at frame splits way view nodes i d x order named e c so_far groups is here inside each all are in
