@@ -24,7 +24,6 @@ pub mod OneList
 pub mod ColumnParts
 pub mod TestColumns
 pub mod ShownValues
-pub mod OneTestColumn
 pub mod Answered
 pub mod GroupNames
 pub mod Distinct

@@ -12,7 +12,8 @@ use Rattle.terms.specs.declared.cond.Cond.{Cond}
 use Rattle.terms.specs.declared.value.Kind.{Kind}
 use Rattle.terms.specs.declared.value.Value.{Value}
 use Rattle.terms.specs.Order.{value_cmp_total}
-use Rattle.catalog.specs.Cells.{AreTestColumns, conds_of_split, CellsAreFixed}
+use Rattle.catalog.specs.Cells.{AreTestColumns, HasMoreCells, cell_count, conds_of_split, CellsAreFixed}
+use Rattle.catalog.specs.Describes.{HasFewCells}
 
 first_or_later : {K : Type 0} (x : K) (xs : List K) (v : K) (k : ℕ) → k < length (x ∷ xs) → get_or (x ∷ xs) k v ≡ v → (x ≡ v) ⊎ Contains xs v
 first_or_later x xs v zero within is = inl is
@@ -84,3 +85,9 @@ columns_are_one conds col (kind ∷ kinds) (values ∷ one) (same ∷ other) col
 
 pub cells_are_fixed : CellsAreFixed
 cells_are_fixed kinds way branches one other columns others = columns_are_one (conds_of_split way branches) 0 kinds one other columns others
+
+-- so a row split can't have few cells and more
+pub not_few : (kinds : List Kind) (way : List Cond) (branches : List (List Cond)) → HasMoreCells kinds way branches 4096 → HasFewCells kinds way branches → ⊥
+not_few kinds way branches (lists, columns, more) few =
+    let P : List (List Value) → Type 0 = λ ls. 4096 < cell_count ls in
+    let over = subst P (cells_are_fixed kinds way branches lists few.lists columns few.columns) more in omega (arith, over, few.few)

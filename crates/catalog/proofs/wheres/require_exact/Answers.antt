@@ -5,7 +5,7 @@ use Rattle.catalog.specs.Cells.{HasMoreCells}
 use Rattle.catalog.specs.Describes.{kinds_in}
 use Rattle.catalog.specs.Exactness.{IsAnswer}
 use Rattle.catalog.specs.Frame.{frame_of}
-use Rattle.catalog.proofs.OneTestColumn.{not_few}
+use Rattle.catalog.proofs.OneList.{not_few}
 use Rattle.catalog.proofs.wheres.require_exact.Goals as goal
 
 pub returns-clause-none : goal.returns-clause-none
