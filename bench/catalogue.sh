@@ -1,8 +1,8 @@
 #!/usr/bin/env bash
 # Times `fragdb check` on catalogues at their limits, each three times, and prints the least seconds. It fails where
-# one is not accepted, or takes a second or more. One catalogue is at every limit at once. Four others have as
-# many row splits as find room, each of 512, 1,024, 2,048 or 4,096 cells; the ratio of each time to the one before
-# shows how the time grows with the cells.
+# one is not accepted, or takes a second or more. One catalogue is at every limit at once, one has as many row splits
+# of 4,096 cells as find room. The others have many row splits whose cells meet many conditions; each has twice the
+# cells of the one before, and the ratio of the times shows how they grow.
 #
 # usage: bench/catalogue.sh [PROGRAM]      (default: crates/fragdb/out/fragdb, which `rt run` in crates/fragdb makes)
 set -eu
@@ -53,20 +53,33 @@ at_the_limits() {
     }'
 }
 
-# 32 relations of 34 row splits, of 2 to the power $1 cells each but the first, from 9 to 12. The conditions on the
-# way to a split add to its cells: eight at the root and the others below it, and of the 32 branches there that
-# each have a split of their own all rows meet the first.
+# 32 relations of 34 row splits, of 4,096 cells each but the first. The conditions on the way to a split add to its
+# cells: eight at the root and four below it; and of the 32 branches there that each have a split of their own all
+# rows meet the first.
 many_splits() {
-    awk -v last="$1" "$words"'
+    awk "$words"'
     function again(conds) { return branch(conds, "rows=[" branch(conds, "site=\"s\"") "]") }
     BEGIN {
+        below = again(all(12, 12))
+        for (i = 1; i < 32; i++) below = below "," again(name(12) "<'\'''\''")
         print "sites=[\"s\"]"
-        met = all(last, last)
-        unmet = name(last) "<'\'''\''"
-        below = again(met)
-        for (i = 1; i < 32; i++) below = below "," again(unmet)
         for (r = 0; r < 32; r++)
-            print "relations.r" r "={" columns("text") ",rows=[" branch(all(1, 8), "rows=[" branch(all(9, last), "rows=[" below "]") "]") "]}"
+            print "relations.r" r "={" columns("text") ",rows=[" branch(all(1, 8), "rows=[" branch(all(9, 12), "rows=[" below "]") "]") "]}"
+    }'
+}
+
+# 16 relations of 65 row splits: below a root with five conditions 32 branches by the key, below each a split, and
+# one more below that. These 1,024 have 3 * 2^$1 cells each, of which 2^$1 meet the conditions on the way.
+splits_by_key() {
+    awk -v last="$1" "$words"'
+    function below(conds) { return branch(conds, "rows=[" branch(all(6, last), "rows=[" branch(all(6, 6), "site=\"s\"") "]") "]") }
+    BEGIN {
+        keys = below("k<1")
+        for (i = 1; i < 31; i++) keys = keys "," below("k=" i)
+        keys = keys "," below("k>30")
+        print "sites=[\"s\"]"
+        for (r = 0; r < 16; r++)
+            print "relations.r" r "={" columns("text") ",rows=[" branch(all(1, 5), "rows=[" keys "]") "]}"
     }'
 }
 
@@ -83,7 +96,7 @@ seconds_of() {
 }
 
 slow=0
-# Prints the seconds $3 of the file $2, which is called $1, and the ratio to the seconds $4.
+# Prints the seconds $3 of the file $2, which is called $1, and their ratio to the seconds $4, if there are any.
 tell() {
     local ratio
     ratio=$(awk -v a="$3" -v b="${4:-0}" 'BEGIN { if (b > 0) printf "  ratio %.2f", a / b }')
@@ -94,12 +107,15 @@ tell() {
 at_the_limits > "$folder/limits.toml"
 seconds=$(seconds_of "$folder/limits.toml")
 tell "at every limit" "$folder/limits.toml" "$seconds"
+many_splits > "$folder/splits.toml"
+seconds=$(seconds_of "$folder/splits.toml")
+tell "1,056 splits of 4,096 cells" "$folder/splits.toml" "$seconds"
 before=
-for columns in 9 10 11 12; do
+for columns in 7 8 9 10; do
     file=$folder/$columns.toml
-    many_splits "$columns" > "$file"
+    splits_by_key "$columns" > "$file"
     seconds=$(seconds_of "$file")
-    tell "1,088 splits of $((1 << columns)) cells" "$file" "$seconds" "$before"
+    tell "1,024 splits of $((3 << columns)) cells" "$file" "$seconds" "$before"
     before=$seconds
 done
 [ "$slow" = 0 ] || { echo "a catalogue takes a second or more"; exit 1; }

@@ -1,8 +1,8 @@
 -- Looking for the first fault value by value.
-use Rattle.std.proofs.Common.{◌≡◌, ◌≢◌, ◌<◌, ◌≤◌, ◌+◌, ℕ, zero, suc, if◌then◌else◌, ◌==◌, Bool, true, false, cond, not, ◌&&◌, ◌||◌, List, [], ◌∷◌, ◌++◌, ◌-◌, length, length-append, take, drop, get_or, map, flat_map, Option, Some, None, refl, sym, ap, ap₂, ◌∙◌, append_assoc, append-nil, subst, arith}
+use Rattle.std.proofs.Common.{◌≡◌, ◌≢◌, ◌<◌, ◌≤◌, ◌+◌, ℕ, zero, suc, if◌then◌else◌, ◌==◌, Bool, true, false, cond, not, ◌&&◌, ◌||◌, List, [], ◌∷◌, ◌++◌, ◌-◌, length, length-append, take, drop, get_or, map, flat_map, filter, Option, Some, None, refl, sym, ap, ap₂, ◌∙◌, append_assoc, append-nil, subst, arith}
 use Rattle.std.proofs.Math.Seq.{drop-cons, take-append_seam}
 use Rattle.std.proofs.lemmas.Bool.{eqb-true, eqb-false}
-use Rattle.std.proofs.lemmas.List.{map-id, map-append, length-map}
+use Rattle.std.proofs.lemmas.List.{map-id, map-append}
 use Rattle.std.proofs.lemmas.List.Folds.{find-append}
 use Rattle.std.specs.Borrow.{Bor}
 use Rattle.std.specs.List.{find, slice_get}
@@ -15,7 +15,7 @@ use Rattle.terms.specs.declared.value.Kind.{Kind}
 use Rattle.catalog.specs.declared.exact.Exactness.{Exactness}
 use Rattle.catalog.specs.declared.exact.Exactness.TheVariants.{Exact, Gap, Overlap}
 use Rattle.catalog.specs.Exactness.{IsAnswer}
-use Rattle.catalog.specs.Cells.{product, cell_count, AreSplitColumns, AllFit, met_by, is_fault, first_fault, first_fault_behind, values_of, IsSought, IsFirstFault, CellsDecide}
+use Rattle.catalog.specs.Cells.{product, cell_count, on_way, AreSplitColumns, AllFit, met_by, is_fault, first_fault, first_fault_behind, values_of, IsSought, IsFirstFault, CellsDecide}
 
 -- one value more among those that each cell begins with
 one_more : (before : List Value) (value : Value) (rests : List (List Value)) → map (λ rest. before ++ rest) (map (λ rest. value ∷ rest) rests) ≡ map (λ rest. (before ++ value ∷ []) ++ rest) rests
@@ -103,6 +103,48 @@ none_of way branches start (rest ∷ rests) failed =
 pub skipped : (way : List Cond) (branches : List (List Cond)) (before : List Value) (value : Value) (lists : List (List Value)) → column_holds way (length before) value ≡ false → first_fault_behind way branches (before ++ value ∷ []) lists ≡ None
 skipped way branches before value lists failed = none_of way branches (before ++ value ∷ []) (product lists) (λ rest. fails way before rest value failed)
 
+-- the values that fail are left out of a column
+each_on_way : (way : List Cond) (branches : List (List Cond)) (before values : List Value) (lists kept : List (List Value)) (col : ℕ) → col ≡ length before →
+    ((value : Value) → first_fault_behind way branches (before ++ value ∷ []) kept ≡ first_fault_behind way branches (before ++ value ∷ []) lists) →
+    first_fault_behind way branches before (filter (column_holds way col) values ∷ kept) ≡ first_fault_behind way branches before (values ∷ lists)
+each_on_way way branches before [] lists kept col last same = refl
+each_on_way way branches before (value ∷ values) lists kept col last same =
+    let rest = each_on_way way branches before values lists kept col last same in
+    elim (column_holds way col value) as (λ b. column_holds way col value ≡ b → first_fault_behind way branches before (cond b (value ∷ filter (column_holds way col) values) (filter (column_holds way col) values) ∷ kept) ≡ first_fault_behind way branches before ((value ∷ values) ∷ lists)) [
+      | true ↦ λ meets. one_by_one way branches before value (filter (column_holds way col) values) kept
+          ∙ ap₂ (λ (first other : Option (List Value)). option_or first other) (same value) rest
+          ∙ sym (one_by_one way branches before value values lists)
+      | false ↦ λ fails_it.
+          let failed : column_holds way (length before) value ≡ false = ap (λ (n : ℕ). column_holds way n value) (sym last) ∙ fails_it in
+          rest ∙ sym (one_by_one way branches before value values lists ∙ ap (λ (first : Option (List Value)). option_or first (first_fault_behind way branches before (values ∷ lists))) (skipped way branches before value lists failed))
+    ] refl
+
+-- so the first fault is the same where they are left out of each column
+same_on_way : (way : List Cond) (branches : List (List Cond)) (before : List Value) (lists : List (List Value)) (col : ℕ) → col ≡ length before →
+    first_fault_behind way branches before (on_way way col lists) ≡ first_fault_behind way branches before lists
+same_on_way way branches before [] col last = refl
+same_on_way way branches before (values ∷ lists) col last =
+    each_on_way way branches before values lists (on_way way (suc col) lists) col last
+    (λ value. same_on_way way branches (before ++ value ∷ []) lists (suc col) (longer value))
+  where
+    longer : (value : Value) → suc col ≡ length (before ++ value ∷ [])
+    longer value = omega (arith, last, length-append before (value ∷ []))
+
+-- the values on the way of one column more
+pub column_on_way : (way : List Cond) (lists : List (List Value)) (i : ℕ) (values : List Value) (kept more : List (List Value)) (others : List Value) → i < length lists → values ≡ get_or lists i values → kept ≡ on_way way 0 (take i lists) →
+    others ≡ filter (column_holds way i) values → more ≡ kept ++ others ∷ [] → more ≡ on_way way 0 (take (i + 1) lists)
+column_on_way way lists i values kept more others within is so_far filtered pushed =
+    let own = filtered ∙ ap (λ (all : List Value). filter (column_holds way i) all) is in
+    pushed ∙ ap₂ (λ (all : List (List Value)) (last : List Value). all ++ last ∷ []) so_far own ∙ sym (one_column 0 lists i i values (omega arith) within) ∙ ap (λ (n : ℕ). on_way way 0 (take n lists)) (next i)
+  where
+    one_column : (col : ℕ) (all : List (List Value)) (j at : ℕ) (d : List Value) → at ≡ col + j → j < length all → on_way way col (take (suc j) all) ≡ on_way way col (take j all) ++ filter (column_holds way at) (get_or all j d) ∷ []
+    one_column col [] j at d place inside = absurd (omega arith)
+    one_column col (first ∷ all) zero at d place inside = let same : at ≡ col = omega arith in rw same refl
+    one_column col (first ∷ all) (suc j) at d place inside = ap (λ (rest : List (List Value)). filter (column_holds way col) first ∷ rest) (one_column (suc col) all j at d (omega arith) (omega arith))
+
+    next : (n : ℕ) → suc n ≡ n + 1
+    next n = omega arith
+
 -- what was sought and is there
 pub sought_found : (first : Option (List Value)) (found : Bool) (old new : List (Bor Value)) → found ≡ true → IsSought first found old new → first ≡ Some (values_of new)
 sought_found first true old new is sought = sought
@@ -141,14 +183,6 @@ sought_here way branches row cell columns found none same is =
     let here = is ∙ ap (λ (own : List (Bor Value)). is_fault way branches (values_of own)) same in
     rw (none, here) (whole way branches row)
 
--- where the value fails a condition on the way
-pub skipped_here : (way : List Cond) (branches : List (List Cond)) (row : List (Bor Value)) (value : Value) (lists : List (List Value)) (col : ℕ) (holds : Bool) → col ≡ length row → holds ≡ column_holds way col value → holds ≡ false →
-    (first_fault_behind way branches (values_of row ++ value ∷ []) lists ≡ None) × (row ≡ row)
-skipped_here way branches row value lists col holds last is fails_here =
-    let at : col ≡ length (values_of row) = last ∙ sym (length-map row (λ (own : Bor Value). own.now)) in
-    let failed : column_holds way (length (values_of row)) value ≡ false = ap (λ (n : ℕ). column_holds way n value) (sym at) ∙ sym is ∙ fails_here in
-    (skipped way branches (values_of row) value lists failed, refl)
-
 -- with one more value in the row
 pub sought_with : (way : List Cond) (branches : List (List Cond)) (row longer new : List (Bor Value)) (value : Bor Value) (lists : List (List Value)) (found : Bool) → longer ≡ row ++ value ∷ [] →
     IsSought (first_fault_behind way branches (values_of longer) lists) found longer new → IsSought (first_fault_behind way branches (values_of row ++ value.now ∷ []) lists) found longer new
@@ -176,19 +210,19 @@ popped row longer new back value n is taken pushed same =
     taken ∙ ap₂ (λ (m : ℕ) (all : List (Bor Value)). take m all) less whole_is ∙ take-append_seam row (value ∷ [])
 
 -- what is sought from the outset
-pub first_found : (way : List Cond) (branches : List (List Cond)) (start new : List (Bor Value)) (slice lists : List (List Value)) (found : Bool) → start ≡ [] → slice ≡ lists → found ≡ true →
+pub first_found : (way : List Cond) (branches : List (List Cond)) (start new : List (Bor Value)) (slice lists : List (List Value)) (found : Bool) → start ≡ [] → slice ≡ on_way way 0 lists → found ≡ true →
     IsSought (first_fault_behind way branches (values_of start) slice) found start new → first_fault way branches lists ≡ Some (values_of new)
 first_found way branches start new slice lists found none same is sought =
     let P : List (Bor Value) → List (List Value) → Type 0 = λ own columns. first_fault_behind way branches (values_of own) columns ≡ Some (values_of new) in
     let some = sought_found (first_fault_behind way branches (values_of start) slice) found start new is sought in
-    sym (outset way branches lists) ∙ subst (λ (own : List (Bor Value)). P own lists) none (subst (λ (columns : List (List Value)). P start columns) same some)
+    sym (same_on_way way branches [] lists 0 refl ∙ outset way branches lists) ∙ subst (λ (own : List (Bor Value)). P own (on_way way 0 lists)) none (subst (λ (columns : List (List Value)). P start columns) same some)
 
-pub first_none : (way : List Cond) (branches : List (List Cond)) (start new : List (Bor Value)) (slice lists : List (List Value)) (found : Bool) → start ≡ [] → slice ≡ lists → found ≡ false →
+pub first_none : (way : List Cond) (branches : List (List Cond)) (start new : List (Bor Value)) (slice lists : List (List Value)) (found : Bool) → start ≡ [] → slice ≡ on_way way 0 lists → found ≡ false →
     IsSought (first_fault_behind way branches (values_of start) slice) found start new → first_fault way branches lists ≡ None
 first_none way branches start new slice lists found none same is sought =
     let P : List (Bor Value) → List (List Value) → Type 0 = λ own columns. first_fault_behind way branches (values_of own) columns ≡ None in
     let nothing = (sought_none (first_fault_behind way branches (values_of start) slice) found start new is sought).0 in
-    sym (outset way branches lists) ∙ subst (λ (own : List (Bor Value)). P own lists) none (subst (λ (columns : List (List Value)). P start columns) same nothing)
+    sym (same_on_way way branches [] lists 0 refl ∙ outset way branches lists) ∙ subst (λ (own : List (Bor Value)). P own (on_way way 0 lists)) none (subst (λ (columns : List (List Value)). P start columns) same nothing)
 
 -- a cell that is found answers by its kind
 pub found_answer : (kinds : List Kind) (way : List Cond) (branches : List (List Cond)) (lists : List (List Value)) (cell : List Value) (answer : Exactness) → CellsDecide → AllFit kinds way branches → AreSplitColumns kinds way branches lists → cell_count lists ≤ 4096 → first_fault way branches lists ≡ Some cell →

@@ -1,4 +1,4 @@
-use Rattle.std.specs.Prelude.{◌≡◌, ◌≢◌, ◌<◌, ◌≤◌, ◌*◌, ◌↔◌, ℕ, suc, ◌==◌, Bool, true, false, not, ◌&&◌, List, [], ◌∷◌, ◌++◌, map, flat_map, find, length, Option, Some, None, Contains}
+use Rattle.std.specs.Prelude.{◌≡◌, ◌≢◌, ◌<◌, ◌≤◌, ◌*◌, ◌↔◌, ℕ, suc, ◌==◌, Bool, true, false, not, ◌&&◌, List, [], ◌∷◌, ◌++◌, map, flat_map, filter, find, length, Option, Some, None, Contains}
 use Rattle.std.specs.Borrow.{Bor}
 use Rattle.std.specs.List.{AllByRecursion}
 use Rattle.std.specs.List.Sorted.{IsStrictlySortedBy}
@@ -8,7 +8,7 @@ use Rattle.terms.specs.declared.value.Value.{Value}
 use Rattle.terms.specs.Value.{value_cmp}
 use Rattle.terms.specs.Cond.{IsCondOf, conds_hold}
 use Rattle.terms.specs.Row.{FitsKinds}
-use Rattle.terms.specs.TestValues.{test_values, constants}
+use Rattle.terms.specs.TestValues.{test_values, constants, column_holds}
 use Rattle.catalog.specs.Counts.{how_many}
 use Rattle.catalog.specs.Valid.{AreExact}
 
@@ -60,6 +60,11 @@ first_fault way branches lists = find (is_fault way branches) (product lists)
 -- the same among the cells that begin with these values, and have an item of each list behind them
 abbrev pub first_fault_behind : List Cond → List (List Cond) → List Value → List (List Value) → Option (List Value)
 first_fault_behind way branches before lists = find (is_fault way branches) (map (λ rest. before ++ rest) (product lists))
+
+-- the values of each column that meet the conditions on the way to a row split; the first column has this number
+abbrev pub on_way : List Cond → ℕ → List (List Value) → List (List Value)
+on_way way col [] = []
+on_way way col (values ∷ lists) = filter (column_holds way col) values ∷ on_way way (suc col) lists
 
 -- the values that are borrowed
 abbrev pub values_of : List (Bor Value) → List Value

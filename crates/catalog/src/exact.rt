@@ -1,10 +1,10 @@
 //! Whether each row meets exactly one branch of a row split. Its cells decide that: rows of the test
 //! values of each column.
 
-ghost use Rattle.std.specs.Prelude.{◌≡◌, ◌≤◌, ◌↔◌, ◌++◌, ◌∷◌, [], ◌==◌, IfOk, OnOk, IsTrue, if◌then◌else◌};
+ghost use Rattle.std.specs.Prelude.{◌≡◌, ◌≤◌, ◌↔◌, ◌++◌, ◌∷◌, [], ◌==◌, IfOk, OnOk, IsTrue, if◌then◌else◌, filter};
 ghost use Rattle.terms.specs.Cond.{cond_holds, conds_hold};
 ghost use Rattle.terms.specs.TestValues.{column_holds};
-ghost use Rattle.catalog.specs.Cells.{cell_count, conds_of_split, AreTestColumns, met_by, is_fault, first_fault_behind, values_of, IsSought, AllFit};
+ghost use Rattle.catalog.specs.Cells.{cell_count, conds_of_split, AreTestColumns, met_by, is_fault, first_fault_behind, values_of, on_way, IsSought, AllFit};
 ghost use Rattle.catalog.specs.Exactness.{IsAnswer};
 
 use crate::laws::cells_decide;
@@ -49,8 +49,9 @@ pub fn try_cells(
     if !are_few(columns.as_slice()) {
         return Ok(Exactness::TooMany);
     }
+    let kept = columns_on_way(alloc, way, columns.as_slice())?;
     let mut cell = Vec::new(alloc);
-    if seek_fault(way, branches, columns.as_slice(), &mut cell)? {
+    if seek_fault(way, branches, kept.as_slice(), &mut cell)? {
         named(alloc, branches, cell.as_slice())
     } else {
         Ok(Exactness::Exact)
@@ -104,6 +105,46 @@ fn are_few(columns: &[Seq<Value>]) -> bool
     cells <= CELLS
 }
 
+/// The values of each column that meet the conditions on the way. No cell with another is faulty.
+fn columns_on_way(
+    alloc: Global,
+    way: &[Cond],
+    columns: &[Seq<Value>],
+) -> Result<Vec<Seq<Value>>, Memory>
+    ensures { IfOk result (λ kept. kept.items ≡ on_way way.now 0 columns.now) }
+{
+    let mut kept = Vec::new(alloc);
+    for col in 0..columns.len() {
+        let values = values_on_way(alloc, way, col, columns[col].as_slice())?;
+        kept.push(Seq::new(values))?;
+    }
+    Ok(kept)
+}
+
+fn values_on_way(
+    alloc: Global,
+    way: &[Cond],
+    col: usize,
+    values: &[Value],
+) -> Result<Vec<Value>, Memory>
+    ensures { IfOk result (λ kept. kept.items ≡ filter (column_holds way.now col) values.now) }
+{
+    let mut kept = Vec::new(alloc);
+    for value in values {
+        if column_holds(way, col, value) {
+            kept.push(value.copy()?)?;
+        }
+    }
+    Ok(kept)
+}
+
+/// Whether a value meets the conditions on a column.
+fn column_holds(conds: &[Cond], col: usize, value: &Value) -> bool
+    ensures { result ≡ column_holds conds.now col value.now }
+{
+    conds.iter().all(|cond| cond.col != col || cond.cmp.compares(value, &cond.value))
+}
+
 /// Looks for the first faulty cell among those that begin with the values of `row`, and have a value of
 /// each of the columns behind them. The first column's values vary slowest. Where there is such a cell,
 /// `row` is then that cell, else it is as before.
@@ -127,7 +168,7 @@ fn seek_fault<'a>(
     Ok(false)
 }
 
-/// The same where this value comes next. Where it fails a condition on the way, no cell is faulty.
+/// The same where this value comes next.
 #[cycle(cells)]
 fn seek_fault_with<'a>(
     way: &[Cond],
@@ -138,22 +179,12 @@ fn seek_fault_with<'a>(
 ) -> Result<bool, Memory>
     ensures { IfOk result (λ found. IsSought (first_fault_behind way.now branches.now (values_of row.old.items ++ value.now ∷ []) columns.now) found row.old.items row.new.items) }
 {
-    if !column_holds(way, row.len(), value) {
-        return Ok(false);
-    }
     row.push(value)?;
     let found = seek_fault(way, branches, columns, row)?;
     if !found {
         row.pop();
     }
     Ok(found)
-}
-
-/// Whether a value meets the conditions on a column.
-fn column_holds(conds: &[Cond], col: usize, value: &Value) -> bool
-    ensures { result ≡ column_holds conds.now col value.now }
-{
-    conds.iter().all(|cond| cond.col != col || cond.cmp.compares(value, &cond.value))
 }
 
 /// Whether a cell meets the conditions on the way, but not exactly one branch.

@@ -300,7 +300,7 @@ fn beginnings_are_accepted_or_refused(rt: HostRuntime) {
         let beginning = EMP_AND_DEPT.get(..end).unwrap_or_default();
         match Catalog::read(rt.alloc(), beginning) {
             Ok(_) => {}
-            Err(fault) => assert!(rt; fault.rule.number() != 14, "before {end}"),
+            Err(fault) => assert!(rt; fault.rule.number() != 14, "out of memory before {end}"),
         }
     }
 }

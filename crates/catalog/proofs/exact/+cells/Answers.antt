@@ -2,7 +2,7 @@ use Rattle.std.proofs.Common.{rules, ◌≡◌, ◌++◌, ◌∷◌, [], arith}
 use Rattle.std.specs.Vec.{vec_len}
 use Rattle.std.proofs.lemmas.List.{nil_from_length}
 use Rattle.catalog.specs.Cells.{first_fault_behind, values_of}
-use Rattle.catalog.proofs.Seeking.{sought_here, skipped_here, sought_with, found_with, none_with, there_with, back_without, popped}
+use Rattle.catalog.proofs.Seeking.{sought_here, sought_with, found_with, none_with, there_with, back_without, popped}
 use Rattle.catalog.proofs.exact.+cells.Goals as goal
 
 pub seek_fault-returns-in_default : goal.seek_fault-returns-in_default
@@ -20,10 +20,6 @@ seek_fault-loop-value-preserved t c =
     let next = none_with c.args.way.now c.args.branches.now c.args.row.now.items c.loop-value.row.items c.seek_fault_with.new.row.items c.as_slice-value-items.result.now c.in-Some.rest.now c.loop-value.value-index c.value-item.result
     c.in_ok-seek_fault_with.field-0 c.loop-value-test.true c.value-item.is c.if-branch.false c.loop-value.invariant.row c.loop-value.invariant.first c.in_ok-seek_fault_with.ensures in
     record { row = next.0; first = next.1 }
-
-pub seek_fault_with-returns-then-not-column_holds : goal.seek_fault_with-returns-then-not-column_holds
-seek_fault_with-returns-then-not-column_holds t c =
-    skipped_here c.args.way.now c.args.branches.now c.args.row.now.items c.args.value.now c.args.columns.now c.len.result c.column_holds.result (omega (arith, c.len.ensures, c.args.row.now.ok.0)) c.column_holds.ensures c.if-not-column_holds.true
 
 pub seek_fault_with-returns-then-not-found : goal.seek_fault_with-returns-then-not-found
 seek_fault_with-returns-then-not-found t c =
