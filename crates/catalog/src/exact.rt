@@ -14,7 +14,7 @@ use terms::copy::{TryCopy, copy_all};
 use terms::memory::Memory;
 use terms::row::Row;
 use terms::seq::Seq;
-use terms::test_values::test_values;
+use terms::test_values::{column_holds, test_values};
 use terms::value::{Kind, Value};
 
 /// The most cells of a row split.
@@ -136,13 +136,6 @@ fn values_on_way(
         }
     }
     Ok(kept)
-}
-
-/// Whether a value meets the conditions on a column.
-fn column_holds(conds: &[Cond], col: usize, value: &Value) -> bool
-    ensures { result ≡ column_holds conds.now col value.now }
-{
-    conds.iter().all(|cond| cond.col != col || cond.cmp.compares(value, &cond.value))
 }
 
 /// Looks for the first faulty cell among those that begin with the values of `row`, and have a value of

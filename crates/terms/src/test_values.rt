@@ -47,7 +47,7 @@ fn after_int(n: i64) -> Option<Value>
 }
 
 /// Whether a value meets the conditions on a column.
-pub(crate) fn column_holds(conds: &[Cond], col: usize, value: &Value) -> bool
+pub fn column_holds(conds: &[Cond], col: usize, value: &Value) -> bool
     ensures { result ≡ column_holds conds.now col value.now }
 {
     conds.iter().all(|cond| cond.col != col || cond.cmp.compares(value, &cond.value))
