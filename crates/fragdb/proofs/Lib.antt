@@ -7,3 +7,6 @@ pub mod SoloLemmas
 pub mod UsageLemmas
 pub mod GatherLaws
 pub mod ChangeLaws
+pub mod InputLemmas
+pub mod CatalogFileLemmas
+pub mod CheckLemmas

@@ -1,23 +1,12 @@
--- Lemmas on reading a script.
-use Rattle.std.proofs.Common.{cond, ◌∷◌, ◌||◌, ◌+◌, Bool, false, append-nil, ap₂, get_or, sym, append_assoc, ap, refl, ◌∙◌, map, ◌≡◌, ℕ, ◌<◌, ◌++◌, true, List, [], length, take, Option, Some, None, Result, Ok, Err, OnOk, IfSome, is_ok, option_map, arith, subst}
+-- Lemmas on running a script.
+use Rattle.std.proofs.Common.{cond, ◌∷◌, ◌||◌, ◌+◌, Bool, false, append-nil, ap₂, get_or, sym, append_assoc, ap, refl, ◌∙◌, map, ◌≡◌, ℕ, ◌<◌, ◌++◌, true, List, [], length, take, Option, Some, None, Result, Ok, Err, OnOk, is_ok, subst}
 use Rattle.std.specs.Io.KnownBytes.{Appends}
 use Rattle.std.proofs.lemmas.List.{map-append, map_more}
 use Rattle.std.proofs.lemmas.List.Folds.{list_any-append}
 use Rattle.fragdb.specs.Script.{Reading, task_of}
 use Rattle.fragdb.specs.declared.script.Item.{Item}
 use Rattle.fragdb.specs.Solo.{AnswersTask, AnswersTasks, IsRun, Lists, is_refusal, no_rows}
-use Rattle.std.proofs.lemmas.Grind.{common_steps, flat_map-append}
-
-read_all : (bytes old new : List ℕ) (limit : ℕ) → new ≡ old ++ take limit bytes → old ≡ [] → length new < limit → new ≡ bytes
-read_all bytes old new limit h is_new short = grind (arith, common_steps)
-
--- what was read up to a limit that it did not reach is all that there was
-pub all_within : {E : Type 0} (r : Result ℕ E) (known front : Option (List ℕ)) (old new : List ℕ) (limit : ℕ) → is_ok r ≡ true → front ≡ option_map (take limit) known → OnOk r (IfSome front (λ bytes. new ≡ old ++ bytes)) → old ≡ [] → length new < limit → IfSome known (λ bytes. new ≡ bytes)
-all_within (Err e) known front old new limit ok is_front h is_new short = absurd (cc)
-all_within (Ok n) None front old new limit ok is_front h is_new short = tt
-all_within (Ok n) (Some bytes) front old new limit ok is_front h is_new short =
-    let P : Option (List ℕ) → Type 0 = λ f. IfSome f (λ bytes. new ≡ old ++ bytes) in
-    read_all bytes old new limit (subst P is_front h) is_new short
+use Rattle.std.proofs.lemmas.Grind.{flat_map-append}
 
 -- what was written, and then more
 pub Appends-more : (first second third : Option (List ℕ)) (xs ys : List ℕ) → Appends first second xs → Appends second third ys → Appends first third (xs ++ ys)

@@ -1,5 +1,5 @@
 -- Lemmas on the words of the command line.
-use Rattle.std.proofs.Common.{◌≡◌, Box, Global, List, Option, Some, None, codes, refl, ap, sym, ◌∙◌, option_map}
+use Rattle.std.proofs.Common.{◌≡◌, Box, Global, List, Option, Some, None, refl, ap, sym, ◌∙◌, option_map}
 use Rattle.clap.specs.Words.{Row, Text, first_of, subcommand_name_of, subcommand_of, subcommand_rows, subcommand_rows_of}
 use Rattle.std.specs.Box.{box_value}
 use Rattle.clap.specs.declared.parser.matches.SubCommand.{SubCommand, out-SubCommand}
@@ -14,9 +14,9 @@ subcommand_name_of-rows m = go (out-ArgMatches m).subcommand
     go (Some entered) = refl
 
 -- the command that was entered, by its name and its rows
-pub command_given-at : (words : List Text) (entered : Option (Text × List Row)) (name : Text) (rows : List Row) (script : Text) → entered ≡ subcommand_of usage words → Some name ≡ option_map (λ p. p.0) entered → Some rows ≡ option_map (λ p. p.1) entered → Some script ≡ first_of (codes "SCRIPT") rows → command_given words ≡ Some (name, Some script)
-command_given-at words None name rows script e n r s = absurd (cc)
-command_given-at words (Some (entered_name, entered_rows)) name rows script e n r s =
+pub command_given-at : (words : List Text) (argument_name : Text) (entered : Option (Text × List Row)) (name : Text) (rows : List Row) (value : Text) → entered ≡ subcommand_of usage words → Some name ≡ option_map (λ p. p.0) entered → Some rows ≡ option_map (λ p. p.1) entered → Some value ≡ first_of argument_name rows → command_given words argument_name ≡ Some (name, Some value)
+command_given-at words argument_name None name rows value e n r s = absurd (cc)
+command_given-at words argument_name (Some (entered_name, entered_rows)) name rows value e n r s =
     let name_is : entered_name ≡ name = cc in
     let rows_is : entered_rows ≡ rows = cc in
-    ap (option_map (λ p. (p.0, first_of (codes "SCRIPT") p.1))) (sym e) ∙ rw (name_is, rows_is, ← s) refl
+    ap (option_map (λ p. (p.0, first_of argument_name p.1))) (sym e) ∙ rw (name_is, rows_is, ← s) refl

@@ -8,3 +8,6 @@ pub mod Script
 pub mod Solo
 pub mod Usage
 pub mod Fault
+pub mod Input
+pub mod CatalogFile
+pub mod Check

@@ -1,13 +1,16 @@
 //! fragdb: a relational database in fragments. `fragdb solo SCRIPT` runs a script over the built-in
-//! catalogue, one statement at a time.
+//! catalogue, one statement at a time; `fragdb check CATALOG` checks a catalogue and lists its fragments.
 //!
-//! The contract that carries it: `small::Small::line` answers a text by its statement's meaning over
-//! the whole relation that the two lists rebuild.
+//! The contracts that carry it: `small::Small::line` answers a text by its statement's meaning over
+//! the whole relation that the two lists rebuild, and `check::do_check` accepts only a valid catalogue.
 #![tactic(auto)]
 
+mod catalog_file;
 mod change;
+mod check;
 mod fault;
 mod gather;
+mod input;
 mod item;
 mod merge;
 mod script;
@@ -18,6 +21,7 @@ mod tests;
 mod transaction;
 mod usage;
 
+use crate::check::do_check;
 use crate::fault::{ProgramFault, report};
 use crate::solo::do_solo;
 use crate::usage::{Request, read_words, show_usage, unreadable_words};
@@ -45,6 +49,10 @@ fn main(rt: HostRuntime) -> ExitCode {
         Ok(Request::Solo { script }) => match fs::open(&rt, script) {
             Ok(file) => do_solo(alloc, script, file, &mut output, &mut errors),
             Err(error) => report(&mut errors, &ProgramFault::reading(script, &error)),
+        },
+        Ok(Request::Check { catalog }) => match fs::open(&rt, catalog) {
+            Ok(file) => do_check(alloc, catalog, file, &mut output, &mut errors),
+            Err(error) => report(&mut errors, &ProgramFault::reading(catalog, &error)),
         },
         Err(error) => show_usage(&error, &mut output, &mut errors),
     };

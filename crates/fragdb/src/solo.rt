@@ -12,6 +12,7 @@ ghost use Rattle.fragdb.specs.Script.{first_unreadable, lines_of, task_of, tasks
 ghost use Rattle.fragdb.specs.Solo.{IsAccepted, IsOfRead, IsOfRun, AnswersTask, IsRun, Lists, is_refusal, leaf_text, longest, relation_text};
 
 use crate::fault::{ProgramFault, report};
+use crate::input::read_up_to;
 use crate::script::{Item, items};
 use crate::small::Small;
 use std::alloc::Global;
@@ -84,11 +85,8 @@ pub fn read_script<'a, R: Read + Drop>(
     ensures faults { IfErr result (IsOfRead file.entry) }
     ensures too_long { result ≡ Err ProgramFault.ScriptTooLong → IfSome (R.remaining input) (λ bytes. longest < length bytes) }
 {
-    let mut script = Vec::new(alloc);
-    input
-        .take(SCRIPT_LIMIT + 1)
-        .read_to_end(&mut script)
-        .map_err(|error| ProgramFault::reading(file, &error))?;
+    // One byte more than there may be shows that there are too many.
+    let script = read_up_to(alloc, file, input, SCRIPT_LIMIT + 1)?;
     if script.len() as u64 > SCRIPT_LIMIT {
         return Err(ProgramFault::ScriptTooLong);
     }

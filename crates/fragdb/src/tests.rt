@@ -393,16 +393,18 @@ fn reads_the_words(rt: HostRuntime) {
         (&["fragdb", "solo", "--", "-x"], "-x"),
     ];
     for (words, script) in cases {
-        let Request::Solo { script: read } = read_words(rt.alloc(), words).expect(&rt, "a request");
-        assert_eq!(rt; read, script);
+        let request = read_words(rt.alloc(), words).expect(&rt, "a request");
+        assert_eq!(rt; request, Request::Solo { script });
     }
 }
 
 #[test]
 fn shows_how_it_is_called(rt: HostRuntime) -> Result<(), Fail> {
-    let cases: [(&[&str], u8, &str); 7] = [
+    let cases: [(&[&str], u8, &str); 9] = [
         (&["fragdb", "--help"], 0, "A relational database"),
         (&["fragdb", "solo", "--help"], 0, "Runs a script"),
+        (&["fragdb", "check", "--help"], 0, "Checks a catalogue"),
+        (&["fragdb", "check"], 2, "error: the following required"),
         (&["fragdb", "--version"], 0, "fragdb 0.1.0\n"),
         (&["fragdb", "solo"], 2, "error: the following required"),
         (

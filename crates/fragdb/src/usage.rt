@@ -1,10 +1,11 @@
 //! The words of the command line.
 
-ghost use Rattle.std.specs.Prelude.{◌≡◌, ◌≤◌, ◌<◌, ◌⊎◌, Some, IfOk, IsOkAnd, codes, length, map};
+ghost use Rattle.std.specs.Prelude.{◌≡◌, ◌≤◌, ◌<◌, ◌⊎◌, Some, IfOk, IsOkAnd, codes, false, length, map};
 ghost use Rattle.std.specs.Io.KnownBytes.{Keeps};
 ghost use Rattle.std.specs.IoError.{error_kind};
+ghost use Rattle.clap.specs.declared.builder.command.Command.TheViews.{out-Command};
 ghost use Rattle.clap.specs.Words.{app_of, kind_of};
-ghost use Rattle.fragdb.specs.Usage.{command_given, script_of, usage, usage_status};
+ghost use Rattle.fragdb.specs.Usage.{asked, command_given, command_with, usage, usage_status};
 
 use crate::fault::{ProgramFault, report};
 use clap::error::ErrorKind;
@@ -19,13 +20,15 @@ use std::io::{ErrorKind as IoErrorKind, Write};
 pub enum Request<'a> {
     /// To run this script, a file's name, or `-` for standard input.
     Solo { script: &'a str },
+    /// To check this catalogue, a file's name.
+    Check { catalog: &'a str },
 }
 
 /// What the words ask for, of which the first names the program. With no other word that is `solo -`.
 pub fn read_words<'a, S: AsStr>(alloc: Global, words: &'a [S]) -> Result<Request<'a>, Error>
-    ensures alone { length words.entry.now ≤ 1 → IsOkAnd result (λ request. script_of request ≡ codes "-") }
+    ensures alone { length words.entry.now ≤ 1 → IsOkAnd result (λ request. asked request ≡ (codes "solo", codes "SCRIPT", codes "-")) }
     ensures given { IfOk result (λ request. 1 < length words.entry.now
-        → command_given (map S.text words.entry.now) ≡ Some (codes "solo", Some (script_of request))) }
+        → command_given (map S.text words.entry.now) (asked request).1 ≡ Some ((asked request).0, Some (asked request).2)) }
 {
     if words.len() <= 1 {
         return Ok(Request::Solo { script: "-" });
@@ -36,6 +39,11 @@ pub fn read_words<'a, S: AsStr>(alloc: Global, words: &'a [S]) -> Result<Request
         && let Some(script) = solo.get_str("SCRIPT")
     {
         return Ok(Request::Solo { script });
+    }
+    if let Some(("check", check)) = matches.subcommand()
+        && let Some(catalog) = check.get_str("CATALOG")
+    {
+        return Ok(Request::Check { catalog });
     }
     Err(command.error(ErrorKind::MissingSubcommand, "a command is missing")?)
 }
@@ -61,17 +69,36 @@ fn not_text(alloc: Global) -> Result<Error, AllocError>
 fn command<'a>(alloc: Global) -> Result<Command<'a>, AllocError>
     ensures { IfOk result (λ command. app_of command ≡ usage) }
 {
-    let script = Arg::new(alloc, "SCRIPT")
-        .required(true)
-        .help("A file with one item a line, or - for standard input");
-    let solo = Command::new(alloc, "solo")
-        .about("Runs a script of statements, one at a time")
-        .arg(script)?;
     Command::new(alloc, "fragdb")
         .version("0.1.0")
         .about("A relational database in fragments")
         .subcommand_required(true)
-        .subcommand(solo)
+        .subcommand(solo_command(alloc)?)?
+        .subcommand(check_command(alloc)?)
+}
+
+fn solo_command<'a>(alloc: Global) -> Result<Command<'a>, AllocError>
+    ensures shape { IfOk result (λ command. app_of command ≡ command_with (codes "solo") (codes "SCRIPT")) }
+    ensures local { IfOk result (λ command. (out-Command command).has_globals ≡ false) }
+{
+    let script = Arg::new(alloc, "SCRIPT")
+        .required(true)
+        .help("A file with one item a line, or - for standard input");
+    Command::new(alloc, "solo")
+        .about("Runs a script of statements, one at a time")
+        .arg(script)
+}
+
+fn check_command<'a>(alloc: Global) -> Result<Command<'a>, AllocError>
+    ensures shape { IfOk result (λ command. app_of command ≡ command_with (codes "check") (codes "CATALOG")) }
+    ensures local { IfOk result (λ command. (out-Command command).has_globals ≡ false) }
+{
+    let catalog = Arg::new(alloc, "CATALOG")
+        .required(true)
+        .help("A file with a catalogue, in TOML");
+    Command::new(alloc, "check")
+        .about("Checks a catalogue and lists its fragments")
+        .arg(catalog)
 }
 
 /// Writes clap's text where it belongs, and answers the exit status: 0 for what was asked for, 2 for

@@ -1,10 +1,11 @@
-use Rattle.std.proofs.Common.{◌≡◌, true, ap, ap₂, arith, is_ok, option_map, sym, take, ◌∙◌}
-use Rattle.fragdb.proofs.SoloLemmas.{all_within}
+use Rattle.std.proofs.Common.{arith}
+use Rattle.fragdb.proofs.InputLemmas.{all_within, beyond}
 use Rattle.fragdb.proofs.solo.read_script.Goals as goal
 
 pub returns-clause-all : goal.returns-clause-all
 returns-clause-all g c =
-    let ok : is_ok c.read_to_end.result ≡ true = sym c.map_err.ensures.variant ∙ ap is_ok c.in_ok-map_err.was in
-    let front = ap₂ (λ n input. option_map (take n) (g.R.Read.remaining input)) c.take.ensures.limit c.take.ensures.inner in
-    all_within c.read_to_end.result (g.R.Read.remaining c.args.input) _ c.new-script.result.items c.read_to_end.new.buf.items 1048577
-    ok front c.read_to_end.ensures.bytes c.new-script.ensures.items (omega (arith, c.read_to_end.new.buf.ok.0))
+    all_within (g.R.Read.remaining c.args.input) c.in_ok-script.script.items 1048576 c.in_ok-script.ensures.front (omega arith)
+
+pub returns-then-len-gt-SCRIPT_LIMIT-clause-too_long : goal.returns-then-len-gt-SCRIPT_LIMIT-clause-too_long
+returns-then-len-gt-SCRIPT_LIMIT-clause-too_long g c =
+    λ _. beyond (g.R.Read.remaining c.args.input) c.in_ok-script.script.items 1048576 c.in_ok-script.ensures.front (omega arith)

@@ -12,5 +12,15 @@ returns-clause-given g c =
     let name = c.in-Some-solo-default.ensures.name ∙ subcommand_name_of-rows c.in_ok-matches.matches in
     let rows = c.in-Some-solo-default.ensures.rows in
     let script = c.in-Some.ensures in
-    λ _. command_given-at (map g.S.AsStr.text c.args.words.now) _ (codes "solo") _ c.in-Some.script.now entered
+    λ _. command_given-at (map g.S.AsStr.text c.args.words.now) (codes "SCRIPT") _ (codes "solo") _ c.in-Some.script.now entered
     (ap (λ (t : List ℕ). Some t) (sym c.in-Some-solo-default.is-solo) ∙ name) rows (script ∙ first_value-rows (found_of c.in-Some-solo-default.solo.now) (codes "SCRIPT"))
+
+pub returns-2-clause-given : goal.returns-2-clause-given
+returns-2-clause-given g c =
+    let usage_is : app_of c.in_ok-command.command ≡ usage = c.in_ok-command.ensures in
+    let entered = (c.in_ok-matches.ensures.ok.2 (ap is_simple usage_is)).1 ∙ ap (λ a. subcommand_of a (map g.S.AsStr.text c.args.words.now)) usage_is in
+    let name = c.in-Some-check-default.ensures.name ∙ subcommand_name_of-rows c.in_ok-matches.matches in
+    let rows = c.in-Some-check-default.ensures.rows in
+    let catalog = c.in-Some-get_str.ensures in
+    λ _. command_given-at (map g.S.AsStr.text c.args.words.now) (codes "CATALOG") _ (codes "check") _ c.in-Some-get_str.catalog.now entered
+    (ap (λ (t : List ℕ). Some t) (sym c.in-Some-check-default.is-check) ∙ name) rows (catalog ∙ first_value-rows (found_of c.in-Some-check-default.check.now) (codes "CATALOG"))

@@ -1,0 +1,72 @@
+-- What the program says of a catalogue.
+use Rattle.std.specs.Prelude.{◌≡◌, ◌⊎◌, ℕ, List, [], ◌∷◌, ◌++◌, Option, codes, length, map, option_map, unwrap_or}
+use Rattle.std.specs.Borrow.{Bor}
+use Rattle.std.specs.Fmt.{decimal}
+use Rattle.std.specs.Io.KnownBytes.{Appends}
+use Rattle.std.specs.List.{flat_map}
+use Rattle.terms.specs.declared.cond.Cond.{Cond}
+use Rattle.terms.specs.Leaf.{leaf_text}
+use Rattle.meaning.specs.declared.schema.Column.{Column}
+use Rattle.meaning.specs.declared.schema.RelationSchema.{RelationSchema}
+use Rattle.meaning.specs.Schema.{relation_named}
+use Rattle.reader.specs.Printed.{conds_bytes, separated_bytes}
+use Rattle.reader.specs.Written.{name_in}
+use Rattle.catalog.specs.declared.fragment_leaf.FragmentLeaf.{FragmentLeaf}
+use Rattle.catalog.specs.Catalogue.{Catalogue, IsValidCatalogue}
+use Rattle.catalog.specs.FragmentLeaf.{catalogue_leaves, schemas_of}
+use Rattle.fragdb.specs.declared.catalog_file.CatalogFault.{CatalogFault}
+use Rattle.fragdb.specs.declared.catalog_file.CatalogFault.TheVariants.{Program, Refused}
+use Rattle.fragdb.specs.declared.fault.ProgramFault.TheVariants.{CannotWrite}
+use Rattle.fragdb.specs.CatalogFile.{IsCatalogueFile, RefusesFile}
+use Rattle.fragdb.specs.Input.{IsOfInput}
+
+-- the columns of the relation of this name, none where it is not there
+abbrev pub columns_of : List RelationSchema → List ℕ → List Column
+columns_of relations name = unwrap_or (option_map (λ relation. relation.columns) (relation_named name relations)) []
+
+abbrev pub names_of_columns : List Column → List (List ℕ)
+names_of_columns columns = map (λ column. column.name) columns
+
+-- conditions on columns of these names, if there are any
+abbrev pub where_text : List (List ℕ) → List Cond → List ℕ
+where_text names [] = []
+where_text names (cond ∷ conds) = codes " where " ++ conds_bytes names (cond ∷ conds)
+
+-- what is said of a leaf of which the relation has columns of these names: the leaf's name, its site, its columns and its conditions
+abbrev pub leaf_over : List (List ℕ) → List (List ℕ) → FragmentLeaf → List ℕ
+leaf_over sites names leaf =
+    leaf_text leaf.name ++ 32 ∷ name_in sites leaf.site
+    ++ codes " (" ++ separated_bytes (name_in names) (codes ", ") leaf.columns ++ codes ")"
+    ++ where_text names leaf.conds
+
+-- the same in a line of its own
+abbrev pub leaf_line : List (List ℕ) → List RelationSchema → FragmentLeaf → List ℕ
+leaf_line sites relations leaf = leaf_over sites (names_of_columns (columns_of relations leaf.name.relation)) leaf ++ 10 ∷ []
+
+-- how much a catalogue has
+abbrev pub counts_text : ℕ → ℕ → ℕ → List ℕ
+counts_text sites relations leaves =
+    codes "accepted " ++ decimal sites ++ codes " sites " ++ decimal relations ++ codes " relations " ++ decimal leaves ++ codes " fragments" ++ 10 ∷ []
+
+abbrev pub accepted_line : Catalogue → List ℕ
+accepted_line catalogue = counts_text (length catalogue.sites) (length catalogue.relations) (length (catalogue_leaves catalogue))
+
+-- a line for each leaf of a catalogue
+abbrev pub leaf_lines : Catalogue → List ℕ
+leaf_lines catalogue = flat_map (leaf_line catalogue.sites (schemas_of catalogue)) (catalogue_leaves catalogue)
+
+-- what is said of a catalogue
+abbrev pub check_text : Catalogue → List ℕ
+check_text catalogue = accepted_line catalogue ++ leaf_lines catalogue
+
+-- these bytes are of a valid catalogue, of which all was said on this output
+pub record IsChecked (old new : Option (List ℕ)) (bytes : List ℕ) : Type 0 where
+  pub catalogue : Catalogue
+  pub file : IsCatalogueFile bytes catalogue
+  pub valid : IsValidCatalogue catalogue
+  pub said : Appends old new (check_text catalogue)
+
+-- why nothing was said of this file, of these bytes, or not all
+abbrev pub IsCheckFault : Bor (List ℕ) → List ℕ → CatalogFault → Type 0
+IsCheckFault file bytes (Program fault) = IsOfInput file fault ⊎ (fault ≡ CannotWrite)
+IsCheckFault file bytes (Refused fault) = RefusesFile bytes fault.rule

@@ -1,0 +1,9 @@
+-- Faults of reading.
+use Rattle.std.specs.Prelude.{◌≡◌, ◌⊎◌, ℕ, List}
+use Rattle.std.specs.Borrow.{Bor}
+use Rattle.fragdb.specs.declared.fault.ProgramFault.{ProgramFault}
+use Rattle.fragdb.specs.declared.fault.ProgramFault.TheVariants.{CannotRead, Memory}
+
+-- a fault that may come while this file is read
+abbrev pub IsOfInput : Bor (List ℕ) → ProgramFault → Type 0
+IsOfInput file fault = (fault ≡ Memory) ⊎ (fault ≡ CannotRead file)

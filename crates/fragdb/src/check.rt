@@ -1,0 +1,201 @@
+//! The command `check`: whether a file is a catalogue, and its fragments.
+
+ghost use Rattle.std.specs.Prelude.{◌≡◌, ◌<◌, ◌⊎◌, ◌∷◌, ◌++◌, [], codes, map, string_bytes, IfErr, IfOk, IfSome, OnOk};
+ghost use Rattle.std.specs.Io.KnownBytes.{Appends, Keeps};
+ghost use Rattle.catalog.specs.Relation.{catalogue_of};
+ghost use Rattle.catalog.specs.Fault.{fault_text};
+ghost use Rattle.reader.specs.Printed.{separated_bytes};
+ghost use Rattle.reader.specs.Written.{name_in};
+ghost use Rattle.fragdb.specs.CatalogFile.{IsFileOfNoneValid};
+ghost use Rattle.fragdb.specs.Check as spec;
+ghost use Rattle.fragdb.specs.Solo.{IsOfRun};
+ghost use Rattle.fragdb.specs.Check.{IsChecked, IsCheckFault, accepted_line, leaf_line, leaf_lines, names_of_columns, where_text};
+
+use crate::catalog_file::{CatalogFault, read_catalog};
+use crate::fault::{ProgramFault, report};
+use catalog::catalogue::Catalog;
+use catalog::fault::CatFault;
+use catalog::fragment_leaf::FragmentLeaf;
+use meaning::schema::{Column, Schema};
+use reader::printed::print_conds;
+use std::alloc::Global;
+use std::io;
+use std::io::{Read, Write};
+use terms::cond::Conds;
+use terms::memory::Memory;
+use terms::text::Text;
+
+/// Checks the catalogue that `input` gives, which `file` names in a fault. Writes its fragments to
+/// `output` where it is accepted, and else a fault to `errors`. Answers the exit status.
+pub fn do_check<R: Read + Drop, W: Write, E: Write>(
+    alloc: Global,
+    file: &str,
+    input: R,
+    output: &mut W,
+    errors: &mut E,
+) -> u8
+    ensures status { (result ≡ 0) ⊎ (result ≡ 1) ⊎ (result ≡ 4) }
+    ensures accepted { result ≡ 0 → IfSome (R.remaining input) (IsChecked (W.contents output.old) (W.contents output.new)) }
+    ensures refused { IfSome (R.remaining input) (λ bytes. IsFileOfNoneValid bytes
+        → (0 < result) × Keeps (W.contents output.old) (W.contents output.new)) }
+    ensures quiet { result ≡ 0 → Keeps (E.contents errors.old) (E.contents errors.new) }
+{
+    match check(alloc, file, input, output) {
+        Ok(()) => 0,
+        Err(CatalogFault::Program(fault)) => report(errors, &fault),
+        Err(CatalogFault::Refused(fault)) => {
+            // Where the standard error is closed there is nobody to tell.
+            let _ = tell(errors, &fault);
+            1
+        }
+    }
+}
+
+/// Says in one line that a catalogue is refused.
+fn tell<E: Write>(errors: &mut E, fault: &CatFault) -> io::Result<()>
+    ensures { OnOk result (Appends (E.contents errors.old) (E.contents errors.new) (codes "refused " ++ fault_text fault.now ++ 10 ∷ [])) }
+{
+    writeln!(errors, "refused {fault}")
+}
+
+/// Writes what a catalogue has, once it is read.
+fn check<'a, R: Read + Drop, W: Write>(
+    alloc: Global,
+    file: &'a str,
+    input: R,
+    output: &mut W,
+) -> Result<(), CatalogFault<'a>>
+    ensures accepted { OnOk result (IfSome (R.remaining input) (IsChecked (W.contents output.old) (W.contents output.new))) }
+    ensures faults { IfErr result (λ fault. IfSome (R.remaining input) (λ bytes. IsCheckFault file.entry bytes fault)) }
+    ensures refused { IfSome (R.remaining input) (λ bytes. IsFileOfNoneValid bytes
+        → Keeps (W.contents output.old) (W.contents output.new)) }
+{
+    let catalog = read_catalog(alloc, file, input)?;
+    let text = check_text(alloc, &catalog)?;
+    write_text(output, text.as_str())?;
+    Ok(())
+}
+
+/// Writes a text, and waits until it is written.
+fn write_text<'a, W: Write>(output: &mut W, text: &str) -> Result<(), ProgramFault<'a>>
+    ensures written { OnOk result (Appends (W.contents output.old) (W.contents output.new) text.now) }
+    ensures faults { IfErr result IsOfRun }
+{
+    output
+        .write_all(text.as_bytes())
+        .map_err(|error| ProgramFault::writing(&error))?;
+    output
+        .flush()
+        .map_err(|error| ProgramFault::writing(&error))
+}
+
+/// How much a catalogue has, and a line for each leaf.
+fn check_text(alloc: Global, catalog: &Catalog) -> Result<String, Memory>
+    ensures { IfOk result (λ text. string_bytes text ≡ spec.check_text (catalogue_of catalog.now)) }
+{
+    let mut text = String::new(alloc);
+    put_counts(&mut text, catalog)?;
+    put_leaves(&mut text, catalog)?;
+    Ok(text)
+}
+
+fn put_counts(out: &mut String, catalog: &Catalog) -> Result<(), Memory>
+    ensures { OnOk result (string_bytes out.new ≡ string_bytes out.old ++ accepted_line (catalogue_of catalog.now)) }
+{
+    let sites = catalog.sites().len();
+    let relations = catalog.schema().relations.as_slice().len();
+    let leaves = catalog.leaves().len();
+    writeln!(
+        out,
+        "accepted {sites} sites {relations} relations {leaves} fragments"
+    )?;
+    Ok(())
+}
+
+fn put_leaves(out: &mut String, catalog: &Catalog) -> Result<(), Memory>
+    ensures { OnOk result (string_bytes out.new ≡ string_bytes out.old ++ leaf_lines (catalogue_of catalog.now)) }
+{
+    for leaf in catalog.leaves() {
+        put_leaf(out, catalog.sites(), catalog.schema(), leaf)?;
+    }
+    Ok(())
+}
+
+/// A leaf's line: its name, its site, its columns, and its conditions if it has any.
+fn put_leaf(
+    out: &mut String,
+    sites: &[Text],
+    schema: &Schema,
+    leaf: &FragmentLeaf,
+) -> Result<(), Memory>
+    ensures { OnOk result (string_bytes out.new ≡ string_bytes out.old ++ leaf_line sites.now schema.now.relations leaf.now) }
+{
+    let columns = columns_of(schema, &leaf.name.relation);
+    write!(out, "{} ", leaf.name)?;
+    put_site(out, sites, leaf.site)?;
+    out.push_str(" (")?;
+    put_names(out, columns, leaf.columns.as_slice())?;
+    out.push(')')?;
+    put_where(out, columns, &leaf.conds)?;
+    out.push('\n')?;
+    Ok(())
+}
+
+/// The name of a site, nothing where it is not there.
+fn put_site(out: &mut String, sites: &[Text], site: usize) -> Result<(), Memory>
+    ensures { OnOk result (string_bytes out.new ≡ string_bytes out.old ++ name_in sites.now site) }
+{
+    if let Some(name) = sites.get(site) {
+        out.push_str(name.as_str())?;
+    }
+    Ok(())
+}
+
+/// The columns of a relation, none where it is not there.
+fn columns_of<'a>(schema: &'a Schema, relation: &Text) -> &'a [Column]
+    ensures { result.now ≡ spec.columns_of schema.now.relations relation.now }
+{
+    match schema.relation(relation.as_str().as_bytes()) {
+        Some(relation) => relation.columns.as_slice(),
+        None => &[],
+    }
+}
+
+/// The names of columns at these places.
+fn put_names(out: &mut String, columns: &[Column], places: &[usize]) -> Result<(), Memory>
+    ensures { OnOk result (string_bytes out.new ≡ string_bytes out.old ++ separated_bytes (name_in (names_of_columns columns.now)) (codes ", ") places.now) }
+{
+    let Some((first, others)) = places.split_first() else {
+        return Ok(());
+    };
+    put_name(out, columns, *first)?;
+    for place in others {
+        out.push_str(", ")?;
+        put_name(out, columns, *place)?;
+    }
+    Ok(())
+}
+
+fn put_name(out: &mut String, columns: &[Column], place: usize) -> Result<(), Memory>
+    ensures { OnOk result (string_bytes out.new ≡ string_bytes out.old ++ name_in (names_of_columns columns.now) place) }
+{
+    if let Some(column) = columns.get(place) {
+        out.push_str(column.name.as_str())?;
+    }
+    Ok(())
+}
+
+/// Conditions on these columns, if there are any.
+fn put_where(out: &mut String, columns: &[Column], conds: &Conds) -> Result<(), Memory>
+    ensures { OnOk result (string_bytes out.new ≡ string_bytes out.old ++ where_text (names_of_columns columns.now) conds.now) }
+{
+    if conds.as_slice().is_empty() {
+        return Ok(());
+    }
+    let conds = print_conds(*out.allocator(), conds, columns)?;
+    write!(out, " where {conds}")?;
+    Ok(())
+}
+
+#[cfg(test)]
+mod tests;
