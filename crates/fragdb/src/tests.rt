@@ -267,6 +267,7 @@ fn want_of_memory_changes_nothing(rt: HostRuntime) -> Result<(), Fail> {
             "SELECT nam FROM item WHERE id = 2",
             "refused read 5 NoColumn at 7",
         ),
+        ("BEGIN", "refused read 3 Syntax at 0"),
     ];
     for (text, answer) in cases {
         let line = sure_line(&rt, &mut small, text).map_err(|_| "memory ran out twice")?;
