@@ -84,7 +84,7 @@ const TEXTS: [(&str, usize, &str); 5] = [
     (
         "sites = ['s']\nrelations.t = { columns = ['id int', 'a text'], rows = [{ where = \"a < '@'\", site = 's' }, { where = \"a >= ''\", site = 's' }] }",
         100,
-        "12 Overlap t a=''",
+        "12 Overlap t a = ''",
     ),
     (
         "sites = ['s']\nrelations.t = { columns = ['id int', 'a text'], rows = [{ where = \"a < '@'\", site = 's' }, { where = \"a >= ''\", site = 's' }] }",
@@ -213,7 +213,7 @@ fn counts_in_nodes(rt: HostRuntime) -> Result<(), Fail> {
             "rows = [@{ where = \"b > ''\", site = 's' }]",
             BRANCH,
             32,
-            "11 Gap t a=-9223372036854775808 b=''",
+            "11 Gap t a = -9223372036854775808, b = ''",
         ),
         (
             "rows = [{ where = \"b >= ''\", site = 's' }, { where = '@a < 0', site = 's' }]",
@@ -285,7 +285,7 @@ fn cells(rt: HostRuntime) -> Result<(), Fail> {
         ("a < ''\", site = 'north", "5 NoSite t"),
         (
             "a >= ''\", site = 'north",
-            "12 Overlap t a='' b='' c='' d='' e='' f='' g='' h='' i='' j='' k='' l=''",
+            "12 Overlap t a = '', b = '', c = '', d = '', e = '', f = '', g = '', h = '', i = '', j = '', k = '', l = ''",
         ),
         ("a >= '' AND m >= ''\", site = 'north", "13 Limit t"),
         ("a < ' '\", site = 's", "13 Limit t"),
