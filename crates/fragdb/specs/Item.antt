@@ -1,14 +1,13 @@
-use Rattle.std.specs.Prelude.{ℕ, pos, List, [], ◌∷◌, codes}
+use Rattle.std.specs.Prelude.{ℕ, List, [], ◌∷◌, codes}
 use Rattle.std.specs.FinMap as map
-use Rattle.terms.specs.declared.cond.Cmp.TheVariants.{Lt, Ge}
 use Rattle.terms.specs.declared.value.Kind.{Kind}
 use Rattle.terms.specs.declared.value.Kind.TheVariants as kinds
 use Rattle.terms.specs.declared.value.Value.{Value}
-use Rattle.terms.specs.declared.value.Value.TheVariants.{Int}
 use Rattle.meaning.specs.declared.schema.RelationSchema.{RelationSchema}
 use Rattle.meaning.specs.Schema.{names_of}
 use Rattle.meaning.specs.Whole.{Relations}
 use Rattle.catalog.specs.Fragment.{Fragment}
+use Rattle.catalog.specs.Item as built_in
 
 abbrev pub item_name : List ℕ
 item_name = codes "item"
@@ -24,15 +23,15 @@ abbrev pub item_schema : List RelationSchema
 item_schema = item ∷ []
 
 abbrev pub item_kinds : List Kind
-item_kinds = kinds.Int ∷ kinds.Int ∷ kinds.Text ∷ []
+item_kinds = built_in.item_kinds
 
 -- item.1: zone < 10
 abbrev pub low : Fragment
-low = record { conds = record { col = 1; cmp = Lt; value = Int (pos 10) } ∷ []; columns = 0 ∷ 1 ∷ 2 ∷ [] }
+low = built_in.item_below
 
 -- item.2: zone >= 10
 abbrev pub high : Fragment
-high = record { conds = record { col = 1; cmp = Ge; value = Int (pos 10) } ∷ []; columns = 0 ∷ 1 ∷ 2 ∷ [] }
+high = built_in.item_from
 
 abbrev pub item_leaves : List Fragment
 item_leaves = low ∷ high ∷ []
