@@ -17,7 +17,7 @@ use Rattle.meaning.specs.Schema.{kinds_of}
 use Rattle.reader.specs.Conds.{CondsOfTextFit}
 use Rattle.reader.specs.Printable.{AreNamed}
 use Rattle.reader.specs.Tokens.{IsName}
-use Rattle.catalog.specs.Catalogue.{SplitRelation, Catalogue, IsColumnText, IsRelationIn, IsDocumentOf, entries}
+use Rattle.catalog.specs.Catalogue.{SplitRelation, Catalogue, IsColumnText, IsRelationIn, IsDocumentOf, IsValidRelation, IsValidCatalogue, entries}
 use Rattle.catalog.specs.Describes.{Each, Frame}
 use Rattle.catalog.specs.Formed.{IsFormed, IsFormedRelation, IsLeafOver, names_in}
 use Rattle.catalog.specs.declared.fragment_leaf.FragmentLeaf.{FragmentLeaf}
@@ -25,6 +25,7 @@ use Rattle.catalog.specs.FragmentLeaf.{leaves_of, catalogue_leaves, schemas_of}
 use Rattle.catalog.specs.Leaves.{site_numbers}
 use Rattle.catalog.specs.Path.{columns_beside_key, fragments, leaf_at, paths}
 use Rattle.catalog.proofs.Entries.{Entry}
+use Rattle.catalog.proofs.FormedColumns.{key_below, leaf_columns}
 use Rattle.catalog.proofs.FormedTrees.{all_both, conds_fit, leaves_few, leaves_fit, sites_there}
 
 -- there is a column where there is a key
@@ -39,8 +40,8 @@ columns_named [] (column ∷ columns) each = absurd each
 columns_named (text ∷ texts) [] each = absurd each
 columns_named (text ∷ texts) (column ∷ columns) each = (each.0.name, columns_named texts columns each.1)
 
-relation_formed : CondsOfTextFit → (sites : List (List ℕ)) (entry : List ℕ × Data) (relation : SplitRelation) → IsRelationIn sites entry relation → IsFormedRelation sites relation
-relation_formed law sites entry relation is =
+relation_formed : CondsOfTextFit → (sites : List (List ℕ)) (entry : List ℕ × Data) (relation : SplitRelation) → IsRelationIn sites entry relation → IsValidRelation relation → IsFormedRelation sites relation
+relation_formed law sites entry relation is valid =
     let kinds = kinds_of relation.schema in
     let frame : Frame = record { sites = sites; columns = relation.schema.columns } in
     let columns = columns_beside_key kinds in
@@ -54,19 +55,20 @@ relation_formed law sites entry relation is =
       };
       few = is.few;
       key = is.key;
-      leaves = leaves_fit sites kinds relation.schema.name 1 columns (paths relation.tree) (site_numbers relation.tree)
+      leaves = leaves_fit sites kinds relation.schema.name 1 columns (paths relation.tree) (site_numbers relation.tree) (key_below kinds is.key)
           (sites_there frame 4 [] columns (codes "columns") entry.1 relation.tree is.describes)
-          (conds_fit law frame 4 [] columns (codes "columns") entry.1 relation.tree is.describes);
+          (conds_fit law frame 4 [] columns (codes "columns") entry.1 relation.tree is.describes)
+          (leaf_columns kinds relation.tree valid);
       few_leaves = omega (arith, few, same, is.few_leaves);
     }
 
 relations_formed : CondsOfTextFit → (sites : List (List ℕ)) (said : List (List ℕ × Data)) (relations : List SplitRelation) → Each (IsRelationIn sites) said relations →
-    AllByRecursion (IsFormedRelation sites) relations
-relations_formed law sites [] [] each = tt
-relations_formed law sites [] (relation ∷ relations) each = absurd each
-relations_formed law sites (entry ∷ said) [] each = absurd each
-relations_formed law sites (entry ∷ said) (relation ∷ relations) each =
-    (relation_formed law sites entry relation each.0, relations_formed law sites said relations each.1)
+    AllByRecursion IsValidRelation relations → AllByRecursion (IsFormedRelation sites) relations
+relations_formed law sites [] [] each valid = tt
+relations_formed law sites [] (relation ∷ relations) each valid = absurd each
+relations_formed law sites (entry ∷ said) [] each valid = absurd each
+relations_formed law sites (entry ∷ said) (relation ∷ relations) each valid =
+    (relation_formed law sites entry relation each.0 valid.0, relations_formed law sites said relations each.1 valid.1)
 
 -- ---- the order of names
 
@@ -94,16 +96,16 @@ names_ascend sites es relations each sorted =
     subst (IsStrictlySortedBy (slice_cmp nat_cmp)) (sym (names_said sites es relations each)) (sorted_bytes (keys_of es) sorted)
 
 -- a catalogue of sites and relations that a document says in the order of their names
-pub formed : CondsOfTextFit → (document : Data) (es : List Entry) (catalogue : Catalogue) → IsDocumentOf document catalogue → Each (IsRelationIn catalogue.sites) (entries (members_view es)) catalogue.relations →
+pub formed : CondsOfTextFit → (document : Data) (es : List Entry) (catalogue : Catalogue) → IsDocumentOf document catalogue → IsValidCatalogue catalogue → Each (IsRelationIn catalogue.sites) (entries (members_view es)) catalogue.relations →
     IsStrictlySortedBy (λ one other. slice_cmp nat_cmp (string_bytes one) (string_bytes other)) (keys_of es) → IsFormed catalogue
-formed law document es catalogue is each sorted = record {
+formed law document es catalogue is valid each sorted = record {
   site_names = is.site_names;
   distinct = is.distinct;
   few_sites = is.few_sites;
   some = is.some;
   few_relations = is.few_relations;
   ascending = names_ascend catalogue.sites es catalogue.relations each sorted;
-  relations = relations_formed law catalogue.sites (entries is.members) catalogue.relations is.relations;
+  relations = relations_formed law catalogue.sites (entries is.members) catalogue.relations is.relations valid;
 }
 
 -- the schemas of such relations have names for their relations and columns

@@ -13,7 +13,7 @@ use Rattle.catalog.specs.Formed.{IsLeafOver}
 use Rattle.catalog.specs.Fragment.{Fragment}
 use Rattle.catalog.specs.FragmentLeaf.{named_from}
 use Rattle.catalog.specs.Leaves.{site_numbers, site_numbers_by_rows, site_numbers_by_cols}
-use Rattle.catalog.specs.Path.{Step, Row, Col, branch_conds, group_columns, leaf_at, path_conds, paths, paths_by_rows, paths_by_cols}
+use Rattle.catalog.specs.Path.{Step, Row, Col, branch_conds, group_columns, leaf_at, path_columns, path_conds, paths, paths_by_rows, paths_by_cols}
 use Rattle.catalog.specs.Split.{Tree, Site, ByRows, ByCols, Branches, NoBranch, Branch, Groups, NoGroup, Group}
 use Rattle.catalog.proofs.BranchConds.{types_visible}
 
@@ -119,11 +119,12 @@ mutual
 
 -- paths and sites make leaves
 pub leaves_fit : (sites : List (List ℕ)) (kinds : List Kind) (name : List ℕ) (number : ℕ) (columns : List ℕ) (ways : List (List Step)) (numbers : List ℕ) →
-    AllByRecursion (λ site. site < length sites) numbers → FitAll kinds ways → AllByRecursion (IsLeafOver sites kinds) (named_from name number (map (leaf_at columns) ways) numbers)
-leaves_fit sites kinds name number columns [] numbers there fits = tt
-leaves_fit sites kinds name number columns (path ∷ ways) [] there fits = tt
-leaves_fit sites kinds name number columns (path ∷ ways) (site ∷ numbers) there fits =
-    (record { site = there.0; conds = fits.0 }, leaves_fit sites kinds name (suc number) columns ways numbers there.1 fits.1)
+    0 < length kinds → AllByRecursion (λ site. site < length sites) numbers → FitAll kinds ways → AllByRecursion (λ path. AllByRecursion (λ col. col < length kinds) (path_columns columns path)) ways →
+    AllByRecursion (IsLeafOver sites kinds) (named_from name number (map (leaf_at columns) ways) numbers)
+leaves_fit sites kinds name number columns [] numbers key there fits below = tt
+leaves_fit sites kinds name number columns (path ∷ ways) [] key there fits below = tt
+leaves_fit sites kinds name number columns (path ∷ ways) (site ∷ numbers) key there fits below =
+    (record { site = there.0; conds = fits.0; columns = (key, below.0) }, leaves_fit sites kinds name (suc number) columns ways numbers key there.1 fits.1 below.1)
 
 pub leaves_few : (name : List ℕ) (number : ℕ) (fragments : List Fragment) (sites : List ℕ) → length (named_from name number fragments sites) ≤ length fragments
 leaves_few name number [] sites = omega arith

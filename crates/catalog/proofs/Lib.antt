@@ -36,4 +36,5 @@ pub mod Entries
 pub mod CatalogueTexts
 pub mod NamedLeaves
 pub mod FormedTrees
+pub mod FormedColumns
 pub mod FormedCatalogues

@@ -46,4 +46,4 @@ with_leaves-requires-clause-formed c =
     catalogue_is (view c.args.root.now) (texts_of c.in-Some.parts.sites) c.in_ok-sites.sites.items c.in-Some.parts.relations.now.entries (map relation_of c.in_ok-relations.relations.items)
     (ap (option_map parts_of) (sym c.in-Some.is) ∙ c.in_ok-parts.ensures) (c.in_ok-sites.ensures.found.0 ∙ same) (subst P same c.in_ok-sites.ensures.found.1)
     each (λ none. c.if-count-eq0.false (c.len-count.ensures.len ∙ none)) (rw (← c.len-count.ensures.len) c.if-count-gt-RELATIONS.false))
-    each c.len-count.ensures.ordered
+    c.in_ok-relations.ensures.valid each c.len-count.ensures.ordered
