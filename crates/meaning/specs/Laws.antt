@@ -1,3 +1,4 @@
+-- Laws: what follows from the meaning, in the words of its user.
 use Rattle.std.specs.Prelude.{◌≡◌, ◌↔◌, ◌≤◌, ◌⊎◌, ℕ, ℤ, List, [], ◌∷◌, Some, None, false, map, length}
 use Rattle.std.specs.List.{Contains, range_with_len}
 use Rattle.terms.specs.declared.cond.Cmp.TheVariants.{Eq}

@@ -1,3 +1,4 @@
+-- Rows by whether conditions hold of them.
 use Rattle.std.specs.Prelude.{ℕ, List, filter, not, count_by}
 use Rattle.terms.specs.declared.value.Value.{Value}
 use Rattle.terms.specs.declared.cond.Cond.{Cond}

@@ -1,3 +1,4 @@
+-- The serial meaning: what statements answer over whole relations, and what they leave of them.
 use Rattle.std.specs.Prelude.{List, [], ◌∷◌, Option, Some, None, if◌then◌else◌}
 use Rattle.std.specs.FinMap as finite
 use Rattle.terms.specs.declared.value.Value.{Value}

@@ -1,3 +1,4 @@
+-- What an UPDATE makes of rows.
 use Rattle.std.specs.Prelude.{◌==◌, ℕ, ℤ, pos, negsuc, ◌+ℤ◌, ◌^◌, nat_lt, Bool, List, [], ◌∷◌, Option, Some, None, if◌then◌else◌, slice_set}
 use Rattle.std.specs.List.{slice_get}
 use Rattle.std.specs.Option.{option_map, option_and_then}

@@ -1,3 +1,4 @@
+-- Whole databases: a relation for each name.
 use Rattle.std.specs.Prelude.{◌≡◌, ℕ, List, [], Some, IsSome, is_some, unwrap_or, if◌then◌else◌}
 use Rattle.std.specs.Coded.{Coded, coded_list, coded_ℕ}
 use Rattle.std.specs.Cmp.Lexicographic.{slice_cmp}

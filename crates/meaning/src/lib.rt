@@ -21,7 +21,5 @@ pub mod run;
 pub mod schema;
 pub mod select;
 pub mod statement;
-#[cfg(test)]
-mod tests;
 pub mod update;
 pub mod whole;

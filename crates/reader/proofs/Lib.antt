@@ -1,3 +1,4 @@
+-- What proves the contracts of the crate.
 pub mod Runs
 pub mod Digits
 pub mod Quotes

@@ -1,3 +1,4 @@
+-- Refusals of a text.
 use Rattle.std.specs.Prelude.{ℕ}
 use Rattle.reader.specs.declared.fault.Rule.{Rule}
 use Rattle.reader.specs.declared.fault.Rule.TheVariants as rules

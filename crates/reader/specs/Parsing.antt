@@ -1,4 +1,4 @@
--- The grammar read from left to right, over lists of tokens.
+-- The parser's own words, which a reader may skip: the grammar read from left to right, as functions on lists of tokens.
 use Rattle.std.specs.Prelude.{◌≡◌, ℕ, zero, suc, Bool, true, false, List, [], ◌∷◌, length, Option, Some, None, Result, Ok, Err, ◌==◌, if◌then◌else◌}
 use Rattle.reader.specs.declared.fault.Rule.{Rule}
 use Rattle.reader.specs.declared.fault.Rule.TheVariants as rules

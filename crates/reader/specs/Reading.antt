@@ -1,4 +1,4 @@
--- Reading tokens from left to right, as functions on lists.
+-- The lexer's own words, which a reader may skip: tokens read from left to right, as functions on lists.
 use Rattle.std.specs.Prelude.{◌≡◌, ℕ, Bool, ◌==◌, nat_lt, if◌then◌else◌, List, [], ◌∷◌, length, drop, Option, Some, None, Result, Ok, Err, option_map, slice_index}
 use Rattle.std.specs.Char.{is_ascii_uppercase, is_ascii_control}
 use Rattle.std.specs.List.{find, list_any, starts_with}

@@ -1,3 +1,4 @@
+-- The resolver's own words, which a reader may skip: how a result stands to a meaning.
 use Rattle.std.specs.Prelude.{◌≡◌, Option, Some, None, Result, Ok, Err}
 use Rattle.reader.specs.declared.fault.ReadFault.{ReadFault}
 use Rattle.reader.specs.declared.fault.Rule.{Rule}

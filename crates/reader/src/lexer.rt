@@ -14,9 +14,6 @@ use crate::token::{Placed, Token};
 use crate::word::keyword_or_name;
 use std::alloc::Global;
 
-#[cfg(test)]
-mod tests;
-
 /// The token at the front, and what follows it. The bytes stand at the offset.
 #[tactic(auto, unfolding(crate::specs::Reading::token_at))]
 fn token(alloc: Global, bytes: &[u8], offset: usize) -> Result<(Token<'_>, &[u8]), ReadFault>

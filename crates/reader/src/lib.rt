@@ -29,8 +29,6 @@ pub mod read_again;
 pub mod read_conds;
 mod scope;
 pub mod sign;
-#[cfg(test)]
-mod tests;
 pub mod text;
 pub mod token;
 pub mod tree;

@@ -395,6 +395,3 @@ pub fn parse_conditions<'a>(
 pub fn one_reading_of_conditions()
     ensures { WriteOneListOfConditions }
 {}
-
-#[cfg(test)]
-mod tests;

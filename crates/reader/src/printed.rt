@@ -293,6 +293,3 @@ fn put_delete(out: &mut String, delete: &Delete) -> Result<(), Memory>
         delete.conds.as_slice(),
     )
 }
-
-#[cfg(test)]
-mod tests;

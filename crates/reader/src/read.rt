@@ -57,6 +57,3 @@ fn read_bytes(alloc: Global, text: &[u8], schema: &Schema) -> Result<Command, Re
     let command = names::command(alloc, schema, &written)?;
     Ok(command)
 }
-
-#[cfg(test)]
-mod tests;

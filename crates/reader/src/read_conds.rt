@@ -60,6 +60,3 @@ fn read_bytes(alloc: Global, text: &[u8], columns: &[Column]) -> Result<Conds, R
     let conds = conds(alloc, &of_columns(columns), written.as_slice())?;
     Ok(Conds::new(conds))
 }
-
-#[cfg(test)]
-mod tests;

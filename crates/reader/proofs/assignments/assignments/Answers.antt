@@ -1,3 +1,4 @@
+-- Why `assignments::assignments` meets its contract.
 use Rattle.std.proofs.Common.{add-one, ◌≡◌, true, false, sym, ◌∙◌}
 use Rattle.std.proofs.lemmas.Result.{err_from_is_err_and}
 use Rattle.reader.specs.Names.{is_set}

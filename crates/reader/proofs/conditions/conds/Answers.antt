@@ -1,3 +1,4 @@
+-- Why `conditions::conds` meets its contract.
 use Rattle.std.proofs.Common.{add-one, ◌+◌, ap, ◌∙◌, arith}
 use Rattle.std.proofs.lemmas.Result.{err_from_is_err_and}
 use Rattle.reader.specs.Scope.{scope_of}

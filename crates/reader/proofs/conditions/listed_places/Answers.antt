@@ -1,3 +1,4 @@
+-- Why `conditions::listed_places` meets its contract.
 use Rattle.std.proofs.Common.{add-one, ◌+◌, leb, length, option_map, ap, ◌∙◌, arith}
 use Rattle.std.proofs.lemmas.Result.{err_from_is_err_and}
 use Rattle.reader.specs.declared.scope.Found.{Found}

@@ -1,3 +1,4 @@
+-- Why `names::row` meets its contract.
 use Rattle.std.proofs.Common.{length, ap, sym, ◌∙◌}
 use Rattle.std.proofs.lemmas.List.{length-map}
 use Rattle.meaning.specs.Schema.{kinds_of}

@@ -1,3 +1,4 @@
+-- Why `names::values` meets its contract.
 use Rattle.std.proofs.Common.{add-one, ◌<◌, length, arith}
 use Rattle.std.proofs.lemmas.Result.{err_from_is_err_and}
 use Rattle.reader.specs.Tree.{constant_of}

@@ -1,3 +1,4 @@
+-- What each round of `print::put_header` keeps.
 use Rattle.std.proofs.Common.{◌≡◌, ◌++◌, ◌∷◌, take, string_bytes}
 use Rattle.std.specs.List.{flat_map}
 use Rattle.reader.proofs.print.put_header.Given as goal

@@ -1,3 +1,4 @@
+-- What each round of `print::put_row` keeps.
 use Rattle.std.proofs.Common.{◌≡◌, ◌++◌, ◌∷◌, map, take, string_bytes}
 use Rattle.std.specs.List.{flat_map}
 use Rattle.reader.specs.Print.{value_text}

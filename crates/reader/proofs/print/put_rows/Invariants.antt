@@ -1,3 +1,4 @@
+-- What each round of `print::put_rows` keeps.
 use Rattle.std.proofs.Common.{◌≡◌, ◌++◌, ◌∷◌, take, string_bytes}
 use Rattle.std.specs.List.{flat_map}
 use Rattle.reader.specs.Print.{row_text}

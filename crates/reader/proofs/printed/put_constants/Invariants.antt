@@ -1,3 +1,4 @@
+-- What each round of `printed::put_constants` keeps.
 use Rattle.std.proofs.Common.{◌≡◌, ◌++◌, codes, map, string_bytes, take}
 use Rattle.std.specs.List.{flat_map}
 use Rattle.reader.specs.Printed.{constant_bytes}

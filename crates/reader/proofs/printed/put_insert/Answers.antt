@@ -1,3 +1,4 @@
+-- Why `printed::put_insert` meets its contract.
 use Rattle.std.proofs.Common.{append_assoc}
 use lib.Utf8.{encode}
 use Rattle.reader.proofs.printed.put_insert.Goals as goal

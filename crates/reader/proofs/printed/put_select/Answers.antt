@@ -1,3 +1,4 @@
+-- Why `printed::put_select` meets its contract.
 use Rattle.std.proofs.Common.{append_assoc}
 use Rattle.reader.proofs.printed.put_select.Goals as goal
 

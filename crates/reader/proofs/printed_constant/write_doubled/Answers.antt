@@ -1,3 +1,4 @@
+-- Why `printed_constant::write_doubled` meets its contract.
 use Rattle.std.proofs.Common.{◌≡◌, ◌<◌, length, ◌∷◌, [], ◌++◌, ◌==◌, refl, arith, rules}
 use Rattle.std.specs.List.{position_or_len, before_first, after_first}
 use Rattle.std.specs.Fmt.{HasWritten}

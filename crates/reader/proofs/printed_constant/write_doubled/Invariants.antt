@@ -1,3 +1,4 @@
+-- What each round of `printed_constant::write_doubled` keeps.
 use Rattle.std.proofs.Common.{◌≡◌, ◌++◌, ℕ, List, length}
 use Rattle.std.specs.Fmt.{HasWritten, IsPlainFormatter}
 use denote.Text.{Utf8}

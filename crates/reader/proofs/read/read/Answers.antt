@@ -1,3 +1,4 @@
+-- Why `read::read` meets its contract.
 use Rattle.reader.proofs.FitsCommand.{text_fits}
 use Rattle.reader.proofs.PrintableText.{printable_of_text}
 use Rattle.reader.proofs.read.read.Goals as goal

@@ -1,3 +1,4 @@
+-- Why `read::read_bytes` meets its contract.
 use Rattle.std.proofs.Common.{refl}
 use Rattle.std.proofs.lemmas.Result.{err_from_is_err_and}
 use Rattle.reader.specs.Names.{command_of}

@@ -1,3 +1,4 @@
+-- Why `read_conds::read_bytes` meets its contract.
 use Rattle.std.proofs.Common.{Some, ap, sym, ◌∙◌}
 use Rattle.std.proofs.lemmas.Result.{err_from_is_err_and}
 use Rattle.reader.specs.Names.{conds_of}

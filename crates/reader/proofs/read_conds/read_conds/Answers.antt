@@ -1,3 +1,4 @@
+-- Why `read_conds::read_conds` meets its contract.
 use Rattle.reader.proofs.CondsOfText.{conds_of_text_fit}
 use Rattle.reader.proofs.read_conds.read_conds.Goals as goal
 

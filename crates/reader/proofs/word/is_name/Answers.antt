@@ -1,3 +1,4 @@
+-- Why `word::is_name` meets its contract.
 use Rattle.std.proofs.Common.{◌≡◌, length, rules, None, false, ◌≤◌}
 use Rattle.std.specs.Char.{is_ascii_uppercase}
 use Rattle.std.specs.List.{list_any}
