@@ -4,7 +4,7 @@ ghost use Rattle.std.specs.Prelude.{◌≡◌, ◌<◌, ◌⊎◌, ◌∷◌, �
 ghost use Rattle.std.specs.Io.KnownBytes.{Appends, Keeps};
 ghost use Rattle.catalog.specs.Relation.{catalogue_of};
 ghost use Rattle.catalog.specs.Fault.{fault_text};
-ghost use Rattle.reader.specs.Printed.{separated_bytes};
+ghost use Rattle.reader.specs.PrintStatement.{separated_bytes};
 ghost use Rattle.reader.specs.Written.{name_in};
 ghost use Rattle.fragdb.specs.CatalogFile.{IsFileOfNoneValid};
 ghost use Rattle.fragdb.specs.Check as spec;
@@ -17,7 +17,7 @@ use catalog::catalogue::Catalog;
 use catalog::fault::CatFault;
 use catalog::fragment_leaf::FragmentLeaf;
 use meaning::schema::{Column, Schema};
-use reader::printed::print_conds;
+use reader::print_statement::print_conds;
 use std::alloc::Global;
 use std::io;
 use std::io::{Read, Write};

@@ -12,11 +12,11 @@ pub mod Tree
 pub mod Names
 pub mod Scope
 -- What is printed.
-pub mod Printed
+pub mod PrintStatement
 pub mod Written
 pub mod Columns
 pub mod Printable
-pub mod Print
+pub mod PrintAnswer
 pub mod Fault
 pub mod Refusal
 -- The reader's own words, which one may skip.

@@ -59,9 +59,7 @@ pub fn value(alloc: Global, kind: Kind, constant: &Constant<'_>) -> Result<Value
                 ..
             },
         ) => integer(*is_negative, *size, *digits),
-        (Kind::Text, Constant::Text { text, .. }) => Ok(Value::Text(Text::new(String::from_str(
-            alloc, text,
-        )?))),
+        (Kind::Text, Constant::Text { text, .. }) => Ok(Value::Text(Text::copy_of(alloc, text)?)),
         (Kind::Int, Constant::Text { offset, .. }) => Err(ReadFault::new(Rule::WrongType, *offset)),
         (Kind::Text, Constant::Integer { offset, .. }) => Err(ReadFault::new(
             Rule::WrongType,

@@ -14,8 +14,8 @@ use crate::parser::parse;
 use meaning::schema::Schema;
 use std::alloc::Global;
 
-/// The most bytes of a text.
-pub const TEXT_BYTES: usize = 4096;
+/// The most bytes of the text of a statement or of conditions.
+pub const STATEMENT_LIMIT: usize = 4096;
 
 /// The command of a text, under a schema.
 ///
@@ -49,8 +49,8 @@ fn read_bytes(alloc: Global, text: &[u8], schema: &Schema) -> Result<Command, Re
     ensures none { IfErr result (λ fault. fault.rule ≢ rules.Memory
         → (command : Command) → ¬ (IsTextOf schema.now.relations text.now command)) }
 {
-    if text.len() > TEXT_BYTES {
-        return Err(ReadFault::new(Rule::TooLong, TEXT_BYTES));
+    if text.len() > STATEMENT_LIMIT {
+        return Err(ReadFault::new(Rule::TooLong, STATEMENT_LIMIT));
     }
     let tokens = tokens(alloc, text)?;
     let written = parse(alloc, tokens.as_slice())?;

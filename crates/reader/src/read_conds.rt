@@ -12,7 +12,7 @@ use crate::conditions::conds;
 use crate::fault::{ReadFault, Rule};
 use crate::lexer::tokens;
 use crate::parser::parse_conditions;
-use crate::read::TEXT_BYTES;
+use crate::read::STATEMENT_LIMIT;
 use crate::scope::of_columns;
 use meaning::schema::Column;
 use std::alloc::Global;
@@ -52,8 +52,8 @@ fn read_bytes(alloc: Global, text: &[u8], columns: &[Column]) -> Result<Conds, R
     ensures none { IfErr result (λ fault. fault.rule ≢ rules.Memory
         → (conds : List Cond) → ¬ (AreCondsOf columns.now text.now conds)) }
 {
-    if text.len() > TEXT_BYTES {
-        return Err(ReadFault::new(Rule::TooLong, TEXT_BYTES));
+    if text.len() > STATEMENT_LIMIT {
+        return Err(ReadFault::new(Rule::TooLong, STATEMENT_LIMIT));
     }
     let tokens = tokens(alloc, text)?;
     let written = parse_conditions(alloc, tokens.as_slice())?;

@@ -10,13 +10,12 @@ ghost use Rattle.reader.specs.Reading.{Gives, unquoted, text_of, text_at};
 use crate::fault::{ReadFault, Rule};
 use crate::token::Token;
 use std::alloc::{AllocError, Global};
+use terms::value::TEXT_LIMIT;
 
 /// What a text begins and ends with; inside it two stand for one.
 pub const QUOTE: u8 = b'\'';
-/// The largest number of bytes of a text's value.
-pub const TEXT_LIMIT: usize = 200;
 
-/// Behind an opening quote: the value up to the closing quote, and what follows that; nothing
+/// After an opening quote: the value up to the closing quote, and what follows that; nothing
 /// where there is no closing quote.
 fn unquoted(alloc: Global, bytes: &[u8]) -> Result<Option<(Vec<u8>, &[u8])>, AllocError>
     ensures { IfOk result (λ found. option_map (λ x. (x.0.items, x.1.now)) found ≡ unquoted bytes.now) }

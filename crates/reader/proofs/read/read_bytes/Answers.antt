@@ -28,7 +28,7 @@ returns-clause-found c =
     record {
       tokens = symbols_of c.as_slice.result.now;
       written = tree.written_of c.in_ok-written.written;
-      short = c.if-text-gt-TEXT_BYTES.false;
+      short = c.if-text-gt-STATEMENT_LIMIT.false;
       spelled = spelled;
       grammatical = c.in_ok-written.ensures.found;
       meant = rw c.in_ok-command.ensures refl;

@@ -29,7 +29,7 @@ returns-clause-found c =
     record {
       tokens = symbols_of c.as_slice.result.now;
       written = tree.conditions_of c.in_ok-written.written;
-      short = c.if-text-gt-TEXT_BYTES.false;
+      short = c.if-text-gt-STATEMENT_LIMIT.false;
       spelled = spelled;
       grammatical = c.in_ok-written.ensures.found;
       meant = (rw (c.of_columns.ensures, c.as_slice-2.ensures.value) at c.in_ok-conds.ensures) ∙ ap Some (sym c.new-2.ensures);

@@ -2,7 +2,7 @@
 
 ghost use Rattle.std.specs.Prelude.{◌≡◌, ◌∷◌, ◌++◌, length, map, IfOk, OnOk, string_bytes};
 ghost use Rattle.std.specs.List.{flat_map};
-ghost use Rattle.reader.specs.Print.{value_text, fields_text, row_text, count_text, answer_text};
+ghost use Rattle.reader.specs.PrintAnswer.{value_text, fields_text, row_text, count_text, answer_text};
 
 use meaning::answer::Answer;
 use std::alloc::Global;

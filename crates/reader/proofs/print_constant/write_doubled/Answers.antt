@@ -1,10 +1,10 @@
--- Why `printed_constant::write_doubled` meets its contract.
+-- Why `print_constant::write_doubled` meets its contract.
 use Rattle.std.proofs.Common.{◌≡◌, ◌<◌, length, ◌∷◌, [], ◌++◌, ◌==◌, refl, arith, rules}
 use Rattle.std.specs.List.{position_or_len, before_first, after_first}
 use Rattle.std.specs.Fmt.{HasWritten}
 use Rattle.std.proofs.Output.{has_written_append, has_written_of_eq, writes_in_calls_nil}
 use Rattle.reader.proofs.Doubled.{goes_on_doubled, ends_doubled}
-use Rattle.reader.proofs.printed_constant.write_doubled.Goals as goal
+use Rattle.reader.proofs.print_constant.write_doubled.Goals as goal
 
 pub loop-before-init : goal.loop-before-init
 loop-before-init g c = (search rules, λ plain. ([], record { wrote = writes_in_calls_nil _ _; plain = plain }, refl))

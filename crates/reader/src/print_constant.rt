@@ -2,7 +2,7 @@
 
 ghost use Rattle.std.specs.Prelude.{Some};
 ghost use Rattle.std.specs.Fmt.{WritesOnOk};
-ghost use Rattle.reader.specs.Printed.{constant_bytes};
+ghost use Rattle.reader.specs.PrintStatement.{constant_bytes};
 ghost use Rattle.reader.specs.Tokens.{doubled};
 ghost use Rattle.reader.specs.Written.{constant_as};
 

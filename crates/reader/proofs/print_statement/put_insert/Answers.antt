@@ -1,7 +1,7 @@
--- Why `printed::put_insert` meets its contract.
+-- Why `print_statement::put_insert` meets its contract.
 use Rattle.std.proofs.Common.{append_assoc}
 use lib.Utf8.{encode}
-use Rattle.reader.proofs.printed.put_insert.Goals as goal
+use Rattle.reader.proofs.print_statement.put_insert.Goals as goal
 
 pub returns : goal.returns
 unfolding encode

@@ -1,10 +1,10 @@
--- What each round of `printed_constant::write_doubled` keeps.
+-- What each round of `print_constant::write_doubled` keeps.
 use Rattle.std.proofs.Common.{◌≡◌, ◌++◌, ℕ, List, length}
 use Rattle.std.specs.Fmt.{HasWritten, IsPlainFormatter}
 use denote.Text.{Utf8}
 use denote.Shadow.{shadow}
 use Rattle.reader.specs.Tokens.{doubled}
-use Rattle.reader.proofs.printed_constant.write_doubled.Given as goal
+use Rattle.reader.proofs.print_constant.write_doubled.Given as goal
 
 abbrev pub invariant-loop-before : goal.invariant-loop-before
 invariant-loop-before g l =

@@ -6,9 +6,9 @@ ghost use Rattle.reader.specs.Columns.{column_at};
 ghost use Rattle.reader.specs.Grammar.{comparison_sign};
 ghost use Rattle.reader.specs.Sign.{sign_text};
 ghost use Rattle.reader.specs.Written.{name_in, column_in, qualified_column, constant_as, condition_as, conditions_as, join_as, select_as, insert_as, assigned_as, assignment_as, update_as, delete_as};
-ghost use Rattle.reader.specs.Printed.{separated_bytes, column_bytes, constant_bytes, constants_bytes, condition_bytes, conditions_bytes, where_bytes, join_bytes, select_bytes, insert_bytes, assigned_bytes, assignment_bytes, update_bytes, delete_bytes, statement_bytes, conds_bytes, part_bytes};
+ghost use Rattle.reader.specs.PrintStatement.{separated_bytes, column_bytes, constant_bytes, constants_bytes, condition_bytes, conditions_bytes, where_bytes, join_bytes, select_bytes, insert_bytes, assigned_bytes, assignment_bytes, update_bytes, delete_bytes, statement_bytes, conds_bytes, part_bytes};
 
-use crate::printed_constant::PrintedConstant;
+use crate::print_constant::PrintedConstant;
 use meaning::schema::Column;
 use meaning::statement::{
     Assigned, Assignment, Delete, Insert, Join, Select, Source, Statement, Update,

@@ -1,6 +1,6 @@
--- Why `printed::put_select` meets its contract.
+-- Why `print_statement::put_select` meets its contract.
 use Rattle.std.proofs.Common.{append_assoc}
-use Rattle.reader.proofs.printed.put_select.Goals as goal
+use Rattle.reader.proofs.print_statement.put_select.Goals as goal
 
 pub returns : goal.returns
 returns c =
