@@ -19,6 +19,7 @@ pub mod Printable
 pub mod PrintAnswer
 pub mod Fault
 pub mod Refusal
+pub mod Breaks
 -- The reader's own words, which one may skip.
 pub mod Reading
 pub mod Parsing

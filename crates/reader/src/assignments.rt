@@ -1,6 +1,7 @@
 //! What an update sets, and to what.
 
-ghost use Rattle.std.specs.Prelude.{◌≡◌, map};
+ghost use Rattle.std.specs.Prelude.{◌≡◌, map, IfErr};
+ghost use Rattle.reader.specs.Breaks.{NameBreaks, SettableBreaks, AddendBreaks};
 ghost use Rattle.reader.specs.Names.{settable, addend, assigned_of, is_set, sets_of};
 ghost use Rattle.reader.specs.Resolving.{Resolves};
 ghost use Rattle.reader.specs.Scope.{column_named};
@@ -39,7 +40,8 @@ pub fn assignments(
 }
 
 fn named(columns: &[Column], named: &Named<'_>) -> Result<Found, ReadFault>
-    ensures { Resolves (λ found. found) result (column_named columns.now named.now.name.now) }
+    ensures exact { Resolves (λ found. found) result (column_named columns.now named.now.name.now) }
+    ensures rule { IfErr result (λ fault. NameBreaks fault.rule columns.now named.now.name.now) }
 {
     match find_named(columns, named.name) {
         Some(found) => Ok(found),
@@ -49,7 +51,8 @@ fn named(columns: &[Column], named: &Named<'_>) -> Result<Found, ReadFault>
 
 /// A column that an update may set.
 fn settable_column(columns: &[Column], column: &Named<'_>) -> Result<Found, ReadFault>
-    ensures { Resolves (λ found. found) result (settable columns.now column.now.name.now) }
+    ensures exact { Resolves (λ found. found) result (settable columns.now column.now.name.now) }
+    ensures rule { IfErr result (λ fault. SettableBreaks fault.rule columns.now column.now.name.now) }
 {
     let found = named(columns, column)?;
     if found.place == 0 {
@@ -95,7 +98,8 @@ fn assigned(
 
 /// The column to which a sum adds, for a column of this type.
 fn added_to(columns: &[Column], kind: Kind, column: &Named<'_>) -> Result<Found, ReadFault>
-    ensures { Resolves (λ found. found) result (addend columns.now kind column.now.name.now) }
+    ensures exact { Resolves (λ found. found) result (addend columns.now kind column.now.name.now) }
+    ensures rule { IfErr result (λ fault. AddendBreaks fault.rule columns.now kind column.now.name.now) }
 {
     let found = named(columns, column)?;
     if kind != Kind::Int || found.kind != Kind::Int {

@@ -1,9 +1,11 @@
 //! Constants: the values that they are in columns of a type.
 
-ghost use Rattle.std.specs.Prelude.{◌≡◌};
+ghost use Rattle.std.specs.Prelude.{◌≡◌, ◌≢◌, IfErr};
+ghost use Rattle.reader.specs.declared.fault.Rule.TheVariants as rules;
+ghost use Rattle.reader.specs.Breaks.{ConstantBreaks, ComparedBreaks};
 ghost use Rattle.reader.specs.Names.{integer_of, value_of, compared_of, number_of};
 ghost use Rattle.reader.specs.Resolving.{Resolves};
-ghost use Rattle.reader.specs.Tree.{constant_of};
+ghost use Rattle.reader.specs.Tree.{constant_of, integer};
 
 use crate::fault::{ReadFault, Rule};
 use crate::tree::Constant;
@@ -16,7 +18,8 @@ pub const CONSTANT_LIMIT: usize = 100;
 
 /// An integer that fits 64 bits, or a Limit at its digits.
 fn integer(is_negative: bool, size: u64, digits: usize) -> Result<Value, ReadFault>
-    ensures { Resolves (λ v. v) result (integer_of is_negative size) }
+    ensures exact { Resolves (λ v. v) result (integer_of is_negative size) }
+    ensures rule { IfErr result (λ fault. ConstantBreaks fault.rule Kind.Int (integer is_negative size)) }
 {
     let greatest: u64 = if is_negative { 1 << 63 } else { (1 << 63) - 1 };
     if size > greatest {
@@ -47,7 +50,8 @@ pub fn number(is_negative: bool, size: u64, digits: usize) -> Result<i64, ReadFa
 
 /// The value of a constant in a column of this type.
 pub fn value(alloc: Global, kind: Kind, constant: &Constant<'_>) -> Result<Value, ReadFault>
-    ensures { Resolves (λ v. v) result (value_of kind (constant_of constant.now)) }
+    ensures exact { Resolves (λ v. v) result (value_of kind (constant_of constant.now)) }
+    ensures rule { IfErr result (λ fault. fault.rule ≢ rules.Memory → ConstantBreaks fault.rule kind (constant_of constant.now)) }
 {
     match (kind, constant) {
         (
@@ -70,7 +74,8 @@ pub fn value(alloc: Global, kind: Kind, constant: &Constant<'_>) -> Result<Value
 
 /// The value that a condition on a column of this type compares with.
 pub fn compared(alloc: Global, kind: Kind, constant: &Constant<'_>) -> Result<Value, ReadFault>
-    ensures { Resolves (λ v. v) result (compared_of kind (constant_of constant.now)) }
+    ensures exact { Resolves (λ v. v) result (compared_of kind (constant_of constant.now)) }
+    ensures rule { IfErr result (λ fault. fault.rule ≢ rules.Memory → ComparedBreaks fault.rule kind (constant_of constant.now)) }
 {
     if let (Kind::Text, Constant::Text { text, offset }) = (kind, constant) {
         if text.len() > CONSTANT_LIMIT {

@@ -1,9 +1,10 @@
 //! Names, types and limits: what a written command means under a schema.
 
-ghost use Rattle.std.specs.Prelude.{◌≡◌, length, map, IfOk};
+ghost use Rattle.std.specs.Prelude.{◌≡◌, length, map, IfOk, IfErr};
 ghost use Rattle.meaning.specs.Schema.{kinds_of, relation_named};
 ghost use Rattle.reader.specs.Tree.{constant_of, constants_of, written_of, join_of as tree_join, select_of as tree_select, insert_of as tree_insert, update_of as tree_update, delete_of as tree_delete};
 ghost use Rattle.reader.specs.Names.{source_of, row_of, other_than_key, joined_by, join_of, other_of, select_of_one, select_of_two, select_of, insert_of, update_of, delete_of, command_of};
+ghost use Rattle.reader.specs.Breaks.{RelationBreaks};
 ghost use Rattle.reader.specs.Resolving.{Resolves};
 ghost use Rattle.reader.specs.Scope.{scope_of};
 
@@ -54,7 +55,8 @@ pub fn command(alloc: Global, schema: &Schema, written: &Written<'_>) -> Result<
 }
 
 fn relation<'a>(schema: &'a Schema, named: &Named<'_>) -> Result<&'a RelationSchema, ReadFault>
-    ensures { Resolves (λ r. r.now) result (relation_named named.now.name.now schema.now.relations) }
+    ensures exact { Resolves (λ r. r.now) result (relation_named named.now.name.now schema.now.relations) }
+    ensures rule { IfErr result (λ fault. RelationBreaks fault.rule schema.now.relations named.now.name.now) }
 {
     match schema.relation(named.name) {
         Some(relation) => Ok(relation),
