@@ -17,6 +17,7 @@ pub mod Commands
 pub mod Chains
 pub mod Places
 pub mod Each
+pub mod Broken
 pub mod Kept
 pub mod Settings
 pub mod Fits

@@ -1,7 +1,8 @@
 //! What an update sets, and to what.
 
-ghost use Rattle.std.specs.Prelude.{◌≡◌, map, IfErr};
-ghost use Rattle.reader.specs.Breaks.{NameBreaks, SettableBreaks, AddendBreaks};
+ghost use Rattle.std.specs.Prelude.{◌≡◌, ◌≢◌, map, IfErr};
+ghost use Rattle.reader.specs.declared.fault.Rule.TheVariants as rules;
+ghost use Rattle.reader.specs.Breaks.{NameBreaks, SettableBreaks, AddendBreaks, AssignedBreaks, AssignmentsBreak};
 ghost use Rattle.reader.specs.Names.{settable, addend, assigned_of, is_set, sets_of};
 ghost use Rattle.reader.specs.Resolving.{Resolves};
 ghost use Rattle.reader.specs.Scope.{column_named};
@@ -22,7 +23,8 @@ pub fn assignments(
     columns: &[Column],
     written: &[Assignment<'_>],
 ) -> Result<Vec<statement::Assignment>, ReadFault>
-    ensures { Resolves (λ sets. sets.items) result (sets_of columns.now (map assignment_of written.now)) }
+    ensures exact { Resolves (λ sets. sets.items) result (sets_of columns.now (map assignment_of written.now)) }
+    ensures rule { IfErr result (λ fault. fault.rule ≢ rules.Memory → AssignmentsBreak fault.rule columns.now (map assignment_of written.now)) }
 {
     let mut sets = Vec::new(alloc);
     for assignment in written {
@@ -74,7 +76,8 @@ fn assigned(
     kind: Kind,
     written: &Assigned<'_>,
 ) -> Result<statement::Assigned, ReadFault>
-    ensures { Resolves (λ a. a) result (assigned_of columns.now kind (tree_assigned written.now)) }
+    ensures exact { Resolves (λ a. a) result (assigned_of columns.now kind (tree_assigned written.now)) }
+    ensures rule { IfErr result (λ fault. fault.rule ≢ rules.Memory → AssignedBreaks fault.rule columns.now kind (tree_assigned written.now)) }
 {
     match written {
         Assigned::Constant(constant) => Ok(statement::Assigned::Constant(value(

@@ -1,6 +1,6 @@
 //! Constants: the values that they are in columns of a type.
 
-ghost use Rattle.std.specs.Prelude.{◌≡◌, ◌≢◌, IfErr};
+ghost use Rattle.std.specs.Prelude.{◌≡◌, ◌≢◌, ◌<◌, ◌-◌, ◌^◌, IfErr};
 ghost use Rattle.reader.specs.declared.fault.Rule.TheVariants as rules;
 ghost use Rattle.reader.specs.Breaks.{ConstantBreaks, ComparedBreaks};
 ghost use Rattle.reader.specs.Names.{integer_of, value_of, compared_of, number_of};
@@ -35,7 +35,8 @@ fn integer(is_negative: bool, size: u64, digits: usize) -> Result<Value, ReadFau
 
 /// The number that a sum adds, negative where it is taken away.
 pub fn number(is_negative: bool, size: u64, digits: usize) -> Result<i64, ReadFault>
-    ensures { Resolves (λ n. n) result (number_of is_negative size) }
+    ensures exact { Resolves (λ n. n) result (number_of is_negative size) }
+    ensures rule { IfErr result (λ fault. fault.rule ≢ rules.Memory → (fault.rule ≡ rules.Limit) × (2 ^ 63 - 1 < size)) }
 {
     if size > (1 << 63) - 1 {
         return Err(ReadFault::new(Rule::Limit, digits));

@@ -20,7 +20,7 @@ returns-in_err-command-clause-none c =
     let p = err_from_is_err_and c.from_residual-in_err-command.result c.from_residual-in_err-command.ensures.1 in
     let spelled : AreTokens c.args.text.now (symbols_of c.as_slice.result.now) = rw c.as_slice.ensures.value c.in_ok-tokens.ensures.found in
     rw (p.1, p.2) (λ rule. no_names c.args.schema.now.relations c.args.text.now (symbols_of c.as_slice.result.now) (tree.written_of c.in_ok-written.written) spelled c.in_ok-written.ensures.found
-    (none_by_rule c.in_err-command.field-0.0.rule (command_of c.args.schema.now.relations (tree.written_of c.in_ok-written.written)) rule c.in_err-command.ensures))
+    (none_by_rule c.in_err-command.field-0.0.rule (command_of c.args.schema.now.relations (tree.written_of c.in_ok-written.written)) rule c.in_err-command.ensures.exact))
 
 pub returns-clause-found : goal.returns-clause-found
 returns-clause-found c =
@@ -31,5 +31,5 @@ returns-clause-found c =
       short = c.if-text-gt-STATEMENT_LIMIT.false;
       spelled = spelled;
       grammatical = c.in_ok-written.ensures.found;
-      meant = rw c.in_ok-command.ensures refl;
+      meant = rw c.in_ok-command.ensures.exact refl;
     }
