@@ -1,6 +1,9 @@
 -- What a refusal says of what it refuses, by its rule.
 use Rattle.std.specs.Prelude.{◌≡◌, ◌≢◌, ◌⊎◌, ◌<◌, ◌-◌, ◌^◌, ℕ, true, false, List, [], ◌∷◌, Option, Some, None, IsSome, length, nat_eq}
+use Rattle.std.specs.Char.{is_ascii_uppercase, is_ascii_control}
 use Rattle.std.specs.Cmp.Lexicographic.{pointwise}
+use Rattle.std.specs.List.{list_any}
+use Rattle.std.specs.Str.{is_utf8}
 use Rattle.terms.specs.declared.value.Kind.{Kind}
 use Rattle.terms.specs.declared.value.Kind.TheVariants as kinds
 use Rattle.meaning.specs.declared.schema.Column as schema
@@ -184,3 +187,33 @@ WrittenBreaks rule schema (tree.delete delete) = DeleteBreaks rule schema delete
 WrittenBreaks rule schema tree.begin = ⊥
 WrittenBreaks rule schema tree.commit = ⊥
 WrittenBreaks rule schema tree.rollback = ⊥
+
+-- a word that is no keyword is no name: it has a capital, or more than 24 bytes
+abbrev pub WordBreaks : Rule → List ℕ → Type 0
+WordBreaks rule word = ((rule ≡ rules.Character) × (list_any is_ascii_uppercase word ≡ true)) ⊎ ((rule ≡ rules.Limit) × (24 < length word))
+
+-- what stands between quotes has a control character or is no UTF-8, or has more than 200 bytes
+abbrev pub QuotedBreaks : Rule → List ℕ → Type 0
+QuotedBreaks rule value =
+    ((rule ≡ rules.Character) × ((list_any is_ascii_control value ≡ true) ⊎ (is_utf8 value ≡ false)))
+    ⊎ ((rule ≡ rules.Limit) × (200 < length value))
+
+-- the rules by which bytes are no tokens
+abbrev pub IsTokenRule : Rule → Type 0
+IsTokenRule rule = (rule ≡ rules.Character) ⊎ (rule ≡ rules.Limit)
+
+-- the text is too long, or has no tokens, or they write no command, or what is written breaks the rule
+abbrev pub TextBreaks : Rule → List RelationSchema → List ℕ → Type 0
+TextBreaks rule schema text =
+    (((rule ≡ rules.TooLong) × (4096 < length text))
+    ⊎ (IsTokenRule rule × ((symbols : List Symbol) → ¬ (AreTokens text symbols))))
+    ⊎ (((rule ≡ rules.Syntax) × (symbols : List Symbol) × AreTokens text symbols × ((written : tree.Written) → ¬ (Writes symbols written)))
+    ⊎ ((symbols : List Symbol) × (written : tree.Written) × AreTokens text symbols × Writes symbols written × WrittenBreaks rule schema written))
+
+-- the same of the text of conditions
+abbrev pub CondsTextBreaks : Rule → List schema.Column → List ℕ → Type 0
+CondsTextBreaks rule columns text =
+    (((rule ≡ rules.TooLong) × (4096 < length text))
+    ⊎ (IsTokenRule rule × ((symbols : List Symbol) → ¬ (AreTokens text symbols))))
+    ⊎ (((rule ≡ rules.Syntax) × (symbols : List Symbol) × AreTokens text symbols × ((written : List tree.Condition) → ¬ (WritesConditions symbols written)))
+    ⊎ ((symbols : List Symbol) × (written : List tree.Condition) × AreTokens text symbols × WritesConditions symbols written × ConditionsBreak rule (columns_alone columns) written))

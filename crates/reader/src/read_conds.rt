@@ -5,6 +5,7 @@ ghost use Rattle.std.specs.List.{AllByRecursion};
 ghost use Rattle.terms.specs.declared.cond.Cond.{Cond};
 ghost use Rattle.terms.specs.Cond.{IsCondOf};
 ghost use Rattle.reader.specs.declared.fault.Rule.TheVariants as rules;
+ghost use Rattle.reader.specs.Breaks.{CondsTextBreaks};
 ghost use Rattle.reader.specs.Conds.{AreCondsOf, CondsOfTextFit, OneListOfCondsOfText};
 ghost use Rattle.reader.specs.Scope.{types};
 
@@ -29,6 +30,8 @@ pub fn read_conds(alloc: Global, text: &str, columns: &[Column]) -> Result<Conds
     // A text that is refused by a rule is one of no conditions.
     ensures none { IfErr result (λ fault. fault.rule ≢ rules.Memory
         → (conds : List Cond) → ¬ (AreCondsOf columns.now text.now conds)) }
+    // The rule that it names is one that the text breaks.
+    ensures rule { IfErr result (λ fault. fault.rule ≢ rules.Memory → CondsTextBreaks fault.rule columns.now text.now) }
     ensures within { IfErr result (λ fault. fault.offset ≤ length text.now) }
 {
     match read_bytes(alloc, text.as_bytes(), columns) {
@@ -51,6 +54,7 @@ fn read_bytes(alloc: Global, text: &[u8], columns: &[Column]) -> Result<Conds, R
     ensures found { IfOk result (λ conds. AreCondsOf columns.now text.now conds) }
     ensures none { IfErr result (λ fault. fault.rule ≢ rules.Memory
         → (conds : List Cond) → ¬ (AreCondsOf columns.now text.now conds)) }
+    ensures rule { IfErr result (λ fault. fault.rule ≢ rules.Memory → CondsTextBreaks fault.rule columns.now text.now) }
 {
     if text.len() > STATEMENT_LIMIT {
         return Err(ReadFault::new(Rule::TooLong, STATEMENT_LIMIT));
