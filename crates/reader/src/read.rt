@@ -34,6 +34,8 @@ pub fn read(alloc: Global, text: &str, schema: &Schema) -> Result<Command, ReadF
         → (command : Command) → ¬ (IsTextOf schema.now.relations text.now command)) }
     // The rule that it names is one that the text breaks.
     ensures rule { IfErr result (λ fault. fault.rule ≢ rules.Memory → TextBreaks fault.rule schema.now.relations text.now) }
+    // That memory ran out is told at offset 0.
+    ensures memory { IfErr result (λ fault. fault.rule ≡ rules.Memory → fault.offset ≡ 0) }
     ensures within { IfErr result (λ fault. fault.offset ≤ length text.now) }
 {
     match read_bytes(alloc, text.as_bytes(), schema) {

@@ -32,6 +32,8 @@ pub fn read_conds(alloc: Global, text: &str, columns: &[Column]) -> Result<Conds
         → (conds : List Cond) → ¬ (AreCondsOf columns.now text.now conds)) }
     // The rule that it names is one that the text breaks.
     ensures rule { IfErr result (λ fault. fault.rule ≢ rules.Memory → CondsTextBreaks fault.rule columns.now text.now) }
+    // That memory ran out is told at offset 0.
+    ensures memory { IfErr result (λ fault. fault.rule ≡ rules.Memory → fault.offset ≡ 0) }
     ensures within { IfErr result (λ fault. fault.offset ≤ length text.now) }
 {
     match read_bytes(alloc, text.as_bytes(), columns) {
