@@ -17,6 +17,10 @@ Relations = map.FinMap (slice_cmp nat_cmp) (List (List Value))
 abbrev pub relations_code : Coded Relations
 relations_code = map.code (coded_list coded_ℕ) (coded_list (coded_list (value.the_row).coded))
 
+-- the whole database that entries make, the first where two have one name
+abbrev pub of_entries : List (List ℕ × List (List Value)) → Relations
+of_entries entries = map.from_entries entries
+
 -- the rows of the relation of a name; where there is none, none
 abbrev pub rows_of : Relations → List ℕ → List (List Value)
 rows_of whole name = unwrap_or (map.get whole name) []
