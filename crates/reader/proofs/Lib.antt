@@ -30,6 +30,7 @@ pub mod ResolvedColumns
 pub mod ResolvedConds
 pub mod Spellings
 pub mod Resolved
+pub mod LawsOfSelect
 pub mod ResolvedAlone
 pub mod PrintableText
 pub mod ReadAgain

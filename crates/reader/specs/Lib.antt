@@ -1,6 +1,7 @@
 -- What a text is one of.
 pub mod Command
 pub mod Conds
+pub mod Laws
 -- Its tokens, its grammar and its names, in reading order.
 pub mod Tokens
 pub mod Symbol

@@ -18,6 +18,7 @@ pub mod cursor;
 pub mod fault;
 mod integer;
 pub mod keyword;
+pub mod laws;
 pub mod lexer;
 pub mod names;
 pub mod parser;
