@@ -20,7 +20,7 @@ infixl 10 ◌>>=◌
 abbrev pub ◌>>=◌ : {A B : Type 0} → Option A → (A → Option B) → Option B
 o >>= f = and_then o f
 
--- Which fault answers where nothing was read: want of memory says nothing of the text.
+-- Which fault answers where nothing was read: that memory ran out says nothing of the text.
 abbrev pub Fails : {Y : Type 0} → Rule → Option Y → Type 0
 Fails rules.Memory read = Unit {0}
 Fails rules.Syntax read = read ≡ None

@@ -1,5 +1,5 @@
 -- The text that a statement is printed as: keywords in capitals, one blank between words, around operators
--- and behind commas.
+-- and after commas.
 use Rattle.std.specs.Prelude.{ℕ, Bool, true, false, List, [], ◌∷◌, ◌++◌, Option, Some, None, map, codes}
 use Rattle.std.specs.Fmt.{decimal}
 use Rattle.std.specs.List.{flat_map}

@@ -4,7 +4,7 @@ use Rattle.reader.specs.declared.fault.ReadFault.{ReadFault}
 use Rattle.reader.specs.declared.fault.Rule.{Rule}
 use Rattle.reader.specs.declared.fault.Rule.TheVariants as rules
 
--- where a rule of the text refuses there is no meaning; want of memory says nothing
+-- where a rule of the text refuses there is no meaning; that memory ran out says nothing
 abbrev pub HasNone : {Y : Type 0} → Rule → Option Y → Type 0
 HasNone rules.Memory meant = Unit {0}
 HasNone rule meant = meant ≡ None

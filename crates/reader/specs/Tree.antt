@@ -41,7 +41,7 @@ pub record Condition : Type 0 where
   pub comparison : Cmp
   pub constant : Constant
 
--- The other relation, and the columns on both sides of the sign behind ON.
+-- The other relation, and the columns on both sides of the sign after ON.
 pub record Join : Type 0 where
   pub relation : List ℕ
   pub left : Column

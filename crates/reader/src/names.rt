@@ -199,7 +199,7 @@ fn join_column(scope: &Scope<'_>, join: &Join<'_>) -> Result<usize, ReadFault>
     }
 }
 
-/// The one of two columns that is compared with the key behind the columns after FROM.
+/// The one of two columns that is compared with the key of the joined relation.
 fn beside_key(count: usize, left: usize, right: usize) -> Option<usize>
     ensures { result ≡ other_than_key count left right }
 {

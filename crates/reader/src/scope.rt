@@ -127,7 +127,7 @@ fn find_in_table(table: &Table<'_>, column: &Column<'_>) -> Option<Found>
     }
 }
 
-/// A column of the joined table, counted on behind those of the first.
+/// A column of the joined table, counted on from those of the first.
 fn find_in_joined(scope: &Scope<'_>, column: &Column<'_>) -> Option<Found>
     ensures { result ≡ found_in_joined (length scope.now.first.columns.now) (scope_of scope.now).joined (column_of column.now) }
 {

@@ -28,7 +28,7 @@ pub fn is_name(word: &[u8]) -> bool
         && word.len() <= NAME_LIMIT
 }
 
-/// Whether bytes are a letter, and behind it letters, digits and underscores.
+/// Whether bytes are a letter, and after it letters, digits and underscores.
 fn is_word(word: &[u8]) -> bool
     ensures { IsTrue result ↔ IsWord word.now }
 {
