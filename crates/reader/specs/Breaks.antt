@@ -1,5 +1,5 @@
 -- What a refusal says of what it refuses, by its rule.
-use Rattle.std.specs.Prelude.{◌≡◌, ◌≢◌, ◌⊎◌, ◌<◌, ◌-◌, ◌^◌, ℕ, true, false, List, [], ◌∷◌, Option, Some, None, IsSome, length, nat_eq}
+use Rattle.std.specs.Prelude.{◌≡◌, ◌≢◌, ◌⊎◌, ◌<◌, ◌-◌, ◌^◌, ℕ, true, false, List, [], ◌∷◌, Option, Some, None, IsSome, Result, IfErr, length, nat_eq}
 use Rattle.std.specs.Char.{is_ascii_uppercase, is_ascii_control}
 use Rattle.std.specs.Cmp.Lexicographic.{pointwise}
 use Rattle.std.specs.List.{list_any}
@@ -9,6 +9,7 @@ use Rattle.terms.specs.declared.value.Kind.TheVariants as kinds
 use Rattle.meaning.specs.declared.schema.Column as schema
 use Rattle.meaning.specs.declared.schema.RelationSchema.{RelationSchema}
 use Rattle.meaning.specs.Schema.{relation_named, kinds_of}
+use Rattle.reader.specs.declared.fault.ReadFault.{ReadFault}
 use Rattle.reader.specs.declared.fault.Rule.{Rule}
 use Rattle.reader.specs.declared.fault.Rule.TheVariants as rules
 use Rattle.reader.specs.declared.scope.Found.{Found}
@@ -19,6 +20,10 @@ use Rattle.reader.specs.Scope.{Scope, one_relation, two_relations, columns_alone
 use Rattle.reader.specs.Symbol.{Symbol}
 use Rattle.reader.specs.Tokens.{AreTokens}
 use Rattle.reader.specs.Tree as tree
+
+-- what is said of a refusal's rule, unless memory ran out
+abbrev pub Refuses : {X : Type 0} → Result X ReadFault → (Rule → Type 0) → Type 0
+Refuses result says = IfErr result (λ fault. fault.rule ≢ rules.Memory → says fault.rule)
 
 -- what is said of some item of a list
 abbrev pub SomeOf : {A : Type 0} → (A → Type 0) → List A → Type 0

@@ -2,7 +2,7 @@
 
 ghost use Rattle.std.specs.Prelude.{◌≡◌, ◌≢◌, map, IfErr};
 ghost use Rattle.reader.specs.declared.fault.Rule.TheVariants as rules;
-ghost use Rattle.reader.specs.Breaks.{NameBreaks, SettableBreaks, AddendBreaks, AssignedBreaks, AssignmentsBreak};
+ghost use Rattle.reader.specs.Breaks.{Refuses, NameBreaks, SettableBreaks, AddendBreaks, AssignedBreaks, AssignmentsBreak};
 ghost use Rattle.reader.specs.Names.{settable, addend, assigned_of, is_set, sets_of};
 ghost use Rattle.reader.specs.Resolving.{Resolves};
 ghost use Rattle.reader.specs.Scope.{column_named};
@@ -24,7 +24,7 @@ pub fn assignments(
     written: &[Assignment<'_>],
 ) -> Result<Vec<statement::Assignment>, ReadFault>
     ensures exact { Resolves (λ sets. sets.items) result (sets_of columns.now (map assignment_of written.now)) }
-    ensures rule { IfErr result (λ fault. fault.rule ≢ rules.Memory → AssignmentsBreak fault.rule columns.now (map assignment_of written.now)) }
+    ensures rule { Refuses result (λ rule. AssignmentsBreak rule columns.now (map assignment_of written.now)) }
 {
     let mut sets = Vec::new(alloc);
     for assignment in written {
@@ -77,7 +77,7 @@ fn assigned(
     written: &Assigned<'_>,
 ) -> Result<statement::Assigned, ReadFault>
     ensures exact { Resolves (λ a. a) result (assigned_of columns.now kind (tree_assigned written.now)) }
-    ensures rule { IfErr result (λ fault. fault.rule ≢ rules.Memory → AssignedBreaks fault.rule columns.now kind (tree_assigned written.now)) }
+    ensures rule { Refuses result (λ rule. AssignedBreaks rule columns.now kind (tree_assigned written.now)) }
 {
     match written {
         Assigned::Constant(constant) => Ok(statement::Assigned::Constant(value(

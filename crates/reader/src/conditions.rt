@@ -3,7 +3,7 @@
 ghost use Rattle.std.specs.Prelude.{◌≡◌, ◌≢◌, IfErr, Some, None, length, map, nat_le, if◌then◌else◌};
 ghost use Rattle.std.specs.List.{range_with_len};
 ghost use Rattle.reader.specs.declared.fault.Rule.TheVariants as rules;
-ghost use Rattle.reader.specs.Breaks.{ListedBreaks, ComparedBreaks, ConditionsBreak};
+ghost use Rattle.reader.specs.Breaks.{Refuses, ListedBreaks, ComparedBreaks, ConditionsBreak};
 ghost use Rattle.reader.specs.Names.{all_of, place_in, places_of, cond_on, conds_of};
 ghost use Rattle.reader.specs.Resolving.{Resolves};
 ghost use Rattle.reader.specs.Scope.{scope_of, types_in};
@@ -29,7 +29,7 @@ pub fn places(
     listed: &Listed<'_>,
 ) -> Result<Vec<usize>, ReadFault>
     ensures exact { Resolves (λ places. places.items) result (places_of (scope_of scope.now) (listed_of listed.now)) }
-    ensures rule { IfErr result (λ fault. fault.rule ≢ rules.Memory → ListedBreaks fault.rule (scope_of scope.now) (listed_of listed.now)) }
+    ensures rule { Refuses result (λ rule. ListedBreaks rule (scope_of scope.now) (listed_of listed.now)) }
 {
     match listed {
         Listed::All { offset } => {
@@ -56,7 +56,7 @@ fn column_count(scope: &Scope<'_>) -> usize
 
 fn every_place(alloc: Global, count: usize) -> Result<Vec<usize>, ReadFault>
     ensures exact { Resolves (λ places. places.items) result (Some (range_with_len 0 count)) }
-    ensures rule { IfErr result (λ fault. fault.rule ≢ rules.Memory → ⊥) }
+    ensures rule { Refuses result (λ rule. ⊥) }
 {
     let mut places = Vec::new(alloc);
     for place in 0..count {
@@ -71,7 +71,7 @@ fn listed_places(
     columns: &[Column<'_>],
 ) -> Result<Vec<usize>, ReadFault>
     ensures exact { Resolves (λ places. places.items) result (if nat_le (length columns.now) 32 then all_of (place_in (scope_of scope.now)) (map column_of columns.now) else None) }
-    ensures rule { IfErr result (λ fault. fault.rule ≢ rules.Memory → ListedBreaks fault.rule (scope_of scope.now) (these_columns (map column_of columns.now))) }
+    ensures rule { Refuses result (λ rule. ListedBreaks rule (scope_of scope.now) (these_columns (map column_of columns.now))) }
 {
     let mut places = Vec::new(alloc);
     for column in columns {
@@ -91,7 +91,7 @@ pub fn conds(
     conditions: &[Condition<'_>],
 ) -> Result<Vec<Cond>, ReadFault>
     ensures exact { Resolves (λ conds. conds.items) result (conds_of (scope_of scope.now) (map condition_of conditions.now)) }
-    ensures rule { IfErr result (λ fault. fault.rule ≢ rules.Memory → ConditionsBreak fault.rule (scope_of scope.now) (map condition_of conditions.now)) }
+    ensures rule { Refuses result (λ rule. ConditionsBreak rule (scope_of scope.now) (map condition_of conditions.now)) }
 {
     let mut conds = Vec::new(alloc);
     for condition in conditions {
@@ -107,7 +107,7 @@ pub fn conds(
 /// A condition on a column that was found.
 fn cond(alloc: Global, found: Found, condition: &Condition<'_>) -> Result<Cond, ReadFault>
     ensures exact { Resolves (λ c. c) result (cond_on found (condition_of condition.now)) }
-    ensures rule { IfErr result (λ fault. fault.rule ≢ rules.Memory → ComparedBreaks fault.rule found.kind (condition_of condition.now).constant) }
+    ensures rule { Refuses result (λ rule. ComparedBreaks rule found.kind (condition_of condition.now).constant) }
 {
     let value = compared(alloc, found.kind, &condition.constant)?;
     Ok(Cond {

@@ -2,7 +2,7 @@
 
 ghost use Rattle.std.specs.Prelude.{◌≡◌, ◌≢◌, ◌<◌, ◌-◌, ◌^◌, IfErr};
 ghost use Rattle.reader.specs.declared.fault.Rule.TheVariants as rules;
-ghost use Rattle.reader.specs.Breaks.{ConstantBreaks, ComparedBreaks};
+ghost use Rattle.reader.specs.Breaks.{Refuses, ConstantBreaks, ComparedBreaks};
 ghost use Rattle.reader.specs.Names.{integer_of, value_of, compared_of, number_of};
 ghost use Rattle.reader.specs.Resolving.{Resolves};
 ghost use Rattle.reader.specs.Tree.{constant_of, integer};
@@ -36,7 +36,7 @@ fn integer(is_negative: bool, size: u64, digits: usize) -> Result<Value, ReadFau
 /// The number that a sum adds, negative where it is taken away.
 pub fn number(is_negative: bool, size: u64, digits: usize) -> Result<i64, ReadFault>
     ensures exact { Resolves (λ n. n) result (number_of is_negative size) }
-    ensures rule { IfErr result (λ fault. fault.rule ≢ rules.Memory → (fault.rule ≡ rules.Limit) × (2 ^ 63 - 1 < size)) }
+    ensures rule { Refuses result (λ rule. (rule ≡ rules.Limit) × (2 ^ 63 - 1 < size)) }
 {
     if size > (1 << 63) - 1 {
         return Err(ReadFault::new(Rule::Limit, digits));
@@ -52,7 +52,7 @@ pub fn number(is_negative: bool, size: u64, digits: usize) -> Result<i64, ReadFa
 /// The value of a constant in a column of this type.
 pub fn value(alloc: Global, kind: Kind, constant: &Constant<'_>) -> Result<Value, ReadFault>
     ensures exact { Resolves (λ v. v) result (value_of kind (constant_of constant.now)) }
-    ensures rule { IfErr result (λ fault. fault.rule ≢ rules.Memory → ConstantBreaks fault.rule kind (constant_of constant.now)) }
+    ensures rule { Refuses result (λ rule. ConstantBreaks rule kind (constant_of constant.now)) }
 {
     match (kind, constant) {
         (
@@ -76,7 +76,7 @@ pub fn value(alloc: Global, kind: Kind, constant: &Constant<'_>) -> Result<Value
 /// The value that a condition on a column of this type compares with.
 pub fn compared(alloc: Global, kind: Kind, constant: &Constant<'_>) -> Result<Value, ReadFault>
     ensures exact { Resolves (λ v. v) result (compared_of kind (constant_of constant.now)) }
-    ensures rule { IfErr result (λ fault. fault.rule ≢ rules.Memory → ComparedBreaks fault.rule kind (constant_of constant.now)) }
+    ensures rule { Refuses result (λ rule. ComparedBreaks rule kind (constant_of constant.now)) }
 {
     if let (Kind::Text, Constant::Text { text, offset }) = (kind, constant) {
         if text.len() > CONSTANT_LIMIT {

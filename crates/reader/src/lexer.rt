@@ -1,7 +1,7 @@
 //! The tokens of a text.
 
 ghost use Rattle.std.specs.Prelude.{◌≡◌, ◌≢◌, ◌+◌, ◌<◌, ◌≤◌, ◌^◌, List, All, length, IfOk, IfErr};
-ghost use Rattle.reader.specs.Breaks.{IsTokenRule};
+ghost use Rattle.reader.specs.Breaks.{Refuses, IsTokenRule};
 ghost use Rattle.reader.specs.Symbol.{Symbol, symbol_of, symbols_of};
 ghost use Rattle.reader.specs.Tokens.{AreTokens, OneListOfTokens};
 ghost use Rattle.reader.specs.Reading.{Gives, token_at};
@@ -21,7 +21,7 @@ fn token(alloc: Global, bytes: &[u8], offset: usize) -> Result<(Token<'_>, &[u8]
     requires room { offset + length bytes.now < 2 ^ 64 }
     requires begun { 0 < length bytes.now }
     ensures exact { Gives (λ x. (symbol_of x.0, x.1.now)) result (token_at bytes.now) }
-    ensures rule { IfErr result (λ fault. fault.rule ≢ Rule.Memory → IsTokenRule fault.rule) }
+    ensures rule { Refuses result (λ rule. IsTokenRule rule) }
     ensures within { IfErr result (λ fault. fault.offset ≤ offset + length bytes.now) }
 {
     let first = bytes[0];
@@ -53,7 +53,7 @@ pub fn tokens(alloc: Global, text: &[u8]) -> Result<Vec<Placed<'_>>, ReadFault>
 
     // A text that has tokens is refused only where memory runs out.
     ensures none { IfErr result (λ fault. fault.rule ≢ Rule.Memory → (symbols : List Symbol) → ¬ AreTokens text.now symbols) }
-    ensures rule { IfErr result (λ fault. fault.rule ≢ Rule.Memory → IsTokenRule fault.rule) }
+    ensures rule { Refuses result (λ rule. IsTokenRule rule) }
     ensures within { IfErr result (λ fault. fault.offset ≤ length text.now) }
 {
     let mut tokens = Vec::new(alloc);

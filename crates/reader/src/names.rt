@@ -5,7 +5,7 @@ ghost use Rattle.reader.specs.declared.fault.Rule.TheVariants as rules;
 ghost use Rattle.meaning.specs.Schema.{kinds_of, relation_named};
 ghost use Rattle.reader.specs.Tree.{constant_of, constants_of, written_of, join_of as tree_join, select_of as tree_select, insert_of as tree_insert, update_of as tree_update, delete_of as tree_delete};
 ghost use Rattle.reader.specs.Names.{source_of, row_of, other_than_key, joined_by, join_of, other_of, select_of_one, select_of_two, select_of, insert_of, update_of, delete_of, command_of};
-ghost use Rattle.reader.specs.Breaks.{RelationBreaks, WrittenBreaks, JoinedBreaks, SelectBreaks, SelectOneBreaks, SelectTwoBreaks, OnBreaks, InsertBreaks, RowBreaks, ValuesBreak, UpdateBreaks, DeleteBreaks};
+ghost use Rattle.reader.specs.Breaks.{Refuses, RelationBreaks, WrittenBreaks, JoinedBreaks, SelectBreaks, SelectOneBreaks, SelectTwoBreaks, OnBreaks, InsertBreaks, RowBreaks, ValuesBreak, UpdateBreaks, DeleteBreaks};
 ghost use Rattle.reader.specs.Resolving.{Resolves};
 ghost use Rattle.reader.specs.Scope.{scope_of, one_relation, two_relations};
 
@@ -31,7 +31,7 @@ use terms::value::{Kind, Value};
 /// The command that a written one is under a schema.
 pub fn command(alloc: Global, schema: &Schema, written: &Written<'_>) -> Result<Command, ReadFault>
     ensures exact { Resolves (λ c. c) result (command_of schema.now.relations (written_of written.now)) }
-    ensures rule { IfErr result (λ fault. fault.rule ≢ rules.Memory → WrittenBreaks fault.rule schema.now.relations (written_of written.now)) }
+    ensures rule { Refuses result (λ rule. WrittenBreaks rule schema.now.relations (written_of written.now)) }
 {
     match written {
         Written::Select(written) => {
@@ -73,7 +73,7 @@ fn other<'a>(
     join: &Join<'_>,
 ) -> Result<&'a RelationSchema, ReadFault>
     ensures exact { Resolves (λ r. r.now) result (other_of schema.now.relations from.now (tree_join join.now)) }
-    ensures rule { IfErr result (λ fault. fault.rule ≢ rules.Memory → JoinedBreaks fault.rule schema.now.relations from.now (tree_join join.now)) }
+    ensures rule { Refuses result (λ rule. JoinedBreaks rule schema.now.relations from.now (tree_join join.now)) }
 {
     let other = relation(schema, &join.relation)?;
     if other.name.as_str().as_bytes() == from.name.as_str().as_bytes() {
@@ -109,7 +109,7 @@ fn select(
     written: &Select<'_>,
 ) -> Result<statement::Select, ReadFault>
     ensures exact { Resolves (λ s. s) result (select_of schema.now.relations (tree_select written.now)) }
-    ensures rule { IfErr result (λ fault. fault.rule ≢ rules.Memory → SelectBreaks fault.rule schema.now.relations (tree_select written.now)) }
+    ensures rule { Refuses result (λ rule. SelectBreaks rule schema.now.relations (tree_select written.now)) }
 {
     let from = relation(schema, &written.relation)?;
     match &written.join {
@@ -127,7 +127,7 @@ fn select_of_one(
     written: &Select<'_>,
 ) -> Result<statement::Select, ReadFault>
     ensures exact { Resolves (λ s. s) result (select_of_one from.now (tree_select written.now)) }
-    ensures rule { IfErr result (λ fault. fault.rule ≢ rules.Memory → SelectOneBreaks fault.rule (one_relation from.now) (tree_select written.now)) }
+    ensures rule { Refuses result (λ rule. SelectOneBreaks rule (one_relation from.now) (tree_select written.now)) }
 {
     let scope = &of_one(from);
     let columns = places(alloc, scope, &written.listed)?;
@@ -148,7 +148,7 @@ fn select_of_two(
     written: &Select<'_>,
 ) -> Result<statement::Select, ReadFault>
     ensures exact { Resolves (λ s. s) result (select_of_two from.now other.now (tree_join written_join.now) (tree_select written.now)) }
-    ensures rule { IfErr result (λ fault. fault.rule ≢ rules.Memory → SelectTwoBreaks fault.rule (two_relations from.now other.now) (tree_join written_join.now) (tree_select written.now)) }
+    ensures rule { Refuses result (λ rule. SelectTwoBreaks rule (two_relations from.now other.now) (tree_join written_join.now) (tree_select written.now)) }
 {
     let scope = &of_two(from, other);
     let columns = places(alloc, scope, &written.listed)?;
@@ -169,7 +169,7 @@ fn join(
     written: &Join<'_>,
 ) -> Result<statement::Join, ReadFault>
     ensures exact { Resolves (λ j. j) result (join_of from.now other.now (tree_join written.now)) }
-    ensures rule { IfErr result (λ fault. fault.rule ≢ rules.Memory → OnBreaks fault.rule (two_relations from.now other.now) (tree_join written.now)) }
+    ensures rule { Refuses result (λ rule. OnBreaks rule (two_relations from.now other.now) (tree_join written.now)) }
 {
     let col = join_column(&of_two(from, other), written)?;
     Ok(statement::Join {
@@ -181,7 +181,7 @@ fn join(
 /// The column after FROM by which two relations are joined.
 fn join_column(scope: &Scope<'_>, join: &Join<'_>) -> Result<usize, ReadFault>
     ensures exact { Resolves (λ column. column) result (joined_by (scope_of scope.now) (tree_join join.now)) }
-    ensures rule { IfErr result (λ fault. fault.rule ≢ rules.Memory → OnBreaks fault.rule (scope_of scope.now) (tree_join join.now)) }
+    ensures rule { Refuses result (λ rule. OnBreaks rule (scope_of scope.now) (tree_join join.now)) }
 {
     let left = find(scope, &join.left)?;
     let right = find(scope, &join.right)?;
@@ -218,7 +218,7 @@ fn insert(
     written: &Insert<'_>,
 ) -> Result<statement::Insert, ReadFault>
     ensures exact { Resolves (λ i. i) result (insert_of schema.now.relations (tree_insert written.now)) }
-    ensures rule { IfErr result (λ fault. fault.rule ≢ rules.Memory → InsertBreaks fault.rule schema.now.relations (tree_insert written.now)) }
+    ensures rule { Refuses result (λ rule. InsertBreaks rule schema.now.relations (tree_insert written.now)) }
 {
     let relation = relation(schema, &written.relation)?;
     let values = row(alloc, relation, written)?;
@@ -235,7 +235,7 @@ fn row(
     insert: &Insert<'_>,
 ) -> Result<Vec<Value>, ReadFault>
     ensures exact { Resolves (λ values. values.items) result (row_of (kinds_of relation.now) (constants_of insert.now.values)) }
-    ensures rule { IfErr result (λ fault. fault.rule ≢ rules.Memory → RowBreaks fault.rule (kinds_of relation.now) (constants_of insert.now.values)) }
+    ensures rule { Refuses result (λ rule. RowBreaks rule (kinds_of relation.now) (constants_of insert.now.values)) }
 {
     let columns = relation.columns.as_slice();
     let constants = insert.values.as_slice();
@@ -252,7 +252,7 @@ fn values(
 ) -> Result<Vec<Value>, ReadFault>
     requires { length constants.now ≡ length columns.now }
     ensures exact { Resolves (λ values. values.items) result (row_of (map (λ c. c.kind) columns.now) (map constant_of constants.now)) }
-    ensures rule { IfErr result (λ fault. fault.rule ≢ rules.Memory → ValuesBreak fault.rule (map (λ c. c.kind) columns.now) (map constant_of constants.now)) }
+    ensures rule { Refuses result (λ rule. ValuesBreak rule (map (λ c. c.kind) columns.now) (map constant_of constants.now)) }
 {
     let mut values = Vec::new(alloc);
     for (place, constant) in constants.iter().enumerate() {
@@ -267,7 +267,7 @@ fn update(
     written: &Update<'_>,
 ) -> Result<statement::Update, ReadFault>
     ensures exact { Resolves (λ u. u) result (update_of schema.now.relations (tree_update written.now)) }
-    ensures rule { IfErr result (λ fault. fault.rule ≢ rules.Memory → UpdateBreaks fault.rule schema.now.relations (tree_update written.now)) }
+    ensures rule { Refuses result (λ rule. UpdateBreaks rule schema.now.relations (tree_update written.now)) }
 {
     let relation = relation(schema, &written.relation)?;
     let sets = assignments(alloc, relation.columns.as_slice(), written.sets.as_slice())?;
@@ -285,7 +285,7 @@ fn delete(
     written: &Delete<'_>,
 ) -> Result<statement::Delete, ReadFault>
     ensures exact { Resolves (λ d. d) result (delete_of schema.now.relations (tree_delete written.now)) }
-    ensures rule { IfErr result (λ fault. fault.rule ≢ rules.Memory → DeleteBreaks fault.rule schema.now.relations (tree_delete written.now)) }
+    ensures rule { Refuses result (λ rule. DeleteBreaks rule schema.now.relations (tree_delete written.now)) }
 {
     let relation = relation(schema, &written.relation)?;
     let conds = conds(alloc, &of_one(relation), written.conditions.as_slice())?;

@@ -3,7 +3,7 @@
 ghost use Rattle.std.specs.Prelude.{◌≡◌, ◌≢◌, ◌≤◌, List, length, IfOk, IfErr};
 ghost use Rattle.reader.specs.declared.command.Command.{Command};
 ghost use Rattle.reader.specs.declared.fault.Rule.TheVariants as rules;
-ghost use Rattle.reader.specs.Breaks.{TextBreaks};
+ghost use Rattle.reader.specs.Breaks.{Refuses, TextBreaks};
 ghost use Rattle.reader.specs.Command.{IsTextOf, IsCommandOf, OneCommandOfText};
 ghost use Rattle.reader.specs.Printable.{AreNamed, IsPrintableCommand};
 
@@ -33,7 +33,7 @@ pub fn read(alloc: Global, text: &str, schema: &Schema) -> Result<Command, ReadF
     ensures none { IfErr result (λ fault. fault.rule ≢ rules.Memory
         → (command : Command) → ¬ (IsTextOf schema.now.relations text.now command)) }
     // The rule that it names is one that the text breaks.
-    ensures rule { IfErr result (λ fault. fault.rule ≢ rules.Memory → TextBreaks fault.rule schema.now.relations text.now) }
+    ensures rule { Refuses result (λ rule. TextBreaks rule schema.now.relations text.now) }
     // That memory ran out is told at offset 0.
     ensures memory { IfErr result (λ fault. fault.rule ≡ rules.Memory → fault.offset ≡ 0) }
     ensures within { IfErr result (λ fault. fault.offset ≤ length text.now) }
@@ -53,7 +53,7 @@ fn read_bytes(alloc: Global, text: &[u8], schema: &Schema) -> Result<Command, Re
     ensures found { IfOk result (λ command. IsTextOf schema.now.relations text.now command) }
     ensures none { IfErr result (λ fault. fault.rule ≢ rules.Memory
         → (command : Command) → ¬ (IsTextOf schema.now.relations text.now command)) }
-    ensures rule { IfErr result (λ fault. fault.rule ≢ rules.Memory → TextBreaks fault.rule schema.now.relations text.now) }
+    ensures rule { Refuses result (λ rule. TextBreaks rule schema.now.relations text.now) }
 {
     if text.len() > STATEMENT_LIMIT {
         return Err(ReadFault::new(Rule::TooLong, STATEMENT_LIMIT));

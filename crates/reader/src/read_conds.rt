@@ -5,7 +5,7 @@ ghost use Rattle.std.specs.List.{AllByRecursion};
 ghost use Rattle.terms.specs.declared.cond.Cond.{Cond};
 ghost use Rattle.terms.specs.Cond.{IsCondOf};
 ghost use Rattle.reader.specs.declared.fault.Rule.TheVariants as rules;
-ghost use Rattle.reader.specs.Breaks.{CondsTextBreaks};
+ghost use Rattle.reader.specs.Breaks.{Refuses, CondsTextBreaks};
 ghost use Rattle.reader.specs.Conds.{AreCondsOf, CondsOfTextFit, OneListOfCondsOfText};
 ghost use Rattle.reader.specs.Scope.{types};
 
@@ -31,7 +31,7 @@ pub fn read_conds(alloc: Global, text: &str, columns: &[Column]) -> Result<Conds
     ensures none { IfErr result (λ fault. fault.rule ≢ rules.Memory
         → (conds : List Cond) → ¬ (AreCondsOf columns.now text.now conds)) }
     // The rule that it names is one that the text breaks.
-    ensures rule { IfErr result (λ fault. fault.rule ≢ rules.Memory → CondsTextBreaks fault.rule columns.now text.now) }
+    ensures rule { Refuses result (λ rule. CondsTextBreaks rule columns.now text.now) }
     // That memory ran out is told at offset 0.
     ensures memory { IfErr result (λ fault. fault.rule ≡ rules.Memory → fault.offset ≡ 0) }
     ensures within { IfErr result (λ fault. fault.offset ≤ length text.now) }
@@ -56,7 +56,7 @@ fn read_bytes(alloc: Global, text: &[u8], columns: &[Column]) -> Result<Conds, R
     ensures found { IfOk result (λ conds. AreCondsOf columns.now text.now conds) }
     ensures none { IfErr result (λ fault. fault.rule ≢ rules.Memory
         → (conds : List Cond) → ¬ (AreCondsOf columns.now text.now conds)) }
-    ensures rule { IfErr result (λ fault. fault.rule ≢ rules.Memory → CondsTextBreaks fault.rule columns.now text.now) }
+    ensures rule { Refuses result (λ rule. CondsTextBreaks rule columns.now text.now) }
 {
     if text.len() > STATEMENT_LIMIT {
         return Err(ReadFault::new(Rule::TooLong, STATEMENT_LIMIT));

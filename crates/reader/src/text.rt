@@ -5,7 +5,7 @@ ghost use Rattle.std.specs.Char.{is_ascii_control};
 ghost use Rattle.std.specs.List.{list_any};
 ghost use Rattle.std.specs.Str.{is_utf8};
 ghost use Rattle.reader.specs.declared.fault.Rule.TheVariants as rules;
-ghost use Rattle.reader.specs.Breaks.{QuotedBreaks, IsTokenRule};
+ghost use Rattle.reader.specs.Breaks.{Refuses, QuotedBreaks, IsTokenRule};
 ghost use Rattle.reader.specs.Symbol.{symbol_of};
 ghost use Rattle.reader.specs.Reading.{Gives, unquoted, text_of, text_at};
 
@@ -94,7 +94,7 @@ pub(crate) fn text_at(
     requires room { offset + length bytes.now < 2 ^ 64 }
     requires begun { 0 < length bytes.now }
     ensures exact { Gives (λ x. (symbol_of x.0, x.1.now)) result (text_at (drop 1 bytes.now)) }
-    ensures rule { IfErr result (λ fault. fault.rule ≢ rules.Memory → IsTokenRule fault.rule) }
+    ensures rule { Refuses result (λ rule. IsTokenRule rule) }
     ensures within { IfErr result (λ fault. fault.offset ≤ offset + length bytes.now) }
 {
     match unquoted(alloc, &bytes[1..])? {
