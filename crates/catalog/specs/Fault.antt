@@ -1,7 +1,7 @@
 -- The numbers and names of rules, and the text of a refusal.
 use Rattle.std.specs.Prelude.{ℕ, List, [], ◌∷◌, ◌++◌, Option, Some, None, codes}
 use Rattle.std.specs.Fmt.{decimal}
-use Rattle.reader.specs.Printed.{constant_bytes, separated_bytes}
+use Rattle.reader.specs.PrintStatement.{constant_bytes, separated_bytes}
 use Rattle.reader.specs.Written.{constant_as}
 use Rattle.catalog.specs.declared.fault.CatFault.{CatFault}
 use Rattle.catalog.specs.declared.fault.Cell.{Cell}

@@ -4,7 +4,7 @@ ghost use Rattle.std.specs.Prelude.{◌≡◌, ◌⊎◌, Some};
 ghost use Rattle.catalog.specs.Fault.{rule_number, rule_name, shown_text, cell_text, fault_text};
 ghost use Rattle.catalog.specs.declared.fault.Rule.TheVariants as rules;
 
-use reader::printed_constant::PrintedConstant;
+use reader::print_constant::PrintedConstant;
 use std::alloc::{AllocError, AllocFailed, Global};
 use std::fmt;
 use terms::memory::Memory;

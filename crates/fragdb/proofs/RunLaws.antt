@@ -25,7 +25,7 @@ use Rattle.meaning.specs.Selected.{names_read, rows_read, selected}
 use Rattle.meaning.specs.Statement.{IsSelectOf, IsInsertOf, IsStatementOf, MayJoin}
 use Rattle.meaning.specs.Whole.{Relations, rows_of}
 use Rattle.meaning.proofs.Kept.{IsRelation-insert_row}
-use Rattle.reader.specs.Print.{answer_text}
+use Rattle.reader.specs.PrintAnswer.{answer_text}
 use Rattle.catalog.specs.Fragment.{content, Rebuilds}
 use Rattle.fragdb.specs.Item.{item, item_kinds, item_leaves, item_name, item_schema, item_whole, low, high}
 use Rattle.fragdb.specs.Merge.{merged}

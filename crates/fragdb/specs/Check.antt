@@ -9,7 +9,7 @@ use Rattle.terms.specs.Leaf.{leaf_text}
 use Rattle.meaning.specs.declared.schema.Column.{Column}
 use Rattle.meaning.specs.declared.schema.RelationSchema.{RelationSchema}
 use Rattle.meaning.specs.Schema.{relation_named}
-use Rattle.reader.specs.Printed.{conds_bytes, separated_bytes}
+use Rattle.reader.specs.PrintStatement.{conds_bytes, separated_bytes}
 use Rattle.reader.specs.Written.{name_in}
 use Rattle.catalog.specs.declared.fragment_leaf.FragmentLeaf.{FragmentLeaf}
 use Rattle.catalog.specs.Catalogue.{Catalogue, IsValidCatalogue}

@@ -9,7 +9,7 @@ use Rattle.reader.specs.declared.command.Command.TheVariants.{Run, Begin, Commit
 use Rattle.reader.specs.declared.fault.Rule.TheVariants as rules
 use Rattle.reader.specs.Command.{IsTextOf}
 use Rattle.reader.specs.Fault.{Fault}
-use Rattle.reader.specs.Print.{answer_text}
+use Rattle.reader.specs.PrintAnswer.{answer_text}
 use Rattle.reader.specs.Refusal.{fault_text}
 use Rattle.fragdb.specs.Item.{item_columns, item_schema}
 use Rattle.fragdb.specs.Reply.{Told, Answered, Refused}

@@ -3,7 +3,7 @@
 ghost use Rattle.std.specs.Prelude.{◌≡◌, ◌<◌, ◌⊎◌, ◌∷◌, ◌++◌, [], codes, map, string_bytes, IfErr, IfOk, IfSome, OnOk};
 ghost use Rattle.std.specs.Io.KnownBytes.{Appends};
 ghost use Rattle.catalog.specs.Relation.{catalogue_of};
-ghost use Rattle.reader.specs.Printed.{separated_bytes};
+ghost use Rattle.reader.specs.PrintStatement.{separated_bytes};
 ghost use Rattle.reader.specs.Written.{name_in};
 ghost use Rattle.fragdb.specs.Check as spec;
 ghost use Rattle.fragdb.specs.Check.{ChecksFile, IsWriteFault, accepted_line, leaf_line, leaf_lines, names_of_columns, where_text};
@@ -13,7 +13,7 @@ use crate::fault::ProgramFault;
 use catalog::catalogue::Catalog;
 use catalog::fragment_leaf::FragmentLeaf;
 use meaning::schema::{Column, Schema};
-use reader::printed::print_conds;
+use reader::print_statement::print_conds;
 use std::alloc::Global;
 use std::io::{Read, Write};
 use terms::cond::Conds;

@@ -1,3 +1,4 @@
+-- What an UPDATE keeps of rows.
 use Rattle.std.proofs.Common.{◌≡◌, ℕ, zero, suc, ℤ, pos, negsuc, ◌+ℤ◌, ◌<ℤ◌, List, [], ◌∷◌, Option, Some, None, true, false, cond, map, refl, ap, sym, subst, ◌∙◌, arith, set, eqb, ltb-true, ◌^◌, FitsSigned}
 use Rattle.std.specs.Int.{w64}
 use Rattle.std.specs.List.{AllByRecursion, slice_get}

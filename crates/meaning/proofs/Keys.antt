@@ -1,3 +1,4 @@
+-- Tests of keys and their order.
 use Rattle.std.proofs.Common.{◌≡◌, ℤ, ◌<ℤ◌, true, false, int_lt, arith}
 use Rattle.std.proofs.lemmas.Int.{ints}
 use Rattle.std.specs.Ordering.{int_cmp, int_eq}

@@ -1,3 +1,4 @@
+-- Proofs of the laws.
 use Rattle.std.proofs.Common.{◌≡◌, ◌↔◌, ℕ, zero, suc, ◌≤◌, ◌⊎◌, inl, inr, ◌&&◌, int_lt, ℤ, ◌<ℤ◌, List, [], ◌∷◌, Option, Some, None, Bool, true, false, not, cond, map, filter, find, length, is_some, unwrap_or, refl, ap, sym, subst, ◌∙◌, arith}
 use Rattle.std.proofs.lemmas.List.{length-map}
 use Rattle.std.proofs.lemmas.List.Filters.{length-filter_both}

@@ -1,3 +1,4 @@
+-- What proves the contracts of the crate.
 pub mod Changed
 pub mod Kept
 pub mod Keys

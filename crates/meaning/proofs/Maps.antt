@@ -1,3 +1,4 @@
+-- Whole databases as the entries of a map.
 use Rattle.std.proofs.Common.{◌≡◌, ℕ, List, [], ◌∷◌, Option, Some, None, Bool, true, false, cond, if◌then◌else◌, unwrap_or, is_some, Result, Ok, Err, IfOk, OnErr, refl, ap, sym, ◌∙◌}
 use Rattle.std.specs.FinMap.{from_entries, get, insert, find, same_map, get_tied, get-insert, get-from_entries, nat_cmp-IsAntisymmetric, slice_cmp-IsAntisymmetric}
 use Rattle.std.specs.BTreeMap.{is_at}
@@ -5,11 +6,12 @@ use Rattle.std.specs.Map.{lookup}
 use Rattle.std.specs.Cmp.{eq_by_cmp_equiv}
 use Rattle.std.specs.Cmp.Lexicographic.{slice_cmp, nat_list_cmp_total}
 use Rattle.std.specs.Ordering.{nat_cmp, is_eq}
+use Rattle.std.specs.declared.cmp.Ordering.{Ordering}
 use Rattle.std.specs.declared.cmp.Ordering.TheVariants.{Less, Equal, Greater}
 use Rattle.terms.specs.declared.memory.Memory.{Memory}
 use Rattle.terms.specs.declared.value.Value.{Value}
 use Rattle.meaning.specs.Relation.{insert_row}
-use Rattle.meaning.specs.Whole.{Relations, rows_of, replaced}
+use Rattle.meaning.specs.Whole.{Relations, of_entries, rows_of, replaced}
 
 -- names and their relations, as a map keeps them
 abbrev pub Entries : Type 0
@@ -89,3 +91,22 @@ pub none_replaced : (old : Entries) (whole : Relations) (name : List ℕ) (rows 
 none_replaced old whole name rows view absent =
     let none : get whole name ≡ None = ap (λ w. get w name) (sym view) ∙ get_rows old name ∙ absent in
     view ∙ ap (λ o. cond (is_some o) (insert whole name rows) whole) (sym none)
+
+-- one relation more is copied: what is not left to copy is copied
+pub copied_more : (all left rest copies new : Entries) (key name : List ℕ) (rows relation : List (List Value)) → ((q : List ℕ) → rows_at left q ≡ None → rows_at copies q ≡ rows_at all q) → left ≡ (name, relation) ∷ rest → key ≡ name → rows ≡ relation → rows_at all name ≡ Some relation → ((q : List ℕ) → rows_at new q ≡ cond (is_at (slice_cmp nat_cmp key) q) (Some rows) (rows_at copies q)) → (q : List ℕ) → rows_at rest q ≡ None → rows_at new q ≡ rows_at all q
+copied_more all left rest copies new key name rows relation so_far step same_key same_rows there updates q none =
+    updates q ∙ elim (slice_cmp nat_cmp key q) as (λ r. slice_cmp nat_cmp key q ≡ r → cond (is_eq r) (Some rows) (rows_at copies q) ≡ rows_at all q) [
+      | Less ↦ λ is. so_far q (not_left (ap (λ k. slice_cmp nat_cmp k q) (sym same_key) ∙ is) refl)
+      | Equal ↦ λ is. ap Some same_rows ∙ sym there ∙ ap (rows_at all) (sym same_key ∙ slice_cmp-IsAntisymmetric nat_cmp-IsAntisymmetric key q is)
+      | Greater ↦ λ is. so_far q (not_left (ap (λ k. slice_cmp nat_cmp k q) (sym same_key) ∙ is) refl)
+    ] refl
+  where
+    not_left : {r : Ordering} → slice_cmp nat_cmp name q ≡ r → is_eq r ≡ false → rows_at left q ≡ None
+    not_left {r} is apart =
+        ap (λ entries. rows_at entries q) step
+        ∙ ap (λ b. cond b (Some relation) (rows_at rest q)) (sym ((eq_by_cmp_equiv nat_list_cmp_total).symm name q) ∙ ap is_eq is ∙ apart) ∙ none
+
+-- entries with the same under each name make one map
+pub copied_all : (copies all : Entries) → ((q : List ℕ) → rows_at copies q ≡ rows_at all q) → of_entries copies ≡ of_entries all
+copied_all copies all same =
+    same_map nat_list_cmp_total (slice_cmp-IsAntisymmetric nat_cmp-IsAntisymmetric) _ _ (λ q. get_rows copies q ∙ same q ∙ sym (get_rows all q))

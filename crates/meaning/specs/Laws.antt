@@ -1,3 +1,4 @@
+-- Laws: what follows from the meaning, in the words of its user.
 use Rattle.std.specs.Prelude.{◌≡◌, ◌↔◌, ◌≤◌, ◌⊎◌, ℕ, ℤ, List, [], ◌∷◌, Some, None, false, map, length}
 use Rattle.std.specs.List.{Contains, range_with_len}
 use Rattle.terms.specs.declared.cond.Cmp.TheVariants.{Eq}
@@ -33,7 +34,7 @@ InsertedIsSelected = (insert : Insert) (select : Select) (whole : Relations) (ke
     → IsSelectByKey select insert.into (length insert.row) key
     → (meaning (statement.Select select) (meaning (statement.Insert insert) whole).1).0 ≡ answer.Rows (listed select.columns select.from.columns) (insert.row ∷ [])
 
--- the rows after a DELETE are those before of which its conditions don't hold
+-- the rows after a DELETE are those before that don't meet its conditions
 abbrev pub DeletedAreGone : Type 0
 DeletedAreGone = (delete : Delete) (whole : Relations) (row : List Value)
     → Contains (rows_of (meaning (statement.Delete delete) whole).1 delete.relation.name) row ↔ (Contains (rows_of whole delete.relation.name) row × (conds_hold delete.conds row ≡ false))

@@ -1,3 +1,4 @@
+-- Items by their places.
 use Rattle.std.specs.Prelude.{ℕ, List}
 use Rattle.std.specs.List.{filter_map, slice_get}
 

@@ -1,3 +1,4 @@
+-- The serial meaning: what statements answer over whole relations, and what they leave of them.
 use Rattle.std.specs.Prelude.{List, [], ◌∷◌, Option, Some, None, if◌then◌else◌}
 use Rattle.std.specs.FinMap as finite
 use Rattle.terms.specs.declared.value.Value.{Value}
@@ -17,7 +18,7 @@ use Rattle.meaning.specs.Matched.{matched, unmatched}
 use Rattle.meaning.specs.Selected.{names_read, rows_read, selected}
 use Rattle.meaning.specs.Updated.{updated}
 
--- the listed columns of the rows read of which the conditions hold, under the columns' names
+-- the listed columns of the rows read that meet all conditions, under the columns' names
 abbrev pub select_answer : Select → Relations → Answer
 select_answer select whole =
     answer.Rows (listed select.columns (names_read select.from select.join)) (selected select (rows_read select.from select.join whole))
@@ -37,7 +38,7 @@ with_changed update whole (Some changed) =
 abbrev pub after_update : Update → Relations → Answer × Relations
 after_update update whole = with_changed update whole (updated update (rows_of whole update.relation.name))
 
--- the rows of which the conditions don't hold
+-- the rows that don't meet all conditions
 abbrev pub after_delete : Delete → Relations → Answer × Relations
 after_delete delete whole =
     let rows = rows_of whole delete.relation.name in

@@ -1,3 +1,4 @@
+-- Relations: rows in ascending order of their keys.
 use Rattle.std.specs.Prelude.{◌≡◌, ℕ, ℤ, ◌<ℤ◌, List, [], ◌∷◌, Bool, if◌then◌else◌, insert, int_lt, length, ◌≤◌}
 use Rattle.std.specs.List.{AllByRecursion, list_any}
 use Rattle.std.specs.Ordering.{int_eq}

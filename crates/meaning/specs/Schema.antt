@@ -1,3 +1,4 @@
+-- Schemas: relations by name, and their columns.
 use Rattle.std.specs.Prelude.{ℕ, List, Option, map, find, nat_eq}
 use Rattle.std.specs.Cmp.Lexicographic.{pointwise}
 use Rattle.terms.specs.declared.value.Kind.{Kind}

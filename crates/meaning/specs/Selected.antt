@@ -1,3 +1,4 @@
+-- What a SELECT reads, and what it keeps of that.
 use Rattle.std.specs.Prelude.{ℕ, List, ◌∷◌, ◌++◌, Option, Some, None, map, filter, find}
 use Rattle.std.specs.List.{filter_map, slice_get}
 use Rattle.std.specs.Option.{option_map}
@@ -40,6 +41,6 @@ abbrev pub rows_read : Source → Option Join → Relations → List (List Value
 rows_read from None whole = rows_of whole from.name
 rows_read from (Some join) whole = joined join.col (rows_of whole join.relation.name) (rows_of whole from.name)
 
--- the rows of which the conditions hold, cut to the listed columns; equal rows stay
+-- the rows that meet all conditions, cut to the listed columns; equal rows stay
 abbrev pub selected : Select → List (List Value) → List (List Value)
 selected select rows = map (listed select.columns) (filter (conds_hold select.conds) rows)

@@ -1,3 +1,4 @@
+-- What an UPDATE makes of rows.
 use Rattle.std.specs.Prelude.{◌==◌, ℕ, ℤ, pos, negsuc, ◌+ℤ◌, ◌^◌, nat_lt, Bool, List, [], ◌∷◌, Option, Some, None, if◌then◌else◌, slice_set}
 use Rattle.std.specs.List.{slice_get}
 use Rattle.std.specs.Option.{option_map, option_and_then}
@@ -34,7 +35,7 @@ abbrev pub assign : List Value → List Assignment → List Value → Option (Li
 assign before [] row = Some row
 assign before (set ∷ sets) row = option_and_then (λ value. assign before sets (put_value row set.col value)) (right_side before set.value)
 
--- a row after an UPDATE: changed where the conditions hold of it
+-- a row after an UPDATE: changed where it meets all conditions
 abbrev pub updated_row : Update → List Value → Option (List Value)
 updated_row update row = if conds_hold update.conds row then assign row update.sets row else Some row
 

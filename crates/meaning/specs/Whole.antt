@@ -1,3 +1,4 @@
+-- Whole databases: a relation for each name.
 use Rattle.std.specs.Prelude.{◌≡◌, ℕ, List, [], Some, IsSome, is_some, unwrap_or, if◌then◌else◌}
 use Rattle.std.specs.Coded.{Coded, coded_list, coded_ℕ}
 use Rattle.std.specs.Cmp.Lexicographic.{slice_cmp}
@@ -15,6 +16,10 @@ Relations = map.FinMap (slice_cmp nat_cmp) (List (List Value))
 
 abbrev pub relations_code : Coded Relations
 relations_code = map.code (coded_list coded_ℕ) (coded_list (coded_list (value.the_row).coded))
+
+-- the whole database that entries make, the first where two have one name
+abbrev pub of_entries : List (List ℕ × List (List Value)) → Relations
+of_entries entries = map.from_entries entries
 
 -- the rows of the relation of a name; where there is none, none
 abbrev pub rows_of : Relations → List ℕ → List (List Value)

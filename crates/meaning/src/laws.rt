@@ -7,7 +7,7 @@ pub fn inserted_is_selected()
     ensures { InsertedIsSelected }
 {}
 
-/// A DELETE leaves no row of which its conditions hold, and every other row.
+/// A DELETE leaves no row that meets its conditions, and every other row.
 pub fn deleted_are_gone()
     ensures { DeletedAreGone }
 {}

@@ -2,7 +2,7 @@
 //!
 //! Stands on `terms`. The contract that the crates above use: `run` is the meaning of its statement,
 //! a definition that knows nothing of fragments. `laws` has what follows from it, as that a DELETE leaves
-//! just the rows of which its conditions don't hold.
+//! just the rows that don't meet its conditions.
 //!
 //! ```text
 //! let answer = run(alloc, &mut whole, &statement)?;     // INSERT INTO item VALUES (1, 3, 'a')
@@ -21,7 +21,5 @@ pub mod run;
 pub mod schema;
 pub mod select;
 pub mod statement;
-#[cfg(test)]
-mod tests;
 pub mod update;
 pub mod whole;

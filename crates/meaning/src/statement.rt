@@ -34,7 +34,7 @@ pub struct Join {
     pub col: usize,
 }
 
-/// `SELECT`: the listed columns of the rows of which all conditions hold. In a join the columns of the
+/// `SELECT`: the listed columns of the rows that meet all conditions. In a join the columns of the
 /// second relation are counted on from those of the first.
 #[derive(Debug, Drop)]
 pub struct Select {
@@ -68,7 +68,7 @@ pub struct Assignment {
     pub value: Assigned,
 }
 
-/// `UPDATE`: the assignments for the rows of which all conditions hold.
+/// `UPDATE`: the assignments for the rows that meet all conditions.
 #[derive(Debug, Drop)]
 pub struct Update {
     pub relation: Source,
@@ -76,7 +76,7 @@ pub struct Update {
     pub conds: Conds,
 }
 
-/// `DELETE`: the rows of which all conditions hold.
+/// `DELETE`: the rows that meet all conditions.
 #[derive(Debug, Drop)]
 pub struct Delete {
     pub relation: Source,

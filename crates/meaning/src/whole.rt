@@ -5,7 +5,7 @@ ghost use Rattle.std.specs.FinMap as map;
 ghost use Rattle.std.specs.Option.{option_copied};
 ghost use Rattle.terms.specs.Row.{key_of};
 ghost use Rattle.meaning.specs.Relation.{Ascends, has_key, insert_row};
-ghost use Rattle.meaning.specs.Whole.{Relations, rows_of, replaced};
+ghost use Rattle.meaning.specs.Whole.{Relations, of_entries, rows_of, replaced};
 
 use crate::relation::Relation;
 use std::alloc::Global;
@@ -41,6 +41,15 @@ impl Whole {
         Whole {
             relations: BTreeMap::new(alloc),
         }
+    }
+
+    /// A database equal to this one.
+    pub fn copy(&self, alloc: Global) -> Result<Whole, Memory>
+        ensures { IfOk result (λ copy. copy ≡ self.now) }
+    {
+        Ok(Whole {
+            relations: copy_relations(alloc, &self.relations)?,
+        })
     }
 
     /// The relation of this name, if there is one.
@@ -94,4 +103,18 @@ impl Whole {
             }
         }
     }
+}
+
+/// A copy of each relation, under its name.
+fn copy_relations(
+    alloc: Global,
+    relations: &BTreeMap<Text, Relation>,
+) -> Result<BTreeMap<Text, Relation>, Memory>
+    ensures { IfOk result (λ copies. of_entries copies.entries ≡ of_entries relations.now.entries) }
+{
+    let mut copies = BTreeMap::new(alloc);
+    for (name, relation) in relations {
+        copies.insert(name.copy()?, relation.copy()?)?;
+    }
+    Ok(copies)
 }

@@ -52,7 +52,7 @@ one_command symbols one other first second =
     let same : Some one ≡ Some other = sym (command_again symbols one first) ∙ command_again symbols other second in
     cc
 
--- nothing was read, but for want of memory
+-- nothing was read, unless memory ran out
 refused : {A : Type 0} (read : Option A) (rule : Rule) → Fails rule read → rule ≢ rules.Memory → read ≡ None
 refused read rules.Memory fails other = absurd (other refl)
 refused read rules.Syntax fails other = fails

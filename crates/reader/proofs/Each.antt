@@ -1,3 +1,4 @@
+-- Answers for each item of a list.
 use Rattle.std.proofs.Common.{◌≡◌, ℕ, zero, suc, ◌+◌, ◌<◌, ◌≢◌, List, [], ◌∷◌, ◌++◌, Option, Some, None, option_and_then, option_map, map, take, length, get_or, refl, ap, arith}
 use Rattle.std.specs.List.{range_with_len}
 use Rattle.terms.specs.declared.value.Kind.{Kind}

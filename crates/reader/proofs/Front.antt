@@ -9,7 +9,6 @@ use Rattle.std.proofs.lemmas.Bool.{cases_Bool, or_cases, lt-leb}
 use Rattle.std.proofs.lemmas.Option.{some_pair_parts}
 use Rattle.std.proofs.lemmas.Str.{is_utf8-from_IsUtf8, IsUtf8-from_is_utf8}
 use Rattle.reader.specs.declared.class.Class.TheVariants.{Blank, Letter, WordByte, Digit}
-use Rattle.reader.specs.declared.text.TheConstants.{TEXT_LIMIT}
 use Rattle.reader.specs.declared.sign.Sign.{Sign}
 use Rattle.reader.specs.declared.sign.Sign.TheVariants.{Comma, Dot, Open, Close, Equal, NotEqual, Less, LessOrEqual, Greater, GreaterOrEqual, Plus, Minus, Star, Semicolon}
 use Rattle.reader.specs.Class.{is_in, AreAll}
@@ -72,7 +71,7 @@ number_at_takes b bytes t rest digit read =
 
 text_of_takes : (value : List ℕ) (t : Symbol) → text_of value ≡ Some t → IsTextValue value × (text value ≡ t)
 unfolding text_of
-text_of_takes value t read = elim (chosen (nat_lt TEXT_LIMIT (length value)) _ _ _ read) [
+text_of_takes value t read = elim (chosen (nat_lt 200 (length value)) _ _ _ read) [
   | inl long ↦ absurd (let h = long.1 in cc)
   | inr short ↦ elim (chosen (is_utf8 value) _ _ _ short.1) [
     | inr bad ↦ absurd (let h = bad.1 in cc)

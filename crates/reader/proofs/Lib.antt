@@ -1,3 +1,4 @@
+-- What proves the contracts of the crate.
 pub mod Runs
 pub mod Digits
 pub mod Quotes
@@ -16,6 +17,7 @@ pub mod Commands
 pub mod Chains
 pub mod Places
 pub mod Each
+pub mod Broken
 pub mod Kept
 pub mod Settings
 pub mod Fits
@@ -28,6 +30,7 @@ pub mod ResolvedColumns
 pub mod ResolvedConds
 pub mod Spellings
 pub mod Resolved
+pub mod LawsOfSelect
 pub mod ResolvedAlone
 pub mod PrintableText
 pub mod ReadAgain

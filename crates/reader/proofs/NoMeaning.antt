@@ -1,3 +1,4 @@
+-- Where a part has no meaning, the whole has none.
 use Rattle.std.proofs.Common.{◌≡◌, ◌≢◌, Option, None, refl}
 use Rattle.reader.specs.declared.fault.Rule.{Rule}
 use Rattle.reader.specs.declared.fault.Rule.TheVariants as rules

@@ -7,17 +7,16 @@ use Rattle.reader.specs.declared.keyword.Keyword.{Keyword}
 use Rattle.reader.specs.declared.keyword.Keyword.TheVariants.{Select, From, Join, On, Where, And, Insert, Into, Values, Update, Set, Delete, Begin, Commit, Rollback, Refragment}
 use Rattle.reader.specs.declared.sign.Sign.{Sign}
 use Rattle.reader.specs.declared.sign.Sign.TheVariants.{Comma, Dot, Open, Close, Equal, NotEqual, Less, LessOrEqual, Greater, GreaterOrEqual, Plus, Minus, Star, Semicolon}
-use Rattle.reader.specs.declared.text.TheConstants.{QUOTE}
 use Rattle.reader.specs.Class.{is_in}
 use Rattle.reader.specs.Keyword.{keyword_text}
 use Rattle.reader.specs.Sign.{sign_text}
 use Rattle.reader.specs.Symbol.{Symbol, key, sign, name, number, text}
-use Rattle.reader.specs.Tokens.{IsWord, IsName, IsTextValue, Spells, Stops, AreTokens, goes_on, sign_goes_on, quoted}
+use Rattle.reader.specs.Tokens.{IsWord, IsName, IsTextValue, Spells, Stops, AreTokens, goes_on, sign_goes_on, quote, quoted}
 use Rattle.reader.proofs.Signs.{or_false}
 
 -- whether the byte may make a token before it longer
 abbrev pub joins : ℕ → Bool
-joins b = ((is_in WordByte b || b == QUOTE) || b == byte "=") || b == byte ">"
+joins b = ((is_in WordByte b || b == quote) || b == byte "=") || b == byte ">"
 
 -- The bytes print the tokens: before bytes that join no token, they are those tokens before theirs.
 pub record Prints (bytes : List ℕ) (ts : List Symbol) : Type 0 where

@@ -95,7 +95,7 @@ is_among columns (a ∷ written) (suc i) d found sets within there is =
     subst P rest.2 (or_right (nat_eq first.0.col found.place) (is_set found.place rest.0) (is_among columns written i d found rest.0 (omega arith) there rest.1))
 
 -- where the column is set by those before, the whole has two to it
-set_again : (columns : List schema.Column) (written : List code_assignment.Assignment) (i : ℕ) (d : code_assignment.Assignment) (found : Found) (before sets : List Assignment) → i < length written → settable columns (get_or written i d).column.name.now ≡ Some found → all_of (assignment_of columns) (map tree.assignment_of (take i written)) ≡ Some before → is_set found.place before ≡ true → all_of (assignment_of columns) (map tree.assignment_of written) ≡ Some sets → are_apart sets ≡ false
+pub set_again : (columns : List schema.Column) (written : List code_assignment.Assignment) (i : ℕ) (d : code_assignment.Assignment) (found : Found) (before sets : List Assignment) → i < length written → settable columns (get_or written i d).column.name.now ≡ Some found → all_of (assignment_of columns) (map tree.assignment_of (take i written)) ≡ Some before → is_set found.place before ≡ true → all_of (assignment_of columns) (map tree.assignment_of written) ≡ Some sets → are_apart sets ≡ false
 set_again columns [] i d found before sets within there so_far set is = absurd (omega arith)
 set_again columns (a ∷ written) zero d found before sets within there so_far set is =
     let none : [] ≡ before = cc in

@@ -7,7 +7,7 @@ use Rattle.reader.specs.Symbol.{Symbol, key, sign, name}
 use Rattle.reader.specs.Tree as tree
 use Rattle.reader.specs.Tokens.{Stops, AreTokens}
 use Rattle.reader.specs.Grammar.{continued, separated, qualifier_text, column_text, constant_text, listed_text, comparison_sign, condition_text, conditions_text, where_text, join_text, select_text, insert_text, sum_sign, assigned_text, assignment_text, update_text, delete_text, written_text, IsFilled, IsWritable}
-use Rattle.reader.specs.Printed.{separated_bytes, qualifier_bytes, column_bytes, constant_bytes, condition_bytes, conditions_bytes, where_bytes, listed_bytes, join_bytes, select_bytes, insert_bytes, assigned_bytes, assignment_bytes, update_bytes, delete_bytes, written_bytes}
+use Rattle.reader.specs.PrintStatement.{separated_bytes, qualifier_bytes, column_bytes, constant_bytes, condition_bytes, conditions_bytes, where_bytes, listed_bytes, join_bytes, select_bytes, insert_bytes, assigned_bytes, assignment_bytes, update_bytes, delete_bytes, written_bytes}
 use Rattle.reader.proofs.Printing.{Prints, joins, prints_nothing, prints_blank, prints_both, prints_open, prints_whole, prints_key, prints_sign, prints_name, prints_text, prints_number}
 use Rattle.reader.proofs.Spellable.{IsQualifier, IsColumn, IsConstant, IsCondition, IsListed, MayBeJoin, IsSelect, IsInsert, IsAssigned, IsAssignment, IsUpdate, IsDelete, IsSpellable}
 

@@ -1,3 +1,4 @@
+-- A text has one meaning at most.
 use Rattle.std.proofs.Common.{◌≡◌, ℕ, List, None, ap, subst}
 use Rattle.meaning.specs.declared.schema.RelationSchema.{RelationSchema}
 use Rattle.reader.specs.declared.command.Command.{Command}

@@ -9,7 +9,6 @@ use Rattle.reader.specs.declared.class.Class.TheVariants.{WordByte}
 use Rattle.reader.specs.declared.keyword.Keyword.{Keyword}
 use Rattle.reader.specs.declared.keyword.Keyword.TheVariants.{Select, From, Join, On, Where, And, Insert, Into, Values, Update, Set, Delete, Begin, Commit, Rollback, Refragment}
 use Rattle.reader.specs.declared.keyword.TheConstants.{KEYWORDS}
-use Rattle.reader.specs.declared.word.TheConstants.{NAME_LIMIT}
 use Rattle.reader.specs.Class.{is_in}
 use Rattle.reader.specs.Keyword.{keyword_text}
 use Rattle.reader.specs.Symbol.{Symbol, key, name}
@@ -83,7 +82,7 @@ word_by word rest t is_word stops (Some k) e read =
     subst (λ (s : Symbol). Spells word s × Stops (goes_on s) rest) same ((is_word, keyword_takes word k e), stops)
 word_by word rest t is_word stops None e read =
     let small = cond_none (list_any is_ascii_uppercase word) _ t read in
-    let short = cond_none (nat_lt NAME_LIMIT (length word)) _ t small.1 in
+    let short = cond_none (nat_lt 24 (length word)) _ t small.1 in
     let same : name word ≡ t = let h = short.1 in cc in
     subst (λ (s : Symbol). Spells word s × Stops (goes_on s) rest) same (
       (
@@ -113,7 +112,7 @@ name_again word is_name = rw (keyword_none word is_name.is_no_keyword (keyword_o
 
 -- ---- whether bytes are a name
 
-pub is_name_so : (word : List ℕ) → IsWord word → list_any is_ascii_uppercase word ≡ false → keyword_of word ≡ None → length word ≤ NAME_LIMIT → IsName word
+pub is_name_so : (word : List ℕ) → IsWord word → list_any is_ascii_uppercase word ≡ false → keyword_of word ≡ None → length word ≤ 24 → IsName word
 is_name_so word is_word small no_keyword short = record {
   is_word = is_word;
   has_no_capital = none_passes is_ascii_uppercase word small;

@@ -1,7 +1,7 @@
 -- The columns over which places are counted in print.
 use Rattle.std.specs.Prelude.{ℕ, map}
-use Rattle.reader.specs.declared.printed.Columns.{Columns}
-use Rattle.reader.specs.declared.printed.Columns.TheVariants.{OfSchema, OfOne, OfTwo}
+use Rattle.reader.specs.declared.print_statement.Columns.{Columns}
+use Rattle.reader.specs.declared.print_statement.Columns.TheVariants.{OfSchema, OfOne, OfTwo}
 use Rattle.reader.specs.Tree as tree
 use Rattle.reader.specs.Written.{plain_column, column_of_two}
 

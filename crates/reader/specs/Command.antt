@@ -1,3 +1,4 @@
+-- What a text is one of: a command under a schema.
 use Rattle.std.specs.Prelude.{◌≡◌, ℕ, ◌≤◌, List, Some, length}
 use Rattle.meaning.specs.declared.schema.RelationSchema.{RelationSchema}
 use Rattle.meaning.specs.Statement.{IsStatementOf}

@@ -1,3 +1,4 @@
+-- What a text is one of: conditions on columns.
 use Rattle.std.specs.Prelude.{◌≡◌, ℕ, ◌≤◌, List, Some, length}
 use Rattle.std.specs.List.{AllByRecursion}
 use Rattle.terms.specs.declared.cond.Cond.{Cond}

@@ -1,3 +1,4 @@
+-- Refusals of a text.
 use Rattle.std.specs.Prelude.{ℕ}
 use Rattle.reader.specs.declared.fault.Rule.{Rule}
 use Rattle.reader.specs.declared.fault.Rule.TheVariants as rules
@@ -7,6 +8,6 @@ pub record Fault : Type 0 where
   pub rule : Rule
   pub offset : ℕ
 
--- what want of memory is answered by
+-- what is answered where memory runs out
 abbrev pub memory_fault : Fault
 memory_fault = record { rule = rules.Memory; offset = 0 }

@@ -128,7 +128,7 @@ IsWritable tree.rollback = Unit {0}
 abbrev pub IsEnd : List Symbol → Type 0
 IsEnd rest = (rest ≡ []) ⊎ (rest ≡ sign mark.Semicolon ∷ [])
 
--- the tokens write the command: all of them, with or without a semicolon behind
+-- the tokens write the command: all of them, with or without a semicolon after
 abbrev pub Writes : List Symbol → tree.Written → Type 0
 Writes symbols written = IsWritable written × (rest : List Symbol) × (symbols ≡ written_text written ++ rest) × IsEnd rest
 
@@ -136,7 +136,7 @@ Writes symbols written = IsWritable written × (rest : List Symbol) × (symbols 
 abbrev pub WriteOneCommand : Type 0
 WriteOneCommand = (symbols : List Symbol) (one other : tree.Written) → Writes symbols one → Writes symbols other → one ≡ other
 
--- the tokens write the conditions: all of them, with no WHERE before and no semicolon behind
+-- the tokens write the conditions: all of them, with no WHERE before and no semicolon after
 abbrev pub WritesConditions : List Symbol → List tree.Condition → Type 0
 WritesConditions symbols conditions = IsFilled conditions × (symbols ≡ conditions_text conditions)
 

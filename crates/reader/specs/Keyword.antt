@@ -1,3 +1,4 @@
+-- The keywords.
 use Rattle.std.specs.Prelude.{ℕ, List, codes}
 use Rattle.reader.specs.declared.keyword.Keyword.{Keyword}
 use Rattle.reader.specs.declared.keyword.Keyword.TheVariants.{Select, From, Join, On, Where, And, Insert, Into, Values, Update, Set, Delete, Begin, Commit, Rollback, Refragment}

@@ -1,21 +1,27 @@
-pub mod Fault
-pub mod Keyword
-pub mod Sign
-pub mod Symbol
-pub mod Class
-pub mod Tokens
-pub mod Reading
-pub mod Tree
-pub mod Grammar
-pub mod Parsing
-pub mod Scope
-pub mod Names
-pub mod Resolving
+-- What a text is one of.
 pub mod Command
 pub mod Conds
-pub mod Print
+pub mod Laws
+-- Its tokens, its grammar and its names, in reading order.
+pub mod Tokens
+pub mod Symbol
+pub mod Keyword
+pub mod Sign
+pub mod Class
+pub mod Grammar
+pub mod Tree
+pub mod Names
+pub mod Scope
+-- What is printed.
+pub mod PrintStatement
 pub mod Written
 pub mod Columns
-pub mod Printed
 pub mod Printable
+pub mod PrintAnswer
+pub mod Fault
 pub mod Refusal
+pub mod Breaks
+-- The reader's own words, which one may skip.
+pub mod Reading
+pub mod Parsing
+pub mod Resolving

@@ -96,7 +96,7 @@ abbrev pub is_integer : Kind → Bool
 is_integer kinds.Int = true
 is_integer kinds.Text = false
 
--- the column that is compared with the key behind the columns after FROM: one of these
+-- the column that is compared with the key of the joined relation: one of these two
 abbrev pub other_than_key : ℕ → ℕ → ℕ → Option ℕ
 other_than_key count left right =
     if nat_eq left count && nat_lt right count then Some right else (if nat_eq right count && nat_lt left count then Some left else None)

@@ -1,4 +1,4 @@
--- The grammar read from left to right, over lists of tokens.
+-- The parser's own words, which a reader may skip: the grammar read from left to right, as functions on lists of tokens.
 use Rattle.std.specs.Prelude.{◌≡◌, ℕ, zero, suc, Bool, true, false, List, [], ◌∷◌, length, Option, Some, None, Result, Ok, Err, ◌==◌, if◌then◌else◌}
 use Rattle.reader.specs.declared.fault.Rule.{Rule}
 use Rattle.reader.specs.declared.fault.Rule.TheVariants as rules
@@ -20,7 +20,7 @@ infixl 10 ◌>>=◌
 abbrev pub ◌>>=◌ : {A B : Type 0} → Option A → (A → Option B) → Option B
 o >>= f = and_then o f
 
--- Which fault answers where nothing was read: want of memory says nothing of the text.
+-- Which fault answers where nothing was read: that memory ran out says nothing of the text.
 abbrev pub Fails : {Y : Type 0} → Rule → Option Y → Type 0
 Fails rules.Memory read = Unit {0}
 Fails rules.Syntax read = read ≡ None

@@ -13,7 +13,7 @@ use Rattle.reader.specs.declared.command.Command.{Command}
 use Rattle.reader.specs.declared.command.Command.TheVariants.{Run, Begin, Commit, Rollback}
 use Rattle.reader.specs.Command.{IsTextOf}
 use Rattle.reader.specs.Conds.{AreCondsOf}
-use Rattle.reader.specs.Printed.{statement_bytes, conds_bytes}
+use Rattle.reader.specs.PrintStatement.{statement_bytes, conds_bytes}
 use Rattle.reader.specs.Scope.{types}
 use Rattle.reader.specs.Tokens.{IsName}
 

@@ -1,4 +1,4 @@
--- Reading tokens from left to right, as functions on lists.
+-- The lexer's own words, which a reader may skip: tokens read from left to right, as functions on lists.
 use Rattle.std.specs.Prelude.{◌≡◌, ℕ, Bool, ◌==◌, nat_lt, if◌then◌else◌, List, [], ◌∷◌, length, drop, Option, Some, None, Result, Ok, Err, option_map, slice_index}
 use Rattle.std.specs.Char.{is_ascii_uppercase, is_ascii_control}
 use Rattle.std.specs.List.{find, list_any, starts_with}
@@ -12,13 +12,11 @@ use Rattle.reader.specs.declared.keyword.Keyword.{Keyword}
 use Rattle.reader.specs.declared.keyword.TheConstants.{KEYWORDS}
 use Rattle.reader.specs.declared.sign.Sign.{Sign}
 use Rattle.reader.specs.declared.sign.TheConstants.{SIGNS}
-use Rattle.reader.specs.declared.text.TheConstants.{QUOTE, TEXT_LIMIT}
-use Rattle.reader.specs.declared.word.TheConstants.{NAME_LIMIT}
 use Rattle.reader.specs.Class.{is_in}
 use Rattle.reader.specs.Keyword.{keyword_text}
 use Rattle.reader.specs.Sign.{sign_text}
 use Rattle.reader.specs.Symbol.{Symbol, key, sign, name, number, text}
-use Rattle.reader.specs.Tokens.{size_of_digits}
+use Rattle.reader.specs.Tokens.{quote, size_of_digits}
 
 -- the elements from the front on that pass
 abbrev pub front : (ℕ → Bool) → List ℕ → List ℕ
@@ -30,7 +28,7 @@ abbrev pub after : (ℕ → Bool) → List ℕ → List ℕ
 after passes [] = []
 after passes (b ∷ bs) = if passes b then after passes bs else b ∷ bs
 
--- A fault says that nothing is read, but for want of memory, which says nothing.
+-- A fault says that nothing is read; only that memory ran out says nothing.
 abbrev pub Fails : {Y : Type 0} → Rule → Option Y → Type 0
 Fails rules.Memory read = Unit {0}
 Fails _ read = read ≡ None
@@ -50,7 +48,7 @@ sign_of bytes = find (λ s. starts_with nat_eq bytes (sign_text s)) SIGNS
 
 -- the name that a word is
 unfoldable pub name_of : List ℕ → Option Symbol
-name_of word = if list_any is_ascii_uppercase word then None else if nat_lt NAME_LIMIT (length word) then None else Some (name word)
+name_of word = if list_any is_ascii_uppercase word then None else if nat_lt 24 (length word) then None else Some (name word)
 
 -- the keyword that was found, or else the other token
 abbrev pub keyword_or : Option Keyword → Option Symbol → Option Symbol
@@ -65,19 +63,19 @@ word_of word = keyword_or (keyword_of word) (name_of word)
 abbrev pub with_byte : ℕ → Option (List ℕ × List ℕ) → Option (List ℕ × List ℕ)
 with_byte b read = option_map (λ x. (b ∷ x.0, x.1)) read
 
--- behind the opening quote: the value up to the closing one, and what follows
+-- after the opening quote: the value up to the closing one, and what follows
 unfoldable pub unquoted : List ℕ → Option (List ℕ × List ℕ)
 unquoted [] = None
-unquoted (b ∷ []) = if b == QUOTE then Some ([], []) else None
+unquoted (b ∷ []) = if b == quote then Some ([], []) else None
 unquoted (b ∷ c ∷ rest) =
-    if b == QUOTE
-    then (if c == QUOTE then with_byte QUOTE (unquoted rest) else Some ([], c ∷ rest))
+    if b == quote
+    then (if c == quote then with_byte quote (unquoted rest) else Some ([], c ∷ rest))
     else with_byte b (unquoted (c ∷ rest))
 
 -- the text that a value is
 unfoldable pub text_of : List ℕ → Option Symbol
 text_of value =
-    if nat_lt TEXT_LIMIT (length value) then None
+    if nat_lt 200 (length value) then None
     else if is_utf8 value then (if list_any is_ascii_control value then None else Some (text value))
     else None
 
@@ -90,7 +88,7 @@ abbrev pub text_from : Option (List ℕ × List ℕ) → Option (Symbol × List 
 text_from None = None
 text_from (Some x) = with_rest x.1 (text_of x.0)
 
--- the text behind its opening quote, and what follows it
+-- the text after its opening quote, and what follows it
 unfoldable pub text_at : List ℕ → Option (Symbol × List ℕ)
 text_at bytes = text_from (unquoted bytes)
 
@@ -104,5 +102,5 @@ unfoldable pub token_at : List ℕ → Option (Symbol × List ℕ)
 token_at bytes =
     if is_in Letter (slice_index bytes 0) then with_rest (after (is_in WordByte) bytes) (word_of (front (is_in WordByte) bytes))
     else if is_in Digit (slice_index bytes 0) then Some (number (size_of_digits (front (is_in Digit) bytes)), after (is_in Digit) bytes)
-    else if slice_index bytes 0 == QUOTE then text_at (drop 1 bytes)
+    else if slice_index bytes 0 == quote then text_at (drop 1 bytes)
     else sign_from bytes (sign_of bytes)

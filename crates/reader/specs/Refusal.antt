@@ -1,3 +1,4 @@
+-- How refusals are printed.
 use Rattle.std.specs.Prelude.{ℕ, List, ◌∷◌, ◌++◌, codes}
 use Rattle.std.specs.Fmt.{decimal}
 use Rattle.reader.specs.declared.fault.Rule.{Rule}

@@ -1,9 +1,10 @@
+-- The resolver's own words, which a reader may skip: how a result stands to a meaning.
 use Rattle.std.specs.Prelude.{◌≡◌, Option, Some, None, Result, Ok, Err}
 use Rattle.reader.specs.declared.fault.ReadFault.{ReadFault}
 use Rattle.reader.specs.declared.fault.Rule.{Rule}
 use Rattle.reader.specs.declared.fault.Rule.TheVariants as rules
 
--- where a rule of the text refuses there is no meaning; want of memory says nothing
+-- where a rule of the text refuses there is no meaning; that memory ran out says nothing
 abbrev pub HasNone : {Y : Type 0} → Rule → Option Y → Type 0
 HasNone rules.Memory meant = Unit {0}
 HasNone rule meant = meant ≡ None

@@ -77,7 +77,7 @@ is_qualifier (Some name) (Some qualifier) = pointwise nat_eq name qualifier
 abbrev pub found_in_table : Table → tree.Column → Option Found
 found_in_table table column = if is_qualifier table.name column.relation then column_named table.columns column.name else None
 
--- a column counted on behind others
+-- a column counted on from others
 abbrev pub counted_on : ℕ → Found → Found
 counted_on count found = record { place = count + found.place; kind = found.kind }
 

@@ -1,3 +1,4 @@
+-- The signs.
 use Rattle.std.specs.Prelude.{ℕ, List, codes}
 use Rattle.reader.specs.declared.sign.Sign.{Sign}
 use Rattle.reader.specs.declared.sign.Sign.TheVariants.{Comma, Dot, Open, Close, Equal, NotEqual, Less, LessOrEqual, Greater, GreaterOrEqual, Plus, Minus, Star, Semicolon}

@@ -1,3 +1,4 @@
+-- Tokens without the way they are written.
 use Rattle.std.specs.Prelude.{ℕ, List, map, string_bytes}
 use Rattle.reader.specs.declared.keyword.Keyword.{Keyword}
 use Rattle.reader.specs.declared.sign.Sign.{Sign}

@@ -8,14 +8,12 @@ use Rattle.reader.specs.declared.class.Class.TheVariants.{Blank, Letter, WordByt
 use Rattle.reader.specs.declared.keyword.Keyword.{Keyword}
 use Rattle.reader.specs.declared.sign.Sign.{Sign}
 use Rattle.reader.specs.declared.sign.Sign.TheVariants.{Comma, Dot, Open, Close, Equal, NotEqual, Less, LessOrEqual, Greater, GreaterOrEqual, Plus, Minus, Star, Semicolon}
-use Rattle.reader.specs.declared.text.TheConstants.{QUOTE, TEXT_LIMIT}
-use Rattle.reader.specs.declared.word.TheConstants.{NAME_LIMIT}
 use Rattle.reader.specs.Class.{is_in, AreAll}
 use Rattle.reader.specs.Keyword.{keyword_text}
 use Rattle.reader.specs.Sign.{sign_text}
 use Rattle.reader.specs.Symbol.{Symbol, key, sign, name, number, text}
 
--- a letter, and behind it letters, digits and underscores
+-- a letter, and after it letters, digits and underscores
 abbrev pub IsWord : List ℕ → Type 0
 IsWord [] = ⊥
 IsWord (first ∷ others) = (is_in Letter first ≡ true) × AreAll WordByte others
@@ -29,26 +27,30 @@ pub record IsName (bytes : List ℕ) : Type 0 where
   pub is_word : IsWord bytes
   pub has_no_capital : AllByRecursion (λ b. is_ascii_uppercase b ≡ false) bytes
   pub is_no_keyword : (word : Keyword) → ¬ (IsInAnyCase bytes (keyword_text word))
-  pub is_short : length bytes ≤ NAME_LIMIT
+  pub is_short : length bytes ≤ 24
 
 -- the bytes can be what a text says: no control character (below 32, or 127), UTF-8, and not too many
 pub record IsTextValue (bytes : List ℕ) : Type 0 where
   pub is_printable : AllByRecursion (λ b. is_ascii_control b ≡ false) bytes
   pub is_utf8 : IsUtf8 bytes
-  pub is_short : length bytes ≤ TEXT_LIMIT
+  pub is_short : length bytes ≤ 200
 
 -- the number that digits write, cut at the largest of 64 bits
 abbrev pub size_of_digits : List ℕ → ℕ
 size_of_digits digits = min (digits_value 10 digits) (2 ^ 64 - 1)
 
+-- the byte that a text begins and ends with: '
+abbrev pub quote : ℕ
+quote = 39
+
 -- each quote of the value doubled
 abbrev pub doubled : List ℕ → List ℕ
 doubled [] = []
-doubled (b ∷ bs) = if b == QUOTE then QUOTE ∷ QUOTE ∷ doubled bs else b ∷ doubled bs
+doubled (b ∷ bs) = if b == quote then quote ∷ quote ∷ doubled bs else b ∷ doubled bs
 
 -- the value as a text writes it, in quotes
 abbrev pub quoted : List ℕ → List ℕ
-quoted value = QUOTE ∷ doubled value ++ QUOTE ∷ []
+quoted value = quote ∷ doubled value ++ quote ∷ []
 
 -- the bytes write the token
 abbrev pub Spells : List ℕ → Symbol → Type 0
@@ -58,7 +60,7 @@ Spells bytes (name letters) = (bytes ≡ letters) × IsName letters
 Spells bytes (number size) = IsNumeral 10 bytes × (size_of_digits bytes ≡ size)
 Spells bytes (text value) = (bytes ≡ quoted value) × IsTextValue value
 
--- whether a longer sign has the byte behind this one
+-- whether a longer sign has the byte after this one
 abbrev pub sign_goes_on : Sign → ℕ → Bool
 sign_goes_on Less b = b == byte "=" || b == byte ">"
 sign_goes_on Greater b = b == byte "="
@@ -75,13 +77,13 @@ sign_goes_on Minus b = false
 sign_goes_on Star b = false
 sign_goes_on Semicolon b = false
 
--- whether a byte behind the token would make it longer
+-- whether a byte after the token would make it longer
 abbrev pub goes_on : Symbol → ℕ → Bool
 goes_on (key word) b = is_in WordByte b
 goes_on (sign mark) b = sign_goes_on mark b
 goes_on (name letters) b = is_in WordByte b
 goes_on (number size) b = is_in Digit b
-goes_on (text value) b = b == QUOTE
+goes_on (text value) b = b == quote
 
 -- the bytes are at an end, or begin with one that does not go on
 abbrev pub Stops : (ℕ → Bool) → List ℕ → Type 0

@@ -1,3 +1,4 @@
+-- The tree of a command as it is written.
 use Rattle.std.specs.Prelude.{ℕ, Bool, List, Option, map, option_map}
 use Rattle.std.specs.Option.{option_copied}
 use Rattle.std.specs.Global.{Vec}
@@ -40,7 +41,7 @@ pub record Condition : Type 0 where
   pub comparison : Cmp
   pub constant : Constant
 
--- The other relation, and the columns on both sides of the sign behind ON.
+-- The other relation, and the columns on both sides of the sign after ON.
 pub record Join : Type 0 where
   pub relation : List ℕ
   pub left : Column

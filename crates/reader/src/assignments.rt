@@ -1,6 +1,8 @@
 //! What an update sets, and to what.
 
-ghost use Rattle.std.specs.Prelude.{◌≡◌, map};
+ghost use Rattle.std.specs.Prelude.{◌≡◌, ◌≢◌, map, IfErr};
+ghost use Rattle.reader.specs.declared.fault.Rule.TheVariants as rules;
+ghost use Rattle.reader.specs.Breaks.{Refuses, NameBreaks, SettableBreaks, AddendBreaks, AssignedBreaks, AssignmentsBreak};
 ghost use Rattle.reader.specs.Names.{settable, addend, assigned_of, is_set, sets_of};
 ghost use Rattle.reader.specs.Resolving.{Resolves};
 ghost use Rattle.reader.specs.Scope.{column_named};
@@ -21,7 +23,8 @@ pub fn assignments(
     columns: &[Column],
     written: &[Assignment<'_>],
 ) -> Result<Vec<statement::Assignment>, ReadFault>
-    ensures { Resolves (λ sets. sets.items) result (sets_of columns.now (map assignment_of written.now)) }
+    ensures exact { Resolves (λ sets. sets.items) result (sets_of columns.now (map assignment_of written.now)) }
+    ensures rule { Refuses result (λ rule. AssignmentsBreak rule columns.now (map assignment_of written.now)) }
 {
     let mut sets = Vec::new(alloc);
     for assignment in written {
@@ -39,7 +42,8 @@ pub fn assignments(
 }
 
 fn named(columns: &[Column], named: &Named<'_>) -> Result<Found, ReadFault>
-    ensures { Resolves (λ found. found) result (column_named columns.now named.now.name.now) }
+    ensures exact { Resolves (λ found. found) result (column_named columns.now named.now.name.now) }
+    ensures rule { IfErr result (λ fault. NameBreaks fault.rule columns.now named.now.name.now) }
 {
     match find_named(columns, named.name) {
         Some(found) => Ok(found),
@@ -49,7 +53,8 @@ fn named(columns: &[Column], named: &Named<'_>) -> Result<Found, ReadFault>
 
 /// A column that an update may set.
 fn settable_column(columns: &[Column], column: &Named<'_>) -> Result<Found, ReadFault>
-    ensures { Resolves (λ found. found) result (settable columns.now column.now.name.now) }
+    ensures exact { Resolves (λ found. found) result (settable columns.now column.now.name.now) }
+    ensures rule { IfErr result (λ fault. SettableBreaks fault.rule columns.now column.now.name.now) }
 {
     let found = named(columns, column)?;
     if found.place == 0 {
@@ -71,7 +76,8 @@ fn assigned(
     kind: Kind,
     written: &Assigned<'_>,
 ) -> Result<statement::Assigned, ReadFault>
-    ensures { Resolves (λ a. a) result (assigned_of columns.now kind (tree_assigned written.now)) }
+    ensures exact { Resolves (λ a. a) result (assigned_of columns.now kind (tree_assigned written.now)) }
+    ensures rule { Refuses result (λ rule. AssignedBreaks rule columns.now kind (tree_assigned written.now)) }
 {
     match written {
         Assigned::Constant(constant) => Ok(statement::Assigned::Constant(value(
@@ -95,7 +101,8 @@ fn assigned(
 
 /// The column to which a sum adds, for a column of this type.
 fn added_to(columns: &[Column], kind: Kind, column: &Named<'_>) -> Result<Found, ReadFault>
-    ensures { Resolves (λ found. found) result (addend columns.now kind column.now.name.now) }
+    ensures exact { Resolves (λ found. found) result (addend columns.now kind column.now.name.now) }
+    ensures rule { IfErr result (λ fault. AddendBreaks fault.rule columns.now kind column.now.name.now) }
 {
     let found = named(columns, column)?;
     if kind != Kind::Int || found.kind != Kind::Int {

@@ -1,11 +1,13 @@
 //! Conditions and lists of columns, over a scope.
 
-ghost use Rattle.std.specs.Prelude.{◌≡◌, Some, None, length, map, nat_le, if◌then◌else◌};
+ghost use Rattle.std.specs.Prelude.{◌≡◌, ◌≢◌, IfErr, Some, None, length, map, nat_le, if◌then◌else◌};
 ghost use Rattle.std.specs.List.{range_with_len};
+ghost use Rattle.reader.specs.declared.fault.Rule.TheVariants as rules;
+ghost use Rattle.reader.specs.Breaks.{Refuses, ListedBreaks, ComparedBreaks, ConditionsBreak};
 ghost use Rattle.reader.specs.Names.{all_of, place_in, places_of, cond_on, conds_of};
 ghost use Rattle.reader.specs.Resolving.{Resolves};
 ghost use Rattle.reader.specs.Scope.{scope_of, types_in};
-ghost use Rattle.reader.specs.Tree.{column_of, condition_of, listed_of};
+ghost use Rattle.reader.specs.Tree.{columns as these_columns, column_of, condition_of, listed_of};
 
 use crate::constants::compared;
 use crate::fault::{ReadFault, Rule};
@@ -26,7 +28,8 @@ pub fn places(
     scope: &Scope<'_>,
     listed: &Listed<'_>,
 ) -> Result<Vec<usize>, ReadFault>
-    ensures { Resolves (λ places. places.items) result (places_of (scope_of scope.now) (listed_of listed.now)) }
+    ensures exact { Resolves (λ places. places.items) result (places_of (scope_of scope.now) (listed_of listed.now)) }
+    ensures rule { Refuses result (λ rule. ListedBreaks rule (scope_of scope.now) (listed_of listed.now)) }
 {
     match listed {
         Listed::All { offset } => {
@@ -52,7 +55,8 @@ fn column_count(scope: &Scope<'_>) -> usize
 }
 
 fn every_place(alloc: Global, count: usize) -> Result<Vec<usize>, ReadFault>
-    ensures { Resolves (λ places. places.items) result (Some (range_with_len 0 count)) }
+    ensures exact { Resolves (λ places. places.items) result (Some (range_with_len 0 count)) }
+    ensures rule { Refuses result (λ rule. ⊥) }
 {
     let mut places = Vec::new(alloc);
     for place in 0..count {
@@ -66,7 +70,8 @@ fn listed_places(
     scope: &Scope<'_>,
     columns: &[Column<'_>],
 ) -> Result<Vec<usize>, ReadFault>
-    ensures { Resolves (λ places. places.items) result (if nat_le (length columns.now) 32 then all_of (place_in (scope_of scope.now)) (map column_of columns.now) else None) }
+    ensures exact { Resolves (λ places. places.items) result (if nat_le (length columns.now) 32 then all_of (place_in (scope_of scope.now)) (map column_of columns.now) else None) }
+    ensures rule { Refuses result (λ rule. ListedBreaks rule (scope_of scope.now) (these_columns (map column_of columns.now))) }
 {
     let mut places = Vec::new(alloc);
     for column in columns {
@@ -85,7 +90,8 @@ pub fn conds(
     scope: &Scope<'_>,
     conditions: &[Condition<'_>],
 ) -> Result<Vec<Cond>, ReadFault>
-    ensures { Resolves (λ conds. conds.items) result (conds_of (scope_of scope.now) (map condition_of conditions.now)) }
+    ensures exact { Resolves (λ conds. conds.items) result (conds_of (scope_of scope.now) (map condition_of conditions.now)) }
+    ensures rule { Refuses result (λ rule. ConditionsBreak rule (scope_of scope.now) (map condition_of conditions.now)) }
 {
     let mut conds = Vec::new(alloc);
     for condition in conditions {
@@ -100,7 +106,8 @@ pub fn conds(
 
 /// A condition on a column that was found.
 fn cond(alloc: Global, found: Found, condition: &Condition<'_>) -> Result<Cond, ReadFault>
-    ensures { Resolves (λ c. c) result (cond_on found (condition_of condition.now)) }
+    ensures exact { Resolves (λ c. c) result (cond_on found (condition_of condition.now)) }
+    ensures rule { Refuses result (λ rule. ComparedBreaks rule found.kind (condition_of condition.now).constant) }
 {
     let value = compared(alloc, found.kind, &condition.constant)?;
     Ok(Cond {

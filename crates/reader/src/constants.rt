@@ -1,9 +1,11 @@
 //! Constants: the values that they are in columns of a type.
 
-ghost use Rattle.std.specs.Prelude.{◌≡◌};
+ghost use Rattle.std.specs.Prelude.{◌≡◌, ◌≢◌, ◌<◌, ◌-◌, ◌^◌, IfErr};
+ghost use Rattle.reader.specs.declared.fault.Rule.TheVariants as rules;
+ghost use Rattle.reader.specs.Breaks.{Refuses, ConstantBreaks, ComparedBreaks};
 ghost use Rattle.reader.specs.Names.{integer_of, value_of, compared_of, number_of};
 ghost use Rattle.reader.specs.Resolving.{Resolves};
-ghost use Rattle.reader.specs.Tree.{constant_of};
+ghost use Rattle.reader.specs.Tree.{constant_of, integer};
 
 use crate::fault::{ReadFault, Rule};
 use crate::tree::Constant;
@@ -16,7 +18,8 @@ pub const CONSTANT_LIMIT: usize = 100;
 
 /// An integer that fits 64 bits, or a Limit at its digits.
 fn integer(is_negative: bool, size: u64, digits: usize) -> Result<Value, ReadFault>
-    ensures { Resolves (λ v. v) result (integer_of is_negative size) }
+    ensures exact { Resolves (λ v. v) result (integer_of is_negative size) }
+    ensures rule { IfErr result (λ fault. ConstantBreaks fault.rule Kind.Int (integer is_negative size)) }
 {
     let greatest: u64 = if is_negative { 1 << 63 } else { (1 << 63) - 1 };
     if size > greatest {
@@ -32,7 +35,8 @@ fn integer(is_negative: bool, size: u64, digits: usize) -> Result<Value, ReadFau
 
 /// The number that a sum adds, negative where it is taken away.
 pub fn number(is_negative: bool, size: u64, digits: usize) -> Result<i64, ReadFault>
-    ensures { Resolves (λ n. n) result (number_of is_negative size) }
+    ensures exact { Resolves (λ n. n) result (number_of is_negative size) }
+    ensures rule { Refuses result (λ rule. (rule ≡ rules.Limit) × (2 ^ 63 - 1 < size)) }
 {
     if size > (1 << 63) - 1 {
         return Err(ReadFault::new(Rule::Limit, digits));
@@ -47,7 +51,8 @@ pub fn number(is_negative: bool, size: u64, digits: usize) -> Result<i64, ReadFa
 
 /// The value of a constant in a column of this type.
 pub fn value(alloc: Global, kind: Kind, constant: &Constant<'_>) -> Result<Value, ReadFault>
-    ensures { Resolves (λ v. v) result (value_of kind (constant_of constant.now)) }
+    ensures exact { Resolves (λ v. v) result (value_of kind (constant_of constant.now)) }
+    ensures rule { Refuses result (λ rule. ConstantBreaks rule kind (constant_of constant.now)) }
 {
     match (kind, constant) {
         (
@@ -59,9 +64,7 @@ pub fn value(alloc: Global, kind: Kind, constant: &Constant<'_>) -> Result<Value
                 ..
             },
         ) => integer(*is_negative, *size, *digits),
-        (Kind::Text, Constant::Text { text, .. }) => Ok(Value::Text(Text::new(String::from_str(
-            alloc, text,
-        )?))),
+        (Kind::Text, Constant::Text { text, .. }) => Ok(Value::Text(Text::copy_of(alloc, text)?)),
         (Kind::Int, Constant::Text { offset, .. }) => Err(ReadFault::new(Rule::WrongType, *offset)),
         (Kind::Text, Constant::Integer { offset, .. }) => Err(ReadFault::new(
             Rule::WrongType,
@@ -72,7 +75,8 @@ pub fn value(alloc: Global, kind: Kind, constant: &Constant<'_>) -> Result<Value
 
 /// The value that a condition on a column of this type compares with.
 pub fn compared(alloc: Global, kind: Kind, constant: &Constant<'_>) -> Result<Value, ReadFault>
-    ensures { Resolves (λ v. v) result (compared_of kind (constant_of constant.now)) }
+    ensures exact { Resolves (λ v. v) result (compared_of kind (constant_of constant.now)) }
+    ensures rule { Refuses result (λ rule. ComparedBreaks rule kind (constant_of constant.now)) }
 {
     if let (Kind::Text, Constant::Text { text, offset }) = (kind, constant) {
         if text.len() > CONSTANT_LIMIT {

@@ -79,8 +79,8 @@ impl Rule {
     }
 }
 
-/// A refusal of a text: the rule that it breaks, and the byte at which it does. Only an allocation
-/// that was refused makes one of the rule `Memory`.
+/// A refusal of a text: the rule that it breaks, and the byte at which it does. That memory ran out
+/// is told at offset 0.
 #[derive(Clone, Copy, Debug, PartialEq, Eq)]
 pub struct ReadFault {
     rule: Rule,
@@ -88,6 +88,8 @@ pub struct ReadFault {
 }
 
 impl Model for ReadFault {
+    ghost use Rattle.std.specs.Prelude.{◌≡◌};
+    ghost use Rattle.reader.specs.declared.fault.Rule.TheVariants.{Memory};
     ghost use Rattle.reader.specs.Fault.{Fault};
 
     ghost Value = { Fault };
@@ -95,10 +97,13 @@ impl Model for ReadFault {
     ghost view = { λ f. record { rule = f.rule; offset = f.offset } };
 
     ghost inverse = { λ f. record { rule = f.rule; offset = f.offset } };
+
+    ghost invariant = { λ f. f.rule ≡ Memory → f.offset ≡ 0 };
 }
 
 impl ReadFault {
-    /// A fault of the text. Want of memory is no fault of a text: it comes from an allocation alone.
+    /// A fault of the text. That memory ran out is no fault of a text: it is made of the error that
+    /// says so.
     pub fn new(rule: Rule, offset: usize) -> ReadFault
         requires { rule ≢ Rule.Memory }
         ensures rule { result.rule ≡ rule }
@@ -114,9 +119,10 @@ impl ReadFault {
         self.rule
     }
 
-    /// The offset in bytes, 0 for want of memory.
+    /// The offset in bytes, 0 where memory ran out.
     pub fn offset(&self) -> usize
-        ensures { result ≡ self.now.offset }
+        ensures offset { result ≡ self.now.offset }
+        ensures memory { self.now.rule ≡ Rule.Memory → result ≡ 0 }
     {
         self.offset
     }
@@ -125,6 +131,7 @@ impl ReadFault {
     pub fn within(self, end: usize) -> ReadFault
         ensures rule { result.rule ≡ self.rule }
         ensures offset { result.offset ≡ min self.offset end }
+        ensures memory { self.rule ≡ Rule.Memory → result.offset ≡ 0 }
     {
         ReadFault {
             rule: self.rule,

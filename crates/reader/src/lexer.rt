@@ -1,6 +1,7 @@
 //! The tokens of a text.
 
 ghost use Rattle.std.specs.Prelude.{◌≡◌, ◌≢◌, ◌+◌, ◌<◌, ◌≤◌, ◌^◌, List, All, length, IfOk, IfErr};
+ghost use Rattle.reader.specs.Breaks.{Refuses, IsTokenRule};
 ghost use Rattle.reader.specs.Symbol.{Symbol, symbol_of, symbols_of};
 ghost use Rattle.reader.specs.Tokens.{AreTokens, OneListOfTokens};
 ghost use Rattle.reader.specs.Reading.{Gives, token_at};
@@ -14,15 +15,13 @@ use crate::token::{Placed, Token};
 use crate::word::keyword_or_name;
 use std::alloc::Global;
 
-#[cfg(test)]
-mod tests;
-
 /// The token at the front, and what follows it. The bytes stand at the offset.
 #[tactic(auto, unfolding(crate::specs::Reading::token_at))]
 fn token(alloc: Global, bytes: &[u8], offset: usize) -> Result<(Token<'_>, &[u8]), ReadFault>
     requires room { offset + length bytes.now < 2 ^ 64 }
     requires begun { 0 < length bytes.now }
     ensures exact { Gives (λ x. (symbol_of x.0, x.1.now)) result (token_at bytes.now) }
+    ensures rule { Refuses result (λ rule. IsTokenRule rule) }
     ensures within { IfErr result (λ fault. fault.offset ≤ offset + length bytes.now) }
 {
     let first = bytes[0];
@@ -54,6 +53,7 @@ pub fn tokens(alloc: Global, text: &[u8]) -> Result<Vec<Placed<'_>>, ReadFault>
 
     // A text that has tokens is refused only where memory runs out.
     ensures none { IfErr result (λ fault. fault.rule ≢ Rule.Memory → (symbols : List Symbol) → ¬ AreTokens text.now symbols) }
+    ensures rule { Refuses result (λ rule. IsTokenRule rule) }
     ensures within { IfErr result (λ fault. fault.offset ≤ length text.now) }
 {
     let mut tokens = Vec::new(alloc);

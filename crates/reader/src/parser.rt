@@ -329,7 +329,7 @@ fn written<'a>(alloc: Global, cursor: &mut Cursor<'a>) -> Result<Written<'a>, Re
     }
 }
 
-/// `command = written [ ";" ]`, and nothing behind it.
+/// `command = written [ ";" ]`, and nothing after it.
 #[tactic(auto, unfolding(crate::specs::Parsing::command_at, crate::specs::Parsing::and_then))]
 fn command<'a>(alloc: Global, cursor: &mut Cursor<'a>) -> Result<Written<'a>, ReadFault>
     ensures { Gives written_of result (command_at cursor.old) }
@@ -360,7 +360,7 @@ pub fn one_reading()
     ensures { WriteOneCommand }
 {}
 
-/// `conditions`, and nothing behind them.
+/// `conditions`, and nothing after them.
 #[tactic(auto, unfolding(crate::specs::Parsing::conditions_alone_at, crate::specs::Parsing::and_then))]
 fn conditions_alone<'a>(
     alloc: Global,
@@ -376,7 +376,7 @@ fn conditions_alone<'a>(
     }
 }
 
-/// The conditions that the tokens of a text write, with no WHERE before and no semicolon behind.
+/// The conditions that the tokens of a text write, with no WHERE before and no semicolon after.
 ///
 /// The refusal of tokens that write none stands at the first token with which no conditions go on, or at
 /// `BEYOND` where the tokens end too early.
@@ -395,6 +395,3 @@ pub fn parse_conditions<'a>(
 pub fn one_reading_of_conditions()
     ensures { WriteOneListOfConditions }
 {}
-
-#[cfg(test)]
-mod tests;

@@ -3,6 +3,7 @@
 ghost use Rattle.std.specs.Prelude.{◌≡◌, ◌≢◌, ◌≤◌, List, length, IfOk, IfErr};
 ghost use Rattle.reader.specs.declared.command.Command.{Command};
 ghost use Rattle.reader.specs.declared.fault.Rule.TheVariants as rules;
+ghost use Rattle.reader.specs.Breaks.{Refuses, TextBreaks};
 ghost use Rattle.reader.specs.Command.{IsTextOf, IsCommandOf, OneCommandOfText};
 ghost use Rattle.reader.specs.Printable.{AreNamed, IsPrintableCommand};
 
@@ -14,8 +15,8 @@ use crate::parser::parse;
 use meaning::schema::Schema;
 use std::alloc::Global;
 
-/// The most bytes of a text.
-pub const TEXT_BYTES: usize = 4096;
+/// The most bytes of the text of a statement or of conditions.
+pub const STATEMENT_LIMIT: usize = 4096;
 
 /// The command of a text, under a schema.
 ///
@@ -31,6 +32,10 @@ pub fn read(alloc: Global, text: &str, schema: &Schema) -> Result<Command, ReadF
     // A text that is refused by a rule is one of no command.
     ensures none { IfErr result (λ fault. fault.rule ≢ rules.Memory
         → (command : Command) → ¬ (IsTextOf schema.now.relations text.now command)) }
+    // The rule that it names is one that the text breaks.
+    ensures rule { Refuses result (λ rule. TextBreaks rule schema.now.relations text.now) }
+    // That memory ran out is told at offset 0.
+    ensures memory { IfErr result (λ fault. fault.rule ≡ rules.Memory → fault.offset ≡ 0) }
     ensures within { IfErr result (λ fault. fault.offset ≤ length text.now) }
 {
     match read_bytes(alloc, text.as_bytes(), schema) {
@@ -48,15 +53,13 @@ fn read_bytes(alloc: Global, text: &[u8], schema: &Schema) -> Result<Command, Re
     ensures found { IfOk result (λ command. IsTextOf schema.now.relations text.now command) }
     ensures none { IfErr result (λ fault. fault.rule ≢ rules.Memory
         → (command : Command) → ¬ (IsTextOf schema.now.relations text.now command)) }
+    ensures rule { Refuses result (λ rule. TextBreaks rule schema.now.relations text.now) }
 {
-    if text.len() > TEXT_BYTES {
-        return Err(ReadFault::new(Rule::TooLong, TEXT_BYTES));
+    if text.len() > STATEMENT_LIMIT {
+        return Err(ReadFault::new(Rule::TooLong, STATEMENT_LIMIT));
     }
     let tokens = tokens(alloc, text)?;
     let written = parse(alloc, tokens.as_slice())?;
     let command = names::command(alloc, schema, &written)?;
     Ok(command)
 }
-
-#[cfg(test)]
-mod tests;

@@ -5,6 +5,7 @@ ghost use Rattle.std.specs.List.{AllByRecursion};
 ghost use Rattle.terms.specs.declared.cond.Cond.{Cond};
 ghost use Rattle.terms.specs.Cond.{IsCondOf};
 ghost use Rattle.reader.specs.declared.fault.Rule.TheVariants as rules;
+ghost use Rattle.reader.specs.Breaks.{Refuses, CondsTextBreaks};
 ghost use Rattle.reader.specs.Conds.{AreCondsOf, CondsOfTextFit, OneListOfCondsOfText};
 ghost use Rattle.reader.specs.Scope.{types};
 
@@ -12,7 +13,7 @@ use crate::conditions::conds;
 use crate::fault::{ReadFault, Rule};
 use crate::lexer::tokens;
 use crate::parser::parse_conditions;
-use crate::read::TEXT_BYTES;
+use crate::read::STATEMENT_LIMIT;
 use crate::scope::of_columns;
 use meaning::schema::Column;
 use std::alloc::Global;
@@ -29,6 +30,10 @@ pub fn read_conds(alloc: Global, text: &str, columns: &[Column]) -> Result<Conds
     // A text that is refused by a rule is one of no conditions.
     ensures none { IfErr result (λ fault. fault.rule ≢ rules.Memory
         → (conds : List Cond) → ¬ (AreCondsOf columns.now text.now conds)) }
+    // The rule that it names is one that the text breaks.
+    ensures rule { Refuses result (λ rule. CondsTextBreaks rule columns.now text.now) }
+    // That memory ran out is told at offset 0.
+    ensures memory { IfErr result (λ fault. fault.rule ≡ rules.Memory → fault.offset ≡ 0) }
     ensures within { IfErr result (λ fault. fault.offset ≤ length text.now) }
 {
     match read_bytes(alloc, text.as_bytes(), columns) {
@@ -51,15 +56,13 @@ fn read_bytes(alloc: Global, text: &[u8], columns: &[Column]) -> Result<Conds, R
     ensures found { IfOk result (λ conds. AreCondsOf columns.now text.now conds) }
     ensures none { IfErr result (λ fault. fault.rule ≢ rules.Memory
         → (conds : List Cond) → ¬ (AreCondsOf columns.now text.now conds)) }
+    ensures rule { Refuses result (λ rule. CondsTextBreaks rule columns.now text.now) }
 {
-    if text.len() > TEXT_BYTES {
-        return Err(ReadFault::new(Rule::TooLong, TEXT_BYTES));
+    if text.len() > STATEMENT_LIMIT {
+        return Err(ReadFault::new(Rule::TooLong, STATEMENT_LIMIT));
     }
     let tokens = tokens(alloc, text)?;
     let written = parse_conditions(alloc, tokens.as_slice())?;
     let conds = conds(alloc, &of_columns(columns), written.as_slice())?;
     Ok(Conds::new(conds))
 }
-
-#[cfg(test)]
-mod tests;

@@ -1,8 +1,9 @@
 //! Scopes: the columns that a written column may mean.
 
-ghost use Rattle.std.specs.Prelude.{◌≡◌, length, nat_eq};
+ghost use Rattle.std.specs.Prelude.{◌≡◌, length, nat_eq, IfErr};
 ghost use Rattle.std.specs.Cmp.Lexicographic.{pointwise};
 ghost use Rattle.std.specs.List.{position_from};
+ghost use Rattle.reader.specs.Breaks.{ColumnBreaks};
 ghost use Rattle.reader.specs.Resolving.{Resolves};
 ghost use Rattle.reader.specs.Scope.{table_of, scope_of, relation_table, one_relation, two_relations, columns_alone, is_qualifier, column_named, found_in_table, found_in_joined, found_in};
 ghost use Rattle.reader.specs.Tree.{column_of};
@@ -126,7 +127,7 @@ fn find_in_table(table: &Table<'_>, column: &Column<'_>) -> Option<Found>
     }
 }
 
-/// A column of the joined table, counted on behind those of the first.
+/// A column of the joined table, counted on from those of the first.
 fn find_in_joined(scope: &Scope<'_>, column: &Column<'_>) -> Option<Found>
     ensures { result ≡ found_in_joined (length scope.now.first.columns.now) (scope_of scope.now).joined (column_of column.now) }
 {
@@ -147,7 +148,8 @@ fn find_in_joined(scope: &Scope<'_>, column: &Column<'_>) -> Option<Found>
 
 /// The column that a written one means.
 pub fn find(scope: &Scope<'_>, column: &Column<'_>) -> Result<Found, ReadFault>
-    ensures { Resolves (λ found. found) result (found_in (scope_of scope.now) (column_of column.now)) }
+    ensures exact { Resolves (λ found. found) result (found_in (scope_of scope.now) (column_of column.now)) }
+    ensures rule { IfErr result (λ fault. ColumnBreaks fault.rule (scope_of scope.now) (column_of column.now)) }
 {
     let first = find_in_table(&scope.first, column);
     let joined = find_in_joined(scope, column);

@@ -1,22 +1,23 @@
 //! Texts in quotes.
 
-ghost use Rattle.std.specs.Prelude.{◌≡◌, ◌+◌, ◌<◌, ◌≤◌, ◌^◌, length, drop, option_map, string_bytes, Some, None, if◌then◌else◌, IfOk, IfErr};
+ghost use Rattle.std.specs.Prelude.{◌≡◌, ◌≢◌, ◌+◌, ◌<◌, ◌≤◌, ◌^◌, length, drop, option_map, string_bytes, Some, None, if◌then◌else◌, IfOk, IfErr};
 ghost use Rattle.std.specs.Char.{is_ascii_control};
 ghost use Rattle.std.specs.List.{list_any};
 ghost use Rattle.std.specs.Str.{is_utf8};
+ghost use Rattle.reader.specs.declared.fault.Rule.TheVariants as rules;
+ghost use Rattle.reader.specs.Breaks.{Refuses, QuotedBreaks, IsTokenRule};
 ghost use Rattle.reader.specs.Symbol.{symbol_of};
 ghost use Rattle.reader.specs.Reading.{Gives, unquoted, text_of, text_at};
 
 use crate::fault::{ReadFault, Rule};
 use crate::token::Token;
 use std::alloc::{AllocError, Global};
+use terms::value::TEXT_LIMIT;
 
 /// What a text begins and ends with; inside it two stand for one.
 pub const QUOTE: u8 = b'\'';
-/// The largest number of bytes of a text's value.
-pub const TEXT_LIMIT: usize = 200;
 
-/// Behind an opening quote: the value up to the closing quote, and what follows that; nothing
+/// After an opening quote: the value up to the closing quote, and what follows that; nothing
 /// where there is no closing quote.
 fn unquoted(alloc: Global, bytes: &[u8]) -> Result<Option<(Vec<u8>, &[u8])>, AllocError>
     ensures { IfOk result (λ found. option_map (λ x. (x.0.items, x.1.now)) found ≡ unquoted bytes.now) }
@@ -66,6 +67,7 @@ fn utf8(value: Vec<u8>) -> Option<String>
 fn text_of(value: Vec<u8>, bytes: &[u8], offset: usize) -> Result<Token<'_>, ReadFault>
     requires { offset + length bytes.now < 2 ^ 64 }
     ensures exact { Gives symbol_of result (text_of value.items) }
+    ensures rule { IfErr result (λ fault. QuotedBreaks fault.rule value.items) }
     ensures within { IfErr result (λ fault. fault.offset ≤ offset + length bytes.now) }
 {
     if value.len() > TEXT_LIMIT {
@@ -92,6 +94,7 @@ pub(crate) fn text_at(
     requires room { offset + length bytes.now < 2 ^ 64 }
     requires begun { 0 < length bytes.now }
     ensures exact { Gives (λ x. (symbol_of x.0, x.1.now)) result (text_at (drop 1 bytes.now)) }
+    ensures rule { Refuses result (λ rule. IsTokenRule rule) }
     ensures within { IfErr result (λ fault. fault.offset ≤ offset + length bytes.now) }
 {
     match unquoted(alloc, &bytes[1..])? {

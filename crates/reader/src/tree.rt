@@ -61,7 +61,7 @@ pub struct Join<'a> {
     pub relation: Named<'a>,
     /// The column before the `=`.
     pub left: Column<'a>,
-    /// The column behind it.
+    /// The column after it.
     pub right: Column<'a>,
 }
 
@@ -81,7 +81,7 @@ pub struct Insert<'a> {
     pub relation: Named<'a>,
     /// One value at least.
     pub values: Vec<Constant<'a>>,
-    /// Where the `)` behind the values stands.
+    /// Where the `)` after the values stands.
     pub close: usize,
 }
 

@@ -3,6 +3,7 @@
 ghost use Rattle.std.specs.Prelude.{◌≡◌, ◌↔◌, IsTrue, IfErr};
 ghost use Rattle.std.specs.Char.{is_ascii_uppercase};
 ghost use Rattle.std.specs.List.{list_any};
+ghost use Rattle.reader.specs.Breaks.{WordBreaks};
 ghost use Rattle.reader.specs.Class.{AreAll};
 ghost use Rattle.reader.specs.Symbol.{symbol_of};
 ghost use Rattle.reader.specs.Reading.{Gives, word_of, name_of};
@@ -27,7 +28,7 @@ pub fn is_name(word: &[u8]) -> bool
         && word.len() <= NAME_LIMIT
 }
 
-/// Whether bytes are a letter, and behind it letters, digits and underscores.
+/// Whether bytes are a letter, and after it letters, digits and underscores.
 fn is_word(word: &[u8]) -> bool
     ensures { IsTrue result ↔ IsWord word.now }
 {
@@ -54,6 +55,7 @@ fn has_capital(word: &[u8]) -> bool
 #[tactic(auto, unfolding(crate::specs::Reading::name_of))]
 fn name(word: &[u8], offset: usize) -> Result<Token<'_>, ReadFault>
     ensures exact { Gives symbol_of result (name_of word.now) }
+    ensures rule { IfErr result (λ fault. WordBreaks fault.rule word.now) }
     ensures within { IfErr result (λ fault. fault.offset ≡ offset) }
 {
     if has_capital(word) {
@@ -69,6 +71,7 @@ fn name(word: &[u8], offset: usize) -> Result<Token<'_>, ReadFault>
 #[tactic(auto, unfolding(crate::specs::Reading::word_of))]
 pub(crate) fn keyword_or_name(word: &[u8], offset: usize) -> Result<Token<'_>, ReadFault>
     ensures exact { Gives symbol_of result (word_of word.now) }
+    ensures rule { IfErr result (λ fault. WordBreaks fault.rule word.now) }
     ensures within { IfErr result (λ fault. fault.offset ≡ offset) }
 {
     match Keyword::of_word(word) {

@@ -1,3 +1,4 @@
+-- What proves the contracts of the crate.
 pub mod Floor
 pub mod Successors
 pub mod OneColumn

@@ -1,3 +1,4 @@
+-- Conditions: when one holds of a row, and which ones fit the columns.
 use Rattle.std.specs.Prelude.{Bool, false, not, List, Option, Some, None, ◌≡◌, FitsSigned}
 use Rattle.std.specs.List.{list_all, slice_get}
 use Rattle.std.specs.Int.{w64}

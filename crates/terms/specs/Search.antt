@@ -1,3 +1,4 @@
+-- The search's own words, which a reader may skip: how the least test value of a column is found.
 use Rattle.std.specs.Prelude.{ℕ, suc, if◌then◌else◌, ◌≡◌, ◌==◌, Bool, true, false, ◌&&◌, List, [], ◌∷◌, Option, Some, None}
 use Rattle.std.specs.List.{AllByRecursion, fold, slice_get}
 use Rattle.std.specs.Ordering.{is_lt}

@@ -1,3 +1,4 @@
+-- Test values: for every row there is one of them that conditions cannot tell from it.
 use Rattle.std.specs.Prelude.{ℕ, pos, negsuc, ◌+ℤ◌, int_lt, if◌then◌else◌, ◌≡◌, ◌==◌, Bool, true, false, not, ◌||◌, List, [], ◌∷◌, ◌++◌, Option, Some, None, Contains, option_to_list, map}
 use Rattle.std.specs.List.{list_all, slice_get, filter, flat_map, AllByRecursion}
 use Rattle.std.specs.Option.{option_map}

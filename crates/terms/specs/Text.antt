@@ -1,3 +1,4 @@
+-- Texts: their bytes and characters.
 use Rattle.std.specs.Prelude.{ℕ, ◌≤◌, ◌≢◌, List, length, All}
 use Rattle.std.specs.Str.{chars, IsUtf8}
 

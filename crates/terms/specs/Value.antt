@@ -1,3 +1,4 @@
+-- Values: their types, which ones a database holds, and their order.
 use Rattle.std.specs.Prelude.{FitsSigned}
 use Rattle.std.specs.Int.{w64}
 use Rattle.std.specs.Ordering.{nat_cmp, int_cmp}

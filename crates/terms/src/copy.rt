@@ -1,4 +1,4 @@
-//! Copies, which may want memory.
+//! Copies, for which memory may run out.
 
 ghost use Rattle.std.specs.Prelude.{◌≡◌, IfOk};
 

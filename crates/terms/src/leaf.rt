@@ -1,7 +1,7 @@
 //! Names of fragments.
 
 ghost use Rattle.std.specs.Prelude.{◌≡◌, IfOk, Some};
-ghost use Rattle.terms.specs.Leaf.{leaf_text};
+ghost use Rattle.terms.specs.Leaf.{leaf_text, LeavesGoByRelation};
 
 use crate::copy::TryCopy;
 use crate::memory::Memory;
@@ -14,6 +14,11 @@ pub struct Leaf {
     pub relation: Text,
     pub number: usize,
 }
+
+/// Leaves are ordered by their relations, then by their numbers.
+pub fn leaves_go_by_relation()
+    ensures { LeavesGoByRelation }
+{}
 
 impl TryCopy for Leaf {
     fn copy(&self) -> Result<Leaf, Memory> {

@@ -17,7 +17,5 @@ pub mod row;
 pub mod satisfiable;
 pub mod seq;
 pub mod test_values;
-#[cfg(test)]
-mod tests;
 pub mod text;
 pub mod value;

@@ -1,4 +1,4 @@
-//! The one error of want of memory.
+//! The one error where memory runs out.
 
 ghost use Rattle.std.specs.Prelude.{Some, codes};
 

@@ -110,6 +110,3 @@ impl Conds {
         least_row(self.allocator(), kinds, self.as_slice())
     }
 }
-
-#[cfg(test)]
-mod tests;

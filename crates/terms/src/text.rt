@@ -9,6 +9,7 @@ ghost use Rattle.terms.specs.Text.{IsTextUpTo, IsPrintable};
 
 use crate::copy::TryCopy;
 use crate::memory::Memory;
+use std::alloc::Global;
 use std::cmp::Ordering;
 use std::fmt;
 use std::marker::Model;
@@ -32,6 +33,13 @@ impl Text {
         ensures { result ≡ string_bytes text }
     {
         Text { text }
+    }
+
+    /// A text of its own with these characters.
+    pub fn copy_of(alloc: Global, characters: &str) -> Result<Text, Memory>
+        ensures { IfOk result (λ text. text ≡ characters.now) }
+    {
+        Ok(Text::new(String::from_str(alloc, characters)?))
     }
 
     pub fn as_str(&self) -> &str

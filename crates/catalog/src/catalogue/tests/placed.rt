@@ -2,7 +2,7 @@
 
 use super::{ACCT, EMP_AND_DEPT};
 use crate::catalogue::Catalog;
-use reader::printed::print_part;
+use reader::print_statement::print_part;
 use std::alloc::Global;
 use std::test::*;
 use terms::leaf::Leaf;

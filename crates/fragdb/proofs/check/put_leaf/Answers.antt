@@ -1,5 +1,5 @@
 use Rattle.std.proofs.Common.{◌++◌, [], ◌∷◌, ap, ap₂, arith, codes, string_bytes, ◌∙◌}
-use Rattle.reader.specs.Printed.{separated_bytes}
+use Rattle.reader.specs.PrintStatement.{separated_bytes}
 use Rattle.reader.specs.Written.{name_in}
 use Rattle.fragdb.specs.Check.{names_of_columns, where_text}
 use Rattle.fragdb.proofs.CheckLemmas.{line_of}

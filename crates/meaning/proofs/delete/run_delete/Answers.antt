@@ -1,3 +1,4 @@
+-- Why `delete::run_delete` meets its contract.
 use Rattle.std.proofs.Common.{List, not, subst, sym}
 use Rattle.terms.specs.declared.value.Value.{Value}
 use Rattle.terms.specs.Cond.{conds_hold}

@@ -1,3 +1,4 @@
+-- Why `laws::deleted_are_gone` meets its contract.
 use Rattle.meaning.proofs.LawProofs.{deleted_are_gone}
 use Rattle.meaning.proofs.laws.deleted_are_gone.Goals as goal
 

@@ -1,3 +1,4 @@
+-- Why `laws::inserted_is_selected` meets its contract.
 use Rattle.meaning.proofs.LawProofs.{inserted_is_selected}
 use Rattle.meaning.proofs.laws.inserted_is_selected.Goals as goal
 

@@ -1,3 +1,4 @@
+-- Why `laws::partner_has_key` meets its contract.
 use Rattle.meaning.proofs.LawProofs.{partner_has_key}
 use Rattle.meaning.proofs.laws.partner_has_key.Goals as goal
 

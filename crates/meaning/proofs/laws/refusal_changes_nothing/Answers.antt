@@ -1,3 +1,4 @@
+-- Why `laws::refusal_changes_nothing` meets its contract.
 use Rattle.meaning.proofs.LawProofs.{refusal_changes_nothing}
 use Rattle.meaning.proofs.laws.refusal_changes_nothing.Goals as goal
 

@@ -1,3 +1,4 @@
+-- Why `listed::listed` meets its contract.
 use Rattle.std.proofs.Common.{get_or, refl, ap, sym, ◌∙◌, ◌++◌, ◌∷◌, []}
 use Rattle.std.proofs.lemmas.Option.{slice_get_read, slice_get_past}
 use Rattle.meaning.proofs.ListedLemmas.{listed_there, listed_past}

@@ -1,3 +1,4 @@
+-- What each round of `listed::listed` keeps.
 use Rattle.std.proofs.Common.{◌≡◌, take}
 use Rattle.meaning.specs.Listed.{listed}
 use Rattle.meaning.proofs.listed.listed.Given as goal

@@ -1,3 +1,4 @@
+-- What each round of `matched::unmatched` keeps.
 use Rattle.std.proofs.Common.{◌≡◌, ◌++◌, drop}
 use Rattle.meaning.specs.Matched.{unmatched}
 use Rattle.meaning.proofs.matched.unmatched.Given as goal

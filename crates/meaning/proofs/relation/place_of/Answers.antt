@@ -1,3 +1,4 @@
+-- Why `relation::place_of` meets its contract.
 use Rattle.std.proofs.Common.{rules}
 use Rattle.std.proofs.lemmas.Fn.{always_returns_same}
 use Rattle.terms.specs.Row.{key_of}

@@ -1,3 +1,4 @@
+-- Why `relation::put_row` meets its contract.
 use Rattle.meaning.proofs.Rows.{Ascends-insert}
 use Rattle.meaning.proofs.relation.put_row.Goals as goal
 

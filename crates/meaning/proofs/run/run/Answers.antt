@@ -1,3 +1,4 @@
+-- Why `run::run` meets its contract.
 use Rattle.meaning.specs.declared.statement.Statement.TheVariants as statement
 use Rattle.meaning.proofs.Kept.{run_fits}
 use Rattle.meaning.proofs.run.run.Goals as goal

@@ -1,3 +1,4 @@
+-- What each round of `select::add_qualified` keeps.
 use Rattle.std.proofs.Common.{◌≡◌, ◌++◌, ◌∷◌, drop, map}
 use Rattle.meaning.specs.Selected.{qualified}
 use Rattle.meaning.proofs.select.add_qualified.Given as goal

@@ -1,3 +1,4 @@
+-- What each round of `select::joined` keeps.
 use Rattle.std.proofs.Common.{◌≡◌, ◌++◌, drop}
 use Rattle.meaning.specs.Selected.{joined}
 use Rattle.meaning.proofs.select.joined.Given as goal

@@ -1,3 +1,4 @@
+-- What each round of `select::pair` keeps.
 use Rattle.std.proofs.Common.{◌≡◌, ◌++◌, take}
 use Rattle.meaning.proofs.select.pair.Given as goal
 

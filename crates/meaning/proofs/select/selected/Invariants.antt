@@ -1,3 +1,4 @@
+-- What each round of `select::selected` keeps.
 use Rattle.std.proofs.Common.{◌≡◌, ◌++◌, drop}
 use Rattle.meaning.specs.Selected.{selected}
 use Rattle.meaning.proofs.select.selected.Given as goal

@@ -1,3 +1,4 @@
+-- What each round of `update::assign` keeps.
 use Rattle.std.proofs.Common.{◌≡◌, drop}
 use Rattle.meaning.specs.Updated.{assign}
 use Rattle.meaning.proofs.update.assign.Given as goal

@@ -1,3 +1,4 @@
+-- Why `update::run_update` meets its contract.
 use Rattle.std.proofs.Common.{sym, ap, ◌∙◌}
 use Rattle.std.specs.Option.{option_map}
 use Rattle.meaning.proofs.Changed.{Ascends-updated}

@@ -1,3 +1,4 @@
+-- What each round of `update::updated` keeps.
 use Rattle.std.proofs.Common.{◌≡◌, ◌++◌, drop}
 use Rattle.std.specs.Option.{option_map}
 use Rattle.meaning.specs.Updated.{updated}

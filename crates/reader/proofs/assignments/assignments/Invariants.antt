@@ -1,3 +1,4 @@
+-- What each round of `assignments::assignments` keeps.
 use Rattle.std.proofs.Common.{◌≡◌, true, Some, map, take}
 use Rattle.reader.specs.Names.{all_of, assignment_of, are_apart}
 use Rattle.reader.specs.Tree as tree

@@ -1,3 +1,4 @@
+-- What each round of `conditions::conds` keeps.
 use Rattle.std.proofs.Common.{◌≡◌, ◌≤◌, Some, map, take, vec_len}
 use Rattle.reader.specs.Names.{all_of, cond_of}
 use Rattle.reader.specs.Scope.{scope_of}

@@ -1,3 +1,4 @@
+-- Why `conditions::every_place` meets its contract.
 use Rattle.std.proofs.Common.{◌++◌, ◌∷◌, [], ap, ◌∙◌, add-one, arith}
 use Rattle.reader.proofs.Each.{range_more}
 use Rattle.reader.proofs.conditions.every_place.Goals as goal

@@ -1,3 +1,4 @@
+-- What each round of `conditions::every_place` keeps.
 use Rattle.std.proofs.Common.{◌≡◌}
 use Rattle.std.specs.List.{range_with_len}
 use Rattle.reader.proofs.conditions.every_place.Given as goal

@@ -1,3 +1,4 @@
+-- What each round of `conditions::listed_places` keeps.
 use Rattle.std.proofs.Common.{◌≡◌, ◌≤◌, Some, map, take, vec_len}
 use Rattle.reader.specs.Names.{all_of, place_in}
 use Rattle.reader.specs.Scope.{scope_of}

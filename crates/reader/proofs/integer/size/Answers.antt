@@ -1,3 +1,4 @@
+-- Why `integer::size` meets its contract.
 use Rattle.std.proofs.Common.{◌≡◌, ℕ, ◌∙◌, ◌+◌, ◌*◌, ◌-◌, ◌^◌, min, get_or, ap}
 use Rattle.reader.proofs.Digits.{size_more}
 use Rattle.reader.proofs.integer.size.Goals as goal

@@ -1,3 +1,4 @@
+-- What each round of `integer::size` keeps.
 use Rattle.std.proofs.Common.{◌≡◌, take}
 use Rattle.reader.specs.Tokens.{size_of_digits}
 use Rattle.reader.proofs.integer.size.Given as goal

@@ -1,3 +1,4 @@
+-- Why `lexer::token` meets its contract.
 use Rattle.std.proofs.Common.{sym}
 use Rattle.reader.proofs.Signs.{sign_fits}
 use Rattle.reader.proofs.lexer.token.Goals as goal

@@ -1,3 +1,4 @@
+-- Why `lexer::tokens` meets its contract.
 use Rattle.std.proofs.Common.{◌≡◌, ◌<◌, ◌-◌, ◌==◌, length, arith, eqb-true, sym, ◌∙◌, true, false}
 use Rattle.std.proofs.lemmas.Bool.{eqb-false}
 use Rattle.std.proofs.lemmas.Result.{err_from_is_err_and}

@@ -1,3 +1,4 @@
+-- What each round of `lexer::tokens` keeps.
 use Rattle.std.proofs.Common.{length}
 use Rattle.reader.proofs.Loop.{AreRead}
 use Rattle.reader.proofs.lexer.tokens.Given as goal

@@ -1,3 +1,4 @@
+-- What each round of `names::column_names` keeps.
 use Rattle.std.proofs.Common.{◌≡◌, map, take}
 use Rattle.reader.proofs.names.column_names.Given as goal
 

@@ -1,3 +1,4 @@
+-- What each round of `names::values` keeps.
 use Rattle.std.proofs.Common.{◌≡◌, Some, map, take}
 use Rattle.reader.specs.Names.{row_of}
 use Rattle.reader.specs.Tree.{constant_of}

@@ -1,3 +1,4 @@
+-- What each round of `parser::columns` keeps.
 use Rattle.std.proofs.Common.{map, length}
 use Rattle.reader.specs.declared.sign.Sign.TheVariants as mark
 use Rattle.reader.specs.Symbol.{sign}

@@ -1,3 +1,4 @@
+-- What each round of `parser::conditions` keeps.
 use Rattle.std.proofs.Common.{map, length}
 use Rattle.reader.specs.declared.keyword.Keyword.TheVariants as word
 use Rattle.reader.specs.Symbol.{key}

@@ -1,3 +1,4 @@
+-- Why `parser::parse` meets its contract.
 use Rattle.reader.proofs.Commands.{is_found, is_none}
 use Rattle.reader.proofs.parser.parse.Goals as goal
 

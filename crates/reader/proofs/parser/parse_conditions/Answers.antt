@@ -1,3 +1,4 @@
+-- Why `parser::parse_conditions` meets its contract.
 use Rattle.reader.proofs.Commands.{are_found, are_none}
 use Rattle.reader.proofs.parser.parse_conditions.Goals as goal
 

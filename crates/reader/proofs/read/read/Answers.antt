@@ -1,3 +1,4 @@
+-- Why `read::read` meets its contract.
 use Rattle.reader.proofs.FitsCommand.{text_fits}
 use Rattle.reader.proofs.PrintableText.{printable_of_text}
 use Rattle.reader.proofs.read.read.Goals as goal
@@ -12,3 +13,6 @@ returns-in-Ok-clause-printable c = λ named.
 
 pub returns-in-Err-clause-none : goal.returns-in-Err-clause-none
 returns-in-Err-clause-none c = rw (c.within.ensures.rule, ← c.as_bytes.ensures.value) c.in-Err.ensures.none
+
+pub returns-in-Err-clause-rule : goal.returns-in-Err-clause-rule
+returns-in-Err-clause-rule c = rw (c.within.ensures.rule, ← c.as_bytes.ensures.value) c.in-Err.ensures.rule

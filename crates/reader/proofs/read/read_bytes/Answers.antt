@@ -1,5 +1,8 @@
-use Rattle.std.proofs.Common.{refl}
+-- Why `read::read_bytes` meets its contract.
+use Rattle.std.proofs.Common.{◌≡◌, ◌≢◌, ◌⊎◌, inl, inr, refl}
 use Rattle.std.proofs.lemmas.Result.{err_from_is_err_and}
+use Rattle.reader.specs.declared.fault.Rule.{Rule}
+use Rattle.reader.specs.declared.fault.Rule.TheVariants as rules
 use Rattle.reader.specs.Names.{command_of}
 use Rattle.reader.specs.Symbol.{symbols_of}
 use Rattle.reader.specs.Tokens.{AreTokens}
@@ -19,7 +22,7 @@ returns-in_err-command-clause-none c =
     let p = err_from_is_err_and c.from_residual-in_err-command.result c.from_residual-in_err-command.ensures.1 in
     let spelled : AreTokens c.args.text.now (symbols_of c.as_slice.result.now) = rw c.as_slice.ensures.value c.in_ok-tokens.ensures.found in
     rw (p.1, p.2) (λ rule. no_names c.args.schema.now.relations c.args.text.now (symbols_of c.as_slice.result.now) (tree.written_of c.in_ok-written.written) spelled c.in_ok-written.ensures.found
-    (none_by_rule c.in_err-command.field-0.0.rule (command_of c.args.schema.now.relations (tree.written_of c.in_ok-written.written)) rule c.in_err-command.ensures))
+    (none_by_rule c.in_err-command.field-0.0.rule (command_of c.args.schema.now.relations (tree.written_of c.in_ok-written.written)) rule c.in_err-command.ensures.exact))
 
 pub returns-clause-found : goal.returns-clause-found
 returns-clause-found c =
@@ -27,8 +30,24 @@ returns-clause-found c =
     record {
       tokens = symbols_of c.as_slice.result.now;
       written = tree.written_of c.in_ok-written.written;
-      short = c.if-text-gt-TEXT_BYTES.false;
+      short = c.if-text-gt-STATEMENT_LIMIT.false;
       spelled = spelled;
       grammatical = c.in_ok-written.ensures.found;
-      meant = rw c.in_ok-command.ensures refl;
+      meant = rw c.in_ok-command.ensures.exact refl;
     }
+
+pub returns-in_err-written-clause-rule : goal.returns-in_err-written-clause-rule
+returns-in_err-written-clause-rule c =
+    let p = err_from_is_err_and c.from_residual-in_err-written.result c.from_residual-in_err-written.ensures.1 in
+    let spelled : AreTokens c.args.text.now (symbols_of c.as_slice.result.now) = rw c.as_slice.ensures.value c.in_ok-tokens.ensures.found in
+    rw (p.1, p.2) (λ other. inr (inl (syntax c.in_err-written.field-0.0.rule other c.in_err-written.ensures.rule, symbols_of c.as_slice.result.now, spelled, c.in_err-written.ensures.none other)))
+  where
+    syntax : (rule : Rule) → rule ≢ rules.Memory → (rule ≡ rules.Syntax) ⊎ (rule ≡ rules.Memory) → rule ≡ rules.Syntax
+    syntax rule other (inl is) = is
+    syntax rule other (inr memory) = absurd (other memory)
+
+pub returns-in_err-command-clause-rule : goal.returns-in_err-command-clause-rule
+returns-in_err-command-clause-rule c =
+    let p = err_from_is_err_and c.from_residual-in_err-command.result c.from_residual-in_err-command.ensures.1 in
+    let spelled : AreTokens c.args.text.now (symbols_of c.as_slice.result.now) = rw c.as_slice.ensures.value c.in_ok-tokens.ensures.found in
+    rw (p.1, p.2) (λ other. inr (inr (symbols_of c.as_slice.result.now, tree.written_of c.in_ok-written.written, spelled, c.in_ok-written.ensures.found, c.in_err-command.ensures.rule other)))

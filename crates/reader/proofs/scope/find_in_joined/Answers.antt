@@ -1,3 +1,4 @@
+-- Why `scope::find_in_joined` meets its contract.
 use Rattle.std.proofs.Common.{◌<◌, length, sym, arith}
 use Rattle.reader.specs.Scope.{table_of}
 use Rattle.reader.specs.Tree.{column_of}

@@ -1,3 +1,4 @@
+-- Why `text::unquoted` meets its contract.
 use Rattle.std.proofs.Common.{◌≡◌, ℕ, List, ◌∷◌, [], ◌++◌, ap, ◌∙◌}
 use Rattle.reader.specs.Reading.{unquoted}
 use Rattle.reader.proofs.Quotes.{with_front, goes_on_behind, goes_on_behind_two, ends_at, runs_out, is_second, is_single}

@@ -1,3 +1,4 @@
+-- What each round of `text::unquoted` keeps.
 use Rattle.std.proofs.Common.{◌≡◌, length}
 use Rattle.reader.specs.Reading.{unquoted}
 use Rattle.reader.proofs.Quotes.{with_front}

@@ -1,3 +1,4 @@
+-- Why `text::utf8` meets its contract.
 use Rattle.std.proofs.Common.{◌∙◌, ap, option_map}
 use Rattle.reader.proofs.Quotes.{text_or_none}
 use Rattle.reader.proofs.text.utf8.Goals as goal

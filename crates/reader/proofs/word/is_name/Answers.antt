@@ -1,7 +1,7 @@
+-- Why `word::is_name` meets its contract.
 use Rattle.std.proofs.Common.{◌≡◌, length, rules, None, false, ◌≤◌}
 use Rattle.std.specs.Char.{is_ascii_uppercase}
 use Rattle.std.specs.List.{list_any}
-use Rattle.reader.specs.declared.word.TheConstants.{NAME_LIMIT}
 use Rattle.reader.specs.Reading.{keyword_of}
 use Rattle.reader.specs.Tokens.{IsWord}
 use Rattle.reader.proofs.Words.{is_name_so}
@@ -16,7 +16,7 @@ returns-then-is_none c = (
           let word : IsWord c.args.word.now = search rules in
           let small : list_any is_ascii_uppercase c.args.word.now ≡ false = search rules in
           let none : keyword_of c.args.word.now ≡ None = search rules in
-          let few : length c.args.word.now ≤ NAME_LIMIT = search rules in
+          let few : length c.args.word.now ≤ 24 = search rules in
           is_name_so c.args.word.now word small none few
       | else-is_word v ↦ search rules
     ]

@@ -1,3 +1,4 @@
+-- What each round of `copy::copy_all` keeps.
 use Rattle.std.proofs.Common.{◌≡◌, take}
 use Rattle.terms.proofs.copy.copy_all.Given as goal
 

@@ -1,3 +1,4 @@
+-- Why `satisfiable::least_row` meets its contract.
 use Rattle.terms.proofs.LeastRow.{one_more}
 use Rattle.terms.proofs.satisfiable.least_row.Goals as goal
 

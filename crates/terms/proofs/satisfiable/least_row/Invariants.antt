@@ -1,3 +1,4 @@
+-- What each round of `satisfiable::least_row` keeps.
 use Rattle.std.proofs.Common.{take}
 use Rattle.terms.specs.Search.{AreLeast}
 use Rattle.terms.proofs.satisfiable.least_row.Given as goal

@@ -1,3 +1,4 @@
+-- Why `satisfiable::least_test` meets its contract.
 use Rattle.std.proofs.Common.{◌≡◌, Option, IfSome, IfNone}
 use Rattle.std.proofs.lemmas.Result.{IfOk-weaker}
 use Rattle.terms.specs.declared.value.Value.{Value}

@@ -1,3 +1,4 @@
+-- What each round of `satisfiable::search` keeps.
 use Rattle.std.proofs.Common.{◌≡◌, drop, None}
 use Rattle.terms.specs.TestValues.{least}
 use Rattle.terms.specs.Search.{tried_all, better}

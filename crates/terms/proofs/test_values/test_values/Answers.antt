@@ -1,3 +1,4 @@
+-- Why `test_values::test_values` meets its contract.
 use Rattle.std.specs.Ordering.{eq_by_cmp}
 use Rattle.std.proofs.lemmas.List.Filters.{dedup_is}
 use Rattle.terms.specs.Value.{value_cmp}

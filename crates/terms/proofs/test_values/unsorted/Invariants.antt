@@ -1,3 +1,4 @@
+-- What each round of `test_values::unsorted` keeps.
 use Rattle.std.proofs.Common.{◌≡◌, ◌++◌, drop}
 use Rattle.std.specs.List.{flat_map}
 use Rattle.terms.specs.TestValues.{test_values, constants, with_after}

@@ -1,3 +1,4 @@
+-- Why `whole::Whole::insert_row` meets its contract.
 use Rattle.std.proofs.Common.{sym, ap, ◌∙◌, refl}
 use Rattle.std.specs.Option.{option_copied_mut}
 use Rattle.meaning.proofs.Maps.{rows_there, rows_absent, row_written, row_kept, row_added, rows_at}

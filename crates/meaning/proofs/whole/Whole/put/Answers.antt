@@ -1,3 +1,4 @@
+-- Why `whole::Whole::put` meets its contract.
 use Rattle.std.proofs.Common.{◌∙◌, ap}
 use Rattle.std.specs.FinMap as map
 use Rattle.meaning.proofs.Maps.{one_put}

@@ -1,3 +1,4 @@
+-- Why `whole::Whole::relation` meets its contract.
 use Rattle.std.proofs.Common.{◌∙◌, ap, sym}
 use Rattle.std.specs.FinMap as map
 use Rattle.meaning.proofs.Maps.{get_rows}

@@ -1,3 +1,4 @@
+-- Why `whole::Whole::replace` meets its contract.
 use Rattle.std.proofs.Common.{sym, ap, ◌∙◌, refl}
 use Rattle.std.specs.FinMap.{from_entries}
 use Rattle.std.specs.Option.{option_copied_mut}

@@ -1,3 +1,4 @@
+-- Why `class::Class::split` meets its contract.
 use Rattle.std.proofs.Common.{◌≡◌, ◌<◌, ◌∙◌, sym, false, length, get_or, arith}
 use Rattle.reader.specs.Class.{is_in}
 use Rattle.reader.specs.Reading.{front, after}

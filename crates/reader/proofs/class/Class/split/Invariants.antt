@@ -1,3 +1,4 @@
+-- What each round of `class::Class::split` keeps.
 use Rattle.std.proofs.Common.{length, ◌-◌, ◌≡◌, ◌≤◌, ◌<◌, ℕ, true, get_or}
 use Rattle.reader.specs.Class.{is_in}
 use Rattle.reader.proofs.class.Class.split.Given as goal

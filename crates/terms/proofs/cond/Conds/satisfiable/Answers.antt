@@ -1,3 +1,4 @@
+-- Why `cond::Conds::satisfiable` meets its contract.
 use Rattle.std.proofs.Common.{◌≡◌, true, List, subst}
 use Rattle.terms.specs.declared.cond.Cond.{Cond}
 use Rattle.terms.specs.declared.value.Value.{Value}

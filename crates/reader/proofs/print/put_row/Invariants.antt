@@ -1,7 +1,0 @@
-use Rattle.std.proofs.Common.{◌≡◌, ◌++◌, ◌∷◌, map, take, string_bytes}
-use Rattle.std.specs.List.{flat_map}
-use Rattle.reader.specs.Print.{value_text}
-use Rattle.reader.proofs.print.put_row.Given as goal
-
-abbrev pub invariant-loop-value : goal.invariant-loop-value
-invariant-loop-value l = string_bytes l.out ≡ string_bytes l.initial.out ++ flat_map (λ f. 9 ∷ f) (map value_text (take l.value-index l.others))

@@ -1,0 +1,295 @@
+//! The text of statements: as `read` takes it, with keywords in capitals.
+
+ghost use Rattle.std.specs.Prelude.{◌≡◌, ◌++◌, codes, map, option_map, IfOk, OnOk, string_bytes};
+ghost use Rattle.meaning.specs.declared.statement.Assigned.TheVariants.{Sum};
+ghost use Rattle.reader.specs.Columns.{column_at};
+ghost use Rattle.reader.specs.Grammar.{comparison_sign};
+ghost use Rattle.reader.specs.Sign.{sign_text};
+ghost use Rattle.reader.specs.Written.{name_in, column_in, qualified_column, constant_as, condition_as, conditions_as, join_as, select_as, insert_as, assigned_as, assignment_as, update_as, delete_as};
+ghost use Rattle.reader.specs.PrintStatement.{separated_bytes, column_bytes, constant_bytes, constants_bytes, condition_bytes, conditions_bytes, where_bytes, join_bytes, select_bytes, insert_bytes, assigned_bytes, assignment_bytes, update_bytes, delete_bytes, statement_bytes, conds_bytes, part_bytes};
+
+use crate::print_constant::PrintedConstant;
+use meaning::schema::Column;
+use meaning::statement::{
+    Assigned, Assignment, Delete, Insert, Join, Select, Source, Statement, Update,
+};
+use std::alloc::Global;
+use terms::cond::{Cmp, Cond, Conds};
+use terms::memory::Memory;
+use terms::text::Text;
+use terms::value::Value;
+
+/// What stands between the items of a list, but for conditions.
+const SEPARATOR: &str = ", ";
+
+/// A statement, as it is read again.
+pub fn print(alloc: Global, statement: &Statement) -> Result<String, Memory>
+    ensures { IfOk result (λ text. string_bytes text ≡ statement_bytes statement.now) }
+{
+    let mut out = String::new(alloc);
+    match statement {
+        Statement::Select(select) => put_select(&mut out, select)?,
+        Statement::Insert(insert) => put_insert(&mut out, insert)?,
+        Statement::Update(update) => put_update(&mut out, update)?,
+        Statement::Delete(delete) => put_delete(&mut out, delete)?,
+    }
+    Ok(out)
+}
+
+/// Conditions on these columns, as they are read again.
+pub fn print_conds(alloc: Global, conds: &Conds, names: &[Column]) -> Result<String, Memory>
+    ensures { IfOk result (λ text. string_bytes text ≡ conds_bytes (map (λ column. column.name) names.now) conds.now) }
+{
+    let mut out = String::new(alloc);
+    put_conditions(&mut out, &Columns::OfSchema(names), conds.as_slice())?;
+    Ok(out)
+}
+
+/// The values of a part, as constants.
+pub fn print_part(alloc: Global, part: &[Value]) -> Result<String, Memory>
+    ensures { IfOk result (λ text. string_bytes text ≡ part_bytes part.now) }
+{
+    let mut out = String::new(alloc);
+    put_constants(&mut out, part)?;
+    Ok(out)
+}
+
+/// The columns over which places are counted.
+#[derive(Clone, Copy)]
+enum Columns<'a> {
+    /// Those of a schema, by their plain names.
+    OfSchema(&'a [Column]),
+    /// Those of one relation, by their plain names.
+    OfOne(&'a Source),
+    /// Those of two relations, with their relations' names: the second's are counted on from the first's.
+    OfTwo(&'a Source, &'a Source),
+}
+
+impl<'a> Columns<'a> {
+    /// Those of a select.
+    fn of_select(select: &'a Select) -> Columns<'a>
+        ensures { column_at result ≡ column_in select.now.from select.now.join }
+    {
+        match &select.join {
+            Some(join) => Columns::OfTwo(&select.from, &join.relation),
+            None => Columns::OfOne(&select.from),
+        }
+    }
+
+    /// The column at a place.
+    fn put(&self, out: &mut String, place: usize) -> Result<(), Memory>
+        ensures { OnOk result (string_bytes out.new ≡ string_bytes out.old ++ column_bytes (column_at self.now place)) }
+    {
+        match self {
+            Columns::OfSchema(columns) => {
+                if let Some(column) = columns.get(place) {
+                    out.push_str(column.name.as_str())?;
+                }
+                Ok(())
+            }
+            Columns::OfOne(source) => put_name(out, source.columns.as_slice(), place),
+            Columns::OfTwo(from, joined) => match place.checked_sub(from.columns.as_slice().len()) {
+                None => put_qualified(out, from, place),
+                Some(place) => put_qualified(out, joined, place),
+            },
+        }
+    }
+}
+
+/// The name at a place.
+fn put_name(out: &mut String, names: &[Text], place: usize) -> Result<(), Memory>
+    ensures { OnOk result (string_bytes out.new ≡ string_bytes out.old ++ name_in names.now place) }
+{
+    if let Some(name) = names.get(place) {
+        out.push_str(name.as_str())?;
+    }
+    Ok(())
+}
+
+/// A column with its relation's name.
+fn put_qualified(out: &mut String, source: &Source, place: usize) -> Result<(), Memory>
+    ensures { OnOk result (string_bytes out.new ≡ string_bytes out.old ++ column_bytes (qualified_column source.now place)) }
+{
+    out.push_str(source.name.as_str())?;
+    out.push('.')?;
+    put_name(out, source.columns.as_slice(), place)
+}
+
+fn put_select(out: &mut String, select: &Select) -> Result<(), Memory>
+    ensures { OnOk result (string_bytes out.new ≡ string_bytes out.old ++ select_bytes (select_as select.now)) }
+{
+    let columns = Columns::of_select(select);
+    out.push_str("SELECT ")?;
+    put_list(out, &columns, select.columns.as_slice())?;
+    write!(out, " FROM {}", select.from.name)?;
+    put_join(out, &select.from, &select.join)?;
+    put_where(out, &columns, select.conds.as_slice())
+}
+
+fn put_list(out: &mut String, columns: &Columns<'_>, places: &[usize]) -> Result<(), Memory>
+    ensures { OnOk result (string_bytes out.new ≡ string_bytes out.old ++ separated_bytes column_bytes (codes ", ") (map (column_at columns.now) places.now)) }
+{
+    let Some((first, others)) = places.split_first() else {
+        return Ok(());
+    };
+    columns.put(out, *first)?;
+    for place in others {
+        out.push_str(SEPARATOR)?;
+        columns.put(out, *place)?;
+    }
+    Ok(())
+}
+
+/// A JOIN, if there is one.
+fn put_join(out: &mut String, from: &Source, join: &Option<Join>) -> Result<(), Memory>
+    ensures { OnOk result (string_bytes out.new ≡ string_bytes out.old ++ join_bytes (option_map (join_as from.now) join.now)) }
+{
+    let Some(join) = join else {
+        return Ok(());
+    };
+    write!(out, " JOIN {} ON ", join.relation.name)?;
+    put_qualified(out, from, join.col)?;
+    out.push_str(" = ")?;
+    put_qualified(out, &join.relation, 0)
+}
+
+/// A WHERE, if there are conditions.
+fn put_where(out: &mut String, columns: &Columns<'_>, conds: &[Cond]) -> Result<(), Memory>
+    ensures { OnOk result (string_bytes out.new ≡ string_bytes out.old ++ where_bytes (conditions_as (column_at columns.now) conds.now)) }
+{
+    if conds.is_empty() {
+        return Ok(());
+    }
+    out.push_str(" WHERE ")?;
+    put_conditions(out, columns, conds)
+}
+
+fn put_conditions(out: &mut String, columns: &Columns<'_>, conds: &[Cond]) -> Result<(), Memory>
+    ensures { OnOk result (string_bytes out.new ≡ string_bytes out.old ++ conditions_bytes (conditions_as (column_at columns.now) conds.now)) }
+{
+    let Some((first, others)) = conds.split_first() else {
+        return Ok(());
+    };
+    put_condition(out, columns, first)?;
+    for cond in others {
+        out.push_str(" AND ")?;
+        put_condition(out, columns, cond)?;
+    }
+    Ok(())
+}
+
+fn put_condition(out: &mut String, columns: &Columns<'_>, cond: &Cond) -> Result<(), Memory>
+    ensures { OnOk result (string_bytes out.new ≡ string_bytes out.old ++ condition_bytes (condition_as (column_at columns.now) cond.now)) }
+{
+    columns.put(out, cond.col)?;
+    out.push(' ')?;
+    put_comparison(out, cond.cmp)?;
+    out.push(' ')?;
+    put_constant(out, &cond.value)
+}
+
+fn put_comparison(out: &mut String, comparison: Cmp) -> Result<(), Memory>
+    ensures { OnOk result (string_bytes out.new ≡ string_bytes out.old ++ sign_text (comparison_sign comparison)) }
+{
+    match comparison {
+        Cmp::Eq => out.push_str("=")?,
+        Cmp::Ne => out.push_str("<>")?,
+        Cmp::Lt => out.push_str("<")?,
+        Cmp::Le => out.push_str("<=")?,
+        Cmp::Gt => out.push_str(">")?,
+        Cmp::Ge => out.push_str(">=")?,
+    }
+    Ok(())
+}
+
+fn put_insert(out: &mut String, insert: &Insert) -> Result<(), Memory>
+    ensures { OnOk result (string_bytes out.new ≡ string_bytes out.old ++ insert_bytes (insert_as insert.now)) }
+{
+    write!(out, "INSERT INTO {} VALUES (", insert.into)?;
+    put_constants(out, insert.row.values())?;
+    out.push(')')?;
+    Ok(())
+}
+
+fn put_constants(out: &mut String, values: &[Value]) -> Result<(), Memory>
+    ensures { OnOk result (string_bytes out.new ≡ string_bytes out.old ++ constants_bytes (map constant_as values.now)) }
+{
+    let Some((first, others)) = values.split_first() else {
+        return Ok(());
+    };
+    put_constant(out, first)?;
+    for value in others {
+        out.push_str(SEPARATOR)?;
+        put_constant(out, value)?;
+    }
+    Ok(())
+}
+
+fn put_constant(out: &mut String, value: &Value) -> Result<(), Memory>
+    ensures { OnOk result (string_bytes out.new ≡ string_bytes out.old ++ constant_bytes (constant_as value.now)) }
+{
+    write!(out, "{}", PrintedConstant(value))?;
+    Ok(())
+}
+
+fn put_update(out: &mut String, update: &Update) -> Result<(), Memory>
+    ensures { OnOk result (string_bytes out.new ≡ string_bytes out.old ++ update_bytes (update_as update.now)) }
+{
+    write!(out, "UPDATE {} SET ", update.relation.name)?;
+    put_assignments(
+        out,
+        update.relation.columns.as_slice(),
+        update.sets.as_slice(),
+    )?;
+    put_where(
+        out,
+        &Columns::OfOne(&update.relation),
+        update.conds.as_slice(),
+    )
+}
+
+fn put_assignments(out: &mut String, names: &[Text], sets: &[Assignment]) -> Result<(), Memory>
+    ensures { OnOk result (string_bytes out.new ≡ string_bytes out.old ++ separated_bytes assignment_bytes (codes ", ") (map (assignment_as names.now) sets.now)) }
+{
+    let Some((first, others)) = sets.split_first() else {
+        return Ok(());
+    };
+    put_assignment(out, names, first)?;
+    for set in others {
+        out.push_str(SEPARATOR)?;
+        put_assignment(out, names, set)?;
+    }
+    Ok(())
+}
+
+fn put_assignment(out: &mut String, names: &[Text], set: &Assignment) -> Result<(), Memory>
+    ensures { OnOk result (string_bytes out.new ≡ string_bytes out.old ++ assignment_bytes (assignment_as names.now set.now)) }
+{
+    put_name(out, names, set.col)?;
+    out.push_str(" = ")?;
+    match &set.value {
+        Assigned::Constant(value) => put_constant(out, value),
+        Assigned::Sum { col, number } => put_sum(out, names, *col, *number),
+    }
+}
+
+/// A column and a number added, or its size taken away where it is negative.
+fn put_sum(out: &mut String, names: &[Text], col: usize, number: i64) -> Result<(), Memory>
+    ensures { OnOk result (string_bytes out.new ≡ string_bytes out.old ++ assigned_bytes (assigned_as names.now (Sum col number))) }
+{
+    put_name(out, names, col)?;
+    let sign = if number < 0 { '-' } else { '+' };
+    write!(out, " {sign} {}", number.unsigned_abs())?;
+    Ok(())
+}
+
+fn put_delete(out: &mut String, delete: &Delete) -> Result<(), Memory>
+    ensures { OnOk result (string_bytes out.new ≡ string_bytes out.old ++ delete_bytes (delete_as delete.now)) }
+{
+    write!(out, "DELETE FROM {}", delete.relation.name)?;
+    put_where(
+        out,
+        &Columns::OfOne(&delete.relation),
+        delete.conds.as_slice(),
+    )
+}
