@@ -274,6 +274,3 @@ pub(crate) fn relations(
     }
     Ok(relations)
 }
-
-#[cfg(test)]
-mod tests;

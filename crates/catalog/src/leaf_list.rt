@@ -113,6 +113,3 @@ fn put_conds(conds: &mut Vec<Cond>, more: &[Cond]) -> Result<(), Memory>
     }
     Ok(())
 }
-
-#[cfg(test)]
-mod tests;

@@ -59,6 +59,3 @@ fn has_name(before: &[Text], name: &str) -> bool
 {
     before.iter().any(|other| other.as_str() == name)
 }
-
-#[cfg(test)]
-mod tests;
