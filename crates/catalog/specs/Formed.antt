@@ -14,11 +14,15 @@ use Rattle.catalog.specs.declared.fragment_leaf.FragmentLeaf.{FragmentLeaf}
 use Rattle.catalog.specs.Catalogue.{SplitRelation, Catalogue, IsSiteName, IsValidCatalogue}
 use Rattle.catalog.specs.FragmentLeaf.{leaves_of, catalogue_leaves, schemas_of}
 
--- a leaf is at one of the sites, and its conditions and columns are on columns of these types
+-- a leaf is at one of the sites; its conditions and columns are on columns of these types; its columns ascend and begin
+-- with the key, and are at most 16
 pub record IsLeafOver (sites : List (List ℕ)) (kinds : List Kind) (leaf : FragmentLeaf) : Type 0 where
   pub site : leaf.site < length sites
   pub conds : AllByRecursion (IsCondOf kinds) leaf.conds
   pub columns : AllByRecursion (λ col. col < length kinds) leaf.columns
+  pub first : slice_get leaf.columns 0 ≡ Some 0
+  pub ascending : IsStrictlySortedBy nat_cmp leaf.columns
+  pub few : length leaf.columns ≤ 16
 
 -- a relation with names for itself and its columns, an integer as its key, and at most 16 columns and 32 leaves
 pub record IsFormedRelation (sites : List (List ℕ)) (relation : SplitRelation) : Type 0 where

@@ -7,20 +7,22 @@ use Rattle.meaning.specs.Schema.{kinds_of}
 use Rattle.catalog.specs.declared.fragment_leaf.FragmentLeaf.{FragmentLeaf}
 use Rattle.catalog.specs.Catalogue.{SplitRelation, Catalogue}
 use Rattle.catalog.specs.Fragment.{Fragment}
-use Rattle.catalog.specs.Leaves.{site_numbers}
-use Rattle.catalog.specs.Path.{fragments}
+use Rattle.catalog.specs.declared.path.Path.{Path}
+use Rattle.catalog.specs.Path.{columns_beside_key, path_conds, path_columns, paths}
 
--- fragments at their sites, named by a relation and numbered on from a first number
-abbrev pub named_from : List ℕ → ℕ → List Fragment → List ℕ → List FragmentLeaf
-named_from relation number [] sites = []
-named_from relation number (fragment ∷ fragments) [] = []
-named_from relation number (fragment ∷ fragments) (site ∷ sites) =
-    record { name = record { relation = relation; number = number }; conds = fragment.conds; columns = fragment.columns; site = site }
-    ∷ named_from relation (suc number) fragments sites
+-- the leaf at the end of a path in a relation of this name, with these columns beside its key
+abbrev pub leaf_of : List ℕ → List ℕ → ℕ → Path → FragmentLeaf
+leaf_of relation columns number path =
+    record { name = record { relation = relation; number = number }; steps = path.steps; conds = path_conds path.steps; columns = 0 ∷ path_columns columns path.steps; site = path.site }
+
+-- the leaves at the ends of paths, numbered on from a first number
+abbrev pub leaves_from : List ℕ → List ℕ → ℕ → List Path → List FragmentLeaf
+leaves_from relation columns number [] = []
+leaves_from relation columns number (path ∷ paths) = leaf_of relation columns number path ∷ leaves_from relation columns (suc number) paths
 
 -- the leaves of a relation, numbered from 1
 abbrev pub leaves_of : SplitRelation → List FragmentLeaf
-leaves_of relation = named_from relation.schema.name 1 (fragments (kinds_of relation.schema) relation.tree) (site_numbers relation.tree)
+leaves_of relation = leaves_from relation.schema.name (columns_beside_key (kinds_of relation.schema)) 1 (paths relation.tree)
 
 -- the leaves of a catalogue, relation by relation
 abbrev pub catalogue_leaves : Catalogue → List FragmentLeaf

@@ -1,5 +1,6 @@
 //! The laws of fragmentation, each as the contract of a function that does nothing.
 
+ghost use Rattle.catalog.specs.Cover.{SomeServes, OneServes, SomeServesBelow, OneServesBelow, OneLeafBelow, NeededIsWanted};
 ghost use Rattle.catalog.specs.Laws.{ExactlyOneLeaf, SomeLeaf, OneRebuilt};
 ghost use Rattle.catalog.specs.Cells.{CellsAreFixed, CellsDecide};
 ghost use Rattle.catalog.specs.Item.{ItemIsValid, ItemFragments};
@@ -16,6 +17,22 @@ pub fn exactly_one_leaf()
 /// Of every row that fits the conditions of some leaf hold.
 pub fn some_leaf()
     ensures { SomeLeaf }
+{}
+
+/// Of every row that fits the conditions of some wanted leaf hold, whatever columns are needed; and so
+/// below any conditions that hold of the row.
+pub fn some_leaf_serves()
+    ensures whole { SomeServes }
+    ensures below { SomeServesBelow }
+{}
+
+/// Exactly one wanted leaf whose conditions hold has a needed column; and so within any columns, where
+/// each leaf that has it is wanted.
+pub fn one_leaf_serves()
+    ensures whole { OneServes }
+    ensures below { OneServesBelow }
+    ensures any { OneLeafBelow }
+    ensures wanted { NeededIsWanted }
 {}
 
 /// At most one relation is rebuilt from the contents of the leaves of a valid tree.
