@@ -14,7 +14,7 @@ use Rattle.catalog.specs.Counts.{how_many, has}
 use Rattle.catalog.specs.Cover.{leads, covers, serves, SomeServes, OneServes, SomeServesBelow, OneServesBelow, NeededIsWanted}
 use Rattle.catalog.specs.Path.{through, branch_conds, group_columns, columns_beside_key, path_conds, path_columns, paths, paths_by_rows, paths_by_cols, touches, some_touches, is_wanted, wanted}
 use Rattle.catalog.specs.Split.{Tree, Site, ByRows, ByCols, Branches, NoBranch, Branch, Groups, NoGroup, Group}
-use Rattle.catalog.specs.Valid.{IsValid, IsValidWithin, AreValidBranches, AreValidGroups}
+use Rattle.catalog.specs.Valid.{IsValidWithin, AreValidBranches, AreValidGroups}
 use Rattle.catalog.proofs.Columns.{has-beside_key}
 use Rattle.catalog.proofs.Counts.{any-from_one}
 use Rattle.catalog.proofs.Exactly.{exactly, hold-append, hold_both}

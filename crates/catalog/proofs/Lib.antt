@@ -38,3 +38,5 @@ pub mod CatalogueTexts
 pub mod NumberedLeaves
 pub mod FormedTrees
 pub mod FormedCatalogues
+pub mod LeafNames
+pub mod LookUps

@@ -1,7 +1,6 @@
 -- The paths of a split are those of each branch, or of each group, in turn.
-use Rattle.std.proofs.Common.{◌≡◌, ◌<◌, ◌+◌, ℕ, zero, suc, List, [], ◌∷◌, ◌++◌, map, flat_map, take, drop, get_or, length, refl, sym, ap, ap₂, ◌∙◌, arith, drop-cons, add-one}
+use Rattle.std.proofs.Common.{◌≡◌, ◌<◌, ◌+◌, ℕ, zero, suc, List, [], ◌∷◌, ◌++◌, map, flat_map, take, drop, get_or, length, refl, sym, ap, ap₂, ◌∙◌, arith, drop-cons}
 use Rattle.std.proofs.lemmas.List.{append_assoc, map-append, take_more, length-map}
-use Rattle.terms.specs.declared.cond.Cond.{Cond}
 use Rattle.catalog.specs.declared.path.Path.{Path}
 use Rattle.catalog.specs.declared.path.Step.{Step}
 use Rattle.catalog.specs.declared.path.Step.TheVariants.{Row, Col}

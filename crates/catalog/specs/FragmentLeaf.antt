@@ -1,5 +1,5 @@
 -- The leaves of a catalogue, each with its name: the relation's, and the leaf's number in the order of the document.
-use Rattle.std.specs.Prelude.{ℕ, suc, ◌==◌, ◌&&◌, Bool, List, [], ◌∷◌, Option, find, flat_map, map, nat_eq}
+use Rattle.std.specs.Prelude.{ℕ, suc, ◌==◌, ◌&&◌, Bool, List, [], ◌∷◌, Option, Some, None, filter, find, flat_map, length, map, nat_eq}
 use Rattle.std.specs.Cmp.Lexicographic.{pointwise}
 use Rattle.terms.specs.declared.leaf.Leaf.{Leaf}
 use Rattle.meaning.specs.declared.schema.RelationSchema.{RelationSchema}
@@ -35,6 +35,23 @@ is_name_of name leaf = pointwise nat_eq leaf.name.relation name.relation && (lea
 -- the leaf of this name, if it is among these
 abbrev pub leaf_named : Leaf → List FragmentLeaf → Option FragmentLeaf
 leaf_named name leaves = find (is_name_of name) leaves
+
+-- the relation of this name, if it is among these
+abbrev pub relation_named : List ℕ → List SplitRelation → Option SplitRelation
+relation_named name relations = find (λ relation. pointwise nat_eq relation.schema.name name) relations
+
+-- the leaves of a relation, if there is one
+abbrev pub leaves_in : Option SplitRelation → List FragmentLeaf
+leaves_in None = []
+leaves_in (Some relation) = leaves_of relation
+
+-- how many leaves each relation has
+abbrev pub leaf_counts : List SplitRelation → List ℕ
+leaf_counts relations = map (λ relation. length (paths relation.tree)) relations
+
+-- the names of the leaves at a site
+abbrev pub names_at : ℕ → List FragmentLeaf → List Leaf
+names_at site leaves = map (λ leaf. leaf.name) (filter (λ leaf. leaf.site == site) leaves)
 
 -- a leaf without its name and site
 abbrev pub unnamed : FragmentLeaf → Fragment

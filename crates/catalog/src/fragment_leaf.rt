@@ -2,7 +2,7 @@
 
 ghost use Rattle.std.specs.Prelude.{◌≡◌, ◌++◌, map, flat_map, IfOk, OnOk};
 ghost use Rattle.std.specs.Option.{option_copied};
-ghost use Rattle.catalog.specs.FragmentLeaf.{leaf_named, leaf_of, leaves_from, leaves_of};
+ghost use Rattle.catalog.specs.FragmentLeaf.{leaf_counts, leaf_named, leaf_of, leaves_from, leaves_in, leaves_of, names_at, relation_named};
 ghost use Rattle.catalog.specs.Relation.{relation_of};
 
 use crate::path::{Path, Step, path_columns, path_conds};
@@ -51,6 +51,21 @@ pub(crate) fn all_leaves(
         put_leaves(&mut leaves, relation)?;
     }
     Ok(leaves)
+}
+
+/// How many leaves each relation has.
+pub(crate) fn leaf_counts(
+    alloc: Global,
+    relations: &[SplitRelation],
+) -> Result<Vec<usize>, Memory>
+    ensures { IfOk result (λ counts. counts.items ≡ leaf_counts (map relation_of relations.now)) }
+{
+    let mut counts = Vec::new(alloc);
+    for relation in relations {
+        let paths = tree_paths(alloc, &relation.split)?;
+        counts.push(paths.len())?;
+    }
+    Ok(counts)
 }
 
 /// Puts the leaves of a relation behind others.
@@ -113,4 +128,42 @@ pub(crate) fn find_leaf<'a>(leaves: &'a [FragmentLeaf], name: &Leaf) -> Option<&
     ensures { option_copied result ≡ leaf_named name.now leaves.now }
 {
     leaves.iter().find(|leaf| leaf.name == *name)
+}
+
+/// The leaves of the relation of this name among those of relations with so many leaves each.
+pub(crate) fn leaves_among<'a>(
+    relations: &[SplitRelation],
+    counts: &[usize],
+    leaves: &'a [FragmentLeaf],
+    name: &str,
+) -> &'a [FragmentLeaf]
+    requires counted { counts.now ≡ leaf_counts (map relation_of relations.now) }
+    requires listed { leaves.now ≡ flat_map leaves_of (map relation_of relations.now) }
+    ensures { result.now ≡ leaves_in (relation_named name.now (map relation_of relations.now)) }
+{
+    let Some((first, relations)) = relations.split_first() else {
+        return &[];
+    };
+    let (own, others) = leaves.split_at(counts[0]);
+    if first.schema.name.as_str() == name {
+        return own;
+    }
+    leaves_among(relations, &counts[1..], others, name)
+}
+
+/// The names of the leaves at a site.
+pub(crate) fn names_at(
+    alloc: Global,
+    leaves: &[FragmentLeaf],
+    site: usize,
+) -> Result<Vec<Leaf>, Memory>
+    ensures { IfOk result (λ names. names.items ≡ names_at site leaves.now) }
+{
+    let mut names = Vec::new(alloc);
+    for leaf in leaves {
+        if leaf.site == site {
+            names.push(leaf.name.copy()?)?;
+        }
+    }
+    Ok(names)
 }

@@ -1,6 +1,6 @@
-use Rattle.std.proofs.Common.{◌≡◌, List, ◌++◌, map, ap, ap₂, ◌∙◌}
+use Rattle.std.proofs.Common.{List, ◌++◌, ap₂, ◌∙◌}
 use Rattle.catalog.specs.declared.path.Path.{Path}
-use Rattle.catalog.specs.Path.{behind, paths}
+use Rattle.catalog.specs.Path.{paths}
 use Rattle.catalog.specs.Split.{tree_of}
 use Rattle.catalog.proofs.TreePaths.{behind_none}
 use Rattle.catalog.proofs.tree_paths.tree_paths.Goals as goal
