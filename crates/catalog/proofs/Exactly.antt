@@ -7,17 +7,12 @@ use Rattle.terms.specs.Cond.{conds_hold, cond_holds}
 use Rattle.terms.specs.Row.{FitsKinds}
 use Rattle.catalog.specs.Counts.{how_many, has}
 use Rattle.catalog.specs.Split.{Tree, Site, ByRows, ByCols, Branches, NoBranch, Branch, Groups, NoGroup, Group}
-use Rattle.catalog.specs.Path.{Step, Row, Col, branch_conds, group_columns, paths, paths_by_rows, paths_by_cols, path_conds, path_columns}
+use Rattle.catalog.specs.declared.path.Path.{Path}
+use Rattle.catalog.specs.declared.path.Step.TheVariants.{Row, Col}
+use Rattle.catalog.specs.Path.{through, branch_conds, group_columns, paths, paths_by_rows, paths_by_cols, path_conds, path_columns}
 use Rattle.catalog.specs.Valid.{IsValidWithin, AreValidBranches, AreValidGroups}
+use Rattle.catalog.specs.Cover.{leads, covers}
 use Rattle.catalog.proofs.Counts.{how_many-append, how_many-map}
-
--- whether the conditions on a way hold of a row
-abbrev pub leads : List Value → List Step → Bool
-leads row path = conds_hold (path_conds path) row
-
--- whether a way's leaf has the row in the column
-abbrev pub covers : List Value → ℕ → List ℕ → List Step → Bool
-covers row col columns path = leads row path && has (path_columns columns path) col
 
 pub hold-append : (conds more : List Cond) (row : List Value) → conds_hold (conds ++ more) row ≡ (conds_hold conds row && conds_hold more row)
 hold-append conds more row = list_all-append (λ cond. cond_holds cond row) conds more
@@ -27,13 +22,13 @@ pub hold_both : (way conds : List Cond) (row : List Value) → conds_hold way ro
 hold_both way conds row one other = hold-append way conds row ∙ ap₂ (λ a b. a && b) one other
 
 -- of the ways below a branch, those count that count there, where the branch's conditions hold
-counted_below : (conds : List Cond) (row : List Value) (col : ℕ) (columns : List ℕ) (below : List (List Step)) →
-    how_many (covers row col columns) (map (λ path. Row conds ∷ path) below) ≡ cond (conds_hold conds row) (how_many (covers row col columns) below) 0
+counted_below : (conds : List Cond) (row : List Value) (col : ℕ) (columns : List ℕ) (below : List Path) →
+    how_many (covers row col columns) (map (through (Row conds)) below) ≡ cond (conds_hold conds row) (how_many (covers row col columns) below) 0
 counted_below conds row col columns [] = elim (conds_hold conds row) as (λ b. ◌≡◌ {A = ℕ} 0 (cond b 0 0)) [ true ↦ refl | false ↦ refl ]
 counted_below conds row col columns (path ∷ below) =
-    let split = hold-append conds (path_conds path) row in
+    let split = hold-append conds (path_conds path.steps) row in
     rw (split, counted_below conds row col columns below) (
-    elim (conds_hold conds row) as (λ b. cond ((b && leads row path) && has (path_columns columns path) col) (suc (cond b (how_many (covers row col columns) below) 0)) (cond b (how_many (covers row col columns) below) 0) ≡ cond b (how_many (covers row col columns) (path ∷ below)) 0) [
+    elim (conds_hold conds row) as (λ b. cond ((b && leads row path) && has (path_columns columns path.steps) col) (suc (cond b (how_many (covers row col columns) below) 0)) (cond b (how_many (covers row col columns) below) 0) ≡ cond b (how_many (covers row col columns) (path ∷ below)) 0) [
       | true ↦ refl
       | false ↦ refl
     ])
@@ -65,7 +60,7 @@ mutual
       how_many (covers row col columns) (paths_by_rows branches) ≡ cond (has columns col) (how_many (λ conds. conds_hold conds row) (branch_conds branches)) 0
   exactly_by_rows kinds way columns NoBranch row col valid fits holds = elim (has columns col) as (λ b. ◌≡◌ {A = ℕ} 0 (cond b 0 0)) [ true ↦ refl | false ↦ refl ]
   exactly_by_rows kinds way columns (Branch conds tree rest) row col valid fits holds =
-      how_many-append (covers row col columns) (map (λ path. Row conds ∷ path) (paths tree)) (paths_by_rows rest)
+      how_many-append (covers row col columns) (map (through (Row conds)) (paths tree)) (paths_by_rows rest)
       ∙ ap₂ (λ m n. m + n) (counted_below conds row col columns (paths tree)) (exactly_by_rows kinds way columns rest row col valid.1 fits holds)
       ∙ one_branch (conds_hold conds row) (has columns col) (how_many (covers row col columns) (paths tree)) (how_many (λ own. conds_hold own row) (branch_conds rest))
       (λ here. exactly kinds (way ++ conds) columns tree row col valid.0 fits (hold_both way conds row holds here))
@@ -75,6 +70,6 @@ mutual
       how_many (covers row col columns) (paths_by_cols before groups) ≡ how_many (λ group. has group col) (group_columns groups)
   exactly_by_cols kinds way columns before NoGroup row col valid fits holds = refl
   exactly_by_cols kinds way columns before (Group group tree rest) row col valid fits holds =
-      how_many-append (covers row col columns) (map (λ path. Col group before (group_columns rest) ∷ path) (paths tree)) (paths_by_cols (before ++ group ∷ []) rest)
-      ∙ ap₂ (λ m n. m + n) (how_many-map (covers row col columns) (λ path. Col group before (group_columns rest) ∷ path) (paths tree)) (exactly_by_cols kinds way columns (before ++ group ∷ []) rest row col valid.1 fits holds)
+      how_many-append (covers row col columns) (map (through (Col group before (group_columns rest))) (paths tree)) (paths_by_cols (before ++ group ∷ []) rest)
+      ∙ ap₂ (λ m n. m + n) (how_many-map (covers row col columns) (through (Col group before (group_columns rest))) (paths tree)) (exactly_by_cols kinds way columns (before ++ group ∷ []) rest row col valid.1 fits holds)
       ∙ one_group (has group col) (how_many (covers row col group) (paths tree)) (how_many (λ other. has other col) (group_columns rest)) (exactly kinds way group tree row col valid.0 fits holds)

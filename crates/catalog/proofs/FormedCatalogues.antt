@@ -22,11 +22,10 @@ use Rattle.catalog.specs.Describes.{Each, Frame}
 use Rattle.catalog.specs.Formed.{IsFormed, IsFormedRelation, IsLeafOver, names_in}
 use Rattle.catalog.specs.declared.fragment_leaf.FragmentLeaf.{FragmentLeaf}
 use Rattle.catalog.specs.FragmentLeaf.{leaves_of, catalogue_leaves, schemas_of}
-use Rattle.catalog.specs.Leaves.{site_numbers}
-use Rattle.catalog.specs.Path.{columns_beside_key, fragments, leaf_at, paths}
+use Rattle.catalog.specs.Path.{columns_beside_key, paths}
 use Rattle.catalog.proofs.Entries.{Entry}
-use Rattle.catalog.proofs.FormedColumns.{key_below, leaf_columns}
-use Rattle.catalog.proofs.FormedTrees.{all_both, conds_fit, leaves_few, leaves_fit, sites_there}
+use Rattle.catalog.proofs.FormedTrees.{all_both, beside_key, key_below, leaves_over, paths_over}
+use Rattle.catalog.proofs.NumberedLeaves.{leaves_length}
 
 -- there is a column where there is a key
 filled : (columns : List Column) → slice_get (map (λ column. column.kind) columns) 0 ≡ Some kinds.Int → columns ≢ []
@@ -45,8 +44,8 @@ relation_formed law sites entry relation is valid =
     let kinds = kinds_of relation.schema in
     let frame : Frame = record { sites = sites; columns = relation.schema.columns } in
     let columns = columns_beside_key kinds in
-    let few = leaves_few relation.schema.name 1 (fragments kinds relation.tree) (site_numbers relation.tree) in
-    let same = length-map (paths relation.tree) (leaf_at columns) in record {
+    let same = leaves_length relation.schema.name columns 1 (paths relation.tree) in
+    let types = length-map relation.schema.columns (λ (column : Column). column.kind) in record {
       named = record {
         name = subst IsName (sym is.named) is.name;
         filled = filled relation.schema.columns is.key;
@@ -55,11 +54,9 @@ relation_formed law sites entry relation is valid =
       };
       few = is.few;
       key = is.key;
-      leaves = leaves_fit sites kinds relation.schema.name 1 columns (paths relation.tree) (site_numbers relation.tree) (key_below kinds is.key)
-          (sites_there frame 4 [] columns (codes "columns") entry.1 relation.tree is.describes)
-          (conds_fit law frame 4 [] columns (codes "columns") entry.1 relation.tree is.describes)
-          (leaf_columns kinds relation.tree valid);
-      few_leaves = omega (arith, few, same, is.few_leaves);
+      leaves = leaves_over frame relation.schema.name 1 columns (paths relation.tree) (key_below kinds is.key) (omega (arith, types, is.few))
+          (paths_over law frame 4 [] columns (codes "columns") entry.1 relation.tree is.describes (beside_key kinds));
+      few_leaves = omega (arith, same, is.few_leaves);
     }
 
 relations_formed : CondsOfTextFit → (sites : List (List ℕ)) (said : List (List ℕ × Data)) (relations : List SplitRelation) → Each (IsRelationIn sites) said relations →

@@ -13,12 +13,14 @@ use Rattle.meaning.specs.Relation.{IsRelation}
 use Rattle.catalog.specs.Counts.{how_many, has}
 use Rattle.catalog.specs.Fragment.{Fragment, part, content, Rebuilds}
 use Rattle.catalog.specs.Split.{Tree}
-use Rattle.catalog.specs.Path.{Step, paths, path_conds, path_columns, columns_beside_key, leaf_at}
+use Rattle.catalog.specs.declared.path.Path.{Path}
+use Rattle.catalog.specs.Path.{paths, path_conds, path_columns, columns_beside_key, leaf_at}
 use Rattle.catalog.specs.Valid.{IsValid}
 use Rattle.catalog.specs.Keyed.{row_at}
 use Rattle.catalog.specs.Laws.{ExactlyOneLeaf, SomeLeaf, OneRebuilt}
 use Rattle.catalog.proofs.Counts.{how_many-map, how_many-same, any-map, any-from_one, and_true, same_at_one}
-use Rattle.catalog.proofs.Exactly.{leads, covers, exactly}
+use Rattle.catalog.specs.Cover.{leads, covers}
+use Rattle.catalog.proofs.Exactly.{exactly}
 use Rattle.catalog.proofs.Somewhere.{somewhere}
 use Rattle.catalog.proofs.Keyed.{content-at, same_listing}
 use Rattle.catalog.proofs.Columns.{has-beside_key, filled, same_values, listed_agree}
@@ -32,8 +34,8 @@ pub exactly_one_leaf : ExactlyOneLeaf
 exactly_one_leaf kinds tree row zero valid fits other within = absurd (other refl)
 exactly_one_leaf kinds tree row (suc i) valid fits other within =
     how_many-map (λ leaf. conds_hold leaf.conds row && has leaf.columns (suc i)) (leaf_at (columns_beside_key kinds)) (paths tree)
-    ∙ how_many-same (λ path. conds_hold (path_conds path) row && has (0 ∷ path_columns (columns_beside_key kinds) path) (suc i)) (covers row (suc i) (columns_beside_key kinds)) (paths tree)
-    (λ path. ap (λ b. leads row path && (b || has (path_columns (columns_beside_key kinds) path) (suc i))) (eqb-zero-suc i))
+    ∙ how_many-same (λ path. conds_hold (path_conds path.steps) row && has (0 ∷ path_columns (columns_beside_key kinds) path.steps) (suc i)) (covers row (suc i) (columns_beside_key kinds)) (paths tree)
+    (λ path. ap (λ b. leads row path && (b || has (path_columns (columns_beside_key kinds) path.steps) (suc i))) (eqb-zero-suc i))
     ∙ one_way kinds tree row i valid fits within
 
 -- some way leads to a row that fits
@@ -44,7 +46,7 @@ pub some_leaf : SomeLeaf
 some_leaf kinds tree row valid fits = any-map (λ leaf. conds_hold leaf.conds row) (leaf_at (columns_beside_key kinds)) (paths tree) ∙ some_way kinds tree row valid fits
 
 -- the content of the leaf at the end of a way
-abbrev content_by : List ℕ → List (List Value) → List Step → List (List Value)
+abbrev content_by : List ℕ → List (List Value) → Path → List (List Value)
 content_by columns rows path = content (leaf_at columns path) rows
 
 map-map : {A B C : Type 0} (f : B → C) (g : A → B) (xs : List A) → map f (map g xs) ≡ map (λ x. f (g x)) xs
@@ -52,16 +54,16 @@ map-map f g [] = refl
 map-map f g (x ∷ xs) = ap (λ ys. f (g x) ∷ ys) (map-map f g xs)
 
 -- relations rebuilt from the same contents have the same content at the end of each way
-same_contents : (columns : List ℕ) (ways : List (List Step)) (contents : List (List (List Value))) (one other : List (List Value)) → Rebuilds (map (leaf_at columns) ways) contents one → Rebuilds (map (leaf_at columns) ways) contents other →
+same_contents : (columns : List ℕ) (ways : List Path) (contents : List (List (List Value))) (one other : List (List Value)) → Rebuilds (map (leaf_at columns) ways) contents one → Rebuilds (map (leaf_at columns) ways) contents other →
     map (content_by columns one) ways ≡ map (content_by columns other) ways
 same_contents columns ways contents one other first second =
     sym (map-map (λ leaf. content leaf one) (leaf_at columns) ways) ∙ sym first ∙ second ∙ map-map (λ leaf. content leaf other) (leaf_at columns) ways
 
 -- equal contents of a leaf have the same parts at each key
-same_parts : (columns : List ℕ) (path : List Step) (key : ℤ) (one other : List (List Value)) {kinds : List Kind} → IsRelation kinds one → IsRelation kinds other → content_by columns one path ≡ content_by columns other path →
+same_parts : (columns : List ℕ) (path : Path) (key : ℤ) (one other : List (List Value)) {kinds : List Kind} → IsRelation kinds one → IsRelation kinds other → content_by columns one path ≡ content_by columns other path →
     option_and_then (part (leaf_at columns path)) (row_at key one) ≡ option_and_then (part (leaf_at columns path)) (row_at key other)
 same_parts columns path key one other is is_other same =
-    sym (content-at (path_conds path) (path_columns columns path) key one is.ascends) ∙ ap (row_at key) same ∙ content-at (path_conds path) (path_columns columns path) key other is_other.ascends
+    sym (content-at (path_conds path.steps) (path_columns columns path.steps) key one is.ascends) ∙ ap (row_at key) same ∙ content-at (path_conds path.steps) (path_columns columns path.steps) key other is_other.ascends
 
 -- what is at a key fits
 fits_at : (kinds : List Kind) (key : ℤ) (rows : List (List Value)) (row : List Value) → AllByRecursion (FitsKinds kinds) rows → row_at key rows ≡ Some row → FitsKinds kinds row
@@ -99,8 +101,8 @@ turned : {kinds : List Kind} {tree : Tree} {one other : List (List Value)} → A
 turned are = record { valid = are.valid; first = are.second; second = are.first; same = sym are.same }
 
 -- a way that passes a test is there, with the same content by both
-same_way : (kinds : List Kind) (tree : Tree) (one other : List (List Value)) (passes : List Step → Bool) → AreRebuilt kinds tree one other → list_any passes (paths tree) ≡ true →
-    (path : List Step) × (passes path ≡ true) × (content_by (columns_beside_key kinds) one path ≡ content_by (columns_beside_key kinds) other path)
+same_way : (kinds : List Kind) (tree : Tree) (one other : List (List Value)) (passes : Path → Bool) → AreRebuilt kinds tree one other → list_any passes (paths tree) ≡ true →
+    (path : Path) × (passes path ≡ true) × (content_by (columns_beside_key kinds) one path ≡ content_by (columns_beside_key kinds) other path)
 same_way kinds tree one other passes are some = same_at_one passes (content_by (columns_beside_key kinds) one) (content_by (columns_beside_key kinds) other) (paths tree) are.same some
 
 -- where one has a row at a key, the other has one too
@@ -112,9 +114,9 @@ there_too kinds tree key one other row are there =
     part_there (leaf_at columns way.0) row (row_at key other) way.1 (ap (option_and_then (part (leaf_at columns way.0))) (sym there) ∙ parts)
 
 -- where both have a row at a key, the rows have the same in the columns of a leaf whose conditions hold of the first
-same_in_leaf : (kinds : List Kind) (key : ℤ) (one other : List (List Value)) (row found : List Value) (path : List Step) (col : ℕ) → IsRelation kinds one → IsRelation kinds other →
+same_in_leaf : (kinds : List Kind) (key : ℤ) (one other : List (List Value)) (row found : List Value) (path : Path) (col : ℕ) → IsRelation kinds one → IsRelation kinds other →
     content_by (columns_beside_key kinds) one path ≡ content_by (columns_beside_key kinds) other path → row_at key one ≡ Some row → row_at key other ≡ Some found →
-    leads row path ≡ true → has (0 ∷ path_columns (columns_beside_key kinds) path) col ≡ true → slice_get row col ≡ slice_get found col
+    leads row path ≡ true → has (0 ∷ path_columns (columns_beside_key kinds) path.steps) col ≡ true → slice_get row col ≡ slice_get found col
 same_in_leaf kinds key one other row found path col first second same there there_other led within =
     let leaf = leaf_at (columns_beside_key kinds) path in
     let parts = same_parts (columns_beside_key kinds) path key one other first second same in
@@ -144,7 +146,7 @@ same_in kinds tree key one other row found are there there_other (suc i) =
       | Some kind ↦ λ some.
           let one_way = one_way kinds tree row i are.valid fits (slice_get_within kinds (suc i) kind some) in
           let way = same_way kinds tree one other (covers row (suc i) columns) are (any-from_one (covers row (suc i) columns) (paths tree) one_way) in
-          let both = and_true (leads row way.0) (has (path_columns columns way.0) (suc i)) way.1 in
+          let both = and_true (leads row way.0) (has (path_columns columns way.0.steps) (suc i)) way.1 in
           same_in_leaf kinds key one other row found way.0 (suc i) are.first are.second way.2 there there_other both.0 (ap (λ b. (0 == suc i) || b) both.1 ∙ or-true (0 == suc i))
     ] refl
 

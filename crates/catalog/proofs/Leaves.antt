@@ -6,20 +6,21 @@ use Rattle.toml.specs.Data.{Data}
 use Rattle.terms.specs.declared.cond.Cond.{Cond}
 use Rattle.catalog.specs.Describes.{Frame, Describes, AreBranches, AreGroups}
 use Rattle.catalog.specs.Node.{Form, AtSite, SplitByRows, SplitByCols, form_of}
-use Rattle.catalog.specs.Path.{Step, Row, Col, group_columns, paths, paths_by_rows, paths_by_cols}
+use Rattle.catalog.specs.declared.path.Step.TheVariants.{Row, Col}
+use Rattle.catalog.specs.Path.{through, group_columns, paths, paths_by_rows, paths_by_cols}
 use Rattle.catalog.specs.Split.{Tree, Site, ByRows, ByCols, Branches, NoBranch, Branch, Groups, NoGroup, Group, TreeBranch, TreeGroup, branches_of, groups_of}
 
 -- the leaves of the first branch, and of those behind it
 pub rows_first : (conds : List Cond) (tree : Tree) (rest : Branches) → length (paths_by_rows (Branch conds tree rest)) ≡ length (paths tree) + length (paths_by_rows rest)
 rows_first conds tree rest =
-    length-append (map (λ (path : List Step). Row conds ∷ path) (paths tree)) (paths_by_rows rest)
-    ∙ ap (λ (n : ℕ). n + length (paths_by_rows rest)) (length-map (paths tree) (λ (path : List Step). Row conds ∷ path))
+    length-append (map (through (Row conds)) (paths tree)) (paths_by_rows rest)
+    ∙ ap (λ (n : ℕ). n + length (paths_by_rows rest)) (length-map (paths tree) (through (Row conds)))
 
 pub cols_first : (before : List (List ℕ)) (columns : List ℕ) (tree : Tree) (rest : Groups) →
     length (paths_by_cols before (Group columns tree rest)) ≡ length (paths tree) + length (paths_by_cols (before ++ columns ∷ []) rest)
 cols_first before columns tree rest =
-    length-append (map (λ (path : List Step). Col columns before (group_columns rest) ∷ path) (paths tree)) (paths_by_cols (before ++ columns ∷ []) rest)
-    ∙ ap (λ (n : ℕ). n + length (paths_by_cols (before ++ columns ∷ []) rest)) (length-map (paths tree) (λ (path : List Step). Col columns before (group_columns rest) ∷ path))
+    length-append (map (through (Col columns before (group_columns rest))) (paths tree)) (paths_by_cols (before ++ columns ∷ []) rest)
+    ∙ ap (λ (n : ℕ). n + length (paths_by_cols (before ++ columns ∷ []) rest)) (length-map (paths tree) (through (Col columns before (group_columns rest))))
 
 -- the leaves of one branch more, and of one group more
 pub rows_last : (branches : List TreeBranch) (last : TreeBranch) →

@@ -2,6 +2,7 @@ pub mod Trees
 pub mod Counts
 pub mod Exactly
 pub mod Somewhere
+pub mod Cover
 pub mod Keyed
 pub mod Columns
 pub mod Fragments
@@ -17,7 +18,7 @@ pub mod Standing
 pub mod Refusals
 pub mod Children
 pub mod Leaves
-pub mod LeafWays
+pub mod TreePaths
 pub mod Below
 pub mod CellCount
 pub mod OneList
@@ -34,7 +35,8 @@ pub mod RelationTexts
 pub mod DocumentParts
 pub mod Entries
 pub mod CatalogueTexts
-pub mod NamedLeaves
+pub mod NumberedLeaves
 pub mod FormedTrees
-pub mod FormedColumns
 pub mod FormedCatalogues
+pub mod LeafNames
+pub mod LookUps

@@ -12,13 +12,17 @@ use Rattle.meaning.specs.Schema.{kinds_of}
 use Rattle.reader.specs.Printable.{AreDistinct, IsNamed}
 use Rattle.catalog.specs.declared.fragment_leaf.FragmentLeaf.{FragmentLeaf}
 use Rattle.catalog.specs.Catalogue.{SplitRelation, Catalogue, IsSiteName, IsValidCatalogue}
-use Rattle.catalog.specs.FragmentLeaf.{leaves_of, catalogue_leaves, schemas_of}
+use Rattle.catalog.specs.FragmentLeaf.{leaves_of, catalogue_leaves, leaf_counts, schemas_of}
 
--- a leaf is at one of the sites, and its conditions and columns are on columns of these types
+-- a leaf is at one of the sites; its conditions and columns are on columns of these types; its columns ascend and begin
+-- with the key, and are at most 16
 pub record IsLeafOver (sites : List (List ℕ)) (kinds : List Kind) (leaf : FragmentLeaf) : Type 0 where
   pub site : leaf.site < length sites
   pub conds : AllByRecursion (IsCondOf kinds) leaf.conds
   pub columns : AllByRecursion (λ col. col < length kinds) leaf.columns
+  pub first : slice_get leaf.columns 0 ≡ Some 0
+  pub ascending : IsStrictlySortedBy nat_cmp leaf.columns
+  pub few : length leaf.columns ≤ 16
 
 -- a relation with names for itself and its columns, an integer as its key, and at most 16 columns and 32 leaves
 pub record IsFormedRelation (sites : List (List ℕ)) (relation : SplitRelation) : Type 0 where
@@ -42,9 +46,10 @@ pub record IsFormed (catalogue : Catalogue) : Type 0 where
   pub ascending : IsStrictlySortedBy (slice_cmp nat_cmp) (names_in catalogue.relations)
   pub relations : AllByRecursion (IsFormedRelation catalogue.sites) catalogue.relations
 
--- what the code keeps of a catalogue: it is valid and formed so, and schema and leaves are its own
-pub record IsCatalog (catalogue : Catalogue) (schema : Schema) (leaves : List FragmentLeaf) : Type 0 where
+-- what the code keeps of a catalogue: it is valid and formed so, and schema, leaves and their numbers are its own
+pub record IsCatalog (catalogue : Catalogue) (schema : Schema) (leaves : List FragmentLeaf) (counts : List ℕ) : Type 0 where
   pub valid : IsValidCatalogue catalogue
   pub formed : IsFormed catalogue
   pub schemas : schema.relations ≡ schemas_of catalogue
   pub listed : leaves ≡ catalogue_leaves catalogue
+  pub counted : counts ≡ leaf_counts catalogue.relations

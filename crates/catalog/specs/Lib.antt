@@ -2,7 +2,6 @@ pub mod Fragment
 pub mod Split
 pub mod Counts
 pub mod Path
-pub mod Leaves
 pub mod Valid
 pub mod Cells
 pub mod Fault
@@ -23,6 +22,7 @@ pub mod Columns
 pub mod Exactness
 pub mod Parts
 pub mod Keyed
+pub mod Cover
 pub mod Laws
 pub mod Item
 pub mod Emp

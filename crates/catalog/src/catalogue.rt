@@ -8,19 +8,22 @@ ghost use Rattle.toml.specs.View.{view, table_view};
 ghost use Rattle.reader.specs.Printable.{AreNamed};
 ghost use Rattle.catalog.specs.Catalogue as spec;
 ghost use Rattle.catalog.specs.Catalogue.{IsRelationIn, IsDocumentOf, IsCatalogueText, IsValidRelation, IsValidCatalogue, entries};
-ghost use Rattle.catalog.specs.Describes.{Each};
+ghost use Rattle.catalog.specs.Describes.{Each, site_numbered};
 ghost use Rattle.catalog.specs.Relation.{relation_of, catalogue_of};
 ghost use Rattle.catalog.specs.Formed.{IsFormed};
 ghost use Rattle.catalog.specs.Fragment.{part};
-ghost use Rattle.catalog.specs.FragmentLeaf.{catalogue_leaves, leaf_named, schemas_of, unnamed};
+ghost use Rattle.catalog.specs.FragmentLeaf.{catalogue_leaves, leaf_named, leaves_in, names_at, relation_named, schemas_of, unnamed};
+ghost use Rattle.std.specs.Option.{option_copied};
 ghost use Rattle.catalog.specs.Document.{parts_of, RefusesDocument, RefusesRelations, RefusesRoot, RefusesText, IsShown, are_tables};
 
 use crate::fault::{CatFault, Rule};
 use crate::form::some_texts;
 use crate::fragment::place;
-use crate::fragment_leaf::{FragmentLeaf, all_leaves, find_leaf};
-use crate::relation::{SplitRelation, copy_relations, relation, schema_of};
-use crate::sites::sites;
+use crate::fragment_leaf::{
+    FragmentLeaf, all_leaves, find_leaf, leaf_counts, leaves_among, names_at,
+};
+use crate::relation::{SplitRelation, copy_relations, find_relation, relation, schema_of};
+use crate::sites::{site_numbered, sites};
 use meaning::schema::Schema;
 use reader::read_conds::conds_of_a_text_fit;
 use std::alloc::Global;
@@ -47,6 +50,8 @@ pub struct Catalog {
     relations: Vec<SplitRelation>,
     schema: Schema,
     leaves: Vec<FragmentLeaf>,
+    /// How many leaves each relation has.
+    counts: Vec<usize>,
 }
 
 impl Model for Catalog {
@@ -63,7 +68,7 @@ impl Model for Catalog {
 
     ghost view = { λ c. (c.sites.items, c.relations.items) };
 
-    ghost invariant = { λ c. IsCatalog (catalogue_of (c.sites.items, c.relations.items)) c.schema c.leaves.items };
+    ghost invariant = { λ c. IsCatalog (catalogue_of (c.sites.items, c.relations.items)) c.schema c.leaves.items c.counts.items };
 }
 
 impl Catalog {
@@ -120,6 +125,46 @@ impl Catalog {
         self.leaves.as_slice()
     }
 
+    /// The relation of this name, if there is one.
+    pub fn relation(&self, name: &str) -> Option<&SplitRelation>
+        ensures { option_map relation_of (option_copied result) ≡ relation_named name.now (catalogue_of self.now).relations }
+    {
+        find_relation(self.relations.as_slice(), name)
+    }
+
+    /// The leaves of the relation of this name, numbered from 1; none where there is no such relation.
+    pub fn leaves_of(&self, name: &str) -> &[FragmentLeaf]
+        ensures { result.now ≡ leaves_in (relation_named name.now (catalogue_of self.now).relations) }
+    {
+        leaves_among(
+            self.relations.as_slice(),
+            self.counts.as_slice(),
+            self.leaves.as_slice(),
+            name,
+        )
+    }
+
+    /// The leaf of this name, if there is one.
+    pub fn leaf(&self, name: &Leaf) -> Option<&FragmentLeaf>
+        ensures { option_copied result ≡ leaf_named name.now (catalogue_leaves (catalogue_of self.now)) }
+    {
+        find_leaf(self.leaves.as_slice(), name)
+    }
+
+    /// The names of the leaves at the site of this number, relation by relation.
+    pub fn leaves_at(&self, site: usize) -> Result<Vec<Leaf>, Memory>
+        ensures { IfOk result (λ names. names.items ≡ names_at site (catalogue_leaves (catalogue_of self.now))) }
+    {
+        names_at(*self.leaves.allocator(), self.leaves.as_slice(), site)
+    }
+
+    /// The number of the site of this name, from 0, if there is one.
+    pub fn site(&self, name: &str) -> Option<usize>
+        ensures { result ≡ site_numbered self.now.0 name.now }
+    {
+        site_numbered(self.sites.as_slice(), name)
+    }
+
     /// The row's part in the content of the leaf of this name, or none where the leaf's conditions
     /// don't hold of it. A leaf that is not there has no part.
     pub fn place(&self, row: &Row, leaf: &Leaf) -> Result<Option<Row>, Memory>
@@ -149,6 +194,7 @@ impl Catalog {
             relations: copy_relations(alloc, self.relations.as_slice())?,
             schema: self.schema.copy()?,
             leaves: copy_all(alloc, self.leaves.as_slice())?,
+            counts: copy_all(alloc, self.counts.as_slice())?,
         })
     }
 }
@@ -191,11 +237,13 @@ fn with_leaves(
 {
     let schema = schema_of(alloc, relations.as_slice())?;
     let leaves = all_leaves(alloc, relations.as_slice())?;
+    let counts = leaf_counts(alloc, relations.as_slice())?;
     Ok(Catalog {
         sites,
         relations,
         schema,
         leaves,
+        counts,
     })
 }
 
@@ -274,6 +322,3 @@ pub(crate) fn relations(
     }
     Ok(relations)
 }
-
-#[cfg(test)]
-mod tests;

@@ -114,6 +114,3 @@ fn require_relation(columns: &[Column]) -> Result<(), Rule>
         None => Err(Rule::Field),
     }
 }
-
-#[cfg(test)]
-mod tests;

@@ -238,6 +238,3 @@ fn row_of(alloc: Global, cell: &[&Value]) -> Result<Row, Memory>
     }
     Ok(Row::new(values))
 }
-
-#[cfg(test)]
-mod tests;

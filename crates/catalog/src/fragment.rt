@@ -25,6 +25,3 @@ pub fn place(
     let values = listed(alloc, columns, row.values())?;
     Ok(Some(Row::new(values)))
 }
-
-#[cfg(test)]
-mod tests;

@@ -2,12 +2,12 @@
 
 ghost use Rattle.std.specs.Prelude.{◌≡◌, ◌++◌, map, flat_map, IfOk, OnOk};
 ghost use Rattle.std.specs.Option.{option_copied};
-ghost use Rattle.catalog.specs.FragmentLeaf.{leaf_named, leaves_of, named_from};
-ghost use Rattle.catalog.specs.Leaves.{fragment_of, site_of};
+ghost use Rattle.catalog.specs.FragmentLeaf.{leaf_counts, leaf_named, leaf_of, leaves_from, leaves_in, leaves_of, names_at, relation_named};
 ghost use Rattle.catalog.specs.Relation.{relation_of};
 
-use crate::leaf_list::{ListedLeaf, listed_leaves};
+use crate::path::{Path, Step, path_columns, path_conds};
 use crate::relation::{SplitRelation, beside_key};
+use crate::tree_paths::tree_paths;
 use std::alloc::Global;
 use terms::cond::Conds;
 use terms::copy::TryCopy;
@@ -16,11 +16,12 @@ use terms::memory::Memory;
 use terms::seq::Seq;
 use terms::text::Text;
 
-/// A leaf of a relation's fragment tree: its name, the conditions on its path, its columns (the key
-/// first) and the number of its site, counted from 0.
+/// A leaf of a relation's fragment tree: its name, the steps of its path, the conditions on it, the
+/// leaf's columns (the key first) and the number of its site, counted from 0.
 #[derive(Debug, Drop)]
 pub struct FragmentLeaf {
     pub name: Leaf,
+    pub steps: Seq<Step>,
     pub conds: Conds,
     pub columns: Seq<usize>,
     pub site: usize,
@@ -30,6 +31,7 @@ impl TryCopy for FragmentLeaf {
     fn copy(&self) -> Result<FragmentLeaf, Memory> {
         Ok(FragmentLeaf {
             name: self.name.copy()?,
+            steps: self.steps.copy()?,
             conds: self.conds.copy()?,
             columns: self.columns.copy()?,
             site: self.site,
@@ -51,38 +53,74 @@ pub(crate) fn all_leaves(
     Ok(leaves)
 }
 
+/// How many leaves each relation has.
+pub(crate) fn leaf_counts(
+    alloc: Global,
+    relations: &[SplitRelation],
+) -> Result<Vec<usize>, Memory>
+    ensures { IfOk result (λ counts. counts.items ≡ leaf_counts (map relation_of relations.now)) }
+{
+    let mut counts = Vec::new(alloc);
+    for relation in relations {
+        let paths = tree_paths(alloc, &relation.split)?;
+        counts.push(paths.len())?;
+    }
+    Ok(counts)
+}
+
 /// Puts the leaves of a relation behind others.
 fn put_leaves(leaves: &mut Vec<FragmentLeaf>, relation: &SplitRelation) -> Result<(), Memory>
     ensures { OnOk result (leaves.new.items ≡ leaves.old.items ++ leaves_of (relation_of relation.now)) }
 {
     let alloc = *leaves.allocator();
     let columns = beside_key(alloc, relation.schema.columns.as_slice())?;
-    let listed = listed_leaves(alloc, columns.as_slice(), &relation.split)?;
-    put_named(leaves, &relation.schema.name, listed)
+    let paths = tree_paths(alloc, &relation.split)?;
+    put_numbered(leaves, &relation.schema.name, columns.as_slice(), paths)
 }
 
-/// Puts leaves behind others, numbered from 1 under this name.
-fn put_named(
+/// Puts the leaves at the ends of paths behind others, numbered from 1 under this name.
+fn put_numbered(
     leaves: &mut Vec<FragmentLeaf>,
     relation: &Text,
-    listed: Vec<ListedLeaf>,
+    columns: &[usize],
+    paths: Vec<Path>,
 ) -> Result<(), Memory>
-    ensures { OnOk result (leaves.new.items ≡ leaves.old.items ++ named_from relation.now 1 (map fragment_of listed.items) (map site_of listed.items)) }
+    ensures { OnOk result (leaves.new.items ≡ leaves.old.items ++ leaves_from relation.now columns.now 1 paths.items) }
 {
     let before = leaves.len();
-    for leaf in listed {
-        let name = Leaf {
-            relation: relation.copy()?,
-            number: leaves.len() - before + 1,
-        };
-        leaves.push(FragmentLeaf {
-            name,
-            conds: leaf.conds,
-            columns: leaf.columns,
-            site: leaf.site,
-        })?;
+    for path in paths {
+        let number = leaves.len() - before + 1;
+        let next = leaf(*leaves.allocator(), relation, columns, number, path)?;
+        leaves.push(next)?;
     }
     Ok(())
+}
+
+/// The leaf at the end of a path.
+fn leaf(
+    alloc: Global,
+    relation: &Text,
+    columns: &[usize],
+    number: usize,
+    path: Path,
+) -> Result<FragmentLeaf, Memory>
+    ensures { IfOk result (λ leaf. leaf ≡ leaf_of relation.now columns.now number path) }
+{
+    let name = Leaf {
+        relation: relation.copy()?,
+        number,
+    };
+    let conds = Conds::new(path_conds(alloc, path.steps.as_slice())?);
+    let mut all = Vec::new(alloc);
+    all.push(0)?;
+    all.extend_from_slice(path_columns(columns, path.steps.as_slice()))?;
+    Ok(FragmentLeaf {
+        name,
+        conds,
+        columns: Seq::new(all),
+        site: path.site,
+        steps: path.steps,
+    })
 }
 
 /// The leaf of this name, if it is among these.
@@ -90,4 +128,42 @@ pub(crate) fn find_leaf<'a>(leaves: &'a [FragmentLeaf], name: &Leaf) -> Option<&
     ensures { option_copied result ≡ leaf_named name.now leaves.now }
 {
     leaves.iter().find(|leaf| leaf.name == *name)
+}
+
+/// The leaves of the relation of this name among those of relations with so many leaves each.
+pub(crate) fn leaves_among<'a>(
+    relations: &[SplitRelation],
+    counts: &[usize],
+    leaves: &'a [FragmentLeaf],
+    name: &str,
+) -> &'a [FragmentLeaf]
+    requires counted { counts.now ≡ leaf_counts (map relation_of relations.now) }
+    requires listed { leaves.now ≡ flat_map leaves_of (map relation_of relations.now) }
+    ensures { result.now ≡ leaves_in (relation_named name.now (map relation_of relations.now)) }
+{
+    let Some((first, relations)) = relations.split_first() else {
+        return &[];
+    };
+    let (own, others) = leaves.split_at(counts[0]);
+    if first.schema.name.as_str() == name {
+        return own;
+    }
+    leaves_among(relations, &counts[1..], others, name)
+}
+
+/// The names of the leaves at a site.
+pub(crate) fn names_at(
+    alloc: Global,
+    leaves: &[FragmentLeaf],
+    site: usize,
+) -> Result<Vec<Leaf>, Memory>
+    ensures { IfOk result (λ names. names.items ≡ names_at site leaves.now) }
+{
+    let mut names = Vec::new(alloc);
+    for leaf in leaves {
+        if leaf.site == site {
+            names.push(leaf.name.copy()?)?;
+        }
+    }
+    Ok(names)
 }

@@ -6,6 +6,7 @@ ghost use Rattle.catalog.specs.Describes as spec;
 ghost use Rattle.catalog.specs.Describes.{kinds_in, visible, place_within, site_numbered, column_numbered, in_order};
 ghost use Rattle.catalog.specs.Frame.{frame_of};
 
+use crate::sites::site_numbered;
 use meaning::schema::Column;
 use std::alloc::Global;
 use terms::copy::TryCopy;
@@ -26,7 +27,7 @@ impl<'a> Frame<'a> {
     pub(crate) fn site(&self, name: &str) -> Option<usize>
         ensures { result ≡ site_numbered (frame_of self.now).sites name.now }
     {
-        self.sites.iter().position(|site| site.as_str() == name)
+        site_numbered(self.sites, name)
     }
 
     /// The place of the column of this name, if it is one of these.

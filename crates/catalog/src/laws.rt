@@ -1,6 +1,7 @@
 //! The laws of fragmentation, each as the contract of a function that does nothing.
 
-ghost use Rattle.catalog.specs.Laws.{ExactlyOneLeaf, SomeLeaf, OneRebuilt};
+ghost use Rattle.catalog.specs.Cover.{SomeServes, OneServes, SomeServesBelow, OneServesBelow, OneLeafBelow, NeededIsWanted};
+ghost use Rattle.catalog.specs.Laws.{ExactlyOneLeaf, SomeLeaf, OneRebuilt, LeafNamesAreUnique, ContentAt, SameListing};
 ghost use Rattle.catalog.specs.Cells.{CellsAreFixed, CellsDecide};
 ghost use Rattle.catalog.specs.Item.{ItemIsValid, ItemFragments};
 ghost use Rattle.catalog.specs.Emp.{EmpIsValid, EmpFragments};
@@ -18,9 +19,37 @@ pub fn some_leaf()
     ensures { SomeLeaf }
 {}
 
+/// Of every row that fits the conditions of some wanted leaf hold, whatever columns are needed; and so
+/// below any conditions that hold of the row.
+pub fn some_leaf_serves()
+    ensures whole { SomeServes }
+    ensures below { SomeServesBelow }
+{}
+
+/// Exactly one wanted leaf whose conditions hold has a needed column; and so within any columns, where
+/// each leaf that has it is wanted.
+pub fn one_leaf_serves()
+    ensures whole { OneServes }
+    ensures below { OneServesBelow }
+    ensures any { OneLeafBelow }
+    ensures wanted { NeededIsWanted }
+{}
+
 /// At most one relation is rebuilt from the contents of the leaves of a valid tree.
 pub fn one_rebuilt()
     ensures { OneRebuilt }
+{}
+
+/// Each leaf of a catalogue is the one that its name finds.
+pub fn leaf_names_are_unique()
+    ensures { LeafNamesAreUnique }
+{}
+
+/// Contents by their keys: a leaf's content has at each key the part of the relation's row, and rows
+/// with ascending keys that have the same at each key are the same.
+pub fn contents_by_key()
+    ensures content { ContentAt }
+    ensures same { SameListing }
 {}
 
 /// A row split fixes its cells and their order.

@@ -70,6 +70,3 @@ fn first_absent<'a>(others: &[usize], columns: &'a [usize]) -> Option<&'a usize>
 {
     columns.iter().find(|col| !others.contains(col))
 }
-
-#[cfg(test)]
-mod tests;

@@ -1,7 +1,9 @@
 //! A relation of a document: its columns and its fragment tree.
 
-ghost use Rattle.std.specs.Prelude.{◌≡◌, ◌≤◌, false, [], codes, length, map, IfOk, IfErr};
+ghost use Rattle.std.specs.Prelude.{◌≡◌, ◌≤◌, false, [], codes, find, length, map, nat_eq, IfOk, IfErr};
+ghost use Rattle.std.specs.Option.{option_copied};
 ghost use Rattle.toml.specs.View.{view};
+ghost use Rattle.std.specs.Cmp.Lexicographic.{pointwise};
 ghost use Rattle.meaning.specs.Schema.{kinds_of};
 ghost use Rattle.catalog.specs.Catalogue.{IsRelationIn};
 ghost use Rattle.catalog.specs.Describes.{Describes};
@@ -56,6 +58,18 @@ pub(crate) fn copy_relations(
         copies.push(relation.copy()?)?;
     }
     Ok(copies)
+}
+
+/// The relation of this name, if it is among these.
+pub(crate) fn find_relation<'a>(
+    relations: &'a [SplitRelation],
+    name: &str,
+) -> Option<&'a SplitRelation>
+    ensures { option_copied result ≡ find (λ relation. pointwise nat_eq relation.schema.name name.now) relations.now }
+{
+    relations
+        .iter()
+        .find(|relation| relation.schema.name.as_str() == name)
 }
 
 /// The schema of relations.

@@ -2,6 +2,7 @@
 
 ghost use Rattle.std.specs.Prelude.{◌≡◌, ◌↔◌, map, IsTrue, IfOk, IfErr};
 ghost use Rattle.catalog.specs.Catalogue.{IsSiteName};
+ghost use Rattle.catalog.specs.Describes.{site_numbered};
 ghost use Rattle.catalog.specs.Sites as spec;
 ghost use Rattle.catalog.specs.Sites.{AreSites, RefusesSites, IsNextSite, RefusesSite};
 
@@ -60,5 +61,9 @@ fn has_name(before: &[Text], name: &str) -> bool
     before.iter().any(|other| other.as_str() == name)
 }
 
-#[cfg(test)]
-mod tests;
+/// The number of the site of this name, from 0, if it is among these.
+pub(crate) fn site_numbered(sites: &[Text], name: &str) -> Option<usize>
+    ensures { result ≡ site_numbered sites.now name.now }
+{
+    sites.iter().position(|site| site.as_str() == name)
+}
