@@ -25,6 +25,26 @@ pub enum Request<'a> {
     Check { catalog: &'a str },
 }
 
+/// What stands after the program's help.
+const AFTER_HELP: &str = "With no argument: solo -, a script from standard input.
+
+Exit status: 0 done; 1 a catalogue, a script or a statement was refused, a file could not be read,
+or nobody reads the output; 2 a mistake on the command line; 4 out of memory.
+
+Examples:
+  echo \"INSERT INTO item VALUES (1, 3, 'a')\" | fragdb
+  fragdb solo script.txt
+  fragdb check catalogue.toml";
+
+/// What stands after the help of `solo`.
+const AFTER_SOLO: &str = "A script has one item a line; empty lines and lines that begin with # are passed over:
+  INSERT INTO item VALUES (1, 3, 'a')    a statement; so are SELECT, UPDATE and DELETE
+  .show item                             the rows of a relation
+  .leaf item.1                           the rows that a fragment keeps
+
+The relation item(id int, zone int, label text) is built in: rows with zone < 10 are kept in item.1,
+the others in item.2.";
+
 /// What the words ask for, of which the first names the program. With no other word that is `solo -`.
 pub fn read_words<'a, S: AsStr>(alloc: Global, words: &'a [S]) -> Result<Request<'a>, Error>
     ensures alone { length words.entry.now ≤ 1 → IsOkAnd result (λ request. asked request ≡ (codes "solo", codes "SCRIPT", codes "-")) }
@@ -73,6 +93,7 @@ fn command<'a>(alloc: Global) -> Result<Command<'a>, AllocError>
     Command::new(alloc, "fragdb")
         .version("0.1.0")
         .about("A relational database in fragments")
+        .after_help(AFTER_HELP)
         .subcommand_required(true)
         .subcommand(solo_command(alloc)?)?
         .subcommand(check_command(alloc)?)
@@ -87,6 +108,7 @@ fn solo_command<'a>(alloc: Global) -> Result<Command<'a>, AllocError>
         .help("A file with one item a line, or - for standard input");
     Command::new(alloc, "solo")
         .about("Runs a script of statements, one at a time")
+        .after_help(AFTER_SOLO)
         .arg(script)
 }
 

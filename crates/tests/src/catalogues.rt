@@ -1,0 +1,34 @@
+//! The catalogues that the tests speak of.
+
+/// One relation split by columns and then by rows, the other by rows.
+pub const EMP_AND_DEPT: &str = "sites = [\"north\", \"south\"]
+
+[relations.emp]
+columns = [\"id int\", \"name text\", \"dept int\", \"pay int\"]
+[[relations.emp.cols]]
+of = [\"name\"]
+site = \"north\"
+[[relations.emp.cols]]
+of = [\"dept\", \"pay\"]
+[[relations.emp.cols.rows]]
+where = \"dept < 10\"
+site = \"north\"
+[[relations.emp.cols.rows]]
+where = \"dept >= 10\"
+site = \"south\"
+
+[relations.dept]
+columns = [\"no int\", \"title text\"]
+[[relations.dept.rows]]
+where = \"no < 10\"
+site = \"north\"
+[[relations.dept.rows]]
+where = \"no >= 10\"
+site = \"south\"
+";
+
+/// Two relations with a column of one name, of which one may be joined by a text.
+pub const A_AND_B: &str = "sites = ['s']
+relations.a = { columns = ['id int', 'x int', 't text'], site = 's' }
+relations.b = { columns = ['id int', 'y text'], site = 's' }
+";

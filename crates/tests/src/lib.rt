@@ -1,0 +1,11 @@
+//! Tests of what no row under `tests/rows` can show yet: statements over several relations, by `read` and `run`
+//! on a whole database, and public calls that the program doesn't make, each with ample memory. Each call is
+//! made once more where memory ran out, so the tests pass with any one allocation refused too.
+#![tactic(auto)]
+
+#[cfg(test)]
+mod calls;
+#[cfg(test)]
+mod catalogues;
+#[cfg(test)]
+mod statements;
