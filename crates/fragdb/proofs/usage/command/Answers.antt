@@ -9,9 +9,10 @@ pub returns : goal.returns
 returns c =
     let version_is : app_of c.version.result ≡ on_top (λ s. record s { has_version = true }) (app_of c.new.result) = ap app_of_fields c.version.ensures in
     let about_is : app_of c.about.result ≡ app_of c.version.result = ap app_of_fields c.about.ensures in
-    let required_is : app_of c.subcommand_required.result ≡ on_top (λ s. record s { subcommand_required = true }) (app_of c.about.result) = ap app_of_fields c.subcommand_required.ensures in
+    let after_is : app_of c.after_help.result ≡ app_of c.about.result = ap app_of_fields c.after_help.ensures in
+    let required_is : app_of c.subcommand_required.result ≡ on_top (λ s. record s { subcommand_required = true }) (app_of c.after_help.result) = ap app_of_fields c.subcommand_required.ensures in
     let program_is : app_of c.subcommand_required.result ≡ program =
-    required_is ∙ ap (on_top (λ s. record s { subcommand_required = true })) (about_is ∙ version_is ∙ ap (on_top (λ s. record s { has_version = true })) c.new.ensures.app) in
+    required_is ∙ ap (on_top (λ s. record s { subcommand_required = true })) (after_is ∙ about_is ∙ version_is ∙ ap (on_top (λ s. record s { has_version = true })) c.new.ensures.app) in
     let with_solo : app_of c.in_ok-subcommand.field-0 ≡ with_subcommand program (command_with (codes "solo") (codes "SCRIPT")).top =
     c.in_ok-subcommand.ensures.shape c.in_ok-solo_command.ensures.local ∙ ap₂ with_subcommand program_is (ap (λ (a : App). a.top) c.in_ok-solo_command.ensures.shape) in
     IfOk-weaker c.subcommand-2.result _ _ (λ r h. h.shape c.in_ok-check_command.ensures.local ∙ ap₂ with_subcommand with_solo (ap (λ (a : App). a.top) c.in_ok-check_command.ensures.shape)) c.subcommand-2.ensures

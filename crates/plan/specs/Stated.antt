@@ -1,0 +1,94 @@
+-- Which leaves a statement fetches: exactly those that it may need.
+use Rattle.std.specs.Prelude.{◌≡◌, ◌⊎◌, ℕ, ◌==◌, suc, if◌then◌else◌, true, List, [], ◌∷◌, ◌++◌, Option, Some, None, option_map, unwrap_or}
+use Rattle.std.specs.List.{Contains, filter_map, slice_get}
+use Rattle.terms.specs.declared.cond.Cond.{Cond}
+use Rattle.terms.specs.declared.value.Kind.{Kind}
+use Rattle.terms.specs.declared.value.Value.{Value}
+use Rattle.terms.specs.declared.value.Value.TheVariants.{Int}
+use Rattle.terms.specs.Cond.{conds_hold}
+use Rattle.terms.specs.Row.{key_of, FitsKinds}
+use Rattle.meaning.specs.declared.statement.Statement.{Statement}
+use Rattle.meaning.specs.Schema.{kinds_of}
+use Rattle.catalog.specs.declared.fragment_leaf.FragmentLeaf.{FragmentLeaf}
+use Rattle.catalog.specs.Catalogue.{Catalogue, SplitRelation}
+use Rattle.catalog.specs.FragmentLeaf.{leaves_in, relation_named}
+use Rattle.catalog.specs.Path.{wanted}
+use Rattle.plan.specs.declared.plan.Fetch.{Fetch}
+use Rattle.plan.specs.Need.{Need, Needs, One, Joined, needs, on_column}
+
+-- the types of the columns of a relation of a catalogue, and its leaves; none where it is not there
+abbrev pub kinds_found : Option SplitRelation → List Kind
+kinds_found None = []
+kinds_found (Some relation) = kinds_of relation.schema
+
+abbrev pub kinds_in : Catalogue → List ℕ → List Kind
+kinds_in catalogue name = kinds_found (relation_named name catalogue.relations)
+
+abbrev pub leaves_of : Catalogue → List ℕ → List FragmentLeaf
+leaves_of catalogue name = leaves_in (relation_named name catalogue.relations)
+
+-- a leaf may serve a need by a row: it is wanted for the needed columns, and its conditions and those of the need hold of the row
+pub record Serves (kinds : List Kind) (need : Need) (leaf : FragmentLeaf) (row : List Value) : Type 0 where
+  pub is_wanted : wanted need.columns leaf.steps ≡ true
+  pub fits : FitsKinds kinds row
+  pub holds : conds_hold (leaf.conds ++ need.conds) row ≡ true
+
+-- a leaf of a statement of one relation is stated where some row makes it serve
+pub record IsStated (kinds : List Kind) (need : Need) (leaf : FragmentLeaf) : Type 0 where
+  pub row : List Value
+  pub serves : Serves kinds need leaf row
+
+-- leaves of both sides of a join meet: rows that they serve have the same value in the columns of ON
+pub record Meet (kinds others : List Kind) (col : ℕ) (need other_need : Need) (leaf other_leaf : FragmentLeaf) : Type 0 where
+  pub row : List Value
+  pub other : List Value
+  pub serves : Serves kinds need leaf row
+  pub serves_other : Serves others other_need other_leaf other
+  pub joined : slice_get row col ≡ Some (Int (key_of other))
+
+-- a leaf after FROM is stated where it meets some leaf of the joined relation, and the other way about
+pub record IsStatedFrom (kinds others : List Kind) (col : ℕ) (need other_need : Need) (others_leaves : List FragmentLeaf) (leaf : FragmentLeaf) : Type 0 where
+  pub other_leaf : FragmentLeaf
+  pub there : Contains others_leaves other_leaf
+  pub meet : Meet kinds others col need other_need leaf other_leaf
+
+pub record IsStatedJoined (kinds others : List Kind) (col : ℕ) (need other_need : Need) (leaves : List FragmentLeaf) (other_leaf : FragmentLeaf) : Type 0 where
+  pub leaf : FragmentLeaf
+  pub there : Contains leaves leaf
+  pub meet : Meet kinds others col need other_need leaf other_leaf
+
+-- the place of a column among a leaf's columns
+abbrev pub place_in : ℕ → List ℕ → Option ℕ
+place_in col [] = None
+place_in col (first ∷ columns) = if first == col then Some 0 else option_map suc (place_in col columns)
+
+-- those conditions whose columns the leaf has, on the places of its parts
+abbrev pub placed : List ℕ → List Cond → List Cond
+placed columns conds = filter_map (λ cond. option_map (λ place. on_column place cond) (place_in cond.col columns)) conds
+
+-- the fetch of a leaf carries those conditions of the need whose columns the leaf has
+abbrev pub fetch_of : Need → FragmentLeaf → Fetch
+fetch_of need leaf = record { leaf = leaf.name; columns = leaf.columns; conds = placed leaf.columns need.conds }
+
+-- the fetches of leaves are those of the stated ones, each once, in their order
+abbrev pub AreFetches : (FragmentLeaf → Type 0) → Need → List FragmentLeaf → List Fetch → Type 0
+AreFetches Stated need [] fetches = fetches ≡ []
+AreFetches Stated need (leaf ∷ leaves) fetches =
+    (Stated leaf × ((rest : List Fetch) × (fetches ≡ fetch_of need leaf ∷ rest) × AreFetches Stated need leaves rest))
+    ⊎ ((Stated leaf → ⊥) × AreFetches Stated need leaves fetches)
+
+-- the fetches of a join: those after FROM, and then those of the joined relation
+pub record AreJoinFetches (catalogue : Catalogue) (col : ℕ) (need other_need : Need) (fetches : List Fetch) : Type 0 where
+  pub first : List Fetch
+  pub second : List Fetch
+  pub both : fetches ≡ first ++ second
+  pub from : AreFetches (IsStatedFrom (kinds_in catalogue need.relation) (kinds_in catalogue other_need.relation) col need other_need (leaves_of catalogue other_need.relation)) need (leaves_of catalogue need.relation) first
+  pub joined : AreFetches (IsStatedJoined (kinds_in catalogue need.relation) (kinds_in catalogue other_need.relation) col need other_need (leaves_of catalogue need.relation)) other_need (leaves_of catalogue other_need.relation) second
+
+abbrev pub AreFetchesFor : Catalogue → Needs → List Fetch → Type 0
+AreFetchesFor catalogue (One need) fetches = AreFetches (IsStated (kinds_in catalogue need.relation) need) need (leaves_of catalogue need.relation) fetches
+AreFetchesFor catalogue (Joined col need other_need) fetches = AreJoinFetches catalogue col need other_need fetches
+
+-- the fetches of a statement are exactly those that are stated
+abbrev pub AreFetchesOf : Catalogue → Statement → List Fetch → Type 0
+AreFetchesOf catalogue statement fetches = AreFetchesFor catalogue (needs statement) fetches

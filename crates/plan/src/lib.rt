@@ -1,0 +1,8 @@
+//! Plans of statements over fragments: which leaves a statement reads, with which conditions, and how its
+//! rows are put together from their parts.
+//!
+//! It stands on `terms`, `meaning` and `catalog`. The contract that the layers above use is that of
+//! `reduce`: the fetches are exactly those that the statement may need.
+#![tactic(auto)]
+
+pub mod plan;
