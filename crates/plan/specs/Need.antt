@@ -10,12 +10,9 @@ use Rattle.meaning.specs.declared.statement.Join.{Join}
 use Rattle.meaning.specs.declared.statement.Select.{Select}
 use Rattle.meaning.specs.declared.statement.Statement.{Statement}
 use Rattle.meaning.specs.declared.statement.Statement.TheVariants as statement
-
--- a relation by its name; the columns that are needed of it, by their places; the conditions on it, its own first and carried ones after them
-pub record Need : Type 0 where
-  pub relation : List ℕ
-  pub columns : List ℕ
-  pub conds : List Cond
+use Rattle.plan.specs.declared.need.Need.{Need}
+use Rattle.plan.specs.declared.need.Needs.{Needs}
+use Rattle.plan.specs.declared.need.Needs.TheVariants.{One, Joined}
 
 -- the places below a width, and those from it on, counted from it
 abbrev pub places_below : ℕ → List ℕ → List ℕ
@@ -75,10 +72,6 @@ abbrev pub places_to : ℕ → List ℕ
 places_to count = range_with_len 0 count
 
 -- one relation is needed, or two that are joined by a column of the first and the key of the second
-pub data Needs : Type 0 where
-  One : (need : Need) → Needs
-  Joined : (col : ℕ) (first second : Need) → Needs
-
 abbrev pub needs_of_select : Select → Option Join → Needs
 needs_of_select select None = One (need_of_select select)
 needs_of_select select (Some join) = Joined join.col (need_from select join) (need_joined select join)

@@ -14,7 +14,10 @@ use Rattle.catalog.specs.Catalogue.{Catalogue, SplitRelation}
 use Rattle.catalog.specs.FragmentLeaf.{leaves_in, relation_named}
 use Rattle.catalog.specs.Path.{wanted}
 use Rattle.plan.specs.declared.plan.Fetch.{Fetch}
-use Rattle.plan.specs.Need.{Need, Needs, One, Joined, needs, on_column}
+use Rattle.plan.specs.declared.need.Need.{Need}
+use Rattle.plan.specs.declared.need.Needs.{Needs}
+use Rattle.plan.specs.declared.need.Needs.TheVariants.{One, Joined}
+use Rattle.plan.specs.Need.{needs, on_column}
 
 -- the types of the columns of a relation of a catalogue, and its leaves; none where it is not there
 abbrev pub kinds_found : Option SplitRelation → List Kind

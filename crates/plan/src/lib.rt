@@ -5,4 +5,5 @@
 //! `reduce`: the fetches are exactly those that the statement may need.
 #![tactic(auto)]
 
+pub mod need;
 pub mod plan;
