@@ -1,3 +1,4 @@
--- What a plan means, in reading order: what a statement needs, which leaves that states, the rows of a plan.
+-- What a plan means, in reading order: what a statement needs, the read of a leaf, which leaves are stated.
 pub mod Need
+pub mod Fetch
 pub mod Stated

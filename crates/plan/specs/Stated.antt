@@ -1,6 +1,6 @@
 -- Which leaves a statement fetches: exactly those that it may need.
-use Rattle.std.specs.Prelude.{◌≡◌, ◌⊎◌, ℕ, ◌==◌, suc, if◌then◌else◌, true, List, [], ◌∷◌, ◌++◌, Option, Some, None, option_map, unwrap_or}
-use Rattle.std.specs.List.{Contains, filter_map, slice_get}
+use Rattle.std.specs.Prelude.{◌≡◌, ◌⊎◌, ℕ, true, List, [], ◌∷◌, ◌++◌, Option, Some, None}
+use Rattle.std.specs.List.{Contains, slice_get}
 use Rattle.terms.specs.declared.cond.Cond.{Cond}
 use Rattle.terms.specs.declared.value.Kind.{Kind}
 use Rattle.terms.specs.declared.value.Value.{Value}
@@ -13,11 +13,12 @@ use Rattle.catalog.specs.declared.fragment_leaf.FragmentLeaf.{FragmentLeaf}
 use Rattle.catalog.specs.Catalogue.{Catalogue, SplitRelation}
 use Rattle.catalog.specs.FragmentLeaf.{leaves_in, relation_named}
 use Rattle.catalog.specs.Path.{wanted}
-use Rattle.plan.specs.declared.plan.Fetch.{Fetch}
+use Rattle.plan.specs.declared.fetch.Fetch.{Fetch}
 use Rattle.plan.specs.declared.need.Need.{Need}
 use Rattle.plan.specs.declared.need.Needs.{Needs}
 use Rattle.plan.specs.declared.need.Needs.TheVariants.{One, Joined}
-use Rattle.plan.specs.Need.{needs, on_column}
+use Rattle.plan.specs.Fetch.{fetch_of}
+use Rattle.plan.specs.Need.{needs}
 
 -- the types of the columns of a relation of a catalogue, and its leaves; none where it is not there
 abbrev pub kinds_found : Option SplitRelation → List Kind
@@ -29,6 +30,12 @@ kinds_in catalogue name = kinds_found (relation_named name catalogue.relations)
 
 abbrev pub leaves_of : Catalogue → List ℕ → List FragmentLeaf
 leaves_of catalogue name = leaves_in (relation_named name catalogue.relations)
+
+-- some row that fits meets all conditions
+pub record IsMet (kinds : List Kind) (conds : List Cond) : Type 0 where
+  pub row : List Value
+  pub fits : FitsKinds kinds row
+  pub holds : conds_hold conds row ≡ true
 
 -- a leaf may serve a need by a row: it is wanted for the needed columns, and its conditions and those of the need hold of the row
 pub record Serves (kinds : List Kind) (need : Need) (leaf : FragmentLeaf) (row : List Value) : Type 0 where
@@ -59,19 +66,6 @@ pub record IsStatedJoined (kinds others : List Kind) (col : ℕ) (need other_nee
   pub leaf : FragmentLeaf
   pub there : Contains leaves leaf
   pub meet : Meet kinds others col need other_need leaf other_leaf
-
--- the place of a column among a leaf's columns
-abbrev pub place_in : ℕ → List ℕ → Option ℕ
-place_in col [] = None
-place_in col (first ∷ columns) = if first == col then Some 0 else option_map suc (place_in col columns)
-
--- those conditions whose columns the leaf has, on the places of its parts
-abbrev pub placed : List ℕ → List Cond → List Cond
-placed columns conds = filter_map (λ cond. option_map (λ place. on_column place cond) (place_in cond.col columns)) conds
-
--- the fetch of a leaf carries those conditions of the need whose columns the leaf has
-abbrev pub fetch_of : Need → FragmentLeaf → Fetch
-fetch_of need leaf = record { leaf = leaf.name; columns = leaf.columns; conds = placed leaf.columns need.conds }
 
 -- the fetches of leaves are those of the stated ones, each once, in their order
 abbrev pub AreFetches : (FragmentLeaf → Type 0) → Need → List FragmentLeaf → List Fetch → Type 0

@@ -5,5 +5,6 @@
 //! `reduce`: the fetches are exactly those that the statement may need.
 #![tactic(auto)]
 
+pub mod fetch;
 pub mod need;
-pub mod plan;
+pub mod stated;
