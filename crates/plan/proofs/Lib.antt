@@ -1,2 +1,5 @@
+pub mod CarriedConds
+pub mod Columns
 pub mod Fetches
+pub mod Meeting
 pub mod Places
