@@ -1,5 +1,7 @@
 pub mod CarriedConds
 pub mod Columns
-pub mod Fetches
+pub mod InCatalogue
+pub mod LeafByLeaf
 pub mod Meeting
+pub mod NeedsFit
 pub mod Places

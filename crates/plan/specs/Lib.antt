@@ -2,3 +2,4 @@
 pub mod Need
 pub mod Fetch
 pub mod Stated
+pub mod Side

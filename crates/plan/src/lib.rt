@@ -6,5 +6,6 @@
 #![tactic(auto)]
 
 pub mod fetch;
+pub mod fetches;
 pub mod need;
 pub mod stated;

@@ -1,7 +1,7 @@
 -- Why `stated::fetches_of` meets its contract.
 use Rattle.std.proofs.Common.{arith}
 use Rattle.plan.specs.Stated.{IsStated}
-use Rattle.plan.proofs.Fetches.{all_found}
+use Rattle.plan.proofs.LeafByLeaf.{all_found}
 use Rattle.plan.proofs.stated.fetches_of.Goals as goal
 
 pub returns : goal.returns
