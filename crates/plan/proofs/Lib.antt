@@ -5,3 +5,5 @@ pub mod LeafByLeaf
 pub mod Meeting
 pub mod NeedsFit
 pub mod Places
+pub mod StatementFits
+pub mod JoinStated

@@ -21,8 +21,8 @@ use terms::value::Kind;
 /// Whether some row of these types meets all conditions.
 pub fn is_met(alloc: Global, kinds: &[Kind], conds: Vec<Cond>) -> Result<bool, Memory>
     requires { AllByRecursion (IsCondOf kinds.now) conds.items }
-    ensures met { result ≡ Ok true → IsMet kinds.now conds.items }
-    ensures none { result ≡ Ok false → (IsMet kinds.now conds.items → ⊥) }
+    ensures met { IfOk result (λ met. met ≡ true → IsMet kinds.now conds.items) }
+    ensures none { IfOk result (λ met. met ≡ false → IsMet kinds.now conds.items → ⊥) }
 {
     Ok(Conds::new(conds).satisfiable(kinds)?.is_some())
 }
@@ -36,8 +36,8 @@ pub fn may_serve(
 ) -> Result<bool, Memory>
     requires need { AllByRecursion (IsCondOf kinds.now) need.now.conds }
     requires leaf { AllByRecursion (IsCondOf kinds.now) leaf.now.conds }
-    ensures served { result ≡ Ok true → spec.IsStated kinds.now need.now leaf.now }
-    ensures none { result ≡ Ok false → (spec.IsStated kinds.now need.now leaf.now → ⊥) }
+    ensures served { IfOk result (λ serves. serves ≡ true → spec.IsStated kinds.now need.now leaf.now) }
+    ensures none { IfOk result (λ serves. serves ≡ false → spec.IsStated kinds.now need.now leaf.now → ⊥) }
 {
     if !wanted(need.columns.as_slice(), leaf.steps.as_slice()) {
         return Ok(false);
