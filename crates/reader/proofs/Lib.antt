@@ -18,8 +18,8 @@ pub mod Chains
 pub mod Places
 pub mod Each
 pub mod Broken
-pub mod Kept
-pub mod Settings
+pub mod WrittenConditions
+pub mod WrittenAssignments
 pub mod Fits
 pub mod FitsSchema
 pub mod FitsCommand

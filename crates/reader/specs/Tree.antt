@@ -25,9 +25,9 @@ pub record Column : Type 0 where
   pub relation : Option (List ℕ)
   pub name : List ℕ
 
--- A constant: the size of an integer stands beside its sign.
+-- A constant: the magnitude of an integer stands beside its sign.
 pub data Constant : Type 0 where
-  integer : (is_negative : Bool) (size : ℕ) → Constant
+  integer : (is_negative : Bool) (magnitude : ℕ) → Constant
   text : (bytes : List ℕ) → Constant
 
 -- What a select lists: all columns, or these.
@@ -61,7 +61,7 @@ pub record Insert : Type 0 where
 -- What a column is set to: a constant, or the value of a column and a number added or taken away.
 pub data Assigned : Type 0 where
   constant : (value : Constant) → Assigned
-  sum : (column : List ℕ) (is_negative : Bool) (size : ℕ) → Assigned
+  sum : (column : List ℕ) (is_negative : Bool) (magnitude : ℕ) → Assigned
 
 pub record Assignment : Type 0 where
   pub column : List ℕ
@@ -92,7 +92,7 @@ abbrev pub column_of : code_column.Column → Column
 column_of c = record { relation = option_copied c.relation; name = c.name.now }
 
 abbrev pub constant_of : code_constant.Constant → Constant
-constant_of (constants.Integer is_negative size _ _) = integer is_negative size
+constant_of (constants.Integer is_negative magnitude _ _) = integer is_negative magnitude
 constant_of (constants.Text bytes _) = text bytes.now
 
 abbrev pub columns_of : Vec code_column.Column → List Column
@@ -122,7 +122,7 @@ insert_of i = record { relation = i.relation.name.now; values = constants_of i.v
 
 abbrev pub assigned_of : code_assigned.Assigned → Assigned
 assigned_of (assigned.Constant value) = constant (constant_of value)
-assigned_of (assigned.Sum column is_negative size _) = sum column.name.now is_negative size
+assigned_of (assigned.Sum column is_negative magnitude _) = sum column.name.now is_negative magnitude
 
 abbrev pub assignment_of : code_assignment.Assignment → Assignment
 assignment_of a = record { column = a.column.name.now; value = assigned_of a.value }

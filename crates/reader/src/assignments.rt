@@ -86,11 +86,11 @@ fn assigned(
         Assigned::Sum {
             column,
             is_negative,
-            size,
+            magnitude,
             digits,
         } => {
             let found = added_to(columns, kind, column)?;
-            let number = number(*is_negative, *size, *digits)?;
+            let number = number(*is_negative, *magnitude, *digits)?;
             Ok(statement::Assigned::Sum {
                 col: found.place,
                 number,

@@ -164,9 +164,9 @@ impl<'a> Cursor<'a> {
         ensures { Reads (λ n. n) result self.new (number_at self.old) }
     {
         match self.peek() {
-            Some(Token::Integer(size)) => {
+            Some(Token::Integer(magnitude)) => {
                 self.advance();
-                Ok(*size)
+                Ok(*magnitude)
             }
             _ => Err(self.refusal()),
         }
@@ -196,11 +196,11 @@ impl<'a> Cursor<'a> {
     {
         let offset = self.offset();
         match self.peek() {
-            Some(Token::Integer(size)) => {
+            Some(Token::Integer(magnitude)) => {
                 self.advance();
                 Ok(Constant::Integer {
                     is_negative: false,
-                    size: *size,
+                    magnitude: *magnitude,
                     offset,
                     digits: offset,
                 })

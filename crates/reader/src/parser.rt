@@ -52,10 +52,10 @@ fn constant<'a>(cursor: &mut Cursor<'a>) -> Result<Constant<'a>, ReadFault>
     let offset = cursor.offset();
     if cursor.eat_sign(Sign::Minus) {
         let digits = cursor.offset();
-        let size = cursor.number()?;
+        let magnitude = cursor.number()?;
         Ok(Constant::Integer {
             is_negative: true,
-            size,
+            magnitude,
             offset,
             digits,
         })
@@ -120,7 +120,7 @@ fn conditions<'a>(alloc: Global, cursor: &mut Cursor<'a>) -> Result<Vec<Conditio
 
 /// `[ WHERE conditions ]`
 #[tactic(auto, unfolding(crate::specs::Parsing::where_at, crate::specs::Parsing::given))]
-fn kept<'a>(alloc: Global, cursor: &mut Cursor<'a>) -> Result<Vec<Condition<'a>>, ReadFault>
+fn where_clause<'a>(alloc: Global, cursor: &mut Cursor<'a>) -> Result<Vec<Condition<'a>>, ReadFault>
     ensures { Reads conditions_of result cursor.new (where_at cursor.old) }
 {
     if cursor.eat_keyword(Keyword::Where) {
@@ -181,7 +181,7 @@ fn select<'a>(alloc: Global, cursor: &mut Cursor<'a>) -> Result<Select<'a>, Read
     cursor.expect_keyword(Keyword::From)?;
     let relation = cursor.named()?;
     let join = join(cursor)?;
-    let conditions = kept(alloc, cursor)?;
+    let conditions = where_clause(alloc, cursor)?;
     Ok(Select {
         listed,
         relation,
@@ -220,11 +220,11 @@ fn sum<'a>(cursor: &mut Cursor<'a>) -> Result<Assigned<'a>, ReadFault>
         cursor.expect_sign(Sign::Plus)?;
     }
     let digits = cursor.offset();
-    let size = cursor.number()?;
+    let magnitude = cursor.number()?;
     Ok(Assigned::Sum {
         column,
         is_negative,
-        size,
+        magnitude,
         digits,
     })
 }
@@ -273,7 +273,7 @@ fn update<'a>(alloc: Global, cursor: &mut Cursor<'a>) -> Result<Update<'a>, Read
     let relation = cursor.named()?;
     cursor.expect_keyword(Keyword::Set)?;
     let sets = assignments(alloc, cursor)?;
-    let conditions = kept(alloc, cursor)?;
+    let conditions = where_clause(alloc, cursor)?;
     Ok(Update {
         relation,
         sets,
@@ -288,7 +288,7 @@ fn delete<'a>(alloc: Global, cursor: &mut Cursor<'a>) -> Result<Delete<'a>, Read
 {
     cursor.expect_keyword(Keyword::From)?;
     let relation = cursor.named()?;
-    let conditions = kept(alloc, cursor)?;
+    let conditions = where_clause(alloc, cursor)?;
     Ok(Delete {
         relation,
         conditions,

@@ -273,7 +273,7 @@ fn put_assignment(out: &mut String, names: &[Text], set: &Assignment) -> Result<
     }
 }
 
-/// A column and a number added, or its size taken away where it is negative.
+/// A column and a number added, or its magnitude taken away where it is negative.
 fn put_sum(out: &mut String, names: &[Text], col: usize, number: i64) -> Result<(), Memory>
     ensures { OnOk result (string_bytes out.new ≡ string_bytes out.old ++ assigned_bytes (assigned_as names.now (Sum col number))) }
 {

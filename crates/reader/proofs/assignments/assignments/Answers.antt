@@ -5,7 +5,7 @@ use Rattle.reader.specs.Breaks.{AssignmentBreaks}
 use Rattle.reader.specs.Names.{is_set}
 use Rattle.reader.specs.Tree.{assignment_of}
 use Rattle.reader.proofs.Broken.{some_of}
-use Rattle.reader.proofs.Settings.{apart_more, no_column, no_value, one_more, set_again, set_twice}
+use Rattle.reader.proofs.WrittenAssignments.{apart_more, no_column, no_value, one_more, set_again, set_twice}
 use Rattle.reader.proofs.NoMeaning.{none_of_whole}
 use Rattle.reader.proofs.assignments.assignments.Goals as goal
 

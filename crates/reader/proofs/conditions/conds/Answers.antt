@@ -5,7 +5,7 @@ use Rattle.reader.specs.Breaks.{ConditionBreaks}
 use Rattle.reader.specs.Scope.{scope_of}
 use Rattle.reader.specs.Tree.{condition_of}
 use Rattle.reader.proofs.Broken.{some_of}
-use Rattle.reader.proofs.Kept.{no_column, no_constant, one_more}
+use Rattle.reader.proofs.WrittenConditions.{no_column, no_constant, one_more}
 use Rattle.reader.proofs.NoMeaning.{none_of_whole}
 use Rattle.reader.proofs.conditions.conds.Goals as goal
 
