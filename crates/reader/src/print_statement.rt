@@ -191,15 +191,21 @@ fn put_condition(out: &mut String, columns: &Columns<'_>, cond: &Cond) -> Result
 fn put_comparison(out: &mut String, comparison: Cmp) -> Result<(), Memory>
     ensures { OnOk result (string_bytes out.new ≡ string_bytes out.old ++ sign_text (comparison_sign comparison)) }
 {
-    match comparison {
-        Cmp::Eq => out.push_str("=")?,
-        Cmp::Ne => out.push_str("<>")?,
-        Cmp::Lt => out.push_str("<")?,
-        Cmp::Le => out.push_str("<=")?,
-        Cmp::Gt => out.push_str(">")?,
-        Cmp::Ge => out.push_str(">=")?,
-    }
+    out.push_str(comparison_text(comparison))?;
     Ok(())
+}
+
+fn comparison_text(comparison: Cmp) -> &'static str
+    ensures { result.now ≡ sign_text (comparison_sign comparison) }
+{
+    match comparison {
+        Cmp::Eq => "=",
+        Cmp::Ne => "<>",
+        Cmp::Lt => "<",
+        Cmp::Le => "<=",
+        Cmp::Gt => ">",
+        Cmp::Ge => ">=",
+    }
 }
 
 fn put_insert(out: &mut String, insert: &Insert) -> Result<(), Memory>
@@ -278,8 +284,8 @@ fn put_sum(out: &mut String, names: &[Text], col: usize, number: i64) -> Result<
     ensures { OnOk result (string_bytes out.new ≡ string_bytes out.old ++ assigned_bytes (assigned_as names.now (Sum col number))) }
 {
     put_name(out, names, col)?;
-    let sign = if number < 0 { '-' } else { '+' };
-    write!(out, " {sign} {}", number.unsigned_abs())?;
+    out.push_str(if number < 0 { " - " } else { " + " })?;
+    write!(out, "{}", number.unsigned_abs())?;
     Ok(())
 }
 
