@@ -5,7 +5,7 @@ ghost use Rattle.reader.specs.declared.fault.Rule.TheVariants as rules;
 ghost use Rattle.reader.specs.Breaks.{Refuses, ConstantBreaks, ComparedBreaks};
 ghost use Rattle.reader.specs.Names.{integer_of, value_of, compared_of, number_of};
 ghost use Rattle.reader.specs.Resolving.{Resolves};
-ghost use Rattle.reader.specs.Tree.{constant_of, integer};
+ghost use Rattle.reader.specs.Tree.{constant_tree, integer};
 
 use crate::fault::{ReadFault, Rule};
 use crate::tree::Constant;
@@ -51,8 +51,8 @@ pub fn number(is_negative: bool, magnitude: u64, digits: usize) -> Result<i64, R
 
 /// The value of a constant in a column of this type.
 pub fn value(alloc: Global, kind: Kind, constant: &Constant<'_>) -> Result<Value, ReadFault>
-    ensures exact { Resolves (λ v. v) result (value_of kind (constant_of constant.now)) }
-    ensures rule { Refuses result (λ rule. ConstantBreaks rule kind (constant_of constant.now)) }
+    ensures exact { Resolves (λ v. v) result (value_of kind (constant_tree constant.now)) }
+    ensures rule { Refuses result (λ rule. ConstantBreaks rule kind (constant_tree constant.now)) }
 {
     match (kind, constant) {
         (
@@ -75,8 +75,8 @@ pub fn value(alloc: Global, kind: Kind, constant: &Constant<'_>) -> Result<Value
 
 /// The value that a condition on a column of this type compares with.
 pub fn compared(alloc: Global, kind: Kind, constant: &Constant<'_>) -> Result<Value, ReadFault>
-    ensures exact { Resolves (λ v. v) result (compared_of kind (constant_of constant.now)) }
-    ensures rule { Refuses result (λ rule. ComparedBreaks rule kind (constant_of constant.now)) }
+    ensures exact { Resolves (λ v. v) result (compared_of kind (constant_tree constant.now)) }
+    ensures rule { Refuses result (λ rule. ComparedBreaks rule kind (constant_tree constant.now)) }
 {
     if let (Kind::Text, Constant::Text { text, offset }) = (kind, constant) {
         if text.len() > CONSTANT_LIMIT {

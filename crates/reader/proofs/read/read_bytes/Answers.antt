@@ -21,15 +21,15 @@ pub returns-in_err-command-clause-none : goal.returns-in_err-command-clause-none
 returns-in_err-command-clause-none c =
     let p = err_from_is_err_and c.from_residual-in_err-command.result c.from_residual-in_err-command.ensures.1 in
     let spelled : AreTokens c.args.text.now (symbols_of c.as_slice.result.now) = rw c.as_slice.ensures.value c.in_ok-tokens.ensures.found in
-    rw (p.1, p.2) (λ rule. no_names c.args.schema.now.relations c.args.text.now (symbols_of c.as_slice.result.now) (tree.written_of c.in_ok-written.written) spelled c.in_ok-written.ensures.found
-    (none_by_rule c.in_err-command.field-0.0.rule (command_of c.args.schema.now.relations (tree.written_of c.in_ok-written.written)) rule c.in_err-command.ensures.exact))
+    rw (p.1, p.2) (λ rule. no_names c.args.schema.now.relations c.args.text.now (symbols_of c.as_slice.result.now) (tree.written_tree c.in_ok-written.written) spelled c.in_ok-written.ensures.found
+    (none_by_rule c.in_err-command.field-0.0.rule (command_of c.args.schema.now.relations (tree.written_tree c.in_ok-written.written)) rule c.in_err-command.ensures.exact))
 
 pub returns-clause-found : goal.returns-clause-found
 returns-clause-found c =
     let spelled : AreTokens c.args.text.now (symbols_of c.as_slice.result.now) = rw c.as_slice.ensures.value c.in_ok-tokens.ensures.found in
     record {
       tokens = symbols_of c.as_slice.result.now;
-      written = tree.written_of c.in_ok-written.written;
+      written = tree.written_tree c.in_ok-written.written;
       short = c.if-text-gt-STATEMENT_LIMIT.false;
       spelled = spelled;
       grammatical = c.in_ok-written.ensures.found;
@@ -50,7 +50,7 @@ pub returns-in_err-command-clause-rule : goal.returns-in_err-command-clause-rule
 returns-in_err-command-clause-rule c =
     let p = err_from_is_err_and c.from_residual-in_err-command.result c.from_residual-in_err-command.ensures.1 in
     let spelled : AreTokens c.args.text.now (symbols_of c.as_slice.result.now) = rw c.as_slice.ensures.value c.in_ok-tokens.ensures.found in
-    rw (p.1, p.2) (λ other. inr (inr (symbols_of c.as_slice.result.now, tree.written_of c.in_ok-written.written, spelled, c.in_ok-written.ensures.found, c.in_err-command.ensures.rule other)))
+    rw (p.1, p.2) (λ other. inr (inr (symbols_of c.as_slice.result.now, tree.written_tree c.in_ok-written.written, spelled, c.in_ok-written.ensures.found, c.in_err-command.ensures.rule other)))
 
 pub returns-in_err-tokens-clause-rule : goal.returns-in_err-tokens-clause-rule
 returns-in_err-tokens-clause-rule c =
