@@ -7,6 +7,7 @@ pub mod Words
 pub mod Front
 pub mod Loop
 pub mod Printing
+pub mod SeparatedItems
 pub mod Spellable
 pub mod Doubled
 pub mod Spelled
