@@ -1,5 +1,5 @@
 -- One item of a list that breaks a rule.
-use Rattle.std.proofs.Common.{◌≡◌, ℕ, zero, suc, ◌<◌, true, false, List, [], ◌∷◌, Some, map, take, length, get_or, inl, inr, arith}
+use Rattle.std.proofs.Common.{ℕ, zero, suc, ◌<◌, List, [], ◌∷◌, map, length, get_or, inl, inr, arith}
 use Rattle.terms.specs.declared.value.Kind.{Kind}
 use Rattle.reader.specs.declared.fault.Rule.{Rule}
 use Rattle.reader.specs.Breaks.{SomeOf, ConstantBreaks, ValuesBreak}

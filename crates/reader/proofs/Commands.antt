@@ -59,12 +59,12 @@ refused read rules.Syntax fails other = fails
 refused read _ fails other = absurd fails
 
 -- what was read is written so
-pub is_found : (symbols : List Symbol) (r : Result code_written.Written ReadFault) → Gives tree.written_of r (command_at symbols) → IfOk r (λ w. Writes symbols (tree.written_of w))
-is_found symbols (Ok w) given = command_takes symbols (tree.written_of w) given
+pub is_found : (symbols : List Symbol) (r : Result code_written.Written ReadFault) → Gives tree.written_tree r (command_at symbols) → IfOk r (λ w. Writes symbols (tree.written_tree w))
+is_found symbols (Ok w) given = command_takes symbols (tree.written_tree w) given
 is_found symbols (Err fault) given = tt
 
 -- what was refused isn't written by any command
-pub is_none : (symbols : List Symbol) (r : Result code_written.Written ReadFault) → Gives tree.written_of r (command_at symbols) → IfErr r (λ fault. fault.rule ≢ rules.Memory → (w : tree.Written) → ¬ (Writes symbols w))
+pub is_none : (symbols : List Symbol) (r : Result code_written.Written ReadFault) → Gives tree.written_tree r (command_at symbols) → IfErr r (λ fault. fault.rule ≢ rules.Memory → (w : tree.Written) → ¬ (Writes symbols w))
 is_none symbols (Ok w) given = tt
 is_none symbols (Err fault) given = λ other w written.
     let nothing : None ≡ Some w = sym (refused (command_at symbols) fault.rule given other) ∙ command_again symbols w written in
@@ -98,12 +98,12 @@ one_list_of_conditions symbols one other first second =
     cc
 
 -- what was read is written so
-pub are_found : (symbols : List Symbol) (r : Result (Vec code_condition.Condition) ReadFault) → Gives tree.conditions_of r (conditions_alone_at symbols) → IfOk r (λ cs. WritesConditions symbols (tree.conditions_of cs))
-are_found symbols (Ok cs) given = alone_takes symbols (tree.conditions_of cs) given
+pub are_found : (symbols : List Symbol) (r : Result (Vec code_condition.Condition) ReadFault) → Gives tree.conditions_tree r (conditions_alone_at symbols) → IfOk r (λ cs. WritesConditions symbols (tree.conditions_tree cs))
+are_found symbols (Ok cs) given = alone_takes symbols (tree.conditions_tree cs) given
 are_found symbols (Err fault) given = tt
 
 -- what was refused isn't written by any conditions
-pub are_none : (symbols : List Symbol) (r : Result (Vec code_condition.Condition) ReadFault) → Gives tree.conditions_of r (conditions_alone_at symbols) → IfErr r (λ fault. fault.rule ≢ rules.Memory → (cs : List tree.Condition) → ¬ (WritesConditions symbols cs))
+pub are_none : (symbols : List Symbol) (r : Result (Vec code_condition.Condition) ReadFault) → Gives tree.conditions_tree r (conditions_alone_at symbols) → IfErr r (λ fault. fault.rule ≢ rules.Memory → (cs : List tree.Condition) → ¬ (WritesConditions symbols cs))
 are_none symbols (Ok cs) given = tt
 are_none symbols (Err fault) given = λ other cs written.
     let nothing : None ≡ Some cs = sym (refused (conditions_alone_at symbols) fault.rule given other) ∙ alone_again symbols cs written in

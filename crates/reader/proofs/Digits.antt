@@ -9,7 +9,7 @@ use Rattle.std.proofs.lemmas.Str.{digit_value_digit}
 use Rattle.std.proofs.lemmas.Str.Parse.{digit_from_value}
 use Rattle.reader.specs.declared.class.Class.TheVariants.{Digit}
 use Rattle.reader.specs.Class.{is_in, AreAll}
-use Rattle.reader.specs.Tokens.{size_of_digits}
+use Rattle.reader.specs.Tokens.{magnitude_of_digits}
 
 pub digit_range : (b : ℕ) → is_in Digit b ≡ true → IsInRange 48 57 b
 digit_range b h = let p = and_parts _ _ h in (leb-true _ _ p.0, leb-true _ _ p.1)
@@ -31,11 +31,11 @@ pub AreAll-from_digits : (digits : List ℕ) → AllDigits 10 digits → AreAll 
 AreAll-from_digits [] all = tt
 AreAll-from_digits (d ∷ digits) all = (digit_in_class d (digit_from_value d all.0), AreAll-from_digits digits all.1)
 
-grown : (value size digit units : ℕ) → size ≡ min value (2 ^ 64 - 1) → units + 48 ≡ digit → min (min (size * 10) (2 ^ 64 - 1) + (digit - 48)) (2 ^ 64 - 1) ≡ min (value * 10 + units) (2 ^ 64 - 1)
-grown value size digit units so_far read = omega arith
+grown : (value magnitude digit units : ℕ) → magnitude ≡ min value (2 ^ 64 - 1) → units + 48 ≡ digit → min (min (magnitude * 10) (2 ^ 64 - 1) + (digit - 48)) (2 ^ 64 - 1) ≡ min (value * 10 + units) (2 ^ 64 - 1)
+grown value magnitude digit units so_far read = omega arith
 
 -- one digit more
-pub size_more : (digits : List ℕ) (i size : ℕ) → AreAll Digit digits → i < length digits → size ≡ size_of_digits (take i digits)
-    → min (min (size * 10) (2 ^ 64 - 1) + (get_or digits i 0 - 48)) (2 ^ 64 - 1) ≡ size_of_digits (take (i + 1) digits)
-size_more digits i size all within so_far =
-    rw digits_value_more (grown (digits_value 10 (take i digits)) size (get_or digits i 0) _ so_far (digit_value_digit _ (digit_at digits i all within)))
+pub magnitude_more : (digits : List ℕ) (i magnitude : ℕ) → AreAll Digit digits → i < length digits → magnitude ≡ magnitude_of_digits (take i digits)
+    → min (min (magnitude * 10) (2 ^ 64 - 1) + (get_or digits i 0 - 48)) (2 ^ 64 - 1) ≡ magnitude_of_digits (take (i + 1) digits)
+magnitude_more digits i magnitude all within so_far =
+    rw digits_value_more (grown (digits_value 10 (take i digits)) magnitude (get_or digits i 0) _ so_far (digit_value_digit _ (digit_at digits i all within)))

@@ -37,7 +37,7 @@ use Rattle.reader.proofs.Chains.{chosen, refused, first_step, mapped_step}
 use Rattle.reader.proofs.Fits.{both_parts}
 use Rattle.reader.proofs.FitsSchema.{IsSound, IsSoundConstant, IsSoundCondition, all_sound, sound_constant, sound_separated, sound_where, value_fits, number_within, row_fits, all_answers, places_fit, conds_fit}
 use Rattle.reader.proofs.Places.{slice_get-within_front, slice_get-behind, named_there, there_in}
-use Rattle.reader.proofs.Settings.{are_apart_fits}
+use Rattle.reader.proofs.WrittenAssignments.{are_apart_fits}
 
 -- ---- relations
 
@@ -220,14 +220,14 @@ insert_fits schema written insert are_sound is =
 -- an assignment whose constant, if it has one, is one that a text can say
 abbrev IsSoundAssigned : tree.Assigned → Type 0
 IsSoundAssigned (tree.constant constant) = IsSoundConstant constant
-IsSoundAssigned (tree.sum column is_negative size) = Unit {0}
+IsSoundAssigned (tree.sum column is_negative magnitude) = Unit {0}
 
 abbrev IsSoundAssignment : tree.Assignment → Type 0
 IsSoundAssignment assignment = IsSoundAssigned assignment.value
 
 sound_assigned : (value : tree.Assigned) → AllByRecursion IsSound (assigned_text value) → IsSoundAssigned value
 sound_assigned (tree.constant constant) all = sound_constant constant all
-sound_assigned (tree.sum column is_negative size) all = tt
+sound_assigned (tree.sum column is_negative magnitude) all = tt
 
 sound_update : (update : tree.Update) → AllByRecursion IsSound (update_text update) → AllByRecursion IsSoundAssignment update.sets × AllByRecursion IsSoundCondition update.conditions
 sound_update update all =
@@ -244,17 +244,17 @@ settable_fits columns asked found is =
     subst P same (eqb-false one.0.place 0 other.0, named_there columns asked one.0 one.1)
 
 -- a sum is of two integer columns
-sum_fits : (columns : List schema.Column) (kind : Kind) (asked : List ℕ) (is_negative : Bool) (size : ℕ) (value : Assigned) → sum_of columns kind asked is_negative size ≡ Some value → IsAssignable (types columns) kind value
-sum_fits columns kind asked is_negative size value is =
+sum_fits : (columns : List schema.Column) (kind : Kind) (asked : List ℕ) (is_negative : Bool) (magnitude : ℕ) (value : Assigned) → sum_of columns kind asked is_negative magnitude ≡ Some value → IsAssignable (types columns) kind value
+sum_fits columns kind asked is_negative magnitude value is =
     let added = first_step _ (addend columns kind asked) value is in
-    let n = first_step _ (number_of is_negative size) value added.2 in
+    let n = first_step _ (number_of is_negative magnitude) value added.2 in
     let found = first_step (λ (f : Found). cond (is_integer kind && is_integer f.kind) (Some f) None) (column_named columns asked) added.0 added.1 in
     let one = chosen (is_integer kind && is_integer found.0.kind) (Some found.0) added.0 found.2 in
     let integers = and_parts (is_integer kind) (is_integer found.0.kind) one.0 in
     let equal : found.0 ≡ added.0 = cc one.1 in
     let place : found.0.place ≡ added.0.place = ap (λ (f : Found). f.place) equal in
     let there = named_there columns asked found.0 found.1 in
-    let bounds = number_within is_negative size n.0 n.1 in
+    let bounds = number_within is_negative magnitude n.0 n.1 in
     let same : assigned.Sum added.0.place n.0 ≡ value = cc n.2 in
     let P : Assigned → Type 0 = IsAssignable (types columns) kind in
     subst P same (integer_is kind integers.0, ap (slice_get (types columns)) (sym place) ∙ there ∙ ap Some (integer_is found.0.kind integers.1), bounds.0, bounds.1)
@@ -264,7 +264,7 @@ assigned_fits columns kind (tree.constant constant) value is_sound is =
     let one = mapped_step assigned.Constant (value_of kind constant) value is in
     let P : Assigned → Type 0 = IsAssignable (types columns) kind in
     subst P one.2 (value_fits kind constant one.0 is_sound one.1)
-assigned_fits columns kind (tree.sum asked is_negative size) value is_sound is = sum_fits columns kind asked is_negative size value is
+assigned_fits columns kind (tree.sum asked is_negative magnitude) value is_sound is = sum_fits columns kind asked is_negative magnitude value is
 
 assignment_fits : (columns : List schema.Column) (written : tree.Assignment) (assignment : Assignment) → IsSoundAssignment written → assignment_of columns written ≡ Some assignment → IsAssignmentOf (types columns) assignment
 assignment_fits columns written assignment is_sound is =

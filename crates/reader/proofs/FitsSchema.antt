@@ -32,14 +32,14 @@ abbrev pub IsSound : Symbol → Type 0
 IsSound (key word) = Unit {0}
 IsSound (sign mark) = Unit {0}
 IsSound (name bytes) = Unit {0}
-IsSound (number size) = Unit {0}
+IsSound (number magnitude) = Unit {0}
 IsSound (text bytes) = IsTextValue bytes
 
 sound : (bytes : List ℕ) (t : Symbol) → Spells bytes t → IsSound t
 sound bytes (key word) spells = tt
 sound bytes (sign mark) spells = tt
 sound bytes (name letters) spells = tt
-sound bytes (number size) spells = tt
+sound bytes (number magnitude) spells = tt
 sound bytes (text value) spells = spells.1
 
 pub all_sound : (bytes : List ℕ) (ts : List Symbol) → AreTokens bytes ts → AllByRecursion IsSound ts
@@ -48,11 +48,11 @@ all_sound bytes (t ∷ ts) are = (sound are.5.lexeme t are.5.spells, all_sound a
 
 -- a constant whose text is one that a text can say
 abbrev pub IsSoundConstant : tree.Constant → Type 0
-IsSoundConstant (tree.integer is_negative size) = Unit {0}
+IsSoundConstant (tree.integer is_negative magnitude) = Unit {0}
 IsSoundConstant (tree.text bytes) = IsTextValue bytes
 
 pub sound_constant : (constant : tree.Constant) → AllByRecursion IsSound (constant_text constant) → IsSoundConstant constant
-sound_constant (tree.integer is_negative size) all = tt
+sound_constant (tree.integer is_negative magnitude) all = tt
 sound_constant (tree.text bytes) all = all.0
 
 -- items that sound tokens write, one by one
@@ -87,31 +87,31 @@ sound_where (condition ∷ conditions) all = sound_conditions (condition ∷ con
 -- ---- constants
 
 -- an integer within its bound fits 64 bits
-fits_negative : (size : ℕ) → size ≤ 2 ^ 63 → FitsSigned w64 (neg_ℤ (pos size))
-fits_negative size small = omega (arith, ints)
+fits_negative : (magnitude : ℕ) → magnitude ≤ 2 ^ 63 → FitsSigned w64 (neg_ℤ (pos magnitude))
+fits_negative magnitude small = omega (arith, ints)
 
-fits_positive : (size : ℕ) → size ≤ 2 ^ 63 - 1 → FitsSigned w64 (pos size)
-fits_positive size small = omega (arith, ints)
+fits_positive : (magnitude : ℕ) → magnitude ≤ 2 ^ 63 - 1 → FitsSigned w64 (pos magnitude)
+fits_positive magnitude small = omega (arith, ints)
 
-bounded : (is_negative : Bool) (size : ℕ) → nat_le size (greatest is_negative) ≡ true → FitsSigned w64 (signed is_negative size)
-bounded true size small = fits_negative size (leb-true size (2 ^ 63) small)
-bounded false size small = fits_positive size (leb-true size (2 ^ 63 - 1) small)
+bounded : (is_negative : Bool) (magnitude : ℕ) → nat_le magnitude (greatest is_negative) ≡ true → FitsSigned w64 (signed is_negative magnitude)
+bounded true magnitude small = fits_negative magnitude (leb-true magnitude (2 ^ 63) small)
+bounded false magnitude small = fits_positive magnitude (leb-true magnitude (2 ^ 63 - 1) small)
 
 -- a value that fits its column
 abbrev pub FitsColumn : Kind → Value → Type 0
 FitsColumn kind value = (kind_of value ≡ kind) × Fits value
 
-integer_fits : (is_negative : Bool) (size : ℕ) (value : Value) → integer_of is_negative size ≡ Some value → FitsColumn kinds.Int value × FitsConstant value
-integer_fits is_negative size value is =
-    let one = chosen (nat_le size (greatest is_negative)) (Some (values.Int (signed is_negative size))) value is in
-    let same : values.Int (signed is_negative size) ≡ value = cc one.1 in
+integer_fits : (is_negative : Bool) (magnitude : ℕ) (value : Value) → integer_of is_negative magnitude ≡ Some value → FitsColumn kinds.Int value × FitsConstant value
+integer_fits is_negative magnitude value is =
+    let one = chosen (nat_le magnitude (greatest is_negative)) (Some (values.Int (signed is_negative magnitude))) value is in
+    let same : values.Int (signed is_negative magnitude) ≡ value = cc one.1 in
     let P : Value → Type 0 = λ v. FitsColumn kinds.Int v × FitsConstant v in
-    subst P same ((refl, bounded is_negative size one.0), bounded is_negative size one.0)
+    subst P same ((refl, bounded is_negative magnitude one.0), bounded is_negative magnitude one.0)
 
 pub value_fits : (kind : Kind) (constant : tree.Constant) (value : Value) → IsSoundConstant constant → value_of kind constant ≡ Some value → FitsColumn kind value
-value_fits kinds.Int (tree.integer is_negative size) value is_sound is = (integer_fits is_negative size value is).0
+value_fits kinds.Int (tree.integer is_negative magnitude) value is_sound is = (integer_fits is_negative magnitude value is).0
 value_fits kinds.Int (tree.text bytes) value is_sound is = cc
-value_fits kinds.Text (tree.integer is_negative size) value is_sound is = cc
+value_fits kinds.Text (tree.integer is_negative magnitude) value is_sound is = cc
 value_fits kinds.Text (tree.text bytes) value is_sound is =
     let P : Value → Type 0 = FitsColumn kinds.Text in
     let same : values.Text bytes ≡ value = cc in
@@ -121,10 +121,10 @@ shorter_text : (bytes : List ℕ) → IsTextUpTo 200 bytes → length bytes ≤ 
 shorter_text bytes is short = record { short = short; utf8 = is.utf8; printable = is.printable }
 
 compared_fits : (kind : Kind) (constant : tree.Constant) (value : Value) → IsSoundConstant constant → compared_of kind constant ≡ Some value → (kind_of value ≡ kind) × FitsConstant value
-compared_fits kinds.Int (tree.integer is_negative size) value is_sound is =
-    let fits = integer_fits is_negative size value is in (fits.0.0, fits.1)
+compared_fits kinds.Int (tree.integer is_negative magnitude) value is_sound is =
+    let fits = integer_fits is_negative magnitude value is in (fits.0.0, fits.1)
 compared_fits kinds.Int (tree.text bytes) value is_sound is = cc
-compared_fits kinds.Text (tree.integer is_negative size) value is_sound is = cc
+compared_fits kinds.Text (tree.integer is_negative magnitude) value is_sound is = cc
 compared_fits kinds.Text (tree.text bytes) value is_sound is =
     let one = chosen (nat_le (length bytes) 100) (Some (values.Text bytes)) value is in
     let same : values.Text bytes ≡ value = cc one.1 in
@@ -132,16 +132,16 @@ compared_fits kinds.Text (tree.text bytes) value is_sound is =
     subst P same (refl, shorter_text bytes (fits_text bytes is_sound) (leb-true (length bytes) 100 one.0))
 
 -- the number of a sum is within the same bound on both sides
-signed_within : (is_negative : Bool) (size : ℕ) → size ≤ 2 ^ 63 - 1 → (neg_ℤ (pos 9223372036854775807) ≤ℤ signed is_negative size) × (signed is_negative size ≤ℤ pos 9223372036854775807)
-signed_within true size small = (omega (arith, ints), omega (arith, ints))
-signed_within false size small = (omega (arith, ints), omega (arith, ints))
+signed_within : (is_negative : Bool) (magnitude : ℕ) → magnitude ≤ 2 ^ 63 - 1 → (neg_ℤ (pos 9223372036854775807) ≤ℤ signed is_negative magnitude) × (signed is_negative magnitude ≤ℤ pos 9223372036854775807)
+signed_within true magnitude small = (omega (arith, ints), omega (arith, ints))
+signed_within false magnitude small = (omega (arith, ints), omega (arith, ints))
 
-pub number_within : (is_negative : Bool) (size : ℕ) (n : ℤ) → number_of is_negative size ≡ Some n → (neg_ℤ (pos 9223372036854775807) ≤ℤ n) × (n ≤ℤ pos 9223372036854775807)
-number_within is_negative size n is =
-    let one = chosen (nat_le size (2 ^ 63 - 1)) (Some (signed is_negative size)) n is in
-    let same : signed is_negative size ≡ n = cc one.1 in
+pub number_within : (is_negative : Bool) (magnitude : ℕ) (n : ℤ) → number_of is_negative magnitude ≡ Some n → (neg_ℤ (pos 9223372036854775807) ≤ℤ n) × (n ≤ℤ pos 9223372036854775807)
+number_within is_negative magnitude n is =
+    let one = chosen (nat_le magnitude (2 ^ 63 - 1)) (Some (signed is_negative magnitude)) n is in
+    let same : signed is_negative magnitude ≡ n = cc one.1 in
     let P : ℤ → Type 0 = λ m. (neg_ℤ (pos 9223372036854775807) ≤ℤ m) × (m ≤ℤ pos 9223372036854775807) in
-    subst P same (signed_within is_negative size (leb-true size (2 ^ 63 - 1) one.0))
+    subst P same (signed_within is_negative magnitude (leb-true magnitude (2 ^ 63 - 1) one.0))
 
 -- the row of an INSERT fits its relation
 pub row_fits : (kinds : List Kind) (constants : List tree.Constant) (row : List Value) → AllByRecursion IsSoundConstant constants → row_of kinds constants ≡ Some row → FitsKinds kinds row

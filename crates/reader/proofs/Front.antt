@@ -14,7 +14,7 @@ use Rattle.reader.specs.declared.sign.Sign.TheVariants.{Comma, Dot, Open, Close,
 use Rattle.reader.specs.Class.{is_in, AreAll}
 use Rattle.reader.specs.Sign.{sign_text}
 use Rattle.reader.specs.Symbol.{Symbol, key, sign, name, number, text}
-use Rattle.reader.specs.Tokens.{IsWord, IsTextValue, Spells, Stops, Begins, goes_on, quoted, doubled, size_of_digits}
+use Rattle.reader.specs.Tokens.{IsWord, IsTextValue, Spells, Stops, Begins, goes_on, quoted, doubled, magnitude_of_digits}
 use Rattle.reader.specs.Reading.{front, after, word_of, sign_of, text_of, text_at, token_at, with_rest, text_from, sign_from, unquoted}
 use Rattle.reader.proofs.Runs.{front-after, front_passes, after_stops, front-append, after-append}
 use Rattle.reader.proofs.Digits.{digit_range, AllDigits-from_class, AreAll-from_digits}
@@ -55,11 +55,11 @@ word_at_takes b bytes t rest letter read =
 -- ---- integers
 
 number_at_takes : (b : ℕ) (bytes : List ℕ) (t : Symbol) (rest : List ℕ) → is_in Digit b ≡ true
-    → ◌≡◌ {A = Option (Symbol × List ℕ)} (Some (number (size_of_digits (front (is_in Digit) (b ∷ bytes))), after (is_in Digit) (b ∷ bytes))) (Some (t, rest)) → Begins (b ∷ bytes) t rest
+    → ◌≡◌ {A = Option (Symbol × List ℕ)} (Some (number (magnitude_of_digits (front (is_in Digit) (b ∷ bytes))), after (is_in Digit) (b ∷ bytes))) (Some (t, rest)) → Begins (b ∷ bytes) t rest
 number_at_takes b bytes t rest digit read =
     let p = some_pair_parts _ t _ rest read in
     let long : 0 < length (front (is_in Digit) (b ∷ bytes)) = rw digit (omega arith) in
-    let made : Begins (b ∷ bytes) (number (size_of_digits (front (is_in Digit) (b ∷ bytes)))) (after (is_in Digit) (b ∷ bytes)) = record {
+    let made : Begins (b ∷ bytes) (number (magnitude_of_digits (front (is_in Digit) (b ∷ bytes)))) (after (is_in Digit) (b ∷ bytes)) = record {
       lexeme = front (is_in Digit) (b ∷ bytes);
       parts = front-after (is_in Digit) (b ∷ bytes);
       spells = ((long, AllDigits-from_class _ (front_passes (is_in Digit) (b ∷ bytes))), refl);
@@ -153,7 +153,7 @@ word_at_again (b ∷ word) t rest is_word stops read =
     let all : AreAll WordByte (b ∷ word) = (letter_in_word b is_word.0, is_word.1) in
     rw (is_word.0) (rw (front-append (is_in WordByte) (b ∷ word) rest all stops, after-append (is_in WordByte) (b ∷ word) rest all stops, read) refl)
 
-number_at_again : (digits rest : List ℕ) → IsNumeral 10 digits → Stops (is_in Digit) rest → token_at (digits ++ rest) ≡ Some (number (size_of_digits digits), rest)
+number_at_again : (digits rest : List ℕ) → IsNumeral 10 digits → Stops (is_in Digit) rest → token_at (digits ++ rest) ≡ Some (number (magnitude_of_digits digits), rest)
 unfolding token_at
 number_at_again [] rest is_numeral stops = absurd (omega (arith, is_numeral.0))
 number_at_again (b ∷ digits) rest is_numeral stops =
@@ -191,7 +191,7 @@ token_again lexeme (key k) rest spells stops = word_at_again lexeme (key k) rest
 token_again lexeme (sign s) rest spells stops = ap (λ (w : List ℕ). token_at (w ++ rest)) spells ∙ sign_at_again s rest stops
 token_again lexeme (name letters) rest spells stops =
     ap (λ (w : List ℕ). token_at (w ++ rest)) spells.0 ∙ word_at_again letters (name letters) rest spells.1.is_word stops (name_again letters spells.1)
-token_again lexeme (number size) rest spells stops = number_at_again lexeme rest spells.0 stops ∙ ap (λ (n : ℕ). Some (number n, rest)) spells.1
+token_again lexeme (number magnitude) rest spells stops = number_at_again lexeme rest spells.0 stops ∙ ap (λ (n : ℕ). Some (number n, rest)) spells.1
 token_again lexeme (text value) rest spells stops = ap (λ (w : List ℕ). token_at (w ++ rest)) spells.0 ∙ text_again value rest spells.1 stops
 
 pub begins_again : (bytes : List ℕ) (t : Symbol) (rest : List ℕ) → Begins bytes t rest → token_at bytes ≡ Some (t, rest)
@@ -223,7 +223,7 @@ spelled_length : (lexeme : List ℕ) (t : Symbol) → Spells lexeme t → 0 < le
 spelled_length lexeme (key k) spells = word_length lexeme spells.0
 spelled_length lexeme (sign s) spells = rw spells (sign_length s)
 spelled_length lexeme (name letters) spells = rw (spells.0) (word_length letters spells.1.is_word)
-spelled_length lexeme (number size) spells = spells.0.0
+spelled_length lexeme (number magnitude) spells = spells.0.0
 spelled_length lexeme (text value) spells = rw (spells.0) (omega arith)
 
 -- what follows a token is shorter

@@ -7,6 +7,7 @@ pub mod Words
 pub mod Front
 pub mod Loop
 pub mod Printing
+pub mod SeparatedItems
 pub mod Spellable
 pub mod Doubled
 pub mod Spelled
@@ -18,8 +19,8 @@ pub mod Chains
 pub mod Places
 pub mod Each
 pub mod Broken
-pub mod Kept
-pub mod Settings
+pub mod WrittenConditions
+pub mod WrittenAssignments
 pub mod Fits
 pub mod FitsSchema
 pub mod FitsCommand

@@ -61,7 +61,7 @@ token_calm : (t : Symbol) (b : ℕ) → IsCalm b → goes_on t b ≡ false
 token_calm (key k) b c = c.word
 token_calm (sign s) b c = sign_calm s b c
 token_calm (name letters) b c = c.word
-token_calm (number size) b c = narrowed _ _ _ _ c.word
+token_calm (number magnitude) b c = narrowed _ _ _ _ c.word
 token_calm (text value) b c = c.quote
 
 stops_calm : (t : Symbol) (rest : List ℕ) → Stops joins rest → Stops (goes_on t) rest

@@ -47,7 +47,7 @@ column_again c rest lacks = column_again_by c.relation c.name rest lacks
 
 plain_takes : Takes plain_at constant_text
 unfolding plain_at
-plain_takes (number size ∷ rest) y h = written constant_text h (record { parts = refl })
+plain_takes (number magnitude ∷ rest) y h = written constant_text h (record { parts = refl })
 plain_takes (text bytes ∷ rest) y h = written constant_text h (record { parts = refl })
 plain_takes _ y h = absurd cc
 
@@ -56,15 +56,15 @@ unfolding constant_at
 constant_takes symbols y h =
     elim (taken _ _ _ _ h) [
       | inl minus ↦
-          let size = bind minus.2 in
-          written constant_text size.2 (minus.1 then number_takes _ _ size.1)
+          let magnitude = bind minus.2 in
+          written constant_text magnitude.2 (minus.1 then number_takes _ _ magnitude.1)
       | inr plain ↦ plain_takes _ _ plain
     ]
 
 pub constant_again : Again constant_at constant_text (λ _. Unit {0})
 unfolding constant_at and_then given eat number_at plain_at
-constant_again (tree.integer true size) rest _ = refl
-constant_again (tree.integer false size) rest _ = refl
+constant_again (tree.integer true magnitude) rest _ = refl
+constant_again (tree.integer false magnitude) rest _ = refl
 constant_again (tree.text bytes) rest _ = refl
 
 -- ---- the list of a select
@@ -236,12 +236,12 @@ sum_takes symbols y h =
     let front = name_takes _ _ column.1 in
     elim (taken _ _ _ _ column.2) [
       | inl minus ↦
-          let size = bind minus.2 in
-          written assigned_text size.2 (front then minus.1 then number_takes _ _ size.1)
+          let magnitude = bind minus.2 in
+          written assigned_text magnitude.2 (front then minus.1 then number_takes _ _ magnitude.1)
       | inr other ↦
           let plus = bind other in
-          let size = bind plus.2 in
-          written assigned_text size.2 (front then expect_takes _ _ _ plus.1 then number_takes _ _ size.1)
+          let magnitude = bind plus.2 in
+          written assigned_text magnitude.2 (front then expect_takes _ _ _ plus.1 then number_takes _ _ magnitude.1)
     ]
 
 assigned_takes : Takes assigned_at assigned_text
@@ -256,11 +256,11 @@ assigned_takes symbols y h =
 
 assigned_again : Again assigned_at assigned_text (λ _. Unit {0})
 unfolding assigned_at and_then is_name sum_at expect given eat name_at number_at constant_at plain_at
-assigned_again (tree.constant (tree.integer true size)) rest _ = refl
-assigned_again (tree.constant (tree.integer false size)) rest _ = refl
+assigned_again (tree.constant (tree.integer true magnitude)) rest _ = refl
+assigned_again (tree.constant (tree.integer false magnitude)) rest _ = refl
 assigned_again (tree.constant (tree.text bytes)) rest _ = refl
-assigned_again (tree.sum column true size) rest _ = refl
-assigned_again (tree.sum column false size) rest _ = refl
+assigned_again (tree.sum column true magnitude) rest _ = refl
+assigned_again (tree.sum column false magnitude) rest _ = refl
 
 pub assignment_takes : Takes assignment_at assignment_text
 unfolding assignment_at

@@ -13,7 +13,7 @@ pub record IsColumn (column : tree.Column) : Type 0 where
   pub name : IsName column.name
 
 abbrev pub IsConstant : tree.Constant → Type 0
-IsConstant (tree.integer is_negative size) = size < 2 ^ 64
+IsConstant (tree.integer is_negative magnitude) = magnitude < 2 ^ 64
 IsConstant (tree.text bytes) = IsTextValue bytes
 
 pub record IsCondition (condition : tree.Condition) : Type 0 where
@@ -45,7 +45,7 @@ pub record IsInsert (insert : tree.Insert) : Type 0 where
 
 abbrev pub IsAssigned : tree.Assigned → Type 0
 IsAssigned (tree.constant value) = IsConstant value
-IsAssigned (tree.sum column is_negative size) = IsName column × (size < 2 ^ 64)
+IsAssigned (tree.sum column is_negative magnitude) = IsName column × (magnitude < 2 ^ 64)
 
 pub record IsAssignment (assignment : tree.Assignment) : Type 0 where
   pub column : IsName assignment.column

@@ -58,8 +58,8 @@ prints_column c is = by c.relation is.qualifier
     by (Some relation) qualifies = regrouped (simp append_assoc) (prints_both (prints_name qualifies) (prints_open mark.Dot (λ b. refl) (prints_name is.name)) refl)
 
 prints_constant : (c : tree.Constant) → IsConstant c → Prints (constant_bytes c) (constant_text c)
-prints_constant (tree.integer true size) fits = prints_open mark.Minus (λ b. refl) (prints_number size fits)
-prints_constant (tree.integer false size) fits = prints_number size fits
+prints_constant (tree.integer true magnitude) fits = prints_open mark.Minus (λ b. refl) (prints_number magnitude fits)
+prints_constant (tree.integer false magnitude) fits = prints_number magnitude fits
 prints_constant (tree.text bytes) is = prints_text is
 
 -- ---- conditions
@@ -112,8 +112,8 @@ prints_insert i is =
 
 prints_assigned : (a : tree.Assigned) → IsAssigned a → Prints (assigned_bytes a) (assigned_text a)
 prints_assigned (tree.constant value) is = prints_constant value is
-prints_assigned (tree.sum column is_negative size) is =
-    regrouped (simp append_assoc) (spaced (prints_name is.0) (spaced (prints_sign (sum_sign is_negative)) (prints_number size is.1)))
+prints_assigned (tree.sum column is_negative magnitude) is =
+    regrouped (simp append_assoc) (spaced (prints_name is.0) (spaced (prints_sign (sum_sign is_negative)) (prints_number magnitude is.1)))
 
 prints_assignment : (a : tree.Assignment) → IsAssignment a → Prints (assignment_bytes a) (assignment_text a)
 prints_assignment a is = regrouped (simp append_assoc) (spaced (prints_name is.column) (spaced (prints_sign mark.Equal) (prints_assigned a.value is.value)))

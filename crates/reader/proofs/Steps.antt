@@ -153,9 +153,9 @@ unfolding name_at
 name_takes (name bytes ∷ rest) y h = written (λ b. name b ∷ []) h (record { parts = refl })
 name_takes _ y h = absurd cc
 
-pub number_takes : Takes number_at (λ size. number size ∷ [])
+pub number_takes : Takes number_at (λ magnitude. number magnitude ∷ [])
 unfolding number_at
-number_takes (number size ∷ rest) y h = written (λ n. number n ∷ []) h (record { parts = refl })
+number_takes (number magnitude ∷ rest) y h = written (λ n. number n ∷ []) h (record { parts = refl })
 number_takes _ y h = absurd cc
 
 -- nothing is lost

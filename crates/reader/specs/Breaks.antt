@@ -45,12 +45,12 @@ ColumnBreaks rule scope column = ⊥
 
 -- the type of a constant
 abbrev pub constant_kind : tree.Constant → Kind
-constant_kind (tree.integer is_negative size) = kinds.Int
+constant_kind (tree.integer is_negative magnitude) = kinds.Int
 constant_kind (tree.text bytes) = kinds.Text
 
 -- an integer that 64 bits don't hold
 abbrev pub IsTooLarge : tree.Constant → Type 0
-IsTooLarge (tree.integer is_negative size) = greatest is_negative < size
+IsTooLarge (tree.integer is_negative magnitude) = greatest is_negative < magnitude
 IsTooLarge (tree.text bytes) = ⊥
 
 -- a constant is of another type than its column, or too large
@@ -61,7 +61,7 @@ ConstantBreaks rule kind constant = ⊥
 
 -- a text of more bytes than a condition compares with
 abbrev pub IsTooLong : tree.Constant → Type 0
-IsTooLong (tree.integer is_negative size) = ⊥
+IsTooLong (tree.integer is_negative magnitude) = ⊥
 IsTooLong (tree.text bytes) = 100 < length bytes
 
 -- what a condition compares with is of another type than its column, too large or too long
@@ -101,7 +101,7 @@ AddendBreaks rule columns kind name = ⊥
 -- what a column is set to does not fit it
 abbrev pub AssignedBreaks : Rule → List schema.Column → Kind → tree.Assigned → Type 0
 AssignedBreaks rule columns kind (tree.constant constant) = ConstantBreaks rule kind constant
-AssignedBreaks rule columns kind (tree.sum name is_negative size) = AddendBreaks rule columns kind name ⊎ ((rule ≡ rules.Limit) × (2 ^ 63 - 1 < size))
+AssignedBreaks rule columns kind (tree.sum name is_negative magnitude) = AddendBreaks rule columns kind name ⊎ ((rule ≡ rules.Limit) × (2 ^ 63 - 1 < magnitude))
 
 -- an assignment's column cannot be set, or not to this
 abbrev pub AssignmentBreaks : Rule → List schema.Column → tree.Assignment → Type 0

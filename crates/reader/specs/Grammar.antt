@@ -31,7 +31,7 @@ minus_text true = sign mark.Minus ∷ []
 minus_text false = []
 
 abbrev pub constant_text : tree.Constant → List Symbol
-constant_text (tree.integer is_negative size) = minus_text is_negative ++ number size ∷ []
+constant_text (tree.integer is_negative magnitude) = minus_text is_negative ++ number magnitude ∷ []
 constant_text (tree.text bytes) = text bytes ∷ []
 
 -- list = "*" | column { "," column }
@@ -81,7 +81,7 @@ sum_sign false = mark.Plus
 
 abbrev pub assigned_text : tree.Assigned → List Symbol
 assigned_text (tree.constant value) = constant_text value
-assigned_text (tree.sum column is_negative size) = name column ∷ sign (sum_sign is_negative) ∷ number size ∷ []
+assigned_text (tree.sum column is_negative magnitude) = name column ∷ sign (sum_sign is_negative) ∷ number magnitude ∷ []
 
 -- assignment = name "=" what is assigned
 abbrev pub assignment_text : tree.Assignment → List Symbol

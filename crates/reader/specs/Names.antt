@@ -35,32 +35,32 @@ all_of answer (x ∷ xs) = option_and_then (λ y. option_map (λ ys. y ∷ ys) (
 
 -- an integer with its sign, where it fits 64 bits
 abbrev pub signed : Bool → ℕ → ℤ
-signed true size = neg_ℤ (pos size)
-signed false size = pos size
+signed true magnitude = neg_ℤ (pos magnitude)
+signed false magnitude = pos magnitude
 
 abbrev pub greatest : Bool → ℕ
 greatest true = 2 ^ 63
 greatest false = 2 ^ 63 - 1
 
 abbrev pub integer_of : Bool → ℕ → Option Value
-integer_of is_negative size = if nat_le size (greatest is_negative) then Some (values.Int (signed is_negative size)) else None
+integer_of is_negative magnitude = if nat_le magnitude (greatest is_negative) then Some (values.Int (signed is_negative magnitude)) else None
 
 -- the value of a constant in a column of a type
 abbrev pub value_of : Kind → tree.Constant → Option Value
-value_of kinds.Int (tree.integer is_negative size) = integer_of is_negative size
+value_of kinds.Int (tree.integer is_negative magnitude) = integer_of is_negative magnitude
 value_of kinds.Int (tree.text bytes) = None
-value_of kinds.Text (tree.integer is_negative size) = None
+value_of kinds.Text (tree.integer is_negative magnitude) = None
 value_of kinds.Text (tree.text bytes) = Some (values.Text bytes)
 
 -- the value that a condition compares with: a text of at most 100 bytes
 abbrev pub compared_of : Kind → tree.Constant → Option Value
 compared_of kinds.Int constant = value_of kinds.Int constant
-compared_of kinds.Text (tree.integer is_negative size) = None
+compared_of kinds.Text (tree.integer is_negative magnitude) = None
 compared_of kinds.Text (tree.text bytes) = if nat_le (length bytes) 100 then Some (values.Text bytes) else None
 
 -- the number that a sum adds: the same bound whether it is added or taken away
 abbrev pub number_of : Bool → ℕ → Option ℤ
-number_of is_negative size = if nat_le size (2 ^ 63 - 1) then Some (signed is_negative size) else None
+number_of is_negative magnitude = if nat_le magnitude (2 ^ 63 - 1) then Some (signed is_negative magnitude) else None
 
 -- ---- columns and conditions
 
@@ -172,15 +172,15 @@ addend columns kind name = do
   if is_integer kind && is_integer found.kind then Some found else None
 
 abbrev pub sum_of : List schema.Column → Kind → List ℕ → Bool → ℕ → Option Assigned
-sum_of columns kind name is_negative size = do
+sum_of columns kind name is_negative magnitude = do
   found ← addend columns kind name
-  number ← number_of is_negative size
+  number ← number_of is_negative magnitude
   Some (assigned.Sum found.place number)
 
 -- what a column of a type is set to
 abbrev pub assigned_of : List schema.Column → Kind → tree.Assigned → Option Assigned
 assigned_of columns kind (tree.constant constant) = option_map assigned.Constant (value_of kind constant)
-assigned_of columns kind (tree.sum name is_negative size) = sum_of columns kind name is_negative size
+assigned_of columns kind (tree.sum name is_negative magnitude) = sum_of columns kind name is_negative magnitude
 
 abbrev pub assignment_of : List schema.Column → tree.Assignment → Option Assignment
 assignment_of columns assignment = do

@@ -93,7 +93,7 @@ name_at (name bytes ∷ rest) = Some (bytes, rest)
 name_at _ = None
 
 unfoldable pub number_at : List Symbol → Option (ℕ × List Symbol)
-number_at (number size ∷ rest) = Some (size, rest)
+number_at (number magnitude ∷ rest) = Some (magnitude, rest)
 number_at _ = None
 
 -- whether a name is next
@@ -138,14 +138,14 @@ column_at symbols = do
 
 -- a text, or a number with no sign
 unfoldable pub plain_at : List Symbol → Option (tree.Constant × List Symbol)
-plain_at (number size ∷ rest) = Some (tree.integer false size, rest)
+plain_at (number magnitude ∷ rest) = Some (tree.integer false magnitude, rest)
 plain_at (text bytes ∷ rest) = Some (tree.text bytes, rest)
 plain_at _ = None
 
 unfoldable pub constant_at : List Symbol → Option (tree.Constant × List Symbol)
 constant_at symbols =
     given (sign mark.Minus) symbols
-    (λ rest. number_at rest >>= λ size. Some (tree.integer true size.0, size.1))
+    (λ rest. number_at rest >>= λ magnitude. Some (tree.integer true magnitude.0, magnitude.1))
     plain_at
 
 unfoldable pub listed_at : List Symbol → Option (tree.Listed × List Symbol)
@@ -209,8 +209,8 @@ unfoldable pub sum_at : List Symbol → Option (tree.Assigned × List Symbol)
 sum_at symbols = do
   column ← name_at symbols
   given (sign mark.Minus) column.1
-      (λ rest. number_at rest >>= λ size. Some (tree.sum column.0 true size.0, size.1))
-      (λ rest. expect (sign mark.Plus) rest >>= λ plus. number_at plus.1 >>= λ size. Some (tree.sum column.0 false size.0, size.1))
+      (λ rest. number_at rest >>= λ magnitude. Some (tree.sum column.0 true magnitude.0, magnitude.1))
+      (λ rest. expect (sign mark.Plus) rest >>= λ plus. number_at plus.1 >>= λ magnitude. Some (tree.sum column.0 false magnitude.0, magnitude.1))
 
 unfoldable pub assigned_at : List Symbol → Option (tree.Assigned × List Symbol)
 assigned_at symbols =

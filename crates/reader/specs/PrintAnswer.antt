@@ -6,6 +6,7 @@ use Rattle.terms.specs.declared.value.Value.{Value}
 use Rattle.terms.specs.declared.value.Value.TheVariants.{Int, Text}
 use Rattle.meaning.specs.declared.answer.Answer.{Answer}
 use Rattle.meaning.specs.declared.answer.Answer.TheVariants.{Rows, Changed, Exists, Overflow}
+use Rattle.reader.specs.PrintStatement.{separated_bytes}
 
 -- a value in a row: an integer in decimal, a text as it is
 abbrev pub value_text : Value → List ℕ
@@ -14,8 +15,7 @@ value_text (Text bytes) = bytes
 
 -- fields, parted by one tab
 abbrev pub fields_text : List (List ℕ) → List ℕ
-fields_text [] = []
-fields_text (field ∷ fields) = field ++ flat_map (λ f. 9 ∷ f) fields
+fields_text fields = separated_bytes (λ field. field) (9 ∷ []) fields
 
 abbrev pub row_text : List Value → List ℕ
 row_text row = fields_text (map value_text row)

@@ -30,7 +30,7 @@ minus_bytes false = []
 
 -- a constant: an integer in decimal, a text in quotes
 abbrev pub constant_bytes : tree.Constant → List ℕ
-constant_bytes (tree.integer is_negative size) = minus_bytes is_negative ++ decimal size
+constant_bytes (tree.integer is_negative magnitude) = minus_bytes is_negative ++ decimal magnitude
 constant_bytes (tree.text bytes) = quoted bytes
 
 abbrev pub constants_bytes : List tree.Constant → List ℕ
@@ -62,7 +62,7 @@ insert_bytes i = codes "INSERT INTO " ++ i.relation ++ codes " VALUES (" ++ cons
 
 abbrev pub assigned_bytes : tree.Assigned → List ℕ
 assigned_bytes (tree.constant value) = constant_bytes value
-assigned_bytes (tree.sum column is_negative size) = column ++ codes " " ++ sign_text (sum_sign is_negative) ++ codes " " ++ decimal size
+assigned_bytes (tree.sum column is_negative magnitude) = column ++ codes " " ++ sign_text (sum_sign is_negative) ++ codes " " ++ decimal magnitude
 
 abbrev pub assignment_bytes : tree.Assignment → List ℕ
 assignment_bytes a = a.column ++ codes " = " ++ assigned_bytes a.value

@@ -16,7 +16,7 @@ use Rattle.reader.specs.Class.{is_in}
 use Rattle.reader.specs.Keyword.{keyword_text}
 use Rattle.reader.specs.Sign.{sign_text}
 use Rattle.reader.specs.Symbol.{Symbol, key, sign, name, number, text}
-use Rattle.reader.specs.Tokens.{quote, size_of_digits}
+use Rattle.reader.specs.Tokens.{quote, magnitude_of_digits}
 
 -- the elements from the front on that pass
 abbrev pub front : (ℕ → Bool) → List ℕ → List ℕ
@@ -101,6 +101,6 @@ sign_from bytes (Some s) = Some (sign s, drop (length (sign_text s)) bytes)
 unfoldable pub token_at : List ℕ → Option (Symbol × List ℕ)
 token_at bytes =
     if is_in Letter (slice_index bytes 0) then with_rest (after (is_in WordByte) bytes) (word_of (front (is_in WordByte) bytes))
-    else if is_in Digit (slice_index bytes 0) then Some (number (size_of_digits (front (is_in Digit) bytes)), after (is_in Digit) bytes)
+    else if is_in Digit (slice_index bytes 0) then Some (number (magnitude_of_digits (front (is_in Digit) bytes)), after (is_in Digit) bytes)
     else if slice_index bytes 0 == quote then text_at (drop 1 bytes)
     else sign_from bytes (sign_of bytes)

@@ -12,14 +12,14 @@ pub data Symbol : Type 0 where
   key : (word : Keyword) → Symbol
   sign : (mark : Sign) → Symbol
   name : (bytes : List ℕ) → Symbol
-  number : (size : ℕ) → Symbol
+  number : (magnitude : ℕ) → Symbol
   text : (bytes : List ℕ) → Symbol
 
 abbrev pub symbol_of : Token → Symbol
 symbol_of (tokens.Keyword word) = key word
 symbol_of (tokens.Sign mark) = sign mark
 symbol_of (tokens.Name bytes) = name bytes.now
-symbol_of (tokens.Integer size) = number size
+symbol_of (tokens.Integer magnitude) = number magnitude
 symbol_of (tokens.Text string) = text (string_bytes string)
 
 abbrev pub symbols_of : List Placed → List Symbol

@@ -36,8 +36,8 @@ pub record IsTextValue (bytes : List ℕ) : Type 0 where
   pub is_short : length bytes ≤ 200
 
 -- the number that digits write, cut at the largest of 64 bits
-abbrev pub size_of_digits : List ℕ → ℕ
-size_of_digits digits = min (digits_value 10 digits) (2 ^ 64 - 1)
+abbrev pub magnitude_of_digits : List ℕ → ℕ
+magnitude_of_digits digits = min (digits_value 10 digits) (2 ^ 64 - 1)
 
 -- the byte that a text begins and ends with: '
 abbrev pub quote : ℕ
@@ -57,7 +57,7 @@ abbrev pub Spells : List ℕ → Symbol → Type 0
 Spells bytes (key word) = IsWord bytes × IsInAnyCase bytes (keyword_text word)
 Spells bytes (sign mark) = bytes ≡ sign_text mark
 Spells bytes (name letters) = (bytes ≡ letters) × IsName letters
-Spells bytes (number size) = IsNumeral 10 bytes × (size_of_digits bytes ≡ size)
+Spells bytes (number magnitude) = IsNumeral 10 bytes × (magnitude_of_digits bytes ≡ magnitude)
 Spells bytes (text value) = (bytes ≡ quoted value) × IsTextValue value
 
 -- whether a longer sign has the byte after this one
@@ -82,7 +82,7 @@ abbrev pub goes_on : Symbol → ℕ → Bool
 goes_on (key word) b = is_in WordByte b
 goes_on (sign mark) b = sign_goes_on mark b
 goes_on (name letters) b = is_in WordByte b
-goes_on (number size) b = is_in Digit b
+goes_on (number magnitude) b = is_in Digit b
 goes_on (text value) b = b == quote
 
 -- the bytes are at an end, or begin with one that does not go on

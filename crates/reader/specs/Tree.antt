@@ -25,9 +25,9 @@ pub record Column : Type 0 where
   pub relation : Option (List ℕ)
   pub name : List ℕ
 
--- A constant: the size of an integer stands beside its sign.
+-- A constant: the magnitude of an integer stands beside its sign.
 pub data Constant : Type 0 where
-  integer : (is_negative : Bool) (size : ℕ) → Constant
+  integer : (is_negative : Bool) (magnitude : ℕ) → Constant
   text : (bytes : List ℕ) → Constant
 
 -- What a select lists: all columns, or these.
@@ -61,7 +61,7 @@ pub record Insert : Type 0 where
 -- What a column is set to: a constant, or the value of a column and a number added or taken away.
 pub data Assigned : Type 0 where
   constant : (value : Constant) → Assigned
-  sum : (column : List ℕ) (is_negative : Bool) (size : ℕ) → Assigned
+  sum : (column : List ℕ) (is_negative : Bool) (magnitude : ℕ) → Assigned
 
 pub record Assignment : Type 0 where
   pub column : List ℕ
@@ -88,59 +88,59 @@ pub data Written : Type 0 where
 
 -- The tree of the code without offsets.
 
-abbrev pub column_of : code_column.Column → Column
-column_of c = record { relation = option_copied c.relation; name = c.name.now }
+abbrev pub column_tree : code_column.Column → Column
+column_tree c = record { relation = option_copied c.relation; name = c.name.now }
 
-abbrev pub constant_of : code_constant.Constant → Constant
-constant_of (constants.Integer is_negative size _ _) = integer is_negative size
-constant_of (constants.Text bytes _) = text bytes.now
+abbrev pub constant_tree : code_constant.Constant → Constant
+constant_tree (constants.Integer is_negative magnitude _ _) = integer is_negative magnitude
+constant_tree (constants.Text bytes _) = text bytes.now
 
-abbrev pub columns_of : Vec code_column.Column → List Column
-columns_of cs = map column_of cs.items
+abbrev pub columns_tree : Vec code_column.Column → List Column
+columns_tree cs = map column_tree cs.items
 
-abbrev pub constants_of : Vec code_constant.Constant → List Constant
-constants_of values = map constant_of values.items
+abbrev pub constants_tree : Vec code_constant.Constant → List Constant
+constants_tree values = map constant_tree values.items
 
-abbrev pub listed_of : code_listed.Listed → Listed
-listed_of (lists.All _) = all
-listed_of (lists.Columns cs) = columns (columns_of cs)
+abbrev pub listed_tree : code_listed.Listed → Listed
+listed_tree (lists.All _) = all
+listed_tree (lists.Columns cs) = columns (columns_tree cs)
 
-abbrev pub condition_of : code_condition.Condition → Condition
-condition_of c = record { column = column_of c.column; comparison = c.comparison; constant = constant_of c.constant }
+abbrev pub condition_tree : code_condition.Condition → Condition
+condition_tree c = record { column = column_tree c.column; comparison = c.comparison; constant = constant_tree c.constant }
 
-abbrev pub conditions_of : Vec code_condition.Condition → List Condition
-conditions_of cs = map condition_of cs.items
+abbrev pub conditions_tree : Vec code_condition.Condition → List Condition
+conditions_tree cs = map condition_tree cs.items
 
-abbrev pub join_of : code_join.Join → Join
-join_of j = record { relation = j.relation.name.now; left = column_of j.left; right = column_of j.right }
+abbrev pub join_tree : code_join.Join → Join
+join_tree j = record { relation = j.relation.name.now; left = column_tree j.left; right = column_tree j.right }
 
-abbrev pub select_of : code_select.Select → Select
-select_of s = record { listed = listed_of s.listed; relation = s.relation.name.now; join = option_map join_of s.join; conditions = conditions_of s.conditions }
+abbrev pub select_tree : code_select.Select → Select
+select_tree s = record { listed = listed_tree s.listed; relation = s.relation.name.now; join = option_map join_tree s.join; conditions = conditions_tree s.conditions }
 
-abbrev pub insert_of : code_insert.Insert → Insert
-insert_of i = record { relation = i.relation.name.now; values = constants_of i.values }
+abbrev pub insert_tree : code_insert.Insert → Insert
+insert_tree i = record { relation = i.relation.name.now; values = constants_tree i.values }
 
-abbrev pub assigned_of : code_assigned.Assigned → Assigned
-assigned_of (assigned.Constant value) = constant (constant_of value)
-assigned_of (assigned.Sum column is_negative size _) = sum column.name.now is_negative size
+abbrev pub assigned_tree : code_assigned.Assigned → Assigned
+assigned_tree (assigned.Constant value) = constant (constant_tree value)
+assigned_tree (assigned.Sum column is_negative magnitude _) = sum column.name.now is_negative magnitude
 
-abbrev pub assignment_of : code_assignment.Assignment → Assignment
-assignment_of a = record { column = a.column.name.now; value = assigned_of a.value }
+abbrev pub assignment_tree : code_assignment.Assignment → Assignment
+assignment_tree a = record { column = a.column.name.now; value = assigned_tree a.value }
 
-abbrev pub assignments_of : Vec code_assignment.Assignment → List Assignment
-assignments_of sets = map assignment_of sets.items
+abbrev pub assignments_tree : Vec code_assignment.Assignment → List Assignment
+assignments_tree sets = map assignment_tree sets.items
 
-abbrev pub update_of : code_update.Update → Update
-update_of u = record { relation = u.relation.name.now; sets = assignments_of u.sets; conditions = conditions_of u.conditions }
+abbrev pub update_tree : code_update.Update → Update
+update_tree u = record { relation = u.relation.name.now; sets = assignments_tree u.sets; conditions = conditions_tree u.conditions }
 
-abbrev pub delete_of : code_delete.Delete → Delete
-delete_of d = record { relation = d.relation.name.now; conditions = conditions_of d.conditions }
+abbrev pub delete_tree : code_delete.Delete → Delete
+delete_tree d = record { relation = d.relation.name.now; conditions = conditions_tree d.conditions }
 
-abbrev pub written_of : code_written.Written → Written
-written_of (commands.Select s) = select (select_of s)
-written_of (commands.Insert i) = insert (insert_of i)
-written_of (commands.Update u) = update (update_of u)
-written_of (commands.Delete d) = delete (delete_of d)
-written_of commands.Begin = begin
-written_of commands.Commit = commit
-written_of commands.Rollback = rollback
+abbrev pub written_tree : code_written.Written → Written
+written_tree (commands.Select s) = select (select_tree s)
+written_tree (commands.Insert i) = insert (insert_tree i)
+written_tree (commands.Update u) = update (update_tree u)
+written_tree (commands.Delete d) = delete (delete_tree d)
+written_tree commands.Begin = begin
+written_tree commands.Commit = commit
+written_tree commands.Rollback = rollback

@@ -69,7 +69,7 @@ select_as select = record {
 abbrev pub insert_as : Insert → tree.Insert
 insert_as insert = record { relation = insert.into; values = map constant_as insert.row }
 
--- what a column is set to: a sum with a negative number takes its size away
+-- what a column is set to: a sum with a negative number takes its magnitude away
 abbrev pub assigned_as : List (List ℕ) → Assigned → tree.Assigned
 assigned_as columns (assigned.Constant value) = tree.constant (constant_as value)
 assigned_as columns (assigned.Sum col (pos n)) = tree.sum (name_in columns col) false n

@@ -6,7 +6,7 @@ ghost use Rattle.reader.specs.Breaks.{Refuses, NameBreaks, SettableBreaks, Adden
 ghost use Rattle.reader.specs.Names.{settable, addend, assigned_of, is_set, sets_of};
 ghost use Rattle.reader.specs.Resolving.{Resolves};
 ghost use Rattle.reader.specs.Scope.{column_named};
-ghost use Rattle.reader.specs.Tree.{assignment_of, assigned_of as tree_assigned};
+ghost use Rattle.reader.specs.Tree.{assignment_tree, assigned_tree};
 
 use crate::constants::{number, value};
 use crate::fault::{ReadFault, Rule};
@@ -23,8 +23,8 @@ pub fn assignments(
     columns: &[Column],
     written: &[Assignment<'_>],
 ) -> Result<Vec<statement::Assignment>, ReadFault>
-    ensures exact { Resolves (λ sets. sets.items) result (sets_of columns.now (map assignment_of written.now)) }
-    ensures rule { Refuses result (λ rule. AssignmentsBreak rule columns.now (map assignment_of written.now)) }
+    ensures exact { Resolves (λ sets. sets.items) result (sets_of columns.now (map assignment_tree written.now)) }
+    ensures rule { Refuses result (λ rule. AssignmentsBreak rule columns.now (map assignment_tree written.now)) }
 {
     let mut sets = Vec::new(alloc);
     for assignment in written {
@@ -76,8 +76,8 @@ fn assigned(
     kind: Kind,
     written: &Assigned<'_>,
 ) -> Result<statement::Assigned, ReadFault>
-    ensures exact { Resolves (λ a. a) result (assigned_of columns.now kind (tree_assigned written.now)) }
-    ensures rule { Refuses result (λ rule. AssignedBreaks rule columns.now kind (tree_assigned written.now)) }
+    ensures exact { Resolves (λ a. a) result (assigned_of columns.now kind (assigned_tree written.now)) }
+    ensures rule { Refuses result (λ rule. AssignedBreaks rule columns.now kind (assigned_tree written.now)) }
 {
     match written {
         Assigned::Constant(constant) => Ok(statement::Assigned::Constant(value(
@@ -86,11 +86,11 @@ fn assigned(
         Assigned::Sum {
             column,
             is_negative,
-            size,
+            magnitude,
             digits,
         } => {
             let found = added_to(columns, kind, column)?;
-            let number = number(*is_negative, *size, *digits)?;
+            let number = number(*is_negative, *magnitude, *digits)?;
             Ok(statement::Assigned::Sum {
                 col: found.place,
                 number,

@@ -7,7 +7,7 @@ ghost use Rattle.reader.specs.Breaks.{Refuses, ListedBreaks, ComparedBreaks, Con
 ghost use Rattle.reader.specs.Names.{all_of, place_in, places_of, cond_on, conds_of};
 ghost use Rattle.reader.specs.Resolving.{Resolves};
 ghost use Rattle.reader.specs.Scope.{scope_of, types_in};
-ghost use Rattle.reader.specs.Tree.{columns as these_columns, column_of, condition_of, listed_of};
+ghost use Rattle.reader.specs.Tree.{columns as these_columns, column_tree, condition_tree, listed_tree};
 
 use crate::constants::compared;
 use crate::fault::{ReadFault, Rule};
@@ -28,8 +28,8 @@ pub fn places(
     scope: &Scope<'_>,
     listed: &Listed<'_>,
 ) -> Result<Vec<usize>, ReadFault>
-    ensures exact { Resolves (λ places. places.items) result (places_of (scope_of scope.now) (listed_of listed.now)) }
-    ensures rule { Refuses result (λ rule. ListedBreaks rule (scope_of scope.now) (listed_of listed.now)) }
+    ensures exact { Resolves (λ places. places.items) result (places_of (scope_of scope.now) (listed_tree listed.now)) }
+    ensures rule { Refuses result (λ rule. ListedBreaks rule (scope_of scope.now) (listed_tree listed.now)) }
 {
     match listed {
         Listed::All { offset } => {
@@ -70,8 +70,8 @@ fn listed_places(
     scope: &Scope<'_>,
     columns: &[Column<'_>],
 ) -> Result<Vec<usize>, ReadFault>
-    ensures exact { Resolves (λ places. places.items) result (if nat_le (length columns.now) 32 then all_of (place_in (scope_of scope.now)) (map column_of columns.now) else None) }
-    ensures rule { Refuses result (λ rule. ListedBreaks rule (scope_of scope.now) (these_columns (map column_of columns.now))) }
+    ensures exact { Resolves (λ places. places.items) result (if nat_le (length columns.now) 32 then all_of (place_in (scope_of scope.now)) (map column_tree columns.now) else None) }
+    ensures rule { Refuses result (λ rule. ListedBreaks rule (scope_of scope.now) (these_columns (map column_tree columns.now))) }
 {
     let mut places = Vec::new(alloc);
     for column in columns {
@@ -90,8 +90,8 @@ pub fn conds(
     scope: &Scope<'_>,
     conditions: &[Condition<'_>],
 ) -> Result<Vec<Cond>, ReadFault>
-    ensures exact { Resolves (λ conds. conds.items) result (conds_of (scope_of scope.now) (map condition_of conditions.now)) }
-    ensures rule { Refuses result (λ rule. ConditionsBreak rule (scope_of scope.now) (map condition_of conditions.now)) }
+    ensures exact { Resolves (λ conds. conds.items) result (conds_of (scope_of scope.now) (map condition_tree conditions.now)) }
+    ensures rule { Refuses result (λ rule. ConditionsBreak rule (scope_of scope.now) (map condition_tree conditions.now)) }
 {
     let mut conds = Vec::new(alloc);
     for condition in conditions {
@@ -106,8 +106,8 @@ pub fn conds(
 
 /// A condition on a column that was found.
 fn cond(alloc: Global, found: Found, condition: &Condition<'_>) -> Result<Cond, ReadFault>
-    ensures exact { Resolves (λ c. c) result (cond_on found (condition_of condition.now)) }
-    ensures rule { Refuses result (λ rule. ComparedBreaks rule found.kind (condition_of condition.now).constant) }
+    ensures exact { Resolves (λ c. c) result (cond_on found (condition_tree condition.now)) }
+    ensures rule { Refuses result (λ rule. ComparedBreaks rule found.kind (condition_tree condition.now).constant) }
 {
     let value = compared(alloc, found.kind, &condition.constant)?;
     Ok(Cond {

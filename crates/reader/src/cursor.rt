@@ -3,7 +3,7 @@
 ghost use Rattle.std.specs.Prelude.{◌≡◌, ◌<◌, List, [], ◌∷◌, ◌↔◌, IsTrue, MatchOption, length, drop};
 ghost use Rattle.reader.specs.declared.fault.Rule.TheVariants as rules;
 ghost use Rattle.reader.specs.Symbol.{Symbol, symbol_of, symbols_of, key, sign};
-ghost use Rattle.reader.specs.Tree.{constant_of};
+ghost use Rattle.reader.specs.Tree.{constant_tree};
 ghost use Rattle.reader.specs.Parsing.{eat, expect, Reads, is_name, name_at, number_at, plain_at, comparison_at};
 
 use crate::fault::{ReadFault, Rule};
@@ -164,9 +164,9 @@ impl<'a> Cursor<'a> {
         ensures { Reads (λ n. n) result self.new (number_at self.old) }
     {
         match self.peek() {
-            Some(Token::Integer(size)) => {
+            Some(Token::Integer(magnitude)) => {
                 self.advance();
-                Ok(*size)
+                Ok(*magnitude)
             }
             _ => Err(self.refusal()),
         }
@@ -192,15 +192,15 @@ impl<'a> Cursor<'a> {
     /// Reads a text, or a number with no sign before it.
     #[tactic(auto, unfolding(crate::specs::Parsing::plain_at))]
     pub fn plain(&mut self) -> Result<Constant<'a>, ReadFault>
-        ensures { Reads constant_of result self.new (plain_at self.old) }
+        ensures { Reads constant_tree result self.new (plain_at self.old) }
     {
         let offset = self.offset();
         match self.peek() {
-            Some(Token::Integer(size)) => {
+            Some(Token::Integer(magnitude)) => {
                 self.advance();
                 Ok(Constant::Integer {
                     is_negative: false,
-                    size: *size,
+                    magnitude: *magnitude,
                     offset,
                     digits: offset,
                 })

@@ -8,7 +8,7 @@ ghost use Rattle.reader.specs.Reading.{Gives, token_at};
 
 use crate::class::Class;
 use crate::fault::{ReadFault, Rule};
-use crate::integer::size;
+use crate::integer::magnitude;
 use crate::sign::Sign;
 use crate::text::{QUOTE, text_at};
 use crate::token::{Placed, Token};
@@ -31,7 +31,7 @@ fn token(alloc: Global, bytes: &[u8], offset: usize) -> Result<(Token<'_>, &[u8]
     }
     if Class::Digit.has(first) {
         let (digits, rest) = Class::Digit.split(bytes);
-        return Ok((Token::Integer(size(digits)), rest));
+        return Ok((Token::Integer(magnitude(digits)), rest));
     }
     if first == QUOTE {
         return text_at(alloc, bytes, offset);

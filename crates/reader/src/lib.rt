@@ -29,6 +29,7 @@ pub mod read;
 pub mod read_again;
 pub mod read_conds;
 mod scope;
+mod separated;
 pub mod sign;
 pub mod text;
 pub mod token;

@@ -3,7 +3,7 @@
 ghost use Rattle.std.specs.Prelude.{◌≡◌, ◌≢◌, length, map, IfOk, IfErr};
 ghost use Rattle.reader.specs.declared.fault.Rule.TheVariants as rules;
 ghost use Rattle.meaning.specs.Schema.{kinds_of, relation_named};
-ghost use Rattle.reader.specs.Tree.{constant_of, constants_of, written_of, join_of as tree_join, select_of as tree_select, insert_of as tree_insert, update_of as tree_update, delete_of as tree_delete};
+ghost use Rattle.reader.specs.Tree.{constant_tree, constants_tree, written_tree, join_tree, select_tree, insert_tree, update_tree, delete_tree};
 ghost use Rattle.reader.specs.Names.{source_of, row_of, other_than_key, joined_by, join_of, other_of, select_of_one, select_of_two, select_of, insert_of, update_of, delete_of, command_of};
 ghost use Rattle.reader.specs.Breaks.{Refuses, RelationBreaks, WrittenBreaks, JoinedBreaks, SelectBreaks, SelectOneBreaks, SelectTwoBreaks, OnBreaks, InsertBreaks, RowBreaks, ValuesBreak, UpdateBreaks, DeleteBreaks};
 ghost use Rattle.reader.specs.Resolving.{Resolves};
@@ -30,8 +30,8 @@ use terms::value::{Kind, Value};
 
 /// The command that a written one is under a schema.
 pub fn command(alloc: Global, schema: &Schema, written: &Written<'_>) -> Result<Command, ReadFault>
-    ensures exact { Resolves (λ c. c) result (command_of schema.now.relations (written_of written.now)) }
-    ensures rule { Refuses result (λ rule. WrittenBreaks rule schema.now.relations (written_of written.now)) }
+    ensures exact { Resolves (λ c. c) result (command_of schema.now.relations (written_tree written.now)) }
+    ensures rule { Refuses result (λ rule. WrittenBreaks rule schema.now.relations (written_tree written.now)) }
 {
     match written {
         Written::Select(written) => {
@@ -72,8 +72,8 @@ fn other<'a>(
     from: &RelationSchema,
     join: &Join<'_>,
 ) -> Result<&'a RelationSchema, ReadFault>
-    ensures exact { Resolves (λ r. r.now) result (other_of schema.now.relations from.now (tree_join join.now)) }
-    ensures rule { Refuses result (λ rule. JoinedBreaks rule schema.now.relations from.now (tree_join join.now)) }
+    ensures exact { Resolves (λ r. r.now) result (other_of schema.now.relations from.now (join_tree join.now)) }
+    ensures rule { Refuses result (λ rule. JoinedBreaks rule schema.now.relations from.now (join_tree join.now)) }
 {
     let other = relation(schema, &join.relation)?;
     if other.name.as_str().as_bytes() == from.name.as_str().as_bytes() {
@@ -108,8 +108,8 @@ fn select(
     schema: &Schema,
     written: &Select<'_>,
 ) -> Result<statement::Select, ReadFault>
-    ensures exact { Resolves (λ s. s) result (select_of schema.now.relations (tree_select written.now)) }
-    ensures rule { Refuses result (λ rule. SelectBreaks rule schema.now.relations (tree_select written.now)) }
+    ensures exact { Resolves (λ s. s) result (select_of schema.now.relations (select_tree written.now)) }
+    ensures rule { Refuses result (λ rule. SelectBreaks rule schema.now.relations (select_tree written.now)) }
 {
     let from = relation(schema, &written.relation)?;
     match &written.join {
@@ -126,8 +126,8 @@ fn select_of_one(
     from: &RelationSchema,
     written: &Select<'_>,
 ) -> Result<statement::Select, ReadFault>
-    ensures exact { Resolves (λ s. s) result (select_of_one from.now (tree_select written.now)) }
-    ensures rule { Refuses result (λ rule. SelectOneBreaks rule (one_relation from.now) (tree_select written.now)) }
+    ensures exact { Resolves (λ s. s) result (select_of_one from.now (select_tree written.now)) }
+    ensures rule { Refuses result (λ rule. SelectOneBreaks rule (one_relation from.now) (select_tree written.now)) }
 {
     let scope = &of_one(from);
     let columns = places(alloc, scope, &written.listed)?;
@@ -147,8 +147,8 @@ fn select_of_two(
     written_join: &Join<'_>,
     written: &Select<'_>,
 ) -> Result<statement::Select, ReadFault>
-    ensures exact { Resolves (λ s. s) result (select_of_two from.now other.now (tree_join written_join.now) (tree_select written.now)) }
-    ensures rule { Refuses result (λ rule. SelectTwoBreaks rule (two_relations from.now other.now) (tree_join written_join.now) (tree_select written.now)) }
+    ensures exact { Resolves (λ s. s) result (select_of_two from.now other.now (join_tree written_join.now) (select_tree written.now)) }
+    ensures rule { Refuses result (λ rule. SelectTwoBreaks rule (two_relations from.now other.now) (join_tree written_join.now) (select_tree written.now)) }
 {
     let scope = &of_two(from, other);
     let columns = places(alloc, scope, &written.listed)?;
@@ -168,8 +168,8 @@ fn join(
     other: &RelationSchema,
     written: &Join<'_>,
 ) -> Result<statement::Join, ReadFault>
-    ensures exact { Resolves (λ j. j) result (join_of from.now other.now (tree_join written.now)) }
-    ensures rule { Refuses result (λ rule. OnBreaks rule (two_relations from.now other.now) (tree_join written.now)) }
+    ensures exact { Resolves (λ j. j) result (join_of from.now other.now (join_tree written.now)) }
+    ensures rule { Refuses result (λ rule. OnBreaks rule (two_relations from.now other.now) (join_tree written.now)) }
 {
     let col = join_column(&of_two(from, other), written)?;
     Ok(statement::Join {
@@ -180,8 +180,8 @@ fn join(
 
 /// The column after FROM by which two relations are joined.
 fn join_column(scope: &Scope<'_>, join: &Join<'_>) -> Result<usize, ReadFault>
-    ensures exact { Resolves (λ column. column) result (joined_by (scope_of scope.now) (tree_join join.now)) }
-    ensures rule { Refuses result (λ rule. OnBreaks rule (scope_of scope.now) (tree_join join.now)) }
+    ensures exact { Resolves (λ column. column) result (joined_by (scope_of scope.now) (join_tree join.now)) }
+    ensures rule { Refuses result (λ rule. OnBreaks rule (scope_of scope.now) (join_tree join.now)) }
 {
     let left = find(scope, &join.left)?;
     let right = find(scope, &join.right)?;
@@ -217,8 +217,8 @@ fn insert(
     schema: &Schema,
     written: &Insert<'_>,
 ) -> Result<statement::Insert, ReadFault>
-    ensures exact { Resolves (λ i. i) result (insert_of schema.now.relations (tree_insert written.now)) }
-    ensures rule { Refuses result (λ rule. InsertBreaks rule schema.now.relations (tree_insert written.now)) }
+    ensures exact { Resolves (λ i. i) result (insert_of schema.now.relations (insert_tree written.now)) }
+    ensures rule { Refuses result (λ rule. InsertBreaks rule schema.now.relations (insert_tree written.now)) }
 {
     let relation = relation(schema, &written.relation)?;
     let values = row(alloc, relation, written)?;
@@ -234,8 +234,8 @@ fn row(
     relation: &RelationSchema,
     insert: &Insert<'_>,
 ) -> Result<Vec<Value>, ReadFault>
-    ensures exact { Resolves (λ values. values.items) result (row_of (kinds_of relation.now) (constants_of insert.now.values)) }
-    ensures rule { Refuses result (λ rule. RowBreaks rule (kinds_of relation.now) (constants_of insert.now.values)) }
+    ensures exact { Resolves (λ values. values.items) result (row_of (kinds_of relation.now) (constants_tree insert.now.values)) }
+    ensures rule { Refuses result (λ rule. RowBreaks rule (kinds_of relation.now) (constants_tree insert.now.values)) }
 {
     let columns = relation.columns.as_slice();
     let constants = insert.values.as_slice();
@@ -251,8 +251,8 @@ fn values(
     constants: &[Constant<'_>],
 ) -> Result<Vec<Value>, ReadFault>
     requires { length constants.now ≡ length columns.now }
-    ensures exact { Resolves (λ values. values.items) result (row_of (map (λ c. c.kind) columns.now) (map constant_of constants.now)) }
-    ensures rule { Refuses result (λ rule. ValuesBreak rule (map (λ c. c.kind) columns.now) (map constant_of constants.now)) }
+    ensures exact { Resolves (λ values. values.items) result (row_of (map (λ c. c.kind) columns.now) (map constant_tree constants.now)) }
+    ensures rule { Refuses result (λ rule. ValuesBreak rule (map (λ c. c.kind) columns.now) (map constant_tree constants.now)) }
 {
     let mut values = Vec::new(alloc);
     for (place, constant) in constants.iter().enumerate() {
@@ -266,8 +266,8 @@ fn update(
     schema: &Schema,
     written: &Update<'_>,
 ) -> Result<statement::Update, ReadFault>
-    ensures exact { Resolves (λ u. u) result (update_of schema.now.relations (tree_update written.now)) }
-    ensures rule { Refuses result (λ rule. UpdateBreaks rule schema.now.relations (tree_update written.now)) }
+    ensures exact { Resolves (λ u. u) result (update_of schema.now.relations (update_tree written.now)) }
+    ensures rule { Refuses result (λ rule. UpdateBreaks rule schema.now.relations (update_tree written.now)) }
 {
     let relation = relation(schema, &written.relation)?;
     let sets = assignments(alloc, relation.columns.as_slice(), written.sets.as_slice())?;
@@ -284,8 +284,8 @@ fn delete(
     schema: &Schema,
     written: &Delete<'_>,
 ) -> Result<statement::Delete, ReadFault>
-    ensures exact { Resolves (λ d. d) result (delete_of schema.now.relations (tree_delete written.now)) }
-    ensures rule { Refuses result (λ rule. DeleteBreaks rule schema.now.relations (tree_delete written.now)) }
+    ensures exact { Resolves (λ d. d) result (delete_of schema.now.relations (delete_tree written.now)) }
+    ensures rule { Refuses result (λ rule. DeleteBreaks rule schema.now.relations (delete_tree written.now)) }
 {
     let relation = relation(schema, &written.relation)?;
     let conds = conds(alloc, &of_one(relation), written.conditions.as_slice())?;

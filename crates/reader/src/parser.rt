@@ -6,7 +6,7 @@ ghost use Rattle.reader.specs.declared.fault.Rule.TheVariants as rules;
 ghost use Rattle.reader.specs.declared.sign.Sign.TheVariants as mark;
 ghost use Rattle.reader.specs.declared.keyword.Keyword.TheVariants as word;
 ghost use Rattle.reader.specs.Symbol.{symbols_of, key, sign};
-ghost use Rattle.reader.specs.Tree.{column_of, columns_of, constant_of, constants_of, listed_of, condition_of, conditions_of, join_of, select_of, insert_of, assigned_of, assignment_of, assignments_of, update_of, delete_of, written_of};
+ghost use Rattle.reader.specs.Tree.{column_tree, columns_tree, constant_tree, constants_tree, listed_tree, condition_tree, conditions_tree, join_tree, select_tree, insert_tree, assigned_tree, assignment_tree, assignments_tree, update_tree, delete_tree, written_tree};
 ghost use Rattle.reader.specs.Tree as tree;
 ghost use Rattle.reader.specs.Grammar.{Writes, WriteOneCommand, WritesConditions, WriteOneListOfConditions};
 ghost use Rattle.reader.specs.Parsing.{Reads, Gives, items_at, column_at, constant_at, listed_at, condition_at, where_at, joined_at, join_at, select_at, insert_at, sum_at, assigned_at, assignment_at, update_at, delete_at, bare_at, written_at, command_at, conditions_alone_at};
@@ -25,7 +25,7 @@ use std::alloc::Global;
 /// `column = name [ "." name ]`
 #[tactic(auto, unfolding(crate::specs::Parsing::column_at, crate::specs::Parsing::and_then, crate::specs::Parsing::given))]
 fn column<'a>(cursor: &mut Cursor<'a>) -> Result<Column<'a>, ReadFault>
-    ensures { Reads column_of result cursor.new (column_at cursor.old) }
+    ensures { Reads column_tree result cursor.new (column_at cursor.old) }
 {
     let first = cursor.named()?;
     if cursor.eat_sign(Sign::Dot) {
@@ -47,15 +47,15 @@ fn column<'a>(cursor: &mut Cursor<'a>) -> Result<Column<'a>, ReadFault>
 /// `constant = [ "-" ] integer | text`
 #[tactic(auto, unfolding(crate::specs::Parsing::constant_at, crate::specs::Parsing::and_then, crate::specs::Parsing::given))]
 fn constant<'a>(cursor: &mut Cursor<'a>) -> Result<Constant<'a>, ReadFault>
-    ensures { Reads constant_of result cursor.new (constant_at cursor.old) }
+    ensures { Reads constant_tree result cursor.new (constant_at cursor.old) }
 {
     let offset = cursor.offset();
     if cursor.eat_sign(Sign::Minus) {
         let digits = cursor.offset();
-        let size = cursor.number()?;
+        let magnitude = cursor.number()?;
         Ok(Constant::Integer {
             is_negative: true,
-            size,
+            magnitude,
             offset,
             digits,
         })
@@ -67,7 +67,7 @@ fn constant<'a>(cursor: &mut Cursor<'a>) -> Result<Constant<'a>, ReadFault>
 /// `condition = column comparison constant`
 #[tactic(auto, unfolding(crate::specs::Parsing::condition_at, crate::specs::Parsing::and_then))]
 fn condition<'a>(cursor: &mut Cursor<'a>) -> Result<Condition<'a>, ReadFault>
-    ensures { Reads condition_of result cursor.new (condition_at cursor.old) }
+    ensures { Reads condition_tree result cursor.new (condition_at cursor.old) }
 {
     let column = column(cursor)?;
     let comparison = cursor.comparison()?;
@@ -81,7 +81,7 @@ fn condition<'a>(cursor: &mut Cursor<'a>) -> Result<Condition<'a>, ReadFault>
 
 /// `columns = column { "," column }`
 fn columns<'a>(alloc: Global, cursor: &mut Cursor<'a>) -> Result<Vec<Column<'a>>, ReadFault>
-    ensures { Reads columns_of result cursor.new (items_at column_at (sign mark.Comma) cursor.old) }
+    ensures { Reads columns_tree result cursor.new (items_at column_at (sign mark.Comma) cursor.old) }
 {
     let mut columns = Vec::new(alloc);
     loop {
@@ -94,7 +94,7 @@ fn columns<'a>(alloc: Global, cursor: &mut Cursor<'a>) -> Result<Vec<Column<'a>>
 
 /// `constants = constant { "," constant }`
 fn constants<'a>(alloc: Global, cursor: &mut Cursor<'a>) -> Result<Vec<Constant<'a>>, ReadFault>
-    ensures { Reads constants_of result cursor.new (items_at constant_at (sign mark.Comma) cursor.old) }
+    ensures { Reads constants_tree result cursor.new (items_at constant_at (sign mark.Comma) cursor.old) }
 {
     let mut constants = Vec::new(alloc);
     loop {
@@ -107,7 +107,7 @@ fn constants<'a>(alloc: Global, cursor: &mut Cursor<'a>) -> Result<Vec<Constant<
 
 /// `conditions = condition { AND condition }`
 fn conditions<'a>(alloc: Global, cursor: &mut Cursor<'a>) -> Result<Vec<Condition<'a>>, ReadFault>
-    ensures { Reads conditions_of result cursor.new (items_at condition_at (key word.And) cursor.old) }
+    ensures { Reads conditions_tree result cursor.new (items_at condition_at (key word.And) cursor.old) }
 {
     let mut conditions = Vec::new(alloc);
     loop {
@@ -120,8 +120,8 @@ fn conditions<'a>(alloc: Global, cursor: &mut Cursor<'a>) -> Result<Vec<Conditio
 
 /// `[ WHERE conditions ]`
 #[tactic(auto, unfolding(crate::specs::Parsing::where_at, crate::specs::Parsing::given))]
-fn kept<'a>(alloc: Global, cursor: &mut Cursor<'a>) -> Result<Vec<Condition<'a>>, ReadFault>
-    ensures { Reads conditions_of result cursor.new (where_at cursor.old) }
+fn where_clause<'a>(alloc: Global, cursor: &mut Cursor<'a>) -> Result<Vec<Condition<'a>>, ReadFault>
+    ensures { Reads conditions_tree result cursor.new (where_at cursor.old) }
 {
     if cursor.eat_keyword(Keyword::Where) {
         conditions(alloc, cursor)
@@ -133,7 +133,7 @@ fn kept<'a>(alloc: Global, cursor: &mut Cursor<'a>) -> Result<Vec<Condition<'a>>
 /// `list = "*" | columns`
 #[tactic(auto, unfolding(crate::specs::Parsing::listed_at, crate::specs::Parsing::and_then, crate::specs::Parsing::given))]
 fn listed<'a>(alloc: Global, cursor: &mut Cursor<'a>) -> Result<Listed<'a>, ReadFault>
-    ensures { Reads listed_of result cursor.new (listed_at cursor.old) }
+    ensures { Reads listed_tree result cursor.new (listed_at cursor.old) }
 {
     let offset = cursor.offset();
     if cursor.eat_sign(Sign::Star) {
@@ -146,7 +146,7 @@ fn listed<'a>(alloc: Global, cursor: &mut Cursor<'a>) -> Result<Listed<'a>, Read
 /// `joined = name ON column "=" column`, which follows JOIN.
 #[tactic(auto, unfolding(crate::specs::Parsing::joined_at, crate::specs::Parsing::and_then))]
 fn joined<'a>(cursor: &mut Cursor<'a>) -> Result<Join<'a>, ReadFault>
-    ensures { Reads join_of result cursor.new (joined_at cursor.old) }
+    ensures { Reads join_tree result cursor.new (joined_at cursor.old) }
 {
     let relation = cursor.named()?;
     cursor.expect_keyword(Keyword::On)?;
@@ -163,7 +163,7 @@ fn joined<'a>(cursor: &mut Cursor<'a>) -> Result<Join<'a>, ReadFault>
 /// `[ JOIN joined ]`
 #[tactic(auto, unfolding(crate::specs::Parsing::join_at, crate::specs::Parsing::and_then, crate::specs::Parsing::given))]
 fn join<'a>(cursor: &mut Cursor<'a>) -> Result<Option<Join<'a>>, ReadFault>
-    ensures { Reads (option_map join_of) result cursor.new (join_at cursor.old) }
+    ensures { Reads (option_map join_tree) result cursor.new (join_at cursor.old) }
 {
     if cursor.eat_keyword(Keyword::Join) {
         Ok(Some(joined(cursor)?))
@@ -175,13 +175,13 @@ fn join<'a>(cursor: &mut Cursor<'a>) -> Result<Option<Join<'a>>, ReadFault>
 /// `select = list FROM name [ JOIN joined ] [ WHERE conditions ]`, which follows SELECT.
 #[tactic(auto, unfolding(crate::specs::Parsing::select_at, crate::specs::Parsing::and_then))]
 fn select<'a>(alloc: Global, cursor: &mut Cursor<'a>) -> Result<Select<'a>, ReadFault>
-    ensures { Reads select_of result cursor.new (select_at cursor.old) }
+    ensures { Reads select_tree result cursor.new (select_at cursor.old) }
 {
     let listed = listed(alloc, cursor)?;
     cursor.expect_keyword(Keyword::From)?;
     let relation = cursor.named()?;
     let join = join(cursor)?;
-    let conditions = kept(alloc, cursor)?;
+    let conditions = where_clause(alloc, cursor)?;
     Ok(Select {
         listed,
         relation,
@@ -193,7 +193,7 @@ fn select<'a>(alloc: Global, cursor: &mut Cursor<'a>) -> Result<Select<'a>, Read
 /// `insert = INTO name VALUES "(" constants ")"`, which follows INSERT.
 #[tactic(auto, unfolding(crate::specs::Parsing::insert_at, crate::specs::Parsing::and_then))]
 fn insert<'a>(alloc: Global, cursor: &mut Cursor<'a>) -> Result<Insert<'a>, ReadFault>
-    ensures { Reads insert_of result cursor.new (insert_at cursor.old) }
+    ensures { Reads insert_tree result cursor.new (insert_at cursor.old) }
 {
     cursor.expect_keyword(Keyword::Into)?;
     let relation = cursor.named()?;
@@ -212,7 +212,7 @@ fn insert<'a>(alloc: Global, cursor: &mut Cursor<'a>) -> Result<Insert<'a>, Read
 /// `sum = name ( "+" | "-" ) integer`
 #[tactic(auto, unfolding(crate::specs::Parsing::sum_at, crate::specs::Parsing::and_then, crate::specs::Parsing::given))]
 fn sum<'a>(cursor: &mut Cursor<'a>) -> Result<Assigned<'a>, ReadFault>
-    ensures { Reads assigned_of result cursor.new (sum_at cursor.old) }
+    ensures { Reads assigned_tree result cursor.new (sum_at cursor.old) }
 {
     let column = cursor.named()?;
     let is_negative = cursor.eat_sign(Sign::Minus);
@@ -220,11 +220,11 @@ fn sum<'a>(cursor: &mut Cursor<'a>) -> Result<Assigned<'a>, ReadFault>
         cursor.expect_sign(Sign::Plus)?;
     }
     let digits = cursor.offset();
-    let size = cursor.number()?;
+    let magnitude = cursor.number()?;
     Ok(Assigned::Sum {
         column,
         is_negative,
-        size,
+        magnitude,
         digits,
     })
 }
@@ -232,7 +232,7 @@ fn sum<'a>(cursor: &mut Cursor<'a>) -> Result<Assigned<'a>, ReadFault>
 /// `assigned = constant | sum`
 #[tactic(auto, unfolding(crate::specs::Parsing::assigned_at, crate::specs::Parsing::and_then))]
 fn assigned<'a>(cursor: &mut Cursor<'a>) -> Result<Assigned<'a>, ReadFault>
-    ensures { Reads assigned_of result cursor.new (assigned_at cursor.old) }
+    ensures { Reads assigned_tree result cursor.new (assigned_at cursor.old) }
 {
     if cursor.is_name() {
         sum(cursor)
@@ -244,7 +244,7 @@ fn assigned<'a>(cursor: &mut Cursor<'a>) -> Result<Assigned<'a>, ReadFault>
 /// `assignment = name "=" assigned`
 #[tactic(auto, unfolding(crate::specs::Parsing::assignment_at, crate::specs::Parsing::and_then))]
 fn assignment<'a>(cursor: &mut Cursor<'a>) -> Result<Assignment<'a>, ReadFault>
-    ensures { Reads assignment_of result cursor.new (assignment_at cursor.old) }
+    ensures { Reads assignment_tree result cursor.new (assignment_at cursor.old) }
 {
     let column = cursor.named()?;
     cursor.expect_sign(Sign::Equal)?;
@@ -254,7 +254,7 @@ fn assignment<'a>(cursor: &mut Cursor<'a>) -> Result<Assignment<'a>, ReadFault>
 
 /// `assignments = assignment { "," assignment }`
 fn assignments<'a>(alloc: Global, cursor: &mut Cursor<'a>) -> Result<Vec<Assignment<'a>>, ReadFault>
-    ensures { Reads assignments_of result cursor.new (items_at assignment_at (sign mark.Comma) cursor.old) }
+    ensures { Reads assignments_tree result cursor.new (items_at assignment_at (sign mark.Comma) cursor.old) }
 {
     let mut assignments = Vec::new(alloc);
     loop {
@@ -268,12 +268,12 @@ fn assignments<'a>(alloc: Global, cursor: &mut Cursor<'a>) -> Result<Vec<Assignm
 /// `update = name SET assignments [ WHERE conditions ]`, which follows UPDATE.
 #[tactic(auto, unfolding(crate::specs::Parsing::update_at, crate::specs::Parsing::and_then))]
 fn update<'a>(alloc: Global, cursor: &mut Cursor<'a>) -> Result<Update<'a>, ReadFault>
-    ensures { Reads update_of result cursor.new (update_at cursor.old) }
+    ensures { Reads update_tree result cursor.new (update_at cursor.old) }
 {
     let relation = cursor.named()?;
     cursor.expect_keyword(Keyword::Set)?;
     let sets = assignments(alloc, cursor)?;
-    let conditions = kept(alloc, cursor)?;
+    let conditions = where_clause(alloc, cursor)?;
     Ok(Update {
         relation,
         sets,
@@ -284,11 +284,11 @@ fn update<'a>(alloc: Global, cursor: &mut Cursor<'a>) -> Result<Update<'a>, Read
 /// `delete = FROM name [ WHERE conditions ]`, which follows DELETE.
 #[tactic(auto, unfolding(crate::specs::Parsing::delete_at, crate::specs::Parsing::and_then))]
 fn delete<'a>(alloc: Global, cursor: &mut Cursor<'a>) -> Result<Delete<'a>, ReadFault>
-    ensures { Reads delete_of result cursor.new (delete_at cursor.old) }
+    ensures { Reads delete_tree result cursor.new (delete_at cursor.old) }
 {
     cursor.expect_keyword(Keyword::From)?;
     let relation = cursor.named()?;
-    let conditions = kept(alloc, cursor)?;
+    let conditions = where_clause(alloc, cursor)?;
     Ok(Delete {
         relation,
         conditions,
@@ -298,7 +298,7 @@ fn delete<'a>(alloc: Global, cursor: &mut Cursor<'a>) -> Result<Delete<'a>, Read
 /// `bare = BEGIN | COMMIT | ROLLBACK`
 #[tactic(auto, unfolding(crate::specs::Parsing::bare_at, crate::specs::Parsing::given))]
 fn bare<'a>(cursor: &mut Cursor<'a>) -> Result<Written<'a>, ReadFault>
-    ensures { Reads written_of result cursor.new (bare_at cursor.old) }
+    ensures { Reads written_tree result cursor.new (bare_at cursor.old) }
 {
     if cursor.eat_keyword(Keyword::Begin) {
         Ok(Written::Begin)
@@ -314,7 +314,7 @@ fn bare<'a>(cursor: &mut Cursor<'a>) -> Result<Written<'a>, ReadFault>
 /// `written = SELECT select | INSERT insert | UPDATE update | DELETE delete | bare`
 #[tactic(auto, unfolding(crate::specs::Parsing::written_at, crate::specs::Parsing::and_then, crate::specs::Parsing::given))]
 fn written<'a>(alloc: Global, cursor: &mut Cursor<'a>) -> Result<Written<'a>, ReadFault>
-    ensures { Reads written_of result cursor.new (written_at cursor.old) }
+    ensures { Reads written_tree result cursor.new (written_at cursor.old) }
 {
     if cursor.eat_keyword(Keyword::Select) {
         Ok(Written::Select(select(alloc, cursor)?))
@@ -332,7 +332,7 @@ fn written<'a>(alloc: Global, cursor: &mut Cursor<'a>) -> Result<Written<'a>, Re
 /// `command = written [ ";" ]`, and nothing after it.
 #[tactic(auto, unfolding(crate::specs::Parsing::command_at, crate::specs::Parsing::and_then))]
 fn command<'a>(alloc: Global, cursor: &mut Cursor<'a>) -> Result<Written<'a>, ReadFault>
-    ensures { Gives written_of result (command_at cursor.old) }
+    ensures { Gives written_tree result (command_at cursor.old) }
 {
     let written = written(alloc, cursor)?;
     cursor.eat_sign(Sign::Semicolon);
@@ -348,7 +348,7 @@ fn command<'a>(alloc: Global, cursor: &mut Cursor<'a>) -> Result<Written<'a>, Re
 /// The refusal of tokens that write none stands at the first token with which no command goes on, or at
 /// `BEYOND` where the tokens end too early.
 pub fn parse<'a>(alloc: Global, tokens: &'a [Placed<'a>]) -> Result<Written<'a>, ReadFault>
-    ensures found { IfOk result (λ written. Writes (symbols_of tokens.now) (written_of written)) }
+    ensures found { IfOk result (λ written. Writes (symbols_of tokens.now) (written_tree written)) }
     ensures none { IfErr result (λ fault. fault.rule ≢ rules.Memory → (written : tree.Written) → ¬ (Writes (symbols_of tokens.now) written)) }
     ensures rule { IfErr result (λ fault. (fault.rule ≡ rules.Syntax) ⊎ (fault.rule ≡ rules.Memory)) }
 {
@@ -366,7 +366,7 @@ fn conditions_alone<'a>(
     alloc: Global,
     cursor: &mut Cursor<'a>,
 ) -> Result<Vec<Condition<'a>>, ReadFault>
-    ensures { Gives conditions_of result (conditions_alone_at cursor.old) }
+    ensures { Gives conditions_tree result (conditions_alone_at cursor.old) }
 {
     let conditions = conditions(alloc, cursor)?;
     if cursor.is_at_end() {
@@ -384,7 +384,7 @@ pub fn parse_conditions<'a>(
     alloc: Global,
     tokens: &'a [Placed<'a>],
 ) -> Result<Vec<Condition<'a>>, ReadFault>
-    ensures found { IfOk result (λ conditions. WritesConditions (symbols_of tokens.now) (conditions_of conditions)) }
+    ensures found { IfOk result (λ conditions. WritesConditions (symbols_of tokens.now) (conditions_tree conditions)) }
     ensures none { IfErr result (λ fault. fault.rule ≢ rules.Memory → (conditions : List tree.Condition) → ¬ (WritesConditions (symbols_of tokens.now) conditions)) }
     ensures rule { IfErr result (λ fault. (fault.rule ≡ rules.Syntax) ⊎ (fault.rule ≡ rules.Memory)) }
 {

@@ -4,6 +4,7 @@ ghost use Rattle.std.specs.Prelude.{◌≡◌, ◌∷◌, ◌++◌, length, map,
 ghost use Rattle.std.specs.List.{flat_map};
 ghost use Rattle.reader.specs.PrintAnswer.{value_text, fields_text, row_text, count_text, answer_text};
 
+use crate::separated::{Printer, put_separated};
 use meaning::answer::Answer;
 use std::alloc::Global;
 use terms::memory::Memory;
@@ -41,18 +42,35 @@ fn put_count(out: &mut String, count: usize) -> Result<(), Memory>
     Ok(())
 }
 
+/// The names of columns.
+#[derive(Clone, Copy)]
+struct Names;
+
+impl Printer<Text> for Names {
+    ghost bytes = { λ _ name. name };
+
+    fn put(&self, out: &mut String, name: &Text) -> Result<(), Memory> {
+        out.push_str(name.as_str())?;
+        Ok(())
+    }
+}
+
+/// The values of a row.
+#[derive(Clone, Copy)]
+struct Fields;
+
+impl Printer<Value> for Fields {
+    ghost bytes = { λ _ value. value_text value };
+
+    fn put(&self, out: &mut String, value: &Value) -> Result<(), Memory> {
+        put_value(out, value)
+    }
+}
+
 fn put_header(out: &mut String, names: &[Text]) -> Result<(), Memory>
     ensures { OnOk result (string_bytes out.new ≡ string_bytes out.old ++ fields_text names.now) }
 {
-    let Some((first, others)) = names.split_first() else {
-        return Ok(());
-    };
-    out.push_str(first.as_str())?;
-    for name in others {
-        out.push('\t')?;
-        out.push_str(name.as_str())?;
-    }
-    Ok(())
+    put_separated(out, &Names, "\t", names)
 }
 
 fn put_rows(out: &mut String, rows: &[Row]) -> Result<(), Memory>
@@ -68,15 +86,7 @@ fn put_rows(out: &mut String, rows: &[Row]) -> Result<(), Memory>
 fn put_row(out: &mut String, values: &[Value]) -> Result<(), Memory>
     ensures { OnOk result (string_bytes out.new ≡ string_bytes out.old ++ row_text values.now) }
 {
-    let Some((first, others)) = values.split_first() else {
-        return Ok(());
-    };
-    put_value(out, first)?;
-    for value in others {
-        out.push('\t')?;
-        put_value(out, value)?;
-    }
-    Ok(())
+    put_separated(out, &Fields, "\t", values)
 }
 
 fn put_value(out: &mut String, value: &Value) -> Result<(), Memory>

@@ -9,6 +9,7 @@ ghost use Rattle.reader.specs.Written.{name_in, column_in, qualified_column, con
 ghost use Rattle.reader.specs.PrintStatement.{separated_bytes, column_bytes, constant_bytes, constants_bytes, condition_bytes, conditions_bytes, where_bytes, join_bytes, select_bytes, insert_bytes, assigned_bytes, assignment_bytes, update_bytes, delete_bytes, statement_bytes, conds_bytes, part_bytes};
 
 use crate::print_constant::PrintedConstant;
+use crate::separated::{Printer, put_separated};
 use meaning::schema::Column;
 use meaning::statement::{
     Assigned, Assignment, Delete, Insert, Join, Select, Source, Statement, Update,
@@ -77,7 +78,7 @@ impl<'a> Columns<'a> {
     }
 
     /// The column at a place.
-    fn put(&self, out: &mut String, place: usize) -> Result<(), Memory>
+    fn put_column(&self, out: &mut String, place: usize) -> Result<(), Memory>
         ensures { OnOk result (string_bytes out.new ≡ string_bytes out.old ++ column_bytes (column_at self.now place)) }
     {
         match self {
@@ -93,6 +94,50 @@ impl<'a> Columns<'a> {
                 Some(place) => put_qualified(out, joined, place),
             },
         }
+    }
+}
+
+impl Printer<usize> for Columns<'_> {
+    ghost bytes = { λ columns place. column_bytes (column_at columns place) };
+
+    fn put(&self, out: &mut String, place: &usize) -> Result<(), Memory> {
+        self.put_column(out, *place)
+    }
+}
+
+/// Conditions on columns.
+#[derive(Clone, Copy)]
+struct Conditions<'a>(Columns<'a>);
+
+impl Printer<Cond> for Conditions<'_> {
+    ghost bytes = { λ conditions cond. condition_bytes (condition_as (column_at conditions.0) cond) };
+
+    fn put(&self, out: &mut String, cond: &Cond) -> Result<(), Memory> {
+        put_condition(out, &self.0, cond)
+    }
+}
+
+/// Values as constants.
+#[derive(Clone, Copy)]
+struct Constants;
+
+impl Printer<Value> for Constants {
+    ghost bytes = { λ _ value. constant_bytes (constant_as value) };
+
+    fn put(&self, out: &mut String, value: &Value) -> Result<(), Memory> {
+        put_constant(out, value)
+    }
+}
+
+/// Assignments to columns of these names.
+#[derive(Clone, Copy)]
+struct Assignments<'a>(&'a [Text]);
+
+impl Printer<Assignment> for Assignments<'_> {
+    ghost bytes = { λ assignments set. assignment_bytes (assignment_as assignments.0.now set) };
+
+    fn put(&self, out: &mut String, set: &Assignment) -> Result<(), Memory> {
+        put_assignment(out, self.0, set)
     }
 }
 
@@ -129,15 +174,7 @@ fn put_select(out: &mut String, select: &Select) -> Result<(), Memory>
 fn put_list(out: &mut String, columns: &Columns<'_>, places: &[usize]) -> Result<(), Memory>
     ensures { OnOk result (string_bytes out.new ≡ string_bytes out.old ++ separated_bytes column_bytes (codes ", ") (map (column_at columns.now) places.now)) }
 {
-    let Some((first, others)) = places.split_first() else {
-        return Ok(());
-    };
-    columns.put(out, *first)?;
-    for place in others {
-        out.push_str(SEPARATOR)?;
-        columns.put(out, *place)?;
-    }
-    Ok(())
+    put_separated(out, columns, SEPARATOR, places)
 }
 
 /// A JOIN, if there is one.
@@ -167,21 +204,13 @@ fn put_where(out: &mut String, columns: &Columns<'_>, conds: &[Cond]) -> Result<
 fn put_conditions(out: &mut String, columns: &Columns<'_>, conds: &[Cond]) -> Result<(), Memory>
     ensures { OnOk result (string_bytes out.new ≡ string_bytes out.old ++ conditions_bytes (conditions_as (column_at columns.now) conds.now)) }
 {
-    let Some((first, others)) = conds.split_first() else {
-        return Ok(());
-    };
-    put_condition(out, columns, first)?;
-    for cond in others {
-        out.push_str(" AND ")?;
-        put_condition(out, columns, cond)?;
-    }
-    Ok(())
+    put_separated(out, &Conditions(*columns), " AND ", conds)
 }
 
 fn put_condition(out: &mut String, columns: &Columns<'_>, cond: &Cond) -> Result<(), Memory>
     ensures { OnOk result (string_bytes out.new ≡ string_bytes out.old ++ condition_bytes (condition_as (column_at columns.now) cond.now)) }
 {
-    columns.put(out, cond.col)?;
+    columns.put_column(out, cond.col)?;
     out.push(' ')?;
     put_comparison(out, cond.cmp)?;
     out.push(' ')?;
@@ -191,15 +220,21 @@ fn put_condition(out: &mut String, columns: &Columns<'_>, cond: &Cond) -> Result
 fn put_comparison(out: &mut String, comparison: Cmp) -> Result<(), Memory>
     ensures { OnOk result (string_bytes out.new ≡ string_bytes out.old ++ sign_text (comparison_sign comparison)) }
 {
-    match comparison {
-        Cmp::Eq => out.push_str("=")?,
-        Cmp::Ne => out.push_str("<>")?,
-        Cmp::Lt => out.push_str("<")?,
-        Cmp::Le => out.push_str("<=")?,
-        Cmp::Gt => out.push_str(">")?,
-        Cmp::Ge => out.push_str(">=")?,
-    }
+    out.push_str(comparison_text(comparison))?;
     Ok(())
+}
+
+fn comparison_text(comparison: Cmp) -> &'static str
+    ensures { result.now ≡ sign_text (comparison_sign comparison) }
+{
+    match comparison {
+        Cmp::Eq => "=",
+        Cmp::Ne => "<>",
+        Cmp::Lt => "<",
+        Cmp::Le => "<=",
+        Cmp::Gt => ">",
+        Cmp::Ge => ">=",
+    }
 }
 
 fn put_insert(out: &mut String, insert: &Insert) -> Result<(), Memory>
@@ -214,15 +249,7 @@ fn put_insert(out: &mut String, insert: &Insert) -> Result<(), Memory>
 fn put_constants(out: &mut String, values: &[Value]) -> Result<(), Memory>
     ensures { OnOk result (string_bytes out.new ≡ string_bytes out.old ++ constants_bytes (map constant_as values.now)) }
 {
-    let Some((first, others)) = values.split_first() else {
-        return Ok(());
-    };
-    put_constant(out, first)?;
-    for value in others {
-        out.push_str(SEPARATOR)?;
-        put_constant(out, value)?;
-    }
-    Ok(())
+    put_separated(out, &Constants, SEPARATOR, values)
 }
 
 fn put_constant(out: &mut String, value: &Value) -> Result<(), Memory>
@@ -251,15 +278,7 @@ fn put_update(out: &mut String, update: &Update) -> Result<(), Memory>
 fn put_assignments(out: &mut String, names: &[Text], sets: &[Assignment]) -> Result<(), Memory>
     ensures { OnOk result (string_bytes out.new ≡ string_bytes out.old ++ separated_bytes assignment_bytes (codes ", ") (map (assignment_as names.now) sets.now)) }
 {
-    let Some((first, others)) = sets.split_first() else {
-        return Ok(());
-    };
-    put_assignment(out, names, first)?;
-    for set in others {
-        out.push_str(SEPARATOR)?;
-        put_assignment(out, names, set)?;
-    }
-    Ok(())
+    put_separated(out, &Assignments(names), SEPARATOR, sets)
 }
 
 fn put_assignment(out: &mut String, names: &[Text], set: &Assignment) -> Result<(), Memory>
@@ -273,13 +292,13 @@ fn put_assignment(out: &mut String, names: &[Text], set: &Assignment) -> Result<
     }
 }
 
-/// A column and a number added, or its size taken away where it is negative.
+/// A column and a number added, or its magnitude taken away where it is negative.
 fn put_sum(out: &mut String, names: &[Text], col: usize, number: i64) -> Result<(), Memory>
     ensures { OnOk result (string_bytes out.new ≡ string_bytes out.old ++ assigned_bytes (assigned_as names.now (Sum col number))) }
 {
     put_name(out, names, col)?;
-    let sign = if number < 0 { '-' } else { '+' };
-    write!(out, " {sign} {}", number.unsigned_abs())?;
+    out.push_str(if number < 0 { " - " } else { " + " })?;
+    write!(out, "{}", number.unsigned_abs())?;
     Ok(())
 }
 

@@ -6,7 +6,7 @@ ghost use Rattle.std.specs.List.{position_from};
 ghost use Rattle.reader.specs.Breaks.{ColumnBreaks};
 ghost use Rattle.reader.specs.Resolving.{Resolves};
 ghost use Rattle.reader.specs.Scope.{table_of, scope_of, relation_table, one_relation, two_relations, columns_alone, is_qualifier, column_named, found_in_table, found_in_joined, found_in};
-ghost use Rattle.reader.specs.Tree.{column_of};
+ghost use Rattle.reader.specs.Tree.{column_tree};
 
 use crate::fault::{ReadFault, Rule};
 use crate::tree::Column;
@@ -106,7 +106,7 @@ pub fn find_named(columns: &[schema::Column], name: &[u8]) -> Option<Found>
 
 /// Whether a column's qualifier, where there is one, is the name that may stand there.
 fn qualifies(table: &Table<'_>, column: &Column<'_>) -> bool
-    ensures { result ≡ is_qualifier (table_of table.now).name (column_of column.now).relation }
+    ensures { result ≡ is_qualifier (table_of table.now).name (column_tree column.now).relation }
 {
     match column.relation {
         None => true,
@@ -118,7 +118,7 @@ fn qualifies(table: &Table<'_>, column: &Column<'_>) -> bool
 }
 
 fn find_in_table(table: &Table<'_>, column: &Column<'_>) -> Option<Found>
-    ensures { result ≡ found_in_table (table_of table.now) (column_of column.now) }
+    ensures { result ≡ found_in_table (table_of table.now) (column_tree column.now) }
 {
     if qualifies(table, column) {
         find_named(table.columns, column.name)
@@ -129,7 +129,7 @@ fn find_in_table(table: &Table<'_>, column: &Column<'_>) -> Option<Found>
 
 /// A column of the joined table, counted on from those of the first.
 fn find_in_joined(scope: &Scope<'_>, column: &Column<'_>) -> Option<Found>
-    ensures { result ≡ found_in_joined (length scope.now.first.columns.now) (scope_of scope.now).joined (column_of column.now) }
+    ensures { result ≡ found_in_joined (length scope.now.first.columns.now) (scope_of scope.now).joined (column_tree column.now) }
 {
     match &scope.joined {
         Some(table) => match find_in_table(table, column) {
@@ -148,8 +148,8 @@ fn find_in_joined(scope: &Scope<'_>, column: &Column<'_>) -> Option<Found>
 
 /// The column that a written one means.
 pub fn find(scope: &Scope<'_>, column: &Column<'_>) -> Result<Found, ReadFault>
-    ensures exact { Resolves (λ found. found) result (found_in (scope_of scope.now) (column_of column.now)) }
-    ensures rule { IfErr result (λ fault. ColumnBreaks fault.rule (scope_of scope.now) (column_of column.now)) }
+    ensures exact { Resolves (λ found. found) result (found_in (scope_of scope.now) (column_tree column.now)) }
+    ensures rule { IfErr result (λ fault. ColumnBreaks fault.rule (scope_of scope.now) (column_tree column.now)) }
 {
     let first = find_in_table(&scope.first, column);
     let joined = find_in_joined(scope, column);

@@ -26,7 +26,7 @@ pub enum Constant<'a> {
     Integer {
         is_negative: bool,
         /// The number without its sign; `u64::MAX` stands for every larger one.
-        size: u64,
+        magnitude: u64,
         /// Where it stands: at the `-` if there is one.
         offset: usize,
         /// Where its digits stand.
@@ -95,7 +95,7 @@ pub enum Assigned<'a> {
         /// Whether the number is taken away.
         is_negative: bool,
         /// The number without its sign; `u64::MAX` stands for every larger one.
-        size: u64,
+        magnitude: u64,
         /// Where its digits stand.
         digits: usize,
     },

@@ -1,5 +1,5 @@
 -- Why `whole::copy_relations` meets its contract.
-use Rattle.std.proofs.Common.{◌≡◌, List, ◌∷◌, Some, Option, refl, ap, rules}
+use Rattle.std.proofs.Common.{ap, rules}
 use Rattle.std.proofs.lemmas.Map.Iter.{btree_map_turn, rest_more, rest_all}
 use Rattle.std.specs.Cmp.Lexicographic.{nat_list_cmp_total}
 use Rattle.std.specs.Map.Iter.{deref_pair}

@@ -3,9 +3,9 @@ use Rattle.std.proofs.Common.{add-one, ◌≡◌, true, false, sym, ◌∙◌, i
 use Rattle.std.proofs.lemmas.Result.{err_from_is_err_and}
 use Rattle.reader.specs.Breaks.{AssignmentBreaks}
 use Rattle.reader.specs.Names.{is_set}
-use Rattle.reader.specs.Tree.{assignment_of}
+use Rattle.reader.specs.Tree.{assignment_tree}
 use Rattle.reader.proofs.Broken.{some_of}
-use Rattle.reader.proofs.Settings.{apart_more, no_column, no_value, one_more, set_again, set_twice}
+use Rattle.reader.proofs.WrittenAssignments.{apart_more, no_column, no_value, one_more, set_again, set_twice}
 use Rattle.reader.proofs.NoMeaning.{none_of_whole}
 use Rattle.reader.proofs.assignments.assignments.Goals as goal
 
@@ -39,7 +39,7 @@ loop-assignment-preserved c =
 pub returns-in_err-found-clause-rule : goal.returns-in_err-found-clause-rule
 returns-in_err-found-clause-rule c =
     let p = err_from_is_err_and c.from_residual.result c.from_residual.ensures.1 in
-    rw (p.1, p.2) (λ other. inl (some_of (AssignmentBreaks c.in_err-found.field-0.0.rule c.args.columns.now) assignment_of c.args.written.now c.loop-assignment.assignment-index _ c.loop-assignment-test.true (inl c.in_err-found.ensures.rule)))
+    rw (p.1, p.2) (λ other. inl (some_of (AssignmentBreaks c.in_err-found.field-0.0.rule c.args.columns.now) assignment_tree c.args.written.now c.loop-assignment.assignment-index _ c.loop-assignment-test.true (inl c.in_err-found.ensures.rule)))
 
 pub returns-then-sets_column-clause-rule : goal.returns-then-sets_column-clause-rule
 returns-then-sets_column-clause-rule c =
@@ -49,5 +49,5 @@ returns-then-sets_column-clause-rule c =
 pub returns-in_err-value-clause-rule : goal.returns-in_err-value-clause-rule
 returns-in_err-value-clause-rule c =
     let p = err_from_is_err_and c.from_residual-in_err-value.result c.from_residual-in_err-value.ensures.1 in
-    rw (p.1, p.2) (λ other. inl (some_of (AssignmentBreaks c.in_err-value.field-0.0.rule c.args.columns.now) assignment_of c.args.written.now c.loop-assignment.assignment-index _ c.loop-assignment-test.true
+    rw (p.1, p.2) (λ other. inl (some_of (AssignmentBreaks c.in_err-value.field-0.0.rule c.args.columns.now) assignment_tree c.args.written.now c.loop-assignment.assignment-index _ c.loop-assignment-test.true
     (inr (c.in_ok-found.found, c.in_ok-found.ensures.exact, c.in_err-value.ensures.rule other))))

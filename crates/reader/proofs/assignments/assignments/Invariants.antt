@@ -7,6 +7,6 @@ use Rattle.reader.proofs.assignments.assignments.Given as goal
 -- the assignments so far are those that were written so far, each to a column of its own
 abbrev pub invariant-loop-assignment : goal.invariant-loop-assignment
 invariant-loop-assignment l = record {
-  found : all_of (assignment_of l.columns) (map tree.assignment_of (take l.assignment-index l.written)) ≡ Some l.sets.items;
+  found : all_of (assignment_of l.columns) (map tree.assignment_tree (take l.assignment-index l.written)) ≡ Some l.sets.items;
   apart : are_apart l.sets.items ≡ true;
 }

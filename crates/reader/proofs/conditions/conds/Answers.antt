@@ -3,9 +3,9 @@ use Rattle.std.proofs.Common.{add-one, ◌+◌, ap, ◌∙◌, arith, inl, inr}
 use Rattle.std.proofs.lemmas.Result.{err_from_is_err_and}
 use Rattle.reader.specs.Breaks.{ConditionBreaks}
 use Rattle.reader.specs.Scope.{scope_of}
-use Rattle.reader.specs.Tree.{condition_of}
+use Rattle.reader.specs.Tree.{condition_tree}
 use Rattle.reader.proofs.Broken.{some_of}
-use Rattle.reader.proofs.Kept.{no_column, no_constant, one_more}
+use Rattle.reader.proofs.WrittenConditions.{no_column, no_constant, one_more}
 use Rattle.reader.proofs.NoMeaning.{none_of_whole}
 use Rattle.reader.proofs.conditions.conds.Goals as goal
 
@@ -33,10 +33,10 @@ loop-condition-preserved c = record {
 pub returns-in_err-found-clause-rule : goal.returns-in_err-found-clause-rule
 returns-in_err-found-clause-rule c =
     let p = err_from_is_err_and c.from_residual.result c.from_residual.ensures.1 in
-    rw (p.1, p.2) (λ other. inl (some_of (ConditionBreaks c.in_err-found.field-0.0.rule (scope_of c.args.scope.now)) condition_of c.args.conditions.now c.loop-condition.condition-index _ c.loop-condition-test.true (inl c.in_err-found.ensures.rule)))
+    rw (p.1, p.2) (λ other. inl (some_of (ConditionBreaks c.in_err-found.field-0.0.rule (scope_of c.args.scope.now)) condition_tree c.args.conditions.now c.loop-condition.condition-index _ c.loop-condition-test.true (inl c.in_err-found.ensures.rule)))
 
 pub returns-in_err-cond-clause-rule : goal.returns-in_err-cond-clause-rule
 returns-in_err-cond-clause-rule c =
     let p = err_from_is_err_and c.from_residual-in_err-cond.result c.from_residual-in_err-cond.ensures.1 in
-    rw (p.1, p.2) (λ other. inl (some_of (ConditionBreaks c.in_err-cond.field-0.0.rule (scope_of c.args.scope.now)) condition_of c.args.conditions.now c.loop-condition.condition-index _ c.loop-condition-test.true
+    rw (p.1, p.2) (λ other. inl (some_of (ConditionBreaks c.in_err-cond.field-0.0.rule (scope_of c.args.scope.now)) condition_tree c.args.conditions.now c.loop-condition.condition-index _ c.loop-condition-test.true
     (inr (c.in_ok-found.found, c.in_ok-found.ensures.exact, c.in_err-cond.ensures.rule other))))

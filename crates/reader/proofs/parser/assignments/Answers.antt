@@ -5,7 +5,7 @@ use Rattle.std.proofs.lemmas.List.{map_push}
 use Rattle.std.proofs.Common.{map}
 use Rattle.reader.specs.declared.sign.Sign.TheVariants as mark
 use Rattle.reader.specs.Symbol.{sign}
-use Rattle.reader.specs.Tree.{assignment_of, assignments_of}
+use Rattle.reader.specs.Tree.{assignment_tree, assignments_tree}
 use Rattle.reader.specs.Grammar.{assignment_text}
 use Rattle.reader.specs.Parsing.{assignment_at}
 use Rattle.reader.proofs.Steps.{ate}
@@ -23,7 +23,7 @@ returns-in_err-assignment c =
 
 pub returns-then-not-eat_sign : goal.returns-then-not-eat_sign
 returns-then-not-eat_sign c =
-    let items : assignments_of c.push.new.self ≡ map assignment_of c.loop-assignments.assignments.items ++ assignment_of c.in_ok-assignment.field-0 ∷ [] = rw c.in_ok-push.ensures.items (map_push assignment_of _ _) in
+    let items : assignments_tree c.push.new.self ≡ map assignment_tree c.loop-assignments.assignments.items ++ assignment_tree c.in_ok-assignment.field-0 ∷ [] = rw c.in_ok-push.ensures.items (map_push assignment_tree _ _) in
     rw items (ends_reading c.loop-assignments.invariant c.in_ok-assignment.ensures (ate _ _ c.eat_sign.ensures.found c.eat_sign.ensures.rest c.if-not-eat_sign.true))
 
 pub loop-assignments-smaller : goal.loop-assignments-smaller
@@ -31,5 +31,5 @@ loop-assignments-smaller c = shorter assignment_text assignment_takes _ c.in_ok-
 
 pub loop-assignments-preserved : goal.loop-assignments-preserved
 loop-assignments-preserved c =
-    let items : assignments_of c.push.new.self ≡ map assignment_of c.loop-assignments.assignments.items ++ assignment_of c.in_ok-assignment.field-0 ∷ [] = rw c.in_ok-push.ensures.items (map_push assignment_of _ _) in
+    let items : assignments_tree c.push.new.self ≡ map assignment_tree c.loop-assignments.assignments.items ++ assignment_tree c.in_ok-assignment.field-0 ∷ [] = rw c.in_ok-push.ensures.items (map_push assignment_tree _ _) in
     rw items (goes_on_reading c.loop-assignments.invariant assignment_text assignment_takes c.in_ok-assignment.ensures (ate _ _ c.eat_sign.ensures.found c.eat_sign.ensures.rest c.if-not-eat_sign.false))

@@ -5,7 +5,7 @@ use Rattle.std.proofs.lemmas.List.{map_push}
 use Rattle.std.proofs.Common.{map}
 use Rattle.reader.specs.declared.sign.Sign.TheVariants as mark
 use Rattle.reader.specs.Symbol.{sign}
-use Rattle.reader.specs.Tree.{column_of, columns_of}
+use Rattle.reader.specs.Tree.{column_tree, columns_tree}
 use Rattle.reader.specs.Grammar.{column_text}
 use Rattle.reader.specs.Parsing.{column_at}
 use Rattle.reader.proofs.Steps.{ate}
@@ -23,7 +23,7 @@ returns-in_err-column c =
 
 pub returns-then-not-eat_sign : goal.returns-then-not-eat_sign
 returns-then-not-eat_sign c =
-    let items : columns_of c.push.new.self ≡ map column_of c.loop-columns.columns.items ++ column_of c.in_ok-column.field-0 ∷ [] = rw c.in_ok-push.ensures.items (map_push column_of _ _) in
+    let items : columns_tree c.push.new.self ≡ map column_tree c.loop-columns.columns.items ++ column_tree c.in_ok-column.field-0 ∷ [] = rw c.in_ok-push.ensures.items (map_push column_tree _ _) in
     rw items (ends_reading c.loop-columns.invariant c.in_ok-column.ensures (ate _ _ c.eat_sign.ensures.found c.eat_sign.ensures.rest c.if-not-eat_sign.true))
 
 pub loop-columns-smaller : goal.loop-columns-smaller
@@ -31,5 +31,5 @@ loop-columns-smaller c = shorter column_text column_takes _ c.in_ok-column.ensur
 
 pub loop-columns-preserved : goal.loop-columns-preserved
 loop-columns-preserved c =
-    let items : columns_of c.push.new.self ≡ map column_of c.loop-columns.columns.items ++ column_of c.in_ok-column.field-0 ∷ [] = rw c.in_ok-push.ensures.items (map_push column_of _ _) in
+    let items : columns_tree c.push.new.self ≡ map column_tree c.loop-columns.columns.items ++ column_tree c.in_ok-column.field-0 ∷ [] = rw c.in_ok-push.ensures.items (map_push column_tree _ _) in
     rw items (goes_on_reading c.loop-columns.invariant column_text column_takes c.in_ok-column.ensures (ate _ _ c.eat_sign.ensures.found c.eat_sign.ensures.rest c.if-not-eat_sign.false))

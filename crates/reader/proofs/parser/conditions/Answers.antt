@@ -5,7 +5,7 @@ use Rattle.std.proofs.lemmas.List.{map_push}
 use Rattle.std.proofs.Common.{map}
 use Rattle.reader.specs.declared.keyword.Keyword.TheVariants as word
 use Rattle.reader.specs.Symbol.{key}
-use Rattle.reader.specs.Tree.{condition_of, conditions_of}
+use Rattle.reader.specs.Tree.{condition_tree, conditions_tree}
 use Rattle.reader.specs.Grammar.{condition_text}
 use Rattle.reader.specs.Parsing.{condition_at}
 use Rattle.reader.proofs.Steps.{ate}
@@ -23,7 +23,7 @@ returns-in_err-condition c =
 
 pub returns-then-not-eat_keyword : goal.returns-then-not-eat_keyword
 returns-then-not-eat_keyword c =
-    let items : conditions_of c.push.new.self ≡ map condition_of c.loop-conditions.conditions.items ++ condition_of c.in_ok-condition.field-0 ∷ [] = rw c.in_ok-push.ensures.items (map_push condition_of _ _) in
+    let items : conditions_tree c.push.new.self ≡ map condition_tree c.loop-conditions.conditions.items ++ condition_tree c.in_ok-condition.field-0 ∷ [] = rw c.in_ok-push.ensures.items (map_push condition_tree _ _) in
     rw items (ends_reading c.loop-conditions.invariant c.in_ok-condition.ensures (ate _ _ c.eat_keyword.ensures.found c.eat_keyword.ensures.rest c.if-not-eat_keyword.true))
 
 pub loop-conditions-smaller : goal.loop-conditions-smaller
@@ -31,5 +31,5 @@ loop-conditions-smaller c = shorter condition_text condition_takes _ c.in_ok-con
 
 pub loop-conditions-preserved : goal.loop-conditions-preserved
 loop-conditions-preserved c =
-    let items : conditions_of c.push.new.self ≡ map condition_of c.loop-conditions.conditions.items ++ condition_of c.in_ok-condition.field-0 ∷ [] = rw c.in_ok-push.ensures.items (map_push condition_of _ _) in
+    let items : conditions_tree c.push.new.self ≡ map condition_tree c.loop-conditions.conditions.items ++ condition_tree c.in_ok-condition.field-0 ∷ [] = rw c.in_ok-push.ensures.items (map_push condition_tree _ _) in
     rw items (goes_on_reading c.loop-conditions.invariant condition_text condition_takes c.in_ok-condition.ensures (ate _ _ c.eat_keyword.ensures.found c.eat_keyword.ensures.rest c.if-not-eat_keyword.false))

@@ -5,7 +5,7 @@ use Rattle.std.proofs.lemmas.List.{map_push}
 use Rattle.std.proofs.Common.{map}
 use Rattle.reader.specs.declared.sign.Sign.TheVariants as mark
 use Rattle.reader.specs.Symbol.{sign}
-use Rattle.reader.specs.Tree.{constant_of, constants_of}
+use Rattle.reader.specs.Tree.{constant_tree, constants_tree}
 use Rattle.reader.specs.Grammar.{constant_text}
 use Rattle.reader.specs.Parsing.{constant_at}
 use Rattle.reader.proofs.Steps.{ate}
@@ -23,7 +23,7 @@ returns-in_err-constant c =
 
 pub returns-then-not-eat_sign : goal.returns-then-not-eat_sign
 returns-then-not-eat_sign c =
-    let items : constants_of c.push.new.self ≡ map constant_of c.loop-constants.constants.items ++ constant_of c.in_ok-constant.field-0 ∷ [] = rw c.in_ok-push.ensures.items (map_push constant_of _ _) in
+    let items : constants_tree c.push.new.self ≡ map constant_tree c.loop-constants.constants.items ++ constant_tree c.in_ok-constant.field-0 ∷ [] = rw c.in_ok-push.ensures.items (map_push constant_tree _ _) in
     rw items (ends_reading c.loop-constants.invariant c.in_ok-constant.ensures (ate _ _ c.eat_sign.ensures.found c.eat_sign.ensures.rest c.if-not-eat_sign.true))
 
 pub loop-constants-smaller : goal.loop-constants-smaller
@@ -31,5 +31,5 @@ loop-constants-smaller c = shorter constant_text constant_takes _ c.in_ok-consta
 
 pub loop-constants-preserved : goal.loop-constants-preserved
 loop-constants-preserved c =
-    let items : constants_of c.push.new.self ≡ map constant_of c.loop-constants.constants.items ++ constant_of c.in_ok-constant.field-0 ∷ [] = rw c.in_ok-push.ensures.items (map_push constant_of _ _) in
+    let items : constants_tree c.push.new.self ≡ map constant_tree c.loop-constants.constants.items ++ constant_tree c.in_ok-constant.field-0 ∷ [] = rw c.in_ok-push.ensures.items (map_push constant_tree _ _) in
     rw items (goes_on_reading c.loop-constants.invariant constant_text constant_takes c.in_ok-constant.ensures (ate _ _ c.eat_sign.ensures.found c.eat_sign.ensures.rest c.if-not-eat_sign.false))

@@ -59,43 +59,43 @@ no_list None none = refl
 no_list (Some sets) none = cc
 
 -- a column that cannot be set
-pub no_column : (columns : List schema.Column) (written : List code_assignment.Assignment) (i : ℕ) (d : code_assignment.Assignment) → i < length written → settable columns (get_or written i d).column.name.now ≡ None → sets_of columns (map tree.assignment_of written) ≡ None
+pub no_column : (columns : List schema.Column) (written : List code_assignment.Assignment) (i : ℕ) (d : code_assignment.Assignment) → i < length written → settable columns (get_or written i d).column.name.now ≡ None → sets_of columns (map tree.assignment_tree written) ≡ None
 no_column columns written i d within none =
-    no_list (all_of (assignment_of columns) (map tree.assignment_of written))
-    (all_of_stop (assignment_of columns) tree.assignment_of written i d within
-    (ap (option_and_then (λ (f : Found). option_and_then (λ (v : Assigned). Some (record { col = f.place; value = v })) (assigned_of columns f.kind (tree.assigned_of (get_or written i d).value)))) none))
+    no_list (all_of (assignment_of columns) (map tree.assignment_tree written))
+    (all_of_stop (assignment_of columns) tree.assignment_tree written i d within
+    (ap (option_and_then (λ (f : Found). option_and_then (λ (v : Assigned). Some (record { col = f.place; value = v })) (assigned_of columns f.kind (tree.assigned_tree (get_or written i d).value)))) none))
 
 -- what it cannot be set to
-pub no_value : (columns : List schema.Column) (written : List code_assignment.Assignment) (i : ℕ) (d : code_assignment.Assignment) (found : Found) → i < length written → settable columns (get_or written i d).column.name.now ≡ Some found → assigned_of columns found.kind (tree.assigned_of (get_or written i d).value) ≡ None → sets_of columns (map tree.assignment_of written) ≡ None
+pub no_value : (columns : List schema.Column) (written : List code_assignment.Assignment) (i : ℕ) (d : code_assignment.Assignment) (found : Found) → i < length written → settable columns (get_or written i d).column.name.now ≡ Some found → assigned_of columns found.kind (tree.assigned_tree (get_or written i d).value) ≡ None → sets_of columns (map tree.assignment_tree written) ≡ None
 no_value columns written i d found within there none =
-    no_list (all_of (assignment_of columns) (map tree.assignment_of written))
-    (all_of_stop (assignment_of columns) tree.assignment_of written i d within
-    (to_found columns (tree.assignment_of (get_or written i d)) found there ∙ ap (option_and_then (λ (v : Assigned). Some (record { col = found.place; value = v }))) none))
+    no_list (all_of (assignment_of columns) (map tree.assignment_tree written))
+    (all_of_stop (assignment_of columns) tree.assignment_tree written i d within
+    (to_found columns (tree.assignment_tree (get_or written i d)) found there ∙ ap (option_and_then (λ (v : Assigned). Some (record { col = found.place; value = v }))) none))
 
 -- one assignment more
-pub one_more : (columns : List schema.Column) (written : List code_assignment.Assignment) (i : ℕ) (d : code_assignment.Assignment) (found : Found) (sets : List Assignment) (value : Assigned) → i < length written → all_of (assignment_of columns) (map tree.assignment_of (take i written)) ≡ Some sets → settable columns (get_or written i d).column.name.now ≡ Some found → assigned_of columns found.kind (tree.assigned_of (get_or written i d).value) ≡ Some value → all_of (assignment_of columns) (map tree.assignment_of (take (suc i) written)) ≡ Some (sets ++ record { col = found.place; value = value } ∷ [])
+pub one_more : (columns : List schema.Column) (written : List code_assignment.Assignment) (i : ℕ) (d : code_assignment.Assignment) (found : Found) (sets : List Assignment) (value : Assigned) → i < length written → all_of (assignment_of columns) (map tree.assignment_tree (take i written)) ≡ Some sets → settable columns (get_or written i d).column.name.now ≡ Some found → assigned_of columns found.kind (tree.assigned_tree (get_or written i d).value) ≡ Some value → all_of (assignment_of columns) (map tree.assignment_tree (take (suc i) written)) ≡ Some (sets ++ record { col = found.place; value = value } ∷ [])
 one_more columns written i d found sets value within so_far there is =
-    all_of_more (assignment_of columns) tree.assignment_of written i d sets (record { col = found.place; value = value }) within so_far
-    (to_found columns (tree.assignment_of (get_or written i d)) found there ∙ ap (option_and_then (λ (v : Assigned). Some (record { col = found.place; value = v }))) is)
+    all_of_more (assignment_of columns) tree.assignment_tree written i d sets (record { col = found.place; value = value }) within so_far
+    (to_found columns (tree.assignment_tree (get_or written i d)) found there ∙ ap (option_and_then (λ (v : Assigned). Some (record { col = found.place; value = v }))) is)
 
 -- ---- a column that is set a second time
 
 -- the assignments have one to the column of each that was written
-is_among : (columns : List schema.Column) (written : List code_assignment.Assignment) (i : ℕ) (d : code_assignment.Assignment) (found : Found) (sets : List Assignment) → i < length written → settable columns (get_or written i d).column.name.now ≡ Some found → all_of (assignment_of columns) (map tree.assignment_of written) ≡ Some sets → is_set found.place sets ≡ true
+is_among : (columns : List schema.Column) (written : List code_assignment.Assignment) (i : ℕ) (d : code_assignment.Assignment) (found : Found) (sets : List Assignment) → i < length written → settable columns (get_or written i d).column.name.now ≡ Some found → all_of (assignment_of columns) (map tree.assignment_tree written) ≡ Some sets → is_set found.place sets ≡ true
 is_among columns [] i d found sets within there is = absurd (omega arith)
 is_among columns (a ∷ written) zero d found sets within there is =
-    let first = first_step (λ (s : Assignment). option_map (λ (ss : List Assignment). s ∷ ss) (all_of (assignment_of columns) (map tree.assignment_of written))) (assignment_of columns (tree.assignment_of a)) sets is in
-    let rest = mapped_step (λ (ss : List Assignment). first.0 ∷ ss) (all_of (assignment_of columns) (map tree.assignment_of written)) sets first.2 in
+    let first = first_step (λ (s : Assignment). option_map (λ (ss : List Assignment). s ∷ ss) (all_of (assignment_of columns) (map tree.assignment_tree written))) (assignment_of columns (tree.assignment_tree a)) sets is in
+    let rest = mapped_step (λ (ss : List Assignment). first.0 ∷ ss) (all_of (assignment_of columns) (map tree.assignment_tree written)) sets first.2 in
     let P : List Assignment → Type 0 = λ s. is_set found.place s ≡ true in
-    subst P rest.2 (or_left (nat_eq first.0.col found.place) (is_set found.place rest.0) (eq-eqb first.0.col found.place (sets_found columns (tree.assignment_of a) found first.0 there first.1)))
+    subst P rest.2 (or_left (nat_eq first.0.col found.place) (is_set found.place rest.0) (eq-eqb first.0.col found.place (sets_found columns (tree.assignment_tree a) found first.0 there first.1)))
 is_among columns (a ∷ written) (suc i) d found sets within there is =
-    let first = first_step (λ (s : Assignment). option_map (λ (ss : List Assignment). s ∷ ss) (all_of (assignment_of columns) (map tree.assignment_of written))) (assignment_of columns (tree.assignment_of a)) sets is in
-    let rest = mapped_step (λ (ss : List Assignment). first.0 ∷ ss) (all_of (assignment_of columns) (map tree.assignment_of written)) sets first.2 in
+    let first = first_step (λ (s : Assignment). option_map (λ (ss : List Assignment). s ∷ ss) (all_of (assignment_of columns) (map tree.assignment_tree written))) (assignment_of columns (tree.assignment_tree a)) sets is in
+    let rest = mapped_step (λ (ss : List Assignment). first.0 ∷ ss) (all_of (assignment_of columns) (map tree.assignment_tree written)) sets first.2 in
     let P : List Assignment → Type 0 = λ s. is_set found.place s ≡ true in
     subst P rest.2 (or_right (nat_eq first.0.col found.place) (is_set found.place rest.0) (is_among columns written i d found rest.0 (omega arith) there rest.1))
 
 -- where the column is set by those before, the whole has two to it
-pub set_again : (columns : List schema.Column) (written : List code_assignment.Assignment) (i : ℕ) (d : code_assignment.Assignment) (found : Found) (before sets : List Assignment) → i < length written → settable columns (get_or written i d).column.name.now ≡ Some found → all_of (assignment_of columns) (map tree.assignment_of (take i written)) ≡ Some before → is_set found.place before ≡ true → all_of (assignment_of columns) (map tree.assignment_of written) ≡ Some sets → are_apart sets ≡ false
+pub set_again : (columns : List schema.Column) (written : List code_assignment.Assignment) (i : ℕ) (d : code_assignment.Assignment) (found : Found) (before sets : List Assignment) → i < length written → settable columns (get_or written i d).column.name.now ≡ Some found → all_of (assignment_of columns) (map tree.assignment_tree (take i written)) ≡ Some before → is_set found.place before ≡ true → all_of (assignment_of columns) (map tree.assignment_tree written) ≡ Some sets → are_apart sets ≡ false
 set_again columns [] i d found before sets within there so_far set is = absurd (omega arith)
 set_again columns (a ∷ written) zero d found before sets within there so_far set is =
     let none : [] ≡ before = cc in
@@ -103,10 +103,10 @@ set_again columns (a ∷ written) zero d found before sets within there so_far s
     let impossible : false ≡ true = subst P (sym none) set in
     cc
 set_again columns (a ∷ written) (suc i) d found before sets within there so_far set is =
-    let first = first_step (λ (s : Assignment). option_map (λ (ss : List Assignment). s ∷ ss) (all_of (assignment_of columns) (map tree.assignment_of written))) (assignment_of columns (tree.assignment_of a)) sets is in
-    let rest = mapped_step (λ (ss : List Assignment). first.0 ∷ ss) (all_of (assignment_of columns) (map tree.assignment_of written)) sets first.2 in
-    let front = first_step (λ (s : Assignment). option_map (λ (ss : List Assignment). s ∷ ss) (all_of (assignment_of columns) (map tree.assignment_of (take i written)))) (assignment_of columns (tree.assignment_of a)) before so_far in
-    let tail = mapped_step (λ (ss : List Assignment). front.0 ∷ ss) (all_of (assignment_of columns) (map tree.assignment_of (take i written))) before front.2 in
+    let first = first_step (λ (s : Assignment). option_map (λ (ss : List Assignment). s ∷ ss) (all_of (assignment_of columns) (map tree.assignment_tree written))) (assignment_of columns (tree.assignment_tree a)) sets is in
+    let rest = mapped_step (λ (ss : List Assignment). first.0 ∷ ss) (all_of (assignment_of columns) (map tree.assignment_tree written)) sets first.2 in
+    let front = first_step (λ (s : Assignment). option_map (λ (ss : List Assignment). s ∷ ss) (all_of (assignment_of columns) (map tree.assignment_tree (take i written)))) (assignment_of columns (tree.assignment_tree a)) before so_far in
+    let tail = mapped_step (λ (ss : List Assignment). front.0 ∷ ss) (all_of (assignment_of columns) (map tree.assignment_tree (take i written))) before front.2 in
     let same : front.0 ≡ first.0 = cc (front.1, first.1) in
     let P : List Assignment → Type 0 = λ s. is_set found.place s ≡ true in
     let Q : List Assignment → Type 0 = λ s. are_apart s ≡ false in
@@ -120,9 +120,9 @@ set_again columns (a ∷ written) (suc i) d found before sets within there so_fa
           and_right (not (is_set first.0.col rest.0)) (are_apart rest.0) (set_again columns written i d found tail.0 rest.0 (omega arith) there tail.1 later rest.1)
     ])
 
-pub set_twice : (columns : List schema.Column) (written : List code_assignment.Assignment) (i : ℕ) (d : code_assignment.Assignment) (found : Found) (before : List Assignment) → i < length written → all_of (assignment_of columns) (map tree.assignment_of (take i written)) ≡ Some before → settable columns (get_or written i d).column.name.now ≡ Some found → is_set found.place before ≡ true → sets_of columns (map tree.assignment_of written) ≡ None
+pub set_twice : (columns : List schema.Column) (written : List code_assignment.Assignment) (i : ℕ) (d : code_assignment.Assignment) (found : Found) (before : List Assignment) → i < length written → all_of (assignment_of columns) (map tree.assignment_tree (take i written)) ≡ Some before → settable columns (get_or written i d).column.name.now ≡ Some found → is_set found.place before ≡ true → sets_of columns (map tree.assignment_tree written) ≡ None
 set_twice columns written i d found before within so_far there set =
-    elim (all_of (assignment_of columns) (map tree.assignment_of written)) as (λ o. all_of (assignment_of columns) (map tree.assignment_of written) ≡ o → option_and_then (λ (s : List Assignment). cond (are_apart s) (Some s) None) o ≡ None) [
+    elim (all_of (assignment_of columns) (map tree.assignment_tree written)) as (λ o. all_of (assignment_of columns) (map tree.assignment_tree written) ≡ o → option_and_then (λ (s : List Assignment). cond (are_apart s) (Some s) None) o ≡ None) [
       | None ↦ λ none. refl
       | Some sets ↦ λ is. let twice = set_again columns written i d found before sets within there so_far set is in ap (λ t. cond t (Some sets) None) twice
     ] refl
