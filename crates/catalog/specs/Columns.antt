@@ -8,6 +8,7 @@ use Rattle.reader.specs.Printable.{AreDistinct}
 use Rattle.catalog.specs.Catalogue.{IsColumnText}
 use Rattle.catalog.specs.Describes.{Each}
 use Rattle.catalog.specs.declared.fault.Rule.{Rule}
+use Rattle.catalog.specs.Refusal.{RefusesBy}
 use Rattle.catalog.specs.declared.fault.Rule.TheVariants.{Gap, Overlap, Memory}
 
 -- the columns of a relation that texts say: each name once, at most 16, and an integer as the key
@@ -19,10 +20,7 @@ pub record AreColumns (texts : List (List ℕ)) (columns : List Column) : Type 0
 
 -- a refusal of the texts by the rule: but for want of memory, they say no columns of a relation
 abbrev pub RefusesColumns : List (List ℕ) → Rule → Type 0
-RefusesColumns texts Memory = Unit {0}
-RefusesColumns texts (Gap cell) = ⊥
-RefusesColumns texts (Overlap cell) = ⊥
-RefusesColumns texts _ = (columns : List Column) → AreColumns texts columns → ⊥
+RefusesColumns texts rule = RefusesBy ⊥ ((columns : List Column) → AreColumns texts columns → ⊥) rule
 
 -- whether a column of this name stands among these
 abbrev pub has_column : List Column → List ℕ → Bool
@@ -35,10 +33,7 @@ pub record IsNextColumn (before : List Column) (text : List ℕ) (column : Colum
 
 -- a refusal of a text behind other columns by the rule
 abbrev pub RefusesColumn : List Column → List ℕ → Rule → Type 0
-RefusesColumn before text Memory = Unit {0}
-RefusesColumn before text (Gap cell) = ⊥
-RefusesColumn before text (Overlap cell) = ⊥
-RefusesColumn before text _ = (column : Column) → IsNextColumn before text column → ⊥
+RefusesColumn before text rule = RefusesBy ⊥ ((column : Column) → IsNextColumn before text column → ⊥) rule
 
 -- columns that can be those of a relation, as to how many there are and what the key is
 pub record FitRelation (columns : List Column) : Type 0 where
@@ -46,8 +41,8 @@ pub record FitRelation (columns : List Column) : Type 0 where
   pub key : slice_get (map (λ column. column.kind) columns) 0 ≡ Some kinds.Int
 
 -- a refusal of columns as those of a relation by the rule
-abbrev pub RefusesRelation : List Column → Rule → Type 0
-RefusesRelation columns Memory = ⊥
-RefusesRelation columns (Gap cell) = ⊥
-RefusesRelation columns (Overlap cell) = ⊥
-RefusesRelation columns _ = FitRelation columns → ⊥
+abbrev pub RefusesFit : List Column → Rule → Type 0
+RefusesFit columns Memory = ⊥
+RefusesFit columns (Gap cell) = ⊥
+RefusesFit columns (Overlap cell) = ⊥
+RefusesFit columns _ = FitRelation columns → ⊥

@@ -17,7 +17,6 @@ use crate::fault::Rule;
 use crate::form::{Form, form_of_node};
 use crate::frame::{Frame, in_order};
 use crate::groups::named_columns;
-use crate::laws::cells_decide;
 use crate::split::{Branch, Group, Split};
 use crate::wheres::{branch_conds, require_exact};
 use reader::read_conds::one_list_of_conds;
@@ -105,9 +104,8 @@ fn by_rows(
     ensures few { IfOk result (λ branches. leaves.new ≤ 32) }
     ensures none { IfErr result (λ rule. RefusesRows (frame_of frame.now) splits way.now within.now (map view nodes.now) leaves.old rule) }
 {
-    // A refusal rests on these two laws.
+    // What a refusal says rests on this law.
     one_list_of_conds();
-    cells_decide();
     if splits == 0 {
         return Err(Rule::Limit);
     }
@@ -146,6 +144,7 @@ fn branches(
     ensures few { IfOk result (λ branches. leaves.new ≤ 32) }
     ensures none { IfErr result (λ rule. RefusesBranches (frame_of frame.now) splits way.now within.now (map view nodes.now) conds.now leaves.old rule) }
 {
+    one_list_of_conds();
     let mut branches = Vec::new(frame.alloc);
     for i in 0..nodes.len() {
         let next = branch(frame, splits, way, within, &nodes[i], &conds[i], leaves)?;
@@ -243,6 +242,7 @@ fn groups(
     ensures few { IfOk result (λ groups. leaves.new ≤ 32) }
     ensures none { IfErr result (λ rule. RefusesGroups (frame_of frame.now) splits way.now (map view nodes.now) (map (in_order within.now) named.now) leaves.old rule) }
 {
+    one_list_of_conds();
     let mut groups = Vec::new(frame.alloc);
     for i in 0..nodes.len() {
         let columns = in_order(frame.alloc, within, named[i].as_slice())?;

@@ -45,4 +45,4 @@ returns-in-Err-clause-none c =
     let R : List ℕ → Type 0 = λ own. ((c.in_relation.result.rule ≡ c.in-Err.rule) × (c.in_relation.result.relation ≡ Some own)) ⊎ (c.in_relation.result.rule ≡ Memory) in
     let Q : List (List ℕ × Data) → Type 0 = λ said. RefusesRelations c.args.sites.now said (Some name) c.in-Err.rule in
     same_or_memory c.args.sites.now _ name c.in-Err.rule c.in_relation.result.relation c.in_relation.result.rule (subst R c.as_str-in-Err.ensures.value c.in_relation.ensures)
-    (subst Q (sym (ap (λ es. entries (members_view es)) all ∙ entries_both done e left)) (refuses_all c.args.sites.now (entries (members_view done)) (entries (members_view left)) _ c.in-Err.rule here))
+    (subst Q (sym (ap (λ es. entries (members_view es)) all ∙ entries_both done e left)) (refuses_all c.one_list_of_conds.ensures c.args.sites.now (entries (members_view done)) (entries (members_view left)) _ c.in-Err.rule (map relation_of l.relations.items) l.invariant.2 l.invariant.3 here))

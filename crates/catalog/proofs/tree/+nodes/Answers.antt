@@ -11,20 +11,20 @@ use Rattle.catalog.specs.Frame.{frame_of}
 use Rattle.catalog.specs.Node.{AtSite, SplitByRows, SplitByCols, form_of}
 use Rattle.catalog.specs.Path.{group_columns}
 use Rattle.catalog.specs.Split.{Tree, ByCols, tree_branch, tree_group}
-use Rattle.catalog.specs.Valid.{IsValidWithin, AreValidGroups}
-use Rattle.catalog.proofs.Below.{IsBranch, IsGroup, each_length, each_pushed, are_branches, are_valid_branches, are_groups, are_valid_groups, conds_pushed, columns_pushed, rows_pushed, cols_pushed, is_branch, is_group, all_taken}
+use Rattle.catalog.specs.Valid.{AreExact, IsValidWithin, AreValidGroups}
+use Rattle.catalog.proofs.Below.{IsBranch, IsGroup, each_length, each_pushed, are_branches, are_valid_branches, are_groups, are_valid_groups, conds_pushed, columns_pushed, rows_pushed, cols_pushed, is_branch, is_group, all_taken, map-take}
 use Rattle.catalog.proofs.Children.{branches_refused, groups_refused}
 use Rattle.catalog.proofs.Ordered.{cols_valid, all_length}
-use Rattle.catalog.proofs.Splits.{if_err, if_ok_both, rows_no_conds, rows_no_split, rows_below, cols_no_names, cols_below, cols_described, site_refused, rows_refused, cols_refused, none_ill}
+use Rattle.catalog.proofs.Splits.{err_is, if_err, if_ok_both, rows_no_conds, rows_no_split, rows_below, cols_no_names, cols_below, cols_described, site_refused, rows_refused, cols_refused, none_ill}
 use Rattle.catalog.proofs.Trees.{tree_of-ByRows, tree_of-ByCols}
 use Rattle.catalog.proofs.tree.+nodes.Goals as goal
 
 pub branches-returns-in_err-next-clause-none : goal.branches-returns-in_err-next-clause-none
 branches-returns-in_err-next-clause-none t c =
     let p = err_from_is_err_and c.from_residual.result c.from_residual.ensures.1 in
-    rw (p.1, p.2) (branches_refused (frame_of c.args.frame.now) c.args.splits c.args.way.now c.args.within.now view c.args.nodes.now c.loop-i.i c.index-nodes-i.result c.index-nodes-i.result
+    rw (p.1, p.2) (branches_refused c.one_list_of_conds.ensures (frame_of c.args.frame.now) c.args.splits c.args.way.now c.args.within.now view c.args.nodes.now c.loop-i.i c.index-nodes-i.result c.index-nodes-i.result
     c.args.conds.now c.index-conds-i.result c.index-conds-i.result (map tree_branch c.loop-i.branches.items) c.args.leaves.now c.loop-i.leaves c.in_err-next.field-0.0
-    c.index-nodes-i.is c.index-conds-i.is c.loop-i-test.true c.loop-i.invariant.each c.loop-i.invariant.counted (omega (arith, c.requires.same_length, c.loop-i-test.true)) c.in_err-next.ensures.none)
+    c.index-nodes-i.is c.index-conds-i.is c.loop-i-test.true c.loop-i.invariant.each c.loop-i.invariant.conds c.loop-i.invariant.counted c.in_err-next.ensures.none)
 
 pub branches-loop-i-preserved : goal.branches-loop-i-preserved
 branches-loop-i-preserved t c =
@@ -55,24 +55,27 @@ branches-returns-clause-valid t c =
 
 pub by_rows-returns-in_err-conds-clause-none : goal.by_rows-returns-in_err-conds-clause-none
 by_rows-returns-in_err-conds-clause-none t c =
-    let p = err_from_is_err_and c.from_residual.result c.from_residual.ensures.1 in
-    rw (p.1, p.2) (rows_no_conds (frame_of c.args.frame.now) c.args.splits c.args.way.now c.args.within.now (map view c.args.nodes.now) c.args.leaves.now c.in_err-conds.field-0.0 c.in_err-conds.ensures.none)
+    let frame = frame_of c.args.frame.now in
+    err_is c.from_residual.result (λ rule. RefusesRows frame c.args.splits c.args.way.now c.args.within.now (map view c.args.nodes.now) c.args.leaves.now rule) c.in_err-conds.field-0.0 c.from_residual.ensures.1
+    (rows_no_conds frame c.args.splits c.args.way.now c.args.within.now (map view c.args.nodes.now) c.args.leaves.now c.in_err-conds.field-0.0 c.in_err-conds.ensures.none)
 
 pub by_rows-returns-in_err-require_exact-clause-none : goal.by_rows-returns-in_err-require_exact-clause-none
 by_rows-returns-in_err-require_exact-clause-none t c =
-    let p = err_from_is_err_and c.from_residual-in_err-require_exact.result c.from_residual-in_err-require_exact.ensures.1 in
-    rw (p.1, p.2) (rows_no_split c.one_list_of_conds.ensures c.cells_decide.ensures (frame_of c.args.frame.now) c.args.splits c.args.way.now c.args.within.now (map view c.args.nodes.now) c.args.leaves.now
-    c.as_slice.result.now c.in_ok-conds.conds.items c.in_err-require_exact.field-0.0 (c.args.splits - 1) (omega (arith, c.if-splits-eq0.false)) c.as_slice.ensures.value c.in_ok-conds.ensures.found c.in_err-require_exact.ensures.none)
+    let frame = frame_of c.args.frame.now in
+    err_is c.from_residual-in_err-require_exact.result (λ rule. RefusesRows frame c.args.splits c.args.way.now c.args.within.now (map view c.args.nodes.now) c.args.leaves.now rule) c.in_err-require_exact.field-0.0
+    c.from_residual-in_err-require_exact.ensures.1 (rows_no_split c.one_list_of_conds.ensures (frame_of c.args.frame.now) c.args.splits c.args.way.now c.args.within.now (map view c.args.nodes.now) c.args.leaves.now
+    c.as_slice.result.now c.in_ok-conds.conds.items c.in_err-require_exact.field-0.0 c.as_slice.ensures.value c.in_ok-conds.ensures.found c.in_err-require_exact.ensures.none)
 
 pub by_rows-returns-clause-none : goal.by_rows-returns-clause-none
 by_rows-returns-clause-none t c =
     let frame = frame_of c.args.frame.now in
+    let P : List (List Cond) → Type 0 = λ conds. AreExact (kinds_in frame) c.args.way.now conds in
     let more : c.args.splits ≡ suc (c.args.splits - 1) = omega (arith, c.if-splits-eq0.false) in
     if_err (λ rule. RefusesBranches frame (c.args.splits - 1) c.args.way.now c.args.within.now (map view c.args.nodes.now) c.as_slice-2.result.now c.args.leaves.now rule)
     (λ rule. RefusesRows frame c.args.splits c.args.way.now c.args.within.now (map view c.args.nodes.now) c.args.leaves.now rule)
     c.branches.result
     (rows_below c.one_list_of_conds.ensures frame c.args.splits (c.args.splits - 1) c.args.way.now c.args.within.now (map view c.args.nodes.now) c.args.leaves.now c.as_slice-2.result.now c.in_ok-conds.conds.items
-    more c.as_slice-2.ensures.value c.in_ok-conds.ensures.found)
+    more c.as_slice-2.ensures.value c.in_ok-conds.ensures.found (subst P (c.as_slice.ensures.value ∙ sym c.as_slice-2.ensures.value) c.in_ok-require_exact.ensures.exact))
     c.branches.ensures.none
 
 pub by_rows-branches-requires : goal.by_rows-branches-requires
@@ -137,10 +140,10 @@ groups-returns-in_err-next-clause-none t c =
     let inside : c.loop-i.i < length c.args.named.now = omega (arith, c.requires.same_length, c.loop-i-test.true) in
     let here : c.in_ok-columns.columns.items ≡ get_or (map order c.args.named.now) c.loop-i.i [] =
     c.in_ok-columns.ensures ∙ ap order (c.as_slice.ensures ∙ c.index-named-i.is) ∙ sym (get_or-map order c.args.named.now c.loop-i.i c.index-named-i.result [] inside) in
-    let among : c.loop-i.i < length (map order c.args.named.now) = rw (length-map c.args.named.now order) inside in
-    rw (p.1, p.2) (groups_refused (frame_of c.args.frame.now) c.args.splits c.args.way.now view c.args.nodes.now c.loop-i.i c.index-nodes-i.result c.index-nodes-i.result
+    let taken = c.loop-i.invariant.columns ∙ map-take order c.loop-i.i c.args.named.now in
+    rw (p.1, p.2) (groups_refused c.one_list_of_conds.ensures (frame_of c.args.frame.now) c.args.splits c.args.way.now view c.args.nodes.now c.loop-i.i c.index-nodes-i.result c.index-nodes-i.result
     order c.args.named.now [] c.in_ok-columns.columns.items (map tree_group c.loop-i.groups.items) c.args.leaves.now c.loop-i.leaves c.in_err-next.field-0.0
-    c.index-nodes-i.is here c.loop-i-test.true c.loop-i.invariant.each c.loop-i.invariant.counted among c.in_err-next.ensures.none)
+    c.index-nodes-i.is here c.loop-i-test.true c.loop-i.invariant.each taken c.loop-i.invariant.counted c.in_err-next.ensures.none)
 
 pub groups-loop-i-preserved : goal.groups-loop-i-preserved
 groups-loop-i-preserved t c =
