@@ -1,14 +1,21 @@
 -- What a text says of a catalogue, by what is read of its document.
-use Rattle.std.proofs.Common.{◌≡◌, ◌≢◌, ◌≤◌, ◌<◌, ℕ, Bool, true, false, ◌&&◌, List, [], ◌∷◌, ◌++◌, Option, Some, None, is_some, option_map, not, length, refl, sym, ap, subst, ◌∙◌, arith, codes, String, Global}
+use Rattle.std.proofs.Common.{◌≡◌, ◌≢◌, ◌≤◌, ◌<◌, ℕ, Bool, true, false, ◌&&◌, List, [], ◌∷◌, ◌++◌, Option, Some, None, is_some, option_map, not, length, refl, sym, ap, ap₂, subst, ◌∙◌, arith, codes, String, Global}
 use Rattle.toml.specs.Data.{Data, string, integer, float, boolean, datetime, array, table, Members, as_table}
 use Rattle.toml.specs.Parse.{parse_document}
 use Rattle.toml.specs.View.{members_view}
 use Rattle.toml.specs.declared.value.Value.{Value}
 use Rattle.catalog.specs.declared.fault.Rule.{Rule}
-use Rattle.catalog.specs.Catalogue.{Catalogue, SplitRelation, IsRelationIn, IsDocumentOf, IsCatalogueText, document_parts, entries}
+use Rattle.catalog.specs.Catalogue.{Catalogue, SplitRelation, IsRelationIn, IsDocumentOf, IsCatalogueText, IsValidRelation, document_parts, entries}
 use Rattle.catalog.specs.Describes.{Each}
 use Rattle.catalog.specs.Document.{RefusesDocument, RefusesRelations, RefusesRoot, RefusesText, SaysNoRelations, IsOfNone, are_tables}
-use Rattle.catalog.specs.Inexact.{IsFirstFaulty}
+use Rattle.catalog.specs.Inexact.{IsFirstFaulty, IsFirstInexact, row_splits}
+use Rattle.catalog.specs.Laws.{OneCatalogueOfText, FaultyIsNotValid}
+use Rattle.catalog.specs.Path.{columns_beside_key}
+use Rattle.meaning.specs.Schema.{kinds_of}
+use Rattle.reader.specs.Conds.{OneListOfCondsOfText}
+use Rattle.catalog.proofs.Inexact.{none_first, not_valid}
+use Rattle.catalog.proofs.Pairs.{each_one}
+use Rattle.catalog.proofs.RelationTexts.{one_relation}
 use Rattle.catalog.proofs.Refusals.{refuses_also, refuses_map}
 use Rattle.catalog.specs.Node.{texts_at}
 use Rattle.catalog.specs.Sites.{AreSites, RefusesSites}
@@ -207,3 +214,25 @@ catalogue_is root texts sites es relations parts same are each some few =
       some = λ none. let zero : length relations ≡ 0 = ap length none in some (omega (arith, count, entries_are, zero));
       few_relations = omega (arith, count, entries_are, few);
     }
+
+-- ---- one catalogue
+
+-- a document is one of at most one catalogue
+one_document : OneListOfCondsOfText → (root : Data) (one other : Catalogue) → IsDocumentOf root one → IsDocumentOf root other → one ≡ other
+one_document law root one other is too =
+    let same = parts_are root one.sites is.members (sym is.parts) other too in
+    let said = relations_of root one.sites is.members (sym is.parts) other too in
+    let relations = each_one (IsRelationIn one.sites) (one_relation law one.sites) (entries is.members) one.relations other.relations is.relations said in
+    ap₂ (λ (sites : List (List ℕ)) (rs : List SplitRelation). record { sites = sites; relations = rs }) (sym same.0) relations
+
+pub one_catalogue : OneListOfCondsOfText → OneCatalogueOfText
+one_catalogue law text one other is too =
+    let same : too.document ≡ is.document = some_same too.document is.document (sym too.parses ∙ is.parses) in
+    let P : Members → Type 0 = λ ms. IsDocumentOf (table ms) other in
+    one_document law (table is.document) one other is.describes (subst P same too.describes)
+
+pub faulty_is_not_valid : FaultyIsNotValid
+faulty_is_not_valid catalogue told rule first valid =
+    none_first (λ relation. (told ≡ Some relation.schema.name) × IsFirstInexact (record { sites = catalogue.sites; columns = relation.schema.columns }) rule (row_splits [] relation.tree)) IsValidRelation catalogue.relations
+    (λ relation found whole. not_valid (record { sites = catalogue.sites; columns = relation.schema.columns }) rule [] (columns_beside_key (kinds_of relation.schema)) relation.tree found.1 whole)
+    valid first
