@@ -69,4 +69,4 @@ pub record IsChecked (old new : Option (List ℕ)) (bytes : List ℕ) : Type 0 w
 -- why nothing was said of this file, of these bytes, or not all
 abbrev pub IsCheckFault : Bor (List ℕ) → List ℕ → CatalogFault → Type 0
 IsCheckFault file bytes (Program fault) = IsOfInput file fault ⊎ (fault ≡ CannotWrite)
-IsCheckFault file bytes (Refused fault) = RefusesFile bytes fault.rule
+IsCheckFault file bytes (Refused fault) = RefusesFile bytes fault.relation fault.rule
