@@ -59,7 +59,7 @@ groups_among frame within (node ∷ nodes) groups is =
 itself : (col : ℕ) (after : List ℕ) → has (col ∷ after) col ≡ false → ⊥
 itself col after none = let same : (col == col) ≡ true = eq-eqb col col refl in cc
 
-again_not_apart : (columns : List ℕ) (col : ℕ) → IsFirstAgain columns col → AreApart columns → ⊥
+pub again_not_apart : (columns : List ℕ) (col : ℕ) → IsFirstAgain columns col → AreApart columns → ⊥
 again_not_apart columns col first apart =
     let P : List ℕ → Type 0 = AreApart in
     itself col first.after (not_behind first.before (col ∷ first.after) col (subst P first.place apart) first.again)

@@ -1,8 +1,9 @@
 -- What is below a split: the branches or the groups of the nodes under it.
-use Rattle.std.specs.Prelude.{◌≡◌, ◌≤◌, ◌+◌, ℕ, zero, suc, List, [], Some, length, map}
+use Rattle.std.specs.Prelude.{◌≡◌, ◌≤◌, ◌+◌, ℕ, zero, suc, List, [], Some, None, length, map}
 use Rattle.toml.specs.Data.{Data}
 use Rattle.terms.specs.declared.cond.Cond.{Cond}
 use Rattle.catalog.specs.declared.fault.Rule.{Rule}
+use Rattle.catalog.specs.declared.fault.Rule.TheVariants.{NoSite, Limit}
 use Rattle.catalog.specs.declared.split.Branch as branch
 use Rattle.catalog.specs.declared.split.Group as group
 use Rattle.catalog.specs.Describes.{Frame, kinds_in, Each, IsWhere, AreNamedIn, HasFewCells, in_order, site_numbered, AreBranches, AreGroups}
@@ -33,6 +34,12 @@ AreCols frame (suc splits) way within nodes groups =
 -- a refusal of a leaf: there is no such site, or no room for one leaf more
 abbrev pub RefusesSite : Frame → List ℕ → ℕ → Rule → Type 0
 RefusesSite frame name leaves rule = RefusesBy ⊥ ((site : ℕ) → site_numbered frame.sites name ≡ Some site → leaves + 1 ≤ 32 → ⊥) rule
+
+-- what is wrong with a leaf, by the rule
+abbrev pub IsLeafFault : Frame → List ℕ → ℕ → Rule → Type 0
+IsLeafFault frame name leaves NoSite = site_numbered frame.sites name ≡ None
+IsLeafFault frame name leaves Limit = 32 ≤ leaves
+IsLeafFault frame name leaves _ = ⊥
 
 -- a refusal of a row split
 abbrev pub RefusesRows : Frame → ℕ → List Cond → List ℕ → List Data → ℕ → Rule → Type 0

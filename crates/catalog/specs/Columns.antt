@@ -1,15 +1,17 @@
 -- The texts of a relation's columns.
-use Rattle.std.specs.Prelude.{◌≡◌, ◌≤◌, ℕ, Bool, false, List, Some, length, map, nat_eq}
+use Rattle.std.specs.Prelude.{◌≡◌, ◌≢◌, ◌≤◌, ◌<◌, ℕ, Bool, true, false, List, [], ◌∷◌, ◌++◌, Some, length, map, nat_eq}
 use Rattle.std.specs.List.{list_any, slice_get}
 use Rattle.std.specs.Cmp.Lexicographic.{pointwise}
 use Rattle.terms.specs.declared.value.Kind.TheVariants as kinds
 use Rattle.meaning.specs.declared.schema.Column.{Column}
 use Rattle.reader.specs.Printable.{AreDistinct}
-use Rattle.catalog.specs.Catalogue.{IsColumnText}
+use Rattle.catalog.specs.Catalogue.{IsColumnText, kind_word}
+use Rattle.reader.specs.Tokens.{IsName}
+use Rattle.terms.specs.declared.value.Kind.{Kind}
 use Rattle.catalog.specs.Describes.{Each}
 use Rattle.catalog.specs.declared.fault.Rule.{Rule}
 use Rattle.catalog.specs.Refusal.{RefusesBy}
-use Rattle.catalog.specs.declared.fault.Rule.TheVariants.{Gap, Overlap, Memory}
+use Rattle.catalog.specs.declared.fault.Rule.TheVariants.{Field, Name, Twice, KeyType, Gap, Overlap, Limit, Memory}
 
 -- the columns of a relation that texts say: each name once, at most 16, and an integer as the key
 pub record AreColumns (texts : List (List ℕ)) (columns : List Column) : Type 0 where
@@ -46,3 +48,18 @@ RefusesFit columns Memory = ⊥
 RefusesFit columns (Gap cell) = ⊥
 RefusesFit columns (Overlap cell) = ⊥
 RefusesFit columns _ = FitRelation columns → ⊥
+
+-- what is wrong with columns as those of a relation, by the rule
+abbrev pub IsFitFault : List Column → Rule → Type 0
+IsFitFault columns Limit = 16 < length columns
+IsFitFault columns KeyType = slice_get (map (λ column. column.kind) columns) 0 ≡ Some kinds.Text
+IsFitFault columns Field = columns ≡ []
+IsFitFault columns _ = ⊥
+
+-- what is wrong with the text of a column behind others, by the rule
+abbrev pub IsColumnFault : List Column → List ℕ → Rule → Type 0
+IsColumnFault before text Field = (name : List ℕ) (kind : Kind) → text ≢ name ++ 32 ∷ kind_word kind
+IsColumnFault before text Name = (name : List ℕ) × (kind : Kind) × (text ≡ name ++ 32 ∷ kind_word kind) × (IsName name → ⊥)
+IsColumnFault before text Twice = (column : Column) × IsColumnText text column × (has_column before column.name ≡ true)
+IsColumnFault before text Memory = Unit {0}
+IsColumnFault before text _ = ⊥

@@ -1,5 +1,5 @@
 -- What the refusal of a node of a catalogue's document says.
-use Rattle.std.specs.Prelude.{◌≡◌, ◌≤◌, ◌+◌, ℕ, Bool, true, false, List, None, length}
+use Rattle.std.specs.Prelude.{◌≡◌, ◌≤◌, ◌+◌, ℕ, Bool, true, false, List, [], None, length}
 use Rattle.reader.specs.Names.{all_of}
 use Rattle.toml.specs.Data.{Data}
 use Rattle.terms.specs.declared.cond.Cond.{Cond}
@@ -7,11 +7,11 @@ use Rattle.meaning.specs.declared.schema.Column.{Column}
 use Rattle.reader.specs.declared.fault.Rule as readers
 use Rattle.reader.specs.declared.fault.Rule.TheVariants as reading
 use Rattle.catalog.specs.declared.fault.Rule.{Rule}
-use Rattle.catalog.specs.declared.fault.Rule.TheVariants.{Field, ColumnAbsent, WrongType, Gap, Overlap, Limit, Memory}
+use Rattle.catalog.specs.declared.fault.Rule.TheVariants.{Field, ColumnTwice, ColumnLost, ColumnAbsent, WrongType, Gap, Overlap, Limit, Memory}
 use Rattle.catalog.specs.Describes.{Frame, kinds_in, Each, IsWhereOn, named_in, AreNamedIn, HasFewCells, Describes}
 use Rattle.catalog.specs.Inexact.{IsFirstInexact, IsGapOf, IsOverlapOf, row_splits}
 use Rattle.catalog.specs.Path.{paths}
-use Rattle.catalog.specs.Parts.{named, AreApart}
+use Rattle.catalog.specs.Parts.{named, AreApart, first_lost}
 use Rattle.catalog.specs.Refusal.{RefusesBy}
 use Rattle.catalog.specs.Split.{Tree}
 use Rattle.catalog.specs.Valid.{AreParts}
@@ -71,6 +71,14 @@ is_of_text _ = true
 -- a refusal of groups of these columns by the rule: but for want of memory, they don't share out the columns around them
 abbrev pub RefusesParts : List ℕ → List (List ℕ) → Rule → Type 0
 RefusesParts within groups rule = RefusesBy ⊥ (AreParts within groups → AreApart (named groups) → ⊥) rule
+
+-- what is wrong with such groups, by the rule: a column is named twice; else one is left out
+abbrev pub IsPartsFault : List ℕ → List (List ℕ) → Rule → Type 0
+IsPartsFault within groups Field = groups ≡ []
+IsPartsFault within groups ColumnTwice = AreApart (named groups) → ⊥
+IsPartsFault within groups ColumnLost = AreApart (named groups) × ((first_lost within groups ≡ None) → ⊥)
+IsPartsFault within groups Memory = Unit {0}
+IsPartsFault within groups _ = ⊥
 
 -- a refusal of one group by the rule: but for want of memory, it names no columns among these
 abbrev pub RefusesGroup : Frame → List ℕ → Data → Rule → Type 0

@@ -1,10 +1,11 @@
 -- The names of a catalogue's sites.
-use Rattle.std.specs.Prelude.{◌≡◌, ◌≤◌, ℕ, Bool, false, List, length, nat_eq}
+use Rattle.std.specs.Prelude.{◌≡◌, ◌≤◌, ◌<◌, ℕ, Bool, true, false, List, ◌∷◌, ◌++◌, length, nat_eq}
 use Rattle.std.specs.Cmp.Lexicographic.{pointwise}
 use Rattle.std.specs.List.{AllByRecursion, list_any}
 use Rattle.reader.specs.Printable.{AreDistinct}
 use Rattle.catalog.specs.Catalogue.{IsSiteName}
 use Rattle.catalog.specs.declared.fault.Rule.{Rule}
+use Rattle.catalog.specs.declared.fault.Rule.TheVariants.{Name, Twice, Memory}
 use Rattle.catalog.specs.Refusal.{RefusesBy}
 
 -- whether a name stands among these
@@ -29,3 +30,11 @@ pub record IsNextSite (before : List (List ℕ)) (site : List ℕ) : Type 0 wher
 -- a refusal of a site behind others by the rule
 abbrev pub RefusesNextSite : List (List ℕ) → List ℕ → Rule → Type 0
 RefusesNextSite before site rule = RefusesBy ⊥ (IsNextSite before site → ⊥) rule
+
+-- what is wrong with a site behind others, by the rule
+abbrev pub IsSiteFault : List (List ℕ) → List ℕ → Rule → Type 0
+IsSiteFault before site Name = IsSiteName site → ⊥
+IsSiteFault before site Twice = IsSiteName site × (has_name before site ≡ true)
+IsSiteFault before site Memory = Unit {0}
+IsSiteFault before site _ = ⊥
+

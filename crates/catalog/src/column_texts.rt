@@ -4,7 +4,7 @@ ghost use Rattle.std.specs.Prelude.{◌≡◌, ◌≢◌, false, ◌++◌, ◌�
 ghost use Rattle.catalog.specs.Catalogue.{IsColumnText, kind_word};
 ghost use Rattle.catalog.specs.Columns as spec;
 ghost use Rattle.catalog.specs.Refuses.{is_shown};
-ghost use Rattle.catalog.specs.Columns.{AreColumns, RefusesColumns, RefusesColumn, FitRelation, RefusesFit};
+ghost use Rattle.catalog.specs.Columns.{AreColumns, RefusesColumns, RefusesColumn, FitRelation, RefusesFit, IsFitFault};
 
 use crate::fault::Rule;
 use meaning::schema::Column;
@@ -104,6 +104,7 @@ fn has_column(before: &[Column], name: &str) -> bool
 fn require_relation(columns: &[Column]) -> Result<(), Rule>
     ensures fit { OnOk result (FitRelation columns.now) }
     ensures none { IfErr result (λ rule. RefusesFit columns.now rule) }
+    ensures fault { IfErr result (λ rule. IsFitFault columns.now rule) }
 {
     if columns.len() > COLUMNS {
         return Err(Rule::Limit);

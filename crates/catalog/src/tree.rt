@@ -4,7 +4,7 @@ ghost use Rattle.std.specs.Prelude.{◌≡◌, ◌≤◌, ◌+◌, ◌++◌, [],
 ghost use Rattle.std.specs.List.{AllByRecursion};
 ghost use Rattle.terms.specs.Cond.{IsCondOf};
 ghost use Rattle.toml.specs.View.{view};
-ghost use Rattle.catalog.specs.Below.{branches_seen, groups_seen, AreRows, AreCols, RefusesSite, RefusesRows, RefusesBranches, RefusesCols, RefusesGroups};
+ghost use Rattle.catalog.specs.Below.{branches_seen, groups_seen, AreRows, AreCols, RefusesSite, IsLeafFault, RefusesRows, RefusesBranches, RefusesCols, RefusesGroups};
 ghost use Rattle.catalog.specs.Describes.{kinds_in, site_numbered, in_order, Describes, AreBranches, AreGroups};
 ghost use Rattle.catalog.specs.Frame.{frame_of};
 ghost use Rattle.catalog.specs.Path.{paths, paths_by_rows, paths_by_cols, branch_conds, group_columns};
@@ -75,6 +75,7 @@ fn site(frame: &Frame<'_>, name: &str, leaves: &mut usize) -> Result<usize, Rule
     ensures counted { IfOk result (λ site. leaves.new ≡ leaves.old + 1) }
     ensures few { IfOk result (λ site. leaves.new ≤ 32) }
     ensures none { IfErr result (λ rule. RefusesSite (frame_of frame.now) name.now leaves.old rule) }
+    ensures fault { IfErr result (λ rule. IsLeafFault (frame_of frame.now) name.now leaves.old rule) }
 {
     let Some(site) = frame.site(name) else {
         return Err(Rule::NoSite);
