@@ -1,5 +1,6 @@
 -- The relations of a table, one after another.
-use Rattle.std.proofs.Common.{◌≡◌, List, [], ◌∷◌, ◌++◌, ℕ, Option, Some, refl, ap, sym, subst, String, Global, string_bytes, ◌⊎◌, inl, inr}
+use Rattle.std.proofs.Common.{◌≡◌, List, [], ◌∷◌, ◌++◌, ℕ, suc, Option, Some, refl, ap, sym, subst, String, Global, string_bytes, ◌⊎◌, inl, inr, arith}
+use Rattle.std.specs.Prelude.{Contains}
 use Rattle.std.specs.List.{AllByRecursion}
 use Rattle.toml.specs.Data.{Data}
 use Rattle.toml.specs.View.{view, members_view}
@@ -9,10 +10,10 @@ use Rattle.catalog.specs.declared.fault.Rule.TheVariants.{Memory}
 use Rattle.catalog.specs.Catalogue.{SplitRelation, IsRelationIn, IsValidRelation, entries}
 use Rattle.reader.specs.Conds.{OneListOfCondsOfText}
 use Rattle.catalog.specs.Inexact.{IsFirstFaulty, IsFirstInexact, row_splits}
-use Rattle.catalog.proofs.Refusals.{refuses_map}
+use Rattle.catalog.proofs.Refusals.{refuses_known, refuses_map}
 use Rattle.catalog.proofs.RelationTexts.{one_relation}
 use Rattle.catalog.specs.Describes.{Each}
-use Rattle.catalog.specs.Document.{RefusesRelations, SaysNoRelations}
+use Rattle.catalog.specs.Document.{IsToldOf, RefusesRelations, SaysNoRelations, TellsRelation}
 use Rattle.catalog.specs.Relation.{RefusesRelation, SaysNoRelation}
 
 abbrev pub Entry : Type 0
@@ -73,3 +74,22 @@ same_or_memory sites said name rule told answered (inl same) h =
     let Q : Rule → Type 0 = RefusesRelations sites said told in
     subst Q (sym same.0) (subst P (sym same.1) h)
 same_or_memory sites said name rule told answered (inr memory) h = let Q : Rule → Type 0 = RefusesRelations sites said told in subst Q (sym memory) tt
+
+-- an item stands between those before and behind it
+stands_among : {A : Type 0} (before more : List A) (x : A) → Contains (before ++ x ∷ more) x
+stands_among [] more x = (0, omega arith, refl)
+stands_among (y ∷ before) more x = let rest = stands_among before more x in (suc rest.0, omega (arith, rest.1), rest.2)
+
+-- the relation that is refused is told
+tells_here : (sites : List (List ℕ)) (before more : List (List ℕ × Data)) (entry : List ℕ × Data) (rule : Rule) → RefusesRelation sites entry rule → TellsRelation sites (before ++ entry ∷ more) (Some entry.0) rule
+tells_here sites before more entry rule refused =
+    refuses_known (IsToldOf sites (before ++ entry ∷ more) (Some entry.0) rule) rule (entry, stands_among before more entry, refl, refused)
+
+-- the same rule of the same relation, or want of memory
+pub told_or_memory : (sites : List (List ℕ)) (before more : List (List ℕ × Data)) (entry : List ℕ × Data) (rule : Rule) (told : Option (List ℕ)) (answered : Rule) →
+    ((answered ≡ rule) × (told ≡ Some entry.0)) ⊎ (answered ≡ Memory) → RefusesRelation sites entry rule → TellsRelation sites (before ++ entry ∷ more) told answered
+told_or_memory sites before more entry rule told answered (inl same) refused =
+    let P : Option (List ℕ) → Type 0 = λ one. TellsRelation sites (before ++ entry ∷ more) one rule in
+    let Q : Rule → Type 0 = TellsRelation sites (before ++ entry ∷ more) told in
+    subst Q (sym same.0) (subst P (sym same.1) (tells_here sites before more entry rule refused))
+told_or_memory sites before more entry rule told answered (inr memory) refused = let Q : Rule → Type 0 = TellsRelation sites (before ++ entry ∷ more) told in subst Q (sym memory) tt

@@ -29,6 +29,23 @@ refuses_map this these that those Limit f g r = g r
 pub refuses_also : (these that those : Type 0) (rule : Rule) → (that → those) → RefusesBy ⊥ that rule → RefusesBy these those rule
 refuses_also these that those rule g r = refuses_map ⊥ these that those rule (λ never. absurd never) g r
 
+-- what is known whatever the rule is
+pub refuses_known : (that : Type 0) (rule : Rule) → that → RefusesBy that that rule
+refuses_known that Memory h = tt
+refuses_known that (Gap cell) h = h
+refuses_known that (Overlap cell) h = h
+refuses_known that Toml h = h
+refuses_known that Field h = h
+refuses_known that Name h = h
+refuses_known that Twice h = h
+refuses_known that NoSite h = h
+refuses_known that KeyType h = h
+refuses_known that ColumnTwice h = h
+refuses_known that ColumnLost h = h
+refuses_known that ColumnAbsent h = h
+refuses_known that WrongType h = h
+refuses_known that Limit h = h
+
 -- a refusal by a rule of the text
 pub refuses_text_rule : (that : Type 0) (rule : Rule) → is_of_text rule ≡ true → that → RefusesBy ⊥ that rule
 refuses_text_rule that Memory is h = tt

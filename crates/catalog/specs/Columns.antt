@@ -1,5 +1,5 @@
 -- The texts of a relation's columns.
-use Rattle.std.specs.Prelude.{◌≡◌, ◌≢◌, ◌≤◌, ◌<◌, ℕ, Bool, true, false, List, [], ◌∷◌, ◌++◌, Some, length, map, nat_eq}
+use Rattle.std.specs.Prelude.{◌≡◌, ◌≤◌, ◌<◌, ℕ, Bool, true, false, List, [], ◌∷◌, ◌++◌, Some, length, map, nat_eq}
 use Rattle.std.specs.List.{list_any, slice_get}
 use Rattle.std.specs.Cmp.Lexicographic.{pointwise}
 use Rattle.terms.specs.declared.value.Kind.TheVariants as kinds
@@ -58,7 +58,7 @@ IsFitFault columns _ = ⊥
 
 -- what is wrong with the text of a column behind others, by the rule
 abbrev pub IsColumnFault : List Column → List ℕ → Rule → Type 0
-IsColumnFault before text Field = (name : List ℕ) (kind : Kind) → text ≢ name ++ 32 ∷ kind_word kind
+IsColumnFault before text Field = (column : Column) → IsColumnText text column → ⊥
 IsColumnFault before text Name = (name : List ℕ) × (kind : Kind) × (text ≡ name ++ 32 ∷ kind_word kind) × (IsName name → ⊥)
 IsColumnFault before text Twice = (column : Column) × IsColumnText text column × (has_column before column.name ≡ true)
 IsColumnFault before text Memory = Unit {0}

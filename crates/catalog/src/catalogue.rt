@@ -14,7 +14,7 @@ ghost use Rattle.catalog.specs.Formed.{IsFormed};
 ghost use Rattle.catalog.specs.Fragment.{part};
 ghost use Rattle.catalog.specs.FragmentLeaf.{catalogue_leaves, leaf_named, leaves_in, names_at, relation_named, schemas_of, unnamed};
 ghost use Rattle.std.specs.Option.{option_copied};
-ghost use Rattle.catalog.specs.Document.{parts_of, RefusesDocument, RefusesRelations, RefusesRoot, RefusesText, are_tables};
+ghost use Rattle.catalog.specs.Document.{parts_of, RefusesDocument, RefusesRelations, RefusesRoot, RefusesText, TellsRelation, are_tables};
 
 use crate::fault::{CatFault, Rule};
 use crate::form::some_texts;
@@ -311,6 +311,7 @@ pub(crate) fn relations(
     ensures found { IfOk result (λ found. Each (IsRelationIn sites.now) (entries (table_view table.now)) (map relation_of found.items)) }
     ensures valid { IfOk result (λ found. AllByRecursion IsValidRelation (map relation_of found.items)) }
     ensures none { IfErr result (λ fault. RefusesRelations sites.now (entries (table_view table.now)) fault.relation fault.rule) }
+    ensures told { IfErr result (λ fault. TellsRelation sites.now (entries (table_view table.now)) fault.relation fault.rule) }
 {
     // What a refusal says rests on this law.
     one_list_of_conds();
