@@ -185,7 +185,7 @@ some_of f (Some x) o none gives is = rw (← gives, ← is) refl
 
 -- ---- a document that was read
 
-entry_count : (es : List (String Global × Value)) → length (entries (members_view es)) ≡ length es
+pub entry_count : (es : List (String Global × Value)) → length (entries (members_view es)) ≡ length es
 entry_count [] = refl
 entry_count (e ∷ es) = let rest = entry_count es in omega (arith, rest)
 

@@ -36,6 +36,7 @@ pub mod RelationTexts
 pub mod DocumentParts
 pub mod Entries
 pub mod CatalogueTexts
+pub mod Told
 pub mod NumberedLeaves
 pub mod FormedTrees
 pub mod FormedCatalogues

@@ -1,7 +1,7 @@
 -- What is read of a document.
 use Rattle.std.specs.Prelude.{◌≡◌, ◌≢◌, ◌≤◌, ℕ, Bool, true, List, Option, Some, None, is_some, length, Contains}
 use Rattle.std.specs.List.{list_all}
-use Rattle.toml.specs.Data.{Data, Members, as_table}
+use Rattle.toml.specs.Data.{Data, table, Members, as_table}
 use Rattle.toml.specs.Parse.{parse_document}
 use Rattle.toml.specs.View.{table_view}
 use Rattle.catalog.specs.declared.catalogue.Parts as code
@@ -52,10 +52,12 @@ pub record HasHead (document : Data) (sites : List (List ℕ)) (members : Member
   pub some : length (entries members) ≢ 0
   pub few : length (entries members) ≤ 32
 
--- a fault inside a relation is told with its name; one before the relations is told without one
+-- a fault inside a relation is told with its name, and one before the relations without: but for want of memory, which tells nothing
 abbrev pub TellsRoot : Data → Option (List ℕ) → Rule → Type 0
 TellsRoot document None rule = RefusesBy ⊥ ((sites : List (List ℕ)) (members : Members) → HasHead document sites members → ⊥) rule
-TellsRoot document (Some name) rule = (sites : List (List ℕ)) × (members : Members) × HasHead document sites members × TellsRelation sites (entries members) (Some name) rule
+TellsRoot document (Some name) rule =
+    RefusesBy ((sites : List (List ℕ)) × (members : Members) × HasHead document sites members × IsToldOf sites (entries members) (Some name) rule)
+    ((sites : List (List ℕ)) × (members : Members) × HasHead document sites members × IsToldOf sites (entries members) (Some name) rule) rule
 
 -- a document is none of a catalogue
 abbrev pub IsOfNone : Data → Type 0
@@ -72,3 +74,12 @@ abbrev pub RefusesText : List ℕ → Option (List ℕ) → Rule → Type 0
 RefusesText text told rule =
     RefusesBy ((catalogue : Catalogue) → IsCatalogueText text catalogue → IsFirstFaulty catalogue.sites told rule catalogue.relations)
     ((catalogue : Catalogue) → IsCatalogueText text catalogue → ⊥) rule
+
+-- Where a text's fault is: in the relation that is told, and then its document has sites as they may be, and one to 32 tables; where
+-- none is told, it is no such document.
+abbrev pub TellsText : List ℕ → Option (List ℕ) → Rule → Type 0
+TellsText text None rule =
+    RefusesBy ⊥ ((document : Members) (sites : List (List ℕ)) (members : Members) → length text ≤ 65536 → parse_document text ≡ Some document → HasHead (table document) sites members → ⊥) rule
+TellsText text (Some name) rule =
+    RefusesBy ((document : Members) × (parse_document text ≡ Some document) × TellsRoot (table document) (Some name) rule)
+    ((document : Members) × (parse_document text ≡ Some document) × TellsRoot (table document) (Some name) rule) rule

@@ -14,7 +14,7 @@ ghost use Rattle.catalog.specs.Formed.{IsFormed};
 ghost use Rattle.catalog.specs.Fragment.{part};
 ghost use Rattle.catalog.specs.FragmentLeaf.{catalogue_leaves, leaf_named, leaves_in, names_at, relation_named, schemas_of, unnamed};
 ghost use Rattle.std.specs.Option.{option_copied};
-ghost use Rattle.catalog.specs.Document.{parts_of, RefusesDocument, RefusesRelations, RefusesRoot, RefusesText, TellsRelation, are_tables};
+ghost use Rattle.catalog.specs.Document.{parts_of, RefusesDocument, RefusesRelations, RefusesRoot, RefusesText, TellsRelation, TellsRoot, TellsText, are_tables};
 
 use crate::fault::{CatFault, Rule};
 use crate::form::some_texts;
@@ -82,6 +82,8 @@ impl Catalog {
         // A text that is refused by a rule is one of no catalogue. A gap or an overlap is the first in each catalogue of
         // which the text is one: it is told by its relation and its cell.
         ensures none { IfErr result (λ fault. RefusesText text.now fault.relation fault.rule) }
+        // And so is each fault inside a relation.
+        ensures told { IfErr result (λ fault. TellsText text.now fault.relation fault.rule) }
     {
         if text.len() > TEXT_BYTES {
             return Err(CatFault::from(Rule::Limit));
@@ -203,6 +205,7 @@ fn catalog_of(alloc: Global, root: &Value) -> Result<Catalog, CatFault>
     ensures found { IfOk result (λ catalog. IsDocumentOf (view root.now) (catalogue_of catalog)) }
     ensures valid { IfOk result (λ catalog. IsValidCatalogue (catalogue_of catalog)) }
     ensures none { IfErr result (λ fault. RefusesRoot (view root.now) fault.relation fault.rule) }
+    ensures told { IfErr result (λ fault. TellsRoot (view root.now) fault.relation fault.rule) }
 {
     let Some(parts) = document_parts(alloc, root)? else {
         return Err(CatFault::from(Rule::Field));
