@@ -130,3 +130,9 @@ all_taken [] zero past = refl
 all_taken [] (suc i) past = refl
 all_taken (item ∷ items) zero past = absurd (omega arith)
 all_taken {A} (item ∷ items) (suc i) past = ap (λ (rest : List A). item ∷ rest) (all_taken items i (omega arith))
+
+-- what is seen of the items so far
+pub map-take : {A B : Type 0} (f : A → B) (i : ℕ) (xs : List A) → map f (take i xs) ≡ take i (map f xs)
+map-take f zero xs = refl
+map-take f (suc i) [] = refl
+map-take {A} {B} f (suc i) (x ∷ xs) = ap (λ (rest : List B). f x ∷ rest) (map-take f i xs)

@@ -12,8 +12,8 @@ use Rattle.std.specs.List.{AllByRecursion}
 use Rattle.catalog.specs.Counts.{has}
 use Rattle.catalog.specs.Describes.{Each, IsWhereOn, shown, visible_from}
 use Rattle.catalog.specs.declared.fault.Rule.{Rule}
-use Rattle.catalog.specs.declared.fault.Rule.TheVariants.{Toml, Field, Name, Twice, NoSite, KeyType, ColumnTwice, ColumnLost, ColumnAbsent, WrongType, Gap, Overlap, Limit, Memory}
 use Rattle.catalog.specs.Node.{text_at}
+use Rattle.catalog.proofs.Refusals.{refuses_also}
 use Rattle.catalog.specs.Refuses.{RefusesWhere, RefusesConds, rule_of}
 
 -- another text there would be the same
@@ -56,20 +56,8 @@ types_visible within place (column ∷ columns) = rw (shown_kind within place co
 -- a branch whose conditions are refused, and what that says of all
 pub refuses_conds : (columns : List Column) (nodes : List Data) (node : Data) (rule : Rule) → RefusesWhere columns node rule →
     (((conds : List Cond) → IsWhereOn columns node conds → ⊥) → (branches : List (List Cond)) → Each (IsWhereOn columns) nodes branches → ⊥) → RefusesConds columns nodes rule
-refuses_conds columns nodes node Memory h spreads = tt
-refuses_conds columns nodes node (Gap cell) h spreads = h
-refuses_conds columns nodes node (Overlap cell) h spreads = h
-refuses_conds columns nodes node Toml h spreads = spreads h
-refuses_conds columns nodes node Field h spreads = spreads h
-refuses_conds columns nodes node Name h spreads = spreads h
-refuses_conds columns nodes node Twice h spreads = spreads h
-refuses_conds columns nodes node NoSite h spreads = spreads h
-refuses_conds columns nodes node KeyType h spreads = spreads h
-refuses_conds columns nodes node ColumnTwice h spreads = spreads h
-refuses_conds columns nodes node ColumnLost h spreads = spreads h
-refuses_conds columns nodes node ColumnAbsent h spreads = spreads h
-refuses_conds columns nodes node WrongType h spreads = spreads h
-refuses_conds columns nodes node Limit h spreads = spreads h
+refuses_conds columns nodes node rule refused spreads =
+    refuses_also ⊥ ((conds : List Cond) → IsWhereOn columns node conds → ⊥) ((branches : List (List Cond)) → Each (IsWhereOn columns) nodes branches → ⊥) rule spreads refused
 
 -- one item more of which something holds
 pub all_more : {A : Type 0} (P : A → Type 0) (xs : List A) (x : A) → AllByRecursion P xs → P x → AllByRecursion P (xs ++ x ∷ [])

@@ -1,17 +1,22 @@
 -- What a text says of a catalogue, by what is read of its document.
-use Rattle.std.proofs.Common.{◌≡◌, ◌≢◌, ◌≤◌, ◌<◌, ℕ, Bool, true, false, ◌&&◌, List, [], ◌∷◌, ◌++◌, Option, Some, None, is_some, option_map, not, length, refl, sym, ap, subst, ◌∙◌, arith, codes, String, Global}
+use Rattle.std.proofs.Common.{◌≡◌, ◌≢◌, ◌≤◌, ◌<◌, ℕ, Bool, true, false, ◌&&◌, List, [], ◌∷◌, ◌++◌, Option, Some, None, is_some, option_map, not, length, refl, sym, ap, ap₂, subst, ◌∙◌, arith, codes, String, Global}
 use Rattle.toml.specs.Data.{Data, string, integer, float, boolean, datetime, array, table, Members, as_table}
 use Rattle.toml.specs.Parse.{parse_document}
 use Rattle.toml.specs.View.{members_view}
 use Rattle.toml.specs.declared.value.Value.{Value}
 use Rattle.catalog.specs.declared.fault.Rule.{Rule}
-use Rattle.catalog.specs.declared.fault.Rule.TheVariants.{Toml, Field, Name, Twice, NoSite, KeyType, ColumnTwice, ColumnLost, ColumnAbsent, WrongType, Gap, Overlap, Limit, Memory}
-use Rattle.catalog.specs.Catalogue.{Catalogue, SplitRelation, IsRelationIn, IsDocumentOf, IsCatalogueText, document_parts, entries}
-use Rattle.catalog.specs.Describes.{Frame, Each}
-use Rattle.terms.specs.declared.cond.Cond.{Cond}
-use Rattle.catalog.specs.declared.fault.Cell.{Cell}
-use Rattle.catalog.specs.Document.{RefusesDocument, RefusesRelations, RefusesRoot, RefusesText, ShowsInDocument, ShowsInText, ShowsOr, IsShown, IsOfNone, IsOfNoneValid, are_tables}
-use Rattle.catalog.specs.Refuses.{IsGapOf, IsOverlapOf}
+use Rattle.catalog.specs.Catalogue.{Catalogue, SplitRelation, IsRelationIn, IsDocumentOf, IsCatalogueText, IsValidRelation, document_parts, entries}
+use Rattle.catalog.specs.Describes.{Each}
+use Rattle.catalog.specs.Document.{RefusesDocument, RefusesRelations, RefusesRoot, RefusesText, SaysNoRelations, IsOfNone, are_tables}
+use Rattle.catalog.specs.Inexact.{IsFirstFaulty, IsFirstInexact, row_splits}
+use Rattle.catalog.specs.Laws.{OneCatalogueOfText, FaultyIsNotValid}
+use Rattle.catalog.specs.Path.{columns_beside_key}
+use Rattle.meaning.specs.Schema.{kinds_of}
+use Rattle.reader.specs.Conds.{OneListOfCondsOfText}
+use Rattle.catalog.proofs.Inexact.{none_first, not_valid}
+use Rattle.catalog.proofs.Pairs.{each_one}
+use Rattle.catalog.proofs.RelationTexts.{one_relation}
+use Rattle.catalog.proofs.Refusals.{refuses_also, refuses_map}
 use Rattle.catalog.specs.Node.{texts_at}
 use Rattle.catalog.specs.Sites.{AreSites, RefusesSites}
 
@@ -42,114 +47,28 @@ document_is text (boolean b) catalogue parses is = absurd (let other = is.parses
 document_is text (datetime dt) catalogue parses is = absurd (let other = is.parses in cc)
 document_is text (array items) catalogue parses is = absurd (let other = is.parses in cc)
 
--- what is shown of one thing is shown of another
-pub shows_also : {this that other those : Type 0} (rule : Rule) → (this → other) → (that → those) → ShowsOr this that rule → ShowsOr other those rule
-shows_also Memory valid any h = tt
-shows_also (Gap cell) valid any h = (h.0, h.1, h.2, valid h.3)
-shows_also (Overlap cell) valid any h = (h.0, h.1, h.2, valid h.3)
-shows_also Toml valid any h = any h
-shows_also Field valid any h = any h
-shows_also Name valid any h = any h
-shows_also Twice valid any h = any h
-shows_also NoSite valid any h = any h
-shows_also KeyType valid any h = any h
-shows_also ColumnTwice valid any h = any h
-shows_also ColumnLost valid any h = any h
-shows_also ColumnAbsent valid any h = any h
-shows_also WrongType valid any h = any h
-shows_also Limit valid any h = any h
+-- what a refusal of the document says and what one of the text says
+abbrev FaultyRoot : Data → Option (List ℕ) → Rule → Type 0
+FaultyRoot root told rule = (catalogue : Catalogue) → IsDocumentOf root catalogue → IsFirstFaulty catalogue.sites told rule catalogue.relations
 
--- what a document is refused by says so of the text
-loosened : (root : Data) (told : Option (List ℕ)) (rule : Rule) → RefusesRoot root told rule → ShowsOr (IsOfNoneValid root) (IsOfNone root) rule
-loosened root told Memory h = tt
-loosened root told (Gap cell) h = loose h.0 h.1
-  where
-    loose : ShowsInDocument IsGapOf root told cell → IsOfNoneValid root → ShowsOr (IsOfNoneValid root) (IsOfNone root) (Gap cell)
-    loose shown none = (shown.0, shown.3.3.0, (shown.3.3.2, shown.3.3.3, shown.3.3.4), none)
-loosened root told (Overlap cell) h = loose h.0 h.1
-  where
-    loose : ShowsInDocument IsOverlapOf root told cell → IsOfNoneValid root → ShowsOr (IsOfNoneValid root) (IsOfNone root) (Overlap cell)
-    loose shown none = (shown.0, shown.3.3.0, (shown.3.3.2, shown.3.3.3, shown.3.3.4), none)
-loosened root told Toml h = h
-loosened root told Field h = h
-loosened root told Name h = h
-loosened root told Twice h = h
-loosened root told NoSite h = h
-loosened root told KeyType h = h
-loosened root told ColumnTwice h = h
-loosened root told ColumnLost h = h
-loosened root told ColumnAbsent h = h
-loosened root told WrongType h = h
-loosened root told Limit h = h
+abbrev FaultyText : List ℕ → Option (List ℕ) → Rule → Type 0
+FaultyText text told rule = (catalogue : Catalogue) → IsCatalogueText text catalogue → IsFirstFaulty catalogue.sites told rule catalogue.relations
+
+abbrev TextOfNone : List ℕ → Type 0
+TextOfNone text = (catalogue : Catalogue) → IsCatalogueText text catalogue → ⊥
 
 -- a refusal of the document is one of the text
-pub refuses_root : (text : List ℕ) (root : Data) (told : Option (List ℕ)) (rule : Rule) → as_table root ≡ parse_document text → RefusesRoot root told rule → RefusesText text rule
-refuses_root text root told rule parses h =
-    shows_also rule (λ none catalogue is valid. none catalogue (document_is text root catalogue parses is) valid) (λ none catalogue is. none catalogue (document_is text root catalogue parses is))
-    (loosened root told rule h)
-
--- what is shown in the document of a text is shown in the text
-shown_in : (shows : Frame → List Cond → List (List Cond) → Cell → Type 0) (text : List ℕ) (root : Data) (told : Option (List ℕ)) (cell : Cell) → as_table root ≡ parse_document text → ShowsInDocument shows root told cell → ShowsInText shows text told cell
-shown_in shows text (table document) told cell parses shown = (document, sym parses, shown)
-shown_in shows text (string s) told cell parses shown = absurd (let parts = shown.2 in cc)
-shown_in shows text (integer z) told cell parses shown = absurd (let parts = shown.2 in cc)
-shown_in shows text (float x) told cell parses shown = absurd (let parts = shown.2 in cc)
-shown_in shows text (boolean b) told cell parses shown = absurd (let parts = shown.2 in cc)
-shown_in shows text (datetime dt) told cell parses shown = absurd (let parts = shown.2 in cc)
-shown_in shows text (array items) told cell parses shown = absurd (let parts = shown.2 in cc)
-
-pub shown_root : (text : List ℕ) (root : Data) (told : Option (List ℕ)) (rule : Rule) → as_table root ≡ parse_document text → RefusesRoot root told rule → IsShown text told rule
-shown_root text root told Memory parses h = tt
-shown_root text root told (Gap cell) parses h = shown_in IsGapOf text root told cell parses h.0
-shown_root text root told (Overlap cell) parses h = shown_in IsOverlapOf text root told cell parses h.0
-shown_root text root told Toml parses h = tt
-shown_root text root told Field parses h = tt
-shown_root text root told Name parses h = tt
-shown_root text root told Twice parses h = tt
-shown_root text root told NoSite parses h = tt
-shown_root text root told KeyType parses h = tt
-shown_root text root told ColumnTwice parses h = tt
-shown_root text root told ColumnLost parses h = tt
-shown_root text root told ColumnAbsent parses h = tt
-shown_root text root told WrongType parses h = tt
-shown_root text root told Limit parses h = tt
-
--- where there is no document, nothing is to be shown
-pub shown_of_none : (text : List ℕ) (told : Option (List ℕ)) (rule : Rule) → RefusesDocument text rule → IsShown text told rule
-shown_of_none text told (Gap cell) h = absurd h
-shown_of_none text told (Overlap cell) h = absurd h
-shown_of_none text told Memory h = tt
-shown_of_none text told Toml h = tt
-shown_of_none text told Field h = tt
-shown_of_none text told Name h = tt
-shown_of_none text told Twice h = tt
-shown_of_none text told NoSite h = tt
-shown_of_none text told KeyType h = tt
-shown_of_none text told ColumnTwice h = tt
-shown_of_none text told ColumnLost h = tt
-shown_of_none text told ColumnAbsent h = tt
-shown_of_none text told WrongType h = tt
-shown_of_none text told Limit h = tt
+pub refuses_root : (text : List ℕ) (root : Data) (told : Option (List ℕ)) (rule : Rule) → as_table root ≡ parse_document text → RefusesRoot root told rule → RefusesText text told rule
+refuses_root text root told rule parses refused =
+    refuses_map (FaultyRoot root told rule) (FaultyText text told rule) (IsOfNone root) (TextOfNone text) rule
+    (λ first catalogue is. first catalogue (document_is text root catalogue parses is)) (λ none catalogue is. none catalogue (document_is text root catalogue parses is)) refused
 
 no_document : (text : List ℕ) → parse_document text ≡ None → (catalogue : Catalogue) → IsCatalogueText text catalogue → ⊥
 no_document text none catalogue is = let some = is.parses in cc
 
 -- a text that is no document
-pub refuses_text : (text : List ℕ) (rule : Rule) → RefusesDocument text rule → RefusesText text rule
-refuses_text text Memory h = tt
-refuses_text text (Gap cell) h = absurd h
-refuses_text text (Overlap cell) h = absurd h
-refuses_text text Toml h = no_document text h
-refuses_text text Field h = no_document text h
-refuses_text text Name h = no_document text h
-refuses_text text Twice h = no_document text h
-refuses_text text NoSite h = no_document text h
-refuses_text text KeyType h = no_document text h
-refuses_text text ColumnTwice h = no_document text h
-refuses_text text ColumnLost h = no_document text h
-refuses_text text ColumnAbsent h = no_document text h
-refuses_text text WrongType h = no_document text h
-refuses_text text Limit h = no_document text h
+pub refuses_text : (text : List ℕ) (told : Option (List ℕ)) (rule : Rule) → RefusesDocument text rule → RefusesText text told rule
+refuses_text text told rule refused = refuses_also (FaultyText text told rule) (parse_document text ≡ None) (TextOfNone text) rule (no_document text) refused
 
 pub too_long : (text : List ℕ) → 65536 < length text → (catalogue : Catalogue) → IsCatalogueText text catalogue → ⊥
 too_long text long catalogue is = omega (arith, is.short)
@@ -195,20 +114,7 @@ no_sites root sites members parts none catalogue is =
     none (subst P same.0 (record { names = is.site_names; distinct = is.distinct; few = is.few_sites }))
 
 pub refuses_sites : (root : Data) (sites : List (List ℕ)) (members : Members) (told : Option (List ℕ)) (rule : Rule) → Some (sites, members) ≡ document_parts root → RefusesSites sites rule → RefusesRoot root told rule
-refuses_sites root sites said told Memory parts h = tt
-refuses_sites root sites said told (Gap cell) parts h = absurd h
-refuses_sites root sites said told (Overlap cell) parts h = absurd h
-refuses_sites root sites said told Toml parts h = no_sites root sites said parts h
-refuses_sites root sites said told Field parts h = no_sites root sites said parts h
-refuses_sites root sites said told Name parts h = no_sites root sites said parts h
-refuses_sites root sites said told Twice parts h = no_sites root sites said parts h
-refuses_sites root sites said told NoSite parts h = no_sites root sites said parts h
-refuses_sites root sites said told KeyType parts h = no_sites root sites said parts h
-refuses_sites root sites said told ColumnTwice parts h = no_sites root sites said parts h
-refuses_sites root sites said told ColumnLost parts h = no_sites root sites said parts h
-refuses_sites root sites said told ColumnAbsent parts h = no_sites root sites said parts h
-refuses_sites root sites said told WrongType parts h = no_sites root sites said parts h
-refuses_sites root sites said told Limit parts h = no_sites root sites said parts h
+refuses_sites root sites members told rule parts refused = refuses_also (FaultyRoot root told rule) (AreSites sites → ⊥) (IsOfNone root) rule (no_sites root sites members parts) refused
 
 -- as many relations as entries
 pub each_count : {A B : Type 0} (R : A → B → Type 0) (xs : List A) (ys : List B) → Each R xs ys → length xs ≡ length ys
@@ -245,20 +151,14 @@ relations_of root sites members parts catalogue is =
     subst Q same.1 (subst P same.0 is.relations)
 
 pub refuses_relations : (root : Data) (sites : List (List ℕ)) (members : Members) (told : Option (List ℕ)) (rule : Rule) → Some (sites, members) ≡ document_parts root → RefusesRelations sites (entries members) told rule → RefusesRoot root told rule
-refuses_relations root sites said told Memory parts h = tt
-refuses_relations root sites said told (Gap cell) parts h = ((sites, said, sym parts, h.0), λ catalogue is valid. h.1 catalogue.relations (relations_of root sites said parts catalogue is) valid)
-refuses_relations root sites said told (Overlap cell) parts h = ((sites, said, sym parts, h.0), λ catalogue is valid. h.1 catalogue.relations (relations_of root sites said parts catalogue is) valid)
-refuses_relations root sites said told Toml parts h = λ catalogue is. h catalogue.relations (relations_of root sites said parts catalogue is)
-refuses_relations root sites said told Field parts h = λ catalogue is. h catalogue.relations (relations_of root sites said parts catalogue is)
-refuses_relations root sites said told Name parts h = λ catalogue is. h catalogue.relations (relations_of root sites said parts catalogue is)
-refuses_relations root sites said told Twice parts h = λ catalogue is. h catalogue.relations (relations_of root sites said parts catalogue is)
-refuses_relations root sites said told NoSite parts h = λ catalogue is. h catalogue.relations (relations_of root sites said parts catalogue is)
-refuses_relations root sites said told KeyType parts h = λ catalogue is. h catalogue.relations (relations_of root sites said parts catalogue is)
-refuses_relations root sites said told ColumnTwice parts h = λ catalogue is. h catalogue.relations (relations_of root sites said parts catalogue is)
-refuses_relations root sites said told ColumnLost parts h = λ catalogue is. h catalogue.relations (relations_of root sites said parts catalogue is)
-refuses_relations root sites said told ColumnAbsent parts h = λ catalogue is. h catalogue.relations (relations_of root sites said parts catalogue is)
-refuses_relations root sites said told WrongType parts h = λ catalogue is. h catalogue.relations (relations_of root sites said parts catalogue is)
-refuses_relations root sites said told Limit parts h = λ catalogue is. h catalogue.relations (relations_of root sites said parts catalogue is)
+refuses_relations root sites members told rule parts refused =
+    refuses_map ((relations : List SplitRelation) → Each (IsRelationIn sites) (entries members) relations → IsFirstFaulty sites told rule relations) (FaultyRoot root told rule)
+    (SaysNoRelations sites (entries members)) (IsOfNone root) rule
+    (λ first catalogue is.
+    let P : List (List ℕ) → Type 0 = λ ss. IsFirstFaulty ss told rule catalogue.relations in
+    subst P (sym (parts_are root sites members parts catalogue is).0) (first catalogue.relations (relations_of root sites members parts catalogue is)))
+    (λ none catalogue is. none catalogue.relations (relations_of root sites members parts catalogue is))
+    refused
 
 -- ---- whether all values are tables
 
@@ -285,7 +185,7 @@ some_of f (Some x) o none gives is = rw (← gives, ← is) refl
 
 -- ---- a document that was read
 
-entry_count : (es : List (String Global × Value)) → length (entries (members_view es)) ≡ length es
+pub entry_count : (es : List (String Global × Value)) → length (entries (members_view es)) ≡ length es
 entry_count [] = refl
 entry_count (e ∷ es) = let rest = entry_count es in omega (arith, rest)
 
@@ -314,3 +214,25 @@ catalogue_is root texts sites es relations parts same are each some few =
       some = λ none. let zero : length relations ≡ 0 = ap length none in some (omega (arith, count, entries_are, zero));
       few_relations = omega (arith, count, entries_are, few);
     }
+
+-- ---- one catalogue
+
+-- a document is one of at most one catalogue
+one_document : OneListOfCondsOfText → (root : Data) (one other : Catalogue) → IsDocumentOf root one → IsDocumentOf root other → one ≡ other
+one_document law root one other is too =
+    let same = parts_are root one.sites is.members (sym is.parts) other too in
+    let said = relations_of root one.sites is.members (sym is.parts) other too in
+    let relations = each_one (IsRelationIn one.sites) (one_relation law one.sites) (entries is.members) one.relations other.relations is.relations said in
+    ap₂ (λ (sites : List (List ℕ)) (rs : List SplitRelation). record { sites = sites; relations = rs }) (sym same.0) relations
+
+pub one_catalogue : OneListOfCondsOfText → OneCatalogueOfText
+one_catalogue law text one other is too =
+    let same : too.document ≡ is.document = some_same too.document is.document (sym too.parses ∙ is.parses) in
+    let P : Members → Type 0 = λ ms. IsDocumentOf (table ms) other in
+    one_document law (table is.document) one other is.describes (subst P same too.describes)
+
+pub faulty_is_not_valid : FaultyIsNotValid
+faulty_is_not_valid catalogue told rule first valid =
+    none_first (λ relation. (told ≡ Some relation.schema.name) × IsFirstInexact (record { sites = catalogue.sites; columns = relation.schema.columns }) rule (row_splits [] relation.tree)) IsValidRelation catalogue.relations
+    (λ relation found whole. not_valid (record { sites = catalogue.sites; columns = relation.schema.columns }) rule [] (columns_beside_key (kinds_of relation.schema)) relation.tree found.1 whole)
+    valid first

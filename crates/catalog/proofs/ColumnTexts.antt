@@ -16,7 +16,8 @@ use Rattle.std.proofs.lemmas.List.Sums.{passes_at_first, split_at_first}
 use Rattle.std.proofs.lemmas.Str.Pattern.{IsSplitOnceResult, split_once_first}
 use Rattle.std.specs.Borrow.{Bor}
 use Rattle.catalog.specs.Catalogue.{IsColumnText, kind_word}
-use Rattle.catalog.specs.Columns.{AreColumns, RefusesColumns, has_column, IsNextColumn, RefusesColumn, FitRelation, RefusesRelation}
+use Rattle.catalog.proofs.Refusals.{refuses_also}
+use Rattle.catalog.specs.Columns.{AreColumns, RefusesColumns, has_column, IsNextColumn, RefusesColumn, FitRelation, RefusesFit}
 use Rattle.catalog.specs.Describes.{Each}
 use Rattle.catalog.specs.Sites.{has_name}
 use Rattle.catalog.specs.declared.fault.Rule.{Rule}
@@ -96,7 +97,7 @@ one_column text one other says too =
 -- ---- refusals
 
 -- what columns can't be those of a relation says of their texts
-pub refuses_relation : (texts : List (List ℕ)) (columns : List Column) (rule : Rule) → Each IsColumnText texts columns → RefusesRelation columns rule → RefusesColumns texts rule
+pub refuses_relation : (texts : List (List ℕ)) (columns : List Column) (rule : Rule) → Each IsColumnText texts columns → RefusesFit columns rule → RefusesColumns texts rule
 refuses_relation texts columns rule each none = by_rule rule none
   where
     never : (FitRelation columns → ⊥) → (others : List Column) → AreColumns texts others → ⊥
@@ -104,7 +105,7 @@ refuses_relation texts columns rule each none = by_rule rule none
         let same : others ≡ columns = each_one IsColumnText one_column texts others columns are.each each in
         unfit (subst FitRelation same (record { few = are.few; key = are.key }))
 
-    by_rule : (r : Rule) → RefusesRelation columns r → RefusesColumns texts r
+    by_rule : (r : Rule) → RefusesFit columns r → RefusesColumns texts r
     by_rule Memory unfit = tt
     by_rule (Gap cell) unfit = unfit
     by_rule (Overlap cell) unfit = unfit
@@ -169,20 +170,8 @@ next_of_columns {A} view texts i d x before shown is within same so_far columns 
 -- a text that is refused, and what that says of all
 pub refuses_columns : (texts : List (List ℕ)) (before : List Column) (text : List ℕ) (rule : Rule) → ((columns : List Column) → AreColumns texts columns → (column : Column) × IsNextColumn before text column) →
     RefusesColumn before text rule → RefusesColumns texts rule
-refuses_columns texts before text Memory next none = tt
-refuses_columns texts before text (Gap cell) next none = none
-refuses_columns texts before text (Overlap cell) next none = none
-refuses_columns texts before text Toml next none = λ columns are. let n = next columns are in none n.0 n.1
-refuses_columns texts before text Field next none = λ columns are. let n = next columns are in none n.0 n.1
-refuses_columns texts before text Name next none = λ columns are. let n = next columns are in none n.0 n.1
-refuses_columns texts before text Twice next none = λ columns are. let n = next columns are in none n.0 n.1
-refuses_columns texts before text NoSite next none = λ columns are. let n = next columns are in none n.0 n.1
-refuses_columns texts before text KeyType next none = λ columns are. let n = next columns are in none n.0 n.1
-refuses_columns texts before text ColumnTwice next none = λ columns are. let n = next columns are in none n.0 n.1
-refuses_columns texts before text ColumnLost next none = λ columns are. let n = next columns are in none n.0 n.1
-refuses_columns texts before text ColumnAbsent next none = λ columns are. let n = next columns are in none n.0 n.1
-refuses_columns texts before text WrongType next none = λ columns are. let n = next columns are in none n.0 n.1
-refuses_columns texts before text Limit next none = λ columns are. let n = next columns are in none n.0 n.1
+refuses_columns texts before text rule next refused =
+    refuses_also ⊥ ((column : Column) → IsNextColumn before text column → ⊥) ((columns : List Column) → AreColumns texts columns → ⊥) rule (λ none columns are. let n = next columns are in none n.0 n.1) refused
 
 -- the names of columns are distinct with one more
 pub distinct_column : (columns : List Column) (column : Column) → AreDistinct (map (λ other. other.name) columns) → has_column columns column.name ≡ false → AreDistinct (map (λ other. other.name) (columns ++ column ∷ []))

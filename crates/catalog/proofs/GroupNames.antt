@@ -8,10 +8,10 @@ use Rattle.toml.specs.Data.{Data}
 use Rattle.catalog.specs.Counts.{has, how_many}
 use Rattle.catalog.specs.Describes.{Frame, AreNamedIn, named_in, place_within, column_numbered, only_if}
 use Rattle.catalog.specs.Parts.{named, AreApart, IsFirstAgain, first_lost}
-use Rattle.catalog.specs.Refuses.{RefusesGroup, RefusesGroups, RefusesNamed, RefusesParts, is_of_text}
+use Rattle.catalog.proofs.Refusals.{refuses_also, refuses_text_rule}
+use Rattle.catalog.specs.Refuses.{RefusesGroup, RefusesNames, RefusesNamed, RefusesParts, is_of_text}
 use Rattle.catalog.specs.Valid.{AreParts}
 use Rattle.catalog.specs.declared.fault.Rule.{Rule}
-use Rattle.catalog.specs.declared.fault.Rule.TheVariants.{Toml, Field, Name, Twice, NoSite, KeyType, ColumnTwice, ColumnLost, ColumnAbsent, WrongType, Gap, Overlap, Limit, Memory}
 
 -- ---- places are among the columns around
 
@@ -59,7 +59,7 @@ groups_among frame within (node ∷ nodes) groups is =
 itself : (col : ℕ) (after : List ℕ) → has (col ∷ after) col ≡ false → ⊥
 itself col after none = let same : (col == col) ≡ true = eq-eqb col col refl in cc
 
-again_not_apart : (columns : List ℕ) (col : ℕ) → IsFirstAgain columns col → AreApart columns → ⊥
+pub again_not_apart : (columns : List ℕ) (col : ℕ) → IsFirstAgain columns col → AreApart columns → ⊥
 again_not_apart columns col first apart =
     let P : List ℕ → Type 0 = AreApart in
     itself col first.after (not_behind first.before (col ∷ first.after) col (subst P first.place apart) first.again)
@@ -96,58 +96,21 @@ refuses_lost within groups col found parts apart = lost_not_parts within groups 
 
 -- a group is refused by a rule of the text, where it names no columns among those around
 pub refuses_group : (frame : Frame) (within : List ℕ) (node : Data) (rule : Rule) → is_of_text rule ≡ true → named_in frame within node ≡ None → RefusesGroup frame within node rule
-refuses_group frame within node Memory is none = tt
-refuses_group frame within node (Gap cell) is none = cc
-refuses_group frame within node (Overlap cell) is none = cc
-refuses_group frame within node Toml is none = none
-refuses_group frame within node Field is none = none
-refuses_group frame within node Name is none = none
-refuses_group frame within node Twice is none = none
-refuses_group frame within node NoSite is none = none
-refuses_group frame within node KeyType is none = none
-refuses_group frame within node ColumnTwice is none = none
-refuses_group frame within node ColumnLost is none = none
-refuses_group frame within node ColumnAbsent is none = none
-refuses_group frame within node WrongType is none = none
-refuses_group frame within node Limit is none = none
+refuses_group frame within node rule is none = refuses_text_rule (named_in frame within node ≡ None) rule is none
 
 -- all are refused where one is
 pub refuses_groups : (frame : Frame) (within : List ℕ) (nodes : List Data) (node : Data) (rule : Rule) → RefusesGroup frame within node rule →
-    (named_in frame within node ≡ None → all_of (named_in frame within) nodes ≡ None) → RefusesGroups frame within nodes rule
-refuses_groups frame within nodes node Memory h spreads = tt
-refuses_groups frame within nodes node (Gap cell) h spreads = h
-refuses_groups frame within nodes node (Overlap cell) h spreads = h
-refuses_groups frame within nodes node Toml h spreads = spreads h
-refuses_groups frame within nodes node Field h spreads = spreads h
-refuses_groups frame within nodes node Name h spreads = spreads h
-refuses_groups frame within nodes node Twice h spreads = spreads h
-refuses_groups frame within nodes node NoSite h spreads = spreads h
-refuses_groups frame within nodes node KeyType h spreads = spreads h
-refuses_groups frame within nodes node ColumnTwice h spreads = spreads h
-refuses_groups frame within nodes node ColumnLost h spreads = spreads h
-refuses_groups frame within nodes node ColumnAbsent h spreads = spreads h
-refuses_groups frame within nodes node WrongType h spreads = spreads h
-refuses_groups frame within nodes node Limit h spreads = spreads h
+    (named_in frame within node ≡ None → all_of (named_in frame within) nodes ≡ None) → RefusesNames frame within nodes rule
+refuses_groups frame within nodes node rule refused spreads =
+    refuses_also ⊥ (named_in frame within node ≡ None) (all_of (named_in frame within) nodes ≡ None) rule spreads refused
 
 -- no names, no columns
 unnamed : (frame : Frame) (within : List ℕ) (nodes : List Data) → all_of (named_in frame within) nodes ≡ None → (groups : List (List ℕ)) → AreNamedIn frame within nodes groups → ⊥
 unnamed frame within nodes none groups are = let found = are.names in cc
 
-pub refuses_named : (frame : Frame) (within : List ℕ) (nodes : List Data) (rule : Rule) → RefusesGroups frame within nodes rule → RefusesNamed frame within nodes rule
-refuses_named frame within nodes Memory h = tt
-refuses_named frame within nodes (Gap cell) h = h
-refuses_named frame within nodes (Overlap cell) h = h
-refuses_named frame within nodes Toml h = unnamed frame within nodes h
-refuses_named frame within nodes Field h = unnamed frame within nodes h
-refuses_named frame within nodes Name h = unnamed frame within nodes h
-refuses_named frame within nodes Twice h = unnamed frame within nodes h
-refuses_named frame within nodes NoSite h = unnamed frame within nodes h
-refuses_named frame within nodes KeyType h = unnamed frame within nodes h
-refuses_named frame within nodes ColumnTwice h = unnamed frame within nodes h
-refuses_named frame within nodes ColumnLost h = unnamed frame within nodes h
-refuses_named frame within nodes ColumnAbsent h = unnamed frame within nodes h
-refuses_named frame within nodes WrongType h = unnamed frame within nodes h
-refuses_named frame within nodes Limit h = unnamed frame within nodes h
+pub refuses_named : (frame : Frame) (within : List ℕ) (nodes : List Data) (rule : Rule) → RefusesNames frame within nodes rule → RefusesNamed frame within nodes rule
+refuses_named frame within nodes rule refused =
+    refuses_also ⊥ (all_of (named_in frame within) nodes ≡ None) ((groups : List (List ℕ)) → AreNamedIn frame within nodes groups → ⊥) rule (unnamed frame within nodes) refused
 
 -- the groups that were found are no parts
 no_parts : (frame : Frame) (within : List ℕ) (nodes : List Data) (found : List (List ℕ)) → all_of (named_in frame within) nodes ≡ Some found → (AreParts within found → AreApart (named found) → ⊥) →
@@ -161,17 +124,5 @@ no_parts frame within nodes found names none groups are =
     some_same s t e = cc
 
 pub refuses_parts : (frame : Frame) (within : List ℕ) (nodes : List Data) (found : List (List ℕ)) (rule : Rule) → all_of (named_in frame within) nodes ≡ Some found → RefusesParts within found rule → RefusesNamed frame within nodes rule
-refuses_parts frame within nodes found Memory names h = tt
-refuses_parts frame within nodes found (Gap cell) names h = h
-refuses_parts frame within nodes found (Overlap cell) names h = h
-refuses_parts frame within nodes found Toml names h = no_parts frame within nodes found names h
-refuses_parts frame within nodes found Field names h = no_parts frame within nodes found names h
-refuses_parts frame within nodes found Name names h = no_parts frame within nodes found names h
-refuses_parts frame within nodes found Twice names h = no_parts frame within nodes found names h
-refuses_parts frame within nodes found NoSite names h = no_parts frame within nodes found names h
-refuses_parts frame within nodes found KeyType names h = no_parts frame within nodes found names h
-refuses_parts frame within nodes found ColumnTwice names h = no_parts frame within nodes found names h
-refuses_parts frame within nodes found ColumnLost names h = no_parts frame within nodes found names h
-refuses_parts frame within nodes found ColumnAbsent names h = no_parts frame within nodes found names h
-refuses_parts frame within nodes found WrongType names h = no_parts frame within nodes found names h
-refuses_parts frame within nodes found Limit names h = no_parts frame within nodes found names h
+refuses_parts frame within nodes found rule names refused =
+    refuses_also ⊥ (AreParts within found → AreApart (named found) → ⊥) ((groups : List (List ℕ)) → AreNamedIn frame within nodes groups → ⊥) rule (no_parts frame within nodes found names) refused

@@ -41,13 +41,13 @@ cols_last before (group ∷ groups) last =
     let more = cols_last (before ++ group.columns ∷ []) groups last in
     omega (arith, one, other, more)
 
-site_rows : (form : Form) (name : List ℕ) (nodes : List Data) → form ≡ AtSite name → form ≡ SplitByRows nodes → ⊥
+pub site_rows : (form : Form) (name : List ℕ) (nodes : List Data) → form ≡ AtSite name → form ≡ SplitByRows nodes → ⊥
 site_rows form name nodes one other = let both : AtSite name ≡ SplitByRows nodes = sym one ∙ other in cc
 
-site_cols : (form : Form) (name : List ℕ) (nodes : List Data) → form ≡ AtSite name → form ≡ SplitByCols nodes → ⊥
+pub site_cols : (form : Form) (name : List ℕ) (nodes : List Data) → form ≡ AtSite name → form ≡ SplitByCols nodes → ⊥
 site_cols form name nodes one other = let both : AtSite name ≡ SplitByCols nodes = sym one ∙ other in cc
 
-rows_cols : (form : Form) (nodes more : List Data) → form ≡ SplitByRows nodes → form ≡ SplitByCols more → ⊥
+pub rows_cols : (form : Form) (nodes more : List Data) → form ≡ SplitByRows nodes → form ≡ SplitByCols more → ⊥
 rows_cols form nodes more one other = let both : SplitByRows nodes ≡ SplitByCols more = sym one ∙ other in cc
 
 pub one_rows : (form : Form) (nodes more : List Data) → form ≡ SplitByRows nodes → form ≡ SplitByRows more → nodes ≡ more

@@ -14,10 +14,11 @@ pub mod Pairs
 pub mod BranchConds
 pub mod Splits
 pub mod Ordered
-pub mod Standing
 pub mod Refusals
 pub mod Children
 pub mod Leaves
+pub mod OneTree
+pub mod Inexact
 pub mod TreePaths
 pub mod Below
 pub mod CellCount
@@ -35,6 +36,7 @@ pub mod RelationTexts
 pub mod DocumentParts
 pub mod Entries
 pub mod CatalogueTexts
+pub mod Told
 pub mod NumberedLeaves
 pub mod FormedTrees
 pub mod FormedCatalogues

@@ -3,25 +3,12 @@ use Rattle.std.proofs.Common.{◌≡◌, ◌≢◌, ℕ, suc, ◌==◌, ◌&&◌
 use Rattle.toml.specs.Data.{Data, string, integer, float, boolean, datetime, array, table, Items, Members, as_array, as_table, get}
 use Rattle.toml.specs.View.{view, items_of, items_view, members_view}
 use Rattle.toml.specs.declared.value.Value.{Value}
-use Rattle.catalog.specs.Node.{Form, Ill, listed_items, some_items, key_count, list_form, split_form, form_of}
+use Rattle.catalog.specs.Node.{Ill, listed_items, only_tables, some_items, key_count, split_form, form_of}
+use Rattle.std.specs.List.{list_all}
 
 pub listed_items_of : (ds : List Data) → listed_items (items_of ds) ≡ ds
 listed_items_of [] = refl
 listed_items_of (d ∷ ds) = ap (λ rest. d ∷ rest) (listed_items_of ds)
-
--- an array with items
-pub list_form_of : (form : List Data → Form) (vs : List Value) (d : Data) → Some (items_view vs) ≡ as_array d → vs ≢ [] → form (map view vs) ≡ list_form form d
-list_form_of form [] d is some = absurd (some refl)
-list_form_of form (v ∷ vs) (array items) is some =
-    let P : Items → Type 0 = λ its. form (map view (v ∷ vs)) ≡ list_form form (array its) in
-    let same : items_view (v ∷ vs) ≡ items = cc in
-    subst P same (ap (λ rest. form (view v ∷ rest)) (sym (listed_items_of (map view vs))))
-list_form_of form (v ∷ vs) (string s) is some = absurd cc
-list_form_of form (v ∷ vs) (integer z) is some = absurd cc
-list_form_of form (v ∷ vs) (float x) is some = absurd cc
-list_form_of form (v ∷ vs) (boolean b) is some = absurd cc
-list_form_of form (v ∷ vs) (datetime dt) is some = absurd cc
-list_form_of form (v ∷ vs) (table ms) is some = absurd cc
 
 pub key_count_of : (es : List (String Global × Value)) → key_count (members_view es) ≡ length es
 key_count_of [] = refl
@@ -83,3 +70,14 @@ some_items_of (v ∷ vs) (float x) is some = absurd cc
 some_items_of (v ∷ vs) (boolean b) is some = absurd cc
 some_items_of (v ∷ vs) (datetime dt) is some = absurd cc
 some_items_of (v ∷ vs) (table ms) is some = absurd cc
+
+-- values of which each is a table, and values of which some is none
+all_viewed : (vs : List Value) → list_all (λ d. is_some (as_table d)) (map view vs) ≡ list_all (λ v. is_some (as_table (view v))) vs
+all_viewed [] = refl
+all_viewed (v ∷ vs) = ap (λ b. is_some (as_table (view v)) && b) (all_viewed vs)
+
+pub tables_of : (vs : List Value) (all : Bool) → all ≡ list_all (λ v. is_some (as_table (view v))) vs → all ≡ true → Some (map view vs) ≡ only_tables (map view vs)
+tables_of vs all is each = rw (all_viewed vs, ← is, each) refl
+
+pub no_tables_of : (vs : List Value) (all : Bool) → all ≡ list_all (λ v. is_some (as_table (view v))) vs → all ≡ false → None ≡ only_tables (map view vs)
+no_tables_of vs all is some = rw (all_viewed vs, ← is, some) refl

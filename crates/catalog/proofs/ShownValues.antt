@@ -5,7 +5,7 @@ use Rattle.terms.specs.declared.cond.Cond.{Cond}
 use Rattle.terms.specs.declared.value.Value.{Value}
 use Rattle.meaning.specs.declared.schema.Column.{Column}
 use Rattle.catalog.specs.declared.fault.Shown.{Shown}
-use Rattle.catalog.specs.Refuses.{shown_here, shown_from}
+use Rattle.catalog.specs.Inexact.{shown_here, shown_from}
 
 -- nothing behind the end of either list
 past : (n place : ℕ) (conds : List Cond) (columns : List Column) (values : List Value) → min (length columns) (length values) ≤ n → shown_from place conds (drop n columns) (drop n values) ≡ []

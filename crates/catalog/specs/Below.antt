@@ -1,16 +1,16 @@
 -- What is below a split: the branches or the groups of the nodes under it.
-use Rattle.std.specs.Prelude.{◌≡◌, ◌≤◌, ◌+◌, ℕ, zero, suc, List, [], Some, length, map}
+use Rattle.std.specs.Prelude.{◌≡◌, ◌≤◌, ◌+◌, ℕ, zero, suc, List, [], Some, None, length, map}
 use Rattle.toml.specs.Data.{Data}
 use Rattle.terms.specs.declared.cond.Cond.{Cond}
 use Rattle.catalog.specs.declared.fault.Rule.{Rule}
+use Rattle.catalog.specs.declared.fault.Rule.TheVariants.{NoSite, Limit}
 use Rattle.catalog.specs.declared.split.Branch as branch
 use Rattle.catalog.specs.declared.split.Group as group
 use Rattle.catalog.specs.Describes.{Frame, kinds_in, Each, IsWhere, AreNamedIn, HasFewCells, in_order, site_numbered, AreBranches, AreGroups}
 use Rattle.catalog.specs.Path.{branch_conds, group_columns, paths_by_rows, paths_by_cols}
-use Rattle.catalog.specs.Refuses.{RefusesBy}
-use Rattle.catalog.specs.Stands.{StandsInRows, StandsInBranches, StandsInCols, StandsInGroups}
-use Rattle.catalog.specs.Split.{ByRows, ByCols, Branches, Groups, branches_of, groups_of, tree_branch, tree_group}
-use Rattle.catalog.specs.Valid.{IsValidWithin, AreValidBranches, AreValidGroups}
+use Rattle.catalog.specs.Inexact.{IsFirstInexact, row_splits, splits_of_branches, splits_of_groups}
+use Rattle.catalog.specs.Refusal.{RefusesBy}
+use Rattle.catalog.specs.Split.{ByRows, Branches, Groups, branches_of, groups_of, tree_branch, tree_group}
 
 -- the branches of the code, and the groups, as the definitions say it
 abbrev pub branches_seen : List branch.Branch → Branches
@@ -33,32 +33,34 @@ AreCols frame (suc splits) way within nodes groups =
 
 -- a refusal of a leaf: there is no such site, or no room for one leaf more
 abbrev pub RefusesSite : Frame → List ℕ → ℕ → Rule → Type 0
-RefusesSite frame name leaves rule = RefusesBy frame (λ to split. ⊥) ((site : ℕ) → site_numbered frame.sites name ≡ Some site → leaves + 1 ≤ 32 → ⊥) rule
+RefusesSite frame name leaves rule = RefusesBy ⊥ ((site : ℕ) → site_numbered frame.sites name ≡ Some site → leaves + 1 ≤ 32 → ⊥) rule
+
+-- what is wrong with a leaf, by the rule
+abbrev pub IsLeafFault : Frame → List ℕ → ℕ → Rule → Type 0
+IsLeafFault frame name leaves NoSite = site_numbered frame.sites name ≡ None
+IsLeafFault frame name leaves Limit = 32 ≤ leaves
+IsLeafFault frame name leaves _ = ⊥
 
 -- a refusal of a row split
 abbrev pub RefusesRows : Frame → ℕ → List Cond → List ℕ → List Data → ℕ → Rule → Type 0
 RefusesRows frame splits way within nodes leaves rule =
-    RefusesBy frame (λ to split. StandsInRows frame splits way within nodes to split
-    × ((branches : Branches) → AreRows frame splits way within nodes branches → IsValidWithin (kinds_in frame) way within (ByRows branches) → ⊥))
+    RefusesBy ((branches : Branches) → AreRows frame splits way within nodes branches → IsFirstInexact frame rule (row_splits way (ByRows branches)))
     ((branches : Branches) → AreRows frame splits way within nodes branches → leaves + length (paths_by_rows branches) ≤ 32 → ⊥) rule
 
 -- a refusal of what is below a row split whose branches have these conditions
 abbrev pub RefusesBranches : Frame → ℕ → List Cond → List ℕ → List Data → List (List Cond) → ℕ → Rule → Type 0
 RefusesBranches frame splits way within nodes conds leaves rule =
-    RefusesBy frame (λ to split. StandsInBranches frame splits way within nodes conds to split
-    × ((branches : Branches) → branch_conds branches ≡ conds → AreBranches frame splits way within nodes branches → AreValidBranches (kinds_in frame) way within branches → ⊥))
+    RefusesBy ((branches : Branches) → branch_conds branches ≡ conds → AreBranches frame splits way within nodes branches → IsFirstInexact frame rule (splits_of_branches way branches))
     ((branches : Branches) → branch_conds branches ≡ conds → AreBranches frame splits way within nodes branches → leaves + length (paths_by_rows branches) ≤ 32 → ⊥) rule
 
 -- a refusal of a column split
 abbrev pub RefusesCols : Frame → ℕ → List Cond → List ℕ → List Data → ℕ → Rule → Type 0
 RefusesCols frame splits way within nodes leaves rule =
-    RefusesBy frame (λ to split. StandsInCols frame splits way within nodes to split
-    × ((groups : Groups) → AreCols frame splits way within nodes groups → IsValidWithin (kinds_in frame) way within (ByCols groups) → ⊥))
+    RefusesBy ((groups : Groups) → AreCols frame splits way within nodes groups → IsFirstInexact frame rule (splits_of_groups way groups))
     ((groups : Groups) → AreCols frame splits way within nodes groups → leaves + length (paths_by_cols [] groups) ≤ 32 → ⊥) rule
 
 -- a refusal of what is below a column split into groups of these columns
 abbrev pub RefusesGroups : Frame → ℕ → List Cond → List Data → List (List ℕ) → ℕ → Rule → Type 0
 RefusesGroups frame splits way nodes columns leaves rule =
-    RefusesBy frame (λ to split. StandsInGroups frame splits way nodes columns to split
-    × ((groups : Groups) → group_columns groups ≡ columns → AreGroups frame splits way nodes groups → AreValidGroups (kinds_in frame) way groups → ⊥))
+    RefusesBy ((groups : Groups) → group_columns groups ≡ columns → AreGroups frame splits way nodes groups → IsFirstInexact frame rule (splits_of_groups way groups))
     ((groups : Groups) → group_columns groups ≡ columns → AreGroups frame splits way nodes groups → leaves + length (paths_by_cols [] groups) ≤ 32 → ⊥) rule

@@ -1,14 +1,17 @@
 -- The texts of a relation's columns.
-use Rattle.std.specs.Prelude.{◌≡◌, ◌≤◌, ℕ, Bool, false, List, Some, length, map, nat_eq}
+use Rattle.std.specs.Prelude.{◌≡◌, ◌≤◌, ◌<◌, ℕ, Bool, true, false, List, [], ◌∷◌, ◌++◌, Some, length, map, nat_eq}
 use Rattle.std.specs.List.{list_any, slice_get}
 use Rattle.std.specs.Cmp.Lexicographic.{pointwise}
 use Rattle.terms.specs.declared.value.Kind.TheVariants as kinds
 use Rattle.meaning.specs.declared.schema.Column.{Column}
 use Rattle.reader.specs.Printable.{AreDistinct}
-use Rattle.catalog.specs.Catalogue.{IsColumnText}
+use Rattle.catalog.specs.Catalogue.{IsColumnText, kind_word}
+use Rattle.reader.specs.Tokens.{IsName}
+use Rattle.terms.specs.declared.value.Kind.{Kind}
 use Rattle.catalog.specs.Describes.{Each}
 use Rattle.catalog.specs.declared.fault.Rule.{Rule}
-use Rattle.catalog.specs.declared.fault.Rule.TheVariants.{Gap, Overlap, Memory}
+use Rattle.catalog.specs.Refusal.{RefusesBy}
+use Rattle.catalog.specs.declared.fault.Rule.TheVariants.{Field, Name, Twice, KeyType, Gap, Overlap, Limit, Memory}
 
 -- the columns of a relation that texts say: each name once, at most 16, and an integer as the key
 pub record AreColumns (texts : List (List ℕ)) (columns : List Column) : Type 0 where
@@ -19,10 +22,7 @@ pub record AreColumns (texts : List (List ℕ)) (columns : List Column) : Type 0
 
 -- a refusal of the texts by the rule: but for want of memory, they say no columns of a relation
 abbrev pub RefusesColumns : List (List ℕ) → Rule → Type 0
-RefusesColumns texts Memory = Unit {0}
-RefusesColumns texts (Gap cell) = ⊥
-RefusesColumns texts (Overlap cell) = ⊥
-RefusesColumns texts _ = (columns : List Column) → AreColumns texts columns → ⊥
+RefusesColumns texts rule = RefusesBy ⊥ ((columns : List Column) → AreColumns texts columns → ⊥) rule
 
 -- whether a column of this name stands among these
 abbrev pub has_column : List Column → List ℕ → Bool
@@ -35,10 +35,7 @@ pub record IsNextColumn (before : List Column) (text : List ℕ) (column : Colum
 
 -- a refusal of a text behind other columns by the rule
 abbrev pub RefusesColumn : List Column → List ℕ → Rule → Type 0
-RefusesColumn before text Memory = Unit {0}
-RefusesColumn before text (Gap cell) = ⊥
-RefusesColumn before text (Overlap cell) = ⊥
-RefusesColumn before text _ = (column : Column) → IsNextColumn before text column → ⊥
+RefusesColumn before text rule = RefusesBy ⊥ ((column : Column) → IsNextColumn before text column → ⊥) rule
 
 -- columns that can be those of a relation, as to how many there are and what the key is
 pub record FitRelation (columns : List Column) : Type 0 where
@@ -46,8 +43,23 @@ pub record FitRelation (columns : List Column) : Type 0 where
   pub key : slice_get (map (λ column. column.kind) columns) 0 ≡ Some kinds.Int
 
 -- a refusal of columns as those of a relation by the rule
-abbrev pub RefusesRelation : List Column → Rule → Type 0
-RefusesRelation columns Memory = ⊥
-RefusesRelation columns (Gap cell) = ⊥
-RefusesRelation columns (Overlap cell) = ⊥
-RefusesRelation columns _ = FitRelation columns → ⊥
+abbrev pub RefusesFit : List Column → Rule → Type 0
+RefusesFit columns Memory = ⊥
+RefusesFit columns (Gap cell) = ⊥
+RefusesFit columns (Overlap cell) = ⊥
+RefusesFit columns _ = FitRelation columns → ⊥
+
+-- what is wrong with columns as those of a relation, by the rule
+abbrev pub IsFitFault : List Column → Rule → Type 0
+IsFitFault columns Limit = 16 < length columns
+IsFitFault columns KeyType = slice_get (map (λ column. column.kind) columns) 0 ≡ Some kinds.Text
+IsFitFault columns Field = columns ≡ []
+IsFitFault columns _ = ⊥
+
+-- what is wrong with the text of a column behind others, by the rule
+abbrev pub IsColumnFault : List Column → List ℕ → Rule → Type 0
+IsColumnFault before text Field = (column : Column) → IsColumnText text column → ⊥
+IsColumnFault before text Name = (name : List ℕ) × (kind : Kind) × (text ≡ name ++ 32 ∷ kind_word kind) × (IsName name → ⊥)
+IsColumnFault before text Twice = (column : Column) × IsColumnText text column × (has_column before column.name ≡ true)
+IsColumnFault before text Memory = Unit {0}
+IsColumnFault before text _ = ⊥

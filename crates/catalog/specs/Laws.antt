@@ -1,4 +1,4 @@
-use Rattle.std.specs.Prelude.{◌≡◌, ◌≢◌, ◌<◌, ℕ, ℤ, ◌&&◌, true, List, ◌∷◌, Some, length, option_and_then}
+use Rattle.std.specs.Prelude.{◌≡◌, ◌≢◌, ◌<◌, ℕ, ℤ, ◌&&◌, true, List, ◌∷◌, Option, Some, length, option_and_then}
 use Rattle.std.specs.List.{AllByRecursion, list_any}
 use Rattle.terms.specs.declared.cond.Cond.{Cond}
 use Rattle.terms.specs.declared.value.Kind.{Kind}
@@ -7,7 +7,9 @@ use Rattle.terms.specs.Cond.{conds_hold}
 use Rattle.terms.specs.Row.{FitsKinds}
 use Rattle.meaning.specs.Relation.{Ascends, IsRelation}
 use Rattle.catalog.specs.Counts.{how_many, has}
-use Rattle.catalog.specs.Catalogue.{Catalogue}
+use Rattle.catalog.specs.Catalogue.{Catalogue, IsCatalogueText, IsValidCatalogue}
+use Rattle.catalog.specs.Inexact.{IsFirstFaulty}
+use Rattle.catalog.specs.declared.fault.Rule.{Rule}
 use Rattle.catalog.specs.Formed.{IsFormed}
 use Rattle.catalog.specs.Fragment.{part, content, Rebuilds}
 use Rattle.catalog.specs.FragmentLeaf.{catalogue_leaves, leaf_named}
@@ -45,3 +47,11 @@ ContentAt = (conds : List Cond) (columns : List ℕ) (key : ℤ) (rows : List (L
 -- rows with ascending keys that have the same at each key are the same
 abbrev pub SameListing : Type 0
 SameListing = (one other : List (List Value)) → Ascends one → Ascends other → ((key : ℤ) → row_at key one ≡ row_at key other) → one ≡ other
+
+-- a text is one of at most one catalogue
+abbrev pub OneCatalogueOfText : Type 0
+OneCatalogueOfText = (text : List ℕ) (one other : Catalogue) → IsCatalogueText text one → IsCatalogueText text other → one ≡ other
+
+-- where a gap or an overlap is the first in a catalogue, the catalogue is not valid
+abbrev pub FaultyIsNotValid : Type 0
+FaultyIsNotValid = (catalogue : Catalogue) (told : Option (List ℕ)) (rule : Rule) → IsFirstFaulty catalogue.sites told rule catalogue.relations → IsValidCatalogue catalogue → ⊥

@@ -8,7 +8,8 @@ pub mod Fault
 pub mod Node
 pub mod Form
 pub mod Describes
-pub mod Stands
+pub mod Inexact
+pub mod Refusal
 pub mod Frame
 pub mod Refuses
 pub mod Below

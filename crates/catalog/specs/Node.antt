@@ -1,7 +1,8 @@
 -- What a node of a catalogue's document says, before its texts are read: a site, or branches of rows, or groups of columns.
 use Rattle.std.specs.Prelude.{ℕ, suc, ◌==◌, ◌&&◌, if◌then◌else◌, List, [], ◌∷◌, Option, Some, None, is_some, option_and_then, codes}
+use Rattle.std.specs.List.{list_all}
 use Rattle.reader.specs.Names.{all_of}
-use Rattle.toml.specs.Data.{Data, string, array, table, Items, no_items, item, Members, no_members, member, get, get_member, as_str}
+use Rattle.toml.specs.Data.{Data, string, array, table, Items, no_items, item, Members, no_members, member, get, get_member, as_str, as_table}
 
 -- the items of an array
 abbrev pub listed_items : Items → List Data
@@ -24,10 +25,26 @@ abbrev pub site_form : Data → Form
 site_form (string name) = AtSite name
 site_form _ = Ill
 
--- an array of at least one item
+-- the items of an array of at least one
+abbrev pub some_items : Data → Option (List Data)
+some_items (array (item first rest)) = Some (first ∷ listed_items rest)
+some_items _ = None
+
+-- these items, if each is a table
+abbrev pub only_tables : List Data → Option (List Data)
+only_tables items = if list_all (λ value. is_some (as_table value)) items then Some items else None
+
+-- the items of an array of at least one, if each is a table
+abbrev pub some_tables : Data → Option (List Data)
+some_tables value = option_and_then only_tables (some_items value)
+
+abbrev pub nodes_form : (List Data → Form) → Option (List Data) → Form
+nodes_form form None = Ill
+nodes_form form (Some nodes) = form nodes
+
+-- an array of at least one item, each a table
 abbrev pub list_form : (List Data → Form) → Data → Form
-list_form form (array (item first rest)) = form (first ∷ listed_items rest)
-list_form form _ = Ill
+list_form form value = nodes_form form (some_tables value)
 
 -- what is at the keys of a split: one of them has a value
 abbrev pub split_form : Option Data → Option Data → Option Data → Form
@@ -51,11 +68,6 @@ form_of beside _ = Ill
 -- the text at a key of a table
 abbrev pub text_at : List ℕ → Data → Option (List ℕ)
 text_at key node = option_and_then as_str (get key node)
-
--- the items of an array of at least one
-abbrev pub some_items : Data → Option (List Data)
-some_items (array (item first rest)) = Some (first ∷ listed_items rest)
-some_items _ = None
 
 -- the texts that a value lists, at least one
 abbrev pub some_texts : Data → Option (List (List ℕ))

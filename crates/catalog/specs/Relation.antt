@@ -1,21 +1,12 @@
 -- Relations as the code has them, and their refusals.
-use Rattle.std.specs.Prelude.{◌≡◌, ℕ, List, [], Some, map, codes}
+use Rattle.std.specs.Prelude.{ℕ, List, [], map}
 use Rattle.toml.specs.Data.{Data}
-use Rattle.meaning.specs.declared.schema.Column.{Column}
-use Rattle.meaning.specs.Schema.{kinds_of}
 use Rattle.catalog.specs.declared.fault.Rule.{Rule}
-use Rattle.catalog.specs.declared.fault.Rule.TheVariants.{Gap, Overlap, Memory}
 use Rattle.catalog.specs.declared.relation.SplitRelation as code
-use Rattle.terms.specs.declared.cond.Cond.{Cond}
-use Rattle.catalog.specs.declared.fault.Cell.{Cell}
-use Rattle.catalog.specs.Catalogue.{SplitRelation, Catalogue, IsColumnText, IsRelationIn}
-use Rattle.catalog.specs.Describes.{Frame, Each}
-use Rattle.catalog.specs.Node.{texts_at}
-use Rattle.catalog.specs.Path.{columns_beside_key}
-use Rattle.catalog.specs.Refuses.{IsGapOf, IsOverlapOf}
-use Rattle.catalog.specs.Stands.{StandsAt}
+use Rattle.catalog.specs.Catalogue.{SplitRelation, Catalogue, IsRelationIn}
+use Rattle.catalog.specs.Inexact.{IsFirstInexact, row_splits}
+use Rattle.catalog.specs.Refusal.{RefusesBy}
 use Rattle.catalog.specs.Split.{tree_of}
-use Rattle.catalog.specs.Valid.{IsValid}
 
 -- a relation, seen as the definition says it
 abbrev pub relation_of : code.SplitRelation → SplitRelation
@@ -29,23 +20,7 @@ catalogue_of catalog = record { sites = catalog.0; relations = map relation_of c
 abbrev pub SaysNoRelation : List (List ℕ) → List ℕ × Data → Type 0
 SaysNoRelation sites entry = (relation : SplitRelation) → IsRelationIn sites entry relation → ⊥
 
--- nothing valid is said of a relation
-abbrev pub SaysNoneValid : List (List ℕ) → List ℕ × Data → Type 0
-SaysNoneValid sites entry = (relation : SplitRelation) → IsRelationIn sites entry relation → IsValid (kinds_of relation.schema) relation.tree → ⊥
-
--- an entry of a document says these columns of a relation
-abbrev pub SaysColumns : List ℕ × Data → List Column → Type 0
-SaysColumns entry columns = (texts : List (List ℕ)) × (texts_at (codes "columns") entry.1 ≡ Some texts) × Each IsColumnText texts columns
-
--- a cell shows this of a row split that stands in the entry of a relation
-abbrev pub ShowsInRelation : (Frame → List Cond → List (List Cond) → Cell → Type 0) → List (List ℕ) → List ℕ × Data → Cell → Type 0
-ShowsInRelation shows sites entry cell =
-    (columns : List Column) × SaysColumns entry columns × (to : List Cond) × (split : List (List Cond)) × shows (record { sites = sites; columns = columns }) to split cell
-    × StandsAt (record { sites = sites; columns = columns }) 4 [] (columns_beside_key (map (λ column. column.kind) columns)) (codes "columns") entry.1 to split
-
--- a refusal of a relation by the rule: a gap or an overlap is shown of a row split that stands in its entry
+-- a refusal of a relation by the rule, which for a gap or an overlap names the first faulty cell of its first row split that is not exact
 abbrev pub RefusesRelation : List (List ℕ) → List ℕ × Data → Rule → Type 0
-RefusesRelation sites entry Memory = Unit {0}
-RefusesRelation sites entry (Gap cell) = ShowsInRelation IsGapOf sites entry cell × SaysNoneValid sites entry
-RefusesRelation sites entry (Overlap cell) = ShowsInRelation IsOverlapOf sites entry cell × SaysNoneValid sites entry
-RefusesRelation sites entry _ = SaysNoRelation sites entry
+RefusesRelation sites entry rule =
+    RefusesBy ((relation : SplitRelation) → IsRelationIn sites entry relation → IsFirstInexact (record { sites = sites; columns = relation.schema.columns }) rule (row_splits [] relation.tree)) (SaysNoRelation sites entry) rule

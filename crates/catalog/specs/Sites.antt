@@ -1,11 +1,12 @@
 -- The names of a catalogue's sites.
-use Rattle.std.specs.Prelude.{◌≡◌, ◌≤◌, ℕ, Bool, false, List, length, nat_eq}
+use Rattle.std.specs.Prelude.{◌≡◌, ◌≤◌, ℕ, Bool, true, false, List, length, nat_eq}
 use Rattle.std.specs.Cmp.Lexicographic.{pointwise}
 use Rattle.std.specs.List.{AllByRecursion, list_any}
 use Rattle.reader.specs.Printable.{AreDistinct}
 use Rattle.catalog.specs.Catalogue.{IsSiteName}
 use Rattle.catalog.specs.declared.fault.Rule.{Rule}
-use Rattle.catalog.specs.declared.fault.Rule.TheVariants.{Gap, Overlap, Memory}
+use Rattle.catalog.specs.declared.fault.Rule.TheVariants.{Name, Twice, Memory}
+use Rattle.catalog.specs.Refusal.{RefusesBy}
 
 -- whether a name stands among these
 abbrev pub has_name : List (List ℕ) → List ℕ → Bool
@@ -19,10 +20,7 @@ pub record AreSites (sites : List (List ℕ)) : Type 0 where
 
 -- a refusal of the sites by the rule: but for want of memory, a catalogue may not have these
 abbrev pub RefusesSites : List (List ℕ) → Rule → Type 0
-RefusesSites sites Memory = Unit {0}
-RefusesSites sites (Gap cell) = ⊥
-RefusesSites sites (Overlap cell) = ⊥
-RefusesSites sites _ = AreSites sites → ⊥
+RefusesSites sites rule = RefusesBy ⊥ (AreSites sites → ⊥) rule
 
 -- a name of a site that is none of those before it
 pub record IsNextSite (before : List (List ℕ)) (site : List ℕ) : Type 0 where
@@ -30,8 +28,13 @@ pub record IsNextSite (before : List (List ℕ)) (site : List ℕ) : Type 0 wher
   pub new : has_name before site ≡ false
 
 -- a refusal of a site behind others by the rule
-abbrev pub RefusesSite : List (List ℕ) → List ℕ → Rule → Type 0
-RefusesSite before site Memory = Unit {0}
-RefusesSite before site (Gap cell) = ⊥
-RefusesSite before site (Overlap cell) = ⊥
-RefusesSite before site _ = IsNextSite before site → ⊥
+abbrev pub RefusesNextSite : List (List ℕ) → List ℕ → Rule → Type 0
+RefusesNextSite before site rule = RefusesBy ⊥ (IsNextSite before site → ⊥) rule
+
+-- what is wrong with a site behind others, by the rule
+abbrev pub IsSiteFault : List (List ℕ) → List ℕ → Rule → Type 0
+IsSiteFault before site Name = IsSiteName site → ⊥
+IsSiteFault before site Twice = IsSiteName site × (has_name before site ≡ true)
+IsSiteFault before site Memory = Unit {0}
+IsSiteFault before site _ = ⊥
+

@@ -14,7 +14,7 @@ ghost use Rattle.catalog.specs.Formed.{IsFormed};
 ghost use Rattle.catalog.specs.Fragment.{part};
 ghost use Rattle.catalog.specs.FragmentLeaf.{catalogue_leaves, leaf_named, leaves_in, names_at, relation_named, schemas_of, unnamed};
 ghost use Rattle.std.specs.Option.{option_copied};
-ghost use Rattle.catalog.specs.Document.{parts_of, RefusesDocument, RefusesRelations, RefusesRoot, RefusesText, IsShown, are_tables};
+ghost use Rattle.catalog.specs.Document.{parts_of, RefusesDocument, RefusesRelations, RefusesRoot, RefusesText, TellsRelation, TellsRoot, TellsText, are_tables};
 
 use crate::fault::{CatFault, Rule};
 use crate::form::some_texts;
@@ -25,7 +25,7 @@ use crate::fragment_leaf::{
 use crate::relation::{SplitRelation, copy_relations, find_relation, relation, schema_of};
 use crate::sites::{site_numbered, sites};
 use meaning::schema::Schema;
-use reader::read_conds::conds_of_a_text_fit;
+use reader::read_conds::{conds_of_a_text_fit, one_list_of_conds};
 use std::alloc::Global;
 use std::marker::Model;
 use terms::copy::{TryCopy, copy_all};
@@ -79,10 +79,11 @@ impl Catalog {
         // An accepted text is one of the catalogue, and the catalogue is valid.
         ensures found { IfOk result (λ catalog. IsCatalogueText text.now (catalogue_of catalog)) }
         ensures valid { IfOk result (λ catalog. IsValidCatalogue (catalogue_of catalog)) }
-        // A text that is refused by a rule is one of no catalogue; by a gap or an overlap, which is shown, of no valid one.
-        ensures none { IfErr result (λ fault. RefusesText text.now fault.rule) }
-        // The row split of which it is shown stands in the text, in the relation that is named.
-        ensures shown { IfErr result (λ fault. IsShown text.now fault.relation fault.rule) }
+        // A text that is refused by a rule is one of no catalogue. A gap or an overlap is the first in each catalogue of
+        // which the text is one: it is told by its relation and its cell.
+        ensures none { IfErr result (λ fault. RefusesText text.now fault.relation fault.rule) }
+        // And so is each fault inside a relation.
+        ensures told { IfErr result (λ fault. TellsText text.now fault.relation fault.rule) }
     {
         if text.len() > TEXT_BYTES {
             return Err(CatFault::from(Rule::Limit));
@@ -204,6 +205,7 @@ fn catalog_of(alloc: Global, root: &Value) -> Result<Catalog, CatFault>
     ensures found { IfOk result (λ catalog. IsDocumentOf (view root.now) (catalogue_of catalog)) }
     ensures valid { IfOk result (λ catalog. IsValidCatalogue (catalogue_of catalog)) }
     ensures none { IfErr result (λ fault. RefusesRoot (view root.now) fault.relation fault.rule) }
+    ensures told { IfErr result (λ fault. TellsRoot (view root.now) fault.relation fault.rule) }
 {
     let Some(parts) = document_parts(alloc, root)? else {
         return Err(CatFault::from(Rule::Field));
@@ -312,7 +314,10 @@ pub(crate) fn relations(
     ensures found { IfOk result (λ found. Each (IsRelationIn sites.now) (entries (table_view table.now)) (map relation_of found.items)) }
     ensures valid { IfOk result (λ found. AllByRecursion IsValidRelation (map relation_of found.items)) }
     ensures none { IfErr result (λ fault. RefusesRelations sites.now (entries (table_view table.now)) fault.relation fault.rule) }
+    ensures told { IfErr result (λ fault. TellsRelation sites.now (entries (table_view table.now)) fault.relation fault.rule) }
 {
+    // What a refusal says rests on this law.
+    one_list_of_conds();
     let mut relations = Vec::new(alloc);
     for (name, node) in table.iter() {
         match relation(alloc, sites, name.as_str(), node) {

@@ -4,7 +4,7 @@ ghost use Rattle.std.specs.Prelude.{◌≡◌, ◌≢◌, false, ◌++◌, ◌�
 ghost use Rattle.catalog.specs.Catalogue.{IsColumnText, kind_word};
 ghost use Rattle.catalog.specs.Columns as spec;
 ghost use Rattle.catalog.specs.Refuses.{is_shown};
-ghost use Rattle.catalog.specs.Columns.{AreColumns, RefusesColumns, RefusesColumn, FitRelation, RefusesRelation};
+ghost use Rattle.catalog.specs.Columns.{AreColumns, RefusesColumns, RefusesColumn, FitRelation, RefusesFit, IsFitFault, IsColumnFault};
 
 use crate::fault::Rule;
 use meaning::schema::Column;
@@ -58,6 +58,7 @@ fn next_column(alloc: Global, before: &[Column], text: &str) -> Result<Column, R
     ensures says { IfOk result (λ column. IsColumnText text.now column) }
     ensures new { IfOk result (λ column. spec.has_column before.now column.name ≡ false) }
     ensures none { IfErr result (λ rule. RefusesColumn before.now text.now rule) }
+    ensures fault { IfErr result (λ rule. IsColumnFault before.now text.now rule) }
 {
     let Some((name, kind)) = name_and_kind(text) else {
         return Err(Rule::Field);
@@ -103,7 +104,8 @@ fn has_column(before: &[Column], name: &str) -> bool
 /// Refuses too many columns, and a key that is no integer.
 fn require_relation(columns: &[Column]) -> Result<(), Rule>
     ensures fit { OnOk result (FitRelation columns.now) }
-    ensures none { IfErr result (λ rule. RefusesRelation columns.now rule) }
+    ensures none { IfErr result (λ rule. RefusesFit columns.now rule) }
+    ensures fault { IfErr result (λ rule. IsFitFault columns.now rule) }
 {
     if columns.len() > COLUMNS {
         return Err(Rule::Limit);

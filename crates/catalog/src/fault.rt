@@ -1,6 +1,6 @@
 //! Why a catalogue was refused.
 
-ghost use Rattle.std.specs.Prelude.{◌≡◌, ◌⊎◌, Some};
+ghost use Rattle.std.specs.Prelude.{◌≡◌, ◌⊎◌, Some, None};
 ghost use Rattle.catalog.specs.Fault.{rule_number, rule_name, shown_text, cell_text, fault_text};
 ghost use Rattle.catalog.specs.declared.fault.Rule.TheVariants as rules;
 
@@ -168,7 +168,7 @@ impl fmt::Display for CatFault {
 }
 
 impl From<Rule> for CatFault {
-    ghost from_gives = { λ rule fault. fault.rule ≡ rule };
+    ghost from_gives = { λ rule fault. (fault.rule ≡ rule) × (fault.relation ≡ None) };
 
     fn from(rule: Rule) -> CatFault {
         CatFault {

@@ -1,7 +1,8 @@
 //! What the nodes of a catalogue's document say, before their texts are read.
 
-ghost use Rattle.std.specs.Prelude.{◌≡◌, map, option_map, codes, IfOk};
-ghost use Rattle.toml.specs.Data.{get, as_str};
+ghost use Rattle.std.specs.Prelude.{◌≡◌, is_some, map, option_map, codes, IfOk};
+ghost use Rattle.std.specs.List.{list_all};
+ghost use Rattle.toml.specs.Data.{get, as_str, as_table};
 ghost use Rattle.toml.specs.View.{view, table_view};
 ghost use Rattle.catalog.specs.Node as spec;
 ghost use Rattle.catalog.specs.Node.{key_count, form_of, node_form, split_form, site_form, list_form, text_at};
@@ -17,9 +18,9 @@ use toml::Value;
 pub(crate) enum Form<'a> {
     /// A leaf at the site of this name.
     AtSite(&'a str),
-    /// Branches, at least one.
+    /// Branches, at least one, each a table.
     ByRows(&'a [Value]),
-    /// Groups, at least one.
+    /// Groups, at least one, each a table.
     ByCols(&'a [Value]),
     /// A key that is missing, of another kind, or unknown.
     Ill,
@@ -64,24 +65,44 @@ fn site_form<'a>(site: &'a Value) -> Form<'a>
     }
 }
 
-#[tactic(auto, using(crate::proofs::Nodes::list_form_of))]
 fn rows_form<'a>(rows: &'a Value) -> Form<'a>
     ensures { form_view result ≡ list_form spec.SplitByRows (view rows.entry.now) }
 {
-    match rows.as_array() {
-        Some(branches) if !branches.is_empty() => Form::ByRows(branches.as_slice()),
-        _ => Form::Ill,
+    match some_tables(rows) {
+        Some(branches) => Form::ByRows(branches),
+        None => Form::Ill,
     }
 }
 
-#[tactic(auto, using(crate::proofs::Nodes::list_form_of))]
 fn cols_form<'a>(cols: &'a Value) -> Form<'a>
     ensures { form_view result ≡ list_form spec.SplitByCols (view cols.entry.now) }
 {
-    match cols.as_array() {
-        Some(groups) if !groups.is_empty() => Form::ByCols(groups.as_slice()),
-        _ => Form::Ill,
+    match some_tables(cols) {
+        Some(groups) => Form::ByCols(groups),
+        None => Form::Ill,
     }
+}
+
+/// The items of an array of at least one, if each is a table.
+fn some_tables<'a>(value: &'a Value) -> Option<&'a [Value]>
+    ensures { option_map (λ items. map view items.now) result ≡ spec.some_tables (view value.entry.now) }
+{
+    match some_items(value) {
+        Some(items) => only_tables(items),
+        None => None,
+    }
+}
+
+fn only_tables<'a>(items: &'a [Value]) -> Option<&'a [Value]>
+    ensures { option_map (λ items. map view items.now) result ≡ spec.only_tables (map view items.entry.now) }
+{
+    if are_tables(items) { Some(items) } else { None }
+}
+
+fn are_tables(items: &[Value]) -> bool
+    ensures { result ≡ list_all (λ item. is_some (as_table (view item))) items.now }
+{
+    items.iter().all(|item| item.is_table())
 }
 
 /// The text at a key of a table.

@@ -8,7 +8,7 @@ ghost use Rattle.catalog.specs.Counts as counts;
 ghost use Rattle.catalog.specs.Describes.{AreNamedIn, named_in, place_within};
 ghost use Rattle.catalog.specs.Frame.{frame_of};
 ghost use Rattle.catalog.specs.Parts.{named, AreApart};
-ghost use Rattle.catalog.specs.Refuses.{RefusesGroup, RefusesGroups, RefusesNamed, RefusesParts, is_of_text};
+ghost use Rattle.catalog.specs.Refuses.{RefusesGroup, RefusesNames, RefusesNamed, RefusesParts, IsPartsFault, is_of_text};
 ghost use Rattle.catalog.specs.Valid.{AreParts};
 
 use crate::fault::Rule;
@@ -36,7 +36,7 @@ pub(crate) fn named_columns(
 /// The places that each group names.
 fn all_groups(frame: &Frame<'_>, within: &[usize], nodes: &[Value]) -> Result<Vec<Seq<usize>>, Rule>
     ensures found { IfOk result (λ groups. all_of (named_in (frame_of frame.now) within.now) (map view nodes.now) ≡ Some groups.items) }
-    ensures none { IfErr result (λ rule. RefusesGroups (frame_of frame.now) within.now (map view nodes.now) rule) }
+    ensures none { IfErr result (λ rule. RefusesNames (frame_of frame.now) within.now (map view nodes.now) rule) }
 {
     let mut seen = Vec::new(frame.alloc);
     let mut groups = Vec::new(frame.alloc);
@@ -117,6 +117,7 @@ fn require_parts(
     ensures parts { OnOk result (AreParts within.now groups.items) }
     ensures apart { OnOk result (AreApart (named groups.items)) }
     ensures none { IfErr result (λ rule. RefusesParts within.now groups.items rule) }
+    ensures fault { IfErr result (λ rule. IsPartsFault within.now groups.items rule) }
 {
     if groups.is_empty() {
         return Err(Rule::Field);

@@ -1,11 +1,12 @@
 //! The laws of fragmentation, each as the contract of a function that does nothing.
 
 ghost use Rattle.catalog.specs.Cover.{SomeServes, OneServes, SomeServesBelow, OneServesBelow, OneLeafBelow, NeededIsWanted};
-ghost use Rattle.catalog.specs.Laws.{ExactlyOneLeaf, SomeLeaf, OneRebuilt, LeafNamesAreUnique, ContentAt, SameListing};
+ghost use Rattle.catalog.specs.Laws.{ExactlyOneLeaf, SomeLeaf, OneRebuilt, LeafNamesAreUnique, ContentAt, SameListing, OneCatalogueOfText, FaultyIsNotValid};
 ghost use Rattle.catalog.specs.Cells.{CellsAreFixed, CellsDecide};
 ghost use Rattle.catalog.specs.Item.{ItemIsValid, ItemFragments};
 ghost use Rattle.catalog.specs.Emp.{EmpIsValid, EmpFragments};
 
+use reader::read_conds::one_list_of_conds;
 use terms::test_values::{test_rows_suffice, test_values_fit};
 
 /// For every row that fits and every column outside the key exactly one leaf whose conditions hold
@@ -50,6 +51,18 @@ pub fn leaf_names_are_unique()
 pub fn contents_by_key()
     ensures content { ContentAt }
     ensures same { SameListing }
+{}
+
+/// A text is one of at most one catalogue.
+pub fn one_catalogue_of_text()
+    ensures { OneCatalogueOfText }
+{
+    one_list_of_conds();
+}
+
+/// A catalogue in which a gap or an overlap is the first is not valid.
+pub fn faulty_is_not_valid()
+    ensures { FaultyIsNotValid }
 {}
 
 /// A row split fixes its cells and their order.

@@ -18,7 +18,7 @@ use crate::fault::Rule;
 use crate::form::{some_items, texts_at};
 use crate::frame::Frame;
 use crate::split::Split;
-use crate::tree::{SPLITS, tree};
+use crate::tree::{Place, SPLITS};
 use meaning::schema::{Column, RelationSchema, Schema};
 use reader::word::is_name;
 use std::alloc::Global;
@@ -135,16 +135,14 @@ fn split(alloc: Global, sites: &[Text], columns: &[Column], node: &Value) -> Res
         sites,
         columns,
     };
+    let root = Place {
+        frame: &frame,
+        splits: SPLITS,
+        way: &[],
+        within: within.as_slice(),
+    };
     let mut leaves = 0;
-    tree(
-        &frame,
-        SPLITS,
-        &[],
-        within.as_slice(),
-        "columns",
-        node,
-        &mut leaves,
-    )
+    root.tree("columns", node, &mut leaves)
 }
 
 /// The places of the columns beside the key.

@@ -4,7 +4,7 @@ ghost use Rattle.std.specs.Prelude.{◌≡◌, ◌↔◌, map, IsTrue, IfOk, IfE
 ghost use Rattle.catalog.specs.Catalogue.{IsSiteName};
 ghost use Rattle.catalog.specs.Describes.{site_numbered};
 ghost use Rattle.catalog.specs.Sites as spec;
-ghost use Rattle.catalog.specs.Sites.{AreSites, RefusesSites, IsNextSite, RefusesSite};
+ghost use Rattle.catalog.specs.Sites.{AreSites, RefusesSites, IsNextSite, RefusesNextSite, IsSiteFault};
 
 use crate::fault::Rule;
 use reader::word::is_name;
@@ -37,7 +37,8 @@ pub(crate) fn sites(alloc: Global, texts: &[&str]) -> Result<Vec<Text>, Rule>
 fn next_site(alloc: Global, before: &[Text], text: &str) -> Result<Text, Rule>
     ensures found { IfOk result (λ site. site ≡ text.now) }
     ensures next { IfOk result (λ site. IsNextSite before.now site) }
-    ensures none { IfErr result (λ rule. RefusesSite before.now text.now rule) }
+    ensures none { IfErr result (λ rule. RefusesNextSite before.now text.now rule) }
+    ensures fault { IfErr result (λ rule. IsSiteFault before.now text.now rule) }
 {
     if !is_site_name(text) {
         return Err(Rule::Name);

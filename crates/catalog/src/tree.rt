@@ -4,7 +4,7 @@ ghost use Rattle.std.specs.Prelude.{◌≡◌, ◌≤◌, ◌+◌, ◌++◌, [],
 ghost use Rattle.std.specs.List.{AllByRecursion};
 ghost use Rattle.terms.specs.Cond.{IsCondOf};
 ghost use Rattle.toml.specs.View.{view};
-ghost use Rattle.catalog.specs.Below.{branches_seen, groups_seen, AreRows, AreCols, RefusesSite, RefusesRows, RefusesBranches, RefusesCols, RefusesGroups};
+ghost use Rattle.catalog.specs.Below.{branches_seen, groups_seen, AreRows, AreCols, RefusesSite, IsLeafFault, RefusesRows, RefusesBranches, RefusesCols, RefusesGroups};
 ghost use Rattle.catalog.specs.Describes.{kinds_in, site_numbered, in_order, Describes, AreBranches, AreGroups};
 ghost use Rattle.catalog.specs.Frame.{frame_of};
 ghost use Rattle.catalog.specs.Path.{paths, paths_by_rows, paths_by_cols, branch_conds, group_columns};
@@ -17,7 +17,6 @@ use crate::fault::Rule;
 use crate::form::{Form, form_of_node};
 use crate::frame::{Frame, in_order};
 use crate::groups::named_columns;
-use crate::laws::cells_decide;
 use crate::split::{Branch, Group, Split};
 use crate::wheres::{branch_conds, require_exact};
 use reader::read_conds::one_list_of_conds;
@@ -34,246 +33,228 @@ pub const LEAVES: usize = 32;
 /// The most splits on the way to a leaf.
 pub const SPLITS: usize = 4;
 
-/// The tree that a node describes, below these conditions, within these columns, with at most so many
-/// splits on a way; beside the key of its split the node has the one that its place asks for. The
-/// leaves are counted on.
-#[cycle(nodes)]
-pub(crate) fn tree(
-    frame: &Frame<'_>,
-    splits: usize,
-    way: &[Cond],
-    within: &[usize],
-    beside: &str,
-    node: &Value,
-    leaves: &mut usize,
-) -> Result<Split, Rule>
-    requires way_fits { AllByRecursion (IsCondOf (kinds_in (frame_of frame.now))) way.now }
-    requires few_leaves { leaves.old ≤ 32 }
-    ensures found { IfOk result (λ split. Describes (frame_of frame.now) splits way.now within.now beside.now (view node.now) (tree_of split)) }
-    ensures valid { IfOk result (λ split. IsValidWithin (kinds_in (frame_of frame.now)) way.now within.now (tree_of split)) }
-    ensures counted { IfOk result (λ split. leaves.new ≡ leaves.old + length (paths (tree_of split))) }
-    ensures few { IfOk result (λ split. leaves.new ≤ 32) }
-    ensures none { IfErr result (λ rule. Refuses (frame_of frame.now) splits way.now within.now beside.now (view node.now) leaves.old rule) }
-{
-    match form_of_node(beside, node) {
-        Form::AtSite(name) => Ok(Split::Leaf(site(frame, name, leaves)?)),
-        Form::ByRows(nodes) => {
-            let branches = by_rows(frame, splits, way, within, nodes, leaves)?;
-            Ok(Split::ByRows(branches))
+/// A place in a fragment tree: what a node there may speak of.
+#[derive(Clone, Copy)]
+pub(crate) struct Place<'a> {
+    pub frame: &'a Frame<'a>,
+    /// How many splits there may be on a way from here.
+    pub splits: usize,
+    /// The conditions on the way to here.
+    pub way: &'a [Cond],
+    /// The columns beside the key that are left here.
+    pub within: &'a [usize],
+}
+
+impl<'a> Place<'a> {
+    /// The tree that a node describes here; beside the key of its split the node has the one that its
+    /// place asks for. The leaves are counted on.
+    #[cycle(nodes)]
+    pub(crate) fn tree(
+        &self,
+        beside: &str,
+        node: &Value,
+        leaves: &mut usize,
+    ) -> Result<Split, Rule>
+        requires way_fits { AllByRecursion (IsCondOf (kinds_in (frame_of self.now.frame.now))) self.now.way.now }
+        requires few_leaves { leaves.old ≤ 32 }
+        ensures found { IfOk result (λ split. Describes (frame_of self.now.frame.now) self.now.splits self.now.way.now self.now.within.now beside.now (view node.now) (tree_of split)) }
+        ensures valid { IfOk result (λ split. IsValidWithin (kinds_in (frame_of self.now.frame.now)) self.now.way.now self.now.within.now (tree_of split)) }
+        ensures counted { IfOk result (λ split. leaves.new ≡ leaves.old + length (paths (tree_of split))) }
+        ensures few { IfOk result (λ split. leaves.new ≤ 32) }
+        ensures none { IfErr result (λ rule. Refuses (frame_of self.now.frame.now) self.now.splits self.now.way.now self.now.within.now beside.now (view node.now) leaves.old rule) }
+    {
+        match form_of_node(beside, node) {
+            Form::AtSite(name) => Ok(Split::Leaf(self.site(name, leaves)?)),
+            Form::ByRows(nodes) => {
+                let branches = self.by_rows(nodes, leaves)?;
+                Ok(Split::ByRows(branches))
+            }
+            Form::ByCols(nodes) => {
+                let groups = self.by_cols(nodes, leaves)?;
+                Ok(Split::ByCols(groups))
+            }
+            Form::Ill => Err(Rule::Field),
         }
-        Form::ByCols(nodes) => {
-            let groups = by_cols(frame, splits, way, within, nodes, leaves)?;
-            Ok(Split::ByCols(groups))
+    }
+
+    /// The site of this name, where one leaf more is.
+    fn site(&self, name: &str, leaves: &mut usize) -> Result<usize, Rule>
+        requires few_leaves { leaves.old ≤ 32 }
+        ensures found { IfOk result (λ site. site_numbered (frame_of self.now.frame.now).sites name.now ≡ Some site) }
+        ensures counted { IfOk result (λ site. leaves.new ≡ leaves.old + 1) }
+        ensures few { IfOk result (λ site. leaves.new ≤ 32) }
+        ensures none { IfErr result (λ rule. RefusesSite (frame_of self.now.frame.now) name.now leaves.old rule) }
+        ensures fault { IfErr result (λ rule. IsLeafFault (frame_of self.now.frame.now) name.now leaves.old rule) }
+    {
+        let Some(site) = self.frame.site(name) else {
+            return Err(Rule::NoSite);
+        };
+        if *leaves >= LEAVES {
+            return Err(Rule::Limit);
         }
-        Form::Ill => Err(Rule::Field),
+        *leaves += 1;
+        Ok(site)
     }
-}
 
-/// The site of this name, where one leaf more is.
-fn site(frame: &Frame<'_>, name: &str, leaves: &mut usize) -> Result<usize, Rule>
-    requires few_leaves { leaves.old ≤ 32 }
-    ensures found { IfOk result (λ site. site_numbered (frame_of frame.now).sites name.now ≡ Some site) }
-    ensures counted { IfOk result (λ site. leaves.new ≡ leaves.old + 1) }
-    ensures few { IfOk result (λ site. leaves.new ≤ 32) }
-    ensures none { IfErr result (λ rule. RefusesSite (frame_of frame.now) name.now leaves.old rule) }
-{
-    let Some(site) = frame.site(name) else {
-        return Err(Rule::NoSite);
-    };
-    if *leaves >= LEAVES {
-        return Err(Rule::Limit);
+    /// The branches of a split by rows: the conditions of all first, then the cells, then what is below.
+    #[cycle(nodes)]
+    fn by_rows(&self, nodes: &[Value], leaves: &mut usize) -> Result<Vec<Branch>, Rule>
+        requires way_fits { AllByRecursion (IsCondOf (kinds_in (frame_of self.now.frame.now))) self.now.way.now }
+        requires few_leaves { leaves.old ≤ 32 }
+        ensures found { IfOk result (λ branches. AreRows (frame_of self.now.frame.now) self.now.splits self.now.way.now self.now.within.now (map view nodes.now) (branches_seen branches.items)) }
+        ensures valid { IfOk result (λ branches. IsValidWithin (kinds_in (frame_of self.now.frame.now)) self.now.way.now self.now.within.now (spec.ByRows (branches_seen branches.items))) }
+        ensures counted { IfOk result (λ branches. leaves.new ≡ leaves.old + length (paths_by_rows (branches_seen branches.items))) }
+        ensures few { IfOk result (λ branches. leaves.new ≤ 32) }
+        ensures none { IfErr result (λ rule. RefusesRows (frame_of self.now.frame.now) self.now.splits self.now.way.now self.now.within.now (map view nodes.now) leaves.old rule) }
+    {
+        // What a refusal says rests on this law.
+        one_list_of_conds();
+        if self.splits == 0 {
+            return Err(Rule::Limit);
+        }
+        let conds = branch_conds(self.frame, self.within, nodes)?;
+        require_exact(self.frame, self.way, conds.as_slice())?;
+        let below = Place {
+            frame: self.frame,
+            splits: self.splits - 1,
+            way: self.way,
+            within: self.within,
+        };
+        below.branches(nodes, conds.as_slice(), leaves)
     }
-    *leaves += 1;
-    Ok(site)
-}
 
-/// The branches of a split by rows: the conditions of all first, then the cells, then what is below.
-#[cycle(nodes)]
-fn by_rows(
-    frame: &Frame<'_>,
-    splits: usize,
-    way: &[Cond],
-    within: &[usize],
-    nodes: &[Value],
-    leaves: &mut usize,
-) -> Result<Vec<Branch>, Rule>
-    requires way_fits { AllByRecursion (IsCondOf (kinds_in (frame_of frame.now))) way.now }
-    requires few_leaves { leaves.old ≤ 32 }
-    ensures found { IfOk result (λ branches. AreRows (frame_of frame.now) splits way.now within.now (map view nodes.now) (branches_seen branches.items)) }
-    ensures valid { IfOk result (λ branches. IsValidWithin (kinds_in (frame_of frame.now)) way.now within.now (spec.ByRows (branches_seen branches.items))) }
-    ensures counted { IfOk result (λ branches. leaves.new ≡ leaves.old + length (paths_by_rows (branches_seen branches.items))) }
-    ensures few { IfOk result (λ branches. leaves.new ≤ 32) }
-    ensures none { IfErr result (λ rule. RefusesRows (frame_of frame.now) splits way.now within.now (map view nodes.now) leaves.old rule) }
-{
-    // A refusal rests on these two laws.
-    one_list_of_conds();
-    cells_decide();
-    if splits == 0 {
-        return Err(Rule::Limit);
+    /// The branches with these conditions.
+    #[cycle(nodes)]
+    fn branches(
+        &self,
+        nodes: &[Value],
+        conds: &[Conds],
+        leaves: &mut usize,
+    ) -> Result<Vec<Branch>, Rule>
+        requires way_fits { AllByRecursion (IsCondOf (kinds_in (frame_of self.now.frame.now))) self.now.way.now }
+        requires conds_fit { AllByRecursion (λ cs. AllByRecursion (IsCondOf (kinds_in (frame_of self.now.frame.now))) cs) conds.now }
+        requires same_length { length conds.now ≡ length nodes.now }
+        requires few_leaves { leaves.old ≤ 32 }
+        ensures found { IfOk result (λ branches. AreBranches (frame_of self.now.frame.now) self.now.splits self.now.way.now self.now.within.now (map view nodes.now) (branches_seen branches.items)) }
+        ensures conds { IfOk result (λ branches. branch_conds (branches_seen branches.items) ≡ conds.now) }
+        ensures valid { IfOk result (λ branches. AreValidBranches (kinds_in (frame_of self.now.frame.now)) self.now.way.now self.now.within.now (branches_seen branches.items)) }
+        ensures counted { IfOk result (λ branches. leaves.new ≡ leaves.old + length (paths_by_rows (branches_seen branches.items))) }
+        ensures few { IfOk result (λ branches. leaves.new ≤ 32) }
+        ensures none { IfErr result (λ rule. RefusesBranches (frame_of self.now.frame.now) self.now.splits self.now.way.now self.now.within.now (map view nodes.now) conds.now leaves.old rule) }
+    {
+        one_list_of_conds();
+        let mut branches = Vec::new(self.frame.alloc);
+        for i in 0..nodes.len() {
+            let next = self.branch(&nodes[i], &conds[i], leaves)?;
+            branches.push(next)?;
+        }
+        Ok(branches)
     }
-    let conds = branch_conds(frame, within, nodes)?;
-    require_exact(frame, way, conds.as_slice())?;
-    branches(
-        frame,
-        splits - 1,
-        way,
-        within,
-        nodes,
-        conds.as_slice(),
-        leaves,
-    )
-}
 
-/// The branches with these conditions.
-#[cycle(nodes)]
-fn branches(
-    frame: &Frame<'_>,
-    splits: usize,
-    way: &[Cond],
-    within: &[usize],
-    nodes: &[Value],
-    conds: &[Conds],
-    leaves: &mut usize,
-) -> Result<Vec<Branch>, Rule>
-    requires way_fits { AllByRecursion (IsCondOf (kinds_in (frame_of frame.now))) way.now }
-    requires conds_fit { AllByRecursion (λ cs. AllByRecursion (IsCondOf (kinds_in (frame_of frame.now))) cs) conds.now }
-    requires same_length { length conds.now ≡ length nodes.now }
-    requires few_leaves { leaves.old ≤ 32 }
-    ensures found { IfOk result (λ branches. AreBranches (frame_of frame.now) splits way.now within.now (map view nodes.now) (branches_seen branches.items)) }
-    ensures conds { IfOk result (λ branches. branch_conds (branches_seen branches.items) ≡ conds.now) }
-    ensures valid { IfOk result (λ branches. AreValidBranches (kinds_in (frame_of frame.now)) way.now within.now (branches_seen branches.items)) }
-    ensures counted { IfOk result (λ branches. leaves.new ≡ leaves.old + length (paths_by_rows (branches_seen branches.items))) }
-    ensures few { IfOk result (λ branches. leaves.new ≤ 32) }
-    ensures none { IfErr result (λ rule. RefusesBranches (frame_of frame.now) splits way.now within.now (map view nodes.now) conds.now leaves.old rule) }
-{
-    let mut branches = Vec::new(frame.alloc);
-    for i in 0..nodes.len() {
-        let next = branch(frame, splits, way, within, &nodes[i], &conds[i], leaves)?;
-        branches.push(next)?;
+    /// A branch with these conditions.
+    #[cycle(nodes)]
+    fn branch(&self, node: &Value, conds: &Conds, leaves: &mut usize) -> Result<Branch, Rule>
+        requires way_fits { AllByRecursion (IsCondOf (kinds_in (frame_of self.now.frame.now))) self.now.way.now }
+        requires conds_fit { AllByRecursion (IsCondOf (kinds_in (frame_of self.now.frame.now))) conds.now }
+        requires few_leaves { leaves.old ≤ 32 }
+        ensures found { IfOk result (λ branch. Describes (frame_of self.now.frame.now) self.now.splits (self.now.way.now ++ conds.now) self.now.within.now (codes "where") (view node.now) (tree_branch branch).tree) }
+        ensures conds { IfOk result (λ branch. (tree_branch branch).conds ≡ conds.now) }
+        ensures valid { IfOk result (λ branch. IsValidWithin (kinds_in (frame_of self.now.frame.now)) (self.now.way.now ++ conds.now) self.now.within.now (tree_branch branch).tree) }
+        ensures counted { IfOk result (λ branch. leaves.new ≡ leaves.old + length (paths (tree_branch branch).tree)) }
+        ensures few { IfOk result (λ branch. leaves.new ≤ 32) }
+        ensures none { IfErr result (λ rule. Refuses (frame_of self.now.frame.now) self.now.splits (self.now.way.now ++ conds.now) self.now.within.now (codes "where") (view node.now) leaves.old rule) }
+    {
+        let longer = joined(self.frame.alloc, self.way, conds.as_slice())?;
+        let below = Place {
+            frame: self.frame,
+            splits: self.splits,
+            way: longer.as_slice(),
+            within: self.within,
+        };
+        let split = below.tree("where", node, leaves)?;
+        let conds = conds.copy()?;
+        Ok(Branch { conds, split })
     }
-    Ok(branches)
-}
 
-/// A branch with these conditions.
-#[cycle(nodes)]
-fn branch(
-    frame: &Frame<'_>,
-    splits: usize,
-    way: &[Cond],
-    within: &[usize],
-    node: &Value,
-    conds: &Conds,
-    leaves: &mut usize,
-) -> Result<Branch, Rule>
-    requires way_fits { AllByRecursion (IsCondOf (kinds_in (frame_of frame.now))) way.now }
-    requires conds_fit { AllByRecursion (IsCondOf (kinds_in (frame_of frame.now))) conds.now }
-    requires few_leaves { leaves.old ≤ 32 }
-    ensures found { IfOk result (λ branch. Describes (frame_of frame.now) splits (way.now ++ conds.now) within.now (codes "where") (view node.now) (tree_branch branch).tree) }
-    ensures conds { IfOk result (λ branch. (tree_branch branch).conds ≡ conds.now) }
-    ensures valid { IfOk result (λ branch. IsValidWithin (kinds_in (frame_of frame.now)) (way.now ++ conds.now) within.now (tree_branch branch).tree) }
-    ensures counted { IfOk result (λ branch. leaves.new ≡ leaves.old + length (paths (tree_branch branch).tree)) }
-    ensures few { IfOk result (λ branch. leaves.new ≤ 32) }
-    ensures none { IfErr result (λ rule. Refuses (frame_of frame.now) splits (way.now ++ conds.now) within.now (codes "where") (view node.now) leaves.old rule) }
-{
-    let longer = joined(frame.alloc, way, conds.as_slice())?;
-    let split = tree(
-        frame,
-        splits,
-        longer.as_slice(),
-        within,
-        "where",
-        node,
-        leaves,
-    )?;
-    let conds = conds.copy()?;
-    Ok(Branch { conds, split })
-}
-
-/// The groups of a split by columns: the names of all first, then what is below.
-#[cycle(nodes)]
-fn by_cols(
-    frame: &Frame<'_>,
-    splits: usize,
-    way: &[Cond],
-    within: &[usize],
-    nodes: &[Value],
-    leaves: &mut usize,
-) -> Result<Vec<Group>, Rule>
-    requires way_fits { AllByRecursion (IsCondOf (kinds_in (frame_of frame.now))) way.now }
-    requires few_leaves { leaves.old ≤ 32 }
-    ensures found { IfOk result (λ groups. AreCols (frame_of frame.now) splits way.now within.now (map view nodes.now) (groups_seen groups.items)) }
-    ensures valid { IfOk result (λ groups. IsValidWithin (kinds_in (frame_of frame.now)) way.now within.now (spec.ByCols (groups_seen groups.items))) }
-    ensures counted { IfOk result (λ groups. leaves.new ≡ leaves.old + length (paths_by_cols [] (groups_seen groups.items))) }
-    ensures few { IfOk result (λ groups. leaves.new ≤ 32) }
-    ensures none { IfErr result (λ rule. RefusesCols (frame_of frame.now) splits way.now within.now (map view nodes.now) leaves.old rule) }
-{
-    if splits == 0 {
-        return Err(Rule::Limit);
+    /// The groups of a split by columns: the names of all first, then what is below.
+    #[cycle(nodes)]
+    fn by_cols(&self, nodes: &[Value], leaves: &mut usize) -> Result<Vec<Group>, Rule>
+        requires way_fits { AllByRecursion (IsCondOf (kinds_in (frame_of self.now.frame.now))) self.now.way.now }
+        requires few_leaves { leaves.old ≤ 32 }
+        ensures found { IfOk result (λ groups. AreCols (frame_of self.now.frame.now) self.now.splits self.now.way.now self.now.within.now (map view nodes.now) (groups_seen groups.items)) }
+        ensures valid { IfOk result (λ groups. IsValidWithin (kinds_in (frame_of self.now.frame.now)) self.now.way.now self.now.within.now (spec.ByCols (groups_seen groups.items))) }
+        ensures counted { IfOk result (λ groups. leaves.new ≡ leaves.old + length (paths_by_cols [] (groups_seen groups.items))) }
+        ensures few { IfOk result (λ groups. leaves.new ≤ 32) }
+        ensures none { IfErr result (λ rule. RefusesCols (frame_of self.now.frame.now) self.now.splits self.now.way.now self.now.within.now (map view nodes.now) leaves.old rule) }
+    {
+        if self.splits == 0 {
+            return Err(Rule::Limit);
+        }
+        let named = named_columns(self.frame, self.within, nodes)?;
+        let below = Place {
+            frame: self.frame,
+            splits: self.splits - 1,
+            way: self.way,
+            within: self.within,
+        };
+        below.groups(nodes, named.as_slice(), leaves)
     }
-    let named = named_columns(frame, within, nodes)?;
-    groups(
-        frame,
-        splits - 1,
-        way,
-        within,
-        nodes,
-        named.as_slice(),
-        leaves,
-    )
-}
 
-/// The groups that name these columns.
-#[cycle(nodes)]
-fn groups(
-    frame: &Frame<'_>,
-    splits: usize,
-    way: &[Cond],
-    within: &[usize],
-    nodes: &[Value],
-    named: &[Seq<usize>],
-    leaves: &mut usize,
-) -> Result<Vec<Group>, Rule>
-    requires way_fits { AllByRecursion (IsCondOf (kinds_in (frame_of frame.now))) way.now }
-    requires same_length { length named.now ≡ length nodes.now }
-    requires few_leaves { leaves.old ≤ 32 }
-    ensures found { IfOk result (λ groups. AreGroups (frame_of frame.now) splits way.now (map view nodes.now) (groups_seen groups.items)) }
-    ensures columns { IfOk result (λ groups. group_columns (groups_seen groups.items) ≡ map (in_order within.now) named.now) }
-    ensures valid { IfOk result (λ groups. AreValidGroups (kinds_in (frame_of frame.now)) way.now (groups_seen groups.items)) }
-    ensures counted { IfOk result (λ groups. leaves.new ≡ leaves.old + length (paths_by_cols [] (groups_seen groups.items))) }
-    ensures few { IfOk result (λ groups. leaves.new ≤ 32) }
-    ensures none { IfErr result (λ rule. RefusesGroups (frame_of frame.now) splits way.now (map view nodes.now) (map (in_order within.now) named.now) leaves.old rule) }
-{
-    let mut groups = Vec::new(frame.alloc);
-    for i in 0..nodes.len() {
-        let columns = in_order(frame.alloc, within, named[i].as_slice())?;
-        let next = group(frame, splits, way, &nodes[i], columns, leaves)?;
-        groups.push(next)?;
+    /// The groups that name these columns.
+    #[cycle(nodes)]
+    fn groups(
+        &self,
+        nodes: &[Value],
+        named: &[Seq<usize>],
+        leaves: &mut usize,
+    ) -> Result<Vec<Group>, Rule>
+        requires way_fits { AllByRecursion (IsCondOf (kinds_in (frame_of self.now.frame.now))) self.now.way.now }
+        requires same_length { length named.now ≡ length nodes.now }
+        requires few_leaves { leaves.old ≤ 32 }
+        ensures found { IfOk result (λ groups. AreGroups (frame_of self.now.frame.now) self.now.splits self.now.way.now (map view nodes.now) (groups_seen groups.items)) }
+        ensures columns { IfOk result (λ groups. group_columns (groups_seen groups.items) ≡ map (in_order self.now.within.now) named.now) }
+        ensures valid { IfOk result (λ groups. AreValidGroups (kinds_in (frame_of self.now.frame.now)) self.now.way.now (groups_seen groups.items)) }
+        ensures counted { IfOk result (λ groups. leaves.new ≡ leaves.old + length (paths_by_cols [] (groups_seen groups.items))) }
+        ensures few { IfOk result (λ groups. leaves.new ≤ 32) }
+        ensures none { IfErr result (λ rule. RefusesGroups (frame_of self.now.frame.now) self.now.splits self.now.way.now (map view nodes.now) (map (in_order self.now.within.now) named.now) leaves.old rule) }
+    {
+        one_list_of_conds();
+        let mut groups = Vec::new(self.frame.alloc);
+        for i in 0..nodes.len() {
+            let columns = in_order(self.frame.alloc, self.within, named[i].as_slice())?;
+            let next = self.group(&nodes[i], columns, leaves)?;
+            groups.push(next)?;
+        }
+        Ok(groups)
     }
-    Ok(groups)
-}
 
-/// A group of these columns.
-#[cycle(nodes)]
-fn group(
-    frame: &Frame<'_>,
-    splits: usize,
-    way: &[Cond],
-    node: &Value,
-    columns: Vec<usize>,
-    leaves: &mut usize,
-) -> Result<Group, Rule>
-    requires way_fits { AllByRecursion (IsCondOf (kinds_in (frame_of frame.now))) way.now }
-    requires few_leaves { leaves.old ≤ 32 }
-    ensures found { IfOk result (λ group. Describes (frame_of frame.now) splits way.now columns.items (codes "of") (view node.now) (tree_group group).tree) }
-    ensures columns { IfOk result (λ group. (tree_group group).columns ≡ columns.items) }
-    ensures valid { IfOk result (λ group. IsValidWithin (kinds_in (frame_of frame.now)) way.now columns.items (tree_group group).tree) }
-    ensures counted { IfOk result (λ group. leaves.new ≡ leaves.old + length (paths (tree_group group).tree)) }
-    ensures few { IfOk result (λ group. leaves.new ≤ 32) }
-    ensures none { IfErr result (λ rule. Refuses (frame_of frame.now) splits way.now columns.items (codes "of") (view node.now) leaves.old rule) }
-{
-    let split = tree(frame, splits, way, columns.as_slice(), "of", node, leaves)?;
-    let columns = Seq::new(columns);
-    Ok(Group { columns, split })
+    /// A group of these columns.
+    #[cycle(nodes)]
+    fn group(
+        &self,
+        node: &Value,
+        columns: Vec<usize>,
+        leaves: &mut usize,
+    ) -> Result<Group, Rule>
+        requires way_fits { AllByRecursion (IsCondOf (kinds_in (frame_of self.now.frame.now))) self.now.way.now }
+        requires few_leaves { leaves.old ≤ 32 }
+        ensures found { IfOk result (λ group. Describes (frame_of self.now.frame.now) self.now.splits self.now.way.now columns.items (codes "of") (view node.now) (tree_group group).tree) }
+        ensures columns { IfOk result (λ group. (tree_group group).columns ≡ columns.items) }
+        ensures valid { IfOk result (λ group. IsValidWithin (kinds_in (frame_of self.now.frame.now)) self.now.way.now columns.items (tree_group group).tree) }
+        ensures counted { IfOk result (λ group. leaves.new ≡ leaves.old + length (paths (tree_group group).tree)) }
+        ensures few { IfOk result (λ group. leaves.new ≤ 32) }
+        ensures none { IfErr result (λ rule. Refuses (frame_of self.now.frame.now) self.now.splits self.now.way.now columns.items (codes "of") (view node.now) leaves.old rule) }
+    {
+        let below = Place {
+            frame: self.frame,
+            splits: self.splits,
+            way: self.way,
+            within: columns.as_slice(),
+        };
+        let split = below.tree("of", node, leaves)?;
+        let columns = Seq::new(columns);
+        Ok(Group { columns, split })
+    }
 }
 
 /// The conditions, and more behind them.

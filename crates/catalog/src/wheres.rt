@@ -9,7 +9,9 @@ ghost use Rattle.reader.specs.Scope.{types};
 ghost use Rattle.catalog.specs.Describes.{kinds_in, Each, IsWhereOn, IsWhere, HasFewCells, visible};
 ghost use Rattle.catalog.specs.Frame.{frame_of};
 ghost use Rattle.catalog.specs.Refuses as spec;
-ghost use Rattle.catalog.specs.Refuses.{RefusesWhere, RefusesConds, RefusesSplit, shown_here, shown_from};
+ghost use Rattle.catalog.specs.Inexact as inexact;
+ghost use Rattle.catalog.specs.Inexact.{shown_here, shown_from};
+ghost use Rattle.catalog.specs.Refuses.{RefusesWhere, RefusesConds, RefusesSplit};
 ghost use Rattle.catalog.specs.Valid.{AreExact};
 
 use crate::exact::{Exactness, conds_of_split, try_cells};
@@ -148,7 +150,7 @@ fn push_shown(
 }
 
 fn is_named_by(conds: &[Cond], place: usize) -> bool
-    ensures { result ≡ spec.is_named_by conds.now place }
+    ensures { result ≡ inexact.is_named_by conds.now place }
 {
     conds.iter().any(|cond| cond.col == place)
 }

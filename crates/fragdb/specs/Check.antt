@@ -75,5 +75,5 @@ IsWriteFault (Refused fault) = ⊥
 -- the check of a file of these bytes: all is said of it, or it is refused and nothing is said, or something stopped the check
 abbrev pub ChecksFile : Bor (List ℕ) → List ℕ → Option (List ℕ) → Option (List ℕ) → Result Unit CatalogFault → Type 0
 ChecksFile file bytes old new (Ok done) = IsChecked old new bytes
-ChecksFile file bytes old new (Err (Refused fault)) = RefusesFile bytes fault.rule × Keeps old new
+ChecksFile file bytes old new (Err (Refused fault)) = RefusesFile bytes fault.relation fault.rule × Keeps old new
 ChecksFile file bytes old new (Err (Program fault)) = (IsOfInput file fault ⊎ (fault ≡ CannotWrite)) × (IsFileOfNoneValid bytes → Keeps old new)

@@ -6,9 +6,9 @@ use Rattle.toml.specs.View.{view, members_view}
 use Rattle.catalog.specs.declared.fault.Rule.TheVariants.{Memory}
 use Rattle.catalog.specs.Catalogue.{SplitRelation, IsRelationIn, IsValidRelation, entries}
 use Rattle.catalog.specs.Describes.{Each}
-use Rattle.catalog.specs.Document.{RefusesRelations}
+use Rattle.catalog.specs.Document.{RefusesRelations, TellsRelation}
 use Rattle.catalog.specs.Relation.{RefusesRelation, relation_of}
-use Rattle.catalog.proofs.Entries.{Entry, entries_both, each_last, all_last, refuses_all, same_or_memory}
+use Rattle.catalog.proofs.Entries.{Entry, entries_both, each_last, all_last, refuses_all, same_or_memory, told_or_memory}
 use Rattle.catalog.proofs.catalogue.relations.Goals as goal
 
 pub loop-name-preserved : goal.loop-name-preserved
@@ -45,4 +45,18 @@ returns-in-Err-clause-none c =
     let R : List ℕ → Type 0 = λ own. ((c.in_relation.result.rule ≡ c.in-Err.rule) × (c.in_relation.result.relation ≡ Some own)) ⊎ (c.in_relation.result.rule ≡ Memory) in
     let Q : List (List ℕ × Data) → Type 0 = λ said. RefusesRelations c.args.sites.now said (Some name) c.in-Err.rule in
     same_or_memory c.args.sites.now _ name c.in-Err.rule c.in_relation.result.relation c.in_relation.result.rule (subst R c.as_str-in-Err.ensures.value c.in_relation.ensures)
-    (subst Q (sym (ap (λ es. entries (members_view es)) all ∙ entries_both done e left)) (refuses_all c.args.sites.now (entries (members_view done)) (entries (members_view left)) _ c.in-Err.rule here))
+    (subst Q (sym (ap (λ es. entries (members_view es)) all ∙ entries_both done e left)) (refuses_all c.one_list_of_conds.ensures c.args.sites.now (entries (members_view done)) (entries (members_view left)) _ c.in-Err.rule (map relation_of l.relations.items) l.invariant.2 l.invariant.3 here))
+
+pub returns-in-Err-clause-told : goal.returns-in-Err-clause-told
+returns-in-Err-clause-told c =
+    let l = c.loop-name in
+    let done = l.invariant.0 in
+    let e : Entry = (c.in-Some.name.now, c.in-Some.node.now) in
+    let left = c.next.new.self in
+    let all : c.args.table.now.entries ≡ done ++ e ∷ left = l.invariant.1 ∙ ap (λ es. done ++ es) c.in-Some.ensures.steps in
+    let P : List ℕ → Type 0 = λ name. RefusesRelation c.args.sites.now (name, view c.in-Some.node.now) c.in-Err.rule in
+    let here : RefusesRelation c.args.sites.now (string_bytes c.in-Some.name.now, view c.in-Some.node.now) c.in-Err.rule = subst P c.as_str.ensures.value c.in-Err.ensures.none in
+    let R : List ℕ → Type 0 = λ own. ((c.in_relation.result.rule ≡ c.in-Err.rule) × (c.in_relation.result.relation ≡ Some own)) ⊎ (c.in_relation.result.rule ≡ Memory) in
+    let Q : List (List ℕ × Data) → Type 0 = λ said. TellsRelation c.args.sites.now said c.in_relation.result.relation c.in_relation.result.rule in
+    subst Q (sym (ap (λ es. entries (members_view es)) all ∙ entries_both done e left))
+    (told_or_memory c.args.sites.now (entries (members_view done)) (entries (members_view left)) _ c.in-Err.rule c.in_relation.result.relation c.in_relation.result.rule (subst R c.as_str-in-Err.ensures.value c.in_relation.ensures) here)

@@ -4,7 +4,7 @@ use Rattle.std.proofs.lemmas.Result.{err_from_is_err_and}
 use Rattle.meaning.specs.declared.schema.Column.{Column}
 use Rattle.catalog.specs.Catalogue.{IsColumnText}
 use Rattle.catalog.specs.Describes.{Each}
-use Rattle.catalog.specs.Columns.{has_column, RefusesRelation}
+use Rattle.catalog.specs.Columns.{has_column, RefusesFit}
 use Rattle.catalog.proofs.Pairs.{each_next}
 use Rattle.catalog.proofs.ColumnTexts.{next_of_columns, refuses_columns, refuses_relation, distinct_column}
 use Rattle.catalog.proofs.column_texts.columns.Goals as goal
@@ -29,7 +29,7 @@ returns-in_err-column-clause-none c =
 pub returns-in_err-require_relation-clause-none : goal.returns-in_err-require_relation-clause-none
 returns-in_err-require_relation-clause-none c =
     let p = err_from_is_err_and c.from_residual-in_err-require_relation.result c.from_residual-in_err-require_relation.ensures.1 in
-    let P : List Column → Type 0 = λ columns. RefusesRelation columns c.in_err-require_relation.field-0.0 in
+    let P : List Column → Type 0 = λ columns. RefusesFit columns c.in_err-require_relation.field-0.0 in
     let Q : List _ → Type 0 = λ texts. Each IsColumnText (map (λ text. text.now) texts) c.loop-text.columns.items in
     rw (p.1, p.2) (refuses_relation (map (λ text. text.now) c.args.texts.now) c.loop-text.columns.items c.in_err-require_relation.field-0.0
     (subst Q (take_all c.loop-text.text-index c.args.texts.now c.loop-text-test.false) c.loop-text.invariant.each) (subst P c.as_slice-2.ensures.value c.in_err-require_relation.ensures.none))

@@ -15,3 +15,7 @@ returns-then-has_column-clause-none c = λ column next.
     let so = named_so c.args.before.now c.args.text.now c.in-Some.name.now c.in-Some.kind column c.in-Some.ensures.some next in
     let both : true ≡ false = sym c.if-has_column.true ∙ c.has_column.ensures ∙ so.1 in
     cc
+
+pub returns-then-has_column-clause-fault : goal.returns-then-has_column-clause-fault
+returns-then-has_column-clause-fault c =
+    (record { name = c.in-Some.name.now; kind = c.in-Some.kind }, record { spelled = c.in-Some.ensures.some; name = subst IsName c.as_bytes.ensures.value (c.is_name.ensures.0 c.if-not-is_name.false) }, sym c.has_column.ensures ∙ c.if-has_column.true)

@@ -1,5 +1,5 @@
 use Rattle.std.proofs.Common.{◌≡◌, ◌++◌, drop}
-use Rattle.catalog.specs.Refuses.{shown_from}
+use Rattle.catalog.specs.Inexact.{shown_from}
 use Rattle.catalog.proofs.wheres.shown_values.Given as goal
 
 -- what is shown so far and what is shown of the columns that are left is what is shown of all
