@@ -75,3 +75,9 @@ leaves_fit catalogue name formed = at (relation_named name catalogue.relations) 
         AllByRecursion (λ leaf. AllByRecursion (IsCondOf (kinds_found found)) leaf.conds) (leaves_in found)
     at None each = tt
     at (Some relation) each = conds_of_leaves catalogue.sites (kinds_of relation.schema) (catalog.leaves_of relation) (each relation formed.relations refl).leaves
+
+-- the same of types and leaves that are those of the name
+pub leaves_fit_at : (catalogue : Catalogue) (name : List ℕ) (types : List Kind) (leaves : List FragmentLeaf) → IsFormed catalogue → types ≡ kinds_in catalogue name → leaves ≡ leaves_of catalogue name → AllByRecursion (λ leaf. AllByRecursion (IsCondOf types) leaf.conds) leaves
+leaves_fit_at catalogue name types leaves formed kinds_is leaves_is =
+    let P : List Kind → List FragmentLeaf → Type 0 = λ all ls. AllByRecursion (λ leaf. AllByRecursion (IsCondOf all) leaf.conds) ls in
+    subst (λ ls. P types ls) (sym leaves_is) (subst (λ all. P all (leaves_of catalogue name)) (sym kinds_is) (leaves_fit catalogue name formed))
