@@ -1,20 +1,24 @@
 -- Lemmas on what is said of a catalogue.
-use Rattle.std.proofs.Common.{◌≡◌, ℕ, ◌+◌, ◌<◌, codes, List, [], ◌∷◌, ◌++◌, length, take, get_or, Option, Some, None, IfSome, append_assoc, ap, refl, ◌∙◌, arith}
+use Rattle.std.proofs.Common.{◌≡◌, ℕ, ◌+◌, ◌<◌, codes, List, [], ◌∷◌, ◌++◌, length, take, get_or, Option, Some, None, Result, Ok, Err, inl, inr, IfErr, IfSome, OnOk, subst, append_assoc, ap, refl, ◌∙◌, arith}
+use Rattle.std.specs.Borrow.{Bor}
 use Rattle.std.specs.Fmt.{decimal}
+use Rattle.std.specs.Io.KnownBytes.{Appends}
 use Rattle.std.specs.List.{flat_map}
 use Rattle.std.proofs.lemmas.Grind.{common_steps}
 use Rattle.catalog.specs.Catalogue.{Catalogue, IsValidCatalogue}
-use Rattle.fragdb.specs.CatalogFile.{IsCatalogueFile, IsFileOfNoneValid}
-use Rattle.fragdb.specs.Check.{IsChecked, counts_text}
+use Rattle.fragdb.specs.declared.catalog_file.CatalogFault.{CatalogFault}
+use Rattle.fragdb.specs.declared.catalog_file.CatalogFault.TheVariants.{Program, Refused}
+use Rattle.fragdb.specs.CatalogFile.{IsCatalogueFile}
+use Rattle.fragdb.specs.Check.{ChecksFile, IsWriteFault, check_text, counts_text}
 
--- bytes of a valid catalogue are not of none
-pub not_none : (known : Option (List ℕ)) (catalogue : Catalogue) (P : Type 0) → IfSome known (λ bytes. IsCatalogueFile bytes catalogue) → IsValidCatalogue catalogue → IfSome known (λ bytes. IsFileOfNoneValid bytes → P)
-not_none None catalogue P file valid = tt
-not_none (Some bytes) catalogue P file valid = λ none. absurd (none catalogue file valid)
-
-pub checked_not_none : (known old new : Option (List ℕ)) (P : Type 0) → IfSome known (IsChecked old new) → IfSome known (λ bytes. IsFileOfNoneValid bytes → P)
-checked_not_none None old new P checked = tt
-checked_not_none (Some bytes) old new P checked = λ none. absurd (none checked.catalogue checked.file checked.valid)
+-- all was said of a valid catalogue, or the write failed
+pub said : (known : Option (List ℕ)) (file : Bor (List ℕ)) (old new : Option (List ℕ)) (catalogue : Catalogue) (text : List ℕ) (result : Result Unit CatalogFault) → IfSome known (λ bytes. IsCatalogueFile bytes catalogue) → IsValidCatalogue catalogue → text ≡ check_text catalogue → OnOk result (Appends old new text) → IfErr result IsWriteFault → IfSome known (λ bytes. ChecksFile file bytes old new result)
+said None file old new catalogue text result of valid is written faults = tt
+said (Some bytes) file old new catalogue text (Ok done) of valid is written faults =
+    record { catalogue = catalogue; file = of; valid = valid; said = subst (λ (line : List ℕ). Appends old new line) is written }
+said (Some bytes) file old new catalogue text (Err (Refused fault)) of valid is written faults = absurd faults
+said (Some bytes) file old new catalogue text (Err (Program fault)) of valid is written (inl memory) = (inl (inl memory), λ none. absurd (none catalogue of valid))
+said (Some bytes) file old new catalogue text (Err (Program fault)) of valid is written (inr closed) = (inr closed, λ none. absurd (none catalogue of valid))
 
 -- a line in its parts, and the marks between them
 pub line_of : (old name site columns conds blank opening close feed a b c d e f all : List ℕ) → a ≡ old ++ (name ++ blank) → b ≡ a ++ site → c ≡ b ++ opening → d ≡ c ++ columns → e ≡ d ++ close → f ≡ e ++ conds → all ≡ f ++ feed →

@@ -1,8 +1,8 @@
 -- What the program says of a catalogue.
-use Rattle.std.specs.Prelude.{◌≡◌, ◌⊎◌, ℕ, List, [], ◌∷◌, ◌++◌, Option, codes, length, map, option_map, unwrap_or}
+use Rattle.std.specs.Prelude.{◌≡◌, ◌⊎◌, ℕ, List, [], ◌∷◌, ◌++◌, Option, Result, Ok, Err, codes, length, map, option_map, unwrap_or}
 use Rattle.std.specs.Borrow.{Bor}
 use Rattle.std.specs.Fmt.{decimal}
-use Rattle.std.specs.Io.KnownBytes.{Appends}
+use Rattle.std.specs.Io.KnownBytes.{Appends, Keeps}
 use Rattle.std.specs.List.{flat_map}
 use Rattle.terms.specs.declared.cond.Cond.{Cond}
 use Rattle.terms.specs.Leaf.{leaf_text}
@@ -17,8 +17,9 @@ use Rattle.catalog.specs.FragmentLeaf.{catalogue_leaves, schemas_of}
 use Rattle.fragdb.specs.declared.catalog_file.CatalogFault.{CatalogFault}
 use Rattle.fragdb.specs.declared.catalog_file.CatalogFault.TheVariants.{Program, Refused}
 use Rattle.fragdb.specs.declared.fault.ProgramFault.TheVariants.{CannotWrite}
-use Rattle.fragdb.specs.CatalogFile.{IsCatalogueFile, RefusesFile}
+use Rattle.fragdb.specs.CatalogFile.{IsCatalogueFile, IsFileOfNoneValid, RefusesFile}
 use Rattle.fragdb.specs.Input.{IsOfInput}
+use Rattle.fragdb.specs.Solo.{IsOfRun}
 
 -- the columns of the relation of this name, none where it is not there
 abbrev pub columns_of : List RelationSchema → List ℕ → List Column
@@ -66,7 +67,13 @@ pub record IsChecked (old new : Option (List ℕ)) (bytes : List ℕ) : Type 0 w
   pub valid : IsValidCatalogue catalogue
   pub said : Appends old new (check_text catalogue)
 
--- why nothing was said of this file, of these bytes, or not all
-abbrev pub IsCheckFault : Bor (List ℕ) → List ℕ → CatalogFault → Type 0
-IsCheckFault file bytes (Program fault) = IsOfInput file fault ⊎ (fault ≡ CannotWrite)
-IsCheckFault file bytes (Refused fault) = RefusesFile bytes fault.relation fault.rule
+-- a fault of a write: memory ran out, or nobody reads
+abbrev pub IsWriteFault : CatalogFault → Type 0
+IsWriteFault (Program fault) = IsOfRun fault
+IsWriteFault (Refused fault) = ⊥
+
+-- the check of a file of these bytes: all is said of it, or it is refused and nothing is said, or something stopped the check
+abbrev pub ChecksFile : Bor (List ℕ) → List ℕ → Option (List ℕ) → Option (List ℕ) → Result Unit CatalogFault → Type 0
+ChecksFile file bytes old new (Ok done) = IsChecked old new bytes
+ChecksFile file bytes old new (Err (Refused fault)) = RefusesFile bytes fault.relation fault.rule × Keeps old new
+ChecksFile file bytes old new (Err (Program fault)) = (IsOfInput file fault ⊎ (fault ≡ CannotWrite)) × (IsFileOfNoneValid bytes → Keeps old new)

@@ -1,17 +1,18 @@
--- Why the program stops.
-use Rattle.std.specs.Prelude.{ℕ}
+-- Why a command stops, in words.
+use Rattle.std.specs.Prelude.{ℕ, List, ◌++◌, codes}
+use Rattle.std.specs.Fmt.{decimal}
 use Rattle.fragdb.specs.declared.fault.ProgramFault.{ProgramFault}
 use Rattle.fragdb.specs.declared.fault.ProgramFault.TheVariants.{CannotRead, ScriptTooLong, Malformed, Memory, CannotWrite}
 use Rattle.fragdb.specs.declared.script.ScriptFault.{ScriptFault}
 use Rattle.fragdb.specs.declared.script.ScriptFault.TheVariants as script
 
--- the exit status: 4 for the want of memory, 1 for input that is refused and for an output that is closed
-abbrev pub status_of : ProgramFault → ℕ
-status_of (CannotRead file) = 1
-status_of ScriptTooLong = 1
-status_of (Malformed line) = 1
-status_of Memory = 4
-status_of CannotWrite = 1
+-- what is said of a fault
+abbrev pub fault_text : ProgramFault → List ℕ
+fault_text (CannotRead file) = codes "cannot read " ++ file.now
+fault_text ScriptTooLong = codes "script too long"
+fault_text (Malformed line) = codes "line " ++ decimal line
+fault_text Memory = codes "out of memory"
+fault_text CannotWrite = codes "cannot write"
 
 abbrev pub fault_of_script : ScriptFault → ProgramFault
 fault_of_script (script.Malformed line) = Malformed line

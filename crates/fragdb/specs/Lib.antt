@@ -1,13 +1,18 @@
+-- What the program keeps, in reading order: a line of a script, a whole script, a catalogue's file, the program.
 pub mod Item
-pub mod Merge
-pub mod Gather
 pub mod Small
+pub mod Reply
 pub mod Line
-pub mod Transaction
 pub mod Script
 pub mod Solo
-pub mod Usage
-pub mod Fault
-pub mod Input
 pub mod CatalogFile
 pub mod Check
+pub mod Usage
+pub mod Outcome
+pub mod Perform
+-- Helpers.
+pub mod Fault
+pub mod Gather
+pub mod Input
+pub mod Merge
+pub mod Transaction

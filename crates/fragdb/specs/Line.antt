@@ -12,6 +12,7 @@ use Rattle.reader.specs.Fault.{Fault}
 use Rattle.reader.specs.Print.{answer_text}
 use Rattle.reader.specs.Refusal.{fault_text}
 use Rattle.fragdb.specs.Item.{item_columns, item_schema}
+use Rattle.fragdb.specs.Reply.{Told, Answered, Refused}
 use Rattle.fragdb.specs.Small.{RunsOnLists}
 
 -- the statement runs on the lists, and the line is its answer
@@ -28,12 +29,16 @@ no_statement_here = record { rule = rules.Syntax; offset = 0 }
 abbrev pub IsNoStatement : List (List (List Value)) → List (List (List Value)) → List ℕ → Type 0
 IsNoStatement old new line = (line ≡ codes "refused read " ++ fault_text no_statement_here) × (new ≡ old)
 
--- what a command does to the lists, and its line
-abbrev pub DoesCommand : Command → List (List (List Value)) → List (List (List Value)) → List ℕ → Type 0
-DoesCommand (Run statement) old new line = RunsToLine statement old new line
-DoesCommand Begin old new line = IsNoStatement old new line
-DoesCommand Commit old new line = IsNoStatement old new line
-DoesCommand Rollback old new line = IsNoStatement old new line
+-- what a command does to the lists, and its reply
+abbrev pub DoesCommand : Command → List (List (List Value)) → List (List (List Value)) → Told → Type 0
+DoesCommand (Run statement) old new (Answered line) = RunsToLine statement old new line
+DoesCommand (Run statement) old new (Refused line) = ⊥
+DoesCommand Begin old new (Answered line) = ⊥
+DoesCommand Begin old new (Refused line) = IsNoStatement old new line
+DoesCommand Commit old new (Answered line) = ⊥
+DoesCommand Commit old new (Refused line) = IsNoStatement old new line
+DoesCommand Rollback old new (Answered line) = ⊥
+DoesCommand Rollback old new (Refused line) = IsNoStatement old new line
 
 -- the text is one of a statement, which runs on the lists to the line
 pub record Answers (text : List ℕ) (old new : List (List (List Value))) (line : List ℕ) : Type 0 where
@@ -50,9 +55,10 @@ pub record Refuses (text : List ℕ) (old new : List (List (List Value))) (line 
   pub printed : line ≡ codes "refused read " ++ fault_text fault
   pub same : new ≡ old
 
--- the answer to a line of a script, and the lists after it
-abbrev pub AnswersLine : List ℕ → List (List (List Value)) → List (List (List Value)) → List ℕ → Type 0
-AnswersLine text old new line = Answers text old new line ⊎ Refuses text old new line
+-- the reply to a line of a script, and the lists after it
+abbrev pub AnswersLine : List ℕ → List (List (List Value)) → List (List (List Value)) → Told → Type 0
+AnswersLine text old new (Answered line) = Answers text old new line
+AnswersLine text old new (Refused line) = Refuses text old new line
 
 -- the list that a leaf's name stands for
 abbrev pub leaf_named : List (List (List Value)) → List ℕ → Option (List (List Value))

@@ -4,6 +4,8 @@ use Rattle.clap.specs.Words.{App, Rule, Text, first_of, new_app, new_rule, subco
 use Rattle.clap.specs.Simple.{new_shape}
 use Rattle.clap.specs.declared.error.kind.ErrorKind.{ErrorKind}
 use Rattle.clap.specs.declared.error.kind.ErrorKind.TheVariants.{DisplayHelp, DisplayVersion, OutOfMemory}
+use Rattle.fragdb.specs.declared.outcome.Status.{Status}
+use Rattle.fragdb.specs.declared.outcome.Status.TheVariants as status
 use Rattle.fragdb.specs.declared.usage.Request.{Request}
 use Rattle.fragdb.specs.declared.usage.Request.TheVariants.{Solo, Check}
 
@@ -35,8 +37,8 @@ asked (Solo script) = (codes "solo", codes "SCRIPT", script.now)
 asked (Check catalog) = (codes "check", codes "CATALOG", catalog.now)
 
 -- the exit status where clap gives a text in place of a request
-abbrev pub usage_status : ErrorKind → ℕ
-usage_status DisplayHelp = 0
-usage_status DisplayVersion = 0
-usage_status OutOfMemory = 4
-usage_status _ = 2
+abbrev pub usage_status : ErrorKind → Status
+usage_status DisplayHelp = status.Done
+usage_status DisplayVersion = status.Done
+usage_status OutOfMemory = status.Memory
+usage_status _ = status.Usage

@@ -1,92 +1,52 @@
 //! The command `check`: whether a file is a catalogue, and its fragments.
 
 ghost use Rattle.std.specs.Prelude.{◌≡◌, ◌<◌, ◌⊎◌, ◌∷◌, ◌++◌, [], codes, map, string_bytes, IfErr, IfOk, IfSome, OnOk};
-ghost use Rattle.std.specs.Io.KnownBytes.{Appends, Keeps};
+ghost use Rattle.std.specs.Io.KnownBytes.{Appends};
 ghost use Rattle.catalog.specs.Relation.{catalogue_of};
-ghost use Rattle.catalog.specs.Fault.{fault_text};
 ghost use Rattle.reader.specs.Printed.{separated_bytes};
 ghost use Rattle.reader.specs.Written.{name_in};
-ghost use Rattle.fragdb.specs.CatalogFile.{IsFileOfNoneValid};
 ghost use Rattle.fragdb.specs.Check as spec;
-ghost use Rattle.fragdb.specs.Solo.{IsOfRun};
-ghost use Rattle.fragdb.specs.Check.{IsChecked, IsCheckFault, accepted_line, leaf_line, leaf_lines, names_of_columns, where_text};
+ghost use Rattle.fragdb.specs.Check.{ChecksFile, IsWriteFault, accepted_line, leaf_line, leaf_lines, names_of_columns, where_text};
 
 use crate::catalog_file::{CatalogFault, read_catalog};
-use crate::fault::{ProgramFault, report};
+use crate::fault::ProgramFault;
 use catalog::catalogue::Catalog;
-use catalog::fault::CatFault;
 use catalog::fragment_leaf::FragmentLeaf;
 use meaning::schema::{Column, Schema};
 use reader::printed::print_conds;
 use std::alloc::Global;
-use std::io;
 use std::io::{Read, Write};
 use terms::cond::Conds;
 use terms::memory::Memory;
 use terms::text::Text;
 
-/// Checks the catalogue that `input` gives, which `file` names in a fault. Writes its fragments to
-/// `output` where it is accepted, and else a fault to `errors`. Answers the exit status.
-pub fn do_check<R: Read + Drop, W: Write, E: Write>(
-    alloc: Global,
-    file: &str,
-    input: R,
-    output: &mut W,
-    errors: &mut E,
-) -> u8
-    ensures status { (result ≡ 0) ⊎ (result ≡ 1) ⊎ (result ≡ 4) }
-    ensures accepted { result ≡ 0 → IfSome (R.remaining input) (IsChecked (W.contents output.old) (W.contents output.new)) }
-    ensures refused { IfSome (R.remaining input) (λ bytes. IsFileOfNoneValid bytes
-        → (0 < result) × Keeps (W.contents output.old) (W.contents output.new)) }
-    ensures quiet { result ≡ 0 → Keeps (E.contents errors.old) (E.contents errors.new) }
-{
-    match check(alloc, file, input, output) {
-        Ok(()) => 0,
-        Err(CatalogFault::Program(fault)) => report(errors, &fault),
-        Err(CatalogFault::Refused(fault)) => {
-            // Where the standard error is closed there is nobody to tell.
-            let _ = tell(errors, &fault);
-            1
-        }
-    }
-}
-
-/// Says in one line that a catalogue is refused.
-fn tell<E: Write>(errors: &mut E, fault: &CatFault) -> io::Result<()>
-    ensures { OnOk result (Appends (E.contents errors.old) (E.contents errors.new) (codes "refused " ++ fault_text fault.now ++ 10 ∷ [])) }
-{
-    writeln!(errors, "refused {fault}")
-}
-
-/// Writes what a catalogue has, once it is read.
-fn check<'a, R: Read + Drop, W: Write>(
+/// Checks the catalogue that `input` gives, which `file` names in a fault: where it is accepted, its
+/// counts and its fragments are written to `output`, and else nothing is.
+pub fn check<'a, R: Read + Drop, W: Write>(
     alloc: Global,
     file: &'a str,
     input: R,
     output: &mut W,
 ) -> Result<(), CatalogFault<'a>>
-    ensures accepted { OnOk result (IfSome (R.remaining input) (IsChecked (W.contents output.old) (W.contents output.new))) }
-    ensures faults { IfErr result (λ fault. IfSome (R.remaining input) (λ bytes. IsCheckFault file.entry bytes fault)) }
-    ensures refused { IfSome (R.remaining input) (λ bytes. IsFileOfNoneValid bytes
-        → Keeps (W.contents output.old) (W.contents output.new)) }
+    ensures { IfSome (R.remaining input) (λ bytes. ChecksFile file.entry bytes (W.contents output.old) (W.contents output.new) result) }
 {
     let catalog = read_catalog(alloc, file, input)?;
     let text = check_text(alloc, &catalog)?;
-    write_text(output, text.as_str())?;
-    Ok(())
+    write_text(output, text.as_str())
 }
 
 /// Writes a text, and waits until it is written.
-fn write_text<'a, W: Write>(output: &mut W, text: &str) -> Result<(), ProgramFault<'a>>
+fn write_text<'a, W: Write>(output: &mut W, text: &str) -> Result<(), CatalogFault<'a>>
     ensures written { OnOk result (Appends (W.contents output.old) (W.contents output.new) text.now) }
-    ensures faults { IfErr result IsOfRun }
+    ensures faults { IfErr result IsWriteFault }
 {
     output
         .write_all(text.as_bytes())
         .map_err(|error| ProgramFault::writing(&error))?;
     output
         .flush()
-        .map_err(|error| ProgramFault::writing(&error))
+        .map_err(|error| ProgramFault::writing(&error))?;
+    Ok(())
 }
 
 /// How much a catalogue has, and a line for each leaf.
@@ -196,6 +156,3 @@ fn put_where(out: &mut String, columns: &[Column], conds: &Conds) -> Result<(), 
     write!(out, " where {conds}")?;
     Ok(())
 }
-
-#[cfg(test)]
-mod tests;

@@ -1,48 +1,33 @@
-//! Why the program stops, and what it says then.
+//! Why a command stops, and what the program says then.
 
-ghost use Rattle.std.specs.Prelude.{◌≡◌, ◌≢◌};
-ghost use Rattle.std.specs.Io.KnownBytes.{Keeps};
+ghost use Rattle.std.specs.Prelude.{◌≡◌, ◌≢◌, Some};
 ghost use Rattle.std.specs.IoError.{error_kind};
 ghost use Rattle.fragdb.specs.declared.fault.ProgramFault.TheVariants.{Memory};
-ghost use Rattle.fragdb.specs.Fault.{fault_of_script, status_of};
+ghost use Rattle.fragdb.specs.Fault.{fault_of_script, fault_text};
 
 use crate::script::ScriptFault;
 use std::alloc::AllocError;
+use std::fmt;
 use std::io;
-use std::io::{ErrorKind, Write};
+use std::io::ErrorKind;
 use terms::memory::Memory;
-use thiserror::Error;
 
-/// Why the program stops before its end.
-#[derive(Clone, Copy, Debug, PartialEq, Eq, Error)]
+/// Why a command stops before its end.
+#[derive(Clone, Copy, Debug, PartialEq, Eq)]
 pub enum ProgramFault<'a> {
-    #[error("cannot read {file}")]
+    /// The file of this name can't be opened, or not be read to its end.
     CannotRead { file: &'a str },
-    #[error("script too long")]
+    /// The script has too many bytes.
     ScriptTooLong,
-    #[error("line {line}")]
+    /// This line of the script, counted from 1, is the first that can't be read.
     Malformed { line: usize },
-    #[error("out of memory")]
+    /// Memory ran out.
     Memory,
     /// Whoever reads the output has gone.
-    #[error("cannot write")]
     CannotWrite,
 }
 
 impl<'a> ProgramFault<'a> {
-    /// The exit status.
-    pub fn status(&self) -> u8
-        ensures { result ≡ status_of self.now }
-    {
-        match self {
-            ProgramFault::Memory => 4,
-            ProgramFault::CannotRead { .. }
-            | ProgramFault::ScriptTooLong
-            | ProgramFault::Malformed { .. }
-            | ProgramFault::CannotWrite => 1,
-        }
-    }
-
     /// The fault of a read of this file.
     pub fn reading(file: &'a str, error: &io::Error) -> ProgramFault<'a>
         ensures memory { error_kind error.now ≡ ErrorKind.OutOfMemory → result ≡ ProgramFault.Memory }
@@ -62,6 +47,20 @@ impl<'a> ProgramFault<'a> {
         match error.kind() {
             ErrorKind::OutOfMemory => ProgramFault::Memory,
             _ => ProgramFault::CannotWrite,
+        }
+    }
+}
+
+impl fmt::Display for ProgramFault<'_> {
+    ghost output = { λ fault. Some (fault_text fault) };
+
+    fn fmt<W: fmt::Write>(&self, f: &mut fmt::Formatter<W>) -> fmt::Result {
+        match self {
+            ProgramFault::CannotRead { file } => write!(f, "cannot read {file}"),
+            ProgramFault::ScriptTooLong => f.write_str("script too long"),
+            ProgramFault::Malformed { line } => write!(f, "line {line}"),
+            ProgramFault::Memory => f.write_str("out of memory"),
+            ProgramFault::CannotWrite => f.write_str("cannot write"),
         }
     }
 }
@@ -91,16 +90,4 @@ impl From<ScriptFault> for ProgramFault<'_> {
             ScriptFault::Memory => ProgramFault::Memory,
         }
     }
-}
-
-/// Says the fault in one line, unless it is that nobody reads, and answers the exit status.
-pub fn report<E: Write>(errors: &mut E, fault: &ProgramFault<'_>) -> u8
-    ensures status { result ≡ status_of fault.now }
-    ensures quiet { fault.now ≡ ProgramFault.CannotWrite → Keeps (E.contents errors.old) (E.contents errors.new) }
-{
-    if !matches!(fault, ProgramFault::CannotWrite) {
-        // Where the standard error is closed too there is nobody to tell.
-        let _ = writeln!(errors, "fragdb: {fault}");
-    }
-    fault.status()
 }

@@ -2,7 +2,8 @@
 //! catalogue, one statement at a time; `fragdb check CATALOG` checks a catalogue and lists its fragments.
 //!
 //! The contracts that carry it: `small::Small::line` answers a text by its statement's meaning over
-//! the whole relation that the two lists rebuild, and `check::do_check` accepts only a valid catalogue.
+//! the whole relation that the two lists rebuild, and `perform::perform` says what is written and what
+//! comes of each request.
 #![tactic(auto)]
 
 mod catalog_file;
@@ -13,48 +14,48 @@ mod gather;
 mod input;
 mod item;
 mod merge;
+mod outcome;
+mod perform;
+mod reply;
 mod script;
 mod small;
 mod solo;
-#[cfg(test)]
-mod tests;
 mod transaction;
 mod usage;
 
-use crate::check::do_check;
-use crate::fault::{ProgramFault, report};
-use crate::solo::do_solo;
+use crate::fault::ProgramFault;
+use crate::outcome::{Outcome, Status, exit};
+use crate::perform::perform;
 use crate::usage::{Request, read_words, show_usage, unreadable_words};
 use std::io::BufWriter;
 use std::process::ExitCode;
 use std::{env, fs};
 
 fn main(rt: HostRuntime) -> ExitCode {
+    ExitCode::from(run(&rt).code())
+}
+
+/// Reads the command line, opens the file that it names, and does what it asks for.
+fn run(rt: &HostRuntime) -> Status {
     let alloc = rt.alloc();
     let mut errors = rt.stderr();
     let Ok(mut output) = BufWriter::new(alloc, rt.stdout()) else {
-        return ExitCode::from(report(&mut errors, &ProgramFault::Memory));
+        return exit(&mut errors, &Outcome::Stopped(ProgramFault::Memory));
     };
-    let words: Vec<String> = match env::args(&rt).and_then(|words| Ok(words.collect(alloc)?)) {
+    let words: Vec<String> = match env::args(rt).and_then(|words| Ok(words.collect(alloc)?)) {
         Ok(words) => words,
         Err(error) => {
             let error = unreadable_words(alloc, &error);
-            return ExitCode::from(show_usage(&error, &mut output, &mut errors));
+            return show_usage(&error, &mut output, &mut errors);
         }
     };
-    let status = match read_words(alloc, words.as_slice()) {
+    let outcome = match read_words(alloc, words.as_slice()) {
         Ok(Request::Solo { script: "-" }) => {
-            do_solo(alloc, "-", rt.stdin(), &mut output, &mut errors)
+            let request = Request::Solo { script: "-" };
+            perform(alloc, request, Ok(rt.stdin()), &mut output)
         }
-        Ok(Request::Solo { script }) => match fs::open(&rt, script) {
-            Ok(file) => do_solo(alloc, script, file, &mut output, &mut errors),
-            Err(error) => report(&mut errors, &ProgramFault::reading(script, &error)),
-        },
-        Ok(Request::Check { catalog }) => match fs::open(&rt, catalog) {
-            Ok(file) => do_check(alloc, catalog, file, &mut output, &mut errors),
-            Err(error) => report(&mut errors, &ProgramFault::reading(catalog, &error)),
-        },
-        Err(error) => show_usage(&error, &mut output, &mut errors),
+        Ok(request) => perform(alloc, request, fs::open(rt, request.file()), &mut output),
+        Err(error) => return show_usage(&error, &mut output, &mut errors),
     };
-    ExitCode::from(status)
+    exit(&mut errors, &outcome)
 }

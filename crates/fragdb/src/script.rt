@@ -115,6 +115,3 @@ fn is_word(text: &str) -> bool
             .bytes()
             .any(|byte| matches!(byte, b' ' | b'\t' | b'\n' | b'\r'))
 }
-
-#[cfg(test)]
-mod tests;

@@ -12,11 +12,13 @@ ghost use Rattle.reader.specs.Refusal.{fault_text};
 ghost use Rattle.fragdb.specs.Item.{item_kinds, item_leaves, item_name, item_schema};
 ghost use Rattle.fragdb.specs.Line.{AnswersLine, DoesCommand, RunsToLine, leaf_named, no_statement_here, rows_text};
 ghost use Rattle.fragdb.specs.Merge.{merged};
+ghost use Rattle.fragdb.specs.Reply.{Answered, Refused, told_by};
 ghost use Rattle.fragdb.specs.Small.{inserted, selected_answer};
 
 use crate::change::changed;
 use crate::item;
 use crate::merge::select_merged;
+use crate::reply::Reply;
 use meaning::answer::Answer;
 use meaning::listed::listed;
 use meaning::relation::Relation;
@@ -65,8 +67,8 @@ impl Small {
     /// The answer to a text, or the refusal of it, with no line feed at its end. Where memory runs
     /// out nothing has changed. There are no transactions here: `BEGIN`, `COMMIT` and `ROLLBACK`
     /// are refused as no statement.
-    pub fn line(&mut self, text: &str) -> Result<String, Memory>
-        ensures ok { IfOk result (λ line. AnswersLine text.now self.old self.new (string_bytes line)) }
+    pub fn line(&mut self, text: &str) -> Result<Reply, Memory>
+        ensures ok { IfOk result (λ reply. AnswersLine text.now self.old self.new (told_by reply)) }
         ensures err { OnErr result (self.new ≡ self.old) }
     {
         let schema = item::schema(self.alloc)?;
@@ -105,14 +107,14 @@ impl Small {
         Ok(Some(print_rows(self.alloc, rows)?))
     }
 
-    /// The line of a command of the built-in schema.
-    fn command(&mut self, command: &Command) -> Result<String, Memory>
+    /// The reply to a command of the built-in schema.
+    fn command(&mut self, command: &Command) -> Result<Reply, Memory>
         requires { IsCommandOf item_schema command.now }
-        ensures ok { IfOk result (λ line. DoesCommand command.now self.old self.new (string_bytes line)) }
+        ensures ok { IfOk result (λ reply. DoesCommand command.now self.old self.new (told_by reply)) }
         ensures err { OnErr result (self.new ≡ self.old) }
     {
         match command {
-            Command::Run(statement) => self.answer(statement),
+            Command::Run(statement) => Ok(Reply::Answer(self.answer(statement)?)),
             Command::Begin => no_transactions(self.alloc),
             Command::Commit => no_transactions(self.alloc),
             Command::Rollback => no_transactions(self.alloc),
@@ -145,21 +147,22 @@ fn print_rows(alloc: Global, rows: Vec<Row>) -> Result<String, Memory>
 }
 
 /// The refusal of a command that is no statement.
-fn no_transactions(alloc: Global) -> Result<String, Memory>
-    ensures { IfOk result (λ line. string_bytes line ≡ codes "refused read " ++ fault_text no_statement_here) }
+fn no_transactions(alloc: Global) -> Result<Reply, Memory>
+    ensures { IfOk result (λ reply. told_by reply ≡ Refused (codes "refused read " ++ fault_text no_statement_here)) }
 {
     refusal(alloc, ReadFault::new(Rule::Syntax, 0))
 }
 
-/// The line of a refusal. A refusal for want of memory is none of the text.
-fn refusal(alloc: Global, fault: ReadFault) -> Result<String, Memory>
+/// The reply of a refusal. A refusal for want of memory is none of the text.
+fn refusal(alloc: Global, fault: ReadFault) -> Result<Reply, Memory>
     ensures rule { IfOk result (λ _. fault.rule ≢ rules.Memory) }
-    ensures text { IfOk result (λ line. string_bytes line ≡ codes "refused read " ++ fault_text fault) }
+    ensures text { IfOk result (λ reply. told_by reply ≡ Refused (codes "refused read " ++ fault_text fault)) }
 {
     if fault.rule() == Rule::Memory {
         return Err(Memory);
     }
-    Ok(format!(in alloc; "refused read {fault}")?)
+    let text = format!(in alloc; "refused read {fault}")?;
+    Ok(Reply::Refusal(text))
 }
 
 fn select_line(

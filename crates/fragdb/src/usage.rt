@@ -1,13 +1,14 @@
 //! The words of the command line.
 
-ghost use Rattle.std.specs.Prelude.{◌≡◌, ◌≤◌, ◌<◌, ◌⊎◌, Some, IfOk, IsOkAnd, codes, false, length, map};
+ghost use Rattle.std.specs.Prelude.{◌≡◌, ◌≢◌, ◌≤◌, ◌<◌, ◌⊎◌, Some, IfOk, IsOkAnd, codes, false, length, map};
 ghost use Rattle.std.specs.Io.KnownBytes.{Keeps};
 ghost use Rattle.std.specs.IoError.{error_kind};
 ghost use Rattle.clap.specs.declared.builder.command.Command.TheViews.{out-Command};
 ghost use Rattle.clap.specs.Words.{app_of, kind_of};
 ghost use Rattle.fragdb.specs.Usage.{asked, command_given, command_with, usage, usage_status};
 
-use crate::fault::{ProgramFault, report};
+use crate::fault::ProgramFault;
+use crate::outcome::{Outcome, Status, exit};
 use clap::error::ErrorKind;
 use clap::{Arg, Command, Error};
 use std::alloc::{AllocError, Global};
@@ -101,22 +102,22 @@ fn check_command<'a>(alloc: Global) -> Result<Command<'a>, AllocError>
         .arg(catalog)
 }
 
-/// Writes clap's text where it belongs, and answers the exit status: 0 for what was asked for, 2 for
-/// a mistake, and 4 for the want of memory.
-pub fn show_usage<W: Write, E: Write>(error: &Error, output: &mut W, errors: &mut E) -> u8
+/// Writes clap's text where it belongs, help to the output and a mistake to the errors, and answers the
+/// exit status.
+pub fn show_usage<W: Write, E: Write>(error: &Error, output: &mut W, errors: &mut E) -> Status
     ensures status { result ≡ usage_status (kind_of error.now) }
-    ensures asked_for { result ≡ 0 → Keeps (E.contents errors.old) (E.contents errors.new) }
-    ensures mistake { 0 < result → Keeps (W.contents output.old) (W.contents output.new) }
+    ensures asked_for { result ≡ Status.Done → Keeps (E.contents errors.old) (E.contents errors.new) }
+    ensures mistake { result ≢ Status.Done → Keeps (W.contents output.old) (W.contents output.new) }
 {
     match error.kind() {
-        ErrorKind::OutOfMemory => report(errors, &ProgramFault::Memory),
+        ErrorKind::OutOfMemory => exit(errors, &Outcome::Stopped(ProgramFault::Memory)),
         ErrorKind::DisplayHelp | ErrorKind::DisplayVersion => {
             let _ = write!(output, "{error}").and_then(|()| output.flush());
-            0
+            Status::Done
         }
         _ => {
             let _ = write!(errors, "{error}");
-            2
+            Status::Usage
         }
     }
 }
