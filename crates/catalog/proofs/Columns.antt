@@ -1,3 +1,4 @@
+-- The columns of a relation, and rows that have the same in them.
 use Rattle.std.proofs.Common.{◌≡◌, ℕ, suc, zero, ◌+◌, ◌<◌, ◌==◌, true, false, ◌||◌, List, [], ◌∷◌, length, Option, Some, None, is_some, subst, refl, ap, ◌∙◌, arith}
 use Rattle.std.specs.List.{slice_get, cons_option}
 use Rattle.std.proofs.Math.Bool.{or-true}

@@ -1,3 +1,4 @@
+-- Counts and tests of some item.
 use Rattle.std.proofs.Common.{◌≡◌, suc, ◌+◌, Bool, true, false, cond, ◌&&◌, ◌||◌, List, [], ◌∷◌, ◌++◌, map, refl, ap, arith}
 use Rattle.std.specs.List.{list_any}
 use Rattle.catalog.specs.Counts.{how_many}

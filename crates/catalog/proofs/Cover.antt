@@ -194,12 +194,12 @@ mutual
   some_touched kinds way before (Group group tree rest) needed row valid fits holds is =
       list_any-append (serves needed row) (map (through (Col group before (group_columns rest))) (paths tree)) (paths_by_cols (before ++ group ∷ []) rest)
       ∙ elim (touches needed group) as (λ b. touches needed group ≡ b → (b || some_touches needed (group_columns rest)) ≡ true →
-        (list_any (serves needed row) (map (through (Col group before (group_columns rest))) (paths tree)) || list_any (serves needed row) (paths_by_cols (before ++ group ∷ []) rest)) ≡ true) [
-          | true ↦ λ here later. ap (λ b. b || list_any (serves needed row) (paths_by_cols (before ++ group ∷ []) rest))
-              (served_in needed group before (group_columns rest) row (paths tree) (into_touched needed group before (group_columns rest) here) ∙ some_serves_below kinds way group tree needed row valid.0 fits holds)
-          | false ↦ λ there later. or_back (list_any (serves needed row) (map (through (Col group before (group_columns rest))) (paths tree))) (list_any (serves needed row) (paths_by_cols (before ++ group ∷ []) rest))
-              (some_touched kinds way (before ++ group ∷ []) rest needed row valid.1 fits holds later)
-        ] refl is
+      (list_any (serves needed row) (map (through (Col group before (group_columns rest))) (paths tree)) || list_any (serves needed row) (paths_by_cols (before ++ group ∷ []) rest)) ≡ true) [
+        | true ↦ λ here later. ap (λ b. b || list_any (serves needed row) (paths_by_cols (before ++ group ∷ []) rest))
+            (served_in needed group before (group_columns rest) row (paths tree) (into_touched needed group before (group_columns rest) here) ∙ some_serves_below kinds way group tree needed row valid.0 fits holds)
+        | false ↦ λ there later. or_back (list_any (serves needed row) (map (through (Col group before (group_columns rest))) (paths tree))) (list_any (serves needed row) (paths_by_cols (before ++ group ∷ []) rest))
+            (some_touched kinds way (before ++ group ∷ []) rest needed row valid.1 fits holds later)
+      ] refl is
 
   -- none is: the first
   some_first : (kinds : List Kind) (way : List Cond) (groups : Groups) (needed : List ℕ) (row : List Value) → group_columns groups ≢ [] → AreValidGroups kinds way groups → FitsKinds kinds row → conds_hold way row ≡ true →

@@ -1,3 +1,4 @@
+-- Exactly one leaf of a valid tree has a row in a column.
 use Rattle.std.proofs.Common.{◌≡◌, ℕ, suc, ◌+◌, Bool, true, false, cond, ◌&&◌, List, [], ◌∷◌, ◌++◌, map, refl, ap, ap₂, ◌∙◌, arith}
 use Rattle.std.proofs.lemmas.List.Folds.{list_all-append}
 use Rattle.terms.specs.declared.cond.Cond.{Cond}

@@ -1,3 +1,4 @@
+-- At most one relation is rebuilt from the contents of a valid tree.
 use Rattle.std.proofs.Common.{◌≡◌, ◌<◌, ℕ, ℤ, suc, zero, Bool, true, false, cond, ◌&&◌, ◌||◌, ◌==◌, List, [], ◌∷◌, length, map, Option, Some, None, is_some, option_and_then, subst, refl, ap, sym, ◌∙◌}
 use Rattle.std.specs.List.{AllByRecursion, list_any, slice_get}
 use Rattle.std.specs.Ordering.{int_eq}

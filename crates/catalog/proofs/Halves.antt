@@ -1,3 +1,4 @@
+-- A split into what is below a number and what is not is exact.
 use Rattle.std.proofs.Common.{◌≡◌, ℕ, zero, suc, ℤ, true, cond, ◌&&◌, List, [], ◌∷◌, Some, refl}
 use Rattle.std.specs.List.{slice_get}
 use Rattle.std.specs.Ordering.{int_cmp, is_lt, is_ge}

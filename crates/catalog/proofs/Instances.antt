@@ -1,3 +1,4 @@
+-- The built-in split and the nested one are valid.
 use Rattle.std.proofs.Common.{◌≡◌, suc, ◌==◌, ◌||◌, Bool, true, false, cond, pos, [], ◌∷◌, refl, arith}
 use Rattle.std.proofs.lemmas.Bool.{eqb-true}
 use Rattle.catalog.specs.Valid.{AreParts}

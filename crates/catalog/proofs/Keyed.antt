@@ -1,3 +1,4 @@
+-- Rows by their keys: what a content has at a key, and that rows with the same at each key are the same.
 use Rattle.std.proofs.Common.{◌≡◌, ℕ, ℤ, ◌<ℤ◌, true, false, cond, List, [], ◌∷◌, map, filter, Some, None, option_and_then, refl, ap, ap₂, sym, ◌∙◌, arith}
 use Rattle.std.specs.List.{AllByRecursion}
 use Rattle.std.specs.Ordering.{int_cmp, int_eq}

@@ -1,3 +1,4 @@
+-- The lemmas, from trees and their leaves to documents and their texts.
 pub mod Trees
 pub mod Counts
 pub mod Exactly

@@ -75,6 +75,7 @@ group_next above place groups d within =
     drop-map zero gs = refl
     drop-map (suc n) [] = refl
     drop-map (suc n) (g ∷ gs) = drop-map n gs
+
     get_or-map : (n : ℕ) (gs : List TreeGroup) (e : TreeGroup) → n < length gs → get_or (columns_of gs) n [] ≡ (get_or gs n e).columns
     get_or-map n [] e lt = absurd (omega arith)
     get_or-map zero (g ∷ gs) e lt = refl

@@ -1,3 +1,4 @@
+-- The trees of the code's variants.
 use Rattle.std.proofs.Common.{◌≡◌, ℕ, List, [], ◌∷◌, map, Vec, Global, refl, ap, ap₂, sym, ◌∙◌}
 use Rattle.catalog.specs.declared.split.Split.TheVariants as code
 use Rattle.catalog.specs.declared.split.Split.TheOpen as one_level

@@ -1,3 +1,5 @@
+-- The cells of a row split: the combinations of the columns' test values. They are whole rows; a column
+-- that no condition names has one test value, so it adds none.
 use Rattle.std.specs.Prelude.{◌≡◌, ◌≢◌, ◌<◌, ◌≤◌, ◌*◌, ◌↔◌, ℕ, suc, ◌==◌, Bool, true, false, not, ◌&&◌, List, [], ◌∷◌, ◌++◌, map, flat_map, filter, find, length, Option, Some, None, Contains}
 use Rattle.std.specs.Borrow.{Bor}
 use Rattle.std.specs.List.{AllByRecursion}
@@ -11,9 +13,6 @@ use Rattle.terms.specs.Row.{FitsKinds}
 use Rattle.terms.specs.TestValues.{test_values, constants, column_holds}
 use Rattle.catalog.specs.Counts.{how_many}
 use Rattle.catalog.specs.Valid.{AreExact}
-
--- The cells of a row split: the combinations of the columns' test values. They are whole rows; a column
--- that no condition names has one test value, so it adds none.
 
 -- the combinations of an item of each list, the first list's items vary slowest
 abbrev pub product : {A : Type 0} → List (List A) → List (List A)

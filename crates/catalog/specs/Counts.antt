@@ -1,3 +1,4 @@
+-- Counting what passes a test, and asking whether a column is there.
 use Rattle.std.specs.Prelude.{ℕ, suc, if◌then◌else◌, ◌==◌, Bool, List, [], ◌∷◌}
 use Rattle.std.specs.List.{list_any}
 

@@ -1,3 +1,4 @@
+-- A nested split: emp(id int, name text, dept int, pay int), the name in one group, and the other group by rows with dept < 10 and dept >= 10.
 use Rattle.std.specs.Prelude.{◌≡◌, pos, List, [], ◌∷◌}
 use Rattle.terms.specs.declared.cond.Cmp.TheVariants.{Lt, Ge}
 use Rattle.terms.specs.declared.cond.Cond.{Cond}
@@ -8,8 +9,6 @@ use Rattle.catalog.specs.Fragment.{Fragment}
 use Rattle.catalog.specs.Split.{Tree, Site, ByRows, ByCols, Branch, NoBranch, Group, NoGroup}
 use Rattle.catalog.specs.Path.{fragments}
 use Rattle.catalog.specs.Valid.{IsValid}
-
--- A nested split: emp(id int, name text, dept int, pay int), the name in one group, and the other group by rows with dept < 10 and dept >= 10.
 
 abbrev pub emp_kinds : List Kind
 emp_kinds = kinds.Int ∷ kinds.Text ∷ kinds.Int ∷ kinds.Int ∷ []

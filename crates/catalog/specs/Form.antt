@@ -1,3 +1,4 @@
+-- What the code reads of a node, as the definitions see it.
 use Rattle.std.specs.Prelude.{ℕ, List, map}
 use Rattle.std.specs.Global.{Vec}
 use Rattle.std.specs.Borrow.{Bor}

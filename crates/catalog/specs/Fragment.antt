@@ -1,11 +1,10 @@
+-- Fragments after Özsu and Valduriez, Principles of Distributed Database Systems, the chapter on
+-- distributed design: selections of rows, projections that keep the key, and both, nested.
 use Rattle.std.specs.Prelude.{◌≡◌, ℕ, List, Option, Some, None, map, filter, if◌then◌else◌}
 use Rattle.terms.specs.declared.cond.Cond.{Cond}
 use Rattle.terms.specs.declared.value.Value.{Value}
 use Rattle.terms.specs.Cond.{conds_hold}
 use Rattle.meaning.specs.Listed.{listed}
-
--- Fragments after Özsu and Valduriez, Principles of Distributed Database Systems, the chapter on
--- distributed design: selections of rows, projections that keep the key, and both, nested.
 
 -- a leaf of a fragment tree: the conditions on its path, and its columns, the key first
 pub record Fragment : Type 0 where

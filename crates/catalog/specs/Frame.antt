@@ -1,3 +1,4 @@
+-- What the nodes of a relation speak of, as the definitions see it.
 use Rattle.catalog.specs.declared.frame.Frame as code
 use Rattle.catalog.specs.Describes.{Frame}
 

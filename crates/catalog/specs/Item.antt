@@ -1,3 +1,4 @@
+-- The built-in split: item(id int, zone int, label text), by rows with zone < 10 and zone >= 10.
 use Rattle.std.specs.Prelude.{◌≡◌, pos, List, [], ◌∷◌}
 use Rattle.terms.specs.declared.cond.Cmp.TheVariants.{Lt, Ge}
 use Rattle.terms.specs.declared.cond.Cond.{Cond}
@@ -8,8 +9,6 @@ use Rattle.catalog.specs.Fragment.{Fragment}
 use Rattle.catalog.specs.Split.{Tree, Site, ByRows, Branch, NoBranch}
 use Rattle.catalog.specs.Path.{fragments}
 use Rattle.catalog.specs.Valid.{IsValid}
-
--- The built-in split: item(id int, zone int, label text), by rows with zone < 10 and zone >= 10.
 
 abbrev pub item_kinds : List Kind
 item_kinds = kinds.Int ∷ kinds.Int ∷ kinds.Text ∷ []

@@ -1,3 +1,4 @@
+-- Rows by their keys.
 use Rattle.std.specs.Prelude.{ℤ, List, Option, find}
 use Rattle.std.specs.Ordering.{int_eq}
 use Rattle.terms.specs.declared.value.Value.{Value}

@@ -1,3 +1,4 @@
+-- The laws of fragmentation after Özsu and Valduriez, Principles of Distributed Database Systems, distributed design.
 use Rattle.std.specs.Prelude.{◌≡◌, ◌≢◌, ◌<◌, ℕ, ℤ, ◌&&◌, true, List, ◌∷◌, Option, Some, length, option_and_then}
 use Rattle.std.specs.List.{AllByRecursion, list_any}
 use Rattle.terms.specs.declared.cond.Cond.{Cond}
@@ -17,8 +18,6 @@ use Rattle.catalog.specs.Keyed.{row_at}
 use Rattle.catalog.specs.Split.{Tree}
 use Rattle.catalog.specs.Path.{fragments}
 use Rattle.catalog.specs.Valid.{IsValid}
-
--- The laws of fragmentation after Özsu and Valduriez, Principles of Distributed Database Systems, distributed design.
 
 -- for every row that fits and every column outside the key exactly one leaf whose conditions hold has the column
 abbrev pub ExactlyOneLeaf : Type 0

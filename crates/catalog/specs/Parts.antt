@@ -1,3 +1,4 @@
+-- The groups of a column split: which columns they name, twice or not at all.
 use Rattle.std.specs.Prelude.{◌≡◌, ℕ, true, false, not, List, [], ◌∷◌, ◌++◌, flat_map, find, Option, Some, None}
 use Rattle.catalog.specs.declared.parts.PartFault.{PartFault}
 use Rattle.catalog.specs.declared.parts.PartFault.TheVariants.{Twice, Lost}

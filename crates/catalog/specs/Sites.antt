@@ -37,4 +37,3 @@ IsSiteFault before site Name = IsSiteName site → ⊥
 IsSiteFault before site Twice = IsSiteName site × (has_name before site ≡ true)
 IsSiteFault before site Memory = Unit {0}
 IsSiteFault before site _ = ⊥
-

@@ -1,3 +1,4 @@
+-- Fragment trees, and the tree of a split of the code.
 use Rattle.std.specs.Prelude.{ℕ, List, [], ◌∷◌}
 use Rattle.terms.specs.declared.cond.Cond.{Cond}
 use Rattle.catalog.specs.declared.split.Branch as branch

@@ -1,3 +1,5 @@
+-- Valid splits after Özsu and Valduriez, Principles of Distributed Database Systems, distributed design:
+-- fragments are complete and disjoint, the key aside, and rebuild their relation.
 use Rattle.std.specs.Prelude.{◌≡◌, ◌≢◌, ℕ, if◌then◌else◌, true, List, [], ◌++◌}
 use Rattle.terms.specs.declared.cond.Cond.{Cond}
 use Rattle.terms.specs.declared.value.Kind.{Kind}
@@ -7,9 +9,6 @@ use Rattle.terms.specs.Row.{FitsKinds}
 use Rattle.catalog.specs.Counts.{how_many, has}
 use Rattle.catalog.specs.Split.{Tree, Site, ByRows, ByCols, Branches, NoBranch, Branch, Groups, NoGroup, Group}
 use Rattle.catalog.specs.Path.{branch_conds, group_columns, columns_beside_key}
-
--- Valid splits after Özsu and Valduriez, Principles of Distributed Database Systems, distributed design:
--- fragments are complete and disjoint, the key aside, and rebuild their relation.
 
 -- every row that fits and meets the conditions on the way meets the conditions of exactly one branch
 abbrev pub AreExact : List Kind → List Cond → List (List Cond) → Type 0

@@ -54,10 +54,7 @@ pub(crate) fn all_leaves(
 }
 
 /// How many leaves each relation has.
-pub(crate) fn leaf_counts(
-    alloc: Global,
-    relations: &[SplitRelation],
-) -> Result<Vec<usize>, Memory>
+pub(crate) fn leaf_counts(alloc: Global, relations: &[SplitRelation]) -> Result<Vec<usize>, Memory>
     ensures { IfOk result (λ counts. counts.items ≡ leaf_counts (map relation_of relations.now)) }
 {
     let mut counts = Vec::new(alloc);

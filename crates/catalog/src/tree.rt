@@ -49,12 +49,7 @@ impl<'a> Place<'a> {
     /// The tree that a node describes here; beside the key of its split the node has the one that its
     /// place asks for. The leaves are counted on.
     #[cycle(nodes)]
-    pub(crate) fn tree(
-        &self,
-        beside: &str,
-        node: &Value,
-        leaves: &mut usize,
-    ) -> Result<Split, Rule>
+    pub(crate) fn tree(&self, beside: &str, node: &Value, leaves: &mut usize) -> Result<Split, Rule>
         requires way_fits { AllByRecursion (IsCondOf (kinds_in (frame_of self.now.frame.now))) self.now.way.now }
         requires few_leaves { leaves.old ≤ 32 }
         ensures found { IfOk result (λ split. Describes (frame_of self.now.frame.now) self.now.splits self.now.way.now self.now.within.now beside.now (view node.now) (tree_of split)) }
@@ -230,12 +225,7 @@ impl<'a> Place<'a> {
 
     /// A group of these columns.
     #[cycle(nodes)]
-    fn group(
-        &self,
-        node: &Value,
-        columns: Vec<usize>,
-        leaves: &mut usize,
-    ) -> Result<Group, Rule>
+    fn group(&self, node: &Value, columns: Vec<usize>, leaves: &mut usize) -> Result<Group, Rule>
         requires way_fits { AllByRecursion (IsCondOf (kinds_in (frame_of self.now.frame.now))) self.now.way.now }
         requires few_leaves { leaves.old ≤ 32 }
         ensures found { IfOk result (λ group. Describes (frame_of self.now.frame.now) self.now.splits self.now.way.now columns.items (codes "of") (view node.now) (tree_group group).tree) }

@@ -41,11 +41,7 @@ fn put_paths(paths: &mut Vec<Path>, above: &[Step], split: &Split) -> Result<(),
 
 /// Puts the paths of each branch behind others.
 #[cycle(listing)]
-fn put_branches(
-    paths: &mut Vec<Path>,
-    above: &[Step],
-    branches: &[Branch],
-) -> Result<(), Memory>
+fn put_branches(paths: &mut Vec<Path>, above: &[Step], branches: &[Branch]) -> Result<(), Memory>
     ensures { OnOk result (paths.new.items ≡ paths.old.items ++ flat_map (λ branch. map (behind (above.now ++ steps.Row branch.conds ∷ [])) (spec.paths branch.tree)) (map tree_branch branches.now)) }
 {
     for branch in branches {
