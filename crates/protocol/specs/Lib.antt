@@ -1,0 +1,6 @@
+pub mod Language
+pub mod Letter
+pub mod Site
+pub mod Desk
+pub mod World
+pub mod Serial
