@@ -4,3 +4,4 @@ pub mod Site
 pub mod Desk
 pub mod World
 pub mod Serial
+pub mod Toy
