@@ -84,11 +84,15 @@ module _ {L : Lang} where
   abbrev pub Gone : (L.Site → SiteState L) → L.Site × Name → Type 0
   Gone sites v = Drawn (sites v.0) v.1 × (is_dead ((sites v.0).status v.1) ≡ true)
 
+  -- a voter of a commit row
+  abbrev pub Votes : (L.Site → Name → Name) → (L.Site → SiteState L) → Name → L.Site × Name → Type 0
+  Votes o sites t v = Drawn (sites v.0) v.1 × (o v.0 v.1 ≡ t) × (is_alive ((sites v.0).status v.1) ≡ false)
+
   pub record Fit (o : L.Site → Name → Name) (w : World L) : Type 0 where
     pub live : (a : L.Site) (k : Name) → is_dead ((w.sites a).status k) ≡ false → Drawn (w.sites a) k
     pub prepared : (a : L.Site) (k t : Name) (i : L.Intentions) → (w.sites a).status k ≡ Prepared t i → PreparedAt o w.desk w.past a k t
     pub born : (t : Name) (u : Undecided L) → w.desk.txn t ≡ Known u → Born w.desk t
     pub known : (t : Name) (u : Undecided L) → w.desk.txn t ≡ Known u → KnownAt o w.sites t u
-    pub rows : (t : Name) (vs acked : List (L.Site × Name)) → w.desk.txn t ≡ Row vs acked → IsCommitted w.past t × Every (Gone w.sites) acked
+    pub rows : (t : Name) (vs acked : List (L.Site × Name)) → w.desk.txn t ≡ Row vs acked → IsCommitted w.past t × Every (Gone w.sites) acked × Every (Votes o w.sites t) vs
     pub committed : (t : Name) → IsCommitted w.past t → Born w.desk t × Und w.desk t (λ u. ⊥)
     pub letters : Every (Fits o w.desk w.past w.sites) w.letters

@@ -7,7 +7,7 @@ use Rattle.protocol.specs.Site.{Visit, Status, Dead, Alive, Prepared, SiteState,
 use Rattle.protocol.specs.Desk.{Undecided, Known, Row, Voting, Deed, Desk}
 use Rattle.protocol.specs.World.{World, is_site, with_site}
 use Rattle.protocol.proofs.Basics.{Every, In, put_all, put_here, every_append, every_more, clash}
-use Rattle.protocol.proofs.Fits.{Drawn, Born, Und, Own, OwnVoting, IsCommitted, FitsVote, FitsBody, Fits, PreparedAt, VoteAt, KnownAt, Gone, Fit}
+use Rattle.protocol.proofs.Fits.{Drawn, Born, Und, Own, OwnVoting, IsCommitted, FitsVote, FitsBody, Fits, PreparedAt, VoteAt, KnownAt, Gone, Votes, Fit}
 
 module _ {L : Lang} where
   -- how a site may change: drawn tickets stay drawn, the dead stay dead, a prepared row of an undecided transaction stays, and a new one is its transaction's own
@@ -85,7 +85,8 @@ module _ {L : Lang} where
             none = known.none;
             named = known.named;
           };
-          rows = λ t vs acked e. ((fit.rows t vs acked e).0, every_more (Gone w.sites) (Gone (put L.same_site a new w.sites)) acked (λ v gone. ((at v.0).drawn v.1 gone.0, (at v.0).dead v.1 gone.0 gone.1)) (fit.rows t vs acked e).1);
+          rows = λ t vs acked e. ((fit.rows t vs acked e).0, every_more (Gone w.sites) (Gone (put L.same_site a new w.sites)) acked (λ v gone. ((at v.0).drawn v.1 gone.0, (at v.0).dead v.1 gone.0 gone.1)) (fit.rows t vs acked e).1,
+            every_more (Votes o w.sites t) (Votes o (put L.same_site a new w.sites) t) vs (λ v is. ((at v.0).drawn v.1 is.0, is.1, (at v.0).quiet v.1 is.0 is.2)) (fit.rows t vs acked e).2);
           committed = fit.committed;
           letters = every_append (Fits o w.desk w.past (put L.same_site a new w.sites)) w.letters letters
             (every_more (Fits o w.desk w.past w.sites) (Fits o w.desk w.past (put L.same_site a new w.sites)) w.letters
