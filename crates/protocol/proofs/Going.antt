@@ -46,7 +46,7 @@ module _ {L : Lang} where
 
 module _ {L : Lang} (law : IsLawful L) (o : L.Site → Name → Name) (w : World L) (t : Name) (fit : Fit o w) (u : Undecided L) (e : w.desk.txn t ≡ Known u) (quiet : is_voting u.stage ≡ false) (v : Undecided L) (grows : Grows u v) (known : KnownAt o w.sites t v) where
   -- a stage that isn't the first phase keeps what is known
-  known_at : (visited : L.Site → Bool) (sent : L.Site → ℕ) (stage : Stage L) → ((a : L.Site) → v.visited a ≡ true → visited a ≡ true) → is_voting stage ≡ false → KnownAt o w.sites t (record v { visited = visited; sent = sent; stage = stage })
+  pub known_at : (visited : L.Site → Bool) (sent : L.Site → ℕ) (stage : Stage L) → ((a : L.Site) → v.visited a ≡ true → visited a ≡ true) → is_voting stage ≡ false → KnownAt o w.sites t (record v { visited = visited; sent = sent; stage = stage })
   known_at visited sent stage more other = record {
     tickets = λ a k own. let ticket = known.tickets a k own in (ticket.0, ticket.1, more a ticket.2, ticket.3);
     votes = λ votes is. absurd (not_voting votes is);
@@ -57,7 +57,7 @@ module _ {L : Lang} (law : IsLawful L) (o : L.Site → Name → Name) (w : World
       not_voting : (votes : L.Site → Option Vote) → stage ≡ Voting votes → ⊥
       not_voting votes is = let f : true ≡ false = sym (ap is_voting is) ∙ other in cc
 
-  grows_to : (visited : L.Site → Bool) (sent : L.Site → ℕ) (stage : Stage L) → ((a : L.Site) → v.visited a ≡ true → visited a ≡ true) → Grows u (record v { visited = visited; sent = sent; stage = stage })
+  pub grows_to : (visited : L.Site → Bool) (sent : L.Site → ℕ) (stage : Stage L) → ((a : L.Site) → v.visited a ≡ true → visited a ≡ true) → Grows u (record v { visited = visited; sent = sent; stage = stage })
   grows_to visited sent stage more = record { ticket = grows.ticket; visited = λ a is. more a (grows.visited a is); voting = λ is. let f : true ≡ false = sym is ∙ quiet in cc }
 
   opens_fit : (leaves : List L.Leaf) (x : Undecided L) (past : List (Deed L)) → ((a : L.Site) → (v.visited a || is_new v leaves a) ≡ true → x.visited a ≡ true) → Every (Fits o (desk_after w.desk t (Known x)) past w.sites) (opens t v leaves)
