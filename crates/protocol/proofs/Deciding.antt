@@ -13,10 +13,10 @@ use Rattle.protocol.proofs.DeskFits.{Grows, grows_same, TurnFine, split}
 use Rattle.protocol.proofs.Turns.{known_is, und_put, goes_fine, ends_fine, not_yet, every_letter}
 
 module _ {L : Lang} where
-  voters_is : (ws acked vs done : List (L.Site × Name)) → let r : Txn L = Row vs done in r ≡ Row ws acked → ws ≡ vs
+  pub voters_is : (ws acked vs done : List (L.Site × Name)) → let r : Txn L = Row vs done in r ≡ Row ws acked → ws ≡ vs
   voters_is ws acked vs done g = cc
 
-  acked_is : (ws acked vs done : List (L.Site × Name)) → let r : Txn L = Row vs done in r ≡ Row ws acked → acked ≡ done
+  pub acked_is : (ws acked vs done : List (L.Site × Name)) → let r : Txn L = Row vs done in r ≡ Row ws acked → acked ≡ done
   acked_is ws acked vs done g = cc
 
 module _ {L : Lang} (law : IsLawful L) where

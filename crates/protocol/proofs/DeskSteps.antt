@@ -12,7 +12,7 @@ use Rattle.protocol.proofs.Fits.{Drawn, Born, Und, is_voting, Own, Other, OwnVot
 use Rattle.protocol.proofs.SiteFits.{not_prepared}
 use Rattle.protocol.proofs.DeskFits.{Grows, grows_same, TurnFine, turn_later, letters_desk, split}
 use Rattle.protocol.proofs.Turns.{known_is, und_put, still_fine, goes_fine, ends_fine, not_yet, every_letter}
-use Rattle.protocol.proofs.Deciding.{ends_letters, votes_fine, votes_letters}
+use Rattle.protocol.proofs.Deciding.{voters_is, acked_is, ends_letters, votes_fine, votes_letters}
 use Rattle.protocol.proofs.Going.{Good, known_at, grows_to, asks_good, writes_good}
 
 pub named_is : (m : Option Name) (k : Name) → is_named m k ≡ true → m ≡ Some k
@@ -214,3 +214,89 @@ module _ {L : Lang} where
         known_good kept choice (Voted k x) here = either_if (Good o w t) (is_named (u.ticket a) k) _ _ (λ is. vote_good kept k x (named_is (u.ticket a) k is) here u.stage refl) (λ other. same_good u e)
         known_good kept choice (Ack k) here = same_good u e
         known_good kept choice (Inquire k) here = same_good u e
+
+      -- an unknown transaction hears Abort; nothing of it is prepared if it was committed
+      abort_unknown : (k : Name) → w.desk.txn t ≡ Unknown → Born w.desk t → Drawn (w.sites a) k → o a k ≡ t → Fits o w.desk w.past w.sites (record { site = a; txn = t; body = Abort k })
+      abort_unknown k e born drawn owner = (born, (drawn, owner, (λ u f. let g : Unknown ≡ Known u = sym e ∙ f in cc),
+        λ done. not_prepared ((w.sites a).status k) (λ j i row.
+          let p = fit.prepared a k j i row in
+          let is : j ≡ t = sym p.owner ∙ owner in
+          let v = p.voter (subst (IsCommitted w.past) (sym is) done) in
+          let g : Unknown ≡ Row v.0 v.1 = sym e ∙ subst (λ n. w.desk.txn n ≡ Row v.0 v.1) is v.2 in cc)))
+
+      unknown_good : (b : Body L) → w.desk.txn t ≡ Unknown → Born w.desk t → FitsBody o w.desk w.past a (w.sites a) t b → Good o w t (on_unknown t a b)
+      unknown_good Open e born here = still_good Unknown [] e tt
+      unknown_good (Fetch k op g q) e born here = still_good Unknown [] e tt
+      unknown_good (Write k op g x) e born here = still_good Unknown [] e tt
+      unknown_good (Prepare k n) e born here = still_good Unknown [] e tt
+      unknown_good (Commit k) e born here = still_good Unknown [] e tt
+      unknown_good (Abort k) e born here = still_good Unknown [] e tt
+      unknown_good (Ticket k) e born here = still_good Unknown (record { site = a; txn = t; body = Abort k } ∷ []) e (abort_unknown k e born here.0 here.1, tt)
+      unknown_good (Rows k n rows) e born here = still_good Unknown [] e tt
+      unknown_good (Refused k reason) e born here = still_good Unknown [] e tt
+      unknown_good (Voted k x) e born here = still_good Unknown [] e tt
+      unknown_good (Ack k) e born here = still_good Unknown [] e tt
+      unknown_good (Inquire k) e born here = still_good Unknown (record { site = a; txn = t; body = Abort k } ∷ []) e (abort_unknown k e born here.0 here.1, tt)
+
+      module _ (vs acked : List (L.Site × Name)) (e : w.desk.txn t ≡ Row vs acked) where
+        row_acks : (new : List (L.Site × Name)) → Every (Gone w.sites) new → TurnFine o w t (stays (Row vs new))
+        row_acks new gone = record {
+          grows = λ z f. cc;
+          known = λ z f. cc;
+          rows = λ ws done f. let r = fit.rows t vs acked e in (inl r.0, subst (Every (Gone w.sites)) (sym (acked_is ws done vs new f)) gone, subst (Every (Votes o w.sites t)) (sym (voters_is ws done vs new f)) r.2);
+          only = λ j other. refl;
+          commits = λ done. cc;
+          keeps = λ ws done f b k i here row. (new, ap (λ z. row_of z new) (voters_is vs acked ws done (sym f ∙ e)));
+        }
+          where
+            row_of : List (L.Site × Name) → List (L.Site × Name) → Txn L
+            row_of xs ys = Row xs ys
+
+        -- when all voters have acknowledged, none is prepared
+        row_goes : (new : List (L.Site × Name)) → Every (Gone w.sites) new → are_acked L vs new ≡ true → TurnFine o w t (stays Unknown)
+        row_goes new gone all = record {
+          grows = λ z f. cc;
+          known = λ z f. cc;
+          rows = λ ws done f. cc;
+          only = λ j other. refl;
+          commits = λ done. cc;
+          keeps = λ ws done f b k i here row.
+            let at = all_in (λ (v : L.Site × Name). list_any (is_pair L v.0 v.1) new) (b, k) vs all (subst (In (b, k)) (voters_is ws done vs acked (sym e ∙ f)) here) in
+            let x = found (is_pair L b k) new at in
+            let dead = every_in (Gone w.sites) new x.0 gone x.1 in
+            let site : x.0.0 ≡ b = (law.sites x.0.0 b).0 (left_true (L.same_site x.0.0 b) (same x.0.1 k) x.2) in
+            let name : x.0.1 ≡ k = (same_law x.0.1 k).0 (right_true (L.same_site x.0.0 b) (same x.0.1 k) x.2) in
+            clash (subst (λ n. is_dead ((w.sites b).status n) ≡ true) name (subst (λ c. is_dead ((w.sites c).status x.0.1) ≡ true) site dead.1)) (ap is_dead row);
+        }
+
+        row_same : Good o w t (stays (Row vs acked))
+        row_same = still_good (Row vs acked) [] e tt
+
+        ack_good : (kept : Bool) (k : Name) → FitsBody o w.desk w.past a (w.sites a) t (Ack k) → Good o w t (on_ack vs acked (a, k) kept)
+        ack_good kept k here =
+            let more : Every (Gone w.sites) ((a, k) ∷ acked) = ((here.0, here.2), (fit.rows t vs acked e).1) in
+            either (Good o w t) (list_any (is_pair L a k) vs) _ _
+              (either_if (Good o w t) (are_acked L vs ((a, k) ∷ acked)) _ _
+                (λ all. either (Good o w t) kept _ _ (record { fine = row_goes ((a, k) ∷ acked) more all; letters = tt }) row_same)
+                (λ some. record { fine = row_acks ((a, k) ∷ acked) more; letters = tt }))
+              row_same
+
+        row_good : (kept : Bool) (b : Body L) → Born w.desk t → FitsBody o w.desk w.past a (w.sites a) t b → Good o w t (on_row t vs acked a kept b)
+        row_good kept Open born here = row_same
+        row_good kept (Fetch k op g q) born here = row_same
+        row_good kept (Write k op g x) born here = row_same
+        row_good kept (Prepare k n) born here = row_same
+        row_good kept (Commit k) born here = row_same
+        row_good kept (Abort k) born here = row_same
+        row_good kept (Ticket k) born here = row_same
+        row_good kept (Rows k n rows) born here = row_same
+        row_good kept (Refused k reason) born here = row_same
+        row_good kept (Voted k x) born here = row_same
+        row_good kept (Ack k) born here = ack_good kept k here
+        row_good kept (Inquire k) born here = still_good (Row vs acked) (record { site = a; txn = t; body = Commit k } ∷ []) e ((born, (here.0, here.1, (fit.rows t vs acked e).0, here.2)), tt)
+
+      -- a letter from a site
+      pub letter_good : (kept : Bool) (choice : Choice L) (b : Body L) (x : Txn L) → w.desk.txn t ≡ x → Born w.desk t → FitsBody o w.desk w.past a (w.sites a) t b → Good o w t (on_desk_letter t a kept choice b x)
+      letter_good kept choice b Unknown e born here = unknown_good b e born here
+      letter_good kept choice b (Known u) e born here = known_good u e kept choice b here
+      letter_good kept choice b (Row vs acked) e born here = row_good vs acked e kept b born here

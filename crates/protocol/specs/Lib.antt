@@ -4,4 +4,5 @@ pub mod Site
 pub mod Desk
 pub mod World
 pub mod Serial
+pub mod Whole
 pub mod Toy
