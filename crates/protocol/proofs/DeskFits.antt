@@ -55,7 +55,7 @@ module _ {L : Lang} where
     body_desk a t (Refused k reason) born fit_b = fit_b
     body_desk a t (Voted k Yes) born (drawn, owner, vote) = (drawn, owner, (vote.0, λ v e. let g = later.grown t born v e in vote.1 g.0 g.1))
     body_desk a t (Voted k No) born (drawn, owner, vote) = (drawn, owner, vote)
-    body_desk a t (Voted k Read) born (drawn, owner, vote) = (drawn, owner, vote)
+    body_desk a t (Voted k Read) born (drawn, owner, vote) = (drawn, owner, (vote.0, λ v e. let g = later.grown t born v e in g.2.voting (vote.1 g.0 g.1)))
     body_desk a t (Ack k) born fit_b = fit_b
     body_desk a t (Inquire k) born fit_b = fit_b
 

@@ -193,7 +193,7 @@ module _ {L : Lang} where
           counts_good : (kept : Bool) (x : Vote) → FitsBody o w.desk w.past a (w.sites a) t (Voted k x) → Good o w t (counts t u a votes kept x)
           counts_good kept Yes here = votes_good kept Yes (here.2.1 u e) (λ is. cc)
           counts_good kept No here = ends_good u e (record u { stage = Voting (put L.same_site a (Some No) votes) }) (Aborted t By_vote) (λ b j is. is) (λ j. refl)
-          counts_good kept Read here = votes_good kept Read here.2 (λ is. cc)
+          counts_good kept Read here = votes_good kept Read here.2.0 (λ is. cc)
 
         vote_good : (kept : Bool) (k : Name) (x : Vote) → Own a k u → FitsBody o w.desk w.past a (w.sites a) t (Voted k x) → (stage : Stage L) → u.stage ≡ stage → Good o w t (on_vote t u a kept x stage)
         vote_good kept k x own here Idle f = same_good u e

@@ -40,7 +40,7 @@ module _ {L : Lang} where
   -- what a vote that was put out says
   abbrev pub FitsVote : Desk L → SiteState L → Name → Name → Vote → Type 0
   FitsVote d s t k Yes = (is_alive (s.status k) ≡ false) × Und d t (λ u. (i : L.Intentions) × (s.status k ≡ Prepared t i))
-  FitsVote d s t k Read = is_dead (s.status k) ≡ true
+  FitsVote d s t k Read = (is_dead (s.status k) ≡ true) × Und d t (λ u. is_voting u.stage ≡ true)
   FitsVote d s t k No = ⊤
 
   -- what a letter to or from the site a, whose state is s, says of its ticket

@@ -36,6 +36,12 @@ pub none_left : {A : Type 0} (xs ys : List A) → length xs ≡ length (xs ++ ys
 none_left xs ys n = let h = length_of xs ys in nil_of_length ys (omega arith)
 
 module _ {L : Lang} where
+  pub get_leaf : (h g : L.Leaf) (p q : L.Query) → (let x : Op L = Get h p in x ≡ Get g q) → h ≡ g
+  get_leaf h g p q e = cc
+
+  pub get_set : (h g : L.Leaf) (p : L.Query) (x : L.Write) → (let y : Op L = Get h p in y ≡ Set g x) → ⊥
+  get_set h g p x e = cc
+
   -- the writes among operations
   abbrev pub sets : List (Op L) → List (L.Leaf × L.Write)
   sets [] = []

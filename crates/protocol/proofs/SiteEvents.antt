@@ -16,10 +16,10 @@ abbrev pub owned : (L : Lang) → L.Site → Name → Name → (L.Site → Name 
 owned L a k t o b j = if L.same_site b a && same j k then t else o b j
 
 module _ {L : Lang} where
-  drawn_next : (s : SiteState L) (k : Name) → Drawn s k → Drawn (site_after s Opens) k
+  pub drawn_next : (s : SiteState L) (k : Name) → Drawn s k → Drawn (site_after s Opens) k
   drawn_next s k h = ⊎_elim (λ below. inl below) (λ same_life. inr (same_life.0, le_trans same_life.1 (le_of_lt (lt-suc_self s.number)))) h
 
-  drawn_restarted : (s : SiteState L) (k : Name) → Drawn s k → Drawn (site_restarted s) k
+  pub drawn_restarted : (s : SiteState L) (k : Name) → Drawn s k → Drawn (site_restarted s) k
   drawn_restarted s k h = inl (omega arith)
 
   module _ (o p : L.Site → Name → Name) (d : Desk L) (past : List (Deed L)) (b : L.Site) (s : SiteState L) (alike : (j : Name) → Drawn s j → p b j ≡ o b j) where

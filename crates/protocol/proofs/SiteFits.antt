@@ -32,7 +32,7 @@ module _ {L : Lang} where
     vote_later : (t k : Name) (x : Vote) → Drawn s k → FitsVote d s t k x → FitsVote d new t k x
     vote_later t k Yes drawn (quiet, held) = (later.quiet k drawn quiet, λ u e. ((held u e).0, later.stays k t (held u e).0 u e (held u e).1))
     vote_later t k No drawn fit = fit
-    vote_later t k Read drawn fit = later.dead k drawn fit
+    vote_later t k Read drawn fit = (later.dead k drawn fit.0, fit.1)
 
     never_prepared : (t k : Name) → o a k ≡ t → (IsCommitted past t → is_prepared (s.status k) ≡ false) → IsCommitted past t → is_prepared (new.status k) ≡ false
     never_prepared t k owner before done = not_prepared (new.status k) (λ u i e. ⊎_elim

@@ -135,7 +135,7 @@ module _ {L : Lang} where
     letter_said t b act fit_b (prepares k n v e done) no_open =
         let now = put_here same same_law k (Prepared t v.changes) (w.sites a).status in
         ((fit_b.0, fit_b.1, (ap is_alive now, λ u known. (v.changes, now))), tt)
-    letter_said t b act fit_b (only_read k n v e done empty) no_open = ((fit_b.0, fit_b.1, ap is_dead (put_here same same_law k Dead (w.sites a).status)), tt)
+    letter_said t b act fit_b (only_read k n v e done empty) no_open = ((fit_b.0, fit_b.1, (ap is_dead (put_here same same_law k Dead (w.sites a).status), λ u f. (fit_b.2 u f).1)), tt)
     letter_said t b act fit_b (votes_no k n v e) no_open = ((fit_b.0, fit_b.1, tt), tt)
     letter_said t b act fit_b (refuses c k v reason e) no_open = (tt, tt)
     letter_said t b act fit_b (applies k u i e) no_open = ((fit_b.0, fit_b.1, ap is_dead (put_here same same_law k Dead (w.sites a).status)), tt)
