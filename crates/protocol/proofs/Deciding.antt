@@ -24,7 +24,7 @@ module _ {L : Lang} (law : IsLawful L) where
   site_in a sites e = let f = found (λ b. L.same_site b a) sites e in subst (λ b. In b sites) ((law.sites f.0 a).0 f.2) f.1
 
   -- Aborts go to own tickets
-  aborts_to : (u : Undecided L) (a : L.Site) (b : Body L) (x : Bool) (m : Option Name) → u.ticket a ≡ m → when x (to_abort m) ≡ Some b → (k : Name) × Own a k u × (b ≡ Abort k)
+  pub aborts_to : (u : Undecided L) (a : L.Site) (b : Body L) (x : Bool) (m : Option Name) → u.ticket a ≡ m → when x (to_abort m) ≡ Some b → (k : Name) × Own a k u × (b ≡ Abort k)
   aborts_to u a b true None e f = cc
   aborts_to u a b true (Some k) e f = (k, e, sym (some_is f))
   aborts_to u a b false m e f = cc

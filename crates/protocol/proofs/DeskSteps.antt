@@ -23,7 +23,7 @@ module _ {L : Lang} where
   pub votes_is : (f g : L.Site → Option Vote) → (let s : Stage L = Voting f in s ≡ Voting g) → f ≡ g
   votes_is f g e = cc
 
-  prepares_to : (u : Undecided L) (a : L.Site) (b : Body L) (x : Bool) (m : Option Name) → u.ticket a ≡ m → when x (to_prepare u a m) ≡ Some b → (k : Name) × Own a k u × (b ≡ Prepare k (u.sent a))
+  pub prepares_to : (u : Undecided L) (a : L.Site) (b : Body L) (x : Bool) (m : Option Name) → u.ticket a ≡ m → when x (to_prepare u a m) ≡ Some b → (k : Name) × Own a k u × (b ≡ Prepare k (u.sent a))
   prepares_to u a b true None e f = cc
   prepares_to u a b true (Some k) e f = (k, e, sym (some_is f))
   prepares_to u a b false m e f = cc

@@ -40,7 +40,7 @@ module _ {L : Lang} where
       go None e rest = rest sent
       go (Some k) e rest = (each x.0 x.1 k (suc (sent (L.home x.0))) e, rest (put L.same_site (L.home x.0) (suc (sent (L.home x.0))) sent))
 
-  opening_is : (x : Bool) (b : Body L) → opening x ≡ Some b → (x ≡ true) × (b ≡ Open)
+  pub opening_is : (x : Bool) (b : Body L) → opening x ≡ Some b → (x ≡ true) × (b ≡ Open)
   opening_is true b e = (refl, sym (some_is e))
   opening_is false b e = cc
 
