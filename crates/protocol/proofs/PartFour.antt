@@ -130,7 +130,7 @@ module _ {L : Lang} where
     turns_fit o w t turn fit good = either (Fit o) (is_desk_within (desk_after w.desk t turn.txn)) (turned w t turn) w (good_moves o w t turn fit good) fit
 
     comes_fit : (o : L.Site → Name → Name) (w : World L) (kept : Bool) (choice : Choice L) (l : Letter L) → Fit o w → Fits o w.desk w.past w.sites l → (desk : Bool) → (p : L.Site → Name → Name) × Fit p (comes_to desk w kept choice l)
-    comes_fit o w kept choice l fit here false = site_letter law o w l.site l.txn kept l.body fit here.0 here.1
+    comes_fit o w kept choice l fit here false = let r = site_letter law o w l.site l.txn kept l.body fit here.0 here.1 in (r.0, r.1)
     comes_fit o w kept choice l fit here true = (o, turns_fit o w l.txn (on_desk_letter l.txn l.site kept choice l.body (w.desk.txn l.txn)) fit (letter_good law o w l.txn fit l.site kept choice l.body (w.desk.txn l.txn) refl here.0 here.1))
 
     delivered_fit : (o : L.Site → Name → Name) (w : World L) (kept : Bool) (choice : Choice L) (n : ℕ) (l : Option (Letter L)) → slice_get w.letters n ≡ l → Fit o w → (p : L.Site → Name → Name) × Fit p (delivered w kept choice l)

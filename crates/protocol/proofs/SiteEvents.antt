@@ -37,6 +37,10 @@ module _ {L : Lang} where
     body_reowned t (Ack k) (drawn, owner, rest) = (drawn, alike k drawn ∙ owner, rest)
     body_reowned t (Inquire k) (drawn, owner, rest) = (drawn, alike k drawn ∙ owner, rest)
 
+  -- new owners agree with the old where a ticket was drawn
+  abbrev pub Alike : (o p : L.Site → Name → Name) → World L → Type 0
+  Alike o p w = (b : L.Site) (j : Name) → Drawn (w.sites b) j → p b j ≡ o b j
+
   fit_reowned : (o p : L.Site → Name → Name) (w : World L) → ((b : L.Site) (j : Name) → Drawn (w.sites b) j → p b j ≡ o b j) → Fit o w → Fit p w
   fit_reowned o p w alike fit = record {
     live = fit.live;
@@ -97,18 +101,18 @@ module _ {L : Lang} where
     not_open b other e = clash (ap is_open e) other
 
     other_letter : (o : L.Site → Name → Name) (w : World L) (a : L.Site) (t : Name) (b : Body L) (act : Act L) → Fit o w → Born w.desk t → FitsBody o w.desk w.past a (w.sites a) t b → Acted (w.sites a) t b act → ((b ≡ Open) → ⊥) →
-        (p : L.Site → Name → Name) × Fit p (site_steps w a (site_after (w.sites a) act) (addressed a t (said (w.sites a) act)))
-    other_letter o w a t b act fit born here row other = either (λ v. (p : L.Site → Name → Name) × Fit p v) (is_within (site_after (w.sites a) act)) (with_site w a (site_after (w.sites a) act) (addressed a t (said (w.sites a) act))) w
+        (p : L.Site → Name → Name) × Fit p (site_steps w a (site_after (w.sites a) act) (addressed a t (said (w.sites a) act))) × Alike o p w
+    other_letter o w a t b act fit born here row other = either (λ v. (p : L.Site → Name → Name) × Fit p v × Alike o p w) (is_within (site_after (w.sites a) act)) (with_site w a (site_after (w.sites a) act) (addressed a t (said (w.sites a) act))) w
         (o, site_moves law o w a (site_after (w.sites a) act) (addressed a t (said (w.sites a) act)) fit (letter_later o w a fit t b act born here row other)
-          (addressed_fit o w a (site_after (w.sites a) act) t (said (w.sites a) act) born (letter_said o w a fit t b act here row other)))
-        (o, fit)
+          (addressed_fit o w a (site_after (w.sites a) act) t (said (w.sites a) act) born (letter_said o w a fit t b act here row other)), λ b j h. refl)
+        (o, fit, λ b j h. refl)
 
     -- a letter comes to its site
     pub site_letter : (o : L.Site → Name → Name) (w : World L) (a : L.Site) (t : Name) (kept : Bool) (b : Body L) → Fit o w → Born w.desk t → FitsBody o w.desk w.past a (w.sites a) t b →
-        (p : L.Site → Name → Name) × Fit p (site_steps w a (site_after (w.sites a) (on_letter (w.sites a) t kept b)) (addressed a t (said (w.sites a) (on_letter (w.sites a) t kept b))))
+        (p : L.Site → Name → Name) × Fit p (site_steps w a (site_after (w.sites a) (on_letter (w.sites a) t kept b)) (addressed a t (said (w.sites a) (on_letter (w.sites a) t kept b)))) × Alike o p w
     unfolding is_open
-    site_letter o w a t kept Open fit born here = either (λ v. (p : L.Site → Name → Name) × Fit p v) (is_within (site_after (w.sites a) Opens)) (with_site w a (site_after (w.sites a) Opens) (addressed a t (said (w.sites a) Opens))) w
-        (owned L a (next_ticket (w.sites a)) t o, open_fit o w a t fit born here) (o, fit)
+    site_letter o w a t kept Open fit born here = either (λ v. (p : L.Site → Name → Name) × Fit p v × Alike o p w) (is_within (site_after (w.sites a) Opens)) (with_site w a (site_after (w.sites a) Opens) (addressed a t (said (w.sites a) Opens))) w
+        (owned L a (next_ticket (w.sites a)) t o, open_fit o w a t fit born here, alike_where_new law o w a (next_ticket (w.sites a)) t (not_drawn (w.sites a))) (o, fit, λ b j h. refl)
     site_letter o w a t kept b fit born here = other_letter o w a t b (on_letter (w.sites a) t kept b) fit born here (acted (w.sites a) t kept b) (not_open b refl)
 
     -- a restart
