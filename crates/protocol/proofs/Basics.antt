@@ -143,6 +143,12 @@ in_left x [] ys here = absurd here
 in_left x (y ∷ xs) ys (inl e) = inl e
 in_left x (y ∷ xs) ys (inr below) = inr (in_left x xs ys below)
 
+pub in_at : {A : Type 0} (xs : List A) (n : ℕ) (x : A) → slice_get xs n ≡ Some x → In x xs
+in_at [] zero x e = cc
+in_at [] (suc n) x e = cc
+in_at (y ∷ ys) zero x e = inl (sym (some_is e))
+in_at (y ∷ ys) (suc n) x e = inr (in_at ys n x e)
+
 pub in_right : {A : Type 0} (x : A) (xs ys : List A) → In x ys → In x (xs ++ ys)
 in_right x [] ys here = here
 in_right x (y ∷ xs) ys here = inr (in_right x xs ys here)

@@ -2,7 +2,7 @@
 use Rattle.std.proofs.Common.{◌≡◌, refl, sym, ap, ◌∙◌, subst, Bool, true, false, ◌&&◌, ◌||◌, not, List, [], ◌∷◌, ◌++◌, ◌⊎◌, inl, inr, ⊎_elim, Option, Some, None, is_some, if◌then◌else◌}
 use Rattle.std.proofs.lemmas.List.Folds.{list_any-append}
 use Rattle.protocol.specs.Language.{Lang, IsLawful, Name, same, put}
-use Rattle.protocol.specs.Letter.{Yes, No, Read, Vote, Body, Prepare, Commit, Abort, Letter, letters_to}
+use Rattle.protocol.specs.Letter.{Yes, No, Read, Vote, Body, Prepare, Commit, Abort, Voted, Letter, letters_to}
 use Rattle.protocol.specs.Site.{Status, Dead, Alive, Prepared, SiteState, is_dead, is_alive, is_prepared}
 use Rattle.protocol.specs.Desk.{Stage, Voting, Undecided, Txn, Unknown, Known, Row, Deed, Phased, Committed, Aborted, By_store, Desk, Turn, desk_after, ends_by, voter_at, voters_of, are_all_in, decides, votes_go, commits, may_hold, vote_at, to_abort, when, to_prepare, stays}
 use Rattle.protocol.specs.World.{World, is_site}
@@ -40,7 +40,7 @@ module _ {L : Lang} (law : IsLawful L) where
           (ticket.0, ticket.1, und_put w.desk t Unknown _ (λ x f. cc),
             λ done. absurd (⊎_elim (λ was. not_yet o w t fit u e was) (λ now. clash now.1 (none t)) (split o w t (record { txn = Unknown; letters = []; deeds = d ∷ [] }) fit (ends_fine o w t fit u [] (d ∷ []) e none) t done)))))
 
-    module _ (v : Undecided L) (votes : L.Site → Option Vote) (known : KnownAt o w.sites t v) (stage : v.stage ≡ Voting votes) where
+    module _ (v : Undecided L) (votes : L.Site → Option Vote) (known : KnownAt o w.sites w.letters t v) (stage : v.stage ≡ Voting votes) where
       -- a voter voted Yes with its ticket
       abbrev IsVoter : L.Site × Name → Type 0
       IsVoter x = (votes x.0 ≡ Some Yes) × Own x.0 x.1 v
@@ -74,6 +74,12 @@ module _ {L : Lang} (law : IsLawful L) where
           dead_quiet (Alive x) d = cc
           dead_quiet (Prepared n i) d = refl
 
+      dead_read : (a : L.Site) (k : Name) → Own a k v → (x : Option Vote) → votes a ≡ x → is_some x ≡ true → (is_dead ((w.sites a).status k) ≡ false) ⊎ In (record { site = a; txn = t; body = Voted k Read }) w.letters
+      dead_read a k own None f some = cc
+      dead_read a k own (Some Yes) f some = inl (ap is_dead (known.votes votes stage a Yes f k own).1)
+      dead_read a k own (Some No) f some = absurd (known.none votes stage a f)
+      dead_read a k own (Some Read) f some = inr (known.reads votes stage a k f own)
+
       pub all_quiet : are_all_in v votes ≡ true → (a : L.Site) (k : Name) → Own a k v → is_alive ((w.sites a).status k) ≡ false
       all_quiet all a k own = quiet_by a k own (votes a) refl (has_voted all a k own)
 
@@ -106,7 +112,7 @@ module _ {L : Lang} (law : IsLawful L) where
           (inr (list_any-append (commits_it t) before (Committed t ∷ []) ∙ or_right (is_committed before t) (same t t || false) (or_left (same t t) false (same_refl t))),
             subst (Every (Gone w.sites)) (sym r.1) tt, subst (Every (Votes o w.sites t)) (sym r.0) (every_more IsVoter (Votes o w.sites t) (voters_of v votes) votes_of_voters voters_are));
         only = λ j other. list_any-append (commits_it j) before (Committed t ∷ []) ∙ both_false (is_committed before j) (same t j || false) (none j) (both_false (same t j) false (not_same j other) refl);
-        commits = λ done. (u, e, unknown, λ a k mine. all_quiet all a k (own a k mine), λ a k i mine held. voter (a, k) (prepared_votes all a k i (own a k mine) held));
+        commits = λ done. (u, e, unknown, λ a k mine. all_quiet all a k (own a k mine), λ a k mine. dead_read a k (own a k mine) (votes a) refl (has_voted all a k (own a k mine)), λ a k i mine held. voter (a, k) (prepared_votes all a k i (own a k mine) held));
         keeps = λ ws acked f. let g : Known u ≡ Row ws acked = sym e ∙ f in cc;
       }
         where
@@ -125,7 +131,7 @@ module _ {L : Lang} (law : IsLawful L) where
         (λ j. list_any-append (commits_it j) before (Aborted t By_store ∷ []) ∙ ap (λ b. b || false) (none j))
 
   -- a vote more, or the first phase that begins
-  module _ (o : L.Site → Name → Name) (w : World L) (t : Name) (fit : Fit o w) (u : Undecided L) (e : w.desk.txn t ≡ Known u) (v : Undecided L) (votes : L.Site → Option Vote) (known : KnownAt o w.sites t (record v { stage = Voting votes })) where
+  module _ (o : L.Site → Name → Name) (w : World L) (t : Name) (fit : Fit o w) (u : Undecided L) (e : w.desk.txn t ≡ Known u) (v : Undecided L) (votes : L.Site → Option Vote) (known : KnownAt o w.sites w.letters t (record v { stage = Voting votes })) where
     pub votes_fine : (kept : Bool) (letters : List (Letter L)) (before : List (Deed L)) → ((j : Name) → is_committed before j ≡ false) → ((a : L.Site) (k : Name) → Own a k u → Own a k v) → Grows u (record v { stage = Voting votes }) →
         TurnFine o w t (record { txn = (votes_go t v votes kept).txn; letters = letters; deeds = before ++ (votes_go t v votes kept).deeds })
     votes_fine kept letters before none own grows = either_if (λ (turn : Turn L). TurnFine o w t (record { txn = turn.txn; letters = letters; deeds = before ++ turn.deeds })) (are_all_in v votes) _ _

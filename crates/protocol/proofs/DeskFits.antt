@@ -8,7 +8,7 @@ use Rattle.protocol.specs.Desk.{Undecided, Txn, Known, Row, Deed, Desk, Turn, de
 use Rattle.protocol.specs.World.{World, turned}
 use Rattle.protocol.specs.Serial.{is_committed, commits_it}
 use Rattle.protocol.proofs.Basics.{Every, In, put_all, put_here, put_there, every_append, every_more, clash, same_law, or_cases, or_left, or_right, by_test, some_is}
-use Rattle.protocol.proofs.Fits.{Drawn, Born, Und, is_voting, Own, Other, OwnVoting, IsCommitted, FitsVote, FitsBody, Fits, PreparedAt, KnownAt, Gone, Votes, Fit}
+use Rattle.protocol.proofs.Fits.{Drawn, Born, Und, is_voting, Own, Other, OwnVoting, IsCommitted, FitsVote, FitsBody, Fits, PreparedAt, KnownAt, known_more, Gone, Votes, Fit}
 use Rattle.protocol.proofs.SiteFits.{not_prepared}
 
 module _ {L : Lang} where
@@ -65,10 +65,11 @@ module _ {L : Lang} where
   -- what a turn of one transaction has to keep
   pub record TurnFine (o : L.Site → Name → Name) (w : World L) (t : Name) (turn : Turn L) : Type 0 where
     pub grows : (v : Undecided L) → turn.txn ≡ Known v → (u : Undecided L) × (w.desk.txn t ≡ Known u) × Grows u v
-    pub known : (v : Undecided L) → turn.txn ≡ Known v → KnownAt o w.sites t v
+    pub known : (v : Undecided L) → turn.txn ≡ Known v → KnownAt o w.sites w.letters t v
     pub rows : (vs acked : List (L.Site × Name)) → turn.txn ≡ Row vs acked → ((IsCommitted w.past t) ⊎ (IsCommitted turn.deeds t)) × Every (Gone w.sites) acked × Every (Votes o w.sites t) vs
     pub only : (j : Name) → same j t ≡ false → is_committed turn.deeds j ≡ false
     pub commits : IsCommitted turn.deeds t → (u : Undecided L) × (w.desk.txn t ≡ Known u) × ((v : Undecided L) → turn.txn ≡ Known v → ⊥) × ((a : L.Site) (k : Name) → Own a k u → is_alive ((w.sites a).status k) ≡ false)
+        × ((a : L.Site) (k : Name) → Own a k u → (is_dead ((w.sites a).status k) ≡ false) ⊎ In (record { site = a; txn = t; body = Voted k Read }) w.letters)
         × ((a : L.Site) (k : Name) (i : L.Intentions) → Own a k u → (w.sites a).status k ≡ Prepared t i → (vs : List (L.Site × Name)) × (acked : List (L.Site × Name)) × (turn.txn ≡ Row vs acked) × In (a, k) vs)
     pub keeps : (vs acked : List (L.Site × Name)) → w.desk.txn t ≡ Row vs acked → (a : L.Site) (k : Name) (i : L.Intentions) → In (a, k) vs → (w.sites a).status k ≡ Prepared t i → (new : List (L.Site × Name)) × (turn.txn ≡ Row vs new)
 
@@ -103,7 +104,7 @@ module _ {L : Lang} where
           (by_test (same j t)))
         (λ now. let c = fine.commits now.1 in
           let own = (fit.prepared a k j i row).own c.0 (subst (λ n. w.desk.txn n ≡ Known c.0) (sym now.0) c.1) in
-          let v = c.4 a k i own.0 (subst (λ n. (w.sites a).status k ≡ Prepared n i) now.0 row) in
+          let v = c.5 a k i own.0 (subst (λ n. (w.sites a).status k ≡ Prepared n i) now.0 row) in
           (v.0, v.1, subst (λ n. put same t turn.txn w.desk.txn n ≡ Row v.0 v.1) (sym now.0) (put_here same same_law t turn.txn w.desk.txn ∙ v.2), v.3))
         (split j done)
 
@@ -116,7 +117,7 @@ module _ {L : Lang} where
         voter = voter_later a k j i row;
       };
       born = put_all same same_law t turn.txn w.desk.txn (λ j x. (v : Undecided L) → x ≡ Known v → Born w.desk j) (λ v e. let g = fine.grows v e in fit.born t g.0 g.1) (λ j other v e. fit.born j v e);
-      known = put_all same same_law t turn.txn w.desk.txn (λ j x. (v : Undecided L) → x ≡ Known v → KnownAt o w.sites j v) fine.known (λ j other v e. fit.known j v e);
+      known = put_all same same_law t turn.txn w.desk.txn (λ j x. (v : Undecided L) → x ≡ Known v → KnownAt o w.sites (w.letters ++ turn.letters) j v) (λ v e. known_more o w.sites w.letters turn.letters t v (fine.known v e)) (λ j other v e. known_more o w.sites w.letters turn.letters j v (fit.known j v e));
       rows = put_all same same_law t turn.txn w.desk.txn (λ j x. (vs acked : List (L.Site × Name)) → x ≡ Row vs acked → IsCommitted (w.past ++ turn.deeds) j × Every (Gone w.sites) acked × Every (Votes o w.sites j) vs)
         (λ vs acked e. let r = fine.rows vs acked e in (⊎_elim (was_committed t) (now_committed t) r.0, r.1, r.2))
         (λ j other vs acked e. let r = fit.rows j vs acked e in (was_committed j r.0, r.1, r.2));

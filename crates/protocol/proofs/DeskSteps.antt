@@ -60,12 +60,13 @@ module _ {L : Lang} where
       on_state_good s choice (Writing answer ws) f = same_good
       on_state_good s choice (Voting votes) f = same_good
 
-      none_known : KnownAt o w.sites t (record u { stage = Voting (λ a. None) })
+      none_known : KnownAt o w.sites w.letters t (record u { stage = Voting (λ a. None) })
       none_known = record {
         tickets = (fit.known t u e).tickets;
         votes = λ votes is a x counted. absurd (no_vote votes is a x counted);
         none = λ votes is a counted. no_vote votes is a No counted;
         named = λ votes is a x counted. absurd (no_vote votes is a x counted);
+        reads = λ votes is a k counted own. absurd (no_vote votes is a Read counted);
       }
         where
           no_vote : (votes : L.Site → Option Vote) → (let s : Stage L = Voting (λ a. None) in s ≡ Voting votes) → (a : L.Site) (x : Vote) → votes a ≡ Some x → ⊥
@@ -120,7 +121,7 @@ module _ {L : Lang} where
     module _ (a : L.Site) where
       module _ (u : Undecided L) (e : w.desk.txn t ≡ Known u) where
         -- with a first ticket
-        with_ticket : (k : Name) → u.ticket a ≡ None → FitsBody o w.desk w.past a (w.sites a) t (Ticket k) → Grows u (record u { ticket = put L.same_site a (Some k) u.ticket }) × KnownAt o w.sites t (record u { ticket = put L.same_site a (Some k) u.ticket })
+        with_ticket : (k : Name) → u.ticket a ≡ None → FitsBody o w.desk w.past a (w.sites a) t (Ticket k) → Grows u (record u { ticket = put L.same_site a (Some k) u.ticket }) × KnownAt o w.sites w.letters t (record u { ticket = put L.same_site a (Some k) u.ticket })
         with_ticket k free (drawn, owner, site, visited) =
             let known = fit.known t u e in
             (record {
@@ -134,9 +135,11 @@ module _ {L : Lang} where
                 (λ here is. let n = known.named votes stage a x here in let f : None ≡ Some n.0 = sym free ∙ n.1 in cc) (λ b other there is. known.votes votes stage b x there j is) b counted;
               none = known.none;
               named = λ votes stage b x. put_all L.same_site law.sites a (Some k) u.ticket (λ b m. votes b ≡ Some x → (j : Name) × (m ≡ Some j)) (λ here. (k, refl)) (λ b other there. known.named votes stage b x there) b;
+              reads = λ votes stage b j counted. put_all L.same_site law.sites a (Some k) u.ticket (λ b m. votes b ≡ Some Read → m ≡ Some j → In (record { site = b; txn = t; body = Voted j Read }) w.letters)
+                (λ here is. let n = known.named votes stage a Read here in let f : None ≡ Some n.0 = sym free ∙ n.1 in cc) (λ b other there is. known.reads votes stage b j there is) b counted;
             })
 
-        ticket_goes_good : (v : Undecided L) (choice : Choice L) → Grows u v → KnownAt o w.sites t v → (stage : Stage L) → u.stage ≡ stage → Good o w t (ticket_goes t v choice stage)
+        ticket_goes_good : (v : Undecided L) (choice : Choice L) → Grows u v → KnownAt o w.sites w.letters t v → (stage : Stage L) → u.stage ≡ stage → Good o w t (ticket_goes t v choice stage)
         ticket_goes_good v choice grows known Idle f = record { fine = goes_fine o w t fit u v [] [] e grows known (λ j. refl); letters = tt }
         ticket_goes_good v choice grows known (Reading s asks) f = asks_good law o w t fit u e (ap is_voting f) v grows known s asks [] (λ j. refl)
         ticket_goes_good v choice grows known (Writing answer ws) f = writes_good law o w t fit u e (ap is_voting f) v grows known answer ws (λ deeds. deeds) (λ j. refl) (λ j. refl)
@@ -169,8 +172,8 @@ module _ {L : Lang} where
         refused_good (Voting votes) = same_good u e
 
         module _ (votes : L.Site → Option Vote) (stage : u.stage ≡ Voting votes) (k : Name) (own : Own a k u) where
-          voted_known : (x : Vote) → VoteAt (w.sites a) t k x → ((x ≡ No) → ⊥) → KnownAt o w.sites t (record u { stage = Voting (put L.same_site a (Some x) votes) })
-          voted_known x vote counts_ =
+          voted_known : (x : Vote) → VoteAt (w.sites a) t k x → ((x ≡ No) → ⊥) → In (record { site = a; txn = t; body = Voted k x }) w.letters → KnownAt o w.sites w.letters t (record u { stage = Voting (put L.same_site a (Some x) votes) })
+          voted_known x vote counts_ there_ =
               let known = fit.known t u e in
               let new = put L.same_site a (Some x) votes in
               record {
@@ -180,40 +183,43 @@ module _ {L : Lang} where
                   (ap (λ h. h b) (votes_is new vs is) ∙ counted) mine;
                 none = λ vs is b counted. put_all L.same_site law.sites a (Some x) votes (λ b m. m ≡ Some No → ⊥) (λ here. counts_ (some_is here)) (λ b other there. known.none votes stage b there) b (ap (λ h. h b) (votes_is new vs is) ∙ counted);
                 named = λ vs is b y counted. put_all L.same_site law.sites a (Some x) votes (λ b m. m ≡ Some y → (j : Name) × Own b j u) (λ here. (k, own)) (λ b other there. known.named votes stage b y there) b (ap (λ h. h b) (votes_is new vs is) ∙ counted);
+                reads = λ vs is b j counted mine. put_all L.same_site law.sites a (Some x) votes (λ b m. m ≡ Some Read → Own b j u → In (record { site = b; txn = t; body = Voted j Read }) w.letters)
+                  (λ here its. subst (λ n. In (record { site = a; txn = t; body = Voted n Read }) w.letters) (some_is (sym own ∙ its)) (subst (λ y. In (record { site = a; txn = t; body = Voted k y }) w.letters) (some_is here) there_))
+                  (λ b other there its. known.reads votes stage b j there its) b (ap (λ h. h b) (votes_is new vs is) ∙ counted) mine;
               }
 
-          votes_good : (kept : Bool) (x : Vote) → VoteAt (w.sites a) t k x → ((x ≡ No) → ⊥) → Good o w t (votes_go t u (put L.same_site a (Some x) votes) kept)
-          votes_good kept x vote counts_ =
-              let known = voted_known x vote counts_ in
+          votes_good : (kept : Bool) (x : Vote) → VoteAt (w.sites a) t k x → ((x ≡ No) → ⊥) → In (record { site = a; txn = t; body = Voted k x }) w.letters → Good o w t (votes_go t u (put L.same_site a (Some x) votes) kept)
+          votes_good kept x vote counts_ there_ =
+              let known = voted_known x vote counts_ there_ in
               record {
                 fine = votes_fine law o w t fit u e u (put L.same_site a (Some x) votes) known kept (votes_go t u (put L.same_site a (Some x) votes) kept).letters [] (λ j. refl) (λ b j is. is) (record { ticket = λ b j is. is; visited = λ b is. is; voting = λ is. refl });
                 letters = votes_letters law o w t fit u e u (put L.same_site a (Some x) votes) known kept (λ b j is. is);
               }
 
-          counts_good : (kept : Bool) (x : Vote) → FitsBody o w.desk w.past a (w.sites a) t (Voted k x) → Good o w t (counts t u a votes kept x)
-          counts_good kept Yes here = votes_good kept Yes (here.2.1 u e) (λ is. cc)
-          counts_good kept No here = ends_good u e (record u { stage = Voting (put L.same_site a (Some No) votes) }) (Aborted t By_vote) (λ b j is. is) (λ j. refl)
-          counts_good kept Read here = votes_good kept Read here.2.0 (λ is. cc)
+          counts_good : (kept : Bool) (x : Vote) → FitsBody o w.desk w.past a (w.sites a) t (Voted k x) → In (record { site = a; txn = t; body = Voted k x }) w.letters → Good o w t (counts t u a votes kept x)
+          counts_good kept Yes here there = votes_good kept Yes (here.2.1 u e) (λ is. cc) there
+          counts_good kept No here there = ends_good u e (record u { stage = Voting (put L.same_site a (Some No) votes) }) (Aborted t By_vote) (λ b j is. is) (λ j. refl)
+          counts_good kept Read here there = votes_good kept Read here.2.0 (λ is. cc) there
 
-        vote_good : (kept : Bool) (k : Name) (x : Vote) → Own a k u → FitsBody o w.desk w.past a (w.sites a) t (Voted k x) → (stage : Stage L) → u.stage ≡ stage → Good o w t (on_vote t u a kept x stage)
-        vote_good kept k x own here Idle f = same_good u e
-        vote_good kept k x own here (Reading s asks) f = same_good u e
-        vote_good kept k x own here (Writing answer ws) f = same_good u e
-        vote_good kept k x own here (Voting votes) f = either (Good o w t) (is_none (votes a)) _ _ (counts_good votes f k own kept x here) (same_good u e)
+        vote_good : (kept : Bool) (k : Name) (x : Vote) → Own a k u → FitsBody o w.desk w.past a (w.sites a) t (Voted k x) → In (record { site = a; txn = t; body = Voted k x }) w.letters → (stage : Stage L) → u.stage ≡ stage → Good o w t (on_vote t u a kept x stage)
+        vote_good kept k x own here there Idle f = same_good u e
+        vote_good kept k x own here there (Reading s asks) f = same_good u e
+        vote_good kept k x own here there (Writing answer ws) f = same_good u e
+        vote_good kept k x own here there (Voting votes) f = either (Good o w t) (is_none (votes a)) _ _ (counts_good votes f k own kept x here there) (same_good u e)
 
-        known_good : (kept : Bool) (choice : Choice L) (b : Body L) → FitsBody o w.desk w.past a (w.sites a) t b → Good o w t (on_known t u a kept choice b)
-        known_good kept choice Open here = same_good u e
-        known_good kept choice (Fetch k op g q) here = same_good u e
-        known_good kept choice (Write k op g x) here = same_good u e
-        known_good kept choice (Prepare k n) here = same_good u e
-        known_good kept choice (Commit k) here = same_good u e
-        known_good kept choice (Abort k) here = same_good u e
-        known_good kept choice (Ticket k) here = ticket_good k choice here (u.ticket a) refl
-        known_good kept choice (Rows k n rows) here = either (Good o w t) (is_named (u.ticket a) k) _ _ (rows_good n rows choice u.stage refl) (same_good u e)
-        known_good kept choice (Refused k reason) here = either (Good o w t) (is_named (u.ticket a) k) _ _ (refused_good u.stage) (same_good u e)
-        known_good kept choice (Voted k x) here = either_if (Good o w t) (is_named (u.ticket a) k) _ _ (λ is. vote_good kept k x (named_is (u.ticket a) k is) here u.stage refl) (λ other. same_good u e)
-        known_good kept choice (Ack k) here = same_good u e
-        known_good kept choice (Inquire k) here = same_good u e
+        known_good : (kept : Bool) (choice : Choice L) (b : Body L) → FitsBody o w.desk w.past a (w.sites a) t b → In (record { site = a; txn = t; body = b }) w.letters → Good o w t (on_known t u a kept choice b)
+        known_good kept choice Open here there = same_good u e
+        known_good kept choice (Fetch k op g q) here there = same_good u e
+        known_good kept choice (Write k op g x) here there = same_good u e
+        known_good kept choice (Prepare k n) here there = same_good u e
+        known_good kept choice (Commit k) here there = same_good u e
+        known_good kept choice (Abort k) here there = same_good u e
+        known_good kept choice (Ticket k) here there = ticket_good k choice here (u.ticket a) refl
+        known_good kept choice (Rows k n rows) here there = either (Good o w t) (is_named (u.ticket a) k) _ _ (rows_good n rows choice u.stage refl) (same_good u e)
+        known_good kept choice (Refused k reason) here there = either (Good o w t) (is_named (u.ticket a) k) _ _ (refused_good u.stage) (same_good u e)
+        known_good kept choice (Voted k x) here there = either_if (Good o w t) (is_named (u.ticket a) k) _ _ (λ is. vote_good kept k x (named_is (u.ticket a) k is) here there u.stage refl) (λ other. same_good u e)
+        known_good kept choice (Ack k) here there = same_good u e
+        known_good kept choice (Inquire k) here there = same_good u e
 
       -- an unknown transaction hears Abort; nothing of it is prepared if it was committed
       abort_unknown : (k : Name) → w.desk.txn t ≡ Unknown → Born w.desk t → Drawn (w.sites a) k → o a k ≡ t → Fits o w.desk w.past w.sites (record { site = a; txn = t; body = Abort k })
@@ -296,7 +302,7 @@ module _ {L : Lang} where
         row_good kept (Inquire k) born here = still_good (Row vs acked) (record { site = a; txn = t; body = Commit k } ∷ []) e ((born, (here.0, here.1, (fit.rows t vs acked e).0, here.2)), tt)
 
       -- a letter from a site
-      pub letter_good : (kept : Bool) (choice : Choice L) (b : Body L) (x : Txn L) → w.desk.txn t ≡ x → Born w.desk t → FitsBody o w.desk w.past a (w.sites a) t b → Good o w t (on_desk_letter t a kept choice b x)
-      letter_good kept choice b Unknown e born here = unknown_good b e born here
-      letter_good kept choice b (Known u) e born here = known_good u e kept choice b here
-      letter_good kept choice b (Row vs acked) e born here = row_good vs acked e kept b born here
+      pub letter_good : (kept : Bool) (choice : Choice L) (b : Body L) (x : Txn L) → w.desk.txn t ≡ x → Born w.desk t → FitsBody o w.desk w.past a (w.sites a) t b → In (record { site = a; txn = t; body = b }) w.letters → Good o w t (on_desk_letter t a kept choice b x)
+      letter_good kept choice b Unknown e born here there = unknown_good b e born here
+      letter_good kept choice b (Known u) e born here there = known_good u e kept choice b here there
+      letter_good kept choice b (Row vs acked) e born here there = row_good vs acked e kept b born here

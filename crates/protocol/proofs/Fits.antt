@@ -1,5 +1,5 @@
 -- What every letter ever sent, every prepared row and every transaction says of the world: the facts behind part four of the invariant.
-use Rattle.std.proofs.Common.{◌≡◌, refl, ℕ, suc, ◌≤◌, Bool, true, false, List, [], ◌∷◌, ◌⊎◌, Option, Some, None}
+use Rattle.std.proofs.Common.{◌≡◌, refl, ℕ, suc, ◌≤◌, Bool, true, false, List, [], ◌∷◌, ◌++◌, ◌⊎◌, Option, Some, None}
 use Rattle.std.specs.Prelude.{⊤}
 use Rattle.protocol.specs.Language.{Lang, Name, same}
 use Rattle.protocol.specs.Letter.{Yes, No, Read, Vote, Body, Open, Fetch, Write, Prepare, Commit, Abort, Ticket, Rows, Refused, Voted, Ack, Inquire, Letter}
@@ -7,7 +7,7 @@ use Rattle.protocol.specs.Site.{Visit, Status, Dead, Alive, Prepared, SiteState,
 use Rattle.protocol.specs.Desk.{Idle, Reading, Writing, Voting, Stage, Undecided, Unknown, Known, Row, Txn, Deed, Desk}
 use Rattle.protocol.specs.World.{World, is_site}
 use Rattle.protocol.specs.Serial.{is_committed}
-use Rattle.protocol.proofs.Basics.{Every, In}
+use Rattle.protocol.proofs.Basics.{Every, In, in_left}
 
 module _ {L : Lang} where
   -- a ticket that its site has drawn, a name that the coordinator has given
@@ -75,11 +75,15 @@ module _ {L : Lang} where
   VoteAt s t k No = ⊥
 
   -- an undecided transaction: its tickets, and the votes that it has counted
-  pub record KnownAt (o : L.Site → Name → Name) (sites : L.Site → SiteState L) (t : Name) (u : Undecided L) : Type 0 where
+  pub record KnownAt (o : L.Site → Name → Name) (sites : L.Site → SiteState L) (letters : List (Letter L)) (t : Name) (u : Undecided L) : Type 0 where
     pub tickets : (a : L.Site) (k : Name) → Own a k u → Drawn (sites a) k × (o a k ≡ t) × (u.visited a ≡ true) × (is_site L a L.sites ≡ true)
     pub votes : (votes : L.Site → Option Vote) → u.stage ≡ Voting votes → (a : L.Site) (x : Vote) → votes a ≡ Some x → (k : Name) → Own a k u → VoteAt (sites a) t k x
     pub none : (votes : L.Site → Option Vote) → u.stage ≡ Voting votes → (a : L.Site) → votes a ≡ Some No → ⊥
     pub named : (votes : L.Site → Option Vote) → u.stage ≡ Voting votes → (a : L.Site) (x : Vote) → votes a ≡ Some x → (k : Name) × Own a k u
+    pub reads : (votes : L.Site → Option Vote) → u.stage ≡ Voting votes → (a : L.Site) (k : Name) → votes a ≡ Some Read → Own a k u → In (record { site = a; txn = t; body = Voted k Read }) letters
+
+  pub known_more : (o : L.Site → Name → Name) (sites : L.Site → SiteState L) (letters extra : List (Letter L)) (t : Name) (u : Undecided L) → KnownAt o sites letters t u → KnownAt o sites (letters ++ extra) t u
+  known_more o sites letters extra t u known = record { tickets = known.tickets; votes = known.votes; none = known.none; named = known.named; reads = λ votes stage a k is own. in_left (record { site = a; txn = t; body = Voted k Read }) letters extra (known.reads votes stage a k is own) }
 
   abbrev pub Gone : (L.Site → SiteState L) → L.Site × Name → Type 0
   Gone sites v = Drawn (sites v.0) v.1 × (is_dead ((sites v.0).status v.1) ≡ true)
@@ -92,7 +96,7 @@ module _ {L : Lang} where
     pub live : (a : L.Site) (k : Name) → is_dead ((w.sites a).status k) ≡ false → Drawn (w.sites a) k
     pub prepared : (a : L.Site) (k t : Name) (i : L.Intentions) → (w.sites a).status k ≡ Prepared t i → PreparedAt o w.desk w.past a k t
     pub born : (t : Name) (u : Undecided L) → w.desk.txn t ≡ Known u → Born w.desk t
-    pub known : (t : Name) (u : Undecided L) → w.desk.txn t ≡ Known u → KnownAt o w.sites t u
+    pub known : (t : Name) (u : Undecided L) → w.desk.txn t ≡ Known u → KnownAt o w.sites w.letters t u
     pub rows : (t : Name) (vs acked : List (L.Site × Name)) → w.desk.txn t ≡ Row vs acked → IsCommitted w.past t × Every (Gone w.sites) acked × Every (Votes o w.sites t) vs
     pub committed : (t : Name) → IsCommitted w.past t → Born w.desk t × Und w.desk t (λ u. ⊥)
     pub letters : Every (Fits o w.desk w.past w.sites) w.letters

@@ -44,14 +44,15 @@ module _ {L : Lang} where
   opening_is true b e = (refl, sym (some_is e))
   opening_is false b e = cc
 
-module _ {L : Lang} (law : IsLawful L) (o : L.Site → Name → Name) (w : World L) (t : Name) (fit : Fit o w) (u : Undecided L) (e : w.desk.txn t ≡ Known u) (quiet : is_voting u.stage ≡ false) (v : Undecided L) (grows : Grows u v) (known : KnownAt o w.sites t v) where
+module _ {L : Lang} (law : IsLawful L) (o : L.Site → Name → Name) (w : World L) (t : Name) (fit : Fit o w) (u : Undecided L) (e : w.desk.txn t ≡ Known u) (quiet : is_voting u.stage ≡ false) (v : Undecided L) (grows : Grows u v) (known : KnownAt o w.sites w.letters t v) where
   -- a stage that isn't the first phase keeps what is known
-  pub known_at : (visited : L.Site → Bool) (sent : L.Site → ℕ) (stage : Stage L) → ((a : L.Site) → v.visited a ≡ true → visited a ≡ true) → is_voting stage ≡ false → KnownAt o w.sites t (record v { visited = visited; sent = sent; stage = stage })
+  pub known_at : (visited : L.Site → Bool) (sent : L.Site → ℕ) (stage : Stage L) → ((a : L.Site) → v.visited a ≡ true → visited a ≡ true) → is_voting stage ≡ false → KnownAt o w.sites w.letters t (record v { visited = visited; sent = sent; stage = stage })
   known_at visited sent stage more other = record {
     tickets = λ a k own. let ticket = known.tickets a k own in (ticket.0, ticket.1, more a ticket.2, ticket.3);
     votes = λ votes is. absurd (not_voting votes is);
     none = λ votes is. absurd (not_voting votes is);
     named = λ votes is. absurd (not_voting votes is);
+    reads = λ votes is. absurd (not_voting votes is);
   }
     where
       not_voting : (votes : L.Site → Option Vote) → stage ≡ Voting votes → ⊥

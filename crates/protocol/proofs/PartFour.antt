@@ -10,7 +10,7 @@ use Rattle.protocol.specs.World.{World, is_site, Event, Begin, Call, Deliver, Si
 use Rattle.protocol.specs.Serial.{is_committed, commits_it, IsOpening}
 use Rattle.protocol.specs.Whole.{AckedOnce, AbortsNone, IsWhole, AppliedWholeAndOnce}
 use Rattle.protocol.proofs.Deciding.{voters_is, acked_is}
-use Rattle.protocol.proofs.Basics.{Every, In, put_all, put_here, every_append, every_more, every_at, every_flat, clash, same_law, either, either_if, or_left, or_cases}
+use Rattle.protocol.proofs.Basics.{Every, In, in_at, put_all, put_here, every_append, every_more, every_at, every_flat, clash, same_law, either, either_if, or_left, or_cases}
 use Rattle.protocol.proofs.Fits.{Drawn, Born, Und, IsCommitted, FitsBody, Fits, KnownAt, Gone, Votes, Fit}
 use Rattle.protocol.proofs.SiteEvents.{site_letter, restart_fit, give_up_fit, inquire_fit}
 use Rattle.protocol.proofs.DeskFits.{Grows, grows_same, DeskLater, letters_desk}
@@ -28,8 +28,8 @@ module _ {L : Lang} where
   born_restarted : (d : Desk L) (t : Name) → Born d t → Born (desk_restarted d) t
   born_restarted d t h = inl (omega arith)
 
-  fresh_known : (o : L.Site → Name → Name) (sites : L.Site → SiteState L) (t : Name) → KnownAt o sites t fresh
-  fresh_known o sites t = record { tickets = λ a k own. cc; votes = λ votes stage. cc; none = λ votes stage. cc; named = λ votes stage. cc }
+  fresh_known : (o : L.Site → Name → Name) (sites : L.Site → SiteState L) (letters : List (Letter L)) (t : Name) → KnownAt o sites letters t fresh
+  fresh_known o sites letters t = record { tickets = λ a k own. cc; votes = λ votes stage. cc; none = λ votes stage. cc; named = λ votes stage. cc; reads = λ votes stage. cc }
 
   module _ (o : L.Site → Name → Name) (w : World L) (fit : Fit o w) where
     -- a new transaction
@@ -57,7 +57,7 @@ module _ {L : Lang} where
               (v.0, v.1, put_all same same_law new (Known fresh) w.desk.txn (λ j x. Born w.desk j → w.desk.txn j ≡ Row v.0 v.1 → x ≡ Row v.0 v.1) (λ born e. absurd (not_born w.desk born)) (λ j other born e. e) j p.born v.2, v.3);
           };
           born = put_all same same_law new (Known fresh) w.desk.txn (λ j x. (v : Undecided L) → x ≡ Known v → Born (desk_began w.desk) j) (λ v e. inr (refl, le_refl (suc w.desk.number))) (λ j other v e. born_next w.desk j (fit.born j v e));
-          known = put_all same same_law new (Known fresh) w.desk.txn (λ j x. (v : Undecided L) → x ≡ Known v → KnownAt o w.sites j v) (λ v e. subst (KnownAt o w.sites new) (known_is fresh v e) (fresh_known o w.sites new)) (λ j other v e. fit.known j v e);
+          known = put_all same same_law new (Known fresh) w.desk.txn (λ j x. (v : Undecided L) → x ≡ Known v → KnownAt o w.sites w.letters j v) (λ v e. subst (KnownAt o w.sites w.letters new) (known_is fresh v e) (fresh_known o w.sites w.letters new)) (λ j other v e. fit.known j v e);
           rows = put_all same same_law new (Known fresh) w.desk.txn (λ j x. (vs acked : List (L.Site × Name)) → x ≡ Row vs acked → IsCommitted (w.past ++ Began new ∷ []) j × Every (Gone w.sites) acked × Every (Votes o w.sites j) vs)
             (λ vs acked e. cc) (λ j other vs acked e. let r = fit.rows j vs acked e in (began_later.more j r.0, r.1, r.2));
           committed = λ j done. let c = fit.committed j (was_before j done) in (born_next w.desk j c.0, λ v e. let g = began_later.grown j c.0 v e in c.1 g.0 g.1);
@@ -129,13 +129,13 @@ module _ {L : Lang} where
     turns_fit : (o : L.Site → Name → Name) (w : World L) (t : Name) (turn : Turn L) → Fit o w → Good o w t turn → Fit o (turns w t turn)
     turns_fit o w t turn fit good = either (Fit o) (is_desk_within (desk_after w.desk t turn.txn)) (turned w t turn) w (good_moves o w t turn fit good) fit
 
-    comes_fit : (o : L.Site → Name → Name) (w : World L) (kept : Bool) (choice : Choice L) (l : Letter L) → Fit o w → Fits o w.desk w.past w.sites l → (desk : Bool) → (p : L.Site → Name → Name) × Fit p (comes_to desk w kept choice l)
-    comes_fit o w kept choice l fit here false = let r = site_letter law o w l.site l.txn kept l.body fit here.0 here.1 in (r.0, r.1)
-    comes_fit o w kept choice l fit here true = (o, turns_fit o w l.txn (on_desk_letter l.txn l.site kept choice l.body (w.desk.txn l.txn)) fit (letter_good law o w l.txn fit l.site kept choice l.body (w.desk.txn l.txn) refl here.0 here.1))
+    comes_fit : (o : L.Site → Name → Name) (w : World L) (kept : Bool) (choice : Choice L) (l : Letter L) → Fit o w → Fits o w.desk w.past w.sites l → In l w.letters → (desk : Bool) → (p : L.Site → Name → Name) × Fit p (comes_to desk w kept choice l)
+    comes_fit o w kept choice l fit here there false = let r = site_letter law o w l.site l.txn kept l.body fit here.0 here.1 in (r.0, r.1)
+    comes_fit o w kept choice l fit here there true = (o, turns_fit o w l.txn (on_desk_letter l.txn l.site kept choice l.body (w.desk.txn l.txn)) fit (letter_good law o w l.txn fit l.site kept choice l.body (w.desk.txn l.txn) refl here.0 here.1 there))
 
     delivered_fit : (o : L.Site → Name → Name) (w : World L) (kept : Bool) (choice : Choice L) (n : ℕ) (l : Option (Letter L)) → slice_get w.letters n ≡ l → Fit o w → (p : L.Site → Name → Name) × Fit p (delivered w kept choice l)
     delivered_fit o w kept choice n None e fit = (o, fit)
-    delivered_fit o w kept choice n (Some l) e fit = comes_fit o w kept choice l fit (every_at (Fits o w.desk w.past w.sites) w.letters n l fit.letters e) (is_for_desk l.body)
+    delivered_fit o w kept choice n (Some l) e fit = comes_fit o w kept choice l fit (every_at (Fits o w.desk w.past w.sites) w.letters n l fit.letters e) (in_at w.letters n l e) (is_for_desk l.body)
 
     -- every event keeps it
     pub happens_fit : (o : L.Site → Name → Name) (w : World L) (e : Event L) → Fit o w → (p : L.Site → Name → Name) × Fit p (happens w e)

@@ -6,7 +6,7 @@ use Rattle.protocol.specs.Site.{Visit, Status, Dead, Alive, Prepared, SiteState,
 use Rattle.protocol.specs.Desk.{Undecided, Known, Deed, Desk}
 use Rattle.protocol.specs.World.{World, is_site, with_site, addressed, site_steps, gives_up, inquires, restarts}
 use Rattle.protocol.proofs.Basics.{Every, In, put_all, put_here, every_append, every_more, every_map, every_flat, clash, same_law, same_refl, either, either_if, both_true, left_true, right_true, if_true, if_false}
-use Rattle.protocol.proofs.Fits.{Drawn, Born, Und, Own, OwnVoting, IsCommitted, FitsVote, FitsBody, Fits, PreparedAt, VoteAt, KnownAt, Gone, Votes, Fit}
+use Rattle.protocol.proofs.Fits.{Drawn, Born, Und, Own, OwnVoting, IsCommitted, FitsVote, FitsBody, Fits, PreparedAt, VoteAt, KnownAt, known_more, Gone, Votes, Fit}
 use Rattle.protocol.proofs.SiteTable.{Acted, acted}
 use Rattle.protocol.proofs.SiteFits.{Later, same_later, site_moves}
 use Rattle.protocol.proofs.SiteSteps.{not_drawn, from_visit, letter_later, letter_said}
@@ -48,7 +48,7 @@ module _ {L : Lang} where
     born = fit.born;
     known = λ t u e. let known = fit.known t u e in record {
       tickets = λ a k own. let ticket = known.tickets a k own in (ticket.0, alike a k ticket.0 ∙ ticket.1, ticket.2, ticket.3);
-      votes = known.votes; none = known.none; named = known.named;
+      votes = known.votes; none = known.none; named = known.named; reads = known.reads;
     };
     rows = λ t vs acked e. let r = fit.rows t vs acked e in (r.0, r.1, every_more (Votes o w.sites t) (Votes p w.sites t) vs (λ v is. (is.0, alike v.0 v.1 is.0 ∙ is.1, is.2)) r.2);
     committed = fit.committed;
@@ -161,7 +161,7 @@ module _ {L : Lang} where
     -- inquiries
     pub inquire_fit : (o : L.Site → Name → Name) (w : World L) (a : L.Site) → Fit o w → Fit o (inquires w a)
     inquire_fit o w a fit = record {
-      live = fit.live; prepared = fit.prepared; born = fit.born; known = fit.known; rows = fit.rows; committed = fit.committed;
+      live = fit.live; prepared = fit.prepared; born = fit.born; known = λ t u e. known_more o w.sites w.letters (inquiries a (w.sites a)) t u (fit.known t u e); rows = fit.rows; committed = fit.committed;
       letters = every_append (Fits o w.desk w.past w.sites) w.letters (inquiries a (w.sites a)) fit.letters
         (every_flat (Fits o w.desk w.past w.sites) (λ k. inquiry_of a k ((w.sites a).status k)) (w.sites a).known (λ k. go k ((w.sites a).status k) refl));
     }

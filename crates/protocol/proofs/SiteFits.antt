@@ -6,7 +6,7 @@ use Rattle.protocol.specs.Letter.{Yes, No, Read, Vote, Body, Open, Fetch, Write,
 use Rattle.protocol.specs.Site.{Visit, Status, Dead, Alive, Prepared, SiteState, is_dead, is_alive, is_prepared}
 use Rattle.protocol.specs.Desk.{Undecided, Known, Row, Voting, Deed, Desk}
 use Rattle.protocol.specs.World.{World, is_site, with_site}
-use Rattle.protocol.proofs.Basics.{Every, In, put_all, put_here, every_append, every_more, clash}
+use Rattle.protocol.proofs.Basics.{Every, In, in_left, put_all, put_here, every_append, every_more, clash}
 use Rattle.protocol.proofs.Fits.{Drawn, Born, Und, Own, OwnVoting, IsCommitted, FitsVote, FitsBody, Fits, PreparedAt, VoteAt, KnownAt, Gone, Votes, Fit}
 
 module _ {L : Lang} where
@@ -84,6 +84,7 @@ module _ {L : Lang} where
             votes = λ votes stage b x counted k own. vote_at_later o w.desk w.past b (w.sites b) (put L.same_site a new w.sites b) (at b) t k u x e ((known.tickets b k own).0) (known.votes votes stage b x counted k own);
             none = known.none;
             named = known.named;
+            reads = λ votes stage b k is own. in_left (record { site = b; txn = t; body = Voted k Read }) w.letters letters (known.reads votes stage b k is own);
           };
           rows = λ t vs acked e. ((fit.rows t vs acked e).0, every_more (Gone w.sites) (Gone (put L.same_site a new w.sites)) acked (λ v gone. ((at v.0).drawn v.1 gone.0, (at v.0).dead v.1 gone.0 gone.1)) (fit.rows t vs acked e).1,
             every_more (Votes o w.sites t) (Votes o (put L.same_site a new w.sites) t) vs (λ v is. ((at v.0).drawn v.1 is.0, is.1, (at v.0).quiet v.1 is.0 is.2)) (fit.rows t vs acked e).2);

@@ -32,11 +32,11 @@ module _ {L : Lang} where
     }
 
     -- an undecided transaction goes on
-    pub goes_fine : (u v : Undecided L) (letters : List (Letter L)) (deeds : List (Deed L)) → w.desk.txn t ≡ Known u → Grows u v → KnownAt o w.sites t v → ((j : Name) → is_committed deeds j ≡ false) →
+    pub goes_fine : (u v : Undecided L) (letters : List (Letter L)) (deeds : List (Deed L)) → w.desk.txn t ≡ Known u → Grows u v → KnownAt o w.sites w.letters t v → ((j : Name) → is_committed deeds j ≡ false) →
         TurnFine o w t (record { txn = Known v; letters = letters; deeds = deeds })
     goes_fine u v letters deeds e grows known none = record {
       grows = λ x f. (u, e, subst (Grows u) (known_is v x f) grows);
-      known = λ x f. subst (KnownAt o w.sites t) (known_is v x f) known;
+      known = λ x f. subst (KnownAt o w.sites w.letters t) (known_is v x f) known;
       rows = λ vs acked f. cc;
       only = λ j other. none j;
       commits = λ done. clash done (none t);
