@@ -18,7 +18,7 @@ use Rattle.protocol.proofs.Works.{works, own_of, txn_of, SameView}
 use Rattle.protocol.proofs.Book.{AskAt, Told, BookAt, pending, owed, unsent_of, asks_of}
 use Rattle.protocol.proofs.Booking.{book_stage, book_stated, book_worked}
 use Rattle.protocol.proofs.BookSteps.{book_ticket, rows_came}
-use Rattle.protocol.proofs.Booked.{Booked, told_idle, plain_booked, asks_booked, writes_booked}
+use Rattle.protocol.proofs.Booked.{Booked, goes_on, starts, gone_phase, still_phase, quiet_phase, told_idle, plain_booked, asks_booked, writes_booked}
 
 module _ {L : Lang} (law : IsLawful L) (o : L.Site → Name → Name) (ops : L.Site → Name → List (Op L)) (w : World L) (t : Name) (fit : Fit o w) where
   abbrev Tells : Letter L → Type 0
@@ -28,11 +28,11 @@ module _ {L : Lang} (law : IsLawful L) (o : L.Site → Name → Name) (ops : L.S
   mine_of u e a k own = let ticket = (fit.known t u e).tickets a k own in (ticket.0, ticket.1)
 
   still_booked : (x : Txn L) (letters : List (Letter L)) → w.desk.txn t ≡ x → ((u : Undecided L) → w.desk.txn t ≡ Known u → BookAt o ops w.sites w.letters w.past t u) → Every Tells letters → Booked o ops w t (record { txn = x; letters = letters; deeds = [] })
-  still_booked x letters e book tells = plain_booked o ops w t (record { txn = x; letters = letters; deeds = [] }) refl refl refl tt (λ v f. (book v (e ∙ f), mine_of v (e ∙ f))) (λ done. cc) tells
+  still_booked x letters e book tells = plain_booked o ops w t (record { txn = x; letters = letters; deeds = [] }) refl refl refl tt (still_phase w t x letters e) (λ v f. (book v (e ∙ f), mine_of v (e ∙ f))) (λ done. cc) tells
 
   -- a turn after which the transaction isn't undecided
   gone_booked : (x : Txn L) → ((v : Undecided L) → x ≡ Known v → ⊥) → Booked o ops w t (record { txn = x; letters = []; deeds = [] })
-  gone_booked x none = plain_booked o ops w t (record { txn = x; letters = []; deeds = [] }) refl refl refl tt (λ v f. absurd (none v f)) (λ done. cc) tt
+  gone_booked x none = plain_booked o ops w t (record { txn = x; letters = []; deeds = [] }) refl refl refl tt (gone_phase w t (record { txn = x; letters = []; deeds = [] }) refl none) (λ v f. absurd (none v f)) (λ done. cc) tt
 
   aborts_tell : (v : Undecided L) (d : Deed L) → Every Tells (ends_by t v d).letters
   aborts_tell v d = every_letter Tells t (λ a. when (v.visited a && may_hold (vote_at v.stage a)) (to_abort (v.ticket a))) L.sites
@@ -46,10 +46,10 @@ module _ {L : Lang} (law : IsLawful L) (o : L.Site → Name → Name) (ops : L.S
     same_booked = still_booked (Known u) [] e books tt
 
     rolled_booked : (v : Undecided L) → Booked o ops w t (ends_by t v (Rolled_back t))
-    rolled_booked v = plain_booked o ops w t (ends_by t v (Rolled_back t)) refl refl refl (refl, tt) (λ x f. absurd (let g : Unknown ≡ Known x = f in cc)) (λ done. cc) (aborts_tell v (Rolled_back t))
+    rolled_booked v = plain_booked o ops w t (ends_by t v (Rolled_back t)) refl refl refl (refl, tt) (gone_phase w t (ends_by t v (Rolled_back t)) refl (λ x f. cc)) (λ x f. absurd (let g : Unknown ≡ Known x = f in cc)) (λ done. cc) (aborts_tell v (Rolled_back t))
 
     aborted_booked : (v : Undecided L) (why : Why) → Booked o ops w t (ends_by t v (Aborted t why))
-    aborted_booked v why = plain_booked o ops w t (ends_by t v (Aborted t why)) refl refl refl (refl, tt) (λ x f. absurd (let g : Unknown ≡ Known x = f in cc)) (λ done. cc) (aborts_tell v (Aborted t why))
+    aborted_booked v why = plain_booked o ops w t (ends_by t v (Aborted t why)) refl refl refl (refl, tt) (gone_phase w t (ends_by t v (Aborted t why)) refl (λ x f. cc)) (λ x f. absurd (let g : Unknown ≡ Known x = f in cc)) (λ done. cc) (aborts_tell v (Aborted t why))
 
     module _ (none : pending u.stage ≡ []) (nothing : owed u.stage ≡ []) (sent_all : unsent_of u.stage ≡ []) where
       told_now : Told w.past t Idle
@@ -66,8 +66,8 @@ module _ {L : Lang} (law : IsLawful L) (o : L.Site → Name → Name) (ops : L.S
       no_unknown v f = cc
 
       decided_booked : (v : Undecided L) (kept : Bool) (xs : List (L.Site × Name)) → Booked o ops w t (decides t v kept xs)
-      decided_booked v kept [] = plain_booked o ops w t (decides t v kept []) refl refl refl (refl, tt) (λ y f. absurd (no_unknown y f)) (λ done. told_now) tt
-      decided_booked v true (x ∷ xs) = plain_booked o ops w t (decides t v true (x ∷ xs)) refl refl refl (refl, tt) (λ y f. absurd (no_row (x ∷ xs) [] y f)) (λ done. told_now) (commits_tell (x ∷ xs))
+      decided_booked v kept [] = plain_booked o ops w t (decides t v kept []) refl refl refl (refl, tt) (gone_phase w t (decides t v kept []) refl no_unknown) (λ y f. absurd (no_unknown y f)) (λ done. told_now) tt
+      decided_booked v true (x ∷ xs) = plain_booked o ops w t (decides t v true (x ∷ xs)) refl refl refl (refl, tt) (gone_phase w t (decides t v true (x ∷ xs)) refl (no_row (x ∷ xs) [])) (λ y f. absurd (no_row (x ∷ xs) [] y f)) (λ done. told_now) (commits_tell (x ∷ xs))
         where
           commits_tell : (ys : List (L.Site × Name)) → Every Tells (commits t ys)
           commits_tell [] = tt
@@ -75,29 +75,29 @@ module _ {L : Lang} (law : IsLawful L) (o : L.Site → Name → Name) (ops : L.S
       decided_booked v false (x ∷ xs) = aborted_booked v By_store
 
       -- the phase goes on, or the transaction is decided
-      votes_booked : (votes : L.Site → Option Vote) (kept : Bool) → Booked o ops w t (votes_go t u votes kept)
-      votes_booked votes kept = either (Booked o ops w t) (are_all_in u votes) _ _ (decided_booked (record u { stage = Voting votes }) kept (voters_of u votes))
-        (plain_booked o ops w t (stays (Known (record u { stage = Voting votes }))) refl refl refl tt (voting_book votes) (λ done. cc) tt)
+      votes_booked : is_voting u.stage ≡ true → (votes : L.Site → Option Vote) (kept : Bool) → Booked o ops w t (votes_go t u votes kept)
+      votes_booked votes_already votes kept = either (Booked o ops w t) (are_all_in u votes) _ _ (decided_booked (record u { stage = Voting votes }) kept (voters_of u votes))
+        (plain_booked o ops w t (stays (Known (record u { stage = Voting votes }))) refl refl refl tt (goes_on refl (λ v f voting. (u, e, votes_already))) (voting_book votes) (λ done. cc) tt)
 
       prepares_tell : Every Tells (phases t u).letters
       prepares_tell = every_letter Tells t (λ a. when (u.visited a) (to_prepare u a (u.ticket a))) L.sites
         (λ a b here said. let k = prepares_to u a b (u.visited a) (u.ticket a) refl said in subst (TellsBody (ops a) (w.sites a)) (sym k.2) (book.sent a k.0 k.1))
 
-      phase_decided : (xs : List (L.Site × Name)) → Booked o ops w t (record { txn = (decides t (record u { stage = Voting (λ a. None) }) true xs).txn; letters = (phases t u).letters; deeds = Phased t ∷ (decides t (record u { stage = Voting (λ a. None) }) true xs).deeds })
-      phase_decided [] = plain_booked o ops w t (record { txn = Unknown; letters = (phases t u).letters; deeds = Phased t ∷ Committed t ∷ [] }) refl refl refl (refl, (refl, tt)) (λ y f. absurd (no_unknown y f)) (λ done. told_now) prepares_tell
-      phase_decided (x ∷ xs) = plain_booked o ops w t (record { txn = Row (x ∷ xs) []; letters = (phases t u).letters; deeds = Phased t ∷ Committed t ∷ [] }) refl refl refl (refl, (refl, tt)) (λ y f. absurd (no_row (x ∷ xs) [] y f)) (λ done. told_now) prepares_tell
+      phase_decided : u.stage ≡ Idle → (xs : List (L.Site × Name)) → Booked o ops w t (record { txn = (decides t (record u { stage = Voting (λ a. None) }) true xs).txn; letters = (phases t u).letters; deeds = Phased t ∷ (decides t (record u { stage = Voting (λ a. None) }) true xs).deeds })
+      phase_decided idle [] = plain_booked o ops w t (record { txn = Unknown; letters = (phases t u).letters; deeds = Phased t ∷ Committed t ∷ [] }) refl refl refl (refl, (refl, tt)) (starts refl u e idle (λ v f. absurd (no_unknown v f))) (λ y f. absurd (no_unknown y f)) (λ done. told_now) prepares_tell
+      phase_decided idle (x ∷ xs) = plain_booked o ops w t (record { txn = Row (x ∷ xs) []; letters = (phases t u).letters; deeds = Phased t ∷ Committed t ∷ [] }) refl refl refl (refl, (refl, tt)) (starts refl u e idle (λ v f. absurd (no_row (x ∷ xs) [] v f))) (λ y f. absurd (no_row (x ∷ xs) [] y f)) (λ done. told_now) prepares_tell
 
-      phases_booked : Booked o ops w t (phases t u)
-      phases_booked = either (λ (turn : Turn L). Booked o ops w t (record { txn = turn.txn; letters = (phases t u).letters; deeds = Phased t ∷ turn.deeds })) (are_all_in u (λ a. None)) _ _ (phase_decided (voters_of u (λ a. None)))
-        (plain_booked o ops w t (record { txn = Known (record u { stage = Voting (λ a. None) }); letters = (phases t u).letters; deeds = Phased t ∷ [] }) refl refl refl (refl, tt) (voting_book (λ a. None)) (λ done. cc) prepares_tell)
+      phases_booked : u.stage ≡ Idle → Booked o ops w t (phases t u)
+      phases_booked idle = either (λ (turn : Turn L). Booked o ops w t (record { txn = turn.txn; letters = (phases t u).letters; deeds = Phased t ∷ turn.deeds })) (are_all_in u (λ a. None)) _ _ (phase_decided idle (voters_of u (λ a. None)))
+        (plain_booked o ops w t (record { txn = Known (record u { stage = Voting (λ a. None) }); letters = (phases t u).letters; deeds = Phased t ∷ [] }) refl refl refl (refl, tt) (starts refl u e idle (λ v f. subst (λ z. (z.ticket ≡ u.ticket) × (is_voting z.stage ≡ true)) (known_is (record u { stage = Voting (λ a. None) }) v f) (refl, refl))) (voting_book (λ a. None)) (λ done. cc) prepares_tell)
 
     state_booked : (s : L.Statement) (choice : Choice L) → u.stage ≡ Idle → (fs : List (L.Leaf × L.Query)) → Booked o ops w t (record { txn = (states t u s (map ask_of fs) choice).txn; letters = (states t u s (map ask_of fs) choice).letters; deeds = Stated t s ∷ (states t u s (map ask_of fs) choice).deeds })
     state_booked s choice idle [] =
         let stated = book_stated o w.sites t ops w.letters w.past u s [] idle book in
         let worked = book_worked o w.sites t ops w.letters (w.past ++ Stated t s ∷ []) (record u { stage = Reading s [] }) s [] choice refl refl stated in
-        writes_booked o ops w t law u e (ap is_voting idle) u (mine_of u e) choice.0 choice.1 (Stated t s ∷ Worked t s [] choice ∷ []) (refl, (refl, tt)) (λ ds no_ done. no_ done)
+        writes_booked o ops w t law u e (ap is_voting idle) u (mine_of u e) choice.0 choice.1 (Stated t s ∷ Worked t s [] choice ∷ []) (refl, (refl, tt)) (λ ds n. n) (λ ds no_ done. no_ done)
           (subst (λ p. BookAt o ops w.sites w.letters p t (record u { stage = Writing choice.0 choice.1 })) (append_assoc w.past (Stated t s ∷ []) (Worked t s [] choice ∷ [])) worked)
-    state_booked s choice idle (f ∷ fs) = asks_booked o ops w t law u e (ap is_voting idle) u (mine_of u e) s (map ask_of (f ∷ fs)) (Stated t s ∷ []) (refl, tt) (λ done. cc) (book_stated o w.sites t ops w.letters w.past u s (f ∷ fs) idle book)
+    state_booked s choice idle (f ∷ fs) = asks_booked o ops w t law u e (ap is_voting idle) u (mine_of u e) s (map ask_of (f ∷ fs)) (Stated t s ∷ []) (refl, tt) refl (λ done. cc) (book_stated o w.sites t ops w.letters w.past u s (f ∷ fs) idle book)
 
     on_state_booked : (s : L.Statement) (choice : Choice L) (stage : Stage L) → u.stage ≡ stage → Booked o ops w t (on_state t u s choice stage)
     on_state_booked s choice Idle f = state_booked s choice f (L.fetches s)
@@ -106,7 +106,7 @@ module _ {L : Lang} (law : IsLawful L) (o : L.Site → Name → Name) (ops : L.S
     on_state_booked s choice (Voting votes) f = same_booked
 
     commit_call_booked : (stage : Stage L) → u.stage ≡ stage → Booked o ops w t (on_commit_call t u stage)
-    commit_call_booked Idle f = phases_booked (ap pending f) (ap owed f) (ap unsent_of f)
+    commit_call_booked Idle f = phases_booked (ap pending f) (ap owed f) (ap unsent_of f) f
     commit_call_booked (Reading s asks) f = same_booked
     commit_call_booked (Writing answer ws) f = same_booked
     commit_call_booked (Voting votes) f = same_booked
@@ -131,16 +131,16 @@ module _ {L : Lang} (law : IsLawful L) (o : L.Site → Name → Name) (ops : L.S
           let now = book_ticket law o w.sites t ops w.letters w.past u a k free drawn owner book in
           go stage f v now (λ b j. put_all L.same_site law.sites a (Some k) u.ticket (λ b m. m ≡ Some j → Drawn (w.sites b) j × (o b j ≡ t)) (λ is. subst (λ n. Drawn (w.sites a) n × (o a n ≡ t)) (some_is is) (drawn, owner)) (λ b other is. mine_of u e b j is) b) refl
         where
-          stays_booked : (v : Undecided L) → BookAt o ops w.sites w.letters w.past t v → ((b : L.Site) (j : Name) → v.ticket b ≡ Some j → Drawn (w.sites b) j × (o b j ≡ t)) → Booked o ops w t (stays (Known v))
-          stays_booked v now mine = plain_booked o ops w t (stays (Known v)) refl refl refl tt
+          stays_booked : (v : Undecided L) → v.stage ≡ u.stage → BookAt o ops w.sites w.letters w.past t v → ((b : L.Site) (j : Name) → v.ticket b ≡ Some j → Drawn (w.sites b) j × (o b j ≡ t)) → Booked o ops w t (stays (Known v))
+          stays_booked v same_ now mine = plain_booked o ops w t (stays (Known v)) refl refl refl tt (goes_on refl (λ x g voting. (u, e, ap is_voting (sym same_) ∙ ap (λ z. is_voting z.stage) (known_is v x g) ∙ voting)))
             (λ x g. subst (λ z. BookAt o ops w.sites w.letters w.past t z × ((b : L.Site) (j : Name) → z.ticket b ≡ Some j → Drawn (w.sites b) j × (o b j ≡ t))) (known_is v x g) (now, mine)) (λ done. cc) tt
           in_past : (v : Undecided L) → BookAt o ops w.sites w.letters w.past t v → BookAt o ops w.sites w.letters (w.past ++ []) t v
           in_past v now = subst (λ p. BookAt o ops w.sites w.letters p t v) (sym (append-nil w.past)) now
           go : (stage : Stage L) → u.stage ≡ stage → (v : Undecided L) → BookAt o ops w.sites w.letters w.past t v → ((b : L.Site) (j : Name) → v.ticket b ≡ Some j → Drawn (w.sites b) j × (o b j ≡ t)) → v.stage ≡ u.stage → Booked o ops w t (ticket_goes t v choice stage)
-          go Idle f v now mine same_ = stays_booked v now mine
-          go (Voting votes) f v now mine same_ = stays_booked v now mine
-          go (Reading s asks) f v now mine same_ = asks_booked o ops w t law u e (ap is_voting f) v mine s asks [] tt (λ done. cc) (in_past (record v { stage = Reading s asks }) (subst (λ x. BookAt o ops w.sites w.letters w.past t (record v { stage = x })) (same_ ∙ f) now))
-          go (Writing answer ws) f v now mine same_ = writes_booked o ops w t law u e (ap is_voting f) v mine answer ws [] tt (λ ds no_ done. no_ done) (in_past (record v { stage = Writing answer ws }) (subst (λ x. BookAt o ops w.sites w.letters w.past t (record v { stage = x })) (same_ ∙ f) now))
+          go Idle f v now mine same_ = stays_booked v same_ now mine
+          go (Voting votes) f v now mine same_ = stays_booked v same_ now mine
+          go (Reading s asks) f v now mine same_ = asks_booked o ops w t law u e (ap is_voting f) v mine s asks [] tt refl (λ done. cc) (in_past (record v { stage = Reading s asks }) (subst (λ x. BookAt o ops w.sites w.letters w.past t (record v { stage = x })) (same_ ∙ f) now))
+          go (Writing answer ws) f v now mine same_ = writes_booked o ops w t law u e (ap is_voting f) v mine answer ws [] tt (λ ds n. n) (λ ds no_ done. no_ done) (in_past (record v { stage = Writing answer ws }) (subst (λ x. BookAt o ops w.sites w.letters w.past t (record v { stage = x })) (same_ ∙ f) now))
 
       ticket_booked : (k : Name) (choice : Choice L) → FitsBody o w.desk w.past a (w.sites a) t (Ticket k) → (m : Option Name) → u.ticket a ≡ m → Booked o ops w t (on_ticket t u a k choice m)
       ticket_booked k choice here None f = ticket_goes_booked k choice f here.0 here.1 u.stage refl
@@ -158,9 +158,9 @@ module _ {L : Lang} (law : IsLawful L) (o : L.Site → Name → Name) (ops : L.S
                 (rows_came law o w.sites t ops w.letters (own_of (works w.past t)) u.ticket a k n rows own here asks (subst (λ x. Every (AskAt t u.ticket ops w.letters (own_of (works w.past t))) (asks_of x)) f book.asks))
                 (record { statements = told.statements; answers = told.answers }) book in
           either_if (Booked o ops w t) (list_all (λ (q : Ask L). is_some q.rows) more) _ _
-            (λ all. writes_booked o ops w t law u e (ap is_voting f) u (mine_of u e) choice.0 choice.1 (Worked t s more choice ∷ []) (refl, tt) (λ ds no_ done. no_ done)
+            (λ all. writes_booked o ops w t law u e (ap is_voting f) u (mine_of u e) choice.0 choice.1 (Worked t s more choice ∷ []) (refl, tt) (λ ds n. n) (λ ds no_ done. no_ done)
               (book_worked o w.sites t ops w.letters w.past v s more choice refl all now))
-            (λ waits. plain_booked o ops w t (stays (Known v)) refl refl refl tt
+            (λ waits. plain_booked o ops w t (stays (Known v)) refl refl refl tt (quiet_phase w t v [] [] refl refl)
               (λ x g. subst (λ z. BookAt o ops w.sites w.letters w.past t z × ((b : L.Site) (j : Name) → z.ticket b ≡ Some j → Drawn (w.sites b) j × (o b j ≡ t))) (known_is v x g) (now, mine_of u e)) (λ done. cc) tt)
 
       refused_booked : (stage : Stage L) → Booked o ops w t (on_refused t u stage)
@@ -170,9 +170,9 @@ module _ {L : Lang} (law : IsLawful L) (o : L.Site → Name → Name) (ops : L.S
       refused_booked (Voting votes) = same_booked
 
       counts_booked : (votes : L.Site → Option Vote) (kept : Bool) (x : Vote) → u.stage ≡ Voting votes → Booked o ops w t (counts t u a votes kept x)
-      counts_booked votes kept Yes f = votes_booked (ap pending f) (ap owed f) (ap unsent_of f) (put L.same_site a (Some Yes) votes) kept
+      counts_booked votes kept Yes f = votes_booked (ap pending f) (ap owed f) (ap unsent_of f) (ap is_voting f) (put L.same_site a (Some Yes) votes) kept
       counts_booked votes kept No f = aborted_booked (record u { stage = Voting (put L.same_site a (Some No) votes) }) By_vote
-      counts_booked votes kept Read f = votes_booked (ap pending f) (ap owed f) (ap unsent_of f) (put L.same_site a (Some Read) votes) kept
+      counts_booked votes kept Read f = votes_booked (ap pending f) (ap owed f) (ap unsent_of f) (ap is_voting f) (put L.same_site a (Some Read) votes) kept
 
       vote_booked : (kept : Bool) (x : Vote) (stage : Stage L) → u.stage ≡ stage → Booked o ops w t (on_vote t u a kept x stage)
       vote_booked kept x Idle f = same_booked
