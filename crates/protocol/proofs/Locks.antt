@@ -15,17 +15,17 @@ abbrev pub Once : {A : Type 0} → List A → Type 0
 Once [] = ⊤
 Once (x ∷ xs) = (In x xs → ⊥) × Once xs
 
-from_filter : {A : Type 0} (p : A → Bool) (x : A) (xs : List A) → In x (filter p xs) → In x xs × (p x ≡ true)
+pub from_filter : {A : Type 0} (p : A → Bool) (x : A) (xs : List A) → In x (filter p xs) → In x xs × (p x ≡ true)
 from_filter p x [] here = absurd here
 from_filter p x (y ∷ xs) here = either_if (λ l. In x l → In x (y ∷ xs) × (p x ≡ true)) (p y) (y ∷ filter p xs) (filter p xs)
     (λ is there. ⊎_elim (λ e. (inl e, subst (λ z. p z ≡ true) (sym e) is)) (λ below. let f = from_filter p x xs below in (inr f.0, f.1)) there)
     (λ other there. let f = from_filter p x xs there in (inr f.0, f.1)) here
 
-once_filter : {A : Type 0} (p : A → Bool) (xs : List A) → Once xs → Once (filter p xs)
+pub once_filter : {A : Type 0} (p : A → Bool) (xs : List A) → Once xs → Once (filter p xs)
 once_filter p [] once = once
 once_filter p (x ∷ xs) once = either Once (p x) (x ∷ filter p xs) (filter p xs) ((λ here. once.0 (from_filter p x xs here).0), once_filter p xs once.1) (once_filter p xs once.1)
 
-once_more : {A : Type 0} (xs : List A) (x : A) → Once xs → (In x xs → ⊥) → Once (xs ++ x ∷ [])
+pub once_more : {A : Type 0} (xs : List A) (x : A) → Once xs → (In x xs → ⊥) → Once (xs ++ x ∷ [])
 once_more [] x once new = ((λ here. here), once)
 once_more (y ∷ xs) x once new = ((λ here. ⊎_elim once.0 (λ last. ⊎_elim (λ e. new (inl (sym e))) (λ none. none) last) (in_append y xs (x ∷ []) here)), once_more xs x once.1 (λ here. new (inr here)))
 
