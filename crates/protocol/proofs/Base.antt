@@ -32,6 +32,7 @@ module _ {L : Lang} where
     pub book : (t : Name) (u : Undecided L) → w.desk.txn t ≡ Known u → BookAt o ops w.sites w.letters w.past t u
     pub told : (t : Name) → IsCommitted w.past t → Told w.past t Idle
     pub unborn : (t : Name) → (Born w.desk t → ⊥) → SameView [] w.past t
+    pub unowned : (a : L.Site) (k : Name) → (Born w.desk (o a k) → ⊥) → ops a k ≡ []
     pub phased : (t : Name) → In t (phases_of w.past) → Born w.desk t × Und w.desk t (λ u. is_voting u.stage ≡ true)
     pub voting : (t : Name) (u : Undecided L) → w.desk.txn t ≡ Known u → is_voting u.stage ≡ true → In t (phases_of w.past)
     pub once : Once (phases_of w.past)
@@ -73,7 +74,9 @@ module _ {L : Lang} where
             (every_more (λ l. (l.site ≡ a) × TellsBody (ops a) new l.body) (λ l. TellsBody (ops l.site) (sites l.site) l.body) letters
               (λ l is. subst (λ b. TellsBody (ops b) (sites b) l.body) (sym is.0) (subst (λ s. TellsBody (ops a) s l.body) (sym (put_here L.same_site law.sites a new w.sites)) is.1)) says);
           book = λ t u e. book_site (λ b k d. ⊎_elim (λ was. inl (alike b k was)) (λ not_. inr (fresh b k not_)) (drawn_or_not (w.sites b) k)) (λ b k d. ⊎_elim (λ was. inl was) (λ not_. inr (fresh b k not_)) (drawn_or_not (w.sites b) k)) t u (base.book t u e);
-          told = base.told; unborn = base.unborn; phased = base.phased; voting = base.voting; once = base.once;
+          told = base.told; unborn = base.unborn;
+          unowned = λ b k not_. ⊎_elim (λ was. base.unowned b k (λ born. not_ (subst (Born w.desk) (sym (alike b k was)) born))) (λ new_. fresh b k new_) (drawn_or_not (w.sites b) k);
+          phased = base.phased; voting = base.voting; once = base.once;
         }
 
   -- a turn of the coordinator
@@ -182,6 +185,8 @@ module _ {L : Lang} where
           book = book_turn;
           told = told_turn;
           unborn = unborn_turn;
+          unowned = λ a k not_. let x = booked.ext a k in x.1 ∙ ⊎_elim (λ e. ap (λ l. ops a k ++ l) e ∙ append-nil (ops a k))
+            (λ grown. let open_ = booked.open_ a k grown in absurd (not_ (subst (Born w.desk) (sym open_.1) (base.fit.born t open_.2.0 open_.2.1)))) x.2 ∙ base.unowned a k not_;
           phased = phase.0; voting = phase.1; once = phase.2;
         }
       where

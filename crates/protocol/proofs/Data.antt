@@ -93,7 +93,7 @@ module _ {L : Lang} where
     pub data_after : SiteData ops new
     pub stay : ReadsStay ops s new
 
-  visit_is : (a b : Visit L) → Alive a ≡ Alive b → a ≡ b
+  pub visit_is : (a b : Visit L) → Alive a ≡ Alive b → a ≡ b
   visit_is a b e = cc
 
   same_steps : (ops : Name → List (Op L)) (s : SiteState L) → SiteData ops s → Steps ops s s
@@ -135,13 +135,13 @@ module _ {L : Lang} where
       }
 
   -- the operation that comes next is the one of this number
-  next_is : (ops : List (Op L)) (v : Visit L) (n : ℕ) (op : Op L) (at : VisitAt ops v) (nth : NthOp ops n op) → n ≡ suc v.done → (at.past ≡ nth.before) × (at.rest ≡ op ∷ nth.after)
+  pub next_is : (ops : List (Op L)) (v : Visit L) (n : ℕ) (op : Op L) (at : VisitAt ops v) (nth : NthOp ops n op) → n ≡ suc v.done → (at.past ≡ nth.before) × (at.rest ≡ op ∷ nth.after)
   next_is ops v n op at nth next =
       let d = at.done in let m = nth.number in
       split_same at.past nth.before at.rest (op ∷ nth.after) (sym at.split ∙ nth.split) (omega arith)
 
   module _ (law : IsLawful L) where
-    untouched : (ops : List (Op L)) (i : L.Intentions) (g : L.Leaf) (c : L.Content) → i ≡ adds L (sets ops) L.none → L.touches g i ≡ false → L.changed g i c ≡ c
+    pub untouched : (ops : List (Op L)) (i : L.Intentions) (g : L.Leaf) (c : L.Content) → i ≡ adds L (sets ops) L.none → L.touches g i ≡ false → L.changed g i c ≡ c
     untouched ops i g c is none = ap (λ j. L.changed g j c) is ∙ changed_by L law g (sets ops) c ∙ written_none L g (sets ops) c (sym (ap (L.touches g) is ∙ touches_by L law g (sets ops)) ∙ none)
 
     read_visit : (ops : List (Op L)) (v : Visit L) (n : ℕ) (g : L.Leaf) (q : L.Query) → VisitAt ops v → NthOp ops n (Get g q) → n ≡ suc v.done → VisitAt ops (record v { done = n; shared = put L.same_leaf g true v.shared })
@@ -168,7 +168,7 @@ module _ {L : Lang} where
         }
 
     -- a visit that has done all has its intentions from all
-    all_done : (ops : List (Op L)) (v : Visit L) → VisitAt ops v → v.done ≡ length ops → v.changes ≡ adds L (sets ops) L.none
+    pub all_done : (ops : List (Op L)) (v : Visit L) → VisitAt ops v → v.done ≡ length ops → v.changes ≡ adds L (sets ops) L.none
     all_done ops v at n =
         let none = none_left at.past at.rest (sym at.done ∙ n ∙ ap length at.split) in
         at.changes ∙ ap (λ l. adds L (sets l) L.none) (sym (at.split ∙ ap (λ l. at.past ++ l) none ∙ append-nil at.past))

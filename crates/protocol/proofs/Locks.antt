@@ -80,7 +80,7 @@ module _ {L : Lang} where
       visit_is a b f = cc
   seen_from h (Prepared t i) v e = cc
 
-  exclusive_lock : (g : L.Leaf) (st : Status L) → has_exclusive g st ≡ true → has_lock g st ≡ true
+  pub exclusive_lock : (g : L.Leaf) (st : Status L) → has_exclusive g st ≡ true → has_lock g st ≡ true
   exclusive_lock g Dead e = e
   exclusive_lock g (Alive v) e = or_right (v.shared g) (L.touches g v.changes) e
   exclusive_lock g (Prepared t i) e = e

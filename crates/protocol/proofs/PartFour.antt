@@ -19,13 +19,13 @@ use Rattle.protocol.proofs.Going.{Good, good_moves}
 use Rattle.protocol.proofs.DeskSteps.{request_good, letter_good}
 
 module _ {L : Lang} where
-  not_born : (d : Desk L) → Born d (next_txn d) → ⊥
+  pub not_born : (d : Desk L) → Born d (next_txn d) → ⊥
   not_born d h = omega arith
 
-  born_next : (d : Desk L) (t : Name) → Born d t → Born (desk_began d) t
+  pub born_next : (d : Desk L) (t : Name) → Born d t → Born (desk_began d) t
   born_next d t h = ⊎_elim (λ below. inl below) (λ same_life. inr (same_life.0, le_trans same_life.1 (le_of_lt (lt-suc_self d.number)))) h
 
-  born_restarted : (d : Desk L) (t : Name) → Born d t → Born (desk_restarted d) t
+  pub born_restarted : (d : Desk L) (t : Name) → Born d t → Born (desk_restarted d) t
   born_restarted d t h = inl (omega arith)
 
   fresh_known : (o : L.Site → Name → Name) (sites : L.Site → SiteState L) (letters : List (Letter L)) (t : Name) → KnownAt o sites letters t fresh
@@ -33,7 +33,7 @@ module _ {L : Lang} where
 
   module _ (o : L.Site → Name → Name) (w : World L) (fit : Fit o w) where
     -- a new transaction
-    began_later : DeskLater o w (desk_began w.desk) (w.past ++ Began (next_txn w.desk) ∷ [])
+    pub began_later : DeskLater o w (desk_began w.desk) (w.past ++ Began (next_txn w.desk) ∷ [])
     began_later = record {
       born = born_next w.desk;
       grown = λ t born. put_all same same_law (next_txn w.desk) (Known fresh) w.desk.txn (λ j x. Born w.desk j → (v : Undecided L) → x ≡ Known v → (u : Undecided L) × (w.desk.txn j ≡ Known u) × Grows u v)
@@ -42,10 +42,10 @@ module _ {L : Lang} where
       newly = λ t done. inl (⊎_elim (λ was. was) (λ now. let f : false ≡ true = now in cc) (or_cases (is_committed w.past t) false (sym (list_any-append (commits_it t) w.past (Began (next_txn w.desk) ∷ [])) ∙ done)));
     }
 
-    was_before : (t : Name) → IsCommitted (w.past ++ Began (next_txn w.desk) ∷ []) t → IsCommitted w.past t
+    pub was_before : (t : Name) → IsCommitted (w.past ++ Began (next_txn w.desk) ∷ []) t → IsCommitted w.past t
     was_before t done = ⊎_elim (λ was. was) (λ now. let f : false ≡ true = now in cc) (or_cases (is_committed w.past t) false (sym (list_any-append (commits_it t) w.past (Began (next_txn w.desk) ∷ [])) ∙ done))
 
-    begun_fit : Fit o (begun w)
+    pub begun_fit : Fit o (begun w)
     begun_fit =
         let new = next_txn w.desk in
         record {
@@ -64,12 +64,12 @@ module _ {L : Lang} where
           letters = letters_desk o w (desk_began w.desk) (w.past ++ Began new ∷ []) fit began_later w.letters fit.letters;
         }
 
-    none_known : (t : Name) (x : Txn L) (v : Undecided L) → (txn_restarted t x).txn ≡ Known v → ⊥
+    pub none_known : (t : Name) (x : Txn L) (v : Undecided L) → (txn_restarted t x).txn ≡ Known v → ⊥
     none_known t Unknown v e = cc
     none_known t (Known u) v e = cc
     none_known t (Row vs acked) v e = cc
 
-    no_commit : (t j : Name) (x : Txn L) → is_committed (txn_restarted t x).deeds j ≡ false
+    pub no_commit : (t j : Name) (x : Txn L) → is_committed (txn_restarted t x).deeds j ≡ false
     no_commit t j Unknown = refl
     no_commit t j (Known u) = refl
     no_commit t j (Row vs acked) = refl
@@ -79,12 +79,12 @@ module _ {L : Lang} where
     no_commits j (t ∷ names) = list_any-append (commits_it j) (txn_restarted t (w.desk.txn t)).deeds (flat_map (λ t. (txn_restarted t (w.desk.txn t)).deeds) names) ∙ rw (no_commit t j (w.desk.txn t)) (no_commits j names)
 
     -- a restart of the coordinator
-    lives_before : (t : Name) → IsCommitted (desk_lives w).past t → IsCommitted w.past t
+    pub lives_before : (t : Name) → IsCommitted (desk_lives w).past t → IsCommitted w.past t
     lives_before t done =
         let deeds = flat_map (λ t. (txn_restarted t (w.desk.txn t)).deeds) w.desk.known in
         ⊎_elim (λ was. was) (λ now. clash now (no_commits t w.desk.known)) (or_cases (is_committed w.past t) (is_committed deeds t) (sym (list_any-append (commits_it t) w.past deeds) ∙ done))
 
-    lives_later : DeskLater o w (desk_restarted w.desk) (desk_lives w).past
+    pub lives_later : DeskLater o w (desk_restarted w.desk) (desk_lives w).past
     lives_later = record {
       born = born_restarted w.desk;
       grown = λ t born v e. absurd (none_known t (w.desk.txn t) v e);
@@ -108,7 +108,7 @@ module _ {L : Lang} where
         let r = fit.rows t ws done e in
         (lives_later.more t r.0, subst (Every (Gone w.sites)) (sym (acked_is vs acked ws [] f)) tt, subst (Every (Votes o w.sites t)) (sym (voters_is vs acked ws [] f)) r.2)
 
-    lives_fit : Fit o (desk_lives w)
+    pub lives_fit : Fit o (desk_lives w)
     lives_fit = record {
       live = fit.live;
       prepared = λ a k j i row. let p = fit.prepared a k j i row in record {
@@ -126,7 +126,7 @@ module _ {L : Lang} where
     }
 
   module _ (law : IsLawful L) where
-    turns_fit : (o : L.Site → Name → Name) (w : World L) (t : Name) (turn : Turn L) → Fit o w → Good o w t turn → Fit o (turns w t turn)
+    pub turns_fit : (o : L.Site → Name → Name) (w : World L) (t : Name) (turn : Turn L) → Fit o w → Good o w t turn → Fit o (turns w t turn)
     turns_fit o w t turn fit good = either (Fit o) (is_desk_within (desk_after w.desk t turn.txn)) (turned w t turn) w (good_moves o w t turn fit good) fit
 
     comes_fit : (o : L.Site → Name → Name) (w : World L) (kept : Bool) (choice : Choice L) (l : Letter L) → Fit o w → Fits o w.desk w.past w.sites l → In l w.letters → (desk : Bool) → (p : L.Site → Name → Name) × Fit p (comes_to desk w kept choice l)
