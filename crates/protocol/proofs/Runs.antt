@@ -1,0 +1,131 @@
+-- Small runs of the toy language, each computed: a moved row with its write lost, committed, repeated, in doubt, and late.
+use Rattle.std.proofs.Common.{◌≡◌, refl, ℕ, Bool, true, false, List, [], ◌∷◌, ◌++◌, map, length, drop}
+use Rattle.protocol.specs.Language.{Name}
+use Rattle.protocol.specs.Letter.{Body, Open, Fetch, Write, Prepare, Commit, Abort, Ticket, Rows, Refused, Voted, Ack, Inquire, Lock, Gone, Yes, No}
+use Rattle.protocol.specs.Site.{Dead}
+use Rattle.protocol.specs.Desk.{Unknown, State, Commit_call, Choice}
+use Rattle.protocol.specs.World.{World, Event, Begin, Call, Deliver, Site_inquires, Desk_restarts, run}
+use Rattle.protocol.specs.Serial.{committed, settled}
+use Rattle.protocol.specs.Toy.{toy, Pair, Move, Look, part_of}
+
+abbrev opening : Pair → World toy
+opening p = record {
+  desk = record { txn = λ t. Unknown; known = []; life = 1; number = 0 };
+  sites = λ a. record { kept = λ g. part_of g p; status = λ k. Dead; known = []; life = 1; number = 0 };
+  letters = [];
+  past = [];
+}
+
+-- a row of 7 in the north
+abbrev start : World toy
+start = opening (record { north = 7; south = 0 })
+
+abbrev one : Name
+one = record { life = 1; number = 1 }
+
+abbrev two : Name
+two = record { life = 1; number = 2 }
+
+abbrev moves : Choice toy
+moves = (1, (false, 0) ∷ (true, 7) ∷ [])
+
+abbrev got : ℕ → Event toy
+got n = Deliver n true (0, [])
+
+abbrev all_of : List ℕ → List (Event toy)
+all_of ns = map got ns
+
+-- the move up to its writes: letters 8 and 9 are Write north and Write south
+abbrev moved : List (Event toy)
+moved = Begin ∷ Call one (State Move) (0, []) ∷ all_of (0 ∷ 1 ∷ 2 ∷ 3 ∷ 4 ∷ 5 ∷ 6 ∷ []) ++ Deliver 7 true moves ∷ Call one Commit_call (0, []) ∷ []
+
+abbrev letters_out : List (Event toy) → List (Body toy)
+letters_out events = map (λ l. l.body) (run events start).letters
+
+-- two Opens, two tickets, fetches and their rows, two writes, two prepares
+letters_of_a_move : letters_out moved ≡
+    Open ∷ Open ∷ Ticket one ∷ Ticket one ∷ Fetch one 1 false 0 ∷ Fetch one 1 true 0 ∷ Rows one 1 7 ∷ Rows one 1 0
+    ∷ Write one 2 false 0 ∷ Write one 2 true 7 ∷ Prepare one 2 ∷ Prepare one 2 ∷ []
+letters_of_a_move = refl
+
+-- the letters put out after some events
+abbrev new_letters : List (Event toy) → List (Event toy) → List (Body toy)
+new_letters before after = drop (length (run before start).letters) (letters_out (before ++ after))
+
+abbrev kept_at : List (Event toy) → Bool → ℕ
+kept_at events g = ((run events start).sites g).kept g
+
+abbrev settled_at : List (Event toy) → Bool → ℕ
+settled_at events g = settled (run events start) g
+
+abbrev committed_in : List (Event toy) → List Name
+committed_in events = committed (run events start).past
+
+-- the write to the south is lost: the north votes Yes and the south No, and the north hears Abort
+abbrev lost : List (Event toy)
+lost = moved ++ all_of (8 ∷ 10 ∷ 11 ∷ 12 ∷ 13 ∷ 14 ∷ [])
+
+letters_where_lost : new_letters moved (all_of (8 ∷ 10 ∷ 11 ∷ 12 ∷ 13 ∷ 14 ∷ [])) ≡ Voted one Yes ∷ Voted one No ∷ Abort one ∷ []
+letters_where_lost = refl
+
+kept_where_lost : kept_at lost false ≡ 7
+kept_where_lost = refl
+
+none_committed_where_lost : committed_in lost ≡ []
+none_committed_where_lost = refl
+
+-- the write that comes late changes nothing
+late_write : kept_at (lost ++ all_of (9 ∷ [])) true ≡ 0
+late_write = refl
+
+-- half a moved row is no outcome
+no_half_row : kept_at lost false ≡ 0 → ⊥
+no_half_row e = cc
+
+-- all letters come: both sites vote Yes, and the settled row has moved before any Commit comes
+abbrev decided : List (Event toy)
+decided = moved ++ all_of (8 ∷ 9 ∷ 10 ∷ 11 ∷ 12 ∷ 13 ∷ [])
+
+moved_where_decided : map (settled_at decided) (false ∷ true ∷ []) ≡ 0 ∷ 7 ∷ []
+moved_where_decided = refl
+
+kept_where_decided : map (kept_at decided) (false ∷ true ∷ []) ≡ 7 ∷ 0 ∷ []
+kept_where_decided = refl
+
+committed_where_decided : committed_in decided ≡ one ∷ []
+committed_where_decided = refl
+
+-- the north applies; then old letters come again: an empty visit, refusals, a vote No, an Ack
+letters_again : new_letters decided (all_of (14 ∷ 0 ∷ 4 ∷ 8 ∷ 10 ∷ 14 ∷ [])) ≡ Ack one ∷ Ticket two ∷ Refused one Gone ∷ Voted one No ∷ Ack one ∷ []
+letters_again = refl
+
+settled_again : map (settled_at (decided ++ all_of (14 ∷ 0 ∷ 4 ∷ 8 ∷ 10 ∷ 14 ∷ []))) (false ∷ true ∷ []) ≡ 0 ∷ 7 ∷ []
+settled_again = refl
+
+-- both acknowledge, and the commit row goes
+row_gone : (run (decided ++ all_of (14 ∷ 15 ∷ 16 ∷ 17 ∷ [])) start).desk.known ≡ []
+row_gone = refl
+
+-- the coordinator restarts with one vote: it aborts, and who asks hears Abort
+abbrev in_doubt : List (Event toy)
+in_doubt = moved ++ all_of (8 ∷ 9 ∷ 10 ∷ 11 ∷ 12 ∷ []) ++ Desk_restarts true ∷ []
+
+letters_in_doubt : new_letters in_doubt (all_of (13 ∷ []) ++ Site_inquires false ∷ Site_inquires true ∷ all_of (14 ∷ 15 ∷ 16 ∷ 17 ∷ [])) ≡ Inquire one ∷ Inquire one ∷ Abort one ∷ Abort one ∷ []
+letters_in_doubt = refl
+
+-- with both votes it has a commit row, and sends the commits again
+letters_sent_again : new_letters decided (Desk_restarts true ∷ []) ≡ Commit one ∷ Commit one ∷ []
+letters_sent_again = refl
+
+-- a write that comes after another's read of its leaf began and ended is refused, and the first transaction aborts
+abbrev looked : List (Event toy)
+looked = moved ++ all_of (8 ∷ []) ++ Begin ∷ Call two (State (Look true)) (0, []) ∷ all_of (12 ∷ 13 ∷ 14 ∷ []) ++ Deliver 15 true (0, []) ∷ Call two Commit_call (0, []) ∷ all_of (16 ∷ 17 ∷ [])
+
+committed_look : committed_in looked ≡ two ∷ []
+committed_look = refl
+
+late_write_refused : new_letters looked (all_of (9 ∷ 11 ∷ 19 ∷ [])) ≡ Refused one Lock ∷ Voted one No ∷ Abort one ∷ []
+late_write_refused = refl
+
+none_but_the_look : committed_in (looked ++ all_of (9 ∷ 10 ∷ 11 ∷ 18 ∷ 19 ∷ 20 ∷ [])) ≡ two ∷ []
+none_but_the_look = refl

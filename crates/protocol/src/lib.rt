@@ -1,0 +1,14 @@
+//! The commit protocol, Presumed Abort: both machines, worlds and runs as definitions (`specs/`), and the
+//! proof of the serial law over every run (`proofs/`), for every language of statements over leaves.
+//!
+//! Stands on nothing but `std`. The crates above state their machines by these definitions and cite the
+//! theorems at a language of their own; here each stands at a toy language, since a clause can't range
+//! over languages.
+//!
+//! ```text
+//! run events opening                 // any calls, deliveries, losses, repeats, refusals and restarts
+//! committed (run events opening).past    // in the order in which first phases began
+//! ```
+#![tactic(auto)]
+
+pub mod laws;
