@@ -10,3 +10,4 @@ pub mod ChangeLaws
 pub mod InputLemmas
 pub mod CatalogFileLemmas
 pub mod CheckLemmas
+pub mod PlanLemmas

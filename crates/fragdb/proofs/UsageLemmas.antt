@@ -1,10 +1,10 @@
 -- Lemmas on the words of the command line.
-use Rattle.std.proofs.Common.{◌≡◌, Box, Global, List, Option, Some, None, refl, ap, sym, ◌∙◌, option_map}
+use Rattle.std.proofs.Common.{◌≡◌, Box, Global, List, [], ◌∷◌, Option, Some, None, refl, ap, sym, ◌∙◌, option_map}
 use Rattle.clap.specs.Words.{Row, Text, first_of, subcommand_name_of, subcommand_of, subcommand_rows, subcommand_rows_of}
 use Rattle.std.specs.Box.{box_value}
 use Rattle.clap.specs.declared.parser.matches.SubCommand.{SubCommand, out-SubCommand}
 use Rattle.clap.specs.declared.parser.matches.ArgMatches.{ArgMatches, out-ArgMatches}
-use Rattle.fragdb.specs.Usage.{command_given, usage}
+use Rattle.fragdb.specs.Usage.{IsGiven, usage}
 
 pub subcommand_name_of-rows : (m : ArgMatches) → subcommand_name_of m ≡ option_map (λ p. p.0) (subcommand_rows_of m)
 subcommand_name_of-rows m = go (out-ArgMatches m).subcommand
@@ -14,9 +14,17 @@ subcommand_name_of-rows m = go (out-ArgMatches m).subcommand
     go (Some entered) = refl
 
 -- the command that was entered, by its name and its rows
-pub command_given-at : (words : List Text) (argument_name : Text) (entered : Option (Text × List Row)) (name : Text) (rows : List Row) (value : Text) → entered ≡ subcommand_of usage words → Some name ≡ option_map (λ p. p.0) entered → Some rows ≡ option_map (λ p. p.1) entered → Some value ≡ first_of argument_name rows → command_given words argument_name ≡ Some (name, Some value)
-command_given-at words argument_name None name rows value e n r s = absurd (cc)
-command_given-at words argument_name (Some (entered_name, entered_rows)) name rows value e n r s =
+pub command_is : (words : List Text) (entered : Option (Text × List Row)) (name : Text) (rows : List Row) → entered ≡ subcommand_of usage words → Some name ≡ option_map (λ p. p.0) entered → Some rows ≡ option_map (λ p. p.1) entered → subcommand_of usage words ≡ Some (name, rows)
+command_is words None name rows e n r = absurd (cc)
+command_is words (Some (entered_name, entered_rows)) name rows e n r =
     let name_is : entered_name ≡ name = cc in
     let rows_is : entered_rows ≡ rows = cc in
-    ap (option_map (λ p. (p.0, first_of argument_name p.1))) (sym e) ∙ rw (name_is, rows_is, ← s) refl
+    sym e ∙ rw (name_is, rows_is) refl
+
+-- a command with one argument, and one with two
+pub given_one : (words : List Text) (entered : Option (Text × List Row)) (name : Text) (rows : List Row) (argument value : Text) → entered ≡ subcommand_of usage words → Some name ≡ option_map (λ p. p.0) entered → Some rows ≡ option_map (λ p. p.1) entered → Some value ≡ first_of argument rows → IsGiven words (name, (argument, value) ∷ [])
+given_one words entered name rows argument value e n r s = record { rows = rows; command = command_is words entered name rows e n r; arguments = (sym s, tt) }
+
+pub given_two : (words : List Text) (entered : Option (Text × List Row)) (name : Text) (rows : List Row) (first one second two : Text) → entered ≡ subcommand_of usage words → Some name ≡ option_map (λ p. p.0) entered → Some rows ≡ option_map (λ p. p.1) entered →
+    Some one ≡ first_of first rows → Some two ≡ first_of second rows → IsGiven words (name, (first, one) ∷ (second, two) ∷ [])
+given_two words entered name rows first one second two e n r s t = record { rows = rows; command = command_is words entered name rows e n r; arguments = (sym s, (sym t, tt)) }

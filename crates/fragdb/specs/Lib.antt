@@ -7,6 +7,7 @@ pub mod Script
 pub mod Solo
 pub mod CatalogFile
 pub mod Check
+pub mod Plan
 pub mod Usage
 pub mod Outcome
 pub mod Perform

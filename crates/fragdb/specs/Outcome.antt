@@ -1,10 +1,11 @@
 -- The exit status of an outcome, and what is told of it.
 use Rattle.std.specs.Prelude.{ℕ, List, [], ◌∷◌, ◌++◌, codes}
 use Rattle.catalog.specs.Fault as refusal
+use Rattle.reader.specs.Refusal as reading
 use Rattle.fragdb.specs.declared.fault.ProgramFault.{ProgramFault}
 use Rattle.fragdb.specs.declared.fault.ProgramFault.TheVariants.{CannotRead, ScriptTooLong, Malformed, Memory, CannotWrite}
 use Rattle.fragdb.specs.declared.outcome.Outcome.{Outcome}
-use Rattle.fragdb.specs.declared.outcome.Outcome.TheVariants.{Done, SomeRefused, Refused, Stopped}
+use Rattle.fragdb.specs.declared.outcome.Outcome.TheVariants.{Done, SomeRefused, Refused, RefusedStatement, Stopped}
 use Rattle.fragdb.specs.declared.outcome.Status.{Status}
 use Rattle.fragdb.specs.declared.outcome.Status.TheVariants as status
 use Rattle.fragdb.specs.Fault.{fault_text}
@@ -27,6 +28,7 @@ abbrev pub status_of : Outcome → Status
 status_of Done = status.Done
 status_of SomeRefused = status.Refused
 status_of (Refused fault) = status.Refused
+status_of (RefusedStatement fault) = status.Refused
 status_of (Stopped fault) = status_of_fault fault
 
 -- a line of the program's own
@@ -46,4 +48,5 @@ abbrev pub told_text : Outcome → List ℕ
 told_text Done = []
 told_text SomeRefused = []
 told_text (Refused fault) = codes "refused " ++ refusal.fault_text fault ++ 10 ∷ []
+told_text (RefusedStatement fault) = codes "refused read " ++ reading.fault_text fault ++ 10 ∷ []
 told_text (Stopped fault) = stop_text fault

@@ -1,13 +1,14 @@
 -- What the words of the command line ask for.
-use Rattle.std.specs.Prelude.{ℕ, true, List, [], Option, codes, option_map}
-use Rattle.clap.specs.Words.{App, Rule, Text, first_of, new_app, new_rule, subcommand_of, with_rule, with_subcommand}
+use Rattle.std.specs.Prelude.{◌≡◌, true, List, [], ◌∷◌, Some, codes}
+use Rattle.std.specs.List.{AllByRecursion}
+use Rattle.clap.specs.Words.{App, Row, Rule, Text, first_of, new_app, new_rule, subcommand_of, with_rule, with_subcommand}
 use Rattle.clap.specs.Simple.{new_shape}
 use Rattle.clap.specs.declared.error.kind.ErrorKind.{ErrorKind}
 use Rattle.clap.specs.declared.error.kind.ErrorKind.TheVariants.{DisplayHelp, DisplayVersion, OutOfMemory}
 use Rattle.fragdb.specs.declared.outcome.Status.{Status}
 use Rattle.fragdb.specs.declared.outcome.Status.TheVariants as status
 use Rattle.fragdb.specs.declared.usage.Request.{Request}
-use Rattle.fragdb.specs.declared.usage.Request.TheVariants.{Solo, Check}
+use Rattle.fragdb.specs.declared.usage.Request.TheVariants.{Solo, Check, Plan}
 
 -- an argument that must be given
 abbrev pub argument : Text → Rule
@@ -17,7 +18,11 @@ argument name = record (new_rule name) { required = true }
 abbrev pub command_with : Text → Text → App
 command_with name argument_name = with_rule (new_app name) (argument argument_name)
 
--- the command line's grammar: `fragdb solo SCRIPT` and `fragdb check CATALOG`
+-- a command with two such arguments
+abbrev pub command_with_two : Text → Text → Text → App
+command_with_two name first second = with_rule (command_with name first) (argument second)
+
+-- the command line's grammar: `fragdb solo SCRIPT`, `fragdb check CATALOG` and `fragdb plan CATALOG STATEMENT`
 abbrev pub program : App
 program = record {
   top = record (new_shape (codes "fragdb")) { has_version = true; subcommand_required = true };
@@ -25,16 +30,21 @@ program = record {
 }
 
 abbrev pub usage : App
-usage = with_subcommand (with_subcommand program (command_with (codes "solo") (codes "SCRIPT")).top) (command_with (codes "check") (codes "CATALOG")).top
+usage =
+    with_subcommand (with_subcommand (with_subcommand program (command_with (codes "solo") (codes "SCRIPT")).top) (command_with (codes "check") (codes "CATALOG")).top)
+    (command_with_two (codes "plan") (codes "CATALOG") (codes "STATEMENT")).top
 
--- the command that the words name, and what stands at its argument of this name, if it has one
-abbrev pub command_given : List Text → Text → Option (Text × Option Text)
-command_given words argument_name = option_map (λ p. (p.0, first_of argument_name p.1)) (subcommand_of usage words)
+-- the words name this command, and give it these arguments, each under its name
+pub record IsGiven (words : List Text) (request : Text × List (Text × Text)) : Type 0 where
+  pub rows : List Row
+  pub command : subcommand_of usage words ≡ Some (request.0, rows)
+  pub arguments : AllByRecursion (λ a. first_of a.0 rows ≡ Some a.1) request.1
 
--- a request in words: the command, its argument's name, and the argument
-abbrev pub asked : Request → Text × Text × Text
-asked (Solo script) = (codes "solo", codes "SCRIPT", script.now)
-asked (Check catalog) = (codes "check", codes "CATALOG", catalog.now)
+-- a request in words: the command, and its arguments, each with its name
+abbrev pub asked : Request → Text × List (Text × Text)
+asked (Solo script) = (codes "solo", (codes "SCRIPT", script.now) ∷ [])
+asked (Check catalog) = (codes "check", (codes "CATALOG", catalog.now) ∷ [])
+asked (Plan catalog statement) = (codes "plan", (codes "CATALOG", catalog.now) ∷ (codes "STATEMENT", statement.now) ∷ [])
 
 -- the exit status where clap gives a text in place of a request
 abbrev pub usage_status : ErrorKind → Status

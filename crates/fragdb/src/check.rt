@@ -36,7 +36,7 @@ pub fn check<'a, R: Read + Drop, W: Write>(
 }
 
 /// Writes a text, and waits until it is written.
-fn write_text<'a, W: Write>(output: &mut W, text: &str) -> Result<(), CatalogFault<'a>>
+pub fn write_text<'a, W: Write>(output: &mut W, text: &str) -> Result<(), CatalogFault<'a>>
     ensures written { OnOk result (Appends (W.contents output.old) (W.contents output.new) text.now) }
     ensures faults { IfErr result IsWriteFault }
 {
@@ -102,7 +102,7 @@ fn put_leaf(
 }
 
 /// The name of a site, nothing where it is not there.
-fn put_site(out: &mut String, sites: &[Text], site: usize) -> Result<(), Memory>
+pub fn put_site(out: &mut String, sites: &[Text], site: usize) -> Result<(), Memory>
     ensures { OnOk result (string_bytes out.new ≡ string_bytes out.old ++ name_in sites.now site) }
 {
     if let Some(name) = sites.get(site) {
@@ -112,7 +112,7 @@ fn put_site(out: &mut String, sites: &[Text], site: usize) -> Result<(), Memory>
 }
 
 /// The columns of a relation, none where it is not there.
-fn columns_of<'a>(schema: &'a Schema, relation: &Text) -> &'a [Column]
+pub fn columns_of<'a>(schema: &'a Schema, relation: &Text) -> &'a [Column]
     ensures { result.now ≡ spec.columns_of schema.now.relations relation.now }
 {
     match schema.relation(relation.as_str().as_bytes()) {
@@ -146,7 +146,7 @@ fn put_name(out: &mut String, columns: &[Column], place: usize) -> Result<(), Me
 }
 
 /// Conditions on these columns, if there are any.
-fn put_where(out: &mut String, columns: &[Column], conds: &Conds) -> Result<(), Memory>
+pub fn put_where(out: &mut String, columns: &[Column], conds: &Conds) -> Result<(), Memory>
     ensures { OnOk result (string_bytes out.new ≡ string_bytes out.old ++ where_text (names_of_columns columns.now) conds.now) }
 {
     if conds.as_slice().is_empty() {

@@ -7,9 +7,8 @@ ghost use Rattle.fragdb.specs.Fault.{fault_of_script, fault_text};
 
 use crate::script::ScriptFault;
 use std::alloc::AllocError;
-use std::fmt;
-use std::io;
 use std::io::ErrorKind;
+use std::{fmt, io};
 use terms::memory::Memory;
 
 /// Why a command stops before its end.

@@ -16,6 +16,7 @@ mod item;
 mod merge;
 mod outcome;
 mod perform;
+mod plan_text;
 mod reply;
 mod script;
 mod small;

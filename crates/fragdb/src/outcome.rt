@@ -6,6 +6,7 @@ ghost use Rattle.fragdb.specs.Outcome.{code_of, status_of, stop_text, told_text}
 
 use crate::fault::ProgramFault;
 use catalog::fault::CatFault;
+use reader::fault::ReadFault;
 use std::io;
 use std::io::Write;
 
@@ -18,6 +19,8 @@ pub enum Outcome<'a> {
     SomeRefused,
     /// The catalogue was refused.
     Refused(CatFault),
+    /// The statement was refused.
+    RefusedStatement(ReadFault),
     /// The command stopped before its end.
     Stopped(ProgramFault<'a>),
 }
@@ -57,7 +60,10 @@ impl Outcome<'_> {
         match self {
             Outcome::Done => Status::Done,
             Outcome::Stopped(ProgramFault::Memory) => Status::Memory,
-            Outcome::SomeRefused | Outcome::Refused(_) | Outcome::Stopped(_) => Status::Refused,
+            Outcome::SomeRefused
+            | Outcome::Refused(_)
+            | Outcome::RefusedStatement(_)
+            | Outcome::Stopped(_) => Status::Refused,
         }
     }
 }
@@ -69,6 +75,7 @@ pub fn tell<E: Write>(errors: &mut E, outcome: &Outcome<'_>) -> io::Result<()>
     match outcome {
         Outcome::Done | Outcome::SomeRefused => Ok(()),
         Outcome::Refused(fault) => writeln!(errors, "refused {fault}"),
+        Outcome::RefusedStatement(fault) => writeln!(errors, "refused read {fault}"),
         Outcome::Stopped(fault) => tell_stop(errors, fault),
     }
 }

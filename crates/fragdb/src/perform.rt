@@ -9,6 +9,7 @@ use crate::catalog_file::CatalogFault;
 use crate::check::check;
 use crate::fault::ProgramFault;
 use crate::outcome::Outcome;
+use crate::plan_text::{PlanFault, plan};
 use crate::solo::solo;
 use crate::usage::Request;
 use std::alloc::Global;
@@ -22,7 +23,7 @@ impl<'a> Request<'a> {
     {
         match self {
             Request::Solo { script } => script,
-            Request::Check { catalog } => catalog,
+            Request::Check { catalog } | Request::Plan { catalog, .. } => catalog,
         }
     }
 }
@@ -46,6 +47,9 @@ pub fn perform<'a, R: Read + Drop, W: Write>(
     match request {
         Request::Solo { script } => of_script(solo(alloc, script, input, output)),
         Request::Check { catalog } => of_check(check(alloc, catalog, input, output)),
+        Request::Plan { catalog, statement } => {
+            of_plan(plan(alloc, catalog, statement, input, output))
+        }
     }
 }
 
@@ -68,5 +72,25 @@ fn of_check(ended: Result<(), CatalogFault<'_>>) -> Outcome<'_>
         Ok(()) => Outcome::Done,
         Err(CatalogFault::Refused(fault)) => Outcome::Refused(fault),
         Err(CatalogFault::Program(fault)) => Outcome::Stopped(fault),
+    }
+}
+
+/// What a plan came to.
+fn of_plan(ended: Result<(), PlanFault<'_>>) -> Outcome<'_>
+    ensures { result ≡ spec.outcome_of_plan ended.entry }
+{
+    match ended {
+        Ok(()) => Outcome::Done,
+        Err(fault) => of_plan_fault(fault),
+    }
+}
+
+fn of_plan_fault(fault: PlanFault<'_>) -> Outcome<'_>
+    ensures { result ≡ spec.outcome_of_plan_fault fault.entry }
+{
+    match fault {
+        PlanFault::Catalogue(fault) => Outcome::Refused(fault),
+        PlanFault::Statement(fault) => Outcome::RefusedStatement(fault),
+        PlanFault::Program(fault) => Outcome::Stopped(fault),
     }
 }

@@ -1,11 +1,11 @@
 //! The words of the command line.
 
-ghost use Rattle.std.specs.Prelude.{◌≡◌, ◌≢◌, ◌≤◌, ◌<◌, ◌⊎◌, Some, IfOk, IsOkAnd, codes, false, length, map};
+ghost use Rattle.std.specs.Prelude.{◌≡◌, ◌≢◌, ◌≤◌, ◌<◌, ◌⊎◌, ◌∷◌, [], IfOk, IsOkAnd, codes, false, length, map};
 ghost use Rattle.std.specs.Io.KnownBytes.{Keeps};
 ghost use Rattle.std.specs.IoError.{error_kind};
 ghost use Rattle.clap.specs.declared.builder.command.Command.TheViews.{out-Command};
 ghost use Rattle.clap.specs.Words.{app_of, kind_of};
-ghost use Rattle.fragdb.specs.Usage.{asked, command_given, command_with, usage, usage_status};
+ghost use Rattle.fragdb.specs.Usage.{asked, command_with, command_with_two, usage, usage_status, IsGiven};
 
 use crate::fault::ProgramFault;
 use crate::outcome::{Outcome, Status, exit};
@@ -20,9 +20,18 @@ use std::io::{ErrorKind as IoErrorKind, Write};
 #[derive(Clone, Copy, Debug, PartialEq, Eq)]
 pub enum Request<'a> {
     /// To run this script, a file's name, or `-` for standard input.
-    Solo { script: &'a str },
+    Solo {
+        script: &'a str,
+    },
     /// To check this catalogue, a file's name.
-    Check { catalog: &'a str },
+    Check {
+        catalog: &'a str,
+    },
+    /// To plan this statement over the relations of this catalogue, a file's name.
+    Plan {
+        catalog: &'a str,
+        statement: &'a str,
+    },
 }
 
 /// What stands after the program's help.
@@ -34,10 +43,12 @@ or nobody reads the output; 2 a mistake on the command line; 4 out of memory.
 Examples:
   echo \"INSERT INTO item VALUES (1, 3, 'a')\" | fragdb
   fragdb solo script.txt
-  fragdb check catalogue.toml";
+  fragdb check catalogue.toml
+  fragdb plan catalogue.toml 'SELECT name FROM emp WHERE id = 7'";
 
 /// What stands after the help of `solo`.
-const AFTER_SOLO: &str = "A script has one item a line; empty lines and lines that begin with # are passed over:
+const AFTER_SOLO: &str =
+    "A script has one item a line; empty lines and lines that begin with # are passed over:
   INSERT INTO item VALUES (1, 3, 'a')    a statement; so are SELECT, UPDATE and DELETE
   .show item                             the rows of a relation
   .leaf item.1                           the rows that a fragment keeps
@@ -47,9 +58,8 @@ the others in item.2.";
 
 /// What the words ask for, of which the first names the program. With no other word that is `solo -`.
 pub fn read_words<'a, S: AsStr>(alloc: Global, words: &'a [S]) -> Result<Request<'a>, Error>
-    ensures alone { length words.entry.now ≤ 1 → IsOkAnd result (λ request. asked request ≡ (codes "solo", codes "SCRIPT", codes "-")) }
-    ensures given { IfOk result (λ request. 1 < length words.entry.now
-        → command_given (map S.text words.entry.now) (asked request).1 ≡ Some ((asked request).0, Some (asked request).2)) }
+    ensures alone { length words.entry.now ≤ 1 → IsOkAnd result (λ request. asked request ≡ (codes "solo", (codes "SCRIPT", codes "-") ∷ [])) }
+    ensures given { IfOk result (λ request. 1 < length words.entry.now → IsGiven (map S.text words.entry.now) (asked request)) }
 {
     if words.len() <= 1 {
         return Ok(Request::Solo { script: "-" });
@@ -65,6 +75,12 @@ pub fn read_words<'a, S: AsStr>(alloc: Global, words: &'a [S]) -> Result<Request
         && let Some(catalog) = check.get_str("CATALOG")
     {
         return Ok(Request::Check { catalog });
+    }
+    if let Some(("plan", plan)) = matches.subcommand()
+        && let Some(catalog) = plan.get_str("CATALOG")
+        && let Some(statement) = plan.get_str("STATEMENT")
+    {
+        return Ok(Request::Plan { catalog, statement });
     }
     Err(command.error(ErrorKind::MissingSubcommand, "a command is missing")?)
 }
@@ -96,7 +112,8 @@ fn command<'a>(alloc: Global) -> Result<Command<'a>, AllocError>
         .after_help(AFTER_HELP)
         .subcommand_required(true)
         .subcommand(solo_command(alloc)?)?
-        .subcommand(check_command(alloc)?)
+        .subcommand(check_command(alloc)?)?
+        .subcommand(plan_command(alloc)?)
 }
 
 fn solo_command<'a>(alloc: Global) -> Result<Command<'a>, AllocError>
@@ -122,6 +139,22 @@ fn check_command<'a>(alloc: Global) -> Result<Command<'a>, AllocError>
     Command::new(alloc, "check")
         .about("Checks a catalogue and lists its fragments")
         .arg(catalog)
+}
+
+fn plan_command<'a>(alloc: Global) -> Result<Command<'a>, AllocError>
+    ensures shape { IfOk result (λ command. app_of command ≡ command_with_two (codes "plan") (codes "CATALOG") (codes "STATEMENT")) }
+    ensures local { IfOk result (λ command. (out-Command command).has_globals ≡ false) }
+{
+    let catalog = Arg::new(alloc, "CATALOG")
+        .required(true)
+        .help("A file with a catalogue, in TOML");
+    let statement = Arg::new(alloc, "STATEMENT")
+        .required(true)
+        .help("A statement over the catalogue's relations");
+    Command::new(alloc, "plan")
+        .about("Shows which fragments a statement reads, and with which conditions")
+        .arg(catalog)?
+        .arg(statement)
 }
 
 /// Writes clap's text where it belongs, help to the output and a mistake to the errors, and answers the

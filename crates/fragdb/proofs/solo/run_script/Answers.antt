@@ -9,7 +9,9 @@ returns g c =
     let ran = c.in_ok-any_refused.ensures.ok in
     let P : List Reading → Type 0 = λ tasks. IsRun tasks ran.0 c.in_ok-any_refused.any_refused ran.2 in (
       record { short = c.requires; readable = c.in_ok-items.ensures.all_read },
-      (ran.0,
-      Appends-kept (g.W.Write.contents c.args.output.now) (g.W.Write.contents c.run-outcome.new.output) (g.W.Write.contents c.flush-flushed.new.self) ran.0 ran.1 c.flush-flushed.ensures.bytes,
-      (ran.2, subst P (ap (map task_of) c.as_slice.ensures.value ∙ c.in_ok-items.ensures.items) ran.3)),
+      (
+        ran.0,
+        Appends-kept (g.W.Write.contents c.args.output.now) (g.W.Write.contents c.run-outcome.new.output) (g.W.Write.contents c.flush-flushed.new.self) ran.0 ran.1 c.flush-flushed.ensures.bytes,
+        (ran.2, subst P (ap (map task_of) c.as_slice.ensures.value ∙ c.in_ok-items.ensures.items) ran.3),
+      ),
     )

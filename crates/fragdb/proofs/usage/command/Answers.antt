@@ -15,4 +15,6 @@ returns c =
     required_is ∙ ap (on_top (λ s. record s { subcommand_required = true })) (after_is ∙ about_is ∙ version_is ∙ ap (on_top (λ s. record s { has_version = true })) c.new.ensures.app) in
     let with_solo : app_of c.in_ok-subcommand.field-0 ≡ with_subcommand program (command_with (codes "solo") (codes "SCRIPT")).top =
     c.in_ok-subcommand.ensures.shape c.in_ok-solo_command.ensures.local ∙ ap₂ with_subcommand program_is (ap (λ (a : App). a.top) c.in_ok-solo_command.ensures.shape) in
-    IfOk-weaker c.subcommand-2.result _ _ (λ r h. h.shape c.in_ok-check_command.ensures.local ∙ ap₂ with_subcommand with_solo (ap (λ (a : App). a.top) c.in_ok-check_command.ensures.shape)) c.subcommand-2.ensures
+    let with_check : app_of c.in_ok-subcommand-2.field-0 ≡ with_subcommand (with_subcommand program (command_with (codes "solo") (codes "SCRIPT")).top) (command_with (codes "check") (codes "CATALOG")).top =
+    c.in_ok-subcommand-2.ensures.shape c.in_ok-check_command.ensures.local ∙ ap₂ with_subcommand with_solo (ap (λ (a : App). a.top) c.in_ok-check_command.ensures.shape) in
+    IfOk-weaker c.subcommand-3.result _ _ (λ r h. h.shape c.in_ok-plan_command.ensures.local ∙ ap₂ with_subcommand with_check (ap (λ (a : App). a.top) c.in_ok-plan_command.ensures.shape)) c.subcommand-3.ensures

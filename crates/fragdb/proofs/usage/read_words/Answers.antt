@@ -1,7 +1,7 @@
 use Rattle.std.proofs.Common.{◌≡◌, ℕ, List, Some, ap, codes, map, ◌∙◌, sym}
 use Rattle.clap.specs.Words.{app_of, found_of, is_simple, subcommand_of}
 use Rattle.fragdb.specs.Usage.{usage}
-use Rattle.fragdb.proofs.UsageLemmas.{command_given-at, subcommand_name_of-rows}
+use Rattle.fragdb.proofs.UsageLemmas.{given_one, given_two, subcommand_name_of-rows}
 use Rattle.clap.proofs.WalkLemmas.{first_value-rows}
 use Rattle.fragdb.proofs.usage.read_words.Goals as goal
 
@@ -12,7 +12,7 @@ returns-clause-given g c =
     let name = c.in-Some-solo-default.ensures.name ∙ subcommand_name_of-rows c.in_ok-matches.matches in
     let rows = c.in-Some-solo-default.ensures.rows in
     let script = c.in-Some.ensures in
-    λ _. command_given-at (map g.S.AsStr.text c.args.words.now) (codes "SCRIPT") _ (codes "solo") _ c.in-Some.script.now entered
+    λ _. given_one (map g.S.AsStr.text c.args.words.now) _ (codes "solo") _ (codes "SCRIPT") c.in-Some.script.now entered
     (ap (λ (t : List ℕ). Some t) (sym c.in-Some-solo-default.is-solo) ∙ name) rows (script ∙ first_value-rows (found_of c.in-Some-solo-default.solo.now) (codes "SCRIPT"))
 
 pub returns-2-clause-given : goal.returns-2-clause-given
@@ -22,5 +22,15 @@ returns-2-clause-given g c =
     let name = c.in-Some-check-default.ensures.name ∙ subcommand_name_of-rows c.in_ok-matches.matches in
     let rows = c.in-Some-check-default.ensures.rows in
     let catalog = c.in-Some-get_str.ensures in
-    λ _. command_given-at (map g.S.AsStr.text c.args.words.now) (codes "CATALOG") _ (codes "check") _ c.in-Some-get_str.catalog.now entered
+    λ _. given_one (map g.S.AsStr.text c.args.words.now) _ (codes "check") _ (codes "CATALOG") c.in-Some-get_str.catalog.now entered
     (ap (λ (t : List ℕ). Some t) (sym c.in-Some-check-default.is-check) ∙ name) rows (catalog ∙ first_value-rows (found_of c.in-Some-check-default.check.now) (codes "CATALOG"))
+
+pub returns-3-clause-given : goal.returns-3-clause-given
+returns-3-clause-given g c =
+    let usage_is : app_of c.in_ok-command.command ≡ usage = c.in_ok-command.ensures in
+    let entered = (c.in_ok-matches.ensures.ok.2 (ap is_simple usage_is)).1 ∙ ap (λ a. subcommand_of a (map g.S.AsStr.text c.args.words.now)) usage_is in
+    let name = c.in-Some-plan-default.ensures.name ∙ subcommand_name_of-rows c.in_ok-matches.matches in
+    let rows = c.in-Some-plan-default.ensures.rows in
+    λ _. given_two (map g.S.AsStr.text c.args.words.now) _ (codes "plan") _ (codes "CATALOG") c.in-Some-get_str-2.catalog.now (codes "STATEMENT") c.in-Some-get_str-3.statement.now entered
+    (ap (λ (t : List ℕ). Some t) (sym c.in-Some-plan-default.is-plan) ∙ name) rows
+    (c.in-Some-get_str-2.ensures ∙ first_value-rows (found_of c.in-Some-plan-default.plan.now) (codes "CATALOG")) (c.in-Some-get_str-3.ensures ∙ first_value-rows (found_of c.in-Some-plan-default.plan.now) (codes "STATEMENT"))

@@ -1,0 +1,115 @@
+-- What the program shows of a statement's plan.
+use Rattle.std.specs.Prelude.{◌≡◌, ◌≢◌, ◌⊎◌, ℕ, ◌==◌, if◌then◌else◌, List, [], ◌∷◌, ◌++◌, Option, Some, None, Result, Ok, Err, codes, length}
+use Rattle.std.specs.Borrow.{Bor}
+use Rattle.std.specs.Fmt.{decimal}
+use Rattle.std.specs.Io.KnownBytes.{Appends, Keeps}
+use Rattle.std.specs.List.{flat_map}
+use Rattle.terms.specs.Leaf.{leaf_text}
+use Rattle.meaning.specs.declared.schema.RelationSchema.{RelationSchema}
+use Rattle.meaning.specs.declared.statement.Statement.{Statement}
+use Rattle.meaning.specs.Listed.{listed}
+use Rattle.reader.specs.declared.command.Command.TheVariants.{Run}
+use Rattle.reader.specs.declared.fault.Rule.{Rule}
+use Rattle.reader.specs.declared.fault.Rule.TheVariants as rules
+use Rattle.reader.specs.Command.{IsTextOf}
+use Rattle.reader.specs.Fault.{Fault}
+use Rattle.reader.specs.Written.{name_in}
+use Rattle.catalog.specs.declared.fragment_leaf.FragmentLeaf.{FragmentLeaf}
+use Rattle.catalog.specs.Catalogue.{Catalogue, IsValidCatalogue}
+use Rattle.catalog.specs.FragmentLeaf.{catalogue_leaves, leaf_named, schemas_of}
+use Rattle.plan.specs.declared.fetch.Fetch.{Fetch}
+use Rattle.plan.specs.Stated.{AreFetchesOf}
+use Rattle.fragdb.specs.declared.catalog_file.CatalogFault.{CatalogFault}
+use Rattle.fragdb.specs.declared.catalog_file.CatalogFault.TheVariants as catalog
+use Rattle.fragdb.specs.declared.fault.ProgramFault.TheVariants.{CannotWrite, Memory}
+use Rattle.fragdb.specs.declared.plan_text.PlanFault.{PlanFault}
+use Rattle.fragdb.specs.declared.plan_text.PlanFault.TheVariants as plan
+use Rattle.fragdb.specs.CatalogFile.{IsCatalogueFile, RefusesFile}
+use Rattle.fragdb.specs.Check.{columns_of, names_of_columns, where_text}
+use Rattle.fragdb.specs.Input.{IsOfInput}
+use Rattle.fragdb.specs.Solo.{IsOfRun}
+
+-- the name of a leaf's site, nothing where the leaf is not there
+abbrev pub site_text : List (List ℕ) → Option FragmentLeaf → List ℕ
+site_text sites None = []
+site_text sites (Some leaf) = name_in sites leaf.site
+
+-- a fetch's leaf, the leaf's site, and the conditions that it carries, by the names of the leaf's columns
+abbrev pub fetch_line : Catalogue → Fetch → List ℕ
+fetch_line catalogue fetch =
+    leaf_text fetch.leaf ++ 32 ∷ site_text catalogue.sites (leaf_named fetch.leaf (catalogue_leaves catalogue))
+    ++ where_text (names_of_columns (listed fetch.columns (columns_of (schemas_of catalogue) fetch.leaf.relation))) fetch.conds ++ 10 ∷ []
+
+abbrev pub count_line : ℕ → List ℕ
+count_line count = if count == 1 then codes "1 fetch" ++ 10 ∷ [] else decimal count ++ codes " fetches" ++ 10 ∷ []
+
+-- a line for each fetch, and how many there are
+abbrev pub plan_text : Catalogue → List Fetch → List ℕ
+plan_text catalogue fetches = flat_map (fetch_line catalogue) fetches ++ count_line (length fetches)
+
+-- the text of the plan of a statement: of exactly the fetches that are stated
+pub record IsPlanText (catalogue : Catalogue) (statement : Statement) (text : List ℕ) : Type 0 where
+  pub fetches : List Fetch
+  pub are : AreFetchesOf catalogue statement fetches
+  pub same : text ≡ plan_text catalogue fetches
+
+-- a refusal of a text that is no statement's
+pub record IsNoStatementOf (schema : List RelationSchema) (text : List ℕ) (fault : Fault) : Type 0 where
+  pub is_rule : fault.rule ≢ rules.Memory
+  pub none : (statement : Statement) → ¬ (IsTextOf schema text (Run statement))
+
+-- why a text gives no statement
+abbrev pub IsReadFault : List RelationSchema → List ℕ → PlanFault → Type 0
+IsReadFault schema text (plan.Program fault) = fault ≡ Memory
+IsReadFault schema text (plan.Catalogue fault) = ⊥
+IsReadFault schema text (plan.Statement fault) = IsNoStatementOf schema text fault
+
+-- why a file gives no catalogue
+abbrev pub IsOpenFault : Bor (List ℕ) → List ℕ → PlanFault → Type 0
+IsOpenFault file bytes (plan.Program fault) = IsOfInput file fault
+IsOpenFault file bytes (plan.Catalogue fault) = RefusesFile bytes fault.relation fault.rule
+IsOpenFault file bytes (plan.Statement fault) = ⊥
+
+-- a fault of a write
+abbrev pub IsPlanWriteFault : PlanFault → Type 0
+IsPlanWriteFault (plan.Program fault) = IsOfRun fault
+IsPlanWriteFault (plan.Catalogue fault) = ⊥
+IsPlanWriteFault (plan.Statement fault) = ⊥
+
+abbrev pub fault_of_catalogue : CatalogFault → PlanFault
+fault_of_catalogue (catalog.Program fault) = plan.Program fault
+fault_of_catalogue (catalog.Refused fault) = plan.Catalogue fault
+
+-- that memory ran out stops the program, and is no refusal
+abbrev pub fault_by_rule : Fault → Rule → PlanFault
+fault_by_rule fault rules.Memory = plan.Program Memory
+fault_by_rule fault _ = plan.Statement fault
+
+abbrev pub fault_of_reading : Fault → PlanFault
+fault_of_reading fault = fault_by_rule fault fault.rule
+
+-- these bytes are of a valid catalogue, the text is one of a statement of its schema, and its plan was written
+pub record IsPlanned (text : List ℕ) (old new : Option (List ℕ)) (bytes : List ℕ) : Type 0 where
+  pub catalogue : Catalogue
+  pub file : IsCatalogueFile bytes catalogue
+  pub valid : IsValidCatalogue catalogue
+  pub statement : Statement
+  pub read : IsTextOf (schemas_of catalogue) text (Run statement)
+  pub shown : List ℕ
+  pub planned : IsPlanText catalogue statement shown
+  pub said : Appends old new shown
+
+-- these bytes are of a valid catalogue, the text is one of no statement of its schema, and nothing was written
+pub record IsRefusedStatement (text : List ℕ) (old new : Option (List ℕ)) (bytes : List ℕ) (fault : Fault) : Type 0 where
+  pub catalogue : Catalogue
+  pub file : IsCatalogueFile bytes catalogue
+  pub valid : IsValidCatalogue catalogue
+  pub refused : IsNoStatementOf (schemas_of catalogue) text fault
+  pub quiet : Keeps old new
+
+-- what the command does with a file of these bytes and the text of a statement
+abbrev pub PlansFile : Bor (List ℕ) → List ℕ → List ℕ → Option (List ℕ) → Option (List ℕ) → Result Unit PlanFault → Type 0
+PlansFile file text bytes old new (Ok done) = IsPlanned text old new bytes
+PlansFile file text bytes old new (Err (plan.Catalogue fault)) = RefusesFile bytes fault.relation fault.rule × Keeps old new
+PlansFile file text bytes old new (Err (plan.Statement fault)) = IsRefusedStatement text old new bytes fault
+PlansFile file text bytes old new (Err (plan.Program fault)) = IsOfInput file fault ⊎ (fault ≡ CannotWrite)
