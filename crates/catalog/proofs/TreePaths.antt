@@ -1,10 +1,11 @@
 -- The paths of a split are those of each branch, or of each group, in turn.
-use Rattle.std.proofs.Common.{◌≡◌, ◌<◌, ◌+◌, ℕ, zero, suc, List, [], ◌∷◌, ◌++◌, map, flat_map, take, drop, get_or, length, refl, sym, ap, ap₂, ◌∙◌, arith, drop-cons}
-use Rattle.std.proofs.lemmas.List.{append_assoc, map-append, take_more, length-map}
+use Rattle.std.proofs.Common.{◌≡◌, ◌<◌, ◌+◌, ◌-◌, ℕ, zero, suc, List, [], ◌∷◌, ◌++◌, map, flat_map, take, drop, get_or, length, refl, sym, ap, ap₂, ◌∙◌, arith, drop-cons, length-drop}
+use Rattle.std.proofs.lemmas.List.{append_assoc, get_or_default, map-append, take_more, length-map}
 use Rattle.catalog.specs.declared.path.Path.{Path}
 use Rattle.catalog.specs.declared.path.Step.{Step}
 use Rattle.catalog.specs.declared.path.Step.TheVariants.{Row, Col}
 use Rattle.catalog.specs.Path.{behind, through, column_step, group_columns, paths, paths_by_rows, paths_by_cols}
+use Rattle.catalog.proofs.Below.{all_taken}
 use Rattle.catalog.specs.Split.{Tree, ByRows, ByCols, TreeBranch, TreeGroup, branches_of, groups_of}
 
 -- nothing leads to the root
@@ -93,3 +94,14 @@ groups_step before new initial above longer place groups group within here so_fa
     ∙ append_assoc before (map (behind (above ++ column_step place (columns_of groups) ∷ [])) (paths (get_or groups place group).tree)) rest
     ∙ ap (λ (ps : List Path). before ++ ps) (sym (group_next above place groups group within))
     ∙ so_far
+
+-- the step into the group at a place, as the code takes its parts
+pub step_is : (groups : List (List ℕ)) (place : ℕ) (d group : List ℕ) (before after : List (List ℕ)) → place < length groups → group ≡ get_or groups place d → before ≡ take place groups →
+    after ≡ take (length groups - (place + 1)) (drop (place + 1) groups) → Col group before after ≡ column_step place groups
+step_is groups place d group before after within here front back =
+    let own : get_or groups place d ≡ get_or groups place [] = get_or_default groups place d [] within in
+    let left : length (drop (place + 1) groups) ≡ length groups - (place + 1) = length-drop (place + 1) groups in
+    let all : take (length groups - (place + 1)) (drop (place + 1) groups) ≡ drop (place + 1) groups = all_taken (drop (place + 1) groups) (length groups - (place + 1)) (omega (arith, left)) in
+    let on : place + 1 ≡ suc place = omega arith in
+    ap₂ (λ (g : List ℕ) (gs : List (List ℕ)). Col g gs after) (here ∙ own) front
+    ∙ ap (λ (gs : List (List ℕ)). Col (get_or groups place []) (take place groups) gs) (back ∙ all ∙ ap (λ (n : ℕ). drop n groups) on)
