@@ -3,7 +3,7 @@ use Rattle.std.proofs.Common.{◌≡◌, ◌≢◌, ℕ, List, [], ◌∷◌, �
 use Rattle.meaning.specs.declared.schema.RelationSchema.{RelationSchema}
 use Rattle.meaning.specs.declared.statement.Statement.{Statement}
 use Rattle.reader.specs.declared.command.Command.{Command}
-use Rattle.reader.specs.declared.command.Command.TheVariants.{Run, Begin}
+use Rattle.reader.specs.declared.command.Command.TheVariants.{Run}
 use Rattle.reader.specs.declared.fault.Rule.{Rule}
 use Rattle.reader.specs.declared.fault.Rule.TheVariants as rules
 use Rattle.reader.specs.Command.{IsTextOf, OneCommandOfText}
@@ -28,9 +28,6 @@ other_command schema text command fault one of other is_rule = record {
   is_rule = λ memory. cc;
   none = λ s of_run. other s (one schema text command (Run s) of of_run);
 }
-
-pub begin_is_none : (schema : List RelationSchema) (text : List ℕ) (fault : Fault) → OneCommandOfText → IsTextOf schema text Begin → fault.rule ≡ rules.Syntax → IsNoStatementOf schema text fault
-begin_is_none schema text fault one of is_rule = other_command schema text Begin fault one of (λ s same. cc) is_rule
 
 -- a refusal by a rule, whichever it is
 pub refused_by : (schema : List RelationSchema) (text : List ℕ) (fault : Fault) (rule : Rule) → fault.rule ≡ rule → (fault.rule ≢ rules.Memory → (command : Command) → ¬ (IsTextOf schema text command)) → IsReadFault schema text (fault_by_rule fault rule)
@@ -59,6 +56,8 @@ shown_plan (Some bytes) file text old new catalogue statement shown written (Err
 shown_plan (Some bytes) file text old new catalogue statement shown written (Err (NoStatement fault)) of valid read planned same said faults = absurd faults
 
 -- memory ran out
-pub out_of_memory : (known : Option (List ℕ)) (file : Bor (List ℕ)) (text : List ℕ) (old new : Option (List ℕ)) (fault : PlanFault) → fault ≡ Program Memory → IfSome known (λ bytes. PlansFile file text bytes old new (Err fault))
-out_of_memory None file text old new fault is = tt
-out_of_memory (Some bytes) file text old new fault is = subst (λ (f : PlanFault). PlansFile file text bytes old new (Err f)) (sym is) (inl (inl refl))
+pub out_of_memory : (known : Option (List ℕ)) (file : Bor (List ℕ)) (text : List ℕ) (old new : Option (List ℕ)) (result : Result Unit PlanFault) (fault : PlanFault) → result ≡ Err fault → fault ≡ Program Memory → IfSome known (λ bytes. PlansFile file text bytes old new result)
+out_of_memory None file text old new result fault is memory = tt
+out_of_memory (Some bytes) file text old new result fault is memory =
+    let same : Err (Program Memory) ≡ result = cc in
+    subst (λ (r : Result Unit PlanFault). PlansFile file text bytes old new r) same (inl (inl refl))

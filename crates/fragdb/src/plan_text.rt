@@ -1,8 +1,9 @@
 //! The command `plan`: which fragments a statement reads.
 
-ghost use Rattle.std.specs.Prelude.{◌≡◌, ◌++◌, IfErr, IfOk, IfSome, OnOk, string_bytes};
+ghost use Rattle.std.specs.Prelude.{◌≡◌, ◌++◌, ◌≢◌, IfErr, IfNone, IfOk, IfSome, OnOk, string_bytes};
 ghost use Rattle.catalog.specs.FragmentLeaf.{catalogue_leaves, leaf_named, schemas_of};
 ghost use Rattle.catalog.specs.Relation.{catalogue_of};
+ghost use Rattle.meaning.specs.declared.statement.Statement.{Statement as StatementValue};
 ghost use Rattle.meaning.specs.Statement.{IsStatementOf};
 ghost use Rattle.catalog.specs.Catalogue.{IsValidCatalogue};
 ghost use Rattle.reader.specs.declared.command.Command.TheVariants.{Run};
@@ -104,12 +105,26 @@ fn read_statement<'a>(
     ensures faults { IfErr result (IsReadFault schema.now.relations text.now) }
 {
     one_command();
-    match read(alloc, text, schema) {
-        Ok(Command::Run(statement)) => Ok(statement),
-        Ok(Command::Begin | Command::Commit | Command::Rollback) => {
-            Err(PlanFault::Statement(ReadFault::new(Rule::Syntax, 0)))
-        }
-        Err(fault) => Err(refusal(fault)),
+    let command = match read(alloc, text, schema) {
+        Ok(command) => command,
+        Err(fault) => return Err(refusal(fault)),
+    };
+    match statement_of(command) {
+        Some(statement) => Ok(statement),
+        None => Err(PlanFault::Statement(ReadFault::new(Rule::Syntax, 0))),
+    }
+}
+
+/// The statement that a command runs, if it runs one.
+fn statement_of(command: Command) -> Option<Statement>
+    ensures some { IfSome result (λ statement. command ≡ Run statement) }
+    ensures none { IfNone result ((statement : StatementValue) → command ≢ Run statement) }
+{
+    match command {
+        Command::Run(statement) => Some(statement),
+        Command::Begin => None,
+        Command::Commit => None,
+        Command::Rollback => None,
     }
 }
 

@@ -2,15 +2,12 @@
 use Rattle.std.proofs.Common.{subst, sym, refl}
 use Rattle.fragdb.specs.declared.plan_text.PlanFault.{PlanFault}
 use Rattle.fragdb.specs.Plan.{IsReadFault}
-use Rattle.fragdb.proofs.PlanLemmas.{begin_is_none, refused_by}
+use Rattle.fragdb.proofs.PlanLemmas.{other_command, refused_by}
 use Rattle.fragdb.proofs.plan_text.read_statement.Goals as goal
 
-pub returns-in-Ok-Begin : goal.returns-in-Ok-Begin
-returns-in-Ok-Begin c = record {
-  found = tt;
-  fits = tt;
-  faults = begin_is_none c.args.schema.now.relations c.args.text.now c.new.result c.one_command.ensures c.in-Ok-Begin.ensures.found c.new.ensures.rule;
-}
+pub returns-in-None-clause-faults : goal.returns-in-None-clause-faults
+returns-in-None-clause-faults c =
+    other_command c.args.schema.now.relations c.args.text.now c.in-Ok.command c.new.result c.one_command.ensures c.in-Ok.ensures.found c.in-None.ensures.none c.new.ensures.rule
 
 pub returns-in-Err-clause-faults : goal.returns-in-Err-clause-faults
 returns-in-Err-clause-faults c =
