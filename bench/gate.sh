@@ -23,11 +23,19 @@ def read(path):
         return b""
 
 
-def sample(seen):
+def is_below(pid, top):
+    """Whether a process was started by another, or by one that it started."""
+    while pid > 1 and pid != top:
+        fields = read(f"/proc/{pid}/stat").rpartition(b")")[2].split()
+        pid = int(fields[1]) if len(fields) > 1 else 0
+    return pid == top
+
+
+def sample(seen, top):
     """Notes of each running check its crate, what it does, its processor time so far and its peak."""
     for pid in filter(str.isdigit, os.listdir("/proc")):
         words = read(f"/proc/{pid}/cmdline").split(b"\0")
-        if not words[0].endswith(b"/rattle") or b"--crate-name" not in words:
+        if not words[0].endswith(b"/rattle") or b"--crate-name" not in words or not is_below(int(pid), top):
             continue
         try:
             where = os.readlink(f"/proc/{pid}/cwd")
@@ -60,7 +68,7 @@ def table(seen):
 started, seen = time.time(), {}
 ran = subprocess.Popen(sys.argv[1:])
 while ran.poll() is None:
-    sample(seen)
+    sample(seen, ran.pid)
     time.sleep(0.5)
 table(seen)
 print(f"{(time.time() - started) / 60:.1f} minutes of wall time, status {ran.returncode}")

@@ -95,8 +95,8 @@ meets types others width col conds need other leaf relation tree cover valid joi
     let fits : FitsKinds others row = fits_set others (old.value ∷ rest) 0 kinds.Int (Int value.0) (subst Fit found met.fits) join.key refl value.2 in
     let Asked : List Cond → Type 0 = λ cs. conds_hold cs row ≡ true in
     let asked : conds_hold other.conds row ≡ true = subst Asked (sym join.joined)
-        (conds_joined (conds_past width conds) (carried col 0 conds) row (past_moved width col value.0 old.value rest stated.row conds value.1 past.0 own.1)
-            (carried_holds width col value.0 rest stated.row conds join.within value.1 own.0)) in
+    (conds_joined (conds_past width conds) (carried col 0 conds) row (past_moved width col value.0 old.value rest stated.row conds value.1 past.0 own.1)
+    (carried_holds width col value.0 rest stated.row conds join.within value.1 own.0)) in
     let among = served_among relation (columns_beside_key others) 1 (paths tree) other.columns row (cover others tree other.columns row valid fits) in
     record {
       other_leaf = among.leaf;
@@ -128,8 +128,8 @@ is_met_by types others width col conds need other leaf relation tree cover valid
     let fits : FitsKinds types row = fits_set types met.row col kinds.Int (Int key.0) met.fits join.column refl key.2 in
     let Asked : List Cond → Type 0 = λ cs. conds_hold cs row ≡ true in
     let asked : conds_hold need.conds row ≡ true = subst Asked (sym join.own)
-        (conds_joined (conds_below width conds) (carried width col conds) row (below_moved width col key.0 old.value met.row rest conds old.there own.0 past.1)
-            (brought_holds width col key.0 row rest conds there past.0)) in
+    (conds_joined (conds_below width conds) (carried width col conds) row (below_moved width col key.0 old.value met.row rest conds old.there own.0 past.1)
+    (brought_holds width col key.0 row rest conds there past.0)) in
     let among = served_among relation (columns_beside_key types) 1 (paths tree) need.columns row (cover types tree need.columns row valid fits) in
     let Key : List Value → Type 0 = λ other_row. slice_get row col ≡ Some (Int (key_of other_row)) in
     record {

@@ -70,9 +70,10 @@ pub sides_fit : (catalogue : Catalogue) (select : Select) (join : Join) → Side
 sides_fit catalogue select join s =
     let within : join.col < length select.from.columns = rw (s.width) (slice_get_within (kinds_of s.from) join.col kinds.Int s.column) in
     let Own : List Kind → Type 0 = λ types. AllByRecursion (IsCondOf types) (need_from select join).conds in
-    let There : List Kind → Type 0 = λ types. AllByRecursion (IsCondOf types) (need_joined select join).conds in
-    (subst Own (sym (kinds_are catalogue select.from.name s.from s.from_is)) (own_fit (kinds_of s.from) (kinds_of s.other) (length select.from.columns) join.col select.conds s.width s.column s.key s.conds),
-     subst There (sym (kinds_are catalogue join.relation.name s.other s.other_is)) (joined_fit (kinds_of s.from) (kinds_of s.other) (length select.from.columns) join.col select.conds s.width within s.column s.key s.conds))
+    let There : List Kind → Type 0 = λ types. AllByRecursion (IsCondOf types) (need_joined select join).conds in (
+      subst Own (sym (kinds_are catalogue select.from.name s.from s.from_is)) (own_fit (kinds_of s.from) (kinds_of s.other) (length select.from.columns) join.col select.conds s.width s.column s.key s.conds),
+      subst There (sym (kinds_are catalogue join.relation.name s.other s.other_is)) (joined_fit (kinds_of s.from) (kinds_of s.other) (length select.from.columns) join.col select.conds s.width within s.column s.key s.conds),
+    )
 
 pub sides_join : (catalogue : Catalogue) (select : Select) (join : Join) (s : Sides catalogue select join) → IsJoin (kinds_of s.from) (kinds_of s.other) (length select.from.columns) join.col select.conds (need_from select join) (need_joined select join)
 sides_join catalogue select join s = record {

@@ -26,9 +26,3 @@ site = \"north\"
 where = \"no >= 10\"
 site = \"south\"
 ";
-
-/// Two relations with a column of one name, of which one may be joined by a text.
-pub const A_AND_B: &str = "sites = ['s']
-relations.a = { columns = ['id int', 'x int', 't text'], site = 's' }
-relations.b = { columns = ['id int', 'y text'], site = 's' }
-";

@@ -1,6 +1,6 @@
 //! Statements over whole relations, from their texts.
 
-use crate::catalogues::{A_AND_B, EMP_AND_DEPT};
+use crate::catalogues::EMP_AND_DEPT;
 use catalog::catalogue::Catalog;
 use meaning::relation::Relation;
 use meaning::run::run;
@@ -131,56 +131,6 @@ Cy
 #[test]
 fn whole_relations(rt: HostRuntime) {
     assert!(rt; gives(rt.alloc(), EMP_AND_DEPT, JOINS, JOINED, false));
-}
-
-/// Faults of statements over two relations, each at its place.
-const FAULTS: &str = "SELECT nam FROM emp
-SELECT id FROM emp WHERE
-SELECT id FROM emp WHERE name < 5
-UPDATE emp SET id = 2
-SELECT dept.no FROM dept JOIN emp ON emp.dept = dept.no
-SELECT id FROM emp JOIN staff ON dept = no
-SELECT emp.id FROM emp JOIN dept ON emp.pay = emp.dept
-SELECT emp.id FROM emp JOIN dept ON emp.name = dept.no
-SELECT emp.id FROM emp JOIN dept ON dept.no = emp.name
-SELECT emp.id FROM emp JOIN dept ON emp.dept = dept.title
-UPDATE emp SET pay = name + 1
-UPDATE emp SET name = pay + 1";
-
-const PLACES: &str = "5 NoColumn at 7
-3 Syntax at 24
-7 Type at 32
-8 KeyColumn at 15
-9 JoinNotKey at 37
-4 NoRelation at 24
-9 JoinNotKey at 36
-7 Type at 36
-7 Type at 46
-9 JoinNotKey at 36
-7 Type at 21
-7 Type at 22
-";
-
-/// Faults where two relations have a column of one name.
-const SHARED_FAULTS: &str = "SELECT id FROM a JOIN b ON a.x = b.id
-SELECT x FROM a JOIN b ON x = id
-SELECT x FROM a JOIN b ON x = b.id WHERE id = 1
-SELECT x FROM a JOIN b ON t = b.id
-SELECT c.x FROM a JOIN b ON x = b.id
-SELECT x FROM a JOIN b ON x = b.id WHERE y = 5";
-
-const SHARED_PLACES: &str = "6 Ambiguous at 7
-6 Ambiguous at 30
-6 Ambiguous at 41
-7 Type at 26
-5 NoColumn at 7
-7 Type at 45
-";
-
-#[test]
-fn faults_at_their_places(rt: HostRuntime) {
-    assert!(rt; gives(rt.alloc(), EMP_AND_DEPT, FAULTS, PLACES, false));
-    assert!(rt; gives(rt.alloc(), A_AND_B, SHARED_FAULTS, SHARED_PLACES, false));
 }
 
 /// Statements and what they print as.

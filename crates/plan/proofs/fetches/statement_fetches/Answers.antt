@@ -30,4 +30,4 @@ sides-requires-clause-second c =
 pub returns-in-Joined : goal.returns-in-Joined
 returns-in-Joined c =
     join_result c.some_leaf_serves.ensures.whole (catalogue_of c.args.catalog.now) c.args.statement.now c.in-Joined.col c.in-Joined.first c.in-Joined.second c.sides.result
-        c.relations-relations.ensures.formed c.relations-relations.ensures.valid c.requires (sym c.in-Joined.is ∙ c.in_ok-need.ensures) c.sides.ensures
+    c.relations-relations.ensures.formed c.relations-relations.ensures.valid c.requires (sym c.in-Joined.is ∙ c.in_ok-need.ensures) c.sides.ensures
