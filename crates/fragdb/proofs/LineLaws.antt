@@ -1,5 +1,5 @@
 -- A text is answered by its command, or refused.
-use Rattle.std.proofs.Common.{◌≡◌, ◌≢◌, ℕ, ◌≤◌, List, ◌++◌, Result, Ok, Err, IfOk, String, Global, codes, string_bytes, length, inl, inr, refl, subst, arith}
+use Rattle.std.proofs.Common.{◌≡◌, ◌≢◌, ℕ, ◌≤◌, List, ◌++◌, Result, Ok, Err, IfOk, codes, string_bytes, length, refl, subst, arith}
 use Rattle.terms.specs.declared.memory.Memory.{Memory}
 use Rattle.terms.specs.declared.value.Value.{Value}
 use Rattle.meaning.specs.declared.schema.RelationSchema.{RelationSchema}

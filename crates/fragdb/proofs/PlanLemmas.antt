@@ -1,5 +1,5 @@
 -- Lemmas on what is shown of a plan.
-use Rattle.std.proofs.Common.{◌≡◌, ◌≢◌, ℕ, List, [], ◌∷◌, ◌++◌, Option, Some, None, Result, Ok, Err, IfErr, IfSome, OnOk, inl, inr, append_assoc, refl, subst, sym}
+use Rattle.std.proofs.Common.{◌≡◌, ◌≢◌, ℕ, List, [], ◌∷◌, ◌++◌, Option, Some, None, Result, Ok, Err, IfErr, IfSome, OnOk, inl, inr, append_assoc, refl, subst}
 use Rattle.meaning.specs.declared.schema.RelationSchema.{RelationSchema}
 use Rattle.meaning.specs.declared.statement.Statement.{Statement}
 use Rattle.reader.specs.declared.command.Command.{Command}

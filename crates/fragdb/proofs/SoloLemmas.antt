@@ -9,7 +9,7 @@ use Rattle.fragdb.specs.declared.script.Item.{Item}
 use Rattle.fragdb.specs.declared.fault.ProgramFault.{ProgramFault}
 use Rattle.fragdb.specs.declared.fault.ProgramFault.TheVariants.{CannotRead, CannotWrite, Malformed, Memory, ScriptTooLong}
 use Rattle.fragdb.specs.Reply.{Told, is_refusal, text_of}
-use Rattle.fragdb.specs.Solo.{AnswersTask, AnswersTasks, IsOfRead, IsRun, Lists, RunsOrStops, RunsScript, StopsRun, StopsScript, longest, no_rows}
+use Rattle.fragdb.specs.Solo.{AnswersTask, AnswersTasks, IsOfRead, IsRun, Lists, RunsOrStops, RunsScript, longest, no_rows}
 use Rattle.std.proofs.lemmas.Grind.{flat_map-append}
 
 -- what was written, and then more

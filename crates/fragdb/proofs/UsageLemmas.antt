@@ -1,5 +1,5 @@
 -- Lemmas on the words of the command line.
-use Rattle.std.proofs.Common.{◌≡◌, Box, Global, List, [], ◌∷◌, Option, Some, None, refl, ap, sym, ◌∙◌, option_map}
+use Rattle.std.proofs.Common.{◌≡◌, Box, Global, List, [], ◌∷◌, Option, Some, None, refl, sym, ◌∙◌, option_map}
 use Rattle.clap.specs.Words.{Row, Text, first_of, subcommand_name_of, subcommand_of, subcommand_rows, subcommand_rows_of}
 use Rattle.std.specs.Box.{box_value}
 use Rattle.clap.specs.declared.parser.matches.SubCommand.{SubCommand, out-SubCommand}

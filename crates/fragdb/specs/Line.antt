@@ -1,4 +1,4 @@
-use Rattle.std.specs.Prelude.{◌≡◌, ◌≢◌, ◌≤◌, ◌⊎◌, ℕ, List, [], ◌∷◌, ◌++◌, Option, Some, None, length, codes, bytes_eq, if◌then◌else◌}
+use Rattle.std.specs.Prelude.{◌≡◌, ◌≢◌, ◌≤◌, ℕ, List, [], ◌∷◌, ◌++◌, Option, Some, None, length, codes, bytes_eq, if◌then◌else◌}
 use Rattle.std.specs.List.{slice_get}
 use Rattle.terms.specs.declared.value.Value.{Value}
 use Rattle.meaning.specs.declared.answer.Answer.{Answer}

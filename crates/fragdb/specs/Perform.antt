@@ -1,8 +1,6 @@
 -- What the program does of what the command line asks for.
-use Rattle.std.specs.Prelude.{◌≡◌, ◌⊎◌, ℕ, Bool, true, false, List, Option, Result, Ok, Err}
+use Rattle.std.specs.Prelude.{ℕ, Bool, true, false, List, Option, Result, Ok, Err}
 use Rattle.std.specs.Borrow.{Bor}
-use Rattle.std.specs.Io.KnownBytes.{Keeps}
-use Rattle.catalog.specs.declared.fault.CatFault.{CatFault}
 use Rattle.fragdb.specs.declared.outcome.Outcome.{Outcome}
 use Rattle.fragdb.specs.declared.outcome.Outcome.TheVariants.{Done, SomeRefused, Refused, RefusedStatement, Stopped}
 use Rattle.fragdb.specs.declared.usage.Request.{Request}

@@ -1,6 +1,6 @@
 -- Lemmas on conditions that a join carries from one of its columns to the other: a row of one side, given the other's value in
 -- its column of ON, still meets its conditions.
-use Rattle.std.proofs.Common.{◌≡◌, ◌≢◌, ℕ, zero, suc, ℤ, ◌-◌, ◌<◌, ◌==◌, ◌||◌, ◌&&◌, nat_lt, nat_eq, Bool, true, false, not, cond, List, [], ◌∷◌, map, filter, Some, refl, ap, sym, ◌∙◌, subst, slice_set, arith}
+use Rattle.std.proofs.Common.{◌≡◌, ◌≢◌, ℕ, zero, suc, ℤ, ◌-◌, ◌<◌, ◌==◌, ◌||◌, ◌&&◌, nat_lt, Bool, true, false, not, cond, List, [], ◌∷◌, map, filter, Some, refl, ap, sym, ◌∙◌, subst, slice_set, arith}
 use Rattle.std.proofs.lemmas.Bool.Decides.{nat_tests}
 use Rattle.std.specs.List.{list_all, slice_get}
 use Rattle.terms.specs.declared.cond.Cond.{Cond}

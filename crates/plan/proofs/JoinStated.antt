@@ -12,19 +12,17 @@ use Rattle.catalog.specs.declared.fragment_leaf.FragmentLeaf.{FragmentLeaf}
 use Rattle.catalog.specs.Catalogue.{Catalogue, IsValidCatalogue}
 use Rattle.catalog.specs.Cover.{SomeServes}
 use Rattle.catalog.specs.Formed.{IsFormed}
-use Rattle.catalog.specs.FragmentLeaf as catalog
 use Rattle.catalog.specs.FragmentLeaf.{leaves_from, schemas_of}
 use Rattle.catalog.specs.Path.{columns_beside_key, paths}
 use Rattle.catalog.specs.Split.{Tree}
 use Rattle.catalog.specs.Valid.{IsValid}
 use Rattle.plan.specs.declared.fetch.Fetch.{Fetch}
 use Rattle.plan.specs.declared.need.Need.{Need}
-use Rattle.plan.specs.declared.need.Needs.{Needs}
-use Rattle.plan.specs.declared.need.Needs.TheVariants.{One, Joined}
+use Rattle.plan.specs.declared.need.Needs.TheVariants.{Joined}
 use Rattle.plan.specs.Need.{need_from, need_joined, needs, needs_of_select}
 use Rattle.plan.specs.Side.{AreSidesFetches}
 use Rattle.plan.specs.Stated.{AreFetchesFor, AreFetchesOf, AreJoinFetches, IsMet, IsStated, IsStatedFrom, IsStatedJoined, kinds_in, leaves_of}
-use Rattle.plan.proofs.InCatalogue.{IsIn, kinds_are, leaves_are}
+use Rattle.plan.proofs.InCatalogue.{kinds_are, leaves_are}
 use Rattle.plan.proofs.LeafByLeaf.{same_rule}
 use Rattle.plan.proofs.Meeting.{IsJoin, meets, meets_only, is_met_by, is_met_only}
 use Rattle.plan.proofs.StatementFits.{Sides, sides_of, sides_join}

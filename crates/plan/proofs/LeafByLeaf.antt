@@ -1,5 +1,5 @@
 -- Lemmas on the fetches of leaves, leaf by leaf.
-use Rattle.std.proofs.Common.{◌≡◌, ℕ, ◌<◌, ◌≤◌, ◌++◌, List, [], ◌∷◌, length, drop, append-nil, Result, Ok, Err, IfOk, Vec, Global, inl, inr, refl, subst, sym, arith}
+use Rattle.std.proofs.Common.{◌≡◌, ℕ, ◌≤◌, ◌++◌, List, [], ◌∷◌, length, drop, append-nil, Result, Ok, Err, IfOk, Vec, Global, inl, inr, refl, subst, sym, arith}
 use Rattle.std.proofs.lemmas.Grind.{common_steps}
 use Rattle.catalog.specs.declared.fragment_leaf.FragmentLeaf.{FragmentLeaf}
 use Rattle.plan.specs.declared.fetch.Fetch.{Fetch}

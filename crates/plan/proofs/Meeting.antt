@@ -1,5 +1,5 @@
 -- A leaf of one side of a join meets some leaf of the other exactly where it may serve alone and the other side's conditions can be met.
-use Rattle.std.proofs.Common.{◌≡◌, ℕ, zero, suc, ℤ, ◌+◌, ◌<◌, ◌&&◌, ◌||◌, Bool, true, false, List, [], ◌∷◌, ◌++◌, length, Some, None, refl, ap, sym, ◌∙◌, subst, slice_set, arith}
+use Rattle.std.proofs.Common.{◌≡◌, ℕ, suc, ℤ, ◌<◌, ◌&&◌, ◌||◌, Bool, true, false, List, [], ◌∷◌, ◌++◌, Some, refl, ap, sym, ◌∙◌, subst, slice_set, arith}
 use Rattle.std.specs.List.{Contains, list_any, slice_get}
 use Rattle.std.proofs.lemmas.List.Folds.{list_all-append}
 use Rattle.terms.specs.declared.cond.Cond.{Cond}
@@ -14,12 +14,12 @@ use Rattle.catalog.specs.declared.fragment_leaf.FragmentLeaf.{FragmentLeaf}
 use Rattle.catalog.specs.declared.path.Path.{Path}
 use Rattle.catalog.specs.Cover.{SomeServes, leads, serves}
 use Rattle.catalog.specs.FragmentLeaf.{leaf_of, leaves_from}
-use Rattle.catalog.specs.Path.{columns_beside_key, path_conds, paths, wanted}
+use Rattle.catalog.specs.Path.{columns_beside_key, paths, wanted}
 use Rattle.catalog.specs.Split.{Tree}
 use Rattle.catalog.specs.Valid.{IsValid}
 use Rattle.plan.specs.declared.need.Need.{Need}
 use Rattle.plan.specs.Need.{carried, conds_below, conds_past}
-use Rattle.plan.specs.Stated.{IsMet, IsStated, IsStatedFrom, IsStatedJoined, Meet, Serves}
+use Rattle.plan.specs.Stated.{IsMet, IsStated, IsStatedFrom, IsStatedJoined}
 use Rattle.plan.proofs.CarriedConds.{and_true, below_moved, both, brought_holds, carried_holds, past_moved}
 use Rattle.plan.proofs.Columns.{FoundAt, fits_at, fits_set, get_set_same}
 

@@ -1,32 +1,29 @@
 -- A statement of a catalogue's schema: its needs fit, and the sides of its join are as a join's must be.
-use Rattle.std.proofs.Common.{◌≡◌, ℕ, ◌<◌, List, [], ◌∷◌, ◌++◌, map, length, append-nil, Option, Some, None, refl, ap, sym, ◌∙◌, subst, arith}
+use Rattle.std.proofs.Common.{◌≡◌, ◌<◌, List, [], ◌∷◌, ◌++◌, length, append-nil, Option, Some, None, refl, ap, sym, ◌∙◌, subst}
 use Rattle.std.proofs.lemmas.List.{length-map}
 use Rattle.std.proofs.lemmas.Option.{slice_get_within}
 use Rattle.std.specs.List.{AllByRecursion, slice_get}
-use Rattle.terms.specs.declared.cond.Cond.{Cond}
 use Rattle.terms.specs.declared.value.Kind.{Kind}
 use Rattle.terms.specs.declared.value.Kind.TheVariants as kinds
 use Rattle.terms.specs.declared.value.Value.{Value}
 use Rattle.terms.specs.declared.value.Value.TheVariants.{Int, Text}
 use Rattle.terms.specs.Cond.{IsCondOf}
 use Rattle.terms.specs.Row.{FitsKinds, key_of}
-use Rattle.terms.specs.Value.{Fits, kind_of}
+use Rattle.terms.specs.Value.{Fits}
 use Rattle.meaning.specs.declared.schema.RelationSchema.{RelationSchema}
 use Rattle.meaning.specs.declared.statement.Statement.{Statement}
 use Rattle.meaning.specs.declared.statement.Statement.TheVariants as statement
 use Rattle.meaning.specs.declared.statement.Select.{Select}
 use Rattle.meaning.specs.declared.statement.Join.{Join}
-use Rattle.meaning.specs.Schema.{kinds_of, names_of}
+use Rattle.meaning.specs.Schema.{kinds_of}
 use Rattle.meaning.specs.Statement.{IsStatementOf, IsSelectOf, IsJoinOf, MayJoin}
 use Rattle.catalog.specs.Catalogue.{Catalogue, IsValidCatalogue}
 use Rattle.catalog.specs.Formed.{IsFormed}
 use Rattle.catalog.specs.FragmentLeaf.{schemas_of}
-use Rattle.plan.specs.declared.need.Need.{Need}
 use Rattle.plan.specs.declared.need.Needs.{Needs}
 use Rattle.plan.specs.declared.need.Needs.TheVariants.{One, Joined}
 use Rattle.plan.specs.Need.{key_is, need_from, need_joined, needs, needs_of_select}
 use Rattle.plan.specs.Stated.{kinds_in}
-use Rattle.plan.proofs.Columns.{fits_at}
 use Rattle.plan.proofs.InCatalogue.{IsIn, is_in, kinds_are}
 use Rattle.plan.proofs.Meeting.{IsJoin}
 use Rattle.plan.proofs.NeedsFit.{own_fit, joined_fit}

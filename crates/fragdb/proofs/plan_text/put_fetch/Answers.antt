@@ -1,5 +1,5 @@
 -- Why `plan_text::put_fetch` meets its contract.
-use Rattle.std.proofs.Common.{◌≡◌, ◌++◌, ap, arith, string_bytes, rules, ◌∙◌}
+use Rattle.std.proofs.Common.{◌++◌, ap, arith, string_bytes, rules, ◌∙◌}
 use Rattle.fragdb.specs.Check.{names_of_columns, where_text}
 use Rattle.fragdb.proofs.PlanLemmas.{fetch_of_parts}
 use Rattle.fragdb.proofs.plan_text.put_fetch.Goals as goal

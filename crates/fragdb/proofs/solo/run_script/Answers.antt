@@ -1,4 +1,4 @@
-use Rattle.std.proofs.Common.{ℕ, List, map, subst, ap, ◌∙◌}
+use Rattle.std.proofs.Common.{List, map, subst, ap, ◌∙◌}
 use Rattle.fragdb.proofs.SoloLemmas.{Appends-kept}
 use Rattle.fragdb.specs.Script.{Reading, task_of}
 use Rattle.fragdb.specs.Solo.{IsRun}

@@ -1,10 +1,7 @@
 -- Why `fetches::statement_fetches` meets its contract.
-use Rattle.std.proofs.Common.{◌≡◌, ◌∙◌, List, sym, subst, IfOk}
-use Rattle.std.proofs.lemmas.Result.{IfOk-weaker}
+use Rattle.std.proofs.Common.{◌∙◌, sym, subst}
 use Rattle.catalog.specs.Relation.{catalogue_of}
-use Rattle.plan.specs.declared.fetch.Fetch.{Fetch}
 use Rattle.plan.specs.declared.need.Needs.{Needs}
-use Rattle.plan.specs.Need.{needs}
 use Rattle.plan.proofs.JoinStated.{join_result}
 use Rattle.plan.proofs.StatementFits.{NeedsFit, needs_fit}
 use Rattle.plan.proofs.fetches.statement_fetches.Goals as goal
