@@ -57,7 +57,7 @@ module _ {L : Lang} where
   }
 
   -- no owner that counts changes where the ticket is new
-  alike_where_new : (law : IsLawful L) (o : L.Site → Name → Name) (w : World L) (a : L.Site) (k t : Name) → (Drawn (w.sites a) k → ⊥) → (b : L.Site) (j : Name) → Drawn (w.sites b) j → owned L a k t o b j ≡ o b j
+  pub alike_where_new : (law : IsLawful L) (o : L.Site → Name → Name) (w : World L) (a : L.Site) (k t : Name) → (Drawn (w.sites a) k → ⊥) → (b : L.Site) (j : Name) → Drawn (w.sites b) j → owned L a k t o b j ≡ o b j
   alike_where_new law o w a k t new b j drawn = either_if (λ n. n ≡ o b j) (L.same_site b a && same j k) t (o b j)
       (λ is. let at_site : b ≡ a = (law.sites b a).0 (left_true (L.same_site b a) (same j k) is) in
         let at_name : j ≡ k = (same_law j k).0 (right_true (L.same_site b a) (same j k) is) in
@@ -66,13 +66,13 @@ module _ {L : Lang} where
 
   module _ (law : IsLawful L) where
     -- letters to a site's own transaction
-    addressed_fit : (o : L.Site → Name → Name) (w : World L) (a : L.Site) (new : SiteState L) (t : Name) (bodies : List (Body L)) → Born w.desk t → Every (FitsBody o w.desk w.past a new t) bodies →
+    pub addressed_fit : (o : L.Site → Name → Name) (w : World L) (a : L.Site) (new : SiteState L) (t : Name) (bodies : List (Body L)) → Born w.desk t → Every (FitsBody o w.desk w.past a new t) bodies →
         Every (λ l. Born w.desk l.txn × (l.site ≡ a) × FitsBody o w.desk w.past a new l.txn l.body) (addressed a t bodies)
     addressed_fit o w a new t [] born all = tt
     addressed_fit o w a new t (b ∷ bodies) born all = ((born, refl, all.0), addressed_fit o w a new t bodies born all.1)
 
     -- an Open
-    open_fit : (o : L.Site → Name → Name) (w : World L) (a : L.Site) (t : Name) → Fit o w → Born w.desk t → FitsBody o w.desk w.past a (w.sites a) t Open →
+    pub open_fit : (o : L.Site → Name → Name) (w : World L) (a : L.Site) (t : Name) → Fit o w → Born w.desk t → FitsBody o w.desk w.past a (w.sites a) t Open →
         Fit (owned L a (next_ticket (w.sites a)) t o) (with_site w a (site_after (w.sites a) Opens) (addressed a t (said (w.sites a) Opens)))
     open_fit o w a t fit born (site, visited) =
         let s = w.sites a in
@@ -92,12 +92,11 @@ module _ {L : Lang} where
           (addressed_fit p w a new t (Ticket k ∷ []) born
             ((inr (refl, le_refl (suc s.number)), if_true (L.same_site a a && same k k) t (o a k) (both_true (L.same_site a a) (same k k) ((law.sites a a).1 refl) (same_refl k)), site, visited), tt))
 
-    is_open : Body L → Bool
+    abbrev pub is_open : Body L → Bool
     is_open Open = true
     is_open b = false
 
-    not_open : (b : Body L) → is_open b ≡ false → (b ≡ Open) → ⊥
-    unfolding is_open
+    pub not_open : (b : Body L) → is_open b ≡ false → (b ≡ Open) → ⊥
     not_open b other e = clash (ap is_open e) other
 
     other_letter : (o : L.Site → Name → Name) (w : World L) (a : L.Site) (t : Name) (b : Body L) (act : Act L) → Fit o w → Born w.desk t → FitsBody o w.desk w.past a (w.sites a) t b → Acted (w.sites a) t b act → ((b ≡ Open) → ⊥) →
@@ -110,44 +109,43 @@ module _ {L : Lang} where
     -- a letter comes to its site
     pub site_letter : (o : L.Site → Name → Name) (w : World L) (a : L.Site) (t : Name) (kept : Bool) (b : Body L) → Fit o w → Born w.desk t → FitsBody o w.desk w.past a (w.sites a) t b →
         (p : L.Site → Name → Name) × Fit p (site_steps w a (site_after (w.sites a) (on_letter (w.sites a) t kept b)) (addressed a t (said (w.sites a) (on_letter (w.sites a) t kept b)))) × Alike o p w
-    unfolding is_open
     site_letter o w a t kept Open fit born here = either (λ v. (p : L.Site → Name → Name) × Fit p v × Alike o p w) (is_within (site_after (w.sites a) Opens)) (with_site w a (site_after (w.sites a) Opens) (addressed a t (said (w.sites a) Opens))) w
         (owned L a (next_ticket (w.sites a)) t o, open_fit o w a t fit born here, alike_where_new law o w a (next_ticket (w.sites a)) t (not_drawn (w.sites a))) (o, fit, λ b j h. refl)
     site_letter o w a t kept b fit born here = other_letter o w a t b (on_letter (w.sites a) t kept b) fit born here (acted (w.sites a) t kept b) (not_open b refl)
 
+    dead_is : (st : Status L) → is_dead st ≡ true → is_dead (restarted st) ≡ true
+    dead_is Dead e = e
+    dead_is (Alive v) e = refl
+    dead_is (Prepared t i) e = e
+    quiet_is : (st : Status L) → is_alive (restarted st) ≡ false
+    quiet_is Dead = refl
+    quiet_is (Alive v) = refl
+    quiet_is (Prepared t i) = refl
+    stays_is : (st : Status L) (t : Name) (i : L.Intentions) → st ≡ Prepared t i → restarted st ≡ Prepared t i
+    stays_is Dead t i e = e
+    stays_is (Alive v) t i e = cc
+    stays_is (Prepared u j) t i e = e
+    comes_is : (st : Status L) (t : Name) (i : L.Intentions) → restarted st ≡ Prepared t i → st ≡ Prepared t i
+    comes_is Dead t i e = e
+    comes_is (Alive v) t i e = cc
+    comes_is (Prepared u j) t i e = e
+    live_is : (st : Status L) → is_dead (restarted st) ≡ false → is_dead st ≡ false
+    live_is Dead e = e
+    live_is (Alive v) e = refl
+    live_is (Prepared u j) e = refl
+    pub restart_later : (o : L.Site → Name → Name) (w : World L) (a : L.Site) → Fit o w → Later o w.desk w.past a (w.sites a) (site_restarted (w.sites a))
+    restart_later o w a fit = record {
+      drawn = drawn_restarted (w.sites a);
+      dead = λ k h. dead_is ((w.sites a).status k);
+      quiet = λ k h e. quiet_is ((w.sites a).status k);
+      stays = λ k t i u known. stays_is ((w.sites a).status k) t i;
+      comes = λ k t i e. inl (comes_is ((w.sites a).status k) t i e);
+      live = λ k e. drawn_restarted (w.sites a) k (fit.live a k (live_is ((w.sites a).status k) e));
+    }
+
     -- a restart
     pub restart_fit : (o : L.Site → Name → Name) (w : World L) (a : L.Site) → Fit o w → Fit o (restarts w a)
-    restart_fit o w a fit = either (Fit o) (is_within (site_restarted (w.sites a))) _ w (site_moves law o w a (site_restarted (w.sites a)) [] fit later tt) fit
-      where
-        dead_is : (st : Status L) → is_dead st ≡ true → is_dead (restarted st) ≡ true
-        dead_is Dead e = e
-        dead_is (Alive v) e = refl
-        dead_is (Prepared t i) e = e
-        quiet_is : (st : Status L) → is_alive (restarted st) ≡ false
-        quiet_is Dead = refl
-        quiet_is (Alive v) = refl
-        quiet_is (Prepared t i) = refl
-        stays_is : (st : Status L) (t : Name) (i : L.Intentions) → st ≡ Prepared t i → restarted st ≡ Prepared t i
-        stays_is Dead t i e = e
-        stays_is (Alive v) t i e = cc
-        stays_is (Prepared u j) t i e = e
-        comes_is : (st : Status L) (t : Name) (i : L.Intentions) → restarted st ≡ Prepared t i → st ≡ Prepared t i
-        comes_is Dead t i e = e
-        comes_is (Alive v) t i e = cc
-        comes_is (Prepared u j) t i e = e
-        live_is : (st : Status L) → is_dead (restarted st) ≡ false → is_dead st ≡ false
-        live_is Dead e = e
-        live_is (Alive v) e = refl
-        live_is (Prepared u j) e = refl
-        later : Later o w.desk w.past a (w.sites a) (site_restarted (w.sites a))
-        later = record {
-          drawn = drawn_restarted (w.sites a);
-          dead = λ k h. dead_is ((w.sites a).status k);
-          quiet = λ k h e. quiet_is ((w.sites a).status k);
-          stays = λ k t i u known. stays_is ((w.sites a).status k) t i;
-          comes = λ k t i e. inl (comes_is ((w.sites a).status k) t i e);
-          live = λ k e. drawn_restarted (w.sites a) k (fit.live a k (live_is ((w.sites a).status k) e));
-        }
+    restart_fit o w a fit = either (Fit o) (is_within (site_restarted (w.sites a))) _ w (site_moves law o w a (site_restarted (w.sites a)) [] fit (restart_later o w a fit) tt) fit
 
     -- giving up
     pub give_up_fit : (o : L.Site → Name → Name) (w : World L) (a : L.Site) (k : Name) → Fit o w → Fit o (gives_up w a k)

@@ -89,7 +89,7 @@ module _ {L : Lang} where
 
   module _ (o : L.Site → Name → Name) (w : World L) (a : L.Site) (fit : Fit o w) where
     -- the row of a decided transaction goes at its Commit
-    over_at_commit : (t k u : Name) (i : L.Intentions) → o a k ≡ t → IsCommitted w.past t → (w.sites a).status k ≡ Prepared u i → Und w.desk u (λ v. ⊥)
+    pub over_at_commit : (t k u : Name) (i : L.Intentions) → o a k ≡ t → IsCommitted w.past t → (w.sites a).status k ≡ Prepared u i → Und w.desk u (λ v. ⊥)
     over_at_commit t k u i owner done row = subst (λ n. Und w.desk n (λ v. ⊥)) (sym owner ∙ (fit.prepared a k u i row).owner) (fit.committed t done).1
 
     over_at_abort : (t k u : Name) (i : L.Intentions) → o a k ≡ t → Und w.desk t (λ v. (j : Name) × (v.ticket a ≡ Some j) × (same j k ≡ false)) → (w.sites a).status k ≡ Prepared u i → Und w.desk u (λ v. ⊥)
