@@ -20,7 +20,7 @@ use Rattle.protocol.proofs.Data.{VisitAt, SiteData, NthOp, RowsAt, TellsBody, Re
 use Rattle.protocol.proofs.Works.{txn_of, SameView, view_other}
 use Rattle.protocol.proofs.Book.{Ext, AskAt, AskCame, Told, BookAt, nth_more, ask_more, came_more, reads_more, asks_of}
 use Rattle.protocol.proofs.Booking.{book_same}
-use Rattle.protocol.proofs.Booked.{Booked, PhaseTurn, goes_on, starts, told_view}
+use Rattle.protocol.proofs.Booked.{Tells, Booked, PhaseTurn, goes_on, starts, told_view}
 use Rattle.protocol.proofs.Sending.{ext_same}
 
 module _ {L : Lang} where
@@ -181,7 +181,7 @@ module _ {L : Lang} where
             rows = λ k j i e. at.rows k j i e ∙ ap (λ l. adds L (sets l) L.none) (sym (let p = base.fit.prepared a k j i e in closed a k j p.owner (λ u f. (p.own u f).1)));
             fresh = λ k not_. let x = booked.ext a k in x.1 ∙ ⊎_elim (λ e. ap (λ l. ops a k ++ l) e ∙ append-nil (ops a k)) (λ grown. absurd (not_ (booked.open_ a k grown).0)) x.2 ∙ at.fresh k not_;
           };
-          tells = every_append (λ l. TellsBody (booked.new l.site) (w.sites l.site) l.body) w.letters turn.letters (both_more w.letters base.fit.letters base.tells) booked.tells;
+          tells = every_append (λ l. TellsBody (booked.new l.site) (w.sites l.site) l.body) w.letters turn.letters (both_more w.letters base.fit.letters base.tells) (every_more (Tells booked.new w.sites) (λ l. TellsBody (booked.new l.site) (w.sites l.site) l.body) turn.letters (λ l is. is.0) booked.tells);
           book = book_turn;
           told = told_turn;
           unborn = unborn_turn;

@@ -69,10 +69,10 @@ module _ {L : Lang} where
           (by_test (C t))
 
   -- a new transaction at the end of the line
-  pub line_end : (W : Name → List (Work L)) (C : Name → Bool) (V : Name → Type 0) (last : L.Leaf → L.Content) → IsLawful L → (ts : List Name) (c : L.Leaf → L.Content) (t : Name) → C t ≡ false → (V t → RightFrom last (W t)) → Line W C V last c ts → Line W C V last c (ts ++ t ∷ [])
+  pub line_end : (W : Name → List (Work L)) (C : Name → Bool) (V : Name → Type 0) (last : L.Leaf → L.Content) → IsLawful L → (ts : List Name) (c : L.Leaf → L.Content) (t : Name) → ((g : L.Leaf) (x : L.Content) → (if C t then written L g (own_of (W t)) x else x) ≡ x) → (V t → RightFrom last (W t)) → Line W C V last c ts → Line W C V last c (ts ++ t ∷ [])
   line_end W C V last law [] c t not_ right line = (
     (λ v. right_same law last c (W t) (λ g reads. sym (line g)) (right v)),
-    λ g. line g ∙ sym (if_false (C t) (written L g (own_of (W t)) (c g)) (c g) not_))
+    λ g. line g ∙ sym (not_ g (c g)))
   line_end W C V last law (x ∷ ts) c t not_ right line = (line.0, line_end W C V last law ts (after (C x) (W x) c) t not_ right line.1)
 
   -- what a viable transaction writes no later one reads that counts, and none writes that is committed

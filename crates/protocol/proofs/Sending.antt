@@ -1,7 +1,7 @@
 -- Fetches and writes go out in order: the book stays right.
 use Rattle.std.proofs.Common.{◌≡◌, refl, sym, ap, ap₂, ◌∙◌, subst, ℕ, suc, ◌+◌, ◌&&◌, Bool, true, false, List, [], ◌∷◌, ◌++◌, length, ◌⊎◌, inl, inr, ⊎_elim, Option, Some, None, if◌then◌else◌, append_assoc, append-nil, arith}
 use Rattle.protocol.specs.Language.{Lang, IsLawful, Name, same, put}
-use Rattle.protocol.specs.Letter.{Body, Fetch, Write, Letter}
+use Rattle.protocol.specs.Letter.{Body, Fetch, Write, Letter, is_for_desk}
 use Rattle.protocol.specs.Site.{SiteState}
 use Rattle.protocol.specs.Desk.{Ask, Out, ask_out, asks_out, write_out, writes_out}
 use Rattle.protocol.proofs.Basics.{Every, every_more, put_all, put_here, put_there, same_law, either_if, by_test, clash, if_true, if_false, some_is}
@@ -16,7 +16,7 @@ module _ {L : Lang} where
 
   -- letters of operations tell their places
   abbrev pub TellsOps : (L.Site → Name → List (Op L)) → Letter L → Type 0
-  TellsOps ops l = (s : SiteState L) → TellsBody (ops l.site) s l.body
+  TellsOps ops l = ((s : SiteState L) → TellsBody (ops l.site) s l.body) × (is_for_desk l.body ≡ false)
 
   abbrev pub Counted : (L.Site → Option Name) → (L.Site → ℕ) → (L.Site → Name → List (Op L)) → Type 0
   Counted ticket sent ops = (a : L.Site) (k : Name) → ticket a ≡ Some k → sent a ≡ length (ops a k)
@@ -104,7 +104,7 @@ module _ {L : Lang} where
                 unsent = λ b none. r.unsent b none ∙ put_unsent a k (suc (sent a)) ticket sent f b none;
                 ext = ext_join ticket ops mid r.new ext r.ext;
                 sets_same = λ b j. r.sets_same b j ∙ alike b j;
-                tells = (λ s. last, r.tells);
+                tells = ((λ s. last, refl), r.tells);
                 asks = (record {
                   sent = λ n is. record { name = k; is = f; nth = record { before = last.before; after = last.after; split = last.split; number = sym (some_is is) ∙ last.number }; before = ap (λ m. on L q.leaf (sets_at ops a m)) (sym f) ∙ did q.leaf };
                   came = λ rows is. let c = all.0.came rows is in let g : None ≡ Some c.0 = sym e ∙ c.1 in cc;
@@ -171,7 +171,7 @@ module _ {L : Lang} where
                 new = r.new; counted = r.counted;
                 unsent = λ b none. r.unsent b none ∙ put_unsent a k (suc (sent a)) ticket sent f b none;
                 ext = ext_join ticket ops mid r.new ext r.ext;
-                tells = (λ s. last, r.tells);
+                tells = ((λ s. last, refl), r.tells);
                 did = λ h. r.did h ∙ ap (λ l. l ++ on L h ws) (put_set w.0 w.1 k ops f h) ∙ append_assoc (on L h (sets_at ops (L.home h) (ticket (L.home h)))) (on L h ((w.0, w.1) ∷ [])) (on L h ws)
                   ∙ ap (λ l. on L h (sets_at ops (L.home h) (ticket (L.home h))) ++ l) (sym (on_append L h ((w.0, w.1) ∷ []) ws));
               }
