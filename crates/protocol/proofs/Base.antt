@@ -82,14 +82,14 @@ module _ {L : Lang} where
   -- a turn of the coordinator
   module _ (o : L.Site → Name → Name) (ops : L.Site → Name → List (Op L)) (w : World L) (t : Name) (turn : Turn L) (base : Base o ops w) (good : Good o w t turn) (booked : Booked o ops w t turn) where
     -- operations of a visit whose transaction votes don't grow
-    closed : (a : L.Site) (k j : Name) → o a k ≡ j → Und w.desk j (λ u. is_voting u.stage ≡ true) → booked.new a k ≡ ops a k
+    pub closed : (a : L.Site) (k j : Name) → o a k ≡ j → Und w.desk j (λ u. is_voting u.stage ≡ true) → booked.new a k ≡ ops a k
     closed a k j owner votes =
         let x = booked.ext a k in
         x.1 ∙ ⊎_elim (λ e. ap (λ l. ops a k ++ l) e ∙ append-nil (ops a k))
           (λ grown. let open_ = booked.open_ a k grown in absurd (clash (votes open_.2.0 (subst (λ n. w.desk.txn n ≡ Known open_.2.0) (sym open_.1 ∙ owner) open_.2.1)) open_.2.2)) x.2
 
     -- nor do those of others
-    others : (a : L.Site) (k j : Name) → o a k ≡ j → same j t ≡ false → booked.new a k ≡ ops a k
+    pub others : (a : L.Site) (k j : Name) → o a k ≡ j → same j t ≡ false → booked.new a k ≡ ops a k
     others a k j owner apart =
         let x = booked.ext a k in
         x.1 ∙ ⊎_elim (λ e. ap (λ l. ops a k ++ l) e ∙ append-nil (ops a k)) (λ grown. let open_ = booked.open_ a k grown in clash ((same_law j t).1 (sym owner ∙ open_.1)) apart) x.2
@@ -146,7 +146,7 @@ module _ {L : Lang} where
               (λ other. view_apart j other) (by_test (same j t)) in
         record { works_same = more.works_same ∙ was.works_same; statements_same = more.statements_same ∙ was.statements_same; answers_same = more.answers_same ∙ was.answers_same }
 
-    phases_more : phases_of (w.past ++ turn.deeds) ≡ phases_of w.past ++ phases_of turn.deeds
+    pub phases_more : phases_of (w.past ++ turn.deeds) ≡ phases_of w.past ++ phases_of turn.deeds
     phases_more = flat_map-append phased_of w.past turn.deeds
 
     pub phased_turn : PhaseTurn w t turn →

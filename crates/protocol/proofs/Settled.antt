@@ -29,7 +29,7 @@ module _ {L : Lang} where
   changed_by_row g (Alive v) c = c
   changed_by_row g (Prepared t i) c = L.changed g i c
 
-  changes_exclusive : (past : List (Deed L)) (g : L.Leaf) (st : Status L) → changes_it past g st ≡ true → has_exclusive g st ≡ true
+  pub changes_exclusive : (past : List (Deed L)) (g : L.Leaf) (st : Status L) → changes_it past g st ≡ true → has_exclusive g st ≡ true
   changes_exclusive past g Dead e = e
   changes_exclusive past g (Alive v) e = cc
   changes_exclusive past g (Prepared t i) e = right_true (is_committed past t) (L.touches g i) e
