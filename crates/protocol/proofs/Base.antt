@@ -159,7 +159,7 @@ module _ {L : Lang} where
           λ j v e voting. subst (In j) (sym same_phases) (put_all same same_law t turn.txn w.desk.txn (λ j x. (v : Undecided L) → x ≡ Known v → is_voting v.stage ≡ true → In j (phases_of w.past))
             (λ v f votes. let u = stay v f votes in base.voting t u.0 u.1 u.2) (λ j other v f votes. base.voting j v f votes) j v e voting),
           subst Once (sym same_phases) base.once)
-    phased_turn (starts one u e idle votes) =
+    phased_turn (starts one view u e idle votes) =
         let more : phases_of (w.past ++ turn.deeds) ≡ phases_of w.past ++ t ∷ [] = phases_more ∙ ap (λ l. phases_of w.past ++ l) one in
         let quiet : In t (phases_of w.past) → ⊥ = λ here. clash ((base.phased t here).1 u e) (ap is_voting idle) in
         (λ j here. ⊎_elim

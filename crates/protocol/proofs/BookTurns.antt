@@ -14,7 +14,7 @@ use Rattle.protocol.proofs.Deciding.{aborts_to}
 use Rattle.protocol.proofs.DeskSteps.{named_is, prepares_to}
 use Rattle.protocol.proofs.Ops.{Op}
 use Rattle.protocol.proofs.Data.{TellsBody}
-use Rattle.protocol.proofs.Works.{works, own_of, txn_of, SameView}
+use Rattle.protocol.proofs.Works.{works, own_of, txn_of, SameView, view_plain}
 use Rattle.protocol.proofs.Book.{AskAt, Told, BookAt, pending, owed, unsent_of, asks_of}
 use Rattle.protocol.proofs.Booking.{book_stage, book_stated, book_worked}
 use Rattle.protocol.proofs.BookSteps.{book_ticket, rows_came}
@@ -81,12 +81,12 @@ module _ {L : Lang} (law : IsLawful L) (o : L.Site → Name → Name) (ops : L.S
         (λ a b here said. let k = prepares_to u a b (u.visited a) (u.ticket a) refl said in subst (λ y. TellsBody (ops a) (w.sites a) y × (is_for_desk y ≡ false)) (sym k.2) (book.sent a k.0 k.1, refl))
 
       phase_decided : u.stage ≡ Idle → (xs : List (L.Site × Name)) → Booked o ops w t (record { txn = (decides t (record u { stage = Voting (λ a. None) }) true xs).txn; letters = (phases t u).letters; deeds = Phased t ∷ (decides t (record u { stage = Voting (λ a. None) }) true xs).deeds })
-      phase_decided idle [] = plain_booked o ops w t (record { txn = Unknown; letters = (phases t u).letters; deeds = Phased t ∷ Committed t ∷ [] }) refl refl refl (refl, (refl, tt)) (starts refl u e idle (λ v f. absurd (no_unknown v f))) (λ y f. absurd (no_unknown y f)) (λ done. (told_now, λ y f. inr refl)) prepares_tell
-      phase_decided idle (x ∷ xs) = plain_booked o ops w t (record { txn = Row (x ∷ xs) []; letters = (phases t u).letters; deeds = Phased t ∷ Committed t ∷ [] }) refl refl refl (refl, (refl, tt)) (starts refl u e idle (λ v f. absurd (no_row (x ∷ xs) [] v f))) (λ y f. absurd (no_row (x ∷ xs) [] y f)) (λ done. (told_now, λ y f. inr refl)) prepares_tell
+      phase_decided idle [] = plain_booked o ops w t (record { txn = Unknown; letters = (phases t u).letters; deeds = Phased t ∷ Committed t ∷ [] }) refl refl refl (refl, (refl, tt)) (starts refl (view_plain w.past (Phased t ∷ Committed t ∷ []) t refl refl refl) u e idle (λ v f. absurd (no_unknown v f))) (λ y f. absurd (no_unknown y f)) (λ done. (told_now, λ y f. inr refl)) prepares_tell
+      phase_decided idle (x ∷ xs) = plain_booked o ops w t (record { txn = Row (x ∷ xs) []; letters = (phases t u).letters; deeds = Phased t ∷ Committed t ∷ [] }) refl refl refl (refl, (refl, tt)) (starts refl (view_plain w.past (Phased t ∷ Committed t ∷ []) t refl refl refl) u e idle (λ v f. absurd (no_row (x ∷ xs) [] v f))) (λ y f. absurd (no_row (x ∷ xs) [] y f)) (λ done. (told_now, λ y f. inr refl)) prepares_tell
 
       phases_booked : u.stage ≡ Idle → Booked o ops w t (phases t u)
       phases_booked idle = either (λ (turn : Turn L). Booked o ops w t (record { txn = turn.txn; letters = (phases t u).letters; deeds = Phased t ∷ turn.deeds })) (are_all_in u (λ a. None)) _ _ (phase_decided idle (voters_of u (λ a. None)))
-        (plain_booked o ops w t (record { txn = Known (record u { stage = Voting (λ a. None) }); letters = (phases t u).letters; deeds = Phased t ∷ [] }) refl refl refl (refl, tt) (starts refl u e idle (λ v f. subst (λ z. (z.ticket ≡ u.ticket) × (is_voting z.stage ≡ true)) (known_is (record u { stage = Voting (λ a. None) }) v f) (refl, refl))) (voting_book (λ a. None)) (λ done. cc) prepares_tell)
+        (plain_booked o ops w t (record { txn = Known (record u { stage = Voting (λ a. None) }); letters = (phases t u).letters; deeds = Phased t ∷ [] }) refl refl refl (refl, tt) (starts refl (view_plain w.past (Phased t ∷ []) t refl refl refl) u e idle (λ v f. subst (λ z. (z.ticket ≡ u.ticket) × (is_voting z.stage ≡ true)) (known_is (record u { stage = Voting (λ a. None) }) v f) (refl, refl))) (voting_book (λ a. None)) (λ done. cc) prepares_tell)
 
     state_booked : (s : L.Statement) (choice : Choice L) → u.stage ≡ Idle → (fs : List (L.Leaf × L.Query)) → Booked o ops w t (record { txn = (states t u s (map ask_of fs) choice).txn; letters = (states t u s (map ask_of fs) choice).letters; deeds = Stated t s ∷ (states t u s (map ask_of fs) choice).deeds })
     state_booked s choice idle [] =

@@ -27,7 +27,7 @@ module _ {L : Lang} where
   -- a turn begins a first phase, or none
   pub data PhaseTurn (w : World L) (t : Name) (turn : Turn L) : Type 0 where
     goes_on : phases_of turn.deeds ≡ [] → ((v : Undecided L) → turn.txn ≡ Known v → is_voting v.stage ≡ true → (u : Undecided L) × (w.desk.txn t ≡ Known u) × (is_voting u.stage ≡ true)) → PhaseTurn w t turn
-    starts : phases_of turn.deeds ≡ t ∷ [] → (u : Undecided L) → w.desk.txn t ≡ Known u → u.stage ≡ Idle → ((v : Undecided L) → turn.txn ≡ Known v → (v.ticket ≡ u.ticket) × (is_voting v.stage ≡ true)) → PhaseTurn w t turn
+    starts : phases_of turn.deeds ≡ t ∷ [] → SameView w.past (w.past ++ turn.deeds) t → (u : Undecided L) → w.desk.txn t ≡ Known u → u.stage ≡ Idle → ((v : Undecided L) → turn.txn ≡ Known v → (v.ticket ≡ u.ticket) × (is_voting v.stage ≡ true)) → PhaseTurn w t turn
 
   pub gone_phase : (w : World L) (t : Name) (turn : Turn L) → phases_of turn.deeds ≡ [] → ((v : Undecided L) → turn.txn ≡ Known v → ⊥) → PhaseTurn w t turn
   gone_phase w t turn none gone = goes_on none (λ v e voting. absurd (gone v e))
