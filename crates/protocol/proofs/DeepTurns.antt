@@ -35,7 +35,7 @@ module _ {L : Lang} (law : IsLawful L) (o : L.Site → Name → Name) (ops : L.S
   abbrev later : List (Deed L)
   later = w.past ++ turn.deeds
 
-  base_next : Base o booked.new next
+  pub base_next : Base o booked.new next
   base_next = base_turn o ops w t turn base good booked
 
   -- the coordinator puts out no votes
@@ -46,7 +46,7 @@ module _ {L : Lang} (law : IsLawful L) (o : L.Site → Name → Name) (ops : L.S
   old_letter a k j here = ⊎_elim (λ was. was) (λ new. absurd (no_vote a k j new)) (in_append (record { site = a; txn = j; body = Voted k Read }) w.letters turn.letters here)
 
   -- another transaction that is viable afterwards was so before
-  viable_other : (j : Name) → same j t ≡ false → Viable booked.new next j → Viable ops w j
+  pub viable_other : (j : Name) → same j t ≡ false → Viable booked.new next j → Viable ops w j
   viable_other j apart viable =
       let known : w.desk.txn j ≡ Known viable.u = sym (put_there same same_law t turn.txn w.desk.txn j apart) ∙ viable.known in
       record {
@@ -81,12 +81,12 @@ module _ {L : Lang} (law : IsLawful L) (o : L.Site → Name → Name) (ops : L.S
       go (Voting f) v = refl
 
   -- works of the line stay
-  works_stay : (j : Name) → In j (phases_of w.past) → works later j ≡ works w.past j
+  pub works_stay : (j : Name) → In j (phases_of w.past) → works later j ≡ works w.past j
   works_stay j here = ⊎_elim
       (λ is. let eq = (same_law j t).0 is in subst (λ n. works later n ≡ works w.past n) (sym eq) (booked.view (λ u e. (base.phased t (subst (λ n. In n (phases_of w.past)) eq here)).1 u e)).works_same)
       (λ other. (view_apart o ops w t turn base good booked j other).works_same) (by_test (same j t))
 
-  committed_join : (j : Name) → is_committed later j ≡ (is_committed w.past j || is_committed turn.deeds j)
+  pub committed_join : (j : Name) → is_committed later j ≡ (is_committed w.past j || is_committed turn.deeds j)
   committed_join j = list_any-append (commits_it j) w.past turn.deeds
 
   -- nobody is committed by the turn

@@ -82,7 +82,7 @@ module _ {L : Lang} where
     pub was_committed : (j : Name) → IsCommitted w.past j → IsCommitted (w.past ++ turn.deeds) j
     was_committed j was = list_any-append (commits_it j) w.past turn.deeds ∙ or_left (is_committed w.past j) (is_committed turn.deeds j) was
 
-    now_committed : (j : Name) → IsCommitted turn.deeds j → IsCommitted (w.past ++ turn.deeds) j
+    pub now_committed : (j : Name) → IsCommitted turn.deeds j → IsCommitted (w.past ++ turn.deeds) j
     now_committed j now = list_any-append (commits_it j) w.past turn.deeds ∙ or_right (is_committed w.past j) (is_committed turn.deeds j) now
 
     pub turn_later : DeskLater o w (desk_after w.desk t turn.txn) (w.past ++ turn.deeds)
