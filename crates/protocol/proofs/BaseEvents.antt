@@ -48,7 +48,7 @@ module _ {L : Lang} (o : L.Site → Name → Name) (ops : L.Site → Name → Li
       one k (Prepared t i) = (tt, tt)
 
   -- a new transaction
-  began_view : (t : Name) → SameView w.past (w.past ++ Began (next_txn w.desk) ∷ []) t
+  pub began_view : (t : Name) → SameView w.past (w.past ++ Began (next_txn w.desk) ∷ []) t
   began_view t = view_plain w.past (Began (next_txn w.desk) ∷ []) t refl refl refl
 
   fresh_book : (view : SameView [] (begun w).past (next_txn w.desk)) → BookAt o ops w.sites w.letters (begun w).past (next_txn w.desk) fresh

@@ -74,7 +74,7 @@ module _ {L : Lang} where
     no_commit t j (Known u) = refl
     no_commit t j (Row vs acked) = refl
 
-    no_commits : (j : Name) (names : List Name) → is_committed (flat_map (λ t. (txn_restarted t (w.desk.txn t)).deeds) names) j ≡ false
+    pub no_commits : (j : Name) (names : List Name) → is_committed (flat_map (λ t. (txn_restarted t (w.desk.txn t)).deeds) names) j ≡ false
     no_commits j [] = refl
     no_commits j (t ∷ names) = list_any-append (commits_it j) (txn_restarted t (w.desk.txn t)).deeds (flat_map (λ t. (txn_restarted t (w.desk.txn t)).deeds) names) ∙ rw (no_commit t j (w.desk.txn t)) (no_commits j names)
 
