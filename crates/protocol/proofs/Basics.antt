@@ -2,8 +2,7 @@
 use Rattle.std.proofs.Common.{◌≡◌, refl, sym, ap, ◌∙◌, subst, ℕ, suc, ◌==◌, ◌&&◌, ◌||◌, not, Bool, true, false, List, [], ◌∷◌, ◌++◌, map, if◌then◌else◌, Option, Some, None, slice_get, ◌⊎◌, inl, inr, ◌↔◌, true≢false, ⊎_elim, filter, filter_map, flat_map, zero}
 use Rattle.std.proofs.lemmas.Bool.{eqb-true, eq-eqb}
 use Rattle.std.specs.List.{list_any, list_all, AllByRecursion, cons_option}
-use Rattle.std.specs.Option.{option_map}
-use Rattle.protocol.specs.Language.{Lang, Name, same, put}
+use Rattle.protocol.specs.Language.{Name, same, put}
 
 -- ---- tests
 pub either : {A : Type 0} (Q : A → Type 0) (b : Bool) (x y : A) → Q x → Q y → Q (if b then x else y)

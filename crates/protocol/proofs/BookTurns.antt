@@ -1,20 +1,18 @@
 -- The book after each request and each letter at the coordinator.
-use Rattle.std.proofs.Common.{◌≡◌, refl, sym, ap, ◌∙◌, subst, ℕ, suc, Bool, true, false, ◌&&◌, List, [], ◌∷◌, ◌++◌, map, length, ◌⊎◌, inl, inr, Option, Some, None, is_some, is_none, append_assoc, append-nil, if◌then◌else◌}
-use Rattle.std.specs.Prelude.{⊤}
+use Rattle.std.proofs.Common.{◌≡◌, refl, sym, ap, ◌∙◌, subst, ℕ, Bool, true, false, ◌&&◌, List, [], ◌∷◌, ◌++◌, map, inl, inr, Option, Some, None, is_some, is_none, append_assoc, append-nil}
 use Rattle.std.specs.List.{list_any, list_all}
 use Rattle.protocol.specs.Language.{Lang, IsLawful, Name, same, put}
 use Rattle.protocol.specs.Letter.{Yes, No, Read, Vote, Body, Open, Fetch, Write, Prepare, Commit, Abort, Ticket, Rows, Refused, Voted, Ack, Inquire, Letter, is_for_desk}
-use Rattle.protocol.specs.Site.{SiteState}
-use Rattle.protocol.specs.Desk.{Ask, Stage, Idle, Reading, Writing, Voting, Undecided, Txn, Unknown, Known, Row, Choice, Deed, Stated, Worked, Answered, Phased, Committed, Aborted, Rolled_back, By_vote, By_refusal, By_store, Given_up, Why, Desk, Turn, Request, State, Commit_call, Rollback, Give_up, stays, is_named, ask_of, states, ends_by, phases, votes_go, decides, commits, voters_of, are_all_in, when, to_prepare, may_hold, vote_at, to_abort, on_state, on_commit_call, on_rollback, on_request, ticket_goes, on_ticket, with_rows, rows_go, on_rows, on_refused, counts, on_vote, on_known, on_unknown, is_pair, are_acked, on_ack, on_row, on_desk_letter}
+use Rattle.protocol.specs.Desk.{Ask, Stage, Idle, Reading, Writing, Voting, Undecided, Txn, Unknown, Known, Row, Choice, Deed, Stated, Worked, Phased, Committed, Aborted, Rolled_back, By_vote, By_refusal, By_store, Given_up, Why, Turn, Request, State, Commit_call, Rollback, Give_up, stays, is_named, ask_of, states, ends_by, phases, votes_go, decides, commits, voters_of, are_all_in, when, to_prepare, may_hold, vote_at, to_abort, on_state, on_commit_call, on_rollback, on_request, ticket_goes, on_ticket, with_rows, on_rows, on_refused, counts, on_vote, on_known, on_unknown, is_pair, are_acked, on_row, on_desk_letter}
 use Rattle.protocol.specs.World.{World}
-use Rattle.protocol.proofs.Basics.{Every, In, every_more, clash, either, either_if, put_all, some_is}
-use Rattle.protocol.proofs.Fits.{Drawn, is_voting, IsCommitted, FitsBody, Own, KnownAt, Fit}
+use Rattle.protocol.proofs.Basics.{Every, In, either, either_if, put_all, some_is}
+use Rattle.protocol.proofs.Fits.{Drawn, is_voting, FitsBody, Own, Fit}
 use Rattle.protocol.proofs.Turns.{known_is, every_letter}
 use Rattle.protocol.proofs.Deciding.{aborts_to}
 use Rattle.protocol.proofs.DeskSteps.{named_is, prepares_to}
 use Rattle.protocol.proofs.Ops.{Op}
 use Rattle.protocol.proofs.Data.{TellsBody}
-use Rattle.protocol.proofs.Works.{works, own_of, txn_of, SameView, view_plain}
+use Rattle.protocol.proofs.Works.{works, own_of, view_plain}
 use Rattle.protocol.proofs.Book.{AskAt, Told, BookAt, pending, owed, unsent_of, asks_of}
 use Rattle.protocol.proofs.Booking.{book_stage, book_stated, book_worked}
 use Rattle.protocol.proofs.BookSteps.{book_ticket, rows_came}
@@ -33,7 +31,7 @@ module _ {L : Lang} (law : IsLawful L) (o : L.Site → Name → Name) (ops : L.S
 
   aborts_tell : (v : Undecided L) (d : Deed L) → Every (Tells ops w.sites) (ends_by t v d).letters
   aborts_tell v d = every_letter (Tells ops w.sites) t (λ a. when (v.visited a && may_hold (vote_at v.stage a)) (to_abort (v.ticket a))) L.sites
-    (λ a b here said. subst (λ y. TellsBody (ops a) (w.sites a) y × (is_for_desk y ≡ false)) (sym (aborts_to law v a b (v.visited a && may_hold (vote_at v.stage a)) (v.ticket a) refl said).2) (tt, refl))
+      (λ a b here said. subst (λ y. TellsBody (ops a) (w.sites a) y × (is_for_desk y ≡ false)) (sym (aborts_to law v a b (v.visited a && may_hold (vote_at v.stage a)) (v.ticket a) refl said).2) (tt, refl))
 
   module _ (u : Undecided L) (e : w.desk.txn t ≡ Known u) (book : BookAt o ops w.sites w.letters w.past t u) where
     books : (v : Undecided L) → w.desk.txn t ≡ Known v → BookAt o ops w.sites w.letters w.past t v
@@ -74,11 +72,11 @@ module _ {L : Lang} (law : IsLawful L) (o : L.Site → Name → Name) (ops : L.S
       -- the phase goes on, or the transaction is decided
       votes_booked : is_voting u.stage ≡ true → (votes : L.Site → Option Vote) (kept : Bool) → Booked o ops w t (votes_go t u votes kept)
       votes_booked votes_already votes kept = either (Booked o ops w t) (are_all_in u votes) _ _ (decided_booked (λ y f. subst (λ z. is_voting z.stage ≡ true) (known_is u y (sym e ∙ f)) votes_already) (record u { stage = Voting votes }) kept (voters_of u votes))
-        (plain_booked o ops w t (stays (Known (record u { stage = Voting votes }))) refl refl refl tt (goes_on refl (λ v f voting. (u, e, votes_already))) (voting_book votes) (λ done. cc) tt)
+          (plain_booked o ops w t (stays (Known (record u { stage = Voting votes }))) refl refl refl tt (goes_on refl (λ v f voting. (u, e, votes_already))) (voting_book votes) (λ done. cc) tt)
 
       prepares_tell : Every (Tells ops w.sites) (phases t u).letters
       prepares_tell = every_letter (Tells ops w.sites) t (λ a. when (u.visited a) (to_prepare u a (u.ticket a))) L.sites
-        (λ a b here said. let k = prepares_to u a b (u.visited a) (u.ticket a) refl said in subst (λ y. TellsBody (ops a) (w.sites a) y × (is_for_desk y ≡ false)) (sym k.2) (book.sent a k.0 k.1, refl))
+          (λ a b here said. let k = prepares_to u a b (u.visited a) (u.ticket a) refl said in subst (λ y. TellsBody (ops a) (w.sites a) y × (is_for_desk y ≡ false)) (sym k.2) (book.sent a k.0 k.1, refl))
 
       phase_decided : u.stage ≡ Idle → (xs : List (L.Site × Name)) → Booked o ops w t (record { txn = (decides t (record u { stage = Voting (λ a. None) }) true xs).txn; letters = (phases t u).letters; deeds = Phased t ∷ (decides t (record u { stage = Voting (λ a. None) }) true xs).deeds })
       phase_decided idle [] = plain_booked o ops w t (record { txn = Unknown; letters = (phases t u).letters; deeds = Phased t ∷ Committed t ∷ [] }) refl refl refl (refl, (refl, tt)) (starts refl (view_plain w.past (Phased t ∷ Committed t ∷ []) t refl refl refl) u e idle (λ v f. absurd (no_unknown v f))) (λ y f. absurd (no_unknown y f)) (λ done. (told_now, λ y f. inr refl)) prepares_tell
@@ -86,14 +84,14 @@ module _ {L : Lang} (law : IsLawful L) (o : L.Site → Name → Name) (ops : L.S
 
       phases_booked : u.stage ≡ Idle → Booked o ops w t (phases t u)
       phases_booked idle = either (λ (turn : Turn L). Booked o ops w t (record { txn = turn.txn; letters = (phases t u).letters; deeds = Phased t ∷ turn.deeds })) (are_all_in u (λ a. None)) _ _ (phase_decided idle (voters_of u (λ a. None)))
-        (plain_booked o ops w t (record { txn = Known (record u { stage = Voting (λ a. None) }); letters = (phases t u).letters; deeds = Phased t ∷ [] }) refl refl refl (refl, tt) (starts refl (view_plain w.past (Phased t ∷ []) t refl refl refl) u e idle (λ v f. subst (λ z. (z.ticket ≡ u.ticket) × (is_voting z.stage ≡ true)) (known_is (record u { stage = Voting (λ a. None) }) v f) (refl, refl))) (voting_book (λ a. None)) (λ done. cc) prepares_tell)
+          (plain_booked o ops w t (record { txn = Known (record u { stage = Voting (λ a. None) }); letters = (phases t u).letters; deeds = Phased t ∷ [] }) refl refl refl (refl, tt) (starts refl (view_plain w.past (Phased t ∷ []) t refl refl refl) u e idle (λ v f. subst (λ z. (z.ticket ≡ u.ticket) × (is_voting z.stage ≡ true)) (known_is (record u { stage = Voting (λ a. None) }) v f) (refl, refl))) (voting_book (λ a. None)) (λ done. cc) prepares_tell)
 
     state_booked : (s : L.Statement) (choice : Choice L) → u.stage ≡ Idle → (fs : List (L.Leaf × L.Query)) → Booked o ops w t (record { txn = (states t u s (map ask_of fs) choice).txn; letters = (states t u s (map ask_of fs) choice).letters; deeds = Stated t s ∷ (states t u s (map ask_of fs) choice).deeds })
     state_booked s choice idle [] =
         let stated = book_stated o w.sites t ops w.letters w.past u s [] idle book in
         let worked = book_worked o w.sites t ops w.letters (w.past ++ Stated t s ∷ []) (record u { stage = Reading s [] }) s [] choice refl refl stated in
         writes_booked o ops w t law u e (ap is_voting idle) u (mine_of u e) choice.0 choice.1 (Stated t s ∷ Worked t s [] choice ∷ []) (refl, (refl, tt)) (λ ds n. n) (λ ds no_ done. no_ done)
-          (subst (λ p. BookAt o ops w.sites w.letters p t (record u { stage = Writing choice.0 choice.1 })) (append_assoc w.past (Stated t s ∷ []) (Worked t s [] choice ∷ [])) worked)
+        (subst (λ p. BookAt o ops w.sites w.letters p t (record u { stage = Writing choice.0 choice.1 })) (append_assoc w.past (Stated t s ∷ []) (Worked t s [] choice ∷ [])) worked)
     state_booked s choice idle (f ∷ fs) = asks_booked o ops w t law u e (ap is_voting idle) u (mine_of u e) s (map ask_of (f ∷ fs)) (Stated t s ∷ []) (refl, tt) refl (λ done. cc) (book_stated o w.sites t ops w.letters w.past u s (f ∷ fs) idle book)
 
     on_state_booked : (s : L.Statement) (choice : Choice L) (stage : Stage L) → u.stage ≡ stage → Booked o ops w t (on_state t u s choice stage)
@@ -130,9 +128,11 @@ module _ {L : Lang} (law : IsLawful L) (o : L.Site → Name → Name) (ops : L.S
         where
           stays_booked : (v : Undecided L) → v.stage ≡ u.stage → BookAt o ops w.sites w.letters w.past t v → ((b : L.Site) (j : Name) → v.ticket b ≡ Some j → Drawn (w.sites b) j × (o b j ≡ t)) → Booked o ops w t (stays (Known v))
           stays_booked v same_ now mine = plain_booked o ops w t (stays (Known v)) refl refl refl tt (goes_on refl (λ x g voting. (u, e, ap is_voting (sym same_) ∙ ap (λ z. is_voting z.stage) (known_is v x g) ∙ voting)))
-            (λ x g. subst (λ z. BookAt o ops w.sites w.letters w.past t z × ((b : L.Site) (j : Name) → z.ticket b ≡ Some j → Drawn (w.sites b) j × (o b j ≡ t))) (known_is v x g) (now, mine)) (λ done. cc) tt
+              (λ x g. subst (λ z. BookAt o ops w.sites w.letters w.past t z × ((b : L.Site) (j : Name) → z.ticket b ≡ Some j → Drawn (w.sites b) j × (o b j ≡ t))) (known_is v x g) (now, mine)) (λ done. cc) tt
+
           in_past : (v : Undecided L) → BookAt o ops w.sites w.letters w.past t v → BookAt o ops w.sites w.letters (w.past ++ []) t v
           in_past v now = subst (λ p. BookAt o ops w.sites w.letters p t v) (sym (append-nil w.past)) now
+
           go : (stage : Stage L) → u.stage ≡ stage → (v : Undecided L) → BookAt o ops w.sites w.letters w.past t v → ((b : L.Site) (j : Name) → v.ticket b ≡ Some j → Drawn (w.sites b) j × (o b j ≡ t)) → v.stage ≡ u.stage → Booked o ops w t (ticket_goes t v choice stage)
           go Idle f v now mine same_ = stays_booked v same_ now mine
           go (Voting votes) f v now mine same_ = stays_booked v same_ now mine
@@ -152,13 +152,13 @@ module _ {L : Lang} (law : IsLawful L) (o : L.Site → Name → Name) (ops : L.S
           let v = record u { stage = Reading s more } in
           let told = subst (Told w.past t) f book.told in
           let now : BookAt o ops w.sites w.letters w.past t v = book_stage o w.sites t ops w.letters w.past u v refl refl (ap unsent_of (sym f))
-                (rows_came law o w.sites t ops w.letters (own_of (works w.past t)) u.ticket a k n rows own here asks (subst (λ x. Every (AskAt t u.ticket ops w.letters (own_of (works w.past t))) (asks_of x)) f book.asks))
-                (record { statements = told.statements; answers = told.answers }) book in
+          (rows_came law o w.sites t ops w.letters (own_of (works w.past t)) u.ticket a k n rows own here asks (subst (λ x. Every (AskAt t u.ticket ops w.letters (own_of (works w.past t))) (asks_of x)) f book.asks))
+          (record { statements = told.statements; answers = told.answers }) book in
           either_if (Booked o ops w t) (list_all (λ (q : Ask L). is_some q.rows) more) _ _
-            (λ all. writes_booked o ops w t law u e (ap is_voting f) u (mine_of u e) choice.0 choice.1 (Worked t s more choice ∷ []) (refl, tt) (λ ds n. n) (λ ds no_ done. no_ done)
-              (book_worked o w.sites t ops w.letters w.past v s more choice refl all now))
-            (λ waits. plain_booked o ops w t (stays (Known v)) refl refl refl tt (quiet_phase w t v [] [] refl refl)
-              (λ x g. subst (λ z. BookAt o ops w.sites w.letters w.past t z × ((b : L.Site) (j : Name) → z.ticket b ≡ Some j → Drawn (w.sites b) j × (o b j ≡ t))) (known_is v x g) (now, mine_of u e)) (λ done. cc) tt)
+          (λ all. writes_booked o ops w t law u e (ap is_voting f) u (mine_of u e) choice.0 choice.1 (Worked t s more choice ∷ []) (refl, tt) (λ ds n. n) (λ ds no_ done. no_ done)
+          (book_worked o w.sites t ops w.letters w.past v s more choice refl all now))
+          (λ waits. plain_booked o ops w t (stays (Known v)) refl refl refl tt (quiet_phase w t v [] [] refl refl)
+          (λ x g. subst (λ z. BookAt o ops w.sites w.letters w.past t z × ((b : L.Site) (j : Name) → z.ticket b ≡ Some j → Drawn (w.sites b) j × (o b j ≡ t))) (known_is v x g) (now, mine_of u e)) (λ done. cc) tt)
 
       refused_booked : (stage : Stage L) → Booked o ops w t (on_refused t u stage)
       refused_booked Idle = aborted_booked u By_refusal

@@ -1,23 +1,22 @@
 -- What each turn does to the book, kind by kind.
-use Rattle.std.proofs.Common.{◌≡◌, refl, sym, ap, ap₂, ◌∙◌, subst, ℕ, suc, Bool, true, false, ◌&&◌, ◌||◌, List, [], ◌∷◌, ◌++◌, map, length, ◌⊎◌, inl, inr, ⊎_elim, Option, Some, None, append_assoc, append-nil, flat_map}
-use Rattle.std.specs.Prelude.{⊤}
-use Rattle.protocol.specs.Language.{Lang, IsLawful, Name, same, put}
-use Rattle.protocol.specs.Letter.{Vote, Body, Open, Fetch, Write, Prepare, Commit, Abort, Rows, Letter, letters_to, is_for_desk}
+use Rattle.std.proofs.Common.{◌≡◌, refl, sym, ap, ◌∙◌, subst, ℕ, true, false, List, [], ◌∷◌, ◌++◌, map, ◌⊎◌, Option, Some, None, append_assoc, append-nil, flat_map}
+use Rattle.protocol.specs.Language.{Lang, IsLawful, Name}
+use Rattle.protocol.specs.Letter.{Letter, is_for_desk}
 use Rattle.protocol.specs.Site.{SiteState}
-use Rattle.protocol.specs.Desk.{Ask, Stage, Idle, Reading, Writing, Voting, Undecided, Txn, Unknown, Known, Row, Deed, Answered, Desk, Turn, Out, asks_out, writes_out, opens, opening, is_new, visits, asks_go, writing, writes_go}
+use Rattle.protocol.specs.Desk.{Ask, Stage, Idle, Reading, Writing, Undecided, Txn, Known, Deed, Answered, Turn, asks_out, writes_out, opens, opening, is_new, visits, asks_go, writing, writes_go}
 use Rattle.protocol.specs.World.{World}
 use Rattle.protocol.specs.Serial.{statement_in, answer_in, answers_of, phases_of}
-use Rattle.protocol.proofs.Basics.{Every, every_more, every_append, In, clash}
-use Rattle.protocol.proofs.Fits.{Drawn, is_voting, IsCommitted, Fit}
+use Rattle.protocol.proofs.Basics.{Every, every_more, every_append, clash}
+use Rattle.protocol.proofs.Fits.{Drawn, is_voting, IsCommitted}
 use Rattle.protocol.proofs.Turns.{known_is, every_letter}
 use Rattle.protocol.proofs.Going.{opening_is}
-use Rattle.protocol.proofs.Ops.{Op, sets, on}
+use Rattle.protocol.proofs.Ops.{Op}
 use Rattle.protocol.proofs.Data.{TellsBody}
 use Rattle.protocol.proofs.Works.{work_in, works, own_of, txn_of, SameView, view_plain}
-use Rattle.protocol.proofs.Book.{Ext, sets_at, AskAt, Told, BookAt, pending, owed, unsent_of}
+use Rattle.protocol.proofs.Book.{Ext, Told, BookAt, pending, owed}
 use Rattle.protocol.proofs.Booking.{book_same, book_answered}
 use Rattle.protocol.proofs.BookSteps.{book_asks, book_writes, reading_did}
-use Rattle.protocol.proofs.Sending.{TellsOps, AsksSent, WritesSent, asks_sent, writes_sent, ext_same}
+use Rattle.protocol.proofs.Sending.{TellsOps, asks_sent, writes_sent, ext_same}
 
 module _ {L : Lang} where
   -- a letter of the coordinator, and what it tells
@@ -69,7 +68,9 @@ module _ {L : Lang} where
     plain_booked turn a b c only phase book told tells =
         let view = view_plain w.past turn.deeds t a b c in
         record {
-          new = ops; grow = λ a. None; ext = ext_same (λ a. None) ops;
+          new = ops;
+          grow = λ a. None;
+          ext = ext_same (λ a. None) ops;
           open_ = λ a k e. absurd (let f : None ≡ Some k = e in cc);
           tells = tells;
           book = λ v e. let is = book v e in book_same o w.sites t (λ a. None) ops ops w.letters turn.letters w.past (w.past ++ turn.deeds) v (ext_same (λ a. None) ops) (λ a k d f. refl) is.1 view is.0;
@@ -82,7 +83,7 @@ module _ {L : Lang} where
 
     opens_tell : (new : L.Site → Name → List (Op L)) (v : Undecided L) (leaves : List L.Leaf) → Every (Tells new w.sites) (opens t v leaves)
     opens_tell new v leaves = every_letter (Tells new w.sites) t (λ a. opening (is_new v leaves a)) L.sites
-      (λ a b here said. subst (λ y. TellsBody (new a) (w.sites a) y × (is_for_desk y ≡ false)) (sym (opening_is (is_new v leaves a) b said).1) (tt, refl))
+        (λ a b here said. subst (λ y. TellsBody (new a) (w.sites a) y × (is_for_desk y ≡ false)) (sym (opening_is (is_new v leaves a) b said).1) (tt, refl))
 
     ops_tell : (new : L.Site → Name → List (Op L)) (letters : List (Letter L)) → Every (TellsOps new) letters → Every (Tells new w.sites) letters
     ops_tell new letters all = every_more (TellsOps new) (Tells new w.sites) letters (λ l is. (is.0 (w.sites l.site), is.1)) all
@@ -103,10 +104,13 @@ module _ {L : Lang} where
           let r = asks_sent law t v.ticket w.letters (own_of (works past t)) asks v.sent ops book.sent (reading_did law o w.sites t ops w.letters past (record v { stage = Reading s asks }) s asks refl book) book.asks in
           let out = asks_out t v.ticket asks v.sent in
           record {
-            new = r.new; grow = v.ticket; ext = r.ext; open_ = open_of;
+            new = r.new;
+            grow = v.ticket;
+            ext = r.ext;
+            open_ = open_of;
             tells = every_append (Tells r.new w.sites) (opens t v leaves) out.letters (opens_tell r.new v leaves) (ops_tell r.new out.letters r.tells);
             book = λ x f. subst (BookAt o r.new w.sites (w.letters ++ (opens t v leaves ++ out.letters)) past t) (known_is (record (visits v leaves) { sent = out.sent; stage = Reading s out.left }) x f)
-              (book_asks law o w.sites t ops w.letters (opens t v leaves ++ out.letters) past (record v { stage = Reading s asks }) s asks (visits v leaves).visited refl book r);
+                (book_asks law o w.sites t ops w.letters (opens t v leaves ++ out.letters) past (record v { stage = Reading s asks }) s asks (visits v leaves).visited refl book r);
             only = only;
             phase = quiet_phase w t (record (visits v leaves) { sent = out.sent; stage = Reading s out.left }) (opens t v leaves ++ out.letters) before unphased refl;
             told = λ done. absurd (no_commit done);
@@ -119,9 +123,13 @@ module _ {L : Lang} where
           BookAt o new w.sites (w.letters ++ letters) (w.past ++ before) t (record (visits v leaves) { sent = sent; stage = Writing answer left }) →
           Booked o ops w t (record { txn = (writing t (visits v leaves) answer sent left letters).txn; letters = (writing t (visits v leaves) answer sent left letters).letters; deeds = before ++ (writing t (visits v leaves) answer sent left letters).deeds })
       written_booked answer leaves letters sent before new ext only unphased no_commit tells [] book = record {
-        new = new; grow = v.ticket; ext = ext; open_ = open_of; tells = tells;
+        new = new;
+        grow = v.ticket;
+        ext = ext;
+        open_ = open_of;
+        tells = tells;
         book = λ x f. subst (λ p. BookAt o new w.sites (w.letters ++ letters) p t x) (append_assoc w.past before (Answered t answer ∷ []))
-          (subst (BookAt o new w.sites (w.letters ++ letters) ((w.past ++ before) ++ Answered t answer ∷ []) t) (known_is (record (visits v leaves) { sent = sent; stage = Idle }) x f)
+            (subst (BookAt o new w.sites (w.letters ++ letters) ((w.past ++ before) ++ Answered t answer ∷ []) t) (known_is (record (visits v leaves) { sent = sent; stage = Idle }) x f)
             (book_answered o w.sites t new (w.letters ++ letters) (w.past ++ before) (record (visits v leaves) { sent = sent; stage = Writing answer [] }) answer refl book));
         only = every_append (λ d. txn_of d ≡ t) before (Answered t answer ∷ []) only (refl, tt);
         phase = quiet_phase w t (record (visits v leaves) { sent = sent; stage = Idle }) letters (before ++ Answered t answer ∷ []) (unphased (Answered t answer ∷ []) refl) refl;
@@ -130,9 +138,13 @@ module _ {L : Lang} where
         view = no_view;
       }
       written_booked answer leaves letters sent before new ext only unphased no_commit tells (y ∷ ys) book = record {
-        new = new; grow = v.ticket; ext = ext; open_ = open_of; tells = tells;
+        new = new;
+        grow = v.ticket;
+        ext = ext;
+        open_ = open_of;
+        tells = tells;
         book = λ x f. subst (λ p. BookAt o new w.sites (w.letters ++ letters) (w.past ++ p) t x) (sym (append-nil before))
-          (subst (BookAt o new w.sites (w.letters ++ letters) (w.past ++ before) t) (known_is (record (visits v leaves) { sent = sent; stage = Writing answer (y ∷ ys) }) x f) book);
+            (subst (BookAt o new w.sites (w.letters ++ letters) (w.past ++ before) t) (known_is (record (visits v leaves) { sent = sent; stage = Writing answer (y ∷ ys) }) x f) book);
         only = every_append (λ d. txn_of d ≡ t) before [] only tt;
         phase = quiet_phase w t (record (visits v leaves) { sent = sent; stage = Writing answer (y ∷ ys) }) letters (before ++ []) (unphased [] refl) refl;
         told = λ done. absurd (no_commit [] (λ c. cc) done);
@@ -148,5 +160,5 @@ module _ {L : Lang} where
           let r = writes_sent law t v.ticket ws v.sent ops book.sent in
           let out = writes_out {L = L} t v.ticket ws v.sent in
           written_booked answer leaves (opens t v leaves ++ out.letters) out.sent before r.new r.ext only unphased no_commit
-            (every_append (Tells r.new w.sites) (opens t v leaves) out.letters (opens_tell r.new v leaves) (ops_tell r.new out.letters r.tells)) out.left
-            (book_writes law o w.sites t ops w.letters (opens t v leaves ++ out.letters) (w.past ++ before) (record v { stage = Writing answer ws }) answer ws (visits v leaves).visited refl book r)
+          (every_append (Tells r.new w.sites) (opens t v leaves) out.letters (opens_tell r.new v leaves) (ops_tell r.new out.letters r.tells)) out.left
+          (book_writes law o w.sites t ops w.letters (opens t v leaves ++ out.letters) (w.past ++ before) (record v { stage = Writing answer ws }) answer ws (visits v leaves).visited refl book r)

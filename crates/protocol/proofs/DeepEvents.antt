@@ -1,16 +1,16 @@
 -- Every event keeps the whole invariant, and an opening has it.
-use Rattle.std.proofs.Common.{◌≡◌, refl, sym, ap, ◌∙◌, subst, ℕ, Bool, true, false, ◌&&◌, ◌||◌, List, [], ◌∷◌, ◌++◌, ◌⊎◌, inl, inr, ⊎_elim, Option, Some, None, slice_get, flat_map}
+use Rattle.std.proofs.Common.{◌≡◌, refl, sym, ap, ◌∙◌, subst, ℕ, Bool, true, false, ◌||◌, List, [], ◌∷◌, inl, inr, ⊎_elim, Option, Some, None, slice_get, flat_map}
 use Rattle.std.proofs.lemmas.Grind.{flat_map-append}
 use Rattle.std.proofs.lemmas.List.Folds.{list_any-append}
 use Rattle.std.proofs.Common.{append-nil}
-use Rattle.protocol.specs.Language.{Lang, IsLawful, Name, same, put}
-use Rattle.protocol.specs.Letter.{Read, Body, Voted, Letter, is_for_desk}
+use Rattle.protocol.specs.Language.{Lang, IsLawful, Name, same}
+use Rattle.protocol.specs.Letter.{Read, Voted, Letter, is_for_desk}
 use Rattle.protocol.specs.Site.{Status, Dead, Alive, Prepared, SiteState, inquiries, inquiry_of}
-use Rattle.protocol.specs.Desk.{fresh, Undecided, Txn, Unknown, Known, Row, Choice, Deed, Began, Turn, Request, on_request, on_desk_letter, desk_after, next_txn, desk_began, txn_restarted, desk_restarted, is_desk_within}
+use Rattle.protocol.specs.Desk.{fresh, Known, Choice, Began, Turn, on_request, on_desk_letter, desk_after, next_txn, desk_began, txn_restarted, desk_restarted, is_desk_within}
 use Rattle.protocol.specs.World.{World, is_site, Event, Begin, Call, Deliver, Site_gives_up, Site_inquires, Site_restarts, Desk_restarts, turned, turns, begun, comes_to, delivered, inquires, desk_lives, happens, run}
 use Rattle.protocol.specs.Serial.{is_committed, commits_it, phases_of, phased_of, settled, IsOpening}
-use Rattle.protocol.proofs.Basics.{Every, every_at, every_in, every_flat, In, in_at, in_append, put_all, put_here, clash, same_law, either, by_test, or_left}
-use Rattle.protocol.proofs.Fits.{Born, is_voting, IsCommitted, Own, Fits, Fit}
+use Rattle.protocol.proofs.Basics.{Every, every_at, every_in, every_flat, In, in_at, in_append, put_all, same_law, either, by_test}
+use Rattle.protocol.proofs.Fits.{Born, Fits}
 use Rattle.protocol.proofs.PartFour.{not_born, none_known, no_commits}
 use Rattle.protocol.proofs.Going.{Good}
 use Rattle.protocol.proofs.DeskSteps.{request_good, letter_good}
@@ -22,7 +22,7 @@ use Rattle.protocol.proofs.BookTurns.{request_booked, letter_booked}
 use Rattle.protocol.proofs.Base.{Base}
 use Rattle.protocol.proofs.BaseEvents.{inquire_base, began_view, begun_base, lives_phases, lives_view, lives_base, opening_base}
 use Rattle.protocol.proofs.Line.{Line, Two}
-use Rattle.protocol.proofs.Viable.{ViableNow, Viable}
+use Rattle.protocol.proofs.Viable.{Viable}
 use Rattle.protocol.proofs.Settled.{changes_it, changes_same, settled_none, settled_same}
 use Rattle.protocol.proofs.Deep.{Counts, Deep, deep_moves}
 use Rattle.protocol.proofs.DeepSites.{IsDeep, comes_deep, restart_deep, give_up_deep}
@@ -40,8 +40,8 @@ module _ {L : Lang} (law : IsLawful L) (whole : L.Whole) where
     settled_past v base sites alike g =
         let at = sites (L.home g) in
         settled_same law o o ops ops w v deep.base base g (ap (λ (s : SiteState L). s.kept g) at)
-          (λ k is. let st = ap (λ (s : SiteState L). s.status k) at in (st, ap (changes_it v.past g) st ∙ changes_same w.past v.past g alike ((w.sites (L.home g)).status k) ∙ is))
-          (λ k is. sym (ap (changes_it v.past g) (ap (λ (s : SiteState L). s.status k) at) ∙ changes_same w.past v.past g alike ((w.sites (L.home g)).status k)) ∙ is)
+        (λ k is. let st = ap (λ (s : SiteState L). s.status k) at in (st, ap (changes_it v.past g) st ∙ changes_same w.past v.past g alike ((w.sites (L.home g)).status k) ∙ is))
+        (λ k is. sym (ap (changes_it v.past g) (ap (λ (s : SiteState L). s.status k) at) ∙ changes_same w.past v.past g alike ((w.sites (L.home g)).status k)) ∙ is)
 
     -- a new transaction
     begun_deep_event : Deep o ops whole (begun w)
@@ -50,11 +50,13 @@ module _ {L : Lang} (law : IsLawful L) (whole : L.Whole) where
         let alike : (t : Name) → is_committed (begun w).past t ≡ is_committed w.past t = λ t. list_any-append (commits_it t) w.past (Began new ∷ []) ∙ or_false (is_committed w.past t) in
         let base = begun_base o ops w deep.base in
         deep_moves law o o ops ops whole w (begun w) deep base (flat_map-append phased_of w.past (Began new ∷ []) ∙ append-nil (phases_of w.past)) (λ t here. (began_view o ops w deep.base t).works_same) alike
-          (λ t here viable. record {
-            u = viable.u; voting = viable.voting; each = viable.each;
-            known = put_all same same_law new (Known fresh) w.desk.txn (λ j x. Born w.desk j → x ≡ Known viable.u → w.desk.txn j ≡ Known viable.u) (λ born f. absurd (not_born w.desk born)) (λ j other born f. f) t (deep.base.phased t here).0 viable.known;
-          })
-          (settled_past (begun w) base (λ a. refl) alike)
+        (λ t here viable. record {
+          u = viable.u;
+          voting = viable.voting;
+          each = viable.each;
+          known = put_all same same_law new (Known fresh) w.desk.txn (λ j x. Born w.desk j → x ≡ Known viable.u → w.desk.txn j ≡ Known viable.u) (λ born f. absurd (not_born w.desk born)) (λ j other born f. f) t (deep.base.phased t here).0 viable.known;
+        })
+        (settled_past (begun w) base (λ a. refl) alike)
 
     -- a restart of the coordinator
     lives_deep : Deep o ops whole (desk_lives w)
@@ -63,24 +65,27 @@ module _ {L : Lang} (law : IsLawful L) (whole : L.Whole) where
         let alike : (t : Name) → is_committed (desk_lives w).past t ≡ is_committed w.past t = λ t. list_any-append (commits_it t) w.past deeds ∙ ap (λ b. is_committed w.past t || b) (no_commits o w deep.base.fit t w.desk.known) ∙ or_false (is_committed w.past t) in
         let base = lives_base o ops w deep.base in
         deep_moves law o o ops ops whole w (desk_lives w) deep base (lives_phases o ops w deep.base) (λ t here. (lives_view o ops w deep.base t).works_same) alike
-          (λ t here viable. absurd (none_known o w deep.base.fit t (w.desk.txn t) viable.u viable.known))
-          (settled_past (desk_lives w) base (λ a. refl) alike)
+        (λ t here viable. absurd (none_known o w deep.base.fit t (w.desk.txn t) viable.u viable.known))
+        (settled_past (desk_lives w) base (λ a. refl) alike)
 
     -- inquiries
     inquires_deep : (a : L.Site) → Deep o ops whole (inquires w a)
     inquires_deep a = deep_moves law o o ops ops whole w (inquires w a) deep (inquire_base o ops w deep.base law a) refl (λ t here. refl) (λ t. refl)
         (λ t here viable. record {
-          u = viable.u; known = viable.known; voting = viable.voting;
+          u = viable.u;
+          known = viable.known;
+          voting = viable.voting;
           each = λ b k own. ⊎_elim (λ now. inl now)
-            (λ letter. ⊎_elim (λ was. inr was)
+              (λ letter. ⊎_elim (λ was. inr was)
               (λ new. absurd (every_in NoVote (inquiries a (w.sites a)) (record { site = b; txn = t; body = Voted k Read }) (every_flat NoVote (λ j. inquiry_of a j ((w.sites a).status j)) (w.sites a).known (λ j. one j ((w.sites a).status j))) new k refl))
               (in_append (record { site = b; txn = t; body = Voted k Read }) w.letters (inquiries a (w.sites a)) letter))
-            (viable.each b k own);
+              (viable.each b k own);
         })
         (λ g. refl)
       where
         NoVote : Letter L → Type 0
         NoVote l = (k : Name) → l.body ≡ Voted k Read → ⊥
+
         one : (j : Name) (st : Status L) → Every NoVote (inquiry_of a j st)
         one j Dead = tt
         one j (Alive v) = tt
@@ -94,7 +99,7 @@ module _ {L : Lang} (law : IsLawful L) (whole : L.Whole) where
         go (starts one view u e idle votes) = begun_deep law o ops whole w t turn deep good booked one view u e idle votes
         go (goes_on none stay) = ⊎_elim
             (λ done. let c = good.fine.commits done in
-              ⊎_elim (λ votes. commits_deep law o ops whole w t turn deep good booked none done c.0 c.1 votes) (λ one. absurd (let f : [] ≡ t ∷ [] = sym none ∙ one in cc)) (booked.votes done c.0 c.1))
+            ⊎_elim (λ votes. commits_deep law o ops whole w t turn deep good booked none done c.0 c.1 votes) (λ one. absurd (let f : [] ≡ t ∷ [] = sym none ∙ one in cc)) (booked.votes done c.0 c.1))
             (λ not_. quiet_deep law o ops whole w t turn deep good booked not_ none) (by_test (is_committed turn.deeds t))
 
     turns_deep : (t : Name) (turn : Turn L) → Good o w t turn → Booked o ops w t turn → IsDeep law whole (turns w t turn)
@@ -129,10 +134,13 @@ module _ {L : Lang} (law : IsLawful L) (whole : L.Whole) where
   -- an opening
   pub opening_deep : (w : World L) → IsOpening whole w → IsDeep law whole w
   opening_deep w opening =
-      let base = opening_base law whole w opening in
-      (λ a k. k, λ a k. [], record {
-        base = base;
-        line = subst (λ p. Line (works p) (is_committed p) (Counts (λ a k. []) w) (settled w) (λ g. L.content g whole) (phases_of p)) (sym opening.past)
-          (λ g. settled_none law (λ a k. k) (λ a k. []) w base g (λ k. ap (changes_it w.past g) (opening.visits (L.home g) k)) ∙ opening.rebuilt g);
-        two = subst (λ p. Two (works p) (is_committed p) (Counts (λ a k. []) w) (Viable (λ a k. []) w) (phases_of p)) (sym opening.past) tt;
-      })
+      let base = opening_base law whole w opening in (
+        λ a k. k,
+        λ a k. [],
+        record {
+          base = base;
+          line = subst (λ p. Line (works p) (is_committed p) (Counts (λ a k. []) w) (settled w) (λ g. L.content g whole) (phases_of p)) (sym opening.past)
+              (λ g. settled_none law (λ a k. k) (λ a k. []) w base g (λ k. ap (changes_it w.past g) (opening.visits (L.home g) k)) ∙ opening.rebuilt g);
+          two = subst (λ p. Two (works p) (is_committed p) (Counts (λ a k. []) w) (Viable (λ a k. []) w) (phases_of p)) (sym opening.past) tt;
+        },
+      )

@@ -1,21 +1,20 @@
 -- Each event of a site keeps the whole invariant.
-use Rattle.std.proofs.Common.{◌≡◌, refl, sym, ap, ◌∙◌, subst, ℕ, Bool, true, false, ◌&&◌, List, [], ◌∷◌, ◌++◌, ◌⊎◌, inl, inr, ⊎_elim, if◌then◌else◌, filter, not}
+use Rattle.std.proofs.Common.{◌≡◌, refl, sym, ap, ◌∙◌, subst, Bool, List, [], ◌∷◌, ⊎_elim}
 use Rattle.protocol.specs.Language.{Lang, IsLawful, Name, same, put}
-use Rattle.protocol.specs.Letter.{Read, Body, Open, Fetch, Write, Prepare, Commit, Abort, Ticket, Rows, Refused, Voted, Ack, Inquire, Letter}
-use Rattle.protocol.specs.Site.{Status, Dead, Alive, Prepared, SiteState, Act, Says, Opens, Locks, Prepares, Applies, Ends, is_dead, is_prepared, sees, next_ticket, new_visit, on_letter, site_after, said, restarted, site_restarted, on_give_up, is_within}
+use Rattle.protocol.specs.Letter.{Read, Body, Open, Commit, Voted}
+use Rattle.protocol.specs.Site.{Status, Dead, Alive, Prepared, SiteState, Act, Opens, Applies, Ends, is_dead, is_prepared, sees, next_ticket, new_visit, on_letter, site_after, said, restarted, site_restarted, on_give_up, is_within}
 use Rattle.protocol.specs.World.{World, with_site, site_steps, addressed, gives_up, restarts}
-use Rattle.protocol.specs.Serial.{is_committed, settled}
-use Rattle.protocol.proofs.Basics.{Every, In, put_all, put_here, put_there, clash, same_law, same_refl, either, either_if, by_test, if_true, if_false}
-use Rattle.protocol.proofs.Fits.{Drawn, Born, IsCommitted, FitsBody, Fit}
+use Rattle.protocol.proofs.Basics.{Every, put_all, put_here, put_there, clash, same_law, either, by_test, if_true, if_false}
+use Rattle.protocol.proofs.Fits.{Born, IsCommitted, FitsBody}
 use Rattle.protocol.proofs.SiteTable.{Acted, says_nothing, says_gone, says_no, says_yes, says_ack, opens, reads, writes, prepares, only_read, votes_no, refuses, applies, ends, discards, acted}
-use Rattle.protocol.proofs.SiteSteps.{not_drawn, sees_prepared, prepared_sees, same_row, from_visit, letter_later, letter_said}
-use Rattle.protocol.proofs.SiteFits.{Later, same_later, site_moves}
-use Rattle.protocol.proofs.SiteEvents.{Alike, not_open, restart_later, owned, open_fit, addressed_fit, restart_fit, give_up_fit, alike_where_new}
-use Rattle.protocol.proofs.Locks.{Locked, acted_locked, restarted_locked, gives_up_locked}
+use Rattle.protocol.proofs.SiteSteps.{not_drawn, prepared_sees, from_visit, letter_later, letter_said}
+use Rattle.protocol.proofs.SiteFits.{same_later, site_moves}
+use Rattle.protocol.proofs.SiteEvents.{not_open, restart_later, owned, open_fit, addressed_fit, alike_where_new}
+use Rattle.protocol.proofs.Locks.{acted_locked, restarted_locked, gives_up_locked}
 use Rattle.protocol.proofs.Ops.{Op}
 use Rattle.protocol.proofs.Data.{TellsBody, acted_steps, acted_says, restarted_steps, give_up_steps}
 use Rattle.protocol.proofs.Base.{Base, base_site}
-use Rattle.protocol.proofs.Viable.{ViableNow, acted_was, read_was, restarted_was, give_up_was, in_addressed}
+use Rattle.protocol.proofs.Viable.{acted_was, read_was, restarted_was, give_up_was, in_addressed}
 use Rattle.protocol.proofs.Settled.{changes_it, settled_same, settled_applied}
 use Rattle.protocol.proofs.Deep.{Deep, deep_site, site_settled}
 
@@ -59,9 +58,9 @@ module _ {L : Lang} (law : IsLawful L) (whole : L.Whole) where
         let new = site_after s act in
         let letters = addressed a t (said s act) in
         base_site law o o ops w a new letters deep.base
-          (site_moves law o w a new letters deep.base.fit (letter_later o w a deep.base.fit t b act born fits row no_open) (addressed_fit law o w a new t (said s act) born (letter_said o w a deep.base.fit t b act fits row no_open)))
-          (λ c j h. refl) (acted_locked law s t b act (deep.base.fit.live a) (deep.base.locked a) row) (acted_steps law (ops a) s t b act (deep.base.data_at a) (deep.base.locked a) tells row)
-          (addressed_tells t new (said s act) (acted_says law (ops a) s t b act (deep.base.data_at a) tells row))
+        (site_moves law o w a new letters deep.base.fit (letter_later o w a deep.base.fit t b act born fits row no_open) (addressed_fit law o w a new t (said s act) born (letter_said o w a deep.base.fit t b act fits row no_open)))
+        (λ c j h. refl) (acted_locked law s t b act (deep.base.fit.live a) (deep.base.locked a) row) (acted_steps law (ops a) s t b act (deep.base.data_at a) (deep.base.locked a) tells row)
+        (addressed_tells t new (said s act) (acted_says law (ops a) s t b act (deep.base.data_at a) tells row))
 
     -- a letter but Open
     letter_deep : (t : Name) (b : Body L) (act : Act L) → Born w.desk t → FitsBody o w.desk w.past a (w.sites a) t b → TellsBody (ops a) (w.sites a) b → Acted (w.sites a) t b act → ((b ≡ Open) → ⊥) → ((k u : Name) (i : L.Intentions) → act ≡ Applies k i → ⊥) →
@@ -73,9 +72,9 @@ module _ {L : Lang} (law : IsLawful L) (whole : L.Whole) where
         let later = letter_later o w a deep.base.fit t b act born fits row no_open in
         let base = letter_base t b act born fits tells row no_open in
         deep_site law o o ops whole w a new letters deep base (acted_was law (ops a) s t b act (deep.base.data_at a) tells row)
-          (λ c k u here. let r = in_addressed a c t u (Voted k Read) (said s act) here in (r.0, read_was law (ops a) s t b act tells row k r.1))
-          (site_settled law o o ops whole w a new letters deep.base base kept (λ k n i done e. row_stays t b act fits row no_apply k n i done e)
-            (λ k n i done e. ⊎_elim (λ was. was) (λ fresh. absurd (fresh.3 done)) (later.comes k n i e)))
+        (λ c k u here. let r = in_addressed a c t u (Voted k Read) (said s act) here in (r.0, read_was law (ops a) s t b act tells row k r.1))
+        (site_settled law o o ops whole w a new letters deep.base base kept (λ k n i done e. row_stays t b act fits row no_apply k n i done e)
+        (λ k n i done e. ⊎_elim (λ was. was) (λ fresh. absurd (fresh.3 done)) (later.comes k n i e)))
 
     -- a Commit that applies
     apply_deep : (t k u : Name) (i : L.Intentions) → Born w.desk t → FitsBody o w.desk w.past a (w.sites a) t (Commit k) → (e : (w.sites a).status k ≡ Prepared u i) →
@@ -89,17 +88,17 @@ module _ {L : Lang} (law : IsLawful L) (whole : L.Whole) where
         let base = letter_base t (Commit k) act born fits tt row (λ f. cc) in
         let done : IsCommitted w.past u = subst (IsCommitted w.past) (sym fits.1 ∙ (deep.base.fit.prepared a k u i e).owner) fits.2 in
         deep_site law o o ops whole w a new letters deep base (acted_was law (ops a) s t (Commit k) act (deep.base.data_at a) tt row)
-          (λ c j n here. let r = in_addressed a c t n (Voted j Read) (said s act) here in (r.0, read_was law (ops a) s t (Commit k) act tt row j r.1))
-          (λ g. ⊎_elim
-            (λ is. let at : put L.same_site a new w.sites (L.home g) ≡ new = if_true (L.same_site (L.home g) a) new (w.sites (L.home g)) is in
-              let was : w.sites (L.home g) ≡ s = ap w.sites ((law.sites (L.home g) a).0 is) in
-              settled_applied law o o ops ops w (with_site w a new letters) deep.base base g k u i (ap (λ (x : SiteState L). x.status k) was ∙ e) done refl
-                (ap (λ (x : SiteState L). x.kept g) at ∙ ap (λ (x : SiteState L). L.changed g i (x.kept g)) (sym was)) (ap (λ (x : SiteState L). x.status k) at ∙ put_here same same_law k Dead s.status)
-                (λ j other. ap (λ (x : SiteState L). x.status j) at ∙ put_there same same_law k Dead s.status j other ∙ ap (λ (x : SiteState L). x.status j) (sym was)))
-            (λ other. let at : put L.same_site a new w.sites (L.home g) ≡ w.sites (L.home g) = if_false (L.same_site (L.home g) a) new (w.sites (L.home g)) other in
-              settled_same law o o ops ops w (with_site w a new letters) deep.base base g (ap (λ (x : SiteState L). x.kept g) at)
-                (λ j is. (ap (λ (x : SiteState L). x.status j) at, ap (λ (x : SiteState L). changes_it w.past g (x.status j)) at ∙ is)) (λ j is. ap (λ (x : SiteState L). changes_it w.past g (x.status j)) (sym at) ∙ is))
-            (by_test (L.same_site (L.home g) a)))
+        (λ c j n here. let r = in_addressed a c t n (Voted j Read) (said s act) here in (r.0, read_was law (ops a) s t (Commit k) act tt row j r.1))
+        (λ g. ⊎_elim
+        (λ is. let at : put L.same_site a new w.sites (L.home g) ≡ new = if_true (L.same_site (L.home g) a) new (w.sites (L.home g)) is in
+        let was : w.sites (L.home g) ≡ s = ap w.sites ((law.sites (L.home g) a).0 is) in
+        settled_applied law o o ops ops w (with_site w a new letters) deep.base base g k u i (ap (λ (x : SiteState L). x.status k) was ∙ e) done refl
+        (ap (λ (x : SiteState L). x.kept g) at ∙ ap (λ (x : SiteState L). L.changed g i (x.kept g)) (sym was)) (ap (λ (x : SiteState L). x.status k) at ∙ put_here same same_law k Dead s.status)
+        (λ j other. ap (λ (x : SiteState L). x.status j) at ∙ put_there same same_law k Dead s.status j other ∙ ap (λ (x : SiteState L). x.status j) (sym was)))
+        (λ other. let at : put L.same_site a new w.sites (L.home g) ≡ w.sites (L.home g) = if_false (L.same_site (L.home g) a) new (w.sites (L.home g)) other in
+        settled_same law o o ops ops w (with_site w a new letters) deep.base base g (ap (λ (x : SiteState L). x.kept g) at)
+        (λ j is. (ap (λ (x : SiteState L). x.status j) at, ap (λ (x : SiteState L). changes_it w.past g (x.status j)) at ∙ is)) (λ j is. ap (λ (x : SiteState L). changes_it w.past g (x.status j)) (sym at) ∙ is))
+        (by_test (L.same_site (L.home g) a)))
 
     -- an Open
     open_deep : (t : Name) → Born w.desk t → FitsBody o w.desk w.past a (w.sites a) t Open → Deep (owned L a (next_ticket (w.sites a)) t o) ops whole (with_site w a (site_after (w.sites a) Opens) (addressed a t (said (w.sites a) Opens)))
@@ -110,12 +109,12 @@ module _ {L : Lang} (law : IsLawful L) (whole : L.Whole) where
         let p = owned L a (next_ticket s) t o in
         let row : Acted s t Open Opens = opens in
         let base = base_site law o p ops w a new letters deep.base (open_fit law o w a t deep.base.fit born fits) (alike_where_new law o w a (next_ticket s) t (not_drawn s))
-              (acted_locked law s t Open Opens (deep.base.fit.live a) (deep.base.locked a) row) (acted_steps law (ops a) s t Open Opens (deep.base.data_at a) (deep.base.locked a) tt row)
-              (addressed_tells t new (said s Opens) (acted_says law (ops a) s t Open Opens (deep.base.data_at a) tt row)) in
+        (acted_locked law s t Open Opens (deep.base.fit.live a) (deep.base.locked a) row) (acted_steps law (ops a) s t Open Opens (deep.base.data_at a) (deep.base.locked a) tt row)
+        (addressed_tells t new (said s Opens) (acted_says law (ops a) s t Open Opens (deep.base.data_at a) tt row)) in
         deep_site law o p ops whole w a new letters deep base (acted_was law (ops a) s t Open Opens (deep.base.data_at a) tt row)
-          (λ c k n here. let r = in_addressed a c t n (Voted k Read) (said s Opens) here in (r.0, read_was law (ops a) s t Open Opens tt row k r.1))
-          (site_settled law o p ops whole w a new letters deep.base base (λ g. refl) (λ k n i done e. row_stays t Open Opens fits row (λ k u i f. cc) k n i done e)
-            (λ k n i done. put_all same same_law (next_ticket s) (Alive (new_visit s)) s.status (λ j x. x ≡ Prepared n i → s.status j ≡ Prepared n i) (λ e. cc) (λ j other e. e) k))
+        (λ c k n here. let r = in_addressed a c t n (Voted k Read) (said s Opens) here in (r.0, read_was law (ops a) s t Open Opens tt row k r.1))
+        (site_settled law o p ops whole w a new letters deep.base base (λ g. refl) (λ k n i done e. row_stays t Open Opens fits row (λ k u i f. cc) k n i done e)
+        (λ k n i done. put_all same same_law (next_ticket s) (Alive (new_visit s)) s.status (λ j x. x ≡ Prepared n i → s.status j ≡ Prepared n i) (λ e. cc) (λ j other e. e) k))
 
     -- whatever a letter does
     acted_deep : (t : Name) (b : Body L) (act : Act L) → Born w.desk t → FitsBody o w.desk w.past a (w.sites a) t b → TellsBody (ops a) (w.sites a) b → Acted (w.sites a) t b act → ((b ≡ Open) → ⊥) → IsDeep (with_site w a (site_after (w.sites a) act) (addressed a t (said (w.sites a) act)))
@@ -151,11 +150,11 @@ module _ {L : Lang} (law : IsLawful L) (whole : L.Whole) where
         let s = w.sites a in
         let new = site_restarted s in
         either (λ v. Deep o ops whole v) (is_within new) (with_site w a new []) w
-          (let later = restart_later law o w a deep.base.fit in
-            let base = base_site law o o ops w a new [] deep.base (site_moves law o w a new [] deep.base.fit later tt) (λ c j h. refl) (restarted_locked law s (deep.base.locked a)) (restarted_steps law (ops a) s (deep.base.data_at a)) tt in
-            deep_site law o o ops whole w a new [] deep base (restarted_was (ops a) s) (λ c k u here. absurd here)
-              (site_settled law o o ops whole w a new [] deep.base base (λ g. refl) (λ k n i done e. ap restarted e) (λ k n i done e. ⊎_elim (λ was. was) (λ fresh. absurd (fresh.3 done)) (later.comes k n i e))))
-          deep
+        (let later = restart_later law o w a deep.base.fit in
+        let base = base_site law o o ops w a new [] deep.base (site_moves law o w a new [] deep.base.fit later tt) (λ c j h. refl) (restarted_locked law s (deep.base.locked a)) (restarted_steps law (ops a) s (deep.base.data_at a)) tt in
+        deep_site law o o ops whole w a new [] deep base (restarted_was (ops a) s) (λ c k u here. absurd here)
+        (site_settled law o o ops whole w a new [] deep.base base (λ g. refl) (λ k n i done e. ap restarted e) (λ k n i done e. ⊎_elim (λ was. was) (λ fresh. absurd (fresh.3 done)) (later.comes k n i e))))
+        deep
 
     -- giving up
     pub give_up_deep : (k : Name) → Deep o ops whole (gives_up w a k)
@@ -166,9 +165,10 @@ module _ {L : Lang} (law : IsLawful L) (whole : L.Whole) where
             let s = w.sites a in
             let later = same_later o w.desk w.past a s (deep.base.fit.live a) in
             either (λ v. Deep o ops whole v) (is_within s) (with_site w a s []) w
-              (let base = base_site law o o ops w a s [] deep.base (site_moves law o w a s [] deep.base.fit later tt) (λ c j h. refl) (deep.base.locked a) (give_up_steps law (ops a) s k Dead (deep.base.data_at a)) tt in
-                deep_site law o o ops whole w a s [] deep base (give_up_was (ops a) s k Dead) (λ c j u here. absurd here) (site_settled law o o ops whole w a s [] deep.base base (λ g. refl) (λ j n i done e. e) (λ j n i done e. e)))
-              deep
+            (let base = base_site law o o ops w a s [] deep.base (site_moves law o w a s [] deep.base.fit later tt) (λ c j h. refl) (deep.base.locked a) (give_up_steps law (ops a) s k Dead (deep.base.data_at a)) tt in
+            deep_site law o o ops whole w a s [] deep base (give_up_was (ops a) s k Dead) (λ c j u here. absurd here) (site_settled law o o ops whole w a s [] deep.base base (λ g. refl) (λ j n i done e. e) (λ j n i done e. e)))
+            deep
+
         go : (st : Status L) → (w.sites a).status k ≡ st → Deep o ops whole (site_steps w a (site_after (w.sites a) (on_give_up k st)) [])
         go Dead e = same_deep
         go (Prepared t i) e = same_deep
@@ -177,9 +177,9 @@ module _ {L : Lang} (law : IsLawful L) (whole : L.Whole) where
             let new = site_after s (Ends k []) in
             let later = from_visit o w.desk w.past a s (deep.base.fit.live a) k v Dead new.known e (λ t i row. cc) in
             either (λ x. Deep o ops whole x) (is_within new) (with_site w a new []) w
-              (let base = base_site law o o ops w a new [] deep.base (site_moves law o w a new [] deep.base.fit later tt) (λ c j h. refl) (gives_up_locked law s k (Alive v) (deep.base.locked a)) (give_up_steps law (ops a) s k (Alive v) (deep.base.data_at a)) tt in
-                deep_site law o o ops whole w a new [] deep base (give_up_was (ops a) s k (Alive v)) (λ c j u here. absurd here)
-                  (site_settled law o o ops whole w a new [] deep.base base (λ g. refl)
-                    (λ j n i done row. put_all same same_law k Dead s.status (λ j x. s.status j ≡ Prepared n i → x ≡ Prepared n i) (λ r. let f : Alive v ≡ Prepared n i = sym e ∙ r in cc) (λ j apart r. r) j row)
-                    (λ j n i done row. ⊎_elim (λ was. was) (λ fresh. absurd (fresh.3 done)) (later.comes j n i row))))
-              deep
+            (let base = base_site law o o ops w a new [] deep.base (site_moves law o w a new [] deep.base.fit later tt) (λ c j h. refl) (gives_up_locked law s k (Alive v) (deep.base.locked a)) (give_up_steps law (ops a) s k (Alive v) (deep.base.data_at a)) tt in
+            deep_site law o o ops whole w a new [] deep base (give_up_was (ops a) s k (Alive v)) (λ c j u here. absurd here)
+            (site_settled law o o ops whole w a new [] deep.base base (λ g. refl)
+            (λ j n i done row. put_all same same_law k Dead s.status (λ j x. s.status j ≡ Prepared n i → x ≡ Prepared n i) (λ r. let f : Alive v ≡ Prepared n i = sym e ∙ r in cc) (λ j apart r. r) j row)
+            (λ j n i done row. ⊎_elim (λ was. was) (λ fresh. absurd (fresh.3 done)) (later.comes j n i row))))
+            deep

@@ -1,28 +1,26 @@
 -- Each turn of the coordinator keeps the whole invariant: a quiet one, the beginning of a first phase, and the commit.
-use Rattle.std.proofs.Common.{◌≡◌, refl, sym, ap, ◌∙◌, subst, ℕ, Bool, true, false, ◌&&◌, ◌||◌, List, [], ◌∷◌, ◌++◌, ◌⊎◌, inl, inr, ⊎_elim, Option, Some, None, append-nil, if◌then◌else◌}
+use Rattle.std.proofs.Common.{◌≡◌, refl, sym, ap, ◌∙◌, subst, Bool, true, false, ◌||◌, List, [], ◌∷◌, ◌++◌, inl, inr, ⊎_elim, append-nil, if◌then◌else◌}
 use Rattle.std.proofs.lemmas.List.Folds.{list_any-append}
-use Rattle.protocol.specs.Language.{Lang, IsLawful, Name, same, put, written}
-use Rattle.protocol.specs.Letter.{Read, Body, Voted, Letter, is_for_desk}
-use Rattle.protocol.specs.Site.{Visit, Status, Dead, Alive, Prepared, SiteState, is_dead, is_alive, has_lock}
-use Rattle.protocol.specs.Desk.{Idle, Reading, Writing, Voting, Stage, Undecided, Txn, Known, Row, Deed, Turn, desk_after}
+use Rattle.protocol.specs.Language.{Lang, IsLawful, Name, same, written}
+use Rattle.protocol.specs.Letter.{Read, Voted}
+use Rattle.protocol.specs.Site.{Visit, Status, Dead, Alive, Prepared, is_dead, is_alive}
+use Rattle.protocol.specs.Desk.{Idle, Reading, Writing, Voting, Stage, Undecided, Known, Deed, Turn}
 use Rattle.protocol.specs.World.{World, turned}
 use Rattle.protocol.specs.Serial.{is_committed, commits_it, phases_of, settled}
-use Rattle.protocol.proofs.Basics.{Every, every_in, In, in_append, put_all, put_here, put_there, clash, same_law, same_refl, by_test, left_true, right_true, both_true, or_cases, or_left, if_true, if_false}
-use Rattle.protocol.proofs.Fits.{Drawn, Born, is_voting, Own, IsCommitted, FitsBody, Fits, Fit}
-use Rattle.protocol.proofs.DeskFits.{TurnFine, split, was_committed, turn_later}
+use Rattle.protocol.proofs.Basics.{every_in, In, in_append, put_here, put_there, clash, same_law, by_test, left_true, right_true, both_true, if_true, if_false}
+use Rattle.protocol.proofs.Fits.{is_voting, Own, IsCommitted, Fits}
+use Rattle.protocol.proofs.DeskFits.{split, was_committed}
 use Rattle.protocol.proofs.Turns.{known_is}
 use Rattle.protocol.proofs.Going.{Good}
-use Rattle.protocol.proofs.Locks.{Locked, exclusive_lock, unequal}
-use Rattle.protocol.proofs.Ops.{Op, sets, adds, writes_to, on, writes_on, written_on, written_none, changed_by, touches_by}
-use Rattle.protocol.proofs.Data.{TellsBody}
-use Rattle.protocol.proofs.Works.{Work, works, own_of, SameView}
-use Rattle.protocol.proofs.Book.{unsent_of, AskCame, ReadsFrom}
-use Rattle.protocol.proofs.Booked.{Tells, Booked, PhaseTurn, goes_on, starts}
+use Rattle.protocol.proofs.Ops.{Op, writes_to, written_none}
+use Rattle.protocol.proofs.Works.{works, own_of, SameView}
+use Rattle.protocol.proofs.Book.{unsent_of}
+use Rattle.protocol.proofs.Booked.{Tells, Booked}
 use Rattle.protocol.proofs.Base.{Base, base_turn, closed, others, view_apart, phases_more}
-use Rattle.protocol.proofs.Line.{Line, Two, Apart, RightFrom, right_same, reads_from, after, line_same, line_end, line_decided, two_same, two_end}
+use Rattle.protocol.proofs.Line.{Line, Two, Apart, RightFrom, right_same, reads_from, line_same, line_end, two_same, two_end}
 use Rattle.protocol.proofs.Viable.{ViableNow, is_row, may_go_on, Viable, alone_at}
-use Rattle.protocol.proofs.Settled.{changes_it, changed_by_row, changes_exclusive, changes_same, settled_none, settled_one, settled_same}
-use Rattle.protocol.proofs.OwnReads.{own_sent, writes_at, apart_tickets, right_now, read_lock}
+use Rattle.protocol.proofs.Settled.{changes_it, changes_same, settled_same}
+use Rattle.protocol.proofs.OwnReads.{writes_at, apart_tickets, right_now, read_lock}
 use Rattle.protocol.proofs.Deep.{Counts, Deep, deep_moves, line_works, two_works}
 
 module _ {L : Lang} (law : IsLawful L) (o : L.Site → Name → Name) (ops : L.Site → Name → List (Op L)) (whole : L.Whole) (w : World L) (t : Name) (turn : Turn L) (deep : Deep o ops whole w) (good : Good o w t turn) (booked : Booked o ops w t turn) where
@@ -50,10 +48,12 @@ module _ {L : Lang} (law : IsLawful L) (o : L.Site → Name → Name) (ops : L.S
   viable_other j apart viable =
       let known : w.desk.txn j ≡ Known viable.u = sym (put_there same same_law t turn.txn w.desk.txn j apart) ∙ viable.known in
       record {
-        u = viable.u; known = known; voting = viable.voting;
+        u = viable.u;
+        known = known;
+        voting = viable.voting;
         each = λ a k own. ⊎_elim
-          (λ now. inl (subst (λ l. ViableNow l ((w.sites a).status k)) (others o ops w t turn base good booked a k j ((base.fit.known j viable.u known).tickets a k own).1 apart) now))
-          (λ letter. inr (old_letter a k j letter)) (viable.each a k own);
+            (λ now. inl (subst (λ l. ViableNow l ((w.sites a).status k)) (others o ops w t turn base good booked a k j ((base.fit.known j viable.u known).tickets a k own).1 apart) now))
+            (λ letter. inr (old_letter a k j letter)) (viable.each a k own);
       }
 
   -- so was this one, if its first phase had begun
@@ -62,10 +62,12 @@ module _ {L : Lang} (law : IsLawful L) (o : L.Site → Name → Name) (ops : L.S
       let g = good.fine.grows viable.u (sym (put_here same same_law t turn.txn w.desk.txn) ∙ viable.known) in
       let votes = (base.phased t here).1 in
       record {
-        u = g.0; known = g.1; voting = votes g.0 g.1;
+        u = g.0;
+        known = g.1;
+        voting = votes g.0 g.1;
         each = λ a k own. ⊎_elim
-          (λ now. inl (subst (λ l. ViableNow l ((w.sites a).status k)) (closed o ops w t turn base good booked a k t ((base.fit.known t g.0 g.1).tickets a k own).1 votes) now))
-          (λ letter. inr (old_letter a k t letter)) (viable.each a k (g.2.ticket a k own));
+            (λ now. inl (subst (λ l. ViableNow l ((w.sites a).status k)) (closed o ops w t turn base good booked a k t ((base.fit.known t g.0 g.1).tickets a k own).1 votes) now))
+            (λ letter. inr (old_letter a k t letter)) (viable.each a k (g.2.ticket a k own));
       }
 
   viable_was : (j : Name) → In j (phases_of w.past) → Viable booked.new next j → Viable ops w j
@@ -180,6 +182,7 @@ module _ {L : Lang} (law : IsLawful L) (o : L.Site → Name → Name) (ops : L.S
         stays Dead is = cc
         stays (Alive v) is = cc
         stays (Prepared n i) is = both_true (is_committed later n) (L.touches g i) (was_committed o w t turn base.fit good.fine n (left_true (is_committed w.past n) (L.touches g i) is)) (right_true (is_committed w.past n) (L.touches g i) is)
+
         was : (k : Name) (st : Status L) → (w.sites (L.home g)).status k ≡ st → changes_it later g st ≡ true → changes_it w.past g st ≡ true
         was k Dead f is = cc
         was k (Alive v) f is = cc
@@ -191,7 +194,7 @@ module _ {L : Lang} (law : IsLawful L) (o : L.Site → Name → Name) (ops : L.S
     nothing_written : (g : L.Leaf) (x : L.Content) → (if is_committed later t then written L g (own_of (works w.past t)) x else x) ≡ x
     nothing_written g x = ⊎_elim
         (λ done. if_true (is_committed later t) (written L g (own_of (works w.past t)) x) x done ∙ written_none L g (own_of (works w.past t)) x
-          (⊎_elim (λ is. let at = writes_at law o ops w t base u e idle_sent g is in ⊎_elim (λ was. absurd (not_before was)) (λ now. absurd (no_ticket now.1 (L.home g) at.0 at.1)) (split o w t turn base.fit good.fine t done)) (λ none. none) (by_test (writes_to L g (own_of (works w.past t))))))
+        (⊎_elim (λ is. let at = writes_at law o ops w t base u e idle_sent g is in ⊎_elim (λ was. absurd (not_before was)) (λ now. absurd (no_ticket now.1 (L.home g) at.0 at.1)) (split o w t turn base.fit good.fine t done)) (λ none. none) (by_test (writes_to L g (own_of (works w.past t))))))
         (λ not_. if_false (is_committed later t) (written L g (own_of (works w.past t)) x) x not_)
         (by_test (is_committed later t))
 
@@ -199,13 +202,14 @@ module _ {L : Lang} (law : IsLawful L) (o : L.Site → Name → Name) (ops : L.S
     apart_begun : (j : Name) → In j (phases_of w.past) → Apart (works w.past) (is_committed later) (Counts booked.new next) (Viable booked.new next) j t
     apart_begun j here viable g writes =
         let before = viable_was j here viable in
-        let at = writes_at law o ops w j base before.u before.known (voting_sent before.u before.voting) g writes in
-        ((λ counts. ⊎_elim
-            (λ reads. let lock = read_lock law o ops w t base u e (alive_counts counts) [] (works w.past t) (base.book t u e).reads g reads in
+        let at = writes_at law o ops w j base before.u before.known (voting_sent before.u before.voting) g writes in (
+          (λ counts. ⊎_elim
+              (λ reads. let lock = read_lock law o ops w t base u e (alive_counts counts) [] (works w.past t) (base.book t u e).reads g reads in
               clash lock.2 (alone_at law o ops w j base before (L.home g) at.0 at.1 g at.2 lock.0 (apart_tickets law o ops w t base u e j before.u before.known (λ is. not_phased (subst (λ n. In n (phases_of w.past)) is here)) (L.home g) lock.0 at.0 lock.1 at.1)))
-            (λ none. none) (by_test (reads_from g (works w.past t)))),
+              (λ none. none) (by_test (reads_from g (works w.past t)))),
           λ done. ⊎_elim (λ is. let own = writes_at law o ops w t base u e idle_sent g is in
-            ⊎_elim (λ was. absurd (not_before was)) (λ now. absurd (no_ticket now.1 (L.home g) own.0 own.1)) (split o w t turn base.fit good.fine t done)) (λ none. none) (by_test (writes_to L g (own_of (works w.past t)))))
+              ⊎_elim (λ was. absurd (not_before was)) (λ now. absurd (no_ticket now.1 (L.home g) own.0 own.1)) (split o w t turn base.fit good.fine t done)) (λ none. none) (by_test (writes_to L g (own_of (works w.past t)))),
+        )
 
     pub begun_deep : Deep o booked.new whole next
     begun_deep =
@@ -214,15 +218,15 @@ module _ {L : Lang} (law : IsLawful L) (o : L.Site → Name → Name) (ops : L.S
         record {
           base = base_next;
           line = subst (Line (works later) (is_committed later) (Counts booked.new next) (settled next) (λ g. L.content g whole)) (sym phases)
-            (line_works (works w.past) (works later) (is_committed later) (Counts booked.new next) (settled next) (λ g. L.content g whole) (phases_of w.past ++ t ∷ []) works_all
+              (line_works (works w.past) (works later) (is_committed later) (Counts booked.new next) (settled next) (λ g. L.content g whole) (phases_of w.past ++ t ∷ []) works_all
               (line_end (works w.past) (is_committed later) (Counts booked.new next) (settled next) law (phases_of w.past) (λ g. L.content g whole) t nothing_written
-                (λ c. right_settled (right_now law o ops w t base u e (alive_counts c) [] (works w.past t) (base.book t u e).reads))
-                (line_same law (works w.past) (is_committed w.past) (is_committed later) (Counts ops w) (Counts booked.new next) (settled w) (settled next) (phases_of w.past) (λ g. L.content g whole) (λ g. L.content g whole) committed_old counts settled_begun (λ g. refl) deep.line)));
+              (λ c. right_settled (right_now law o ops w t base u e (alive_counts c) [] (works w.past t) (base.book t u e).reads))
+              (line_same law (works w.past) (is_committed w.past) (is_committed later) (Counts ops w) (Counts booked.new next) (settled w) (settled next) (phases_of w.past) (λ g. L.content g whole) (λ g. L.content g whole) committed_old counts settled_begun (λ g. refl) deep.line)));
           two = subst (Two (works later) (is_committed later) (Counts booked.new next) (Viable booked.new next)) (sym phases)
-            (two_works (works w.past) (works later) (is_committed later) (Counts booked.new next) (Viable booked.new next) (phases_of w.past ++ t ∷ []) works_all
+              (two_works (works w.past) (works later) (is_committed later) (Counts booked.new next) (Viable booked.new next) (phases_of w.past ++ t ∷ []) works_all
               (two_end (works w.past) (is_committed later) (Counts booked.new next) (Viable booked.new next) (phases_of w.past) t apart_begun
-                (two_same (works w.past) (is_committed w.past) (is_committed later) (Counts ops w) (Counts booked.new next) (Viable ops w) (Viable booked.new next) (phases_of w.past)
-                  (λ x y x_in y_in apart v g writes. let p = apart (viable_was x x_in v) g writes in ((λ c. p.0 (counts y y_in c)), λ done. p.1 (sym (committed_old y y_in) ∙ done))) deep.two)));
+              (two_same (works w.past) (is_committed w.past) (is_committed later) (Counts ops w) (Counts booked.new next) (Viable ops w) (Viable booked.new next) (phases_of w.past)
+              (λ x y x_in y_in apart v g writes. let p = apart (viable_was x x_in v) g writes in ((λ c. p.0 (counts y y_in c)), λ done. p.1 (sym (committed_old y y_in) ∙ done))) deep.two)));
         }
       where
         right_settled : RightFrom (settled w) (works w.past t) → RightFrom (settled next) (works w.past t)

@@ -1,9 +1,8 @@
 -- Operations of a visit in order, what their writes come to, and what intentions made of them touch.
-use Rattle.std.proofs.Common.{◌≡◌, refl, sym, ap, ap₂, ◌∙◌, subst, ℕ, zero, suc, ◌+◌, ◌≤◌, Bool, true, false, ◌||◌, not, List, [], ◌∷◌, ◌++◌, length, drop, ◌⊎◌, inl, inr, ⊎_elim, Option, Some, None, if◌then◌else◌, arith, append_assoc, append-nil, filter}
-use Rattle.std.proofs.Math.Seq.{drop-append_seam}
+use Rattle.std.proofs.Common.{◌≡◌, refl, sym, ap, ap₂, ◌∙◌, ◌+◌, Bool, true, false, ◌||◌, List, [], ◌∷◌, ◌++◌, length, ⊎_elim, if◌then◌else◌, arith, filter}
 use Rattle.std.specs.List.{list_any}
 use Rattle.protocol.specs.Language.{Lang, IsLawful, written}
-use Rattle.protocol.proofs.Basics.{Every, In, in_left, in_right, either, either_if, if_true, if_false, by_test, clash, or_left, or_right, or_none_left, or_none_right}
+use Rattle.protocol.proofs.Basics.{if_true, if_false, by_test, clash, or_left, or_none_left, or_none_right}
 
 pub data Op (L : Lang) : Type 0 where
   Get : (leaf : L.Leaf) (query : L.Query) → Op L

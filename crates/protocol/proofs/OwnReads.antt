@@ -1,21 +1,19 @@
 -- What a transaction has read and written, as its own tickets show it.
-use Rattle.std.proofs.Common.{◌≡◌, refl, sym, ap, ◌∙◌, subst, ℕ, suc, Bool, true, false, ◌||◌, List, [], ◌∷◌, ◌++◌, length, ◌⊎◌, inl, inr, ⊎_elim, Option, Some, None, append-nil, arith}
+use Rattle.std.proofs.Common.{◌≡◌, refl, sym, ap, ◌∙◌, subst, ℕ, suc, true, false, List, [], ◌∷◌, ◌++◌, length, ⊎_elim, Option, Some, None, append-nil, arith}
 use Rattle.std.specs.List.{list_any}
 use Rattle.protocol.specs.Language.{Lang, IsLawful, Name, same, written}
-use Rattle.protocol.specs.Letter.{Read, Body, Rows, Voted, Letter}
-use Rattle.protocol.specs.Site.{Visit, Status, Dead, Alive, Prepared, SiteState, is_dead, is_alive, has_exclusive, has_lock}
-use Rattle.protocol.specs.Desk.{Ask, Undecided, Known, Stage, Voting, Idle}
+use Rattle.protocol.specs.Letter.{Rows}
+use Rattle.protocol.specs.Site.{Visit, Status, Dead, Alive, Prepared, has_lock}
+use Rattle.protocol.specs.Desk.{Ask, Undecided, Known}
 use Rattle.protocol.specs.World.{World}
-use Rattle.protocol.specs.Serial.{is_committed, settled}
-use Rattle.protocol.proofs.Basics.{Every, every_in, In, found, clash, same_law, same_refl, by_test, or_cases, or_left, some_is}
-use Rattle.protocol.proofs.Fits.{is_voting, Own, IsCommitted, Fit}
-use Rattle.protocol.proofs.Locks.{Locked, exclusive_lock, unequal}
-use Rattle.protocol.proofs.Ops.{Op, Get, Set, get_leaf, sets, on, writes_to, writes_on, written_on, written_append, split_same}
+use Rattle.protocol.specs.Serial.{settled}
+use Rattle.protocol.proofs.Basics.{every_in, found, clash, same_law, by_test, or_cases, or_left}
+use Rattle.protocol.proofs.Fits.{Own}
+use Rattle.protocol.proofs.Ops.{Op, Get, get_leaf, sets, on, writes_to, writes_on, written_on, written_append, split_same}
 use Rattle.protocol.proofs.Data.{NthOp, RowsAt, TellsBody}
 use Rattle.protocol.proofs.Works.{Work, works, own_of}
-use Rattle.protocol.proofs.Book.{sets_at, AskCame, ReadsFrom, BookAt, unsent_of}
+use Rattle.protocol.proofs.Book.{sets_at, AskCame, ReadsFrom, unsent_of}
 use Rattle.protocol.proofs.Line.{reads_from, RightFrom, right_same, every_here}
-use Rattle.protocol.proofs.Viable.{ViableNow, is_row, may_go_on, Viable, alone_at}
 use Rattle.protocol.proofs.Settled.{changes_it, changes_exclusive, settled_none}
 use Rattle.protocol.proofs.Base.{Base}
 
@@ -31,6 +29,7 @@ module _ {L : Lang} where
     where
       number : (m k : ℕ) → suc m ≡ suc k → m ≡ k
       number m k e = omega arith
+
       head : (x y : Op L) (xs ys : List (Op L)) → x ∷ xs ≡ y ∷ ys → x ≡ y
       head x y xs ys e = cc
 
@@ -68,15 +67,16 @@ module _ {L : Lang} where
           let shared : visit.0.shared q.leaf ≡ true = subst (λ g. visit.0.shared g ≡ true) leaf now.0 in
           let lock : has_lock q.leaf ((w.sites a).status k) ≡ true = ap (has_lock q.leaf) visit.1 ∙ or_left (visit.0.shared q.leaf) (L.touches q.leaf visit.0.changes) shared in
           let settled_is : settled w q.leaf ≡ (w.sites a).kept q.leaf = settled_none law o ops w base q.leaf (λ j. ⊎_elim
-                (λ is. ⊎_elim (λ same_. absurd (no_visit visit.0 ((w.sites a).status j) q.leaf (ap (w.sites a).status ((same_law j k).0 same_) ∙ visit.1) is))
-                  (λ other. clash lock ((base.locked a).alone j k q.leaf other (changes_exclusive w.past q.leaf ((w.sites a).status j) is))) (by_test (same j k)))
-                (λ none. none) (by_test (changes_it w.past q.leaf ((w.sites a).status j)))) in
-          ((k, came.sent.is, lock),
+          (λ is. ⊎_elim (λ same_. absurd (no_visit visit.0 ((w.sites a).status j) q.leaf (ap (w.sites a).status ((same_law j k).0 same_) ∙ visit.1) is))
+          (λ other. clash lock ((base.locked a).alone j k q.leaf other (changes_exclusive w.past q.leaf ((w.sites a).status j) is))) (by_test (same j k)))
+          (λ none. none) (by_test (changes_it w.past q.leaf ((w.sites a).status j)))) in (
+            (k, came.sent.is, lock),
             came.are ∙ ap (λ r. Some r) (now.1
-              ∙ ap (λ p. L.parts p (written L rows.leaf (sets rows.nth.before) ((w.sites a).kept rows.leaf))) query
-              ∙ ap (λ g. L.parts q.query (written L g (sets rows.nth.before) ((w.sites a).kept g))) leaf
-              ∙ ap (λ l. L.parts q.query (written L q.leaf (sets l) ((w.sites a).kept q.leaf))) one.0
-              ∙ ap (L.parts q.query) (sym (written_on L q.leaf (sets came.sent.nth.before) ((w.sites a).kept q.leaf)) ∙ ap (λ l. written L q.leaf l ((w.sites a).kept q.leaf)) came.sent.before ∙ written_on L q.leaf own ((w.sites a).kept q.leaf) ∙ ap (written L q.leaf own) (sym settled_is))))
+                ∙ ap (λ p. L.parts p (written L rows.leaf (sets rows.nth.before) ((w.sites a).kept rows.leaf))) query
+                ∙ ap (λ g. L.parts q.query (written L g (sets rows.nth.before) ((w.sites a).kept g))) leaf
+                ∙ ap (λ l. L.parts q.query (written L q.leaf (sets l) ((w.sites a).kept q.leaf))) one.0
+                ∙ ap (L.parts q.query) (sym (written_on L q.leaf (sets came.sent.nth.before) ((w.sites a).kept q.leaf)) ∙ ap (λ l. written L q.leaf l ((w.sites a).kept q.leaf)) came.sent.before ∙ written_on L q.leaf own ((w.sites a).kept q.leaf) ∙ ap (written L q.leaf own) (sym settled_is))),
+          )
         where
           no_visit : (v : Visit L) (st : Status L) (g : L.Leaf) → st ≡ Alive v → changes_it w.past g st ≡ true → ⊥
           no_visit v Dead g f is = cc
@@ -88,14 +88,15 @@ module _ {L : Lang} where
       right_now own [] reads = tt
       right_now own (x ∷ xs) reads = (
         every_here (AskCame t u.ticket ops w.letters own) (λ q. q.rows ≡ Some (L.parts q.query (written L q.leaf own (settled w q.leaf)))) x.asks (λ q here came. (one_read own q came).1) reads.0,
-        right_same law (λ g. written L g (own ++ x.choice.1) (settled w g)) (λ g. written L g x.choice.1 (written L g own (settled w g))) xs (λ g is. sym (written_append L g own x.choice.1 (settled w g))) (right_now (own ++ x.choice.1) xs reads.1))
+        right_same law (λ g. written L g (own ++ x.choice.1) (settled w g)) (λ g. written L g x.choice.1 (written L g own (settled w g))) xs (λ g is. sym (written_append L g own x.choice.1 (settled w g))) (right_now (own ++ x.choice.1) xs reads.1),
+      )
 
       -- a leaf that it read it has locked
       pub read_lock : (own : List (L.Leaf × L.Write)) (xs : List (Work L)) → ReadsFrom (AskCame t u.ticket ops w.letters) own xs → (g : L.Leaf) → reads_from g xs ≡ true → (k : Name) × Own (L.home g) k u × (has_lock g ((w.sites (L.home g)).status k) ≡ true)
       read_lock own [] reads g is = cc
       read_lock own (x ∷ xs) reads g is = ⊎_elim
           (λ here. let f = found (λ (q : Ask L). L.same_leaf q.leaf g) x.asks here in
-            let one = one_read own f.0 (every_in (AskCame t u.ticket ops w.letters own) x.asks f.0 reads.0 f.1) in
-            subst (λ h. (k : Name) × Own (L.home h) k u × (has_lock h ((w.sites (L.home h)).status k) ≡ true)) ((law.leaves f.0.leaf g).0 f.2) one.0)
+          let one = one_read own f.0 (every_in (AskCame t u.ticket ops w.letters own) x.asks f.0 reads.0 f.1) in
+          subst (λ h. (k : Name) × Own (L.home h) k u × (has_lock h ((w.sites (L.home h)).status k) ≡ true)) ((law.leaves f.0.leaf g).0 f.2) one.0)
           (λ below. read_lock (own ++ x.choice.1) xs reads.1 g below)
           (or_cases (list_any (λ (q : Ask L). L.same_leaf q.leaf g) x.asks) (reads_from g xs) is)

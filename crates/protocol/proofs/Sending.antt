@@ -1,13 +1,13 @@
 -- Fetches and writes go out in order: the book stays right.
-use Rattle.std.proofs.Common.{◌≡◌, refl, sym, ap, ap₂, ◌∙◌, subst, ℕ, suc, ◌+◌, ◌&&◌, Bool, true, false, List, [], ◌∷◌, ◌++◌, length, ◌⊎◌, inl, inr, ⊎_elim, Option, Some, None, if◌then◌else◌, append_assoc, append-nil, arith}
+use Rattle.std.proofs.Common.{◌≡◌, refl, sym, ap, ap₂, ◌∙◌, subst, ℕ, suc, false, List, [], ◌∷◌, ◌++◌, length, ◌⊎◌, inl, inr, ⊎_elim, Option, Some, None, append_assoc, append-nil, arith}
 use Rattle.protocol.specs.Language.{Lang, IsLawful, Name, same, put}
-use Rattle.protocol.specs.Letter.{Body, Fetch, Write, Letter, is_for_desk}
+use Rattle.protocol.specs.Letter.{Letter, is_for_desk}
 use Rattle.protocol.specs.Site.{SiteState}
 use Rattle.protocol.specs.Desk.{Ask, Out, ask_out, asks_out, write_out, writes_out}
-use Rattle.protocol.proofs.Basics.{Every, every_more, put_all, put_here, put_there, same_law, either_if, by_test, clash, if_true, if_false, some_is}
+use Rattle.protocol.proofs.Basics.{Every, every_more, put_all, put_here, same_law, by_test, clash, if_true, if_false, some_is}
 use Rattle.protocol.proofs.Ops.{Op, Get, Set, sets, sets_append, on, on_append, length_of}
 use Rattle.protocol.proofs.Data.{NthOp, TellsBody}
-use Rattle.protocol.proofs.Book.{Ext, sets_at, AskSent, CameBy, AskAt, nth_more, ask_more}
+use Rattle.protocol.proofs.Book.{Ext, sets_at, AskAt, nth_more, ask_more}
 
 module _ {L : Lang} where
   -- one more operation at a ticket
@@ -27,9 +27,11 @@ module _ {L : Lang} where
   ext_join : (ticket : L.Site → Option Name) (ops mid new : L.Site → Name → List (Op L)) → Ext ticket ops mid → Ext ticket mid new → Ext ticket ops new
   ext_join ticket ops mid new first second a k =
       let x = first a k in
-      let y = second a k in
-      (x.0 ++ y.0, y.1 ∙ ap (λ l. l ++ y.0) x.1 ∙ append_assoc (ops a k) x.0 y.0,
-        ⊎_elim (λ e. ⊎_elim (λ f. inl (ap₂ (λ p q. p ++ q) e f)) (λ own. inr own) y.2) (λ own. inr own) x.2)
+      let y = second a k in (
+        x.0 ++ y.0,
+        y.1 ∙ ap (λ l. l ++ y.0) x.1 ∙ append_assoc (ops a k) x.0 y.0,
+        ⊎_elim (λ e. ⊎_elim (λ f. inl (ap₂ (λ p q. p ++ q) e f)) (λ own. inr own) y.2) (λ own. inr own) x.2,
+      )
 
   module _ (law : IsLawful L) where
     pub put_op_here : (a : L.Site) (k : Name) (op : Op L) (ops : L.Site → Name → List (Op L)) → put_op a k op ops a k ≡ ops a k ++ op ∷ []
@@ -49,7 +51,7 @@ module _ {L : Lang} where
     put_op_counted a k op ticket sent ops own counted b j = put_op_all a k op ops (λ b j x. ticket b ≡ Some j → put L.same_site a (suc (sent a)) sent b ≡ length x)
         (λ e. put_here L.same_site law.sites a (suc (sent a)) sent ∙ (let c = counted a k own in let m = length_of (ops a k) (op ∷ []) in omega arith))
         (λ b j other e. put_all L.same_site law.sites a (suc (sent a)) sent (λ b n. (((b ≡ a) → (j ≡ k) → ⊥)) → ticket b ≡ Some j → n ≡ length (ops b j))
-          (λ no_ f. absurd (no_ refl (some_is (sym f ∙ own)))) (λ b off no_ f. counted b j f) b other e) b j
+        (λ no_ f. absurd (no_ refl (some_is (sym f ∙ own)))) (λ b off no_ f. counted b j f) b other e) b j
 
     put_unsent : (a : L.Site) (k : Name) (n : ℕ) (ticket : L.Site → Option Name) (sent : L.Site → ℕ) → ticket a ≡ Some k → (b : L.Site) → ticket b ≡ None → put L.same_site a n sent b ≡ sent b
     put_unsent a k n ticket sent own b = put_all L.same_site law.sites a n sent (λ b m. ticket b ≡ None → m ≡ sent b) (λ e. let f : None ≡ Some k = sym e ∙ own in cc) (λ b other e. refl) b
@@ -82,6 +84,7 @@ module _ {L : Lang} where
         where
           waits : AsksSent letters own ops sent (asks_out t ticket qs sent) → AsksSent letters own ops sent (record { left = q ∷ (asks_out t ticket qs sent).left; sent = (asks_out t ticket qs sent).sent; letters = (asks_out t ticket qs sent).letters })
           waits r = record { new = r.new; counted = r.counted; unsent = r.unsent; ext = r.ext; sets_same = r.sets_same; tells = r.tells; asks = (plain_more letters own ops r.new r.ext q all.0, r.asks) }
+
           go : (m : Option ℕ) → q.number ≡ m → (k : Option Name) → ticket (L.home q.leaf) ≡ k →
               ((sent : L.Site → ℕ) (ops : L.Site → Name → List (Op L)) → Counted ticket sent ops → ((g : L.Leaf) → on L g (sets_at ops (L.home g) (ticket (L.home g))) ≡ on L g own) → Every (AskAt t ticket ops letters own) qs → AsksSent letters own ops sent (asks_out t ticket qs sent)) →
               AsksSent letters own ops sent (ask_out t q m k sent (asks_out t ticket qs))
@@ -95,20 +98,24 @@ module _ {L : Lang} where
               let ext = put_op_ext a k op ticket ops f in
               let alike : (b : L.Site) (j : Name) → sets (mid b j) ≡ sets (ops b j) = put_op_all a k op ops (λ b j x. sets x ≡ sets (ops b j)) (sets_append (ops a k) (op ∷ []) ∙ append-nil (sets (ops a k))) (λ b j other. refl) in
               let r = rest (put L.same_site a (suc (sent a)) sent) mid (put_op_counted a k op ticket sent ops f counted)
-                    (λ g. ap (on L g) (did_same ops mid alike (L.home g) (ticket (L.home g))) ∙ did g) (every_more (AskAt t ticket ops letters own) (AskAt t ticket mid letters own) qs (plain_more letters own ops mid ext) all.1) in
+              (λ g. ap (on L g) (did_same ops mid alike (L.home g) (ticket (L.home g))) ∙ did g) (every_more (AskAt t ticket ops letters own) (AskAt t ticket mid letters own) qs (plain_more letters own ops mid ext) all.1) in
               let nth = put_nth a k op ticket sent ops f counted in
               let x = r.ext a k in
               let last = nth_more (mid a k) x.0 (r.new a k) (suc (sent a)) op x.1 nth in
               record {
-                new = r.new; counted = r.counted;
+                new = r.new;
+                counted = r.counted;
                 unsent = λ b none. r.unsent b none ∙ put_unsent a k (suc (sent a)) ticket sent f b none;
                 ext = ext_join ticket ops mid r.new ext r.ext;
                 sets_same = λ b j. r.sets_same b j ∙ alike b j;
                 tells = ((λ s. last, refl), r.tells);
-                asks = (record {
-                  sent = λ n is. record { name = k; is = f; nth = record { before = last.before; after = last.after; split = last.split; number = sym (some_is is) ∙ last.number }; before = ap (λ m. on L q.leaf (sets_at ops a m)) (sym f) ∙ did q.leaf };
-                  came = λ rows is. let c = all.0.came rows is in let g : None ≡ Some c.0 = sym e ∙ c.1 in cc;
-                }, r.asks);
+                asks = (
+                  record {
+                    sent = λ n is. record { name = k; is = f; nth = record { before = last.before; after = last.after; split = last.split; number = sym (some_is is) ∙ last.number }; before = ap (λ m. on L q.leaf (sets_at ops a m)) (sym f) ∙ did q.leaf };
+                    came = λ rows is. let c = all.0.came rows is in let g : None ≡ Some c.0 = sym e ∙ c.1 in cc;
+                  },
+                  r.asks,
+                );
               }
 
       -- writes that went out
@@ -127,6 +134,7 @@ module _ {L : Lang} where
         where
           off : ((L.home h ≡ L.home g) → ⊥) → on L h ((g, x) ∷ []) ≡ []
           off apart = if_false (L.same_leaf g h) ((g, x) ∷ []) [] (⊎_elim (λ is. absurd (apart (ap L.home (sym ((law.leaves g h).0 is))))) (λ none. none) (by_test (L.same_leaf g h)))
+
           go : (m : Option Name) → ticket (L.home h) ≡ m → on L h (sets_at (put_op (L.home g) k (Set g x) ops) (L.home h) m) ≡ on L h (sets_at ops (L.home h) m) ++ on L h ((g, x) ∷ [])
           go None e = sym (off (λ is. let f : None ≡ Some k = sym e ∙ ap ticket is ∙ own in cc))
           go (Some j) e = put_op_all (L.home g) k (Set g x) ops (λ b i l. ticket b ≡ Some i → (L.home h ≡ b) → on L h (sets l) ≡ on L h (sets (ops b i)) ++ on L h ((g, x) ∷ []))
@@ -143,9 +151,13 @@ module _ {L : Lang} where
           go None f rest =
               let r = rest sent ops counted in
               record {
-                new = r.new; counted = r.counted; unsent = r.unsent; ext = r.ext; tells = r.tells;
+                new = r.new;
+                counted = r.counted;
+                unsent = r.unsent;
+                ext = r.ext;
+                tells = r.tells;
                 did = λ h. ⊎_elim
-                  (λ is. let none = ap (λ g. ticket (L.home g)) (sym ((law.leaves w.0 h).0 is)) ∙ f in
+                    (λ is. let none = ap (λ g. ticket (L.home g)) (sym ((law.leaves w.0 h).0 is)) ∙ f in
                     let at_new = ap (λ m. on L h (sets_at r.new (L.home h) m)) none in
                     let at_old = ap (λ m. on L h (sets_at ops (L.home h) m)) none in
                     let ih = ap (λ l. l ++ on L h (writes_out {L = L} t ticket ws sent).left) (sym at_new) ∙ r.did h ∙ ap (λ l. l ++ on L h ws) at_old in
@@ -154,9 +166,9 @@ module _ {L : Lang} where
                     ∙ ap (λ l. w ∷ l) ih
                     ∙ sym (if_true (L.same_leaf w.0 h) (w ∷ on L h ws) (on L h ws) is)
                     ∙ ap (λ l. l ++ on L h (w ∷ ws)) (sym at_old))
-                  (λ other. ap (λ l. on L h (sets_at r.new (L.home h) (ticket (L.home h))) ++ l) (if_false (L.same_leaf w.0 h) (w ∷ on L h (writes_out {L = L} t ticket ws sent).left) (on L h (writes_out {L = L} t ticket ws sent).left) other)
+                    (λ other. ap (λ l. on L h (sets_at r.new (L.home h) (ticket (L.home h))) ++ l) (if_false (L.same_leaf w.0 h) (w ∷ on L h (writes_out {L = L} t ticket ws sent).left) (on L h (writes_out {L = L} t ticket ws sent).left) other)
                     ∙ r.did h ∙ ap (λ l. on L h (sets_at ops (L.home h) (ticket (L.home h))) ++ l) (sym (if_false (L.same_leaf w.0 h) (w ∷ on L h ws) (on L h ws) other)))
-                  (by_test (L.same_leaf w.0 h));
+                    (by_test (L.same_leaf w.0 h));
               }
           go (Some k) f rest =
               let a = L.home w.0 in
@@ -168,10 +180,11 @@ module _ {L : Lang} where
               let x = r.ext a k in
               let last = nth_more (mid a k) x.0 (r.new a k) (suc (sent a)) op x.1 nth in
               record {
-                new = r.new; counted = r.counted;
+                new = r.new;
+                counted = r.counted;
                 unsent = λ b none. r.unsent b none ∙ put_unsent a k (suc (sent a)) ticket sent f b none;
                 ext = ext_join ticket ops mid r.new ext r.ext;
                 tells = ((λ s. last, refl), r.tells);
                 did = λ h. r.did h ∙ ap (λ l. l ++ on L h ws) (put_set w.0 w.1 k ops f h) ∙ append_assoc (on L h (sets_at ops (L.home h) (ticket (L.home h)))) (on L h ((w.0, w.1) ∷ [])) (on L h ws)
-                  ∙ ap (λ l. on L h (sets_at ops (L.home h) (ticket (L.home h))) ++ l) (sym (on_append L h ((w.0, w.1) ∷ []) ws));
+                    ∙ ap (λ l. on L h (sets_at ops (L.home h) (ticket (L.home h))) ++ l) (sym (on_append L h ((w.0, w.1) ∷ []) ws));
               }

@@ -1,16 +1,16 @@
 -- The serial law: along the line each committed transaction asks, answers and writes as in the serial run.
-use Rattle.std.proofs.Common.{◌≡◌, refl, sym, ap, ap₂, ◌∙◌, subst, Bool, true, false, List, [], ◌∷◌, ◌++◌, map, filter, ◌⊎◌, inl, inr, ⊎_elim, Option, Some, None, if◌then◌else◌, append-nil}
+use Rattle.std.proofs.Common.{◌≡◌, refl, sym, ap, ap₂, ◌∙◌, subst, List, [], ◌∷◌, map, filter, inl, ⊎_elim, Some, append-nil}
 use Rattle.protocol.specs.Language.{Lang, IsLawful, Name, same, written}
-use Rattle.protocol.specs.Desk.{Ask, Deed, Began, Stated, Worked, Answered, Phased, Committed, Aborted, Rolled_back, Idle}
-use Rattle.protocol.specs.World.{World, Event, run}
-use Rattle.protocol.specs.Serial.{is_committed, phases_of, committed, statements_of, answers_of, settled, Gives, Explained, AllExplained, whole_after, answers_in_turn, serial_whole, serial_answers, IsOpening, IsSerial, SerialLaw}
-use Rattle.protocol.proofs.Basics.{Every, every_append, In, by_test, if_true, if_false, either}
+use Rattle.protocol.specs.Desk.{Deed, Began, Stated, Worked, Answered, Phased, Committed, Aborted, Rolled_back, Idle}
+use Rattle.protocol.specs.World.{World, run}
+use Rattle.protocol.specs.Serial.{is_committed, phases_of, statements_of, answers_of, settled, Gives, Explained, AllExplained, whole_after, answers_in_turn, serial_whole, serial_answers, IsSerial, SerialLaw}
+use Rattle.protocol.proofs.Basics.{Every, every_append, by_test, if_true, if_false, either}
 use Rattle.protocol.proofs.Fits.{IsCommitted}
 use Rattle.protocol.proofs.Ops.{written_append}
 use Rattle.protocol.proofs.Works.{Work, work_in, works, own_of}
 use Rattle.protocol.proofs.Book.{Told}
 use Rattle.protocol.proofs.Line.{Line, RightFrom, after, every_here}
-use Rattle.protocol.proofs.Deep.{Counts, Deep}
+use Rattle.protocol.proofs.Deep.{Counts}
 use Rattle.protocol.proofs.DeepSites.{IsDeep}
 use Rattle.protocol.proofs.DeepEvents.{run_deep, opening_deep}
 
@@ -53,21 +53,22 @@ module _ {L : Lang} where
     serial_line past V last explained told counts [] whole c base line = (refl, λ g. line g ∙ base g)
     serial_line past V last explained told counts (t ∷ ts) whole c base line = ⊎_elim
         (λ done.
-          let its = told t done in
-          let statements : statements_of past t ≡ map (λ (x : Work L). x.statement) (works past t) = its.statements ∙ append-nil (map (λ (x : Work L). x.statement) (works past t)) in
-          let answers : answers_of past t ≡ map (λ (x : Work L). x.choice.0) (works past t) = sym (append-nil (answers_of past t)) ∙ its.answers in
-          let one = serial_works (works past t) whole c base (line.0 (counts t done)) (explained_works t past explained) in
-          let after_it = whole_after L (map (λ (x : Work L). x.statement) (works past t)) whole in
-          let rest = serial_line past V last explained told counts ts after_it (after (is_committed past t) (works past t) c)
-                (λ g. if_true (is_committed past t) (written L g (own_of (works past t)) (c g)) (c g) done ∙ one.1 g) line.1 in
-          subst (λ l. (map (answers_of past) l ≡ serial_answers L (map (statements_of past) l) whole) × ((g : L.Leaf) → last g ≡ L.content g (serial_whole L (map (statements_of past) l) whole)))
-            (sym (if_true (is_committed past t) (t ∷ filter (is_committed past) ts) (filter (is_committed past) ts) done))
-            (ap₂ (λ a l. a ∷ l) (answers ∙ one.0 ∙ ap (λ ss. answers_in_turn L ss whole) (sym statements)) (rest.0 ∙ ap (λ ss. serial_answers L (map (statements_of past) (filter (is_committed past) ts)) (whole_after L ss whole)) (sym statements)),
-              λ g. rest.1 g ∙ ap (λ ss. L.content g (serial_whole L (map (statements_of past) (filter (is_committed past) ts)) (whole_after L ss whole))) (sym statements)))
+        let its = told t done in
+        let statements : statements_of past t ≡ map (λ (x : Work L). x.statement) (works past t) = its.statements ∙ append-nil (map (λ (x : Work L). x.statement) (works past t)) in
+        let answers : answers_of past t ≡ map (λ (x : Work L). x.choice.0) (works past t) = sym (append-nil (answers_of past t)) ∙ its.answers in
+        let one = serial_works (works past t) whole c base (line.0 (counts t done)) (explained_works t past explained) in
+        let after_it = whole_after L (map (λ (x : Work L). x.statement) (works past t)) whole in
+        let rest = serial_line past V last explained told counts ts after_it (after (is_committed past t) (works past t) c)
+        (λ g. if_true (is_committed past t) (written L g (own_of (works past t)) (c g)) (c g) done ∙ one.1 g) line.1 in
+        subst (λ l. (map (answers_of past) l ≡ serial_answers L (map (statements_of past) l) whole) × ((g : L.Leaf) → last g ≡ L.content g (serial_whole L (map (statements_of past) l) whole)))
+        (sym (if_true (is_committed past t) (t ∷ filter (is_committed past) ts) (filter (is_committed past) ts) done)) (
+          ap₂ (λ a l. a ∷ l) (answers ∙ one.0 ∙ ap (λ ss. answers_in_turn L ss whole) (sym statements)) (rest.0 ∙ ap (λ ss. serial_answers L (map (statements_of past) (filter (is_committed past) ts)) (whole_after L ss whole)) (sym statements)),
+          λ g. rest.1 g ∙ ap (λ ss. L.content g (serial_whole L (map (statements_of past) (filter (is_committed past) ts)) (whole_after L ss whole))) (sym statements),
+        ))
         (λ not_.
-          let rest = serial_line past V last explained told counts ts whole (after (is_committed past t) (works past t) c) (λ g. if_false (is_committed past t) (written L g (own_of (works past t)) (c g)) (c g) not_ ∙ base g) line.1 in
-          subst (λ l. (map (answers_of past) l ≡ serial_answers L (map (statements_of past) l) whole) × ((g : L.Leaf) → last g ≡ L.content g (serial_whole L (map (statements_of past) l) whole)))
-            (sym (if_false (is_committed past t) (t ∷ filter (is_committed past) ts) (filter (is_committed past) ts) not_)) rest)
+        let rest = serial_line past V last explained told counts ts whole (after (is_committed past t) (works past t) c) (λ g. if_false (is_committed past t) (written L g (own_of (works past t)) (c g)) (c g) not_ ∙ base g) line.1 in
+        subst (λ l. (map (answers_of past) l ≡ serial_answers L (map (statements_of past) l) whole) × ((g : L.Leaf) → last g ≡ L.content g (serial_whole L (map (statements_of past) l) whole)))
+        (sym (if_false (is_committed past t) (t ∷ filter (is_committed past) ts) (filter (is_committed past) ts) not_)) rest)
         (by_test (is_committed past t))
 
     pub serial_of_deep : (whole : L.Whole) (w : World L) → IsDeep law whole w → AllExplained w.past → IsSerial whole w

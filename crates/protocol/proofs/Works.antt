@@ -1,10 +1,10 @@
 -- What past deeds say of one transaction: its evaluated statements, and that deeds of another don't matter.
-use Rattle.std.proofs.Common.{◌≡◌, refl, sym, ap, ◌∙◌, subst, Bool, true, false, List, [], ◌∷◌, ◌++◌, map, if◌then◌else◌, append-nil, flat_map}
+use Rattle.std.proofs.Common.{◌≡◌, refl, ap, ◌∙◌, false, List, [], ◌∷◌, ◌++◌, if◌then◌else◌, append-nil, flat_map}
 use Rattle.std.proofs.lemmas.Grind.{flat_map-append}
 use Rattle.protocol.specs.Language.{Lang, Name, same}
 use Rattle.protocol.specs.Desk.{Ask, Choice, Deed, Began, Stated, Worked, Answered, Phased, Committed, Aborted, Rolled_back}
-use Rattle.protocol.specs.Serial.{statement_in, statements_of, answer_in, answers_of, phased_of, phases_of, is_committed}
-use Rattle.protocol.proofs.Basics.{Every, every_more, if_true, if_false, same_refl}
+use Rattle.protocol.specs.Serial.{statement_in, statements_of, answer_in, answers_of}
+use Rattle.protocol.proofs.Basics.{Every, if_true, if_false, same_refl}
 
 -- a statement that was evaluated, what came for it, what it answered and wrote
 pub record Work (L : Lang) : Type 0 where
