@@ -1,5 +1,6 @@
 -- The whole invariant, and the events that change nothing of the line: those of sites.
 use Rattle.std.proofs.Common.{◌≡◌, refl, sym, ap, ◌∙◌, subst, Bool, true, false, List, [], ◌∷◌, ◌⊎◌, inl, inr, ⊎_elim}
+pub use Rattle.protocol.specs.Parts.{Counts}
 use Rattle.protocol.specs.Language.{Lang, IsLawful, Name, put}
 use Rattle.protocol.specs.Letter.{Read, Voted, Letter}
 use Rattle.protocol.specs.Site.{Status, Dead, Alive, Prepared, SiteState}
@@ -15,9 +16,6 @@ use Rattle.protocol.proofs.Viable.{ViableNow, Viable, Was}
 use Rattle.protocol.proofs.Settled.{changes_it, settled_same}
 
 module _ {L : Lang} where
-  abbrev pub Counts : (L.Site → Name → List (Op L)) → World L → Name → Type 0
-  Counts ops w t = IsCommitted w.past t ⊎ Viable ops w t
-
   pub record Deep (o : L.Site → Name → Name) (ops : L.Site → Name → List (Op L)) (whole : L.Whole) (w : World L) : Type 0 where
     pub base : Base o ops w
     pub line : Line (works w.past) (is_committed w.past) (Counts ops w) (settled w) (λ g. L.content g whole) (phases_of w.past)

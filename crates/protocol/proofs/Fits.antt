@@ -6,6 +6,7 @@ use Rattle.protocol.specs.Letter.{Yes, No, Read, Vote, Body, Open, Fetch, Write,
 use Rattle.protocol.specs.Site.{Prepared, SiteState, is_dead, is_alive, is_prepared}
 use Rattle.protocol.specs.Desk.{Voting, Stage, Undecided, Known, Row, Deed, Desk}
 use Rattle.protocol.specs.World.{World, is_site}
+pub use Rattle.protocol.specs.Parts.{is_voting}
 use Rattle.protocol.specs.Serial.{is_committed}
 use Rattle.protocol.proofs.Basics.{Every, In, in_left}
 
@@ -20,10 +21,6 @@ module _ {L : Lang} where
   -- while a transaction is undecided
   abbrev pub Und : Desk L → Name → (Undecided L → Type 0) → Type 0
   Und d t P = (u : Undecided L) → d.txn t ≡ Known u → P u
-
-  abbrev pub is_voting : Stage L → Bool
-  is_voting (Voting votes) = true
-  is_voting stage = false
 
   abbrev pub Own : L.Site → Name → Undecided L → Type 0
   Own a k u = u.ticket a ≡ Some k

@@ -2,6 +2,7 @@
 use Rattle.std.proofs.Common.{◌≡◌, refl, sym, ap, ◌∙◌, subst, Bool, true, false, List, [], ◌∷◌, ◌++◌, inl, inr, ⊎_elim, Some, if◌then◌else◌}
 use Rattle.std.specs.Prelude.{⊤}
 use Rattle.std.specs.List.{list_any}
+pub use Rattle.protocol.specs.Parts.{reads_from, RightFrom, after, Line, Apart, Two}
 use Rattle.protocol.specs.Language.{Lang, IsLawful, Name, written}
 use Rattle.protocol.specs.Desk.{Ask}
 use Rattle.protocol.proofs.Basics.{Every, In, every_append, every_in, any_in, by_test, clash, if_true, if_false, or_left, or_right}
@@ -14,15 +15,6 @@ every_here P Q [] to all = tt
 every_here P Q (x ∷ xs) to all = (to x (inl refl) all.0, every_here P Q xs (λ y here. to y (inr here)) all.1)
 
 module _ {L : Lang} where
-  -- whether some statement read the leaf
-  abbrev pub reads_from : L.Leaf → List (Work L) → Bool
-  reads_from g xs = list_any (λ x. list_any (λ q. L.same_leaf q.leaf g) x.asks) xs
-
-  -- each read is of these contents with the transaction's own earlier writes
-  abbrev pub RightFrom : (L.Leaf → L.Content) → List (Work L) → Type 0
-  RightFrom c [] = ⊤
-  RightFrom c (x ∷ xs) = Every (λ q. q.rows ≡ Some (L.parts q.query (c q.leaf))) x.asks × RightFrom (λ g. written L g x.choice.1 (c g)) xs
-
   pub right_same : IsLawful L → (c new : L.Leaf → L.Content) (xs : List (Work L)) → ((g : L.Leaf) → reads_from g xs ≡ true → new g ≡ c g) → RightFrom c xs → RightFrom new xs
   right_same law c new [] alike right = tt
   right_same law c new (x ∷ xs) alike right = (
@@ -30,15 +22,6 @@ module _ {L : Lang} where
         (λ q here is. is ∙ ap (λ d. Some (L.parts q.query d)) (sym (alike q.leaf (or_left (list_any (λ (p : Ask L). L.same_leaf p.leaf q.leaf) x.asks) (reads_from q.leaf xs) (any_in (λ p. L.same_leaf p.leaf q.leaf) q x.asks here ((law.leaves q.leaf q.leaf).1 refl)))))) right.0,
     right_same law (λ g. written L g x.choice.1 (c g)) (λ g. written L g x.choice.1 (new g)) xs (λ g reads. ap (written L g x.choice.1) (alike g (or_right (list_any (λ (p : Ask L). L.same_leaf p.leaf g) x.asks) (reads_from g xs) reads))) right.1,
   )
-
-  -- contents after a transaction, where it is committed
-  abbrev pub after : Bool → List (Work L) → (L.Leaf → L.Content) → L.Leaf → L.Content
-  after done xs c g = if done then written L g (own_of xs) (c g) else c g
-
-  -- W: works; C: committed; V: committed or viable; last: the settled contents
-  abbrev pub Line : (Name → List (Work L)) → (Name → Bool) → (Name → Type 0) → (L.Leaf → L.Content) → (L.Leaf → L.Content) → List Name → Type 0
-  Line W C V last c [] = (g : L.Leaf) → last g ≡ c g
-  Line W C V last c (t ∷ ts) = (V t → RightFrom c (W t)) × Line W C V last (after (C t) (W t) c) ts
 
   module _ (law : IsLawful L) (W : Name → List (Work L)) (C D : Name → Bool) (V U : Name → Type 0) (last new : L.Leaf → L.Content) where
     -- nothing of the line changes
@@ -78,14 +61,6 @@ module _ {L : Lang} where
     λ g. line g ∙ sym (not_ g (c g)),
   )
   line_end W C V last law (x ∷ ts) c t not_ right line = (line.0, line_end W C V last law ts (after (C x) (W x) c) t not_ right line.1)
-
-  -- what a viable transaction writes no later one reads that counts, and none writes that is committed
-  abbrev pub Apart : (Name → List (Work L)) → (Name → Bool) → (Name → Type 0) → (Name → Type 0) → Name → Name → Type 0
-  Apart W C V E t u = E t → (g : L.Leaf) → writes_to L g (own_of (W t)) ≡ true → (V u → reads_from g (W u) ≡ false) × (C u ≡ true → writes_to L g (own_of (W u)) ≡ false)
-
-  abbrev pub Two : (Name → List (Work L)) → (Name → Bool) → (Name → Type 0) → (Name → Type 0) → List Name → Type 0
-  Two W C V E [] = ⊤
-  Two W C V E (t ∷ ts) = Every (Apart W C V E t) ts × Two W C V E ts
 
   pub two_same : (W : Name → List (Work L)) (C D : Name → Bool) (V U E F : Name → Type 0) (ts : List Name) → ((t u : Name) → In t ts → In u ts → Apart W C V E t u → Apart W D U F t u) → Two W C V E ts → Two W D U F ts
   two_same W C D V U E F [] to two = tt

@@ -1,6 +1,7 @@
 -- Viable transactions: one that can no longer commit never can again.
 use Rattle.std.proofs.Common.{◌≡◌, refl, sym, ap, ◌∙◌, subst, ℕ, suc, Bool, true, false, List, [], ◌∷◌, ◌++◌, length, drop, ◌⊎◌, inl, inr, ⊎_elim}
 use Rattle.std.proofs.Math.Seq.{drop-append_seam}
+pub use Rattle.protocol.specs.Parts.{ViableNow, is_row, may_go_on, Viable}
 use Rattle.protocol.specs.Language.{Lang, IsLawful, Name, same, put}
 use Rattle.protocol.specs.Letter.{Read, Body, Voted, Letter}
 use Rattle.protocol.specs.Site.{Visit, Status, Dead, Alive, Prepared, SiteState, Act, has_exclusive, has_lock, sees, next_ticket, new_visit, site_after, said, restarted, site_restarted, on_give_up}
@@ -16,17 +17,6 @@ use Rattle.protocol.proofs.Data.{VisitAt, SiteData, NthOp, TellsBody, next_is, v
 use Rattle.protocol.proofs.Base.{Base}
 
 module _ {L : Lang} where
-  -- a ticket is prepared, or lives and no write still to come meets a foreign leaf
-  pub data ViableNow (ops : List (Op L)) (st : Status L) : Type 0 where
-    is_row : (t : Name) (i : L.Intentions) → st ≡ Prepared t i → ViableNow ops st
-    may_go_on : (v : Visit L) → st ≡ Alive v → ((g : L.Leaf) → writes_to L g (sets (drop v.done ops)) ≡ true → v.foreign g ≡ false) → ViableNow ops st
-
-  pub record Viable (ops : L.Site → Name → List (Op L)) (w : World L) (t : Name) : Type 0 where
-    pub u : Undecided L
-    pub known : w.desk.txn t ≡ Known u
-    pub voting : is_voting u.stage ≡ true
-    pub each : (a : L.Site) (k : Name) → Own a k u → ViableNow (ops a k) ((w.sites a).status k) ⊎ In (record { site = a; txn = t; body = Voted k Read }) w.letters
-
   pub rest_is : (ops : List (Op L)) (v : Visit L) (at : VisitAt ops v) → drop v.done ops ≡ at.rest
   rest_is ops v at = ap (λ n. drop n ops) at.done ∙ ap (drop (length at.past)) at.split ∙ drop-append_seam at.past at.rest
 
