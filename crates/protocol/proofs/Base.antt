@@ -2,6 +2,7 @@
 use Rattle.std.proofs.Common.{◌≡◌, refl, sym, ap, ◌∙◌, subst, suc, ◌≤◌, true, false, List, [], ◌∷◌, ◌++◌, length, ◌⊎◌, inl, inr, ⊎_elim, append_assoc, append-nil}
 use Rattle.std.proofs.Math.Decide.{dec_le, ℕ_discrete}
 use Rattle.std.proofs.lemmas.Grind.{flat_map-append}
+use Rattle.protocol.specs.Parts.{op_of, operations}
 use Rattle.protocol.specs.Language.{Lang, IsLawful, Name, same, put}
 use Rattle.protocol.specs.Letter.{Yes, No, Read, Body, Open, Fetch, Write, Prepare, Commit, Abort, Ticket, Rows, Refused, Voted, Ack, Inquire, Letter}
 use Rattle.protocol.specs.Site.{SiteState}
@@ -19,7 +20,7 @@ use Rattle.protocol.proofs.Data.{VisitAt, SiteData, TellsBody, ReadsStay, body_t
 use Rattle.protocol.proofs.Works.{txn_of, SameView, view_other}
 use Rattle.protocol.proofs.Book.{AskAt, AskCame, Told, BookAt, nth_more, ask_more, came_more, reads_more, asks_of}
 use Rattle.protocol.proofs.Booking.{book_same}
-use Rattle.protocol.proofs.Booked.{Tells, Booked, PhaseTurn, goes_on, starts, told_view}
+use Rattle.protocol.proofs.Booked.{Tells, NoOps, none_put, Booked, PhaseTurn, goes_on, starts, told_view}
 use Rattle.protocol.proofs.Sending.{ext_same}
 
 module _ {L : Lang} where
@@ -28,6 +29,7 @@ module _ {L : Lang} where
     pub locked : (a : L.Site) → Locked (w.sites a)
     pub data_at : (a : L.Site) → SiteData (ops a) (w.sites a)
     pub tells : Every (λ l. TellsBody (ops l.site) (w.sites l.site) l.body) w.letters
+    pub is_sent : (a : L.Site) (k : Name) → ops a k ≡ operations w.letters a k
     pub book : (t : Name) (u : Undecided L) → w.desk.txn t ≡ Known u → BookAt o ops w.sites w.letters w.past t u
     pub told : (t : Name) → IsCommitted w.past t → Told w.past t Idle
     pub unborn : (t : Name) → (Born w.desk t → ⊥) → SameView [] w.past t
@@ -60,7 +62,7 @@ module _ {L : Lang} where
       told = book.told;
     }
 
-    pub base_site : Base o ops w → Fit p (with_site w a new letters) → Alike o p w → Locked new → Steps (ops a) (w.sites a) new → Every (λ l. (l.site ≡ a) × TellsBody (ops a) new l.body) letters → Base p ops (with_site w a new letters)
+    pub base_site : Base o ops w → Fit p (with_site w a new letters) → Alike o p w → Locked new → Steps (ops a) (w.sites a) new → Every (λ l. (l.site ≡ a) × TellsBody (ops a) new l.body × NoOps l) letters → Base p ops (with_site w a new letters)
     base_site base fit alike locked steps says =
         let sites = put L.same_site a new w.sites in
         let stay : (b : L.Site) → ReadsStay (ops b) (w.sites b) (sites b) = put_all L.same_site law.sites a new w.sites (λ b s. ReadsStay (ops b) (w.sites b) s) steps.stay (λ b other k v e. inr (v, e, λ g is. (is, refl))) in
@@ -71,8 +73,10 @@ module _ {L : Lang} where
           data_at = put_all L.same_site law.sites a new w.sites (λ b s. SiteData (ops b) s) steps.data_after (λ b other. base.data_at b);
           tells = every_append (λ l. TellsBody (ops l.site) (sites l.site) l.body) w.letters letters
               (every_more (λ l. TellsBody (ops l.site) (w.sites l.site) l.body) (λ l. TellsBody (ops l.site) (sites l.site) l.body) w.letters (λ l is. body_tells (ops l.site) (w.sites l.site) (sites l.site) l.body (stay l.site) is) base.tells)
-              (every_more (λ l. (l.site ≡ a) × TellsBody (ops a) new l.body) (λ l. TellsBody (ops l.site) (sites l.site) l.body) letters
+              (every_more (λ l. (l.site ≡ a) × TellsBody (ops a) new l.body × NoOps l) (λ l. TellsBody (ops l.site) (sites l.site) l.body) letters
               (λ l is. subst (λ b. TellsBody (ops b) (sites b) l.body) (sym is.0) (subst (λ s. TellsBody (ops a) s l.body) (sym (put_here L.same_site law.sites a new w.sites)) is.1)) says);
+          is_sent = λ b k. base.is_sent b k ∙ sym (flat_map-append (λ (l : Letter L). op_of b k l.site l.body) w.letters letters
+            ∙ ap (λ x. operations w.letters b k ++ x) (none_put letters (every_more (λ l. (l.site ≡ a) × TellsBody (ops a) new l.body × NoOps l) NoOps letters (λ l is. is.2) says) b k) ∙ append-nil (operations w.letters b k));
           book = λ t u e. book_site (λ b k d. ⊎_elim (λ was. inl (alike b k was)) (λ not_. inr (fresh b k not_)) (drawn_or_not (w.sites b) k)) (λ b k d. ⊎_elim (λ was. inl was) (λ not_. inr (fresh b k not_)) (drawn_or_not (w.sites b) k)) t u (base.book t u e);
           told = base.told;
           unborn = base.unborn;
@@ -187,6 +191,7 @@ module _ {L : Lang} where
             fresh = λ k not_. let x = booked.ext a k in x.1 ∙ ⊎_elim (λ e. ap (λ l. ops a k ++ l) e ∙ append-nil (ops a k)) (λ grown. absurd (not_ (booked.open_ a k grown).0)) x.2 ∙ at.fresh k not_;
           };
           tells = every_append (λ l. TellsBody (booked.new l.site) (w.sites l.site) l.body) w.letters turn.letters (both_more w.letters base.fit.letters base.tells) (every_more (Tells booked.new w.sites) (λ l. TellsBody (booked.new l.site) (w.sites l.site) l.body) turn.letters (λ l is. is.0) booked.tells);
+          is_sent = λ a k. booked.put_out a k ∙ ap (λ l. l ++ operations turn.letters a k) (base.is_sent a k) ∙ sym (flat_map-append (λ (l : Letter L). op_of a k l.site l.body) w.letters turn.letters);
           book = book_turn;
           told = told_turn;
           unborn = unborn_turn;

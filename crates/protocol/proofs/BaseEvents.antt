@@ -1,6 +1,7 @@
 -- A new transaction, a restart of the coordinator, inquiries and the opening: facts of a world but its line.
 use Rattle.std.proofs.Common.{◌≡◌, refl, sym, ap, ap₂, ◌∙◌, subst, true, false, List, [], ◌∷◌, ◌++◌, map, None, append-nil, flat_map}
 use Rattle.std.proofs.lemmas.Grind.{flat_map-append}
+use Rattle.protocol.specs.Parts.{op_of, operations}
 use Rattle.protocol.specs.Language.{Lang, IsLawful, Name, same}
 use Rattle.protocol.specs.Letter.{Letter}
 use Rattle.protocol.specs.Site.{Status, Dead, Alive, Prepared, is_dead, has_exclusive, inquiries, inquiry_of}
@@ -17,7 +18,7 @@ use Rattle.protocol.proofs.Data.{TellsBody}
 use Rattle.protocol.proofs.Works.{Work, work_in, own_of, SameView, view_plain}
 use Rattle.protocol.proofs.Book.{AskCame, ReadsFrom, BookAt}
 use Rattle.protocol.proofs.Booking.{book_same}
-use Rattle.protocol.proofs.Booked.{told_view}
+use Rattle.protocol.proofs.Booked.{NoOps, none_put, told_view}
 use Rattle.protocol.proofs.Sending.{ext_same}
 use Rattle.protocol.proofs.Base.{Base}
 
@@ -38,6 +39,8 @@ module _ {L : Lang} (o : L.Site → Name → Name) (ops : L.Site → Name → Li
     data_at = base.data_at;
     tells = every_append (λ l. TellsBody (ops l.site) (w.sites l.site) l.body) w.letters (inquiries a (w.sites a)) base.tells
         (every_flat (λ l. TellsBody (ops l.site) (w.sites l.site) l.body) (λ k. inquiry_of a k ((w.sites a).status k)) (w.sites a).known (λ k. one k ((w.sites a).status k)));
+    is_sent = λ b k. base.is_sent b k ∙ sym (flat_map-append (λ (l : Letter L). op_of b k l.site l.body) w.letters (inquiries a (w.sites a))
+      ∙ ap (λ x. operations w.letters b k ++ x) (none_put (inquiries a (w.sites a)) (every_flat NoOps (λ k. inquiry_of a k ((w.sites a).status k)) (w.sites a).known (λ k. plain k ((w.sites a).status k))) b k) ∙ append-nil (operations w.letters b k));
     book = λ t u e. books_more (inquiries a (w.sites a)) w.past t u e (same_view w.past t);
     told = base.told;
     unborn = base.unborn;
@@ -47,6 +50,10 @@ module _ {L : Lang} (o : L.Site → Name → Name) (ops : L.Site → Name → Li
     once = base.once;
   }
     where
+      plain : (k : Name) (st : Status L) → Every NoOps (inquiry_of a k st)
+      plain k Dead = tt
+      plain k (Alive v) = tt
+      plain k (Prepared t i) = ((λ b j. refl), tt)
       one : (k : Name) (st : Status L) → Every (λ l. TellsBody (ops l.site) (w.sites l.site) l.body) (inquiry_of a k st)
       one k Dead = tt
       one k (Alive v) = tt
@@ -82,7 +89,7 @@ module _ {L : Lang} (o : L.Site → Name → Name) (ops : L.Site → Name → Li
         fit = begun_fit o w base.fit;
         locked = base.locked;
         data_at = base.data_at;
-        tells = base.tells;
+        tells = base.tells; is_sent = base.is_sent;
         book = put_all same same_law new (Known fresh) w.desk.txn (λ j x. (u : Undecided L) → x ≡ Known u → BookAt o ops w.sites w.letters later j u)
             (λ u e. subst (BookAt o ops w.sites w.letters later new) (fresh_is u e) (fresh_book (unborn new (not_born w.desk))))
             (λ j other u e. subst (λ l. BookAt o ops w.sites l later j u) (append-nil w.letters) (books_more [] later j u e (began_view j)));
@@ -141,6 +148,8 @@ module _ {L : Lang} (o : L.Site → Name → Name) (ops : L.Site → Name → Li
     data_at = base.data_at;
     tells = every_append (λ l. TellsBody (ops l.site) (w.sites l.site) l.body) w.letters (flat_map (λ t. (txn_restarted t (w.desk.txn t)).letters) w.desk.known) base.tells
         (every_flat (λ l. TellsBody (ops l.site) (w.sites l.site) l.body) (λ t. (txn_restarted t (w.desk.txn t)).letters) w.desk.known (λ t. one t (w.desk.txn t)));
+    is_sent = λ b k. base.is_sent b k ∙ sym (flat_map-append (λ (l : Letter L). op_of b k l.site l.body) w.letters (flat_map (λ t. (txn_restarted t (w.desk.txn t)).letters) w.desk.known)
+      ∙ ap (λ x. operations w.letters b k ++ x) (none_put (flat_map (λ t. (txn_restarted t (w.desk.txn t)).letters) w.desk.known) (every_flat NoOps (λ t. (txn_restarted t (w.desk.txn t)).letters) w.desk.known (λ t. plain t (w.desk.txn t))) b k) ∙ append-nil (operations w.letters b k));
     book = λ t u e. absurd (none_known o w base.fit t (w.desk.txn t) u e);
     told = λ t done. told_view w.past (desk_lives w).past t (restart_view t) (base.told t (lives_before o w base.fit t done));
     unborn = λ t not_. let was = base.unborn t (λ born. not_ (born_restarted w.desk t born)) in let more = restart_view t in
@@ -155,6 +164,13 @@ module _ {L : Lang} (o : L.Site → Name → Name) (ops : L.Site → Name → Li
       commits_tell t [] = tt
       commits_tell t (v ∷ vs) = (tt, commits_tell t vs)
 
+      commits_plain : (t : Name) (vs : List (L.Site × Name)) → Every (NoOps {L = L}) (commits {L = L} t vs)
+      commits_plain t [] = tt
+      commits_plain t (v ∷ vs) = ((λ b j. refl), commits_plain t vs)
+      plain : (t : Name) (x : Txn L) → Every (NoOps {L = L}) (txn_restarted t x).letters
+      plain t Unknown = tt
+      plain t (Known u) = tt
+      plain t (Row vs acked) = commits_plain t vs
       one : (t : Name) (x : Txn L) → Every (λ l. TellsBody (ops l.site) (w.sites l.site) l.body) (txn_restarted t x).letters
       one t Unknown = tt
       one t (Known u) = tt
@@ -178,6 +194,7 @@ module _ {L : Lang} (law : IsLawful L) where
       fresh = λ k not_. refl;
     };
     tells = subst (Every (λ l. TellsBody (λ k. []) (w.sites l.site) l.body)) (sym opening.letters) tt;
+    is_sent = λ a k. ap (λ l. operations l a k) (sym opening.letters);
     book = λ t u e. absurd (let f : Unknown ≡ Known u = sym (opening.undecided t) ∙ e in cc);
     told = λ t done. absurd (let f : false ≡ true = ap (λ p. is_committed p t) (sym opening.past) ∙ done in cc);
     unborn = λ t not_. subst (λ p. SameView [] p t) (sym opening.past) (record { works_same = refl; statements_same = refl; answers_same = refl });

@@ -1,6 +1,7 @@
 -- What visits have done of the operations sent to them, and what their rows say: facts of one site.
 use Rattle.std.proofs.Common.{◌≡◌, refl, sym, ap, ◌∙◌, subst, ℕ, suc, true, false, List, [], ◌∷◌, ◌++◌, length, ◌⊎◌, inl, inr, ⊎_elim, arith, append_assoc, append-nil}
 use Rattle.std.specs.Prelude.{⊤}
+use Rattle.protocol.specs.Parts.{op_of}
 use Rattle.protocol.specs.Language.{Lang, IsLawful, Name, same, put, written}
 use Rattle.protocol.specs.Letter.{Yes, No, Read, Vote, Body, Open, Fetch, Write, Prepare, Commit, Abort, Ticket, Rows, Refused, Voted, Ack, Inquire}
 use Rattle.protocol.specs.Site.{Visit, Status, Dead, Alive, Prepared, SiteState, Act, has_exclusive, has_lock, sees, next_ticket, new_visit, site_after, said, restarted, site_restarted, on_give_up}
@@ -249,6 +250,24 @@ module _ {L : Lang} where
     acted_says ops s t b act now tells (applies k u i e) = (tt, tt)
     acted_says ops s t b act now tells (ends c k v e) = tt
     acted_says ops s t b act now tells (discards k u i e) = tt
+
+    -- no answer of a site is an operation
+    pub acted_plain : (s : SiteState L) (t : Name) (b : Body L) (act : Act L) → Acted s t b act → Every (λ x. (a c : L.Site) (j : Name) → op_of a j c x ≡ []) (said s act)
+    acted_plain s t b act (says_nothing c) = tt
+    acted_plain s t b act (says_gone k op g q) = ((λ a c j. refl), tt)
+    acted_plain s t b act (says_no k n) = ((λ a c j. refl), tt)
+    acted_plain s t b act (says_yes k n u i e) = ((λ a c j. refl), tt)
+    acted_plain s t b act (says_ack k e) = ((λ a c j. refl), tt)
+    acted_plain s t b act opens = ((λ a c j. refl), tt)
+    acted_plain s t b act (reads k op g q v e next free) = ((λ a c j. refl), tt)
+    acted_plain s t b act (writes k op g x v e next free) = tt
+    acted_plain s t b act (prepares k n v e done) = ((λ a c j. refl), tt)
+    acted_plain s t b act (only_read k n v e done empty) = ((λ a c j. refl), tt)
+    acted_plain s t b act (votes_no k n v e) = ((λ a c j. refl), tt)
+    acted_plain s t b act (refuses c k v reason e) = ((λ a c j. refl), tt)
+    acted_plain s t b act (applies k u i e) = ((λ a c j. refl), tt)
+    acted_plain s t b act (ends c k v e) = tt
+    acted_plain s t b act (discards k u i e) = tt
 
     pub restarted_steps : (ops : Name → List (Op L)) (s : SiteState L) → SiteData ops s → Steps ops s (site_restarted s)
     restarted_steps ops s now = record {

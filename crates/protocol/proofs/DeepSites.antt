@@ -1,5 +1,7 @@
 -- Each event of a site keeps the whole invariant.
 use Rattle.std.proofs.Common.{◌≡◌, refl, sym, ap, ◌∙◌, subst, Bool, List, [], ◌∷◌, ⊎_elim}
+use Rattle.protocol.specs.Parts.{op_of}
+use Rattle.protocol.proofs.Booked.{NoOps}
 use Rattle.protocol.specs.Language.{Lang, IsLawful, Name, same, put}
 use Rattle.protocol.specs.Letter.{Read, Body, Open, Commit, Voted}
 use Rattle.protocol.specs.Site.{Status, Dead, Alive, Prepared, SiteState, Act, Opens, Applies, Ends, is_dead, is_prepared, sees, next_ticket, new_visit, on_letter, site_after, said, restarted, site_restarted, on_give_up, is_within}
@@ -12,7 +14,7 @@ use Rattle.protocol.proofs.SiteFits.{same_later, site_moves}
 use Rattle.protocol.proofs.SiteEvents.{not_open, restart_later, owned, open_fit, addressed_fit, alike_where_new}
 use Rattle.protocol.proofs.Locks.{acted_locked, restarted_locked, gives_up_locked}
 use Rattle.protocol.proofs.Ops.{Op}
-use Rattle.protocol.proofs.Data.{TellsBody, acted_steps, acted_says, restarted_steps, give_up_steps}
+use Rattle.protocol.proofs.Data.{TellsBody, acted_steps, acted_says, acted_plain, restarted_steps, give_up_steps}
 use Rattle.protocol.proofs.Base.{Base, base_site}
 use Rattle.protocol.proofs.Viable.{acted_was, read_was, restarted_was, give_up_was, in_addressed}
 use Rattle.protocol.proofs.Settled.{changes_it, settled_same, settled_applied}
@@ -48,9 +50,9 @@ module _ {L : Lang} (law : IsLawful L) (whole : L.Whole) where
     row_stays t b act fits (discards k u x e) other j n i done row = put_all same same_law k Dead (w.sites a).status (λ j y. (w.sites a).status j ≡ Prepared n i → y ≡ Prepared n i)
         (λ r. let is : n ≡ t = sym (deep.base.fit.prepared a k n i r).owner ∙ fits.1 in clash (ap is_prepared r) (fits.3 (subst (IsCommitted w.past) is done))) (λ j apart r. r) j row
 
-    addressed_tells : (t : Name) (new : SiteState L) (bodies : List (Body L)) → Every (TellsBody (ops a) new) bodies → Every (λ l. (l.site ≡ a) × TellsBody (ops a) new l.body) (addressed a t bodies)
-    addressed_tells t new [] all = tt
-    addressed_tells t new (x ∷ xs) all = ((refl, all.0), addressed_tells t new xs all.1)
+    addressed_tells : (t : Name) (new : SiteState L) (bodies : List (Body L)) → Every (TellsBody (ops a) new) bodies → Every (λ x. (b c : L.Site) (j : Name) → op_of b j c x ≡ []) bodies → Every (λ l. (l.site ≡ a) × TellsBody (ops a) new l.body × NoOps l) (addressed a t bodies)
+    addressed_tells t new [] all plain = tt
+    addressed_tells t new (x ∷ xs) all plain = ((refl, all.0, λ b j. plain.0 b a j), addressed_tells t new xs all.1 plain.1)
 
     pub letter_base : (t : Name) (b : Body L) (act : Act L) → Born w.desk t → FitsBody o w.desk w.past a (w.sites a) t b → TellsBody (ops a) (w.sites a) b → Acted (w.sites a) t b act → ((b ≡ Open) → ⊥) → Base o ops (with_site w a (site_after (w.sites a) act) (addressed a t (said (w.sites a) act)))
     letter_base t b act born fits tells row no_open =
@@ -60,7 +62,7 @@ module _ {L : Lang} (law : IsLawful L) (whole : L.Whole) where
         base_site law o o ops w a new letters deep.base
         (site_moves law o w a new letters deep.base.fit (letter_later o w a deep.base.fit t b act born fits row no_open) (addressed_fit law o w a new t (said s act) born (letter_said o w a deep.base.fit t b act fits row no_open)))
         (λ c j h. refl) (acted_locked law s t b act (deep.base.fit.live a) (deep.base.locked a) row) (acted_steps law (ops a) s t b act (deep.base.data_at a) (deep.base.locked a) tells row)
-        (addressed_tells t new (said s act) (acted_says law (ops a) s t b act (deep.base.data_at a) tells row))
+        (addressed_tells t new (said s act) (acted_says law (ops a) s t b act (deep.base.data_at a) tells row) (acted_plain law s t b act row))
 
     -- a letter but Open
     letter_deep : (t : Name) (b : Body L) (act : Act L) → Born w.desk t → FitsBody o w.desk w.past a (w.sites a) t b → TellsBody (ops a) (w.sites a) b → Acted (w.sites a) t b act → ((b ≡ Open) → ⊥) → ((k u : Name) (i : L.Intentions) → act ≡ Applies k i → ⊥) →
@@ -110,7 +112,7 @@ module _ {L : Lang} (law : IsLawful L) (whole : L.Whole) where
         let row : Acted s t Open Opens = opens in
         let base = base_site law o p ops w a new letters deep.base (open_fit law o w a t deep.base.fit born fits) (alike_where_new law o w a (next_ticket s) t (not_drawn s))
         (acted_locked law s t Open Opens (deep.base.fit.live a) (deep.base.locked a) row) (acted_steps law (ops a) s t Open Opens (deep.base.data_at a) (deep.base.locked a) tt row)
-        (addressed_tells t new (said s Opens) (acted_says law (ops a) s t Open Opens (deep.base.data_at a) tt row)) in
+        (addressed_tells t new (said s Opens) (acted_says law (ops a) s t Open Opens (deep.base.data_at a) tt row) (acted_plain law s t Open Opens row)) in
         deep_site law o p ops whole w a new letters deep base (acted_was law (ops a) s t Open Opens (deep.base.data_at a) tt row)
         (λ c k n here. let r = in_addressed a c t n (Voted k Read) (said s Opens) here in (r.0, read_was law (ops a) s t Open Opens tt row k r.1))
         (site_settled law o p ops whole w a new letters deep.base base (λ g. refl) (λ k n i done e. row_stays t Open Opens fits row (λ k u i f. cc) k n i done e)

@@ -1,10 +1,11 @@
 -- Fetches and writes go out in order: the book stays right.
-use Rattle.std.proofs.Common.{◌≡◌, refl, sym, ap, ap₂, ◌∙◌, subst, ℕ, suc, false, List, [], ◌∷◌, ◌++◌, length, ◌⊎◌, inl, inr, ⊎_elim, Option, Some, None, append_assoc, append-nil, arith}
+use Rattle.std.proofs.Common.{◌&&◌, ◌≡◌, refl, sym, ap, ap₂, ◌∙◌, subst, ℕ, suc, false, List, [], ◌∷◌, ◌++◌, length, ◌⊎◌, inl, inr, ⊎_elim, Option, Some, None, append_assoc, append-nil, arith}
+use Rattle.protocol.specs.Parts.{op_if, operations}
 use Rattle.protocol.specs.Language.{Lang, IsLawful, Name, same, put}
 use Rattle.protocol.specs.Letter.{Letter, is_for_desk}
 use Rattle.protocol.specs.Site.{SiteState}
 use Rattle.protocol.specs.Desk.{Ask, Out, ask_out, asks_out, write_out, writes_out}
-use Rattle.protocol.proofs.Basics.{Every, every_more, put_all, put_here, same_law, by_test, clash, if_true, if_false, some_is}
+use Rattle.protocol.proofs.Basics.{Every, every_more, put_all, put_here, same_law, by_test, clash, both_true, left_true, right_true, if_true, if_false, some_is}
 use Rattle.protocol.proofs.Ops.{Op, Get, Set, sets, sets_append, on, on_append, length_of}
 use Rattle.protocol.proofs.Data.{NthOp, TellsBody}
 use Rattle.protocol.proofs.Book.{Ext, sets_at, AskAt, nth_more, ask_more}
@@ -44,6 +45,12 @@ module _ {L : Lang} where
         (put_all same same_law k (ops a k ++ op ∷ []) (ops a) (λ j x. Q a j x) here (λ j other. there a j (λ e f. clash ((same_law j k).1 f) other)) j)
         (λ b other. there b j (λ e f. clash ((law.sites b a).1 e) other)) b
 
+    -- the operation that was put, as a letter shows it
+    put_op_is : (a : L.Site) (k : Name) (op : Op L) (ops : L.Site → Name → List (Op L)) (b : L.Site) (j : Name) → put_op a k op ops b j ≡ ops b j ++ op_if (L.same_site b a && same j k) op
+    put_op_is a k op ops = put_op_all a k op ops (λ b j x. x ≡ ops b j ++ op_if (L.same_site b a && same j k) op)
+        (ap (λ x. ops a k ++ op_if x op) (sym (both_true (L.same_site a a) (same k k) ((law.sites a a).1 refl) ((same_law k k).1 refl))))
+        (λ b j other. sym (append-nil (ops b j)) ∙ ap (λ x. ops b j ++ op_if x op) (sym (⊎_elim (λ is. absurd (other ((law.sites b a).0 (left_true (L.same_site b a) (same j k) is)) ((same_law j k).0 (right_true (L.same_site b a) (same j k) is)))) (λ none. none) (by_test (L.same_site b a && same j k)))))
+
     put_op_ext : (a : L.Site) (k : Name) (op : Op L) (ticket : L.Site → Option Name) (ops : L.Site → Name → List (Op L)) → ticket a ≡ Some k → Ext ticket ops (put_op a k op ops)
     put_op_ext a k op ticket ops own = put_op_all a k op ops (λ b j x. (more : List (Op L)) × (x ≡ ops b j ++ more) × ((more ≡ []) ⊎ (ticket b ≡ Some j))) (op ∷ [], refl, inr own) (λ b j other. ([], sym (append-nil (ops b j)), inl refl))
 
@@ -66,6 +73,7 @@ module _ {L : Lang} where
         pub counted : Counted ticket out.sent new
         pub unsent : (a : L.Site) → ticket a ≡ None → out.sent a ≡ sent a
         pub ext : Ext ticket ops new
+        pub put_out : (a : L.Site) (k : Name) → new a k ≡ ops a k ++ operations out.letters a k
         pub sets_same : (a : L.Site) (k : Name) → sets (new a k) ≡ sets (ops a k)
         pub tells : Every (TellsOps new) out.letters
         pub asks : Every (AskAt t ticket new letters own) out.left
@@ -79,11 +87,11 @@ module _ {L : Lang} where
 
       pub asks_sent : (letters : List (Letter L)) (own : List (L.Leaf × L.Write)) (qs : List (Ask L)) (sent : L.Site → ℕ) (ops : L.Site → Name → List (Op L)) → Counted ticket sent ops →
           ((g : L.Leaf) → on L g (sets_at ops (L.home g) (ticket (L.home g))) ≡ on L g own) → Every (AskAt t ticket ops letters own) qs → AsksSent letters own ops sent (asks_out t ticket qs sent)
-      asks_sent letters own [] sent ops counted did all = record { new = ops; counted = counted; unsent = λ a e. refl; ext = ext_same ticket ops; sets_same = λ a k. refl; tells = tt; asks = tt }
+      asks_sent letters own [] sent ops counted did all = record { new = ops; counted = counted; unsent = λ a e. refl; ext = ext_same ticket ops; put_out = λ a k. sym (append-nil (ops a k)); sets_same = λ a k. refl; tells = tt; asks = tt }
       asks_sent letters own (q ∷ qs) sent ops counted did all = go q.number refl (ticket (L.home q.leaf)) refl (λ sent_ ops_ c d e. asks_sent letters own qs sent_ ops_ c d e)
         where
           waits : AsksSent letters own ops sent (asks_out t ticket qs sent) → AsksSent letters own ops sent (record { left = q ∷ (asks_out t ticket qs sent).left; sent = (asks_out t ticket qs sent).sent; letters = (asks_out t ticket qs sent).letters })
-          waits r = record { new = r.new; counted = r.counted; unsent = r.unsent; ext = r.ext; sets_same = r.sets_same; tells = r.tells; asks = (plain_more letters own ops r.new r.ext q all.0, r.asks) }
+          waits r = record { new = r.new; counted = r.counted; unsent = r.unsent; ext = r.ext; put_out = r.put_out; sets_same = r.sets_same; tells = r.tells; asks = (plain_more letters own ops r.new r.ext q all.0, r.asks) }
 
           go : (m : Option ℕ) → q.number ≡ m → (k : Option Name) → ticket (L.home q.leaf) ≡ k →
               ((sent : L.Site → ℕ) (ops : L.Site → Name → List (Op L)) → Counted ticket sent ops → ((g : L.Leaf) → on L g (sets_at ops (L.home g) (ticket (L.home g))) ≡ on L g own) → Every (AskAt t ticket ops letters own) qs → AsksSent letters own ops sent (asks_out t ticket qs sent)) →
@@ -108,6 +116,7 @@ module _ {L : Lang} where
                 unsent = λ b none. r.unsent b none ∙ put_unsent a k (suc (sent a)) ticket sent f b none;
                 ext = ext_join ticket ops mid r.new ext r.ext;
                 sets_same = λ b j. r.sets_same b j ∙ alike b j;
+                put_out = λ b j. r.put_out b j ∙ ap (λ l. l ++ operations (asks_out t ticket qs (put L.same_site a (suc (sent a)) sent)).letters b j) (put_op_is a k op ops b j) ∙ append_assoc (ops b j) (op_if (L.same_site b a && same j k) op) (operations (asks_out t ticket qs (put L.same_site a (suc (sent a)) sent)).letters b j);
                 tells = ((λ s. last, refl), r.tells);
                 asks = (
                   record {
@@ -124,6 +133,7 @@ module _ {L : Lang} where
         pub counted : Counted ticket out.sent new
         pub unsent : (a : L.Site) → ticket a ≡ None → out.sent a ≡ sent a
         pub ext : Ext ticket ops new
+        pub put_out : (a : L.Site) (k : Name) → new a k ≡ ops a k ++ operations out.letters a k
         pub tells : Every (TellsOps new) out.letters
         pub did : (g : L.Leaf) → on L g (sets_at new (L.home g) (ticket (L.home g))) ++ on L g out.left ≡ on L g (sets_at ops (L.home g) (ticket (L.home g))) ++ on L g ws
 
@@ -143,7 +153,7 @@ module _ {L : Lang} where
               (L.home h) j e refl
 
       pub writes_sent : (ws : List (L.Leaf × L.Write)) (sent : L.Site → ℕ) (ops : L.Site → Name → List (Op L)) → Counted ticket sent ops → WritesSent ops sent ws (writes_out {L = L} t ticket ws sent)
-      writes_sent [] sent ops counted = record { new = ops; counted = counted; unsent = λ a e. refl; ext = ext_same ticket ops; tells = tt; did = λ g. refl }
+      writes_sent [] sent ops counted = record { new = ops; counted = counted; unsent = λ a e. refl; ext = ext_same ticket ops; put_out = λ a k. sym (append-nil (ops a k)); tells = tt; did = λ g. refl }
       writes_sent (w ∷ ws) sent ops counted = go (ticket (L.home w.0)) refl (λ sent_ ops_ c. writes_sent ws sent_ ops_ c)
         where
           go : (k : Option Name) → ticket (L.home w.0) ≡ k → ((sent : L.Site → ℕ) (ops : L.Site → Name → List (Op L)) → Counted ticket sent ops → WritesSent ops sent ws (writes_out {L = L} t ticket ws sent)) →
@@ -155,6 +165,7 @@ module _ {L : Lang} where
                 counted = r.counted;
                 unsent = r.unsent;
                 ext = r.ext;
+                put_out = r.put_out;
                 tells = r.tells;
                 did = λ h. ⊎_elim
                     (λ is. let none = ap (λ g. ticket (L.home g)) (sym ((law.leaves w.0 h).0 is)) ∙ f in
@@ -184,6 +195,7 @@ module _ {L : Lang} where
                 counted = r.counted;
                 unsent = λ b none. r.unsent b none ∙ put_unsent a k (suc (sent a)) ticket sent f b none;
                 ext = ext_join ticket ops mid r.new ext r.ext;
+                put_out = λ b j. r.put_out b j ∙ ap (λ l. l ++ operations (writes_out {L = L} t ticket ws (put L.same_site a (suc (sent a)) sent)).letters b j) (put_op_is a k op ops b j) ∙ append_assoc (ops b j) (op_if (L.same_site b a && same j k) op) (operations (writes_out {L = L} t ticket ws (put L.same_site a (suc (sent a)) sent)).letters b j);
                 tells = ((λ s. last, refl), r.tells);
                 did = λ h. r.did h ∙ ap (λ l. l ++ on L h ws) (put_set w.0 w.1 k ops f h) ∙ append_assoc (on L h (sets_at ops (L.home h) (ticket (L.home h)))) (on L h ((w.0, w.1) ∷ [])) (on L h ws)
                     ∙ ap (λ l. on L h (sets_at ops (L.home h) (ticket (L.home h))) ++ l) (sym (on_append L h ((w.0, w.1) ∷ []) ws));
