@@ -56,7 +56,7 @@ module _ {L : Lang} where
 
   module _ (law : IsLawful L) (o p : L.Site → Name → Name) (ops : L.Site → Name → List (Op L)) (whole : L.Whole) (w : World L) (a : L.Site) (new : SiteState L) (letters : List (Letter L)) where
     -- what is viable after a site's step was so before
-    viable_site : Base o ops w → Was (ops a) (w.sites a) new → ((b : L.Site) (k t : Name) → In (record { site = b; txn = t; body = Voted k Read }) letters → (b ≡ a) × ViableNow (ops a k) ((w.sites a).status k)) → (t : Name) → Viable ops (with_site w a new letters) t → Viable ops w t
+    pub viable_site : Base o ops w → Was (ops a) (w.sites a) new → ((b : L.Site) (k t : Name) → In (record { site = b; txn = t; body = Voted k Read }) letters → (b ≡ a) × ViableNow (ops a k) ((w.sites a).status k)) → (t : Name) → Viable ops (with_site w a new letters) t → Viable ops w t
     viable_site base was read t viable = record {
       u = viable.u;
       known = viable.known;

@@ -25,8 +25,8 @@ use Rattle.protocol.proofs.Line.{Line, Two}
 use Rattle.protocol.proofs.Viable.{Viable}
 use Rattle.protocol.proofs.Settled.{changes_it, changes_same, settled_none, settled_same}
 use Rattle.protocol.proofs.Deep.{Counts, Deep, deep_moves}
-use Rattle.protocol.proofs.DeepSites.{IsDeep, comes_deep, restart_deep, give_up_deep}
-use Rattle.protocol.proofs.DeepTurns.{quiet_deep, begun_deep}
+use Rattle.protocol.proofs.DeepSites.{IsDeep, Next, no_event, restart_viable, give_up_viable, comes_deep, restart_deep, give_up_deep}
+use Rattle.protocol.proofs.DeepTurns.{viable_was, quiet_deep, begun_deep}
 use Rattle.protocol.proofs.DeepCommits.{commits_deep}
 
 or_false : (b : Bool) → (b || false) ≡ b
@@ -44,44 +44,42 @@ module _ {L : Lang} (law : IsLawful L) (whole : L.Whole) where
         (λ k is. sym (ap (changes_it v.past g) (ap (λ (s : SiteState L). s.status k) at) ∙ changes_same w.past v.past g alike ((w.sites (L.home g)).status k)) ∙ is)
 
     -- a new transaction
+    begun_was : (t : Name) → In t (phases_of w.past) → Viable ops (begun w) t → Viable ops w t
+    begun_was t here viable = record {
+      u = viable.u; voting = viable.voting; each = viable.each;
+      known = put_all same same_law (next_txn w.desk) (Known fresh) w.desk.txn (λ j x. Born w.desk j → x ≡ Known viable.u → w.desk.txn j ≡ Known viable.u) (λ born f. absurd (not_born w.desk born)) (λ j other born f. f) t (deep.base.phased t here).0 viable.known;
+    }
+
     begun_deep_event : Deep o ops whole (begun w)
     begun_deep_event =
         let new = next_txn w.desk in
         let alike : (t : Name) → is_committed (begun w).past t ≡ is_committed w.past t = λ t. list_any-append (commits_it t) w.past (Began new ∷ []) ∙ or_false (is_committed w.past t) in
         let base = begun_base o ops w deep.base in
-        deep_moves law o o ops ops whole w (begun w) deep base (flat_map-append phased_of w.past (Began new ∷ []) ∙ append-nil (phases_of w.past)) (λ t here. (began_view o ops w deep.base t).works_same) alike
-        (λ t here viable. record {
-          u = viable.u;
-          voting = viable.voting;
-          each = viable.each;
-          known = put_all same same_law new (Known fresh) w.desk.txn (λ j x. Born w.desk j → x ≡ Known viable.u → w.desk.txn j ≡ Known viable.u) (λ born f. absurd (not_born w.desk born)) (λ j other born f. f) t (deep.base.phased t here).0 viable.known;
-        })
+        deep_moves law o o ops ops whole w (begun w) deep base (flat_map-append phased_of w.past (Began new ∷ []) ∙ append-nil (phases_of w.past)) (λ t here. (began_view o ops w deep.base t).works_same) alike begun_was
         (settled_past (begun w) base (λ a. refl) alike)
 
     -- a restart of the coordinator
+    lives_was : (t : Name) → In t (phases_of w.past) → Viable ops (desk_lives w) t → Viable ops w t
+    lives_was t here viable = absurd (none_known o w deep.base.fit t (w.desk.txn t) viable.u viable.known)
+
     lives_deep : Deep o ops whole (desk_lives w)
     lives_deep =
         let deeds = flat_map (λ t. (txn_restarted t (w.desk.txn t)).deeds) w.desk.known in
         let alike : (t : Name) → is_committed (desk_lives w).past t ≡ is_committed w.past t = λ t. list_any-append (commits_it t) w.past deeds ∙ ap (λ b. is_committed w.past t || b) (no_commits o w deep.base.fit t w.desk.known) ∙ or_false (is_committed w.past t) in
         let base = lives_base o ops w deep.base in
-        deep_moves law o o ops ops whole w (desk_lives w) deep base (lives_phases o ops w deep.base) (λ t here. (lives_view o ops w deep.base t).works_same) alike
-        (λ t here viable. absurd (none_known o w deep.base.fit t (w.desk.txn t) viable.u viable.known))
+        deep_moves law o o ops ops whole w (desk_lives w) deep base (lives_phases o ops w deep.base) (λ t here. (lives_view o ops w deep.base t).works_same) alike lives_was
         (settled_past (desk_lives w) base (λ a. refl) alike)
 
     -- inquiries
-    inquires_deep : (a : L.Site) → Deep o ops whole (inquires w a)
-    inquires_deep a = deep_moves law o o ops ops whole w (inquires w a) deep (inquire_base o ops w deep.base law a) refl (λ t here. refl) (λ t. refl)
-        (λ t here viable. record {
-          u = viable.u;
-          known = viable.known;
-          voting = viable.voting;
-          each = λ b k own. ⊎_elim (λ now. inl now)
-              (λ letter. ⊎_elim (λ was. inr was)
-              (λ new. absurd (every_in NoVote (inquiries a (w.sites a)) (record { site = b; txn = t; body = Voted k Read }) (every_flat NoVote (λ j. inquiry_of a j ((w.sites a).status j)) (w.sites a).known (λ j. one j ((w.sites a).status j))) new k refl))
-              (in_append (record { site = b; txn = t; body = Voted k Read }) w.letters (inquiries a (w.sites a)) letter))
-              (viable.each b k own);
-        })
-        (λ g. refl)
+    inquires_was : (a : L.Site) (t : Name) → In t (phases_of w.past) → Viable ops (inquires w a) t → Viable ops w t
+    inquires_was a t here viable = record {
+      u = viable.u; known = viable.known; voting = viable.voting;
+      each = λ b k own. ⊎_elim (λ now. inl now)
+          (λ letter. ⊎_elim (λ was. inr was)
+          (λ new. absurd (every_in NoVote (inquiries a (w.sites a)) (record { site = b; txn = t; body = Voted k Read }) (every_flat NoVote (λ j. inquiry_of a j ((w.sites a).status j)) (w.sites a).known (λ j. one j ((w.sites a).status j))) new k refl))
+          (in_append (record { site = b; txn = t; body = Voted k Read }) w.letters (inquiries a (w.sites a)) letter))
+          (viable.each b k own);
+    }
       where
         NoVote : Letter L → Type 0
         NoVote l = (k : Name) → l.body ≡ Voted k Read → ⊥
@@ -91,9 +89,12 @@ module _ {L : Lang} (law : IsLawful L) (whole : L.Whole) where
         one j (Alive v) = tt
         one j (Prepared n i) = ((λ k f. cc), tt)
 
+    inquires_deep : (a : L.Site) → Deep o ops whole (inquires w a)
+    inquires_deep a = deep_moves law o o ops ops whole w (inquires w a) deep (inquire_base o ops w deep.base law a) refl (λ t here. refl) (λ t. refl) (inquires_was a) (λ g. refl)
+
     -- a turn of the coordinator
-    turned_deep : (t : Name) (turn : Turn L) → Good o w t turn → Booked o ops w t turn → IsDeep law whole (turned w t turn)
-    turned_deep t turn good booked = (o, booked.new, go booked.phase)
+    turned_deep : (t : Name) (turn : Turn L) → Good o w t turn → Booked o ops w t turn → Next law whole ops w (turned w t turn)
+    turned_deep t turn good booked = (o, booked.new, go booked.phase, viable_was law o ops whole w t turn deep good booked)
       where
         go : PhaseTurn w t turn → Deep o booked.new whole (turned w t turn)
         go (starts one view u e idle votes) = begun_deep law o ops whole w t turn deep good booked one view u e idle votes
@@ -102,34 +103,36 @@ module _ {L : Lang} (law : IsLawful L) (whole : L.Whole) where
             ⊎_elim (λ votes. commits_deep law o ops whole w t turn deep good booked none done c.0 c.1 votes) (λ one. absurd (let f : [] ≡ t ∷ [] = sym none ∙ one in cc)) (booked.votes done c.0 c.1))
             (λ not_. quiet_deep law o ops whole w t turn deep good booked not_ none) (by_test (is_committed turn.deeds t))
 
-    turns_deep : (t : Name) (turn : Turn L) → Good o w t turn → Booked o ops w t turn → IsDeep law whole (turns w t turn)
-    turns_deep t turn good booked = either (IsDeep law whole) (is_desk_within (desk_after w.desk t turn.txn)) (turned w t turn) w (turned_deep t turn good booked) (o, ops, deep)
+    turns_deep : (t : Name) (turn : Turn L) → Good o w t turn → Booked o ops w t turn → Next law whole ops w (turns w t turn)
+    turns_deep t turn good booked = either (Next law whole ops w) (is_desk_within (desk_after w.desk t turn.txn)) (turned w t turn) w (turned_deep t turn good booked) (no_event law whole o ops w deep)
 
-    letter_deep : (kept : Bool) (choice : Choice L) (l : Letter L) → Fits o w.desk w.past w.sites l → TellsBody (ops l.site) (w.sites l.site) l.body → In l w.letters → (desk : Bool) → IsDeep law whole (comes_to desk w kept choice l)
+    letter_deep : (kept : Bool) (choice : Choice L) (l : Letter L) → Fits o w.desk w.past w.sites l → TellsBody (ops l.site) (w.sites l.site) l.body → In l w.letters → (desk : Bool) → Next law whole ops w (comes_to desk w kept choice l)
     letter_deep kept choice l fits tells here false = comes_deep law whole o ops w l.site deep l.txn kept l.body fits.0 fits.1 tells
     letter_deep kept choice l fits tells here true = turns_deep l.txn (on_desk_letter l.txn l.site kept choice l.body (w.desk.txn l.txn))
         (letter_good law o w l.txn deep.base.fit l.site kept choice l.body (w.desk.txn l.txn) refl fits.0 fits.1 here)
         (letter_booked law o ops w l.txn deep.base.fit (deep.base.book l.txn) l.site kept choice l.body (w.desk.txn l.txn) refl fits.1 here)
 
-    delivered_deep : (kept : Bool) (choice : Choice L) (n : ℕ) (l : Option (Letter L)) → slice_get w.letters n ≡ l → IsDeep law whole (delivered w kept choice l)
-    delivered_deep kept choice n None e = (o, ops, deep)
+    delivered_deep : (kept : Bool) (choice : Choice L) (n : ℕ) (l : Option (Letter L)) → slice_get w.letters n ≡ l → Next law whole ops w (delivered w kept choice l)
+    delivered_deep kept choice n None e = no_event law whole o ops w deep
     delivered_deep kept choice n (Some l) e = letter_deep kept choice l (every_at (Fits o w.desk w.past w.sites) w.letters n l deep.base.fit.letters e)
         (every_at (λ l. TellsBody (ops l.site) (w.sites l.site) l.body) w.letters n l deep.base.tells e) (in_at w.letters n l e) (is_for_desk l.body)
 
     -- every event
-    pub happens_deep : (e : Event L) → IsDeep law whole (happens w e)
-    happens_deep Begin = either (IsDeep law whole) (is_desk_within (desk_began w.desk)) (begun w) w (o, ops, begun_deep_event) (o, ops, deep)
+    pub happens_deep : (e : Event L) → Next law whole ops w (happens w e)
+    happens_deep Begin = either (Next law whole ops w) (is_desk_within (desk_began w.desk)) (begun w) w (o, ops, begun_deep_event, begun_was) (no_event law whole o ops w deep)
     happens_deep (Call t request choice) = turns_deep t (on_request t choice request (w.desk.txn t)) (request_good law o w t deep.base.fit choice request (w.desk.txn t) refl)
         (request_booked law o ops w t deep.base.fit (deep.base.book t) choice request (w.desk.txn t) refl)
     happens_deep (Deliver n kept choice) = delivered_deep kept choice n (slice_get w.letters n) refl
-    happens_deep (Site_gives_up a k) = (o, ops, either (Deep o ops whole) (is_site L a L.sites) _ w (give_up_deep law whole o ops w a deep k) deep)
-    happens_deep (Site_inquires a) = (o, ops, either (Deep o ops whole) (is_site L a L.sites) _ w (inquires_deep a) deep)
-    happens_deep (Site_restarts a kept) = (o, ops, either (Deep o ops whole) (is_site L a L.sites) _ w (either (Deep o ops whole) kept _ w (restart_deep law whole o ops w a deep) deep) deep)
-    happens_deep (Desk_restarts kept) = (o, ops, either (Deep o ops whole) kept _ w (either (Deep o ops whole) (is_desk_within (desk_restarted w.desk)) (desk_lives w) w lives_deep deep) deep)
+    happens_deep (Site_gives_up a k) = either (Next law whole ops w) (is_site L a L.sites) _ w (o, ops, give_up_deep law whole o ops w a deep k, λ t here. give_up_viable law whole o ops w a deep k t) (no_event law whole o ops w deep)
+    happens_deep (Site_inquires a) = either (Next law whole ops w) (is_site L a L.sites) _ w (o, ops, inquires_deep a, inquires_was a) (no_event law whole o ops w deep)
+    happens_deep (Site_restarts a kept) = either (Next law whole ops w) (is_site L a L.sites) _ w
+        (either (Next law whole ops w) kept _ w (o, ops, restart_deep law whole o ops w a deep, λ t here. restart_viable law whole o ops w a deep t) (no_event law whole o ops w deep)) (no_event law whole o ops w deep)
+    happens_deep (Desk_restarts kept) = either (Next law whole ops w) kept _ w
+        (either (Next law whole ops w) (is_desk_within (desk_restarted w.desk)) (desk_lives w) w (o, ops, lives_deep, lives_was) (no_event law whole o ops w deep)) (no_event law whole o ops w deep)
 
   pub run_deep : (events : List (Event L)) (w : World L) → IsDeep law whole w → IsDeep law whole (run events w)
   run_deep [] w deep = deep
-  run_deep (e ∷ es) w deep = run_deep es (happens w e) (happens_deep deep.0 deep.1 w deep.2 e)
+  run_deep (e ∷ es) w deep = let next = happens_deep deep.0 deep.1 w deep.2 e in run_deep es (happens w e) (next.0, next.1, next.2)
 
   -- an opening
   pub opening_deep : (w : World L) → IsOpening whole w → IsDeep law whole w

@@ -1,10 +1,11 @@
 -- Each event of a site keeps the whole invariant.
 use Rattle.std.proofs.Common.{◌≡◌, refl, sym, ap, ◌∙◌, subst, Bool, List, [], ◌∷◌, ⊎_elim}
-use Rattle.protocol.specs.Parts.{op_of}
+use Rattle.protocol.specs.Parts.{op_of, In, Viable}
 use Rattle.protocol.proofs.Booked.{NoOps}
 use Rattle.protocol.specs.Language.{Lang, IsLawful, Name, same, put}
 use Rattle.protocol.specs.Letter.{Read, Body, Open, Commit, Voted}
 use Rattle.protocol.specs.Site.{Status, Dead, Alive, Prepared, SiteState, Act, Opens, Applies, Ends, is_dead, is_prepared, sees, next_ticket, new_visit, on_letter, site_after, said, restarted, site_restarted, on_give_up, is_within}
+use Rattle.protocol.specs.Serial.{phases_of}
 use Rattle.protocol.specs.World.{World, with_site, site_steps, addressed, gives_up, restarts}
 use Rattle.protocol.proofs.Basics.{Every, put_all, put_here, put_there, clash, same_law, either, by_test, if_true, if_false}
 use Rattle.protocol.proofs.Fits.{Born, IsCommitted, FitsBody}
@@ -18,12 +19,19 @@ use Rattle.protocol.proofs.Data.{TellsBody, acted_steps, acted_says, acted_plain
 use Rattle.protocol.proofs.Base.{Base, base_site}
 use Rattle.protocol.proofs.Viable.{acted_was, read_was, restarted_was, give_up_was, in_addressed}
 use Rattle.protocol.proofs.Settled.{changes_it, settled_same, settled_applied}
-use Rattle.protocol.proofs.Deep.{Deep, deep_site, site_settled}
+use Rattle.protocol.proofs.Deep.{Deep, viable_site, deep_site, site_settled}
 
 module _ {L : Lang} (law : IsLawful L) (whole : L.Whole) where
   -- the invariant with owners and operations that the world doesn't store
   abbrev pub IsDeep : World L → Type 0
   IsDeep w = (o : L.Site → Name → Name) × (ops : L.Site → Name → List (Op L)) × Deep o ops whole w
+
+  -- the invariant after an event, and that what is viable then was so before
+  abbrev pub Next : (L.Site → Name → List (Op L)) → World L → World L → Type 0
+  Next ops w v = (p : L.Site → Name → Name) × (opt : L.Site → Name → List (Op L)) × Deep p opt whole v × ((t : Name) → In t (phases_of w.past) → Viable opt v t → Viable ops w t)
+
+  pub no_event : (o : L.Site → Name → Name) (ops : L.Site → Name → List (Op L)) (w : World L) → Deep o ops whole w → Next ops w w
+  no_event o ops w deep = (o, ops, deep, λ t here viable. viable)
 
   module _ (o : L.Site → Name → Name) (ops : L.Site → Name → List (Op L)) (w : World L) (a : L.Site) (deep : Deep o ops whole w) where
     -- a decided row stays unless it is applied
@@ -119,34 +127,43 @@ module _ {L : Lang} (law : IsLawful L) (whole : L.Whole) where
         (λ k n i done. put_all same same_law (next_ticket s) (Alive (new_visit s)) s.status (λ j x. x ≡ Prepared n i → s.status j ≡ Prepared n i) (λ e. cc) (λ j other e. e) k))
 
     -- whatever a letter does
-    acted_deep : (t : Name) (b : Body L) (act : Act L) → Born w.desk t → FitsBody o w.desk w.past a (w.sites a) t b → TellsBody (ops a) (w.sites a) b → Acted (w.sites a) t b act → ((b ≡ Open) → ⊥) → IsDeep (with_site w a (site_after (w.sites a) act) (addressed a t (said (w.sites a) act)))
-    acted_deep t b act born fits tells (says_nothing c) no_open = (o, ops, letter_deep t b act born fits tells (says_nothing c) no_open (λ k u i f. cc) (λ g. refl))
-    acted_deep t b act born fits tells (says_gone k op g q) no_open = (o, ops, letter_deep t b act born fits tells (says_gone k op g q) (λ f. cc) (λ k u i f. cc) (λ g. refl))
-    acted_deep t b act born fits tells (says_no k m) no_open = (o, ops, letter_deep t b act born fits tells (says_no k m) (λ f. cc) (λ k u i f. cc) (λ g. refl))
-    acted_deep t b act born fits tells (says_yes k m u x e) no_open = (o, ops, letter_deep t b act born fits tells (says_yes k m u x e) (λ f. cc) (λ k u i f. cc) (λ g. refl))
-    acted_deep t b act born fits tells (says_ack k e) no_open = (o, ops, letter_deep t b act born fits tells (says_ack k e) (λ f. cc) (λ k u i f. cc) (λ g. refl))
+    acted_deep : (t : Name) (b : Body L) (act : Act L) → Born w.desk t → FitsBody o w.desk w.past a (w.sites a) t b → TellsBody (ops a) (w.sites a) b → Acted (w.sites a) t b act → ((b ≡ Open) → ⊥) → (p : L.Site → Name → Name) × Deep p ops whole (with_site w a (site_after (w.sites a) act) (addressed a t (said (w.sites a) act)))
+    acted_deep t b act born fits tells (says_nothing c) no_open = (o, letter_deep t b act born fits tells (says_nothing c) no_open (λ k u i f. cc) (λ g. refl))
+    acted_deep t b act born fits tells (says_gone k op g q) no_open = (o, letter_deep t b act born fits tells (says_gone k op g q) (λ f. cc) (λ k u i f. cc) (λ g. refl))
+    acted_deep t b act born fits tells (says_no k m) no_open = (o, letter_deep t b act born fits tells (says_no k m) (λ f. cc) (λ k u i f. cc) (λ g. refl))
+    acted_deep t b act born fits tells (says_yes k m u x e) no_open = (o, letter_deep t b act born fits tells (says_yes k m u x e) (λ f. cc) (λ k u i f. cc) (λ g. refl))
+    acted_deep t b act born fits tells (says_ack k e) no_open = (o, letter_deep t b act born fits tells (says_ack k e) (λ f. cc) (λ k u i f. cc) (λ g. refl))
     acted_deep t b act born fits tells opens no_open = absurd (no_open refl)
-    acted_deep t b act born fits tells (reads k op g q v e next free) no_open = (o, ops, letter_deep t b act born fits tells (reads k op g q v e next free) (λ f. cc) (λ k u i f. cc) (λ g. refl))
-    acted_deep t b act born fits tells (writes k op g x v e next free) no_open = (o, ops, letter_deep t b act born fits tells (writes k op g x v e next free) (λ f. cc) (λ k u i f. cc) (λ g. refl))
-    acted_deep t b act born fits tells (prepares k m v e all) no_open = (o, ops, letter_deep t b act born fits tells (prepares k m v e all) (λ f. cc) (λ k u i f. cc) (λ g. refl))
-    acted_deep t b act born fits tells (only_read k m v e all empty) no_open = (o, ops, letter_deep t b act born fits tells (only_read k m v e all empty) (λ f. cc) (λ k u i f. cc) (λ g. refl))
-    acted_deep t b act born fits tells (votes_no k m v e) no_open = (o, ops, letter_deep t b act born fits tells (votes_no k m v e) (λ f. cc) (λ k u i f. cc) (λ g. refl))
-    acted_deep t b act born fits tells (refuses c k v reason e) no_open = (o, ops, letter_deep t b act born fits tells (refuses c k v reason e) no_open (λ k u i f. cc) (λ g. refl))
-    acted_deep t b act born fits tells (applies k u i e) no_open = (o, ops, apply_deep t k u i born fits e)
-    acted_deep t b act born fits tells (ends c k v e) no_open = (o, ops, letter_deep t b act born fits tells (ends c k v e) no_open (λ k u i f. cc) (λ g. refl))
-    acted_deep t b act born fits tells (discards k u i e) no_open = (o, ops, letter_deep t b act born fits tells (discards k u i e) (λ f. cc) (λ k u i f. cc) (λ g. refl))
+    acted_deep t b act born fits tells (reads k op g q v e next free) no_open = (o, letter_deep t b act born fits tells (reads k op g q v e next free) (λ f. cc) (λ k u i f. cc) (λ g. refl))
+    acted_deep t b act born fits tells (writes k op g x v e next free) no_open = (o, letter_deep t b act born fits tells (writes k op g x v e next free) (λ f. cc) (λ k u i f. cc) (λ g. refl))
+    acted_deep t b act born fits tells (prepares k m v e all) no_open = (o, letter_deep t b act born fits tells (prepares k m v e all) (λ f. cc) (λ k u i f. cc) (λ g. refl))
+    acted_deep t b act born fits tells (only_read k m v e all empty) no_open = (o, letter_deep t b act born fits tells (only_read k m v e all empty) (λ f. cc) (λ k u i f. cc) (λ g. refl))
+    acted_deep t b act born fits tells (votes_no k m v e) no_open = (o, letter_deep t b act born fits tells (votes_no k m v e) (λ f. cc) (λ k u i f. cc) (λ g. refl))
+    acted_deep t b act born fits tells (refuses c k v reason e) no_open = (o, letter_deep t b act born fits tells (refuses c k v reason e) no_open (λ k u i f. cc) (λ g. refl))
+    acted_deep t b act born fits tells (applies k u i e) no_open = (o, apply_deep t k u i born fits e)
+    acted_deep t b act born fits tells (ends c k v e) no_open = (o, letter_deep t b act born fits tells (ends c k v e) no_open (λ k u i f. cc) (λ g. refl))
+    acted_deep t b act born fits tells (discards k u i e) no_open = (o, letter_deep t b act born fits tells (discards k u i e) (λ f. cc) (λ k u i f. cc) (λ g. refl))
 
-    steps_deep : (t : Name) (b : Body L) (act : Act L) → Born w.desk t → FitsBody o w.desk w.past a (w.sites a) t b → TellsBody (ops a) (w.sites a) b → Acted (w.sites a) t b act → ((b ≡ Open) → ⊥) → IsDeep (site_steps w a (site_after (w.sites a) act) (addressed a t (said (w.sites a) act)))
-    steps_deep t b act born fits tells row no_open = either IsDeep (is_within (site_after (w.sites a) act)) (with_site w a (site_after (w.sites a) act) (addressed a t (said (w.sites a) act))) w (acted_deep t b act born fits tells row no_open) (o, ops, deep)
+    -- what is viable after a letter was so before
+    letter_was : (t : Name) (b : Body L) (act : Act L) → TellsBody (ops a) (w.sites a) b → Acted (w.sites a) t b act → (j : Name) → In j (phases_of w.past) → Viable ops (with_site w a (site_after (w.sites a) act) (addressed a t (said (w.sites a) act))) j → Viable ops w j
+    letter_was t b act tells row j here = viable_site law o o ops whole w a (site_after (w.sites a) act) (addressed a t (said (w.sites a) act)) deep.base (acted_was law (ops a) (w.sites a) t b act (deep.base.data_at a) tells row)
+        (λ c k n there. let r = in_addressed a c t n (Voted k Read) (said (w.sites a) act) there in (r.0, read_was law (ops a) (w.sites a) t b act tells row k r.1)) j
+
+    steps_deep : (t : Name) (b : Body L) (act : Act L) → Born w.desk t → FitsBody o w.desk w.past a (w.sites a) t b → TellsBody (ops a) (w.sites a) b → Acted (w.sites a) t b act → ((b ≡ Open) → ⊥) → Next ops w (site_steps w a (site_after (w.sites a) act) (addressed a t (said (w.sites a) act)))
+    steps_deep t b act born fits tells row no_open = either (Next ops w) (is_within (site_after (w.sites a) act)) (with_site w a (site_after (w.sites a) act) (addressed a t (said (w.sites a) act))) w (let d = acted_deep t b act born fits tells row no_open in (d.0, ops, d.1, letter_was t b act tells row)) (no_event o ops w deep)
 
     -- a letter comes to its site
     pub comes_deep : (t : Name) (kept : Bool) (b : Body L) → Born w.desk t → FitsBody o w.desk w.past a (w.sites a) t b → TellsBody (ops a) (w.sites a) b →
-        IsDeep (site_steps w a (site_after (w.sites a) (on_letter (w.sites a) t kept b)) (addressed a t (said (w.sites a) (on_letter (w.sites a) t kept b))))
-    comes_deep t kept Open born fits tells = either IsDeep (is_within (site_after (w.sites a) Opens)) (with_site w a (site_after (w.sites a) Opens) (addressed a t (said (w.sites a) Opens))) w
-        (owned L a (next_ticket (w.sites a)) t o, ops, open_deep t born fits) (o, ops, deep)
+        Next ops w (site_steps w a (site_after (w.sites a) (on_letter (w.sites a) t kept b)) (addressed a t (said (w.sites a) (on_letter (w.sites a) t kept b))))
+    comes_deep t kept Open born fits tells = either (Next ops w) (is_within (site_after (w.sites a) Opens)) (with_site w a (site_after (w.sites a) Opens) (addressed a t (said (w.sites a) Opens))) w
+        (owned L a (next_ticket (w.sites a)) t o, ops, open_deep t born fits, letter_was t Open Opens tt opens) (no_event o ops w deep)
     comes_deep t kept b born fits tells = steps_deep t b (on_letter (w.sites a) t kept b) born fits tells (acted (w.sites a) t kept b) (not_open law b refl)
 
     -- a restart
+    pub restart_viable : (j : Name) → Viable ops (restarts w a) j → Viable ops w j
+    restart_viable j = either (λ v. Viable ops v j → Viable ops w j) (is_within (site_restarted (w.sites a))) (with_site w a (site_restarted (w.sites a)) []) w
+        (viable_site law o o ops whole w a (site_restarted (w.sites a)) [] deep.base (restarted_was (ops a) (w.sites a)) (λ c k u here. absurd here) j) (λ viable. viable)
+
     pub restart_deep : Deep o ops whole (restarts w a)
     restart_deep =
         let s = w.sites a in
@@ -185,3 +202,9 @@ module _ {L : Lang} (law : IsLawful L) (whole : L.Whole) where
             (λ j n i done row. put_all same same_law k Dead s.status (λ j x. s.status j ≡ Prepared n i → x ≡ Prepared n i) (λ r. let f : Alive v ≡ Prepared n i = sym e ∙ r in cc) (λ j apart r. r) j row)
             (λ j n i done row. ⊎_elim (λ was. was) (λ fresh. absurd (fresh.3 done)) (later.comes j n i row))))
             deep
+
+    pub give_up_viable : (k j : Name) → Viable ops (gives_up w a k) j → Viable ops w j
+    give_up_viable k j =
+        let new = site_after (w.sites a) (on_give_up k ((w.sites a).status k)) in
+        either (λ v. Viable ops v j → Viable ops w j) (is_within new) (with_site w a new []) w
+          (viable_site law o o ops whole w a new [] deep.base (give_up_was (ops a) (w.sites a) k ((w.sites a).status k)) (λ c i u here. absurd here) j) (λ viable. viable)

@@ -70,7 +70,7 @@ module _ {L : Lang} (law : IsLawful L) (o : L.Site → Name → Name) (ops : L.S
             (λ letter. inr (old_letter a k t letter)) (viable.each a k (g.2.ticket a k own));
       }
 
-  viable_was : (j : Name) → In j (phases_of w.past) → Viable booked.new next j → Viable ops w j
+  pub viable_was : (j : Name) → In j (phases_of w.past) → Viable booked.new next j → Viable ops w j
   viable_was j here viable = ⊎_elim (λ is. let eq = (same_law j t).0 is in subst (Viable ops w) (sym eq) (viable_own (subst (λ n. In n (phases_of w.past)) eq here) (subst (Viable booked.new next) eq viable))) (λ other. viable_other j other viable) (by_test (same j t))
 
   pub voting_sent : (u : Undecided L) → is_voting u.stage ≡ true → unsent_of u.stage ≡ []
