@@ -1,24 +1,24 @@
 -- A new transaction, a restart of the coordinator, inquiries and the opening: facts of a world but its line.
-use Rattle.std.proofs.Common.{◌≡◌, refl, sym, ap, ap₂, ◌∙◌, subst, ℕ, suc, Bool, true, false, List, [], ◌∷◌, ◌++◌, map, ◌⊎◌, inl, inr, ⊎_elim, Option, Some, None, append-nil, flat_map, le_refl}
-use Rattle.std.specs.Prelude.{⊤}
+use Rattle.std.proofs.Common.{◌≡◌, refl, sym, ap, ap₂, ◌∙◌, subst, true, false, List, [], ◌∷◌, ◌++◌, map, None, append-nil, flat_map}
 use Rattle.std.proofs.lemmas.Grind.{flat_map-append}
-use Rattle.protocol.specs.Language.{Lang, IsLawful, Name, same, put}
-use Rattle.protocol.specs.Letter.{Body, Inquire, Letter}
-use Rattle.protocol.specs.Site.{Status, Dead, Alive, Prepared, SiteState, is_dead, has_exclusive, inquiries, inquiry_of}
-use Rattle.protocol.specs.Desk.{Idle, Undecided, fresh, Txn, Unknown, Known, Row, Deed, Began, Desk, Turn, commits, next_txn, desk_began, txn_restarted, desk_restarted}
+use Rattle.protocol.specs.Parts.{op_of, operations}
+use Rattle.protocol.specs.Language.{Lang, IsLawful, Name, same}
+use Rattle.protocol.specs.Letter.{Letter}
+use Rattle.protocol.specs.Site.{Status, Dead, Alive, Prepared, is_dead, has_exclusive, inquiries, inquiry_of}
+use Rattle.protocol.specs.Desk.{Undecided, fresh, Txn, Unknown, Known, Row, Deed, Began, commits, next_txn, txn_restarted}
 use Rattle.protocol.specs.World.{World, begun, inquires, desk_lives}
-use Rattle.protocol.specs.Serial.{is_committed, phases_of, phased_of, statement_in, answer_in, statements_of, answers_of, IsOpening}
-use Rattle.protocol.proofs.Basics.{Every, every_more, every_append, every_flat, In, put_all, clash, same_law}
-use Rattle.protocol.proofs.Fits.{Drawn, Born, Und, is_voting, IsCommitted, Fit}
+use Rattle.protocol.specs.Serial.{is_committed, phases_of, phased_of, statement_in, answer_in, IsOpening}
+use Rattle.protocol.proofs.Basics.{Every, every_append, every_flat, In, put_all, clash, same_law}
+use Rattle.protocol.proofs.Fits.{Born, Und, is_voting}
 use Rattle.protocol.proofs.SiteEvents.{inquire_fit}
-use Rattle.protocol.proofs.PartFour.{not_born, born_next, born_restarted, began_later, was_before, begun_fit, none_known, lives_before, lives_fit, opening_fit}
-use Rattle.protocol.proofs.Locks.{Locked, Once}
-use Rattle.protocol.proofs.Ops.{Op, sets, on}
-use Rattle.protocol.proofs.Data.{SiteData, TellsBody}
-use Rattle.protocol.proofs.Works.{Work, work_in, works, own_of, SameView, view_plain}
-use Rattle.protocol.proofs.Book.{AskAt, AskCame, ReadsFrom, Told, BookAt}
+use Rattle.protocol.proofs.PartFour.{not_born, born_next, born_restarted, was_before, begun_fit, none_known, lives_before, lives_fit, opening_fit}
+use Rattle.protocol.proofs.Locks.{Once}
+use Rattle.protocol.proofs.Ops.{Op, on}
+use Rattle.protocol.proofs.Data.{TellsBody}
+use Rattle.protocol.proofs.Works.{Work, work_in, own_of, SameView, view_plain}
+use Rattle.protocol.proofs.Book.{AskCame, ReadsFrom, BookAt}
 use Rattle.protocol.proofs.Booking.{book_same}
-use Rattle.protocol.proofs.Booked.{told_view}
+use Rattle.protocol.proofs.Booked.{NoOps, none_put, told_view}
 use Rattle.protocol.proofs.Sending.{ext_same}
 use Rattle.protocol.proofs.Base.{Base}
 
@@ -35,20 +35,32 @@ module _ {L : Lang} (o : L.Site → Name → Name) (ops : L.Site → Name → Li
   pub inquire_base : IsLawful L → (a : L.Site) → Base o ops (inquires w a)
   inquire_base law a = record {
     fit = inquire_fit law o w a base.fit;
-    locked = base.locked; data_at = base.data_at;
+    locked = base.locked;
+    data_at = base.data_at;
     tells = every_append (λ l. TellsBody (ops l.site) (w.sites l.site) l.body) w.letters (inquiries a (w.sites a)) base.tells
-      (every_flat (λ l. TellsBody (ops l.site) (w.sites l.site) l.body) (λ k. inquiry_of a k ((w.sites a).status k)) (w.sites a).known (λ k. one k ((w.sites a).status k)));
+        (every_flat (λ l. TellsBody (ops l.site) (w.sites l.site) l.body) (λ k. inquiry_of a k ((w.sites a).status k)) (w.sites a).known (λ k. one k ((w.sites a).status k)));
+    is_sent = λ b k. base.is_sent b k ∙ sym (flat_map-append (λ (l : Letter L). op_of b k l.site l.body) w.letters (inquiries a (w.sites a))
+      ∙ ap (λ x. operations w.letters b k ++ x) (none_put (inquiries a (w.sites a)) (every_flat NoOps (λ k. inquiry_of a k ((w.sites a).status k)) (w.sites a).known (λ k. plain k ((w.sites a).status k))) b k) ∙ append-nil (operations w.letters b k));
     book = λ t u e. books_more (inquiries a (w.sites a)) w.past t u e (same_view w.past t);
-    told = base.told; unborn = base.unborn; unowned = base.unowned; phased = base.phased; voting = base.voting; once = base.once;
+    told = base.told;
+    unborn = base.unborn;
+    unowned = base.unowned;
+    phased = base.phased;
+    voting = base.voting;
+    once = base.once;
   }
     where
+      plain : (k : Name) (st : Status L) → Every NoOps (inquiry_of a k st)
+      plain k Dead = tt
+      plain k (Alive v) = tt
+      plain k (Prepared t i) = ((λ b j. refl), tt)
       one : (k : Name) (st : Status L) → Every (λ l. TellsBody (ops l.site) (w.sites l.site) l.body) (inquiry_of a k st)
       one k Dead = tt
       one k (Alive v) = tt
       one k (Prepared t i) = (tt, tt)
 
   -- a new transaction
-  began_view : (t : Name) → SameView w.past (w.past ++ Began (next_txn w.desk) ∷ []) t
+  pub began_view : (t : Name) → SameView w.past (w.past ++ Began (next_txn w.desk) ∷ []) t
   began_view t = view_plain w.past (Began (next_txn w.desk) ∷ []) t refl refl refl
 
   fresh_book : (view : SameView [] (begun w).past (next_txn w.desk)) → BookAt o ops w.sites w.letters (begun w).past (next_txn w.desk) fresh
@@ -71,19 +83,21 @@ module _ {L : Lang} (o : L.Site → Name → Name) (ops : L.Site → Name → Li
       let later = w.past ++ Began new ∷ [] in
       let same_phases : phases_of later ≡ phases_of w.past = flat_map-append phased_of w.past (Began new ∷ []) ∙ append-nil (phases_of w.past) in
       let unborn : (t : Name) → (Born w.desk t → ⊥) → SameView [] later t = λ t not_.
-            let was = base.unborn t not_ in let more = began_view t in
-            record { works_same = more.works_same ∙ was.works_same; statements_same = more.statements_same ∙ was.statements_same; answers_same = more.answers_same ∙ was.answers_same } in
+      let was = base.unborn t not_ in let more = began_view t in
+      record { works_same = more.works_same ∙ was.works_same; statements_same = more.statements_same ∙ was.statements_same; answers_same = more.answers_same ∙ was.answers_same } in
       record {
         fit = begun_fit o w base.fit;
-        locked = base.locked; data_at = base.data_at; tells = base.tells;
+        locked = base.locked;
+        data_at = base.data_at;
+        tells = base.tells; is_sent = base.is_sent;
         book = put_all same same_law new (Known fresh) w.desk.txn (λ j x. (u : Undecided L) → x ≡ Known u → BookAt o ops w.sites w.letters later j u)
-          (λ u e. subst (BookAt o ops w.sites w.letters later new) (fresh_is u e) (fresh_book (unborn new (not_born w.desk))))
-          (λ j other u e. subst (λ l. BookAt o ops w.sites l later j u) (append-nil w.letters) (books_more [] later j u e (began_view j)));
+            (λ u e. subst (BookAt o ops w.sites w.letters later new) (fresh_is u e) (fresh_book (unborn new (not_born w.desk))))
+            (λ j other u e. subst (λ l. BookAt o ops w.sites l later j u) (append-nil w.letters) (books_more [] later j u e (began_view j)));
         told = λ t done. told_view w.past later t (began_view t) (base.told t (was_before o w base.fit t done));
         unborn = λ t not_. unborn t (λ born. not_ (born_next w.desk t born));
         unowned = λ a k not_. base.unowned a k (λ born. not_ (born_next w.desk (o a k) born));
         phased = λ t here. let was = base.phased t (subst (In t) same_phases here) in
-          (born_next w.desk t was.0, λ u e. put_all same same_law new (Known fresh) w.desk.txn (λ j x. Born w.desk j → Und w.desk j (λ u. is_voting u.stage ≡ true) → x ≡ Known u → is_voting u.stage ≡ true) (λ born votes f. absurd (not_born w.desk born)) (λ j other born votes f. votes u f) t was.0 was.1 e);
+            (born_next w.desk t was.0, λ u e. put_all same same_law new (Known fresh) w.desk.txn (λ j x. Born w.desk j → Und w.desk j (λ u. is_voting u.stage ≡ true) → x ≡ Known u → is_voting u.stage ≡ true) (λ born votes f. absurd (not_born w.desk born)) (λ j other born votes f. votes u f) t was.0 was.1 e);
         voting = λ t u e votes. subst (In t) (sym same_phases) (put_all same same_law new (Known fresh) w.desk.txn (λ j x. x ≡ Known u → In j (phases_of w.past)) (λ f. clash votes (ap (λ (z : Undecided L). is_voting z.stage) (sym (fresh_is u f)))) (λ j other f. base.voting j u f votes) t e);
         once = subst Once (sym same_phases) base.once;
       }
@@ -103,10 +117,12 @@ module _ {L : Lang} (o : L.Site → Name → Name) (ops : L.Site → Name → Li
       no_work j Unknown = refl
       no_work j (Known u) = refl
       no_work j (Row vs acked) = refl
+
       no_statement : (j : Name) (x : Txn L) → flat_map (statement_in t) (txn_restarted j x).deeds ≡ []
       no_statement j Unknown = refl
       no_statement j (Known u) = refl
       no_statement j (Row vs acked) = refl
+
       no_answer : (j : Name) (x : Txn L) → flat_map (answer_in t) (txn_restarted j x).deeds ≡ []
       no_answer j Unknown = refl
       no_answer j (Known u) = refl
@@ -128,13 +144,16 @@ module _ {L : Lang} (o : L.Site → Name → Name) (ops : L.Site → Name → Li
   pub lives_base : Base o ops (desk_lives w)
   lives_base = record {
     fit = lives_fit o w base.fit;
-    locked = base.locked; data_at = base.data_at;
+    locked = base.locked;
+    data_at = base.data_at;
     tells = every_append (λ l. TellsBody (ops l.site) (w.sites l.site) l.body) w.letters (flat_map (λ t. (txn_restarted t (w.desk.txn t)).letters) w.desk.known) base.tells
-      (every_flat (λ l. TellsBody (ops l.site) (w.sites l.site) l.body) (λ t. (txn_restarted t (w.desk.txn t)).letters) w.desk.known (λ t. one t (w.desk.txn t)));
+        (every_flat (λ l. TellsBody (ops l.site) (w.sites l.site) l.body) (λ t. (txn_restarted t (w.desk.txn t)).letters) w.desk.known (λ t. one t (w.desk.txn t)));
+    is_sent = λ b k. base.is_sent b k ∙ sym (flat_map-append (λ (l : Letter L). op_of b k l.site l.body) w.letters (flat_map (λ t. (txn_restarted t (w.desk.txn t)).letters) w.desk.known)
+      ∙ ap (λ x. operations w.letters b k ++ x) (none_put (flat_map (λ t. (txn_restarted t (w.desk.txn t)).letters) w.desk.known) (every_flat NoOps (λ t. (txn_restarted t (w.desk.txn t)).letters) w.desk.known (λ t. plain t (w.desk.txn t))) b k) ∙ append-nil (operations w.letters b k));
     book = λ t u e. absurd (none_known o w base.fit t (w.desk.txn t) u e);
     told = λ t done. told_view w.past (desk_lives w).past t (restart_view t) (base.told t (lives_before o w base.fit t done));
     unborn = λ t not_. let was = base.unborn t (λ born. not_ (born_restarted w.desk t born)) in let more = restart_view t in
-      record { works_same = more.works_same ∙ was.works_same; statements_same = more.statements_same ∙ was.statements_same; answers_same = more.answers_same ∙ was.answers_same };
+        record { works_same = more.works_same ∙ was.works_same; statements_same = more.statements_same ∙ was.statements_same; answers_same = more.answers_same ∙ was.answers_same };
     unowned = λ a k not_. base.unowned a k (λ born. not_ (born_restarted w.desk (o a k) born));
     phased = λ t here. let was = base.phased t (subst (In t) lives_phases here) in (born_restarted w.desk t was.0, λ u e. absurd (none_known o w base.fit t (w.desk.txn t) u e));
     voting = λ t u e votes. absurd (none_known o w base.fit t (w.desk.txn t) u e);
@@ -144,6 +163,14 @@ module _ {L : Lang} (o : L.Site → Name → Name) (ops : L.Site → Name → Li
       commits_tell : (t : Name) (vs : List (L.Site × Name)) → Every (λ l. TellsBody (ops l.site) (w.sites l.site) l.body) (commits t vs)
       commits_tell t [] = tt
       commits_tell t (v ∷ vs) = (tt, commits_tell t vs)
+
+      commits_plain : (t : Name) (vs : List (L.Site × Name)) → Every (NoOps {L = L}) (commits {L = L} t vs)
+      commits_plain t [] = tt
+      commits_plain t (v ∷ vs) = ((λ b j. refl), commits_plain t vs)
+      plain : (t : Name) (x : Txn L) → Every (NoOps {L = L}) (txn_restarted t x).letters
+      plain t Unknown = tt
+      plain t (Known u) = tt
+      plain t (Row vs acked) = commits_plain t vs
       one : (t : Name) (x : Txn L) → Every (λ l. TellsBody (ops l.site) (w.sites l.site) l.body) (txn_restarted t x).letters
       one t Unknown = tt
       one t (Known u) = tt
@@ -167,6 +194,7 @@ module _ {L : Lang} (law : IsLawful L) where
       fresh = λ k not_. refl;
     };
     tells = subst (Every (λ l. TellsBody (λ k. []) (w.sites l.site) l.body)) (sym opening.letters) tt;
+    is_sent = λ a k. ap (λ l. operations l a k) (sym opening.letters);
     book = λ t u e. absurd (let f : Unknown ≡ Known u = sym (opening.undecided t) ∙ e in cc);
     told = λ t done. absurd (let f : false ≡ true = ap (λ p. is_committed p t) (sym opening.past) ∙ done in cc);
     unborn = λ t not_. subst (λ p. SameView [] p t) (sym opening.past) (record { works_same = refl; statements_same = refl; answers_same = refl });

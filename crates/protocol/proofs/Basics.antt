@@ -2,8 +2,8 @@
 use Rattle.std.proofs.Common.{◌≡◌, refl, sym, ap, ◌∙◌, subst, ℕ, suc, ◌==◌, ◌&&◌, ◌||◌, not, Bool, true, false, List, [], ◌∷◌, ◌++◌, map, if◌then◌else◌, Option, Some, None, slice_get, ◌⊎◌, inl, inr, ◌↔◌, true≢false, ⊎_elim, filter, filter_map, flat_map, zero}
 use Rattle.std.proofs.lemmas.Bool.{eqb-true, eq-eqb}
 use Rattle.std.specs.List.{list_any, list_all, AllByRecursion, cons_option}
-use Rattle.std.specs.Option.{option_map}
-use Rattle.protocol.specs.Language.{Lang, Name, same, put}
+pub use Rattle.protocol.specs.Parts.{In}
+use Rattle.protocol.specs.Language.{Name, same, put}
 
 -- ---- tests
 pub either : {A : Type 0} (Q : A → Type 0) (b : Bool) (x y : A) → Q x → Q y → Q (if b then x else y)
@@ -97,10 +97,6 @@ some_is {A} {x} {y} e = cc
 -- ---- lists
 abbrev pub Every : {A : Type 0} → (A → Type 0) → List A → Type 0
 Every P xs = AllByRecursion P xs
-
-abbrev pub In : {A : Type 0} → A → List A → Type 0
-In x [] = ⊥
-In x (y ∷ ys) = (x ≡ y) ⊎ In x ys
 
 module _ {A : Type 0} (P : A → Type 0) where
   pub every_append : (xs ys : List A) → Every P xs → Every P ys → Every P (xs ++ ys)

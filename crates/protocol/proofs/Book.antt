@@ -1,16 +1,16 @@
 -- The coordinator's book: what it has sent is what its transactions ask and write, and what came stands behind their own writes.
-use Rattle.std.proofs.Common.{◌≡◌, refl, sym, ap, ◌∙◌, subst, ℕ, suc, Bool, true, false, List, [], ◌∷◌, ◌++◌, map, length, ◌⊎◌, inl, inr, ⊎_elim, Option, Some, None, append_assoc, append-nil}
+use Rattle.std.proofs.Common.{◌≡◌, sym, ap, ◌∙◌, subst, ℕ, List, [], ◌∷◌, ◌++◌, map, length, ◌⊎◌, Option, Some, None, append_assoc, append-nil}
 use Rattle.std.specs.Prelude.{⊤}
 use Rattle.protocol.specs.Language.{Lang, Name}
-use Rattle.protocol.specs.Letter.{Body, Rows, Letter}
+use Rattle.protocol.specs.Letter.{Rows, Letter}
 use Rattle.protocol.specs.Site.{SiteState}
-use Rattle.protocol.specs.Desk.{Ask, Stage, Idle, Reading, Writing, Voting, Undecided, Deed, Choice}
+use Rattle.protocol.specs.Desk.{Ask, Stage, Reading, Writing, Undecided, Deed}
 use Rattle.protocol.specs.Serial.{statements_of, answers_of}
 use Rattle.protocol.proofs.Basics.{Every, every_more, In, in_left}
 use Rattle.protocol.proofs.Fits.{Drawn}
-use Rattle.protocol.proofs.Ops.{Op, Get, Set, sets, sets_append, on}
+use Rattle.protocol.proofs.Ops.{Op, Get, sets, on}
 use Rattle.protocol.proofs.Data.{NthOp}
-use Rattle.protocol.proofs.Works.{Work, works, own_of, SameView}
+use Rattle.protocol.proofs.Works.{Work, works, own_of}
 
 module _ {L : Lang} where
   -- the operations sent may grow at these tickets alone
@@ -83,7 +83,9 @@ module _ {L : Lang} where
   -- ---- how these facts stay
   abbrev pub nth_more : (xs more new : List (Op L)) (n : ℕ) (op : Op L) → new ≡ xs ++ more → NthOp xs n op → NthOp new n op
   nth_more xs more new n op is nth = record {
-    before = nth.before; after = nth.after ++ more; number = nth.number;
+    before = nth.before;
+    after = nth.after ++ more;
+    number = nth.number;
     split = is ∙ ap (λ l. l ++ more) nth.split ∙ append_assoc nth.before (op ∷ nth.after) more;
   }
 

@@ -1,17 +1,16 @@
 -- Further steps of the coordinator's book: a first ticket, operations that go out, rows that come.
-use Rattle.std.proofs.Common.{◌≡◌, refl, sym, ap, ap₂, ◌∙◌, subst, ℕ, suc, Bool, true, false, ◌&&◌, List, [], ◌∷◌, ◌++◌, map, length, ◌⊎◌, inl, inr, ⊎_elim, Option, Some, None, is_some, is_none, append_assoc, append-nil, if◌then◌else◌}
+use Rattle.std.proofs.Common.{◌≡◌, refl, sym, ap, ap₂, ◌∙◌, subst, ℕ, Bool, true, ◌&&◌, List, [], ◌∷◌, ◌++◌, map, length, ⊎_elim, Option, Some, None, is_none, append-nil}
 use Rattle.std.proofs.lemmas.Bool.{eqb-true}
-use Rattle.protocol.specs.Language.{Lang, IsLawful, Name, same, put}
-use Rattle.protocol.specs.Letter.{Body, Rows, Letter}
+use Rattle.protocol.specs.Language.{Lang, IsLawful, Name, put}
+use Rattle.protocol.specs.Letter.{Rows, Letter}
 use Rattle.protocol.specs.Site.{SiteState}
-use Rattle.protocol.specs.Desk.{Ask, Stage, Idle, Reading, Writing, Voting, Undecided, Deed, asks_out, writes_out, is_numbered, awaits, with_rows, Out}
-use Rattle.protocol.proofs.Basics.{Every, every_more, In, in_left, put_all, put_here, clash, either_if, left_true, right_true, some_is}
+use Rattle.protocol.specs.Desk.{Ask, Reading, Writing, Undecided, Deed, asks_out, writes_out, is_numbered, awaits, with_rows}
+use Rattle.protocol.proofs.Basics.{Every, every_more, In, in_left, put_all, either_if, left_true, right_true, some_is}
 use Rattle.protocol.proofs.Fits.{Drawn}
-use Rattle.protocol.proofs.Ops.{Op, Get, sets, on}
+use Rattle.protocol.proofs.Ops.{Op, sets, on}
 use Rattle.protocol.proofs.Works.{works, own_of}
-use Rattle.protocol.proofs.Book.{Ext, sets_at, AskSent, CameBy, AskAt, AskCame, ReadsFrom, unsent_of, asks_of, Told, BookAt, ask_more, came_more, reads_more}
-use Rattle.protocol.proofs.Booking.{book_stage}
-use Rattle.protocol.proofs.Sending.{AsksSent, WritesSent, asks_sent, writes_sent, did_same}
+use Rattle.protocol.proofs.Book.{Ext, sets_at, AskSent, CameBy, AskAt, AskCame, unsent_of, asks_of, Told, BookAt, came_more, reads_more}
+use Rattle.protocol.proofs.Sending.{AsksSent, WritesSent, did_same}
 
 module _ {L : Lang} (law : IsLawful L) (o : L.Site → Name → Name) (sites : L.Site → SiteState L) (t : Name) where
   -- a first ticket
@@ -25,18 +24,21 @@ module _ {L : Lang} (law : IsLawful L) (o : L.Site → Name → Name) (sites : L
         unsent = put_all L.same_site law.sites a (Some k) u.ticket (λ b m. m ≡ None → u.sent b ≡ 0) (λ is. cc) (λ b other e. book.unsent b e);
         free = λ b j drawn_ owner_. put_all L.same_site law.sites a (Some k) u.ticket (λ b m. Drawn (sites b) j → o b j ≡ t → m ≡ None → ops b j ≡ []) (λ d w is. cc) (λ b other d w e. book.free b j d w e) b drawn_ owner_;
         did = λ g. ap (λ l. on L g l ++ on L g (unsent_of u.stage))
-          (put_all L.same_site law.sites a (Some k) u.ticket (λ b m. sets_at ops b m ≡ sets_at ops b (u.ticket b)) (ap sets none ∙ ap (sets_at ops a) (sym free)) (λ b other. refl) (L.home g)) ∙ book.did g;
+            (put_all L.same_site law.sites a (Some k) u.ticket (λ b m. sets_at ops b m ≡ sets_at ops b (u.ticket b)) (ap sets none ∙ ap (sets_at ops a) (sym free)) (λ b other. refl) (L.home g)) ∙ book.did g;
         reads = reads_more (AskCame t u.ticket ops letters) (AskCame t new ops letters) (λ own q c. record { rows = c.rows; number = c.number; are = c.are; sent = sent_new own q c.number c.sent; came = by_new own q c.number c.rows c.sent c.came }) [] (works past t) book.reads;
         asks = every_more (AskAt t u.ticket ops letters (own_of (works past t))) (AskAt t new ops letters (own_of (works past t))) (asks_of u.stage)
-          (λ q at. record { sent = λ n e. sent_new (own_of (works past t)) q n (at.sent n e); came = λ rows e. let c = at.came rows e in (c.0, c.1, by_new (own_of (works past t)) q c.0 rows (at.sent c.0 c.1) c.2) }) book.asks;
+            (λ q at. record { sent = λ n e. sent_new (own_of (works past t)) q n (at.sent n e); came = λ rows e. let c = at.came rows e in (c.0, c.1, by_new (own_of (works past t)) q c.0 rows (at.sent c.0 c.1) c.2) }) book.asks;
         told = book.told;
       }
     where
       sent_new : (own : List (L.Leaf × L.Write)) (q : Ask L) (n : ℕ) → AskSent u.ticket ops own q n → AskSent (put L.same_site a (Some k) u.ticket) ops own q n
       sent_new own q n s = record {
-        name = s.name; nth = s.nth; before = s.before;
+        name = s.name;
+        nth = s.nth;
+        before = s.before;
         is = put_all L.same_site law.sites a (Some k) u.ticket (λ b m. u.ticket b ≡ Some s.name → m ≡ Some s.name) (λ e. let f : None ≡ Some s.name = sym free ∙ e in cc) (λ b other e. e) (L.home q.leaf) s.is;
       }
+
       by_new : (own : List (L.Leaf × L.Write)) (q : Ask L) (n : ℕ) (rows : L.Rows) → AskSent u.ticket ops own q n → CameBy t u.ticket letters q n rows → CameBy t (put L.same_site a (Some k) u.ticket) letters q n rows
       by_new own q n rows s by j e = by j (put_all L.same_site law.sites a (Some k) u.ticket (λ b m. u.ticket b ≡ Some s.name → m ≡ Some j → u.ticket b ≡ Some j) (λ was is. let f : None ≡ Some s.name = sym free ∙ was in cc) (λ b other was is. is) (L.home q.leaf) s.is e)
 
@@ -62,7 +64,7 @@ module _ {L : Lang} (law : IsLawful L) (o : L.Site → Name → Name) (sites : L
         did = λ g. append-nil (on L g (sets_at r.new (L.home g) (u.ticket (L.home g)))) ∙ ap (on L g) (did_same law t u.ticket ops r.new r.sets_same (L.home g) (u.ticket (L.home g))) ∙ reading_did ops letters past u s asks stage book g;
         reads = reads_more (AskCame t u.ticket ops letters) (AskCame t u.ticket r.new (letters ++ extra)) (came_more t u.ticket u.ticket ops r.new r.ext letters extra) [] (works past t) book.reads;
         asks = every_more (AskAt t u.ticket r.new letters (own_of (works past t))) (AskAt t u.ticket r.new (letters ++ extra) (own_of (works past t))) out.left
-          (λ q at. record { sent = at.sent; came = λ rows e. let c = at.came rows e in (c.0, c.1, λ k f. in_left _ letters extra (c.2 k f)) }) r.asks;
+            (λ q at. record { sent = at.sent; came = λ rows e. let c = at.came rows e in (c.0, c.1, λ k f. in_left _ letters extra (c.2 k f)) }) r.asks;
         told = told_reading past s asks out.left (subst (λ x. Told past t x) stage book.told);
       }
     where
@@ -92,15 +94,25 @@ module _ {L : Lang} (law : IsLawful L) (o : L.Site → Name → Name) (sites : L
   pub rows_came : (ops : L.Site → Name → List (Op L)) (letters : List (Letter L)) (own : List (L.Leaf × L.Write)) (ticket : L.Site → Option Name) (a : L.Site) (k : Name) (n : ℕ) (rows : L.Rows) → ticket a ≡ Some k → In (record { site = a; txn = t; body = Rows k n rows }) letters →
       (asks : List (Ask L)) → Every (AskAt t ticket ops letters own) asks → Every (AskAt t ticket ops letters own) (map (with_rows a n rows) asks)
   rows_came ops letters own ticket a k n rows mine here [] all = tt
-  rows_came ops letters own ticket a k n rows mine here (q ∷ qs) all = (either_if (AskAt t ticket ops letters own) (awaits a n rows q) (record q { rows = Some rows }) q
-      (λ is. let both = left_true (L.same_site (L.home q.leaf) a && is_numbered q.number n) (is_none q.rows) (left_true (L.same_site (L.home q.leaf) a && is_numbered q.number n && is_none q.rows) (L.well_formed q.leaf rows) is) in
+  rows_came ops letters own ticket a k n rows mine here (q ∷ qs) all = (
+    either_if (AskAt t ticket ops letters own) (awaits a n rows q) (record q { rows = Some rows }) q
+        (λ is. let both = left_true (L.same_site (L.home q.leaf) a && is_numbered q.number n) (is_none q.rows) (left_true (L.same_site (L.home q.leaf) a && is_numbered q.number n && is_none q.rows) (L.well_formed q.leaf rows) is) in
         let one = left_true (L.same_site (L.home q.leaf) a) (is_numbered q.number n) both in
         let number = numbered q.number (right_true (L.same_site (L.home q.leaf) a) (is_numbered q.number n) both) in
-        record { sent = λ m e. let s = all.0.sent m e in record { name = s.name; is = s.is; nth = s.nth; before = s.before }; came = λ r e. (n, number, λ j f.
-          let site : L.home q.leaf ≡ a = (law.sites (L.home q.leaf) a).0 one in
-          let name : k ≡ j = some_is (sym mine ∙ ap ticket (sym site) ∙ f) in
-          subst (λ b. In (record { site = b; txn = t; body = Rows j n r }) letters) (sym site) (subst (λ i. In (record { site = a; txn = t; body = Rows i n r }) letters) name (subst (λ y. In (record { site = a; txn = t; body = Rows k n y }) letters) (some_is e) here))) })
-      (λ other. all.0), rows_came ops letters own ticket a k n rows mine here qs all.1)
+        record {
+          sent = λ m e. let s = all.0.sent m e in record { name = s.name; is = s.is; nth = s.nth; before = s.before };
+          came = λ r e. (
+            n,
+            number,
+            λ j f.
+                let site : L.home q.leaf ≡ a = (law.sites (L.home q.leaf) a).0 one in
+                let name : k ≡ j = some_is (sym mine ∙ ap ticket (sym site) ∙ f) in
+                subst (λ b. In (record { site = b; txn = t; body = Rows j n r }) letters) (sym site) (subst (λ i. In (record { site = a; txn = t; body = Rows i n r }) letters) name (subst (λ y. In (record { site = a; txn = t; body = Rows k n y }) letters) (some_is e) here)),
+          );
+        })
+        (λ other. all.0),
+    rows_came ops letters own ticket a k n rows mine here qs all.1,
+  )
     where
       numbered : (m : Option ℕ) → is_numbered m n ≡ true → m ≡ Some n
       numbered None e = cc

@@ -1,20 +1,18 @@
 -- Single steps of the coordinator's book: a statement is accepted, its fetches go out, rows come, it is evaluated, its writes go out, it is answered.
-use Rattle.std.proofs.Common.{◌≡◌, refl, sym, ap, ap₂, ◌∙◌, subst, ℕ, suc, Bool, true, false, ◌&&◌, List, [], ◌∷◌, ◌++◌, map, length, ◌⊎◌, inl, inr, ⊎_elim, Option, Some, None, is_some, is_none, append_assoc, append-nil, if◌then◌else◌, flat_map}
+use Rattle.std.proofs.Common.{◌≡◌, refl, sym, ap, ap₂, ◌∙◌, subst, true, List, [], ◌∷◌, ◌++◌, map, length, Option, Some, None, is_some, append-nil}
 use Rattle.std.specs.List.{list_all}
 use Rattle.std.proofs.lemmas.Grind.{flat_map-append}
 use Rattle.std.proofs.lemmas.List.{map-append}
-use Rattle.protocol.specs.Language.{Lang, IsLawful, Name, same, put}
-use Rattle.protocol.specs.Letter.{Vote, Body, Rows, Letter}
+use Rattle.protocol.specs.Language.{Lang, Name}
+use Rattle.protocol.specs.Letter.{Letter}
 use Rattle.protocol.specs.Site.{SiteState}
-use Rattle.protocol.specs.Desk.{Ask, Stage, Idle, Reading, Writing, Voting, Undecided, Deed, Stated, Worked, Answered, Choice, ask_of, asks_out, writes_out, is_numbered, awaits, with_rows}
-use Rattle.protocol.specs.Serial.{statements_of, answers_of}
-use Rattle.protocol.proofs.Basics.{Every, every_more, every_append, every_map, In, in_left, put_all, put_here, clash, either_if, left_true, right_true, if_true, some_is}
-use Rattle.std.proofs.lemmas.Bool.{eqb-true}
+use Rattle.protocol.specs.Desk.{Ask, Idle, Reading, Writing, Undecided, Deed, Stated, Worked, Answered, Choice, ask_of}
+use Rattle.protocol.specs.Serial.{answers_of}
+use Rattle.protocol.proofs.Basics.{Every, every_more, every_map, left_true, right_true}
 use Rattle.protocol.proofs.Fits.{Drawn}
-use Rattle.protocol.proofs.Ops.{Op, Get, Set, sets, on, on_append}
+use Rattle.protocol.proofs.Ops.{Op, sets, on, on_append}
 use Rattle.protocol.proofs.Works.{Work, works, own_of, SameView, stated_more, worked_more, answered_more}
-use Rattle.protocol.proofs.Book.{Ext, sets_at, AskSent, CameBy, AskAt, AskCame, ReadsFrom, unsent_of, pending, owed, asks_of, Told, BookAt, ask_more, came_more, reads_more, reads_snoc}
-use Rattle.protocol.proofs.Sending.{AsksSent, WritesSent, asks_sent, writes_sent, ext_same}
+use Rattle.protocol.proofs.Book.{Ext, sets_at, AskAt, AskCame, ReadsFrom, unsent_of, pending, owed, asks_of, Told, BookAt, ask_more, came_more, reads_more, reads_snoc}
 
 module _ {L : Lang} (o : L.Site → Name → Name) (sites : L.Site → SiteState L) (t : Name) where
   -- nothing of the transaction happens: others' operations and letters don't matter
@@ -29,9 +27,9 @@ module _ {L : Lang} (o : L.Site → Name → Name) (sites : L.Site → SiteState
         free = λ a k drawn owner none. keeps a k drawn owner ∙ book.free a k drawn owner none;
         did = λ g. ap (λ l. on L g l ++ on L g (unsent_of u.stage)) (at (L.home g) (u.ticket (L.home g)) refl) ∙ book.did g ∙ ap (on L g) (sym own);
         reads = subst (ReadsFrom (AskCame t u.ticket new (letters ++ extra)) []) (sym view.works_same)
-          (reads_more (AskCame t u.ticket ops letters) (AskCame t u.ticket new (letters ++ extra)) (came_more t u.ticket grow ops new ext letters extra) [] (works past t) book.reads);
+            (reads_more (AskCame t u.ticket ops letters) (AskCame t u.ticket new (letters ++ extra)) (came_more t u.ticket grow ops new ext letters extra) [] (works past t) book.reads);
         asks = subst (λ l. Every (AskAt t u.ticket new (letters ++ extra) l) (asks_of u.stage)) (sym own)
-          (every_more (AskAt t u.ticket ops letters (own_of (works past t))) (AskAt t u.ticket new (letters ++ extra) (own_of (works past t))) (asks_of u.stage) (ask_more t u.ticket grow ops new ext letters extra (own_of (works past t))) book.asks);
+            (every_more (AskAt t u.ticket ops letters (own_of (works past t))) (AskAt t u.ticket new (letters ++ extra) (own_of (works past t))) (asks_of u.stage) (ask_more t u.ticket grow ops new ext letters extra (own_of (works past t))) book.asks);
         told = record {
           statements = view.statements_same ∙ book.told.statements ∙ ap (λ l. map (λ (x : Work L). x.statement) l ++ pending u.stage) (sym view.works_same);
           answers = ap (λ l. l ++ owed u.stage) view.answers_same ∙ book.told.answers ∙ ap (λ l. map (λ (x : Work L). x.choice.0) l) (sym view.works_same);
@@ -61,7 +59,9 @@ module _ {L : Lang} (o : L.Site → Name → Name) (sites : L.Site → SiteState
   book_stated ops letters past u s fs idle book =
       let more = stated_more past t s in
       record {
-        sent = book.sent; unsent = book.unsent; free = book.free;
+        sent = book.sent;
+        unsent = book.unsent;
+        free = book.free;
         did = λ g. ap (λ x. on L g (sets_at ops (L.home g) (u.ticket (L.home g))) ++ on L g (unsent_of x)) (sym idle) ∙ book.did g ∙ ap (λ l. on L g (own_of l)) (sym more.0);
         reads = subst (ReadsFrom (AskCame t u.ticket ops letters) []) (sym more.0) book.reads;
         asks = every_map (AskAt t u.ticket ops letters (own_of (works (past ++ Stated t s ∷ []) t))) ask_of fs (λ f. record { sent = λ n e. cc; came = λ rows e. cc });
@@ -78,24 +78,27 @@ module _ {L : Lang} (o : L.Site → Name → Name) (sites : L.Site → SiteState
       let more = worked_more past t s asks choice in
       let x : Work L = record { statement = s; asks = asks; choice = choice } in
       record {
-        sent = book.sent; unsent = book.unsent; free = book.free;
+        sent = book.sent;
+        unsent = book.unsent;
+        free = book.free;
         did = λ g. ap (λ l. l ++ on L g choice.1) (sym (append-nil (on L g (sets_at ops (L.home g) (u.ticket (L.home g))))) ∙ ap (λ y. on L g (sets_at ops (L.home g) (u.ticket (L.home g))) ++ on L g (unsent_of y)) (sym reading) ∙ book.did g)
-          ∙ sym (on_append L g (own_of (works past t)) choice.1)
-          ∙ ap (on L g) (sym (ap own_of more.0 ∙ flat_map-append (λ (y : Work L). y.choice.1) (works past t) (x ∷ []) ∙ ap (λ l. own_of (works past t) ++ l) (append-nil choice.1)));
+            ∙ sym (on_append L g (own_of (works past t)) choice.1)
+            ∙ ap (on L g) (sym (ap own_of more.0 ∙ flat_map-append (λ (y : Work L). y.choice.1) (works past t) (x ∷ []) ∙ ap (λ l. own_of (works past t) ++ l) (append-nil choice.1)));
         reads = subst (ReadsFrom (AskCame t u.ticket ops letters) []) (sym more.0)
-          (reads_snoc (AskCame t u.ticket ops letters) [] (works past t) x book.reads (all_came asks all (subst (λ y. Every (AskAt t u.ticket ops letters (own_of (works past t))) (asks_of y)) reading book.asks)));
+            (reads_snoc (AskCame t u.ticket ops letters) [] (works past t) x book.reads (all_came asks all (subst (λ y. Every (AskAt t u.ticket ops letters (own_of (works past t))) (asks_of y)) reading book.asks)));
         asks = tt;
         told = record {
           statements = more.1 ∙ book.told.statements ∙ ap (λ y. map (λ (x : Work L). x.statement) (works past t) ++ pending y) reading ∙ sym (append-nil (map (λ (x : Work L). x.statement) (works past t) ++ s ∷ []))
-            ∙ ap (λ l. l ++ []) (sym (ap (map (λ (x : Work L). x.statement)) more.0 ∙ map-append (λ (x : Work L). x.statement) (works past t) (x ∷ [])));
+              ∙ ap (λ l. l ++ []) (sym (ap (map (λ (x : Work L). x.statement)) more.0 ∙ map-append (λ (x : Work L). x.statement) (works past t) (x ∷ [])));
           answers = ap (λ l. l ++ choice.0 ∷ []) (more.2 ∙ sym (append-nil (answers_of past t)) ∙ ap (λ y. answers_of past t ++ owed y) (sym reading) ∙ book.told.answers)
-            ∙ sym (ap (map (λ (x : Work L). x.choice.0)) more.0 ∙ map-append (λ (x : Work L). x.choice.0) (works past t) (x ∷ []));
+              ∙ sym (ap (map (λ (x : Work L). x.choice.0)) more.0 ∙ map-append (λ (x : Work L). x.choice.0) (works past t) (x ∷ []));
         };
       }
     where
       came_of : (q : Ask L) (rows : Option L.Rows) → q.rows ≡ rows → is_some rows ≡ true → AskAt t u.ticket ops letters (own_of (works past t)) q → AskCame t u.ticket ops letters (own_of (works past t)) q
       came_of q None e some at = cc
       came_of q (Some rows) e some at = let c = at.came rows e in record { rows = rows; number = c.0; are = e; sent = at.sent c.0 c.1; came = c.2 }
+
       all_came : (qs : List (Ask L)) → list_all (λ q. is_some q.rows) qs ≡ true → Every (AskAt t u.ticket ops letters (own_of (works past t))) qs → Every (AskCame t u.ticket ops letters (own_of (works past t))) qs
       all_came [] yes_ each = tt
       all_came (q ∷ qs) yes_ each = (came_of q q.rows refl (left_true (is_some q.rows) (list_all (λ q. is_some q.rows) qs) yes_) each.0, all_came qs (right_true (is_some q.rows) (list_all (λ q. is_some q.rows) qs) yes_) each.1)
@@ -106,7 +109,9 @@ module _ {L : Lang} (o : L.Site → Name → Name) (sites : L.Site → SiteState
   book_answered ops letters past u answer writing book =
       let more = answered_more past t answer in
       record {
-        sent = book.sent; unsent = book.unsent; free = book.free;
+        sent = book.sent;
+        unsent = book.unsent;
+        free = book.free;
         did = λ g. ap (λ x. on L g (sets_at ops (L.home g) (u.ticket (L.home g))) ++ on L g (unsent_of x)) (sym writing) ∙ book.did g ∙ ap (λ l. on L g (own_of l)) (sym more.0);
         reads = subst (ReadsFrom (AskCame t u.ticket ops letters) []) (sym more.0) book.reads;
         asks = tt;

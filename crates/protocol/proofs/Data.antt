@@ -1,16 +1,17 @@
 -- What visits have done of the operations sent to them, and what their rows say: facts of one site.
-use Rattle.std.proofs.Common.{◌≡◌, refl, sym, ap, ◌∙◌, subst, ℕ, suc, ◌||◌, Bool, true, false, List, [], ◌∷◌, ◌++◌, length, ◌⊎◌, inl, inr, ⊎_elim, Option, Some, None, arith, append_assoc, append-nil}
+use Rattle.std.proofs.Common.{◌≡◌, refl, sym, ap, ◌∙◌, subst, ℕ, suc, true, false, List, [], ◌∷◌, ◌++◌, length, ◌⊎◌, inl, inr, ⊎_elim, arith, append_assoc, append-nil}
 use Rattle.std.specs.Prelude.{⊤}
+use Rattle.protocol.specs.Parts.{op_of}
 use Rattle.protocol.specs.Language.{Lang, IsLawful, Name, same, put, written}
-use Rattle.protocol.specs.Letter.{Yes, No, Read, Vote, Body, Open, Fetch, Write, Prepare, Commit, Abort, Ticket, Rows, Refused, Voted, Ack, Inquire, Letter}
-use Rattle.protocol.specs.Site.{Visit, Status, Dead, Alive, Prepared, SiteState, Act, Says, Opens, Locks, Prepares, Applies, Ends, is_dead, has_exclusive, has_lock, sees, next_ticket, new_visit, site_after, said, restarted, site_restarted, on_give_up}
-use Rattle.protocol.proofs.Basics.{Every, In, in_append, put_all, put_here, put_there, clash, same_law, either_if, if_true, by_test, or_left}
+use Rattle.protocol.specs.Letter.{Yes, No, Read, Vote, Body, Open, Fetch, Write, Prepare, Commit, Abort, Ticket, Rows, Refused, Voted, Ack, Inquire}
+use Rattle.protocol.specs.Site.{Visit, Status, Dead, Alive, Prepared, SiteState, Act, has_exclusive, has_lock, sees, next_ticket, new_visit, site_after, said, restarted, site_restarted, on_give_up}
+use Rattle.protocol.proofs.Basics.{Every, In, in_append, put_all, put_here, clash, same_law, either_if, by_test, or_left}
 use Rattle.protocol.proofs.Fits.{Drawn}
 use Rattle.protocol.proofs.SiteTable.{Acted, says_nothing, says_gone, says_no, says_yes, says_ack, opens, reads, writes, prepares, only_read, votes_no, refuses, applies, ends, discards}
 use Rattle.protocol.proofs.SiteEvents.{drawn_next, drawn_restarted}
 use Rattle.protocol.proofs.SiteSteps.{not_drawn, sees_prepared}
 use Rattle.protocol.proofs.Locks.{Locked, unequal, seen_from}
-use Rattle.protocol.proofs.Ops.{Op, Get, Set, get_leaf, get_set, sets, sets_append, adds, adds_append, split_same, cons_is, none_left, length_of, changed_by, touches_by, written_none, empty_by}
+use Rattle.protocol.proofs.Ops.{Op, Get, Set, get_leaf, get_set, sets, sets_append, adds, adds_append, split_same, none_left, length_of, changed_by, touches_by, written_none, empty_by}
 
 pub nothing : {A : Type 0} (before : List A) (x : A) (after : List A) → [] ≡ before ++ x ∷ after → ⊥
 nothing [] x after e = cc
@@ -78,9 +79,11 @@ module _ {L : Lang} where
   body_tells ops s new (Abort k) stay tells = tt
   body_tells ops s new (Ticket k) stay tells = tt
   body_tells ops s new (Rows k n rows) stay tells = record {
-    leaf = tells.leaf; query = tells.query; nth = tells.nth;
+    leaf = tells.leaf;
+    query = tells.query;
+    nth = tells.nth;
     now = λ v e. ⊎_elim (λ none. absurd (nothing tells.nth.before (Get tells.leaf tells.query) tells.nth.after (sym none ∙ tells.nth.split)))
-      (λ was. let old = tells.now was.0 was.1 in let both = was.2 tells.leaf old.0 in
+        (λ was. let old = tells.now was.0 was.1 in let both = was.2 tells.leaf old.0 in
         (both.0, old.1 ∙ ap (λ c. L.parts tells.query (written L tells.leaf (sets tells.nth.before) c)) (sym both.1))) (stay k v e);
   }
   body_tells ops s new (Refused k reason) stay tells = tt
@@ -110,7 +113,7 @@ module _ {L : Lang} where
       fresh = now.fresh;
     };
     stay = λ j v. put_all same same_law k st s.status (λ j x. x ≡ Alive v → (ops j ≡ []) ⊎ ((u : Visit L) × (s.status j ≡ Alive u) × ((g : L.Leaf) → u.shared g ≡ true → (v.shared g ≡ true) × (kept g ≡ s.kept g))))
-      (λ e. absurd (dead v e)) (λ j other e. inr (v, e, λ g is. (is, unchanged j v g other e is))) j;
+        (λ e. absurd (dead v e)) (λ j other e. inr (v, e, λ g is. (is, unchanged j v g other e is))) j;
   }
 
   ends_steps : (ops : Name → List (Op L)) (s : SiteState L) (k : Name) (names : List Name) → SiteData ops s → Steps ops s (record s { status = put same k Dead s.status; known = names })
@@ -124,14 +127,14 @@ module _ {L : Lang} where
       record {
         data_after = record {
           visits = λ j x. put_all same same_law k (Alive w) f (λ j y. y ≡ Alive x → VisitAt (ops j) x) (λ is. subst (VisitAt (ops k)) (visit_is w x is) visit)
-            (λ j other is. let from = seen_from h (s.status j) x is in let old = now.visits j from.0 from.1 in
+              (λ j other is. let from = seen_from h (s.status j) x is in let old = now.visits j from.0 from.1 in
               subst (VisitAt (ops j)) (sym from.2) (record { past = old.past; rest = old.rest; split = old.split; done = old.done; changes = old.changes; shared = old.shared })) j;
           rows = λ j t i. put_all same same_law k (Alive w) f (λ j y. y ≡ Prepared t i → i ≡ adds L (sets (ops j)) L.none) (λ is. cc) (λ j other is. now.rows j t i (sees_prepared h (s.status j) t i is)) j;
           fresh = now.fresh;
         };
         stay = λ j x. put_all same same_law k (Alive w) f (λ j y. y ≡ Alive x → (ops j ≡ []) ⊎ ((u : Visit L) × (s.status j ≡ Alive u) × ((g : L.Leaf) → u.shared g ≡ true → (x.shared g ≡ true) × (s.kept g ≡ s.kept g))))
-          (λ is. inr (v, e, λ g held. (subst (λ z. z.shared g ≡ true) (visit_is w x is) (more g held), refl)))
-          (λ j other is. let from = seen_from h (s.status j) x is in inr (from.0, from.1, λ g held. (subst (λ z. z.shared g ≡ true) (sym from.2) held, refl))) j;
+            (λ is. inr (v, e, λ g held. (subst (λ z. z.shared g ≡ true) (visit_is w x is) (more g held), refl)))
+            (λ j other is. let from = seen_from h (s.status j) x is in inr (from.0, from.1, λ g held. (subst (λ z. z.shared g ≡ true) (sym from.2) held, refl))) j;
       }
 
   -- the operation that comes next is the one of this number
@@ -148,19 +151,21 @@ module _ {L : Lang} where
     read_visit ops v n g q at nth next =
         let is = next_is ops v n (Get g q) at nth next in
         record {
-          past = at.past ++ Get g q ∷ []; rest = nth.after;
+          past = at.past ++ Get g q ∷ [];
+          rest = nth.after;
           split = at.split ∙ ap (λ l. at.past ++ l) is.1 ∙ sym (append_assoc at.past (Get g q ∷ []) nth.after);
           done = let d = at.done in let m = length_of at.past (Get g q ∷ []) in omega arith;
           changes = at.changes ∙ ap (λ l. adds L l L.none) (sym (sets_append at.past (Get g q ∷ []) ∙ append-nil (sets at.past)));
           shared = λ h p here. either_if (λ b. b ≡ true) (L.same_leaf h g) true (v.shared h) (λ same_. refl)
-            (λ other. ⊎_elim (λ old. at.shared h p old) (λ last. ⊎_elim (λ e. clash ((law.leaves h g).1 (get_leaf h g p q e)) other) (λ none. absurd none) last) (in_append (Get h p) at.past (Get g q ∷ []) here));
+              (λ other. ⊎_elim (λ old. at.shared h p old) (λ last. ⊎_elim (λ e. clash ((law.leaves h g).1 (get_leaf h g p q e)) other) (λ none. absurd none) last) (in_append (Get h p) at.past (Get g q ∷ []) here));
         }
 
     write_visit : (ops : List (Op L)) (v : Visit L) (n : ℕ) (g : L.Leaf) (x : L.Write) → VisitAt ops v → NthOp ops n (Set g x) → n ≡ suc v.done → VisitAt ops (record v { done = n; changes = L.add g x v.changes })
     write_visit ops v n g x at nth next =
         let is = next_is ops v n (Set g x) at nth next in
         record {
-          past = at.past ++ Set g x ∷ []; rest = nth.after;
+          past = at.past ++ Set g x ∷ [];
+          rest = nth.after;
           split = at.split ∙ ap (λ l. at.past ++ l) is.1 ∙ sym (append_assoc at.past (Set g x ∷ []) nth.after);
           done = let d = at.done in let m = length_of at.past (Set g x ∷ []) in omega arith;
           changes = ap (L.add g x) at.changes ∙ sym (adds_append L (sets at.past) ((g, x) ∷ []) L.none) ∙ ap (λ l. adds L l L.none) (sym (sets_append at.past (Set g x ∷ [])));
@@ -183,13 +188,13 @@ module _ {L : Lang} where
     acted_steps ops s t b act now locked tells opens = record {
       data_after = record {
         visits = λ j v. put_all same same_law (next_ticket s) (Alive (new_visit s)) s.status (λ j x. x ≡ Alive v → VisitAt (ops j) v)
-          (λ e. subst (VisitAt (ops (next_ticket s))) (visit_is (new_visit s) v e) (record { past = []; rest = []; split = now.fresh (next_ticket s) (not_drawn s); done = refl; changes = refl; shared = λ g q here. absurd here }))
-          (λ j other e. now.visits j v e) j;
+            (λ e. subst (VisitAt (ops (next_ticket s))) (visit_is (new_visit s) v e) (record { past = []; rest = []; split = now.fresh (next_ticket s) (not_drawn s); done = refl; changes = refl; shared = λ g q here. absurd here }))
+            (λ j other e. now.visits j v e) j;
         rows = λ j u i. put_all same same_law (next_ticket s) (Alive (new_visit s)) s.status (λ j x. x ≡ Prepared u i → i ≡ adds L (sets (ops j)) L.none) (λ e. cc) (λ j other e. now.rows j u i e) j;
         fresh = λ j new. now.fresh j (λ drawn. new (drawn_next s j drawn));
       };
       stay = λ j v. put_all same same_law (next_ticket s) (Alive (new_visit s)) s.status (λ j x. x ≡ Alive v → (ops j ≡ []) ⊎ ((u : Visit L) × (s.status j ≡ Alive u) × ((g : L.Leaf) → u.shared g ≡ true → (v.shared g ≡ true) × (s.kept g ≡ s.kept g))))
-        (λ e. inl (now.fresh (next_ticket s) (not_drawn s))) (λ j other e. inr (v, e, λ g is. (is, refl))) j;
+          (λ e. inl (now.fresh (next_ticket s) (not_drawn s))) (λ j other e. inr (v, e, λ g is. (is, refl))) j;
     }
     acted_steps ops s t b act now locked tells (reads k op g q v e next free) = locks_steps ops s k v _ g _ now e (read_visit (ops k) v op g q (now.visits k v e) tells next)
         (λ h held. either_if (λ x. x ≡ true) (L.same_leaf h g) true (v.shared h) (λ at. refl) (λ off. held))
@@ -223,13 +228,18 @@ module _ {L : Lang} where
     acted_says ops s t b act now tells opens = (tt, tt)
     acted_says ops s t b act now tells (reads k op g q v e next free) =
         let at = now.visits k v e in
-        let is = next_is (ops k) v op (Get g q) at tells next in
-        (record {
-          leaf = g; query = q; nth = tells;
-          now = λ x f. let eq = visit_is _ x (sym (put_here same same_law k (Alive (record v { done = op; shared = put L.same_leaf g true v.shared })) (λ j. sees g (s.status j))) ∙ f) in
-            (subst (λ z. z.shared g ≡ true) eq (put_here L.same_leaf law.leaves g true v.shared),
-              ap (L.parts q) (ap (λ i. L.changed g i (s.kept g)) at.changes ∙ changed_by L law g (sets at.past) (s.kept g) ∙ ap (λ l. written L g (sets l) (s.kept g)) is.0));
-        }, tt)
+        let is = next_is (ops k) v op (Get g q) at tells next in (
+          record {
+            leaf = g;
+            query = q;
+            nth = tells;
+            now = λ x f. let eq = visit_is _ x (sym (put_here same same_law k (Alive (record v { done = op; shared = put L.same_leaf g true v.shared })) (λ j. sees g (s.status j))) ∙ f) in (
+              subst (λ z. z.shared g ≡ true) eq (put_here L.same_leaf law.leaves g true v.shared),
+              ap (L.parts q) (ap (λ i. L.changed g i (s.kept g)) at.changes ∙ changed_by L law g (sets at.past) (s.kept g) ∙ ap (λ l. written L g (sets l) (s.kept g)) is.0),
+            );
+          },
+          tt,
+        )
     acted_says ops s t b act now tells (writes k op g x v e next free) = tt
     acted_says ops s t b act now tells (prepares k n v e done) = (tt, tt)
     acted_says ops s t b act now tells (only_read k n v e done empty) =
@@ -240,6 +250,24 @@ module _ {L : Lang} where
     acted_says ops s t b act now tells (applies k u i e) = (tt, tt)
     acted_says ops s t b act now tells (ends c k v e) = tt
     acted_says ops s t b act now tells (discards k u i e) = tt
+
+    -- no answer of a site is an operation
+    pub acted_plain : (s : SiteState L) (t : Name) (b : Body L) (act : Act L) → Acted s t b act → Every (λ x. (a c : L.Site) (j : Name) → op_of a j c x ≡ []) (said s act)
+    acted_plain s t b act (says_nothing c) = tt
+    acted_plain s t b act (says_gone k op g q) = ((λ a c j. refl), tt)
+    acted_plain s t b act (says_no k n) = ((λ a c j. refl), tt)
+    acted_plain s t b act (says_yes k n u i e) = ((λ a c j. refl), tt)
+    acted_plain s t b act (says_ack k e) = ((λ a c j. refl), tt)
+    acted_plain s t b act opens = ((λ a c j. refl), tt)
+    acted_plain s t b act (reads k op g q v e next free) = ((λ a c j. refl), tt)
+    acted_plain s t b act (writes k op g x v e next free) = tt
+    acted_plain s t b act (prepares k n v e done) = ((λ a c j. refl), tt)
+    acted_plain s t b act (only_read k n v e done empty) = ((λ a c j. refl), tt)
+    acted_plain s t b act (votes_no k n v e) = ((λ a c j. refl), tt)
+    acted_plain s t b act (refuses c k v reason e) = ((λ a c j. refl), tt)
+    acted_plain s t b act (applies k u i e) = ((λ a c j. refl), tt)
+    acted_plain s t b act (ends c k v e) = tt
+    acted_plain s t b act (discards k u i e) = tt
 
     pub restarted_steps : (ops : Name → List (Op L)) (s : SiteState L) → SiteData ops s → Steps ops s (site_restarted s)
     restarted_steps ops s now = record {
@@ -255,6 +283,7 @@ module _ {L : Lang} where
         no_visit Dead v e = cc
         no_visit (Alive u) v e = cc
         no_visit (Prepared t i) v e = cc
+
         row_is : (st : Status L) (t : Name) (i : L.Intentions) → restarted st ≡ Prepared t i → st ≡ Prepared t i
         row_is Dead t i e = cc
         row_is (Alive u) t i e = cc

@@ -1,16 +1,16 @@
 -- The coordinator decides: who voted Yes is prepared and a voter, who voted Read is gone.
 use Rattle.std.proofs.Common.{◌≡◌, refl, sym, ap, ◌∙◌, subst, Bool, true, false, ◌&&◌, ◌||◌, not, List, [], ◌∷◌, ◌++◌, ◌⊎◌, inl, inr, ⊎_elim, Option, Some, None, is_some, if◌then◌else◌}
 use Rattle.std.proofs.lemmas.List.Folds.{list_any-append}
-use Rattle.protocol.specs.Language.{Lang, IsLawful, Name, same, put}
-use Rattle.protocol.specs.Letter.{Yes, No, Read, Vote, Body, Prepare, Commit, Abort, Voted, Letter, letters_to}
-use Rattle.protocol.specs.Site.{Status, Dead, Alive, Prepared, SiteState, is_dead, is_alive, is_prepared}
-use Rattle.protocol.specs.Desk.{Stage, Voting, Undecided, Txn, Unknown, Known, Row, Deed, Phased, Committed, Aborted, By_store, Desk, Turn, desk_after, ends_by, voter_at, voters_of, are_all_in, decides, votes_go, commits, may_hold, vote_at, to_abort, when, to_prepare, stays}
+use Rattle.protocol.specs.Language.{Lang, IsLawful, Name, same}
+use Rattle.protocol.specs.Letter.{Yes, No, Read, Vote, Body, Abort, Voted, Letter}
+use Rattle.protocol.specs.Site.{Status, Dead, Alive, Prepared, is_dead, is_alive}
+use Rattle.protocol.specs.Desk.{Voting, Undecided, Txn, Unknown, Known, Row, Deed, Committed, Aborted, By_store, Turn, desk_after, ends_by, voter_at, voters_of, are_all_in, decides, votes_go, commits, may_hold, vote_at, to_abort, when}
 use Rattle.protocol.specs.World.{World, is_site}
 use Rattle.protocol.specs.Serial.{is_committed, commits_it}
-use Rattle.protocol.proofs.Basics.{Every, In, put_here, every_append, every_more, every_flat, every_map, every_in, clash, same_law, same_refl, either, either_if, or_cases, or_left, or_right, not_true, by_test, found, all_in, any_in, in_flat, some_is, if_true}
-use Rattle.protocol.proofs.Fits.{Drawn, Born, Und, is_voting, Own, OwnVoting, IsCommitted, FitsBody, Fits, PreparedAt, VoteAt, KnownAt, Gone, Votes, Fit}
-use Rattle.protocol.proofs.DeskFits.{Grows, grows_same, TurnFine, split}
-use Rattle.protocol.proofs.Turns.{known_is, und_put, goes_fine, ends_fine, not_yet, every_letter}
+use Rattle.protocol.proofs.Basics.{Every, In, every_more, every_flat, clash, same_law, same_refl, either, either_if, or_cases, or_left, or_right, not_true, by_test, found, all_in, in_flat, some_is, if_true}
+use Rattle.protocol.proofs.Fits.{Own, FitsBody, Fits, KnownAt, Gone, Votes, Fit}
+use Rattle.protocol.proofs.DeskFits.{Grows, TurnFine, split}
+use Rattle.protocol.proofs.Turns.{und_put, goes_fine, ends_fine, not_yet, every_letter}
 
 module _ {L : Lang} where
   pub voters_is : (ws acked vs done : List (L.Site × Name)) → let r : Txn L = Row vs done in r ≡ Row ws acked → ws ≡ vs
@@ -34,11 +34,16 @@ module _ {L : Lang} (law : IsLawful L) where
     pub ends_letters : (v : Undecided L) (d : Deed L) → ((a : L.Site) (k : Name) → Own a k v → Own a k u) → ((j : Name) → is_committed (d ∷ []) j ≡ false) →
         Every (Fits o (desk_after w.desk t Unknown) (w.past ++ d ∷ []) w.sites) (ends_by t v d).letters
     ends_letters v d own none = every_letter (Fits o (desk_after w.desk t Unknown) (w.past ++ d ∷ []) w.sites) t (λ a. when (v.visited a && may_hold (vote_at v.stage a)) (to_abort (v.ticket a))) L.sites
-      (λ a b here said. let k = aborts_to v a b (v.visited a && may_hold (vote_at v.stage a)) (v.ticket a) refl said in
-        let ticket = (fit.known t u e).tickets a k.0 (own a k.0 k.1) in
-        (fit.born t u e, subst (FitsBody o (desk_after w.desk t Unknown) (w.past ++ d ∷ []) a (w.sites a) t) (sym k.2)
-          (ticket.0, ticket.1, und_put w.desk t Unknown _ (λ x f. cc),
-            λ done. absurd (⊎_elim (λ was. not_yet o w t fit u e was) (λ now. clash now.1 (none t)) (split o w t (record { txn = Unknown; letters = []; deeds = d ∷ [] }) fit (ends_fine o w t fit u [] (d ∷ []) e none) t done)))))
+        (λ a b here said. let k = aborts_to v a b (v.visited a && may_hold (vote_at v.stage a)) (v.ticket a) refl said in
+        let ticket = (fit.known t u e).tickets a k.0 (own a k.0 k.1) in (
+          fit.born t u e,
+          subst (FitsBody o (desk_after w.desk t Unknown) (w.past ++ d ∷ []) a (w.sites a) t) (sym k.2) (
+            ticket.0,
+            ticket.1,
+            und_put w.desk t Unknown _ (λ x f. cc),
+            λ done. absurd (⊎_elim (λ was. not_yet o w t fit u e was) (λ now. clash now.1 (none t)) (split o w t (record { txn = Unknown; letters = []; deeds = d ∷ [] }) fit (ends_fine o w t fit u [] (d ∷ []) e none) t done)),
+          ),
+        ))
 
     module _ (v : Undecided L) (votes : L.Site → Option Vote) (known : KnownAt o w.sites w.letters t v) (stage : v.stage ≡ Voting votes) where
       -- a voter voted Yes with its ticket
@@ -54,7 +59,7 @@ module _ {L : Lang} (law : IsLawful L) where
 
       pub voters_are : Every IsVoter (voters_of v votes)
       voters_are = every_flat IsVoter (λ a. if v.visited a then voter_at a (votes a) (v.ticket a) else []) L.sites
-        (λ a. either (Every IsVoter) (v.visited a) (voter_at a (votes a) (v.ticket a)) [] (voter_is a (votes a) (v.ticket a) refl refl) tt)
+          (λ a. either (Every IsVoter) (v.visited a) (voter_at a (votes a) (v.ticket a)) [] (voter_is a (votes a) (v.ticket a) refl refl) tt)
 
       -- with all votes in, each site that has a ticket has voted
       pub has_voted : are_all_in v votes ≡ true → (a : L.Site) (k : Name) → Own a k v → is_some (votes a) ≡ true
@@ -95,7 +100,7 @@ module _ {L : Lang} (law : IsLawful L) where
           let ticket = known.tickets a k own in
           let yes = yes_by a k i own row (votes a) refl (has_voted all a k own) in
           in_flat (λ b. if v.visited b then voter_at b (votes b) (v.ticket b) else []) a (a, k) L.sites (site_in a L.sites ticket.3)
-            (rw (if_true (v.visited a) (voter_at a (votes a) (v.ticket a)) [] ticket.2, yes, own) (inl refl))
+          (rw (if_true (v.visited a) (voter_at a (votes a) (v.ticket a)) [] ticket.2, yes, own) (inl refl))
 
       votes_of_voters : (x : L.Site × Name) → IsVoter x → Votes o w.sites t x
       votes_of_voters x is = let ticket = known.tickets x.0 x.1 is.1 in (ticket.0, ticket.1, ap is_alive (known.votes votes stage x.0 Yes is.0 x.1 is.1).1)
@@ -108,9 +113,11 @@ module _ {L : Lang} (law : IsLawful L) where
       commit_fine x letters before none own all unknown row voter = record {
         grows = λ z f. absurd (unknown z f);
         known = λ z f. absurd (unknown z f);
-        rows = λ ws acked f. let r = row ws acked f in
-          (inr (list_any-append (commits_it t) before (Committed t ∷ []) ∙ or_right (is_committed before t) (same t t || false) (or_left (same t t) false (same_refl t))),
-            subst (Every (Gone w.sites)) (sym r.1) tt, subst (Every (Votes o w.sites t)) (sym r.0) (every_more IsVoter (Votes o w.sites t) (voters_of v votes) votes_of_voters voters_are));
+        rows = λ ws acked f. let r = row ws acked f in (
+          inr (list_any-append (commits_it t) before (Committed t ∷ []) ∙ or_right (is_committed before t) (same t t || false) (or_left (same t t) false (same_refl t))),
+          subst (Every (Gone w.sites)) (sym r.1) tt,
+          subst (Every (Votes o w.sites t)) (sym r.0) (every_more IsVoter (Votes o w.sites t) (voters_of v votes) votes_of_voters voters_are),
+        );
         only = λ j other. list_any-append (commits_it j) before (Committed t ∷ []) ∙ both_false (is_committed before j) (same t j || false) (none j) (both_false (same t j) false (not_same j other) refl);
         commits = λ done. (u, e, unknown, λ a k mine. all_quiet all a k (own a k mine), λ a k mine. dead_read a k (own a k mine) (votes a) refl (has_voted all a k (own a k mine)), λ a k i mine held. voter (a, k) (prepared_votes all a k i (own a k mine) held));
         keeps = λ ws acked f. let g : Known u ≡ Row ws acked = sym e ∙ f in cc;
@@ -119,6 +126,7 @@ module _ {L : Lang} (law : IsLawful L) where
           both_false : (a b : Bool) → a ≡ false → b ≡ false → (a || b) ≡ false
           both_false true b f g = f
           both_false false b f g = g
+
           not_same : (j : Name) → same j t ≡ false → same t j ≡ false
           not_same j other = ⊎_elim (λ is. clash ((same_law j t).1 (sym ((same_law t j).0 is))) other) (λ no_. no_) (by_test (same t j))
 
@@ -126,17 +134,17 @@ module _ {L : Lang} (law : IsLawful L) where
           (xs : List (L.Site × Name)) → voters_of v votes ≡ xs → TurnFine o w t (record { txn = (decides t v kept xs).txn; letters = letters; deeds = before ++ (decides t v kept xs).deeds })
       commits_or_ends kept letters before none own all [] f = commit_fine Unknown letters before none own all (λ z g. cc) (λ ws acked g. cc) (λ y here. absurd (subst (In y) f here))
       commits_or_ends true letters before none own all (x ∷ xs) f = commit_fine (Row (x ∷ xs) []) letters before none own all (λ z g. cc)
-        (λ ws acked g. (voters_is ws acked (x ∷ xs) [] g ∙ sym f, acked_is ws acked (x ∷ xs) [] g)) (λ y here. (x ∷ xs, [], refl, subst (In y) f here))
+          (λ ws acked g. (voters_is ws acked (x ∷ xs) [] g ∙ sym f, acked_is ws acked (x ∷ xs) [] g)) (λ y here. (x ∷ xs, [], refl, subst (In y) f here))
       commits_or_ends false letters before none own all (x ∷ xs) f = ends_fine o w t fit u letters (before ++ Aborted t By_store ∷ []) e
-        (λ j. list_any-append (commits_it j) before (Aborted t By_store ∷ []) ∙ ap (λ b. b || false) (none j))
+          (λ j. list_any-append (commits_it j) before (Aborted t By_store ∷ []) ∙ ap (λ b. b || false) (none j))
 
   -- a vote more, or the first phase that begins
   module _ (o : L.Site → Name → Name) (w : World L) (t : Name) (fit : Fit o w) (u : Undecided L) (e : w.desk.txn t ≡ Known u) (v : Undecided L) (votes : L.Site → Option Vote) (known : KnownAt o w.sites w.letters t (record v { stage = Voting votes })) where
     pub votes_fine : (kept : Bool) (letters : List (Letter L)) (before : List (Deed L)) → ((j : Name) → is_committed before j ≡ false) → ((a : L.Site) (k : Name) → Own a k u → Own a k v) → Grows u (record v { stage = Voting votes }) →
         TurnFine o w t (record { txn = (votes_go t v votes kept).txn; letters = letters; deeds = before ++ (votes_go t v votes kept).deeds })
     votes_fine kept letters before none own grows = either_if (λ (turn : Turn L). TurnFine o w t (record { txn = turn.txn; letters = letters; deeds = before ++ turn.deeds })) (are_all_in v votes) _ _
-      (λ all. commits_or_ends o w t fit u e (record v { stage = Voting votes }) votes known refl kept letters before none own all (voters_of v votes) refl)
-      (λ waits. goes_fine o w t fit u (record v { stage = Voting votes }) letters (before ++ []) e grows known (λ j. list_any-append (commits_it j) before [] ∙ ap (λ b. b || false) (none j)))
+        (λ all. commits_or_ends o w t fit u e (record v { stage = Voting votes }) votes known refl kept letters before none own all (voters_of v votes) refl)
+        (λ waits. goes_fine o w t fit u (record v { stage = Voting votes }) letters (before ++ []) e grows known (λ j. list_any-append (commits_it j) before [] ∙ ap (λ b. b || false) (none j)))
 
     -- the letters of a decision
     decided_letters : (kept : Bool) → are_all_in v votes ≡ true → ((a : L.Site) (k : Name) → Own a k v → Own a k u) → (xs : List (L.Site × Name)) → voters_of v votes ≡ xs →
@@ -157,4 +165,4 @@ module _ {L : Lang} (law : IsLawful L) where
     pub votes_letters : (kept : Bool) → ((a : L.Site) (k : Name) → Own a k v → Own a k u) →
         Every (Fits o (desk_after w.desk t (votes_go t v votes kept).txn) (w.past ++ (votes_go t v votes kept).deeds) w.sites) (votes_go t v votes kept).letters
     votes_letters kept own = either_if (λ (turn : Turn L). Every (Fits o (desk_after w.desk t turn.txn) (w.past ++ turn.deeds) w.sites) turn.letters) (are_all_in v votes) _ _
-      (λ all. decided_letters kept all own (voters_of v votes) refl) (λ waits. tt)
+        (λ all. decided_letters kept all own (voters_of v votes) refl) (λ waits. tt)

@@ -1,14 +1,14 @@
 -- A turn of the coordinator keeps what letters, prepared rows and transactions say.
-use Rattle.std.proofs.Common.{◌≡◌, refl, sym, ap, ◌∙◌, subst, ℕ, suc, Bool, true, false, ◌||◌, List, [], ◌∷◌, ◌++◌, ◌⊎◌, inl, inr, ⊎_elim, Option, Some, None}
+use Rattle.std.proofs.Common.{◌≡◌, sym, ◌∙◌, subst, true, false, List, ◌++◌, ◌⊎◌, inl, inr, ⊎_elim}
 use Rattle.std.proofs.lemmas.List.Folds.{list_any-append}
 use Rattle.protocol.specs.Language.{Lang, Name, same, put}
-use Rattle.protocol.specs.Letter.{Yes, No, Read, Vote, Body, Open, Fetch, Write, Prepare, Commit, Abort, Ticket, Rows, Refused, Voted, Ack, Inquire, Letter}
-use Rattle.protocol.specs.Site.{Status, Prepared, SiteState, is_dead, is_alive, is_prepared}
-use Rattle.protocol.specs.Desk.{Undecided, Txn, Known, Row, Deed, Desk, Turn, desk_after}
+use Rattle.protocol.specs.Letter.{Yes, No, Read, Body, Open, Fetch, Write, Prepare, Commit, Abort, Ticket, Rows, Refused, Voted, Ack, Inquire, Letter}
+use Rattle.protocol.specs.Site.{Prepared, is_dead, is_alive, is_prepared}
+use Rattle.protocol.specs.Desk.{Undecided, Known, Row, Deed, Desk, Turn, desk_after}
 use Rattle.protocol.specs.World.{World, turned}
 use Rattle.protocol.specs.Serial.{is_committed, commits_it}
 use Rattle.protocol.proofs.Basics.{Every, In, put_all, put_here, put_there, every_append, every_more, clash, same_law, or_cases, or_left, or_right, by_test, some_is}
-use Rattle.protocol.proofs.Fits.{Drawn, Born, Und, is_voting, Own, Other, OwnVoting, IsCommitted, FitsVote, FitsBody, Fits, PreparedAt, KnownAt, known_more, Gone, Votes, Fit}
+use Rattle.protocol.proofs.Fits.{Born, Und, is_voting, Own, Other, OwnVoting, IsCommitted, FitsBody, Fits, KnownAt, known_more, Gone, Votes, Fit}
 use Rattle.protocol.proofs.SiteFits.{not_prepared}
 
 module _ {L : Lang} where
@@ -35,12 +35,12 @@ module _ {L : Lang} where
     free_later : (t : Name) (a : L.Site) (k : Name) → o a k ≡ t → Und w.desk t (Other a k) → (IsCommitted w.past t → is_prepared ((w.sites a).status k) ≡ false) → IsCommitted past t → is_prepared ((w.sites a).status k) ≡ false
     free_later t a k owner other free done = ⊎_elim (λ was. free was)
         (λ now. not_prepared ((w.sites a).status k) (λ j i row.
-          let p = fit.prepared a k j i row in
-          let is : j ≡ t = sym p.owner ∙ owner in
-          let its = other now.0 now.1 in
-          let own = p.own now.0 (subst (λ n. w.desk.txn n ≡ Known now.0) (sym is) now.1) in
-          let eq : its.0 ≡ k = some_is (sym its.1 ∙ own.0) in
-          clash ((same_law its.0 k).1 eq) its.2))
+        let p = fit.prepared a k j i row in
+        let is : j ≡ t = sym p.owner ∙ owner in
+        let its = other now.0 now.1 in
+        let own = p.own now.0 (subst (λ n. w.desk.txn n ≡ Known now.0) (sym is) now.1) in
+        let eq : its.0 ≡ k = some_is (sym its.1 ∙ own.0) in
+        clash ((same_law its.0 k).1 eq) its.2))
         (later.newly t done)
 
     pub body_desk : (a : L.Site) (t : Name) (b : Body L) → Born w.desk t → FitsBody o w.desk w.past a (w.sites a) t b → FitsBody o d past a (w.sites a) t b
@@ -82,7 +82,7 @@ module _ {L : Lang} where
     pub was_committed : (j : Name) → IsCommitted w.past j → IsCommitted (w.past ++ turn.deeds) j
     was_committed j was = list_any-append (commits_it j) w.past turn.deeds ∙ or_left (is_committed w.past j) (is_committed turn.deeds j) was
 
-    now_committed : (j : Name) → IsCommitted turn.deeds j → IsCommitted (w.past ++ turn.deeds) j
+    pub now_committed : (j : Name) → IsCommitted turn.deeds j → IsCommitted (w.past ++ turn.deeds) j
     now_committed j now = list_any-append (commits_it j) w.past turn.deeds ∙ or_right (is_committed w.past j) (is_committed turn.deeds j) now
 
     pub turn_later : DeskLater o w (desk_after w.desk t turn.txn) (w.past ++ turn.deeds)
@@ -97,35 +97,36 @@ module _ {L : Lang} where
         (vs : List (L.Site × Name)) × (acked : List (L.Site × Name)) × (put same t turn.txn w.desk.txn j ≡ Row vs acked) × In (a, k) vs
     voter_later a k j i row done = ⊎_elim
         (λ was. let v = (fit.prepared a k j i row).voter was in ⊎_elim
-          (λ is. let eq = (same_law j t).0 is in
-            let n = fine.keeps v.0 v.1 (subst (λ n. w.desk.txn n ≡ Row v.0 v.1) eq v.2) a k i v.3 (subst (λ n. (w.sites a).status k ≡ Prepared n i) eq row) in
-            (v.0, n.0, subst (λ n'. put same t turn.txn w.desk.txn n' ≡ Row v.0 n.0) (sym eq) (put_here same same_law t turn.txn w.desk.txn ∙ n.1), v.3))
-          (λ other. (v.0, v.1, put_there same same_law t turn.txn w.desk.txn j other ∙ v.2, v.3))
-          (by_test (same j t)))
+        (λ is. let eq = (same_law j t).0 is in
+        let n = fine.keeps v.0 v.1 (subst (λ n. w.desk.txn n ≡ Row v.0 v.1) eq v.2) a k i v.3 (subst (λ n. (w.sites a).status k ≡ Prepared n i) eq row) in
+        (v.0, n.0, subst (λ n'. put same t turn.txn w.desk.txn n' ≡ Row v.0 n.0) (sym eq) (put_here same same_law t turn.txn w.desk.txn ∙ n.1), v.3))
+        (λ other. (v.0, v.1, put_there same same_law t turn.txn w.desk.txn j other ∙ v.2, v.3))
+        (by_test (same j t)))
         (λ now. let c = fine.commits now.1 in
-          let own = (fit.prepared a k j i row).own c.0 (subst (λ n. w.desk.txn n ≡ Known c.0) (sym now.0) c.1) in
-          let v = c.5 a k i own.0 (subst (λ n. (w.sites a).status k ≡ Prepared n i) now.0 row) in
-          (v.0, v.1, subst (λ n. put same t turn.txn w.desk.txn n ≡ Row v.0 v.1) (sym now.0) (put_here same same_law t turn.txn w.desk.txn ∙ v.2), v.3))
+        let own = (fit.prepared a k j i row).own c.0 (subst (λ n. w.desk.txn n ≡ Known c.0) (sym now.0) c.1) in
+        let v = c.5 a k i own.0 (subst (λ n. (w.sites a).status k ≡ Prepared n i) now.0 row) in
+        (v.0, v.1, subst (λ n. put same t turn.txn w.desk.txn n ≡ Row v.0 v.1) (sym now.0) (put_here same same_law t turn.txn w.desk.txn ∙ v.2), v.3))
         (split j done)
 
     pub turn_moves : Every (Fits o (desk_after w.desk t turn.txn) (w.past ++ turn.deeds) w.sites) turn.letters → Fit o (turned w t turn)
     turn_moves letters = record {
       live = fit.live;
       prepared = λ a k j i row. let p = fit.prepared a k j i row in record {
-        owner = p.owner; born = p.born;
+        owner = p.owner;
+        born = p.born;
         own = own_later o w (desk_after w.desk t turn.txn) (w.past ++ turn.deeds) fit turn_later j a k p.born p.own;
         voter = voter_later a k j i row;
       };
       born = put_all same same_law t turn.txn w.desk.txn (λ j x. (v : Undecided L) → x ≡ Known v → Born w.desk j) (λ v e. let g = fine.grows v e in fit.born t g.0 g.1) (λ j other v e. fit.born j v e);
       known = put_all same same_law t turn.txn w.desk.txn (λ j x. (v : Undecided L) → x ≡ Known v → KnownAt o w.sites (w.letters ++ turn.letters) j v) (λ v e. known_more o w.sites w.letters turn.letters t v (fine.known v e)) (λ j other v e. known_more o w.sites w.letters turn.letters j v (fit.known j v e));
       rows = put_all same same_law t turn.txn w.desk.txn (λ j x. (vs acked : List (L.Site × Name)) → x ≡ Row vs acked → IsCommitted (w.past ++ turn.deeds) j × Every (Gone w.sites) acked × Every (Votes o w.sites j) vs)
-        (λ vs acked e. let r = fine.rows vs acked e in (⊎_elim (was_committed t) (now_committed t) r.0, r.1, r.2))
-        (λ j other vs acked e. let r = fit.rows j vs acked e in (was_committed j r.0, r.1, r.2));
+          (λ vs acked e. let r = fine.rows vs acked e in (⊎_elim (was_committed t) (now_committed t) r.0, r.1, r.2))
+          (λ j other vs acked e. let r = fit.rows j vs acked e in (was_committed j r.0, r.1, r.2));
       committed = λ j done. ⊎_elim
-        (λ was. let c = fit.committed j was in (c.0, λ v e. let g = turn_later.grown j c.0 v e in c.1 g.0 g.1))
-        (λ now. let c = fine.commits now.1 in
+          (λ was. let c = fit.committed j was in (c.0, λ v e. let g = turn_later.grown j c.0 v e in c.1 g.0 g.1))
+          (λ now. let c = fine.commits now.1 in
           (subst (Born w.desk) (sym now.0) (fit.born t c.0 c.1), λ v e. c.2 v (sym (put_here same same_law t turn.txn w.desk.txn) ∙ subst (λ n. put same t turn.txn w.desk.txn n ≡ Known v) now.0 e)))
-        (split j done);
+          (split j done);
       letters = every_append (Fits o (desk_after w.desk t turn.txn) (w.past ++ turn.deeds) w.sites) w.letters turn.letters
-        (letters_desk o w (desk_after w.desk t turn.txn) (w.past ++ turn.deeds) fit turn_later w.letters fit.letters) letters;
+          (letters_desk o w (desk_after w.desk t turn.txn) (w.past ++ turn.deeds) fit turn_later w.letters fit.letters) letters;
     }

@@ -1,14 +1,14 @@
 -- Each request and each letter at the coordinator keeps what letters, prepared rows and transactions say.
-use Rattle.std.proofs.Common.{◌≡◌, refl, sym, ap, ◌∙◌, subst, ℕ, suc, Bool, true, false, ◌||◌, ◌&&◌, List, [], ◌∷◌, ◌++◌, map, ◌⊎◌, inl, inr, ⊎_elim, Option, Some, None, is_some, is_none, if◌then◌else◌}
+use Rattle.std.proofs.Common.{◌≡◌, refl, sym, ap, ◌∙◌, subst, ℕ, Bool, true, false, List, [], ◌∷◌, ◌++◌, map, inl, ⊎_elim, Option, Some, None, is_some, is_none}
 use Rattle.std.specs.List.{list_any, list_all}
 use Rattle.protocol.specs.Language.{Lang, IsLawful, Name, same, put}
 use Rattle.protocol.specs.Letter.{Yes, No, Read, Vote, Body, Open, Fetch, Write, Prepare, Commit, Abort, Ticket, Rows, Refused, Voted, Ack, Inquire, Letter}
-use Rattle.protocol.specs.Site.{Status, Prepared, is_dead, is_alive, is_prepared}
-use Rattle.protocol.specs.Desk.{Ask, Stage, Idle, Reading, Writing, Voting, Undecided, Txn, Unknown, Known, Row, Choice, Deed, Stated, Worked, Answered, Phased, Committed, Aborted, Rolled_back, By_vote, By_refusal, Given_up, Desk, Turn, Request, State, Commit_call, Rollback, Give_up, desk_after, stays, is_named, states, works, ends_by, phases, votes_go, decides, voters_of, are_all_in, when, to_prepare, on_state, on_commit_call, on_rollback, on_request, ticket_goes, on_ticket, with_rows, rows_go, on_rows, on_refused, counts, on_vote, on_known, on_unknown, is_pair, are_acked, on_ack, on_row, on_desk_letter}
+use Rattle.protocol.specs.Site.{is_dead}
+use Rattle.protocol.specs.Desk.{Ask, Stage, Idle, Reading, Writing, Voting, Undecided, Txn, Unknown, Known, Row, Choice, Deed, Stated, Worked, Phased, Aborted, Rolled_back, By_vote, By_refusal, Given_up, Turn, Request, State, Commit_call, Rollback, Give_up, desk_after, stays, is_named, states, ends_by, phases, votes_go, decides, voters_of, are_all_in, when, to_prepare, on_state, on_commit_call, on_rollback, on_request, ticket_goes, on_ticket, with_rows, on_rows, on_refused, counts, on_vote, on_known, on_unknown, is_pair, are_acked, on_ack, on_row, on_desk_letter}
 use Rattle.protocol.specs.World.{World, is_site}
 use Rattle.protocol.specs.Serial.{is_committed}
-use Rattle.protocol.proofs.Basics.{Every, In, put_all, put_here, put_there, every_append, every_more, every_in, clash, same_law, either, either_if, some_is, found, all_in, left_true, right_true}
-use Rattle.protocol.proofs.Fits.{Drawn, Born, Und, is_voting, Own, Other, OwnVoting, IsCommitted, FitsVote, FitsBody, Fits, PreparedAt, VoteAt, KnownAt, Gone, Votes, Fit}
+use Rattle.protocol.proofs.Basics.{Every, In, put_all, every_in, clash, same_law, either, either_if, some_is, found, all_in, left_true, right_true}
+use Rattle.protocol.proofs.Fits.{Drawn, Born, is_voting, Own, OwnVoting, IsCommitted, FitsBody, Fits, VoteAt, KnownAt, Gone, Votes, Fit}
 use Rattle.protocol.proofs.SiteFits.{not_prepared}
 use Rattle.protocol.proofs.DeskFits.{Grows, grows_same, TurnFine, turn_later, letters_desk, split}
 use Rattle.protocol.proofs.Turns.{known_is, und_put, still_fine, goes_fine, ends_fine, not_yet, every_letter}
@@ -81,11 +81,16 @@ module _ {L : Lang} where
           record {
             fine = fine;
             letters = every_letter (Fits o (desk_after w.desk t (phases t u).txn) (w.past ++ (phases t u).deeds) w.sites) t (λ a. when (u.visited a) (to_prepare u a (u.ticket a))) L.sites
-              (λ a b here said. let k = prepares_to u a b (u.visited a) (u.ticket a) refl said in
-                let ticket = (fit.known t u e).tickets a k.0 k.1 in
-                (fit.born t u e, subst (FitsBody o (desk_after w.desk t (phases t u).txn) (w.past ++ (phases t u).deeds) a (w.sites a) t) (sym k.2)
-                  (ticket.0, ticket.1, und_put w.desk t (phases t u).txn (OwnVoting a k.0) (λ y g. (let gr = fine.grows y g in gr.2.ticket a k.0 (subst (Own a k.0) (known_is u gr.0 (sym e ∙ gr.1)) k.1), votes_voting t u (λ a. None) y g)),
-                    λ done. ⊎_elim (λ was. absurd (not_yet o w t fit u e was)) (λ now. let c = fine.commits now.1 in c.3 a k.0 (subst (Own a k.0) (known_is u c.0 (sym e ∙ c.1)) k.1)) (split o w t (phases t u) fit fine t done))));
+                (λ a b here said. let k = prepares_to u a b (u.visited a) (u.ticket a) refl said in
+                let ticket = (fit.known t u e).tickets a k.0 k.1 in (
+                  fit.born t u e,
+                  subst (FitsBody o (desk_after w.desk t (phases t u).txn) (w.past ++ (phases t u).deeds) a (w.sites a) t) (sym k.2) (
+                    ticket.0,
+                    ticket.1,
+                    und_put w.desk t (phases t u).txn (OwnVoting a k.0) (λ y g. (let gr = fine.grows y g in gr.2.ticket a k.0 (subst (Own a k.0) (known_is u gr.0 (sym e ∙ gr.1)) k.1), votes_voting t u (λ a. None) y g)),
+                    λ done. ⊎_elim (λ was. absurd (not_yet o w t fit u e was)) (λ now. let c = fine.commits now.1 in c.3 a k.0 (subst (Own a k.0) (known_is u c.0 (sym e ∙ c.1)) k.1)) (split o w t (phases t u) fit fine t done),
+                  ),
+                ));
           }
 
       rollback_good : (stage : Stage L) → u.stage ≡ stage → Good o w t (on_rollback t u stage)
@@ -123,21 +128,23 @@ module _ {L : Lang} where
         -- with a first ticket
         with_ticket : (k : Name) → u.ticket a ≡ None → FitsBody o w.desk w.past a (w.sites a) t (Ticket k) → Grows u (record u { ticket = put L.same_site a (Some k) u.ticket }) × KnownAt o w.sites w.letters t (record u { ticket = put L.same_site a (Some k) u.ticket })
         with_ticket k free (drawn, owner, site, visited) =
-            let known = fit.known t u e in
-            (record {
-              ticket = λ b j own. put_all L.same_site law.sites a (Some k) u.ticket (λ b m. u.ticket b ≡ Some j → m ≡ Some j) (λ is. let f : None ≡ Some j = sym free ∙ is in cc) (λ b other is. is) b own;
-              visited = λ b is. is;
-              voting = λ is. is;
-            }, record {
-              tickets = λ b j. put_all L.same_site law.sites a (Some k) u.ticket (λ b m. m ≡ Some j → Drawn (w.sites b) j × (o b j ≡ t) × (u.visited b ≡ true) × (is_site L b L.sites ≡ true))
-                (λ is. subst (λ n. Drawn (w.sites a) n × (o a n ≡ t) × (u.visited a ≡ true) × (is_site L a L.sites ≡ true)) (some_is is) (drawn, owner, visited u e, site)) (λ b other is. known.tickets b j is) b;
-              votes = λ votes stage b x counted j. put_all L.same_site law.sites a (Some k) u.ticket (λ b m. votes b ≡ Some x → m ≡ Some j → VoteAt (w.sites b) t j x)
-                (λ here is. let n = known.named votes stage a x here in let f : None ≡ Some n.0 = sym free ∙ n.1 in cc) (λ b other there is. known.votes votes stage b x there j is) b counted;
-              none = known.none;
-              named = λ votes stage b x. put_all L.same_site law.sites a (Some k) u.ticket (λ b m. votes b ≡ Some x → (j : Name) × (m ≡ Some j)) (λ here. (k, refl)) (λ b other there. known.named votes stage b x there) b;
-              reads = λ votes stage b j counted. put_all L.same_site law.sites a (Some k) u.ticket (λ b m. votes b ≡ Some Read → m ≡ Some j → In (record { site = b; txn = t; body = Voted j Read }) w.letters)
-                (λ here is. let n = known.named votes stage a Read here in let f : None ≡ Some n.0 = sym free ∙ n.1 in cc) (λ b other there is. known.reads votes stage b j there is) b counted;
-            })
+            let known = fit.known t u e in (
+              record {
+                ticket = λ b j own. put_all L.same_site law.sites a (Some k) u.ticket (λ b m. u.ticket b ≡ Some j → m ≡ Some j) (λ is. let f : None ≡ Some j = sym free ∙ is in cc) (λ b other is. is) b own;
+                visited = λ b is. is;
+                voting = λ is. is;
+              },
+              record {
+                tickets = λ b j. put_all L.same_site law.sites a (Some k) u.ticket (λ b m. m ≡ Some j → Drawn (w.sites b) j × (o b j ≡ t) × (u.visited b ≡ true) × (is_site L b L.sites ≡ true))
+                    (λ is. subst (λ n. Drawn (w.sites a) n × (o a n ≡ t) × (u.visited a ≡ true) × (is_site L a L.sites ≡ true)) (some_is is) (drawn, owner, visited u e, site)) (λ b other is. known.tickets b j is) b;
+                votes = λ votes stage b x counted j. put_all L.same_site law.sites a (Some k) u.ticket (λ b m. votes b ≡ Some x → m ≡ Some j → VoteAt (w.sites b) t j x)
+                    (λ here is. let n = known.named votes stage a x here in let f : None ≡ Some n.0 = sym free ∙ n.1 in cc) (λ b other there is. known.votes votes stage b x there j is) b counted;
+                none = known.none;
+                named = λ votes stage b x. put_all L.same_site law.sites a (Some k) u.ticket (λ b m. votes b ≡ Some x → (j : Name) × (m ≡ Some j)) (λ here. (k, refl)) (λ b other there. known.named votes stage b x there) b;
+                reads = λ votes stage b j counted. put_all L.same_site law.sites a (Some k) u.ticket (λ b m. votes b ≡ Some Read → m ≡ Some j → In (record { site = b; txn = t; body = Voted j Read }) w.letters)
+                    (λ here is. let n = known.named votes stage a Read here in let f : None ≡ Some n.0 = sym free ∙ n.1 in cc) (λ b other there is. known.reads votes stage b j there is) b counted;
+              },
+            )
 
         ticket_goes_good : (v : Undecided L) (choice : Choice L) → Grows u v → KnownAt o w.sites w.letters t v → (stage : Stage L) → u.stage ≡ stage → Good o w t (ticket_goes t v choice stage)
         ticket_goes_good v choice grows known Idle f = record { fine = goes_fine o w t fit u v [] [] e grows known (λ j. refl); letters = tt }
@@ -148,7 +155,7 @@ module _ {L : Lang} where
         ticket_good : (k : Name) (choice : Choice L) → FitsBody o w.desk w.past a (w.sites a) t (Ticket k) → (m : Option Name) → u.ticket a ≡ m → Good o w t (on_ticket t u a k choice m)
         ticket_good k choice here None f = let both = with_ticket k f here in ticket_goes_good (record u { ticket = put L.same_site a (Some k) u.ticket }) choice both.0 both.1 u.stage refl
         ticket_good k choice here (Some j) f = either_if (Good o w t) (same j k) _ _ (λ is. same_good u e)
-          (λ other. still_good (Known u) (record { site = a; txn = t; body = Abort k } ∷ []) e
+            (λ other. still_good (Known u) (record { site = a; txn = t; body = Abort k } ∷ []) e
             ((fit.born t u e, (here.0, here.1, (λ v g. (j, subst (λ x. x.ticket a ≡ Some j) (known_is u v (sym e ∙ g)) f, other)), λ done. absurd (not_yet o w t fit u e done))), tt))
 
         rows_good : (n : ℕ) (rows : L.Rows) (choice : Choice L) (stage : Stage L) → u.stage ≡ stage → Good o w t (on_rows t u a n rows choice stage)
@@ -158,12 +165,12 @@ module _ {L : Lang} where
         rows_good n rows choice (Reading s asks) f =
             let more = map (with_rows a n rows) asks in
             either (Good o w t) (list_all (λ (q : Ask L). is_some q.rows) more) _ _
-              (writes_good law o w t fit u e (ap is_voting f) u (grows_same u) (fit.known t u e) choice.0 choice.1 (λ deeds. Worked t s more choice ∷ deeds) (λ j. refl) (λ j. refl))
-              (record {
-                fine = goes_fine o w t fit u (record u { stage = Reading s more }) [] [] e (grows_to law o w t fit u e (ap is_voting f) u (grows_same u) (fit.known t u e) u.visited u.sent (Reading s more) (λ b is. is))
+            (writes_good law o w t fit u e (ap is_voting f) u (grows_same u) (fit.known t u e) choice.0 choice.1 (λ deeds. Worked t s more choice ∷ deeds) (λ j. refl) (λ j. refl))
+            (record {
+              fine = goes_fine o w t fit u (record u { stage = Reading s more }) [] [] e (grows_to law o w t fit u e (ap is_voting f) u (grows_same u) (fit.known t u e) u.visited u.sent (Reading s more) (λ b is. is))
                   (known_at law o w t fit u e (ap is_voting f) u (grows_same u) (fit.known t u e) u.visited u.sent (Reading s more) (λ b is. is) refl) (λ j. refl);
-                letters = tt;
-              })
+              letters = tt;
+            })
 
         refused_good : (stage : Stage L) → Good o w t (on_refused t u stage)
         refused_good Idle = ends_good u e u (Aborted t By_refusal) (λ b k is. is) (λ j. refl)
@@ -179,13 +186,13 @@ module _ {L : Lang} where
               record {
                 tickets = known.tickets;
                 votes = λ vs is b y counted j mine. put_all L.same_site law.sites a (Some x) votes (λ b m. m ≡ Some y → Own b j u → VoteAt (w.sites b) t j y)
-                  (λ here its. subst (λ n. VoteAt (w.sites a) t n y) (some_is (sym own ∙ its)) (subst (VoteAt (w.sites a) t k) (some_is here) vote)) (λ b other there its. known.votes votes stage b y there j its) b
-                  (ap (λ h. h b) (votes_is new vs is) ∙ counted) mine;
+                    (λ here its. subst (λ n. VoteAt (w.sites a) t n y) (some_is (sym own ∙ its)) (subst (VoteAt (w.sites a) t k) (some_is here) vote)) (λ b other there its. known.votes votes stage b y there j its) b
+                    (ap (λ h. h b) (votes_is new vs is) ∙ counted) mine;
                 none = λ vs is b counted. put_all L.same_site law.sites a (Some x) votes (λ b m. m ≡ Some No → ⊥) (λ here. counts_ (some_is here)) (λ b other there. known.none votes stage b there) b (ap (λ h. h b) (votes_is new vs is) ∙ counted);
                 named = λ vs is b y counted. put_all L.same_site law.sites a (Some x) votes (λ b m. m ≡ Some y → (j : Name) × Own b j u) (λ here. (k, own)) (λ b other there. known.named votes stage b y there) b (ap (λ h. h b) (votes_is new vs is) ∙ counted);
                 reads = λ vs is b j counted mine. put_all L.same_site law.sites a (Some x) votes (λ b m. m ≡ Some Read → Own b j u → In (record { site = b; txn = t; body = Voted j Read }) w.letters)
-                  (λ here its. subst (λ n. In (record { site = a; txn = t; body = Voted n Read }) w.letters) (some_is (sym own ∙ its)) (subst (λ y. In (record { site = a; txn = t; body = Voted k y }) w.letters) (some_is here) there_))
-                  (λ b other there its. known.reads votes stage b j there its) b (ap (λ h. h b) (votes_is new vs is) ∙ counted) mine;
+                    (λ here its. subst (λ n. In (record { site = a; txn = t; body = Voted n Read }) w.letters) (some_is (sym own ∙ its)) (subst (λ y. In (record { site = a; txn = t; body = Voted k y }) w.letters) (some_is here) there_))
+                    (λ b other there its. known.reads votes stage b j there its) b (ap (λ h. h b) (votes_is new vs is) ∙ counted) mine;
               }
 
           votes_good : (kept : Bool) (x : Vote) → VoteAt (w.sites a) t k x → ((x ≡ No) → ⊥) → In (record { site = a; txn = t; body = Voted k x }) w.letters → Good o w t (votes_go t u (put L.same_site a (Some x) votes) kept)
@@ -223,12 +230,19 @@ module _ {L : Lang} where
 
       -- an unknown transaction hears Abort; nothing of it is prepared if it was committed
       abort_unknown : (k : Name) → w.desk.txn t ≡ Unknown → Born w.desk t → Drawn (w.sites a) k → o a k ≡ t → Fits o w.desk w.past w.sites (record { site = a; txn = t; body = Abort k })
-      abort_unknown k e born drawn owner = (born, (drawn, owner, (λ u f. let g : Unknown ≡ Known u = sym e ∙ f in cc),
-        λ done. not_prepared ((w.sites a).status k) (λ j i row.
-          let p = fit.prepared a k j i row in
-          let is : j ≡ t = sym p.owner ∙ owner in
-          let v = p.voter (subst (IsCommitted w.past) (sym is) done) in
-          let g : Unknown ≡ Row v.0 v.1 = sym e ∙ subst (λ n. w.desk.txn n ≡ Row v.0 v.1) is v.2 in cc)))
+      abort_unknown k e born drawn owner = (
+        born,
+        (
+          drawn,
+          owner,
+          (λ u f. let g : Unknown ≡ Known u = sym e ∙ f in cc),
+          λ done. not_prepared ((w.sites a).status k) (λ j i row.
+              let p = fit.prepared a k j i row in
+              let is : j ≡ t = sym p.owner ∙ owner in
+              let v = p.voter (subst (IsCommitted w.past) (sym is) done) in
+              let g : Unknown ≡ Row v.0 v.1 = sym e ∙ subst (λ n. w.desk.txn n ≡ Row v.0 v.1) is v.2 in cc),
+        ),
+      )
 
       unknown_good : (b : Body L) → w.desk.txn t ≡ Unknown → Born w.desk t → FitsBody o w.desk w.past a (w.sites a) t b → Good o w t (on_unknown t a b)
       unknown_good Open e born here = still_good Unknown [] e tt
@@ -267,12 +281,12 @@ module _ {L : Lang} where
           only = λ j other. refl;
           commits = λ done. cc;
           keeps = λ ws done f b k i here row.
-            let at = all_in (λ (v : L.Site × Name). list_any (is_pair L v.0 v.1) new) (b, k) vs all (subst (In (b, k)) (voters_is ws done vs acked (sym e ∙ f)) here) in
-            let x = found (is_pair L b k) new at in
-            let dead = every_in (Gone w.sites) new x.0 gone x.1 in
-            let site : x.0.0 ≡ b = (law.sites x.0.0 b).0 (left_true (L.same_site x.0.0 b) (same x.0.1 k) x.2) in
-            let name : x.0.1 ≡ k = (same_law x.0.1 k).0 (right_true (L.same_site x.0.0 b) (same x.0.1 k) x.2) in
-            clash (subst (λ n. is_dead ((w.sites b).status n) ≡ true) name (subst (λ c. is_dead ((w.sites c).status x.0.1) ≡ true) site dead.1)) (ap is_dead row);
+              let at = all_in (λ (v : L.Site × Name). list_any (is_pair L v.0 v.1) new) (b, k) vs all (subst (In (b, k)) (voters_is ws done vs acked (sym e ∙ f)) here) in
+              let x = found (is_pair L b k) new at in
+              let dead = every_in (Gone w.sites) new x.0 gone x.1 in
+              let site : x.0.0 ≡ b = (law.sites x.0.0 b).0 (left_true (L.same_site x.0.0 b) (same x.0.1 k) x.2) in
+              let name : x.0.1 ≡ k = (same_law x.0.1 k).0 (right_true (L.same_site x.0.0 b) (same x.0.1 k) x.2) in
+              clash (subst (λ n. is_dead ((w.sites b).status n) ≡ true) name (subst (λ c. is_dead ((w.sites c).status x.0.1) ≡ true) site dead.1)) (ap is_dead row);
         }
 
         row_same : Good o w t (stays (Row vs acked))
@@ -282,10 +296,10 @@ module _ {L : Lang} where
         ack_good kept k here =
             let more : Every (Gone w.sites) ((a, k) ∷ acked) = ((here.0, here.2), (fit.rows t vs acked e).1) in
             either (Good o w t) (list_any (is_pair L a k) vs) _ _
-              (either_if (Good o w t) (are_acked L vs ((a, k) ∷ acked)) _ _
-                (λ all. either (Good o w t) kept _ _ (record { fine = row_goes ((a, k) ∷ acked) more all; letters = tt }) row_same)
-                (λ some. record { fine = row_acks ((a, k) ∷ acked) more; letters = tt }))
-              row_same
+            (either_if (Good o w t) (are_acked L vs ((a, k) ∷ acked)) _ _
+            (λ all. either (Good o w t) kept _ _ (record { fine = row_goes ((a, k) ∷ acked) more all; letters = tt }) row_same)
+            (λ some. record { fine = row_acks ((a, k) ∷ acked) more; letters = tt }))
+            row_same
 
         row_good : (kept : Bool) (b : Body L) → Born w.desk t → FitsBody o w.desk w.past a (w.sites a) t b → Good o w t (on_row t vs acked a kept b)
         row_good kept Open born here = row_same

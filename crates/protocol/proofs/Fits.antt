@@ -1,11 +1,12 @@
 -- What every letter ever sent, every prepared row and every transaction says of the world: the facts behind part four of the invariant.
-use Rattle.std.proofs.Common.{◌≡◌, refl, ℕ, suc, ◌≤◌, Bool, true, false, List, [], ◌∷◌, ◌++◌, ◌⊎◌, Option, Some, None}
+use Rattle.std.proofs.Common.{◌≡◌, suc, ◌≤◌, Bool, true, false, List, ◌++◌, ◌⊎◌, Option, Some}
 use Rattle.std.specs.Prelude.{⊤}
 use Rattle.protocol.specs.Language.{Lang, Name, same}
 use Rattle.protocol.specs.Letter.{Yes, No, Read, Vote, Body, Open, Fetch, Write, Prepare, Commit, Abort, Ticket, Rows, Refused, Voted, Ack, Inquire, Letter}
-use Rattle.protocol.specs.Site.{Visit, Status, Dead, Alive, Prepared, SiteState, is_dead, is_alive, is_prepared}
-use Rattle.protocol.specs.Desk.{Idle, Reading, Writing, Voting, Stage, Undecided, Unknown, Known, Row, Txn, Deed, Desk}
+use Rattle.protocol.specs.Site.{Prepared, SiteState, is_dead, is_alive, is_prepared}
+use Rattle.protocol.specs.Desk.{Voting, Stage, Undecided, Known, Row, Deed, Desk}
 use Rattle.protocol.specs.World.{World, is_site}
+pub use Rattle.protocol.specs.Parts.{is_voting}
 use Rattle.protocol.specs.Serial.{is_committed}
 use Rattle.protocol.proofs.Basics.{Every, In, in_left}
 
@@ -20,10 +21,6 @@ module _ {L : Lang} where
   -- while a transaction is undecided
   abbrev pub Und : Desk L → Name → (Undecided L → Type 0) → Type 0
   Und d t P = (u : Undecided L) → d.txn t ≡ Known u → P u
-
-  abbrev pub is_voting : Stage L → Bool
-  is_voting (Voting votes) = true
-  is_voting stage = false
 
   abbrev pub Own : L.Site → Name → Undecided L → Type 0
   Own a k u = u.ticket a ≡ Some k

@@ -1,13 +1,13 @@
 -- The coordinator goes on with a statement: Opens, fetches and writes go out to own tickets.
-use Rattle.std.proofs.Common.{◌≡◌, refl, sym, ap, ◌∙◌, subst, ℕ, suc, Bool, true, false, ◌||◌, List, [], ◌∷◌, ◌++◌, map, ◌⊎◌, Option, Some, None}
-use Rattle.protocol.specs.Language.{Lang, IsLawful, Name, same, put}
+use Rattle.std.proofs.Common.{◌≡◌, refl, sym, ap, ◌∙◌, subst, ℕ, suc, Bool, true, false, ◌||◌, List, [], ◌∷◌, ◌++◌, map, Option, Some, None}
+use Rattle.protocol.specs.Language.{Lang, IsLawful, Name, put}
 use Rattle.protocol.specs.Letter.{Vote, Body, Open, Fetch, Write, Letter}
-use Rattle.protocol.specs.Desk.{Ask, Stage, Idle, Reading, Writing, Voting, Undecided, Txn, Unknown, Known, Row, Deed, Answered, Desk, Turn, Out, desk_after, ask_out, asks_out, write_out, writes_out, is_new, opening, opens, visits, asks_go, writing, writes_go}
-use Rattle.protocol.specs.World.{World, is_site, turned}
+use Rattle.protocol.specs.Desk.{Ask, Stage, Idle, Reading, Writing, Voting, Undecided, Known, Deed, Answered, Turn, desk_after, ask_out, asks_out, write_out, writes_out, is_new, opening, opens, visits, asks_go, writing, writes_go}
+use Rattle.protocol.specs.World.{World, turned}
 use Rattle.protocol.specs.Serial.{is_committed}
-use Rattle.protocol.proofs.Basics.{Every, In, every_append, or_left, or_right, any_in, some_is}
-use Rattle.protocol.proofs.Fits.{Drawn, Born, Und, is_voting, Own, FitsBody, Fits, KnownAt, Fit}
-use Rattle.protocol.proofs.DeskFits.{Grows, grows_same, TurnFine, turn_moves}
+use Rattle.protocol.proofs.Basics.{Every, every_append, or_left, or_right, any_in, some_is}
+use Rattle.protocol.proofs.Fits.{Drawn, Und, is_voting, Own, FitsBody, Fits, KnownAt, Fit}
+use Rattle.protocol.proofs.DeskFits.{Grows, TurnFine, turn_moves}
 use Rattle.protocol.proofs.Turns.{known_is, und_put, goes_fine, every_letter}
 
 module _ {L : Lang} where
@@ -63,10 +63,13 @@ module _ {L : Lang} (law : IsLawful L) (o : L.Site → Name → Name) (w : World
 
   opens_fit : (leaves : List L.Leaf) (x : Undecided L) (past : List (Deed L)) → ((a : L.Site) → (v.visited a || is_new v leaves a) ≡ true → x.visited a ≡ true) → Every (Fits o (desk_after w.desk t (Known x)) past w.sites) (opens t v leaves)
   opens_fit leaves x past visited = every_letter (Fits o (desk_after w.desk t (Known x)) past w.sites) t (λ a. opening (is_new v leaves a)) L.sites
-    (λ a b here said. let is = opening_is (is_new v leaves a) b said in
-      (fit.born t u e, subst (FitsBody o (desk_after w.desk t (Known x)) past a (w.sites a) t) (sym is.1)
-        (any_in (λ c. L.same_site c a) a L.sites here ((law.sites a a).1 refl),
-          und_put w.desk t (Known x) (λ y. y.visited a ≡ true) (λ y f. subst (λ z. z.visited a ≡ true) (known_is x y f) (visited a (or_right (v.visited a) (is_new v leaves a) is.0))))))
+      (λ a b here said. let is = opening_is (is_new v leaves a) b said in (
+        fit.born t u e,
+        subst (FitsBody o (desk_after w.desk t (Known x)) past a (w.sites a) t) (sym is.1) (
+          any_in (λ c. L.same_site c a) a L.sites here ((law.sites a a).1 refl),
+          und_put w.desk t (Known x) (λ y. y.visited a ≡ true) (λ y f. subst (λ z. z.visited a ≡ true) (known_is x y f) (visited a (or_right (v.visited a) (is_new v leaves a) is.0))),
+        ),
+      ))
 
   own_fits : (x : Undecided L) (past : List (Deed L)) (a : L.Site) (k : Name) → x.ticket a ≡ Some k → Own a k v → Drawn (w.sites a) k × (o a k ≡ t) × Und (desk_after w.desk t (Known x)) t (Own a k)
   own_fits x past a k mine own = let ticket = known.tickets a k own in (ticket.0, ticket.1, und_put w.desk t (Known x) (Own a k) (λ y f. subst (Own a k) (known_is x y f) mine))
@@ -80,7 +83,7 @@ module _ {L : Lang} (law : IsLawful L) (o : L.Site → Name → Name) (w : World
       record {
         fine = goes_fine o w t fit u x (opens t v leaves ++ out.letters) deeds e (grows_to x.visited x.sent x.stage more) (known_at x.visited x.sent x.stage more refl) none;
         letters = every_append (Fits o (desk_after w.desk t (Known x)) (w.past ++ deeds) w.sites) (opens t v leaves) out.letters (opens_fit leaves x (w.past ++ deeds) (λ a is. is))
-          (asks_each (Fits o (desk_after w.desk t (Known x)) (w.past ++ deeds) w.sites) t v.ticket (λ g q k n mine. (fit.born t u e, own_fits x (w.past ++ deeds) (L.home g) k mine mine)) asks v.sent);
+            (asks_each (Fits o (desk_after w.desk t (Known x)) (w.past ++ deeds) w.sites) t v.ticket (λ g q k n mine. (fit.born t u e, own_fits x (w.past ++ deeds) (L.home g) k mine mine)) asks v.sent);
       }
 
   written_good : (answer : L.Answer) (leaves : List L.Leaf) (letters : List (Letter L)) (sent : L.Site → ℕ) (deeds : List (Deed L) → List (Deed L)) → ((j : Name) → is_committed (deeds []) j ≡ false) → ((j : Name) → is_committed (deeds (Answered t answer ∷ [])) j ≡ false) →
@@ -106,5 +109,5 @@ module _ {L : Lang} (law : IsLawful L) (o : L.Site → Name → Name) (w : World
       let leaves = map (λ (x : L.Leaf × L.Write). x.0) ws in
       let out = writes_out t v.ticket ws v.sent in
       written_good answer leaves (opens t v leaves ++ out.letters) out.sent deeds none answered
-        (λ x mine visited past. every_append (Fits o (desk_after w.desk t (Known x)) past w.sites) (opens t v leaves) out.letters (opens_fit leaves x past visited)
-          (writes_each (Fits o (desk_after w.desk t (Known x)) past w.sites) t v.ticket (λ g y k n is. (fit.born t u e, own_fits x past (L.home g) k (mine (L.home g) k is) is)) ws v.sent)) out.left
+      (λ x mine visited past. every_append (Fits o (desk_after w.desk t (Known x)) past w.sites) (opens t v leaves) out.letters (opens_fit leaves x past visited)
+      (writes_each (Fits o (desk_after w.desk t (Known x)) past w.sites) t v.ticket (λ g y k n is. (fit.born t u e, own_fits x past (L.home g) k (mine (L.home g) k is) is)) ws v.sent)) out.left

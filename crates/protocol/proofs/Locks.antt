@@ -1,11 +1,10 @@
 -- Locks of a site: an exclusive lock stands alone, and what another has is foreign to a visit.
-use Rattle.std.proofs.Common.{◌≡◌, refl, sym, ap, ◌∙◌, subst, ℕ, suc, ◌&&◌, ◌||◌, not, Bool, true, false, List, [], ◌∷◌, ◌++◌, ◌⊎◌, inl, inr, ⊎_elim, if◌then◌else◌, filter}
+use Rattle.std.proofs.Common.{◌≡◌, refl, sym, ap, ◌∙◌, subst, ℕ, ◌&&◌, ◌||◌, not, Bool, true, false, List, [], ◌∷◌, ◌++◌, inl, inr, ⊎_elim, filter}
 use Rattle.std.specs.Prelude.{⊤}
-use Rattle.std.specs.List.{list_any}
 use Rattle.protocol.specs.Language.{Lang, IsLawful, Name, same, put}
 use Rattle.protocol.specs.Letter.{Body}
-use Rattle.protocol.specs.Site.{Visit, Status, Dead, Alive, Prepared, SiteState, Act, Says, Opens, Locks, Prepares, Applies, Ends, is_dead, is_alive, has_exclusive, has_lock, others_exclusive, others_lock, sees, next_ticket, new_visit, site_after, restarted, site_restarted, on_give_up}
-use Rattle.protocol.proofs.Basics.{In, in_left, in_right, in_append, in_filter, any_in, put_all, put_here, put_there, clash, same_law, same_refl, either, either_if, if_true, if_false, by_test, left_true, right_true, both_true, or_left, or_right, or_none_left, or_none_right, or_cases, not_false, not_true}
+use Rattle.protocol.specs.Site.{Visit, Status, Dead, Alive, Prepared, SiteState, Act, Opens, Locks, is_dead, has_exclusive, has_lock, others_exclusive, sees, next_ticket, new_visit, site_after, restarted, site_restarted, on_give_up}
+use Rattle.protocol.proofs.Basics.{In, in_left, in_right, in_append, in_filter, any_in, put_all, put_there, clash, same_law, same_refl, either, either_if, if_false, by_test, both_true, or_right, not_true}
 use Rattle.protocol.proofs.Fits.{Drawn}
 use Rattle.protocol.proofs.SiteTable.{Acted, says_nothing, says_gone, says_no, says_yes, says_ack, opens, reads, writes, prepares, only_read, votes_no, refuses, applies, ends, discards}
 use Rattle.protocol.proofs.SiteSteps.{not_drawn, sees_dead}
@@ -95,36 +94,39 @@ module _ {L : Lang} where
         let f : Name → Status L = λ j. sees h (s.status j) in
         let status : Name → Status L = put same k (Alive w) f in
         let all : (j : Name) → is_dead (status j) ≡ false → In j s.known =
-              put_all same same_law k (Alive w) f (λ j x. is_dead x ≡ false → In j s.known) (λ d. locked.known k (ap is_dead e)) (λ j other d. locked.known j (sym (sees_dead h (s.status j)) ∙ d)) in
+        put_all same same_law k (Alive w) f (λ j x. is_dead x ≡ false → In j s.known) (λ d. locked.known k (ap is_dead e)) (λ j other d. locked.known j (sym (sees_dead h (s.status j)) ∙ d)) in
         record {
           known = listed status s.known all;
           lives = listed_lives status s.known;
           once = once_filter (λ j. not (is_dead (status j))) s.known locked.once;
           alone = λ i j g. put_all same same_law k (Alive w) f (λ i x. same i j ≡ false → has_exclusive g x ≡ true → has_lock g (status j) ≡ false)
-            (λ apart ex. put_all same same_law k (Alive w) f (λ j y. same k j ≡ false → has_lock g y ≡ false) (λ no_. clash (same_refl k) no_) (λ j other no_. sees_lock h g (s.status j) ∙ own g ex j other) j apart)
-            (λ i other apart ex. put_all same same_law k (Alive w) f (λ j y. same i j ≡ false → has_lock g y ≡ false) (λ no_. theirs g i other (sym (sees_exclusive h g (s.status i)) ∙ ex))
+              (λ apart ex. put_all same same_law k (Alive w) f (λ j y. same k j ≡ false → has_lock g y ≡ false) (λ no_. clash (same_refl k) no_) (λ j other no_. sees_lock h g (s.status j) ∙ own g ex j other) j apart)
+              (λ i other apart ex. put_all same same_law k (Alive w) f (λ j y. same i j ≡ false → has_lock g y ≡ false) (λ no_. theirs g i other (sym (sees_exclusive h g (s.status i)) ∙ ex))
               (λ j not_k no_. sees_lock h g (s.status j) ∙ locked.alone i j g no_ (sym (sees_exclusive h g (s.status i)) ∙ ex)) j apart) i;
           seen = λ i j x g. put_all same same_law k (Alive w) f (λ j y. same i j ≡ false → y ≡ Alive x → has_lock g (status i) ≡ true → x.foreign g ≡ true)
-            (λ apart is held. put_all same same_law k (Alive w) f (λ i y. same i k ≡ false → has_lock g y ≡ true → x.foreign g ≡ true) (λ no_. clash (same_refl k) no_)
+              (λ apart is held. put_all same same_law k (Alive w) f (λ i y. same i k ≡ false → has_lock g y ≡ true → x.foreign g ≡ true) (λ no_. clash (same_refl k) no_)
               (λ i other no_ has. let eq : w ≡ x = visit_same w x is in subst (λ z. z.foreign g ≡ true) eq (ap (λ z. z g) foreign ∙ locked.seen i k v g other e (sym (sees_lock h g (s.status i)) ∙ has))) i apart held)
-            (λ j not_k apart is held.
+              (λ j not_k apart is held.
               let from = seen_from h (s.status j) x is in
               subst (λ z. z.foreign g ≡ true) (sym from.2)
-                (either_if (λ b. b ≡ true) (L.same_leaf g h) true (from.0.foreign g) (λ at. refl)
-                  (λ off. put_all same same_law k (Alive w) f (λ i y. same i j ≡ false → has_lock g y ≡ true → from.0.foreign g ≡ true)
-                    (λ no_ has. locked.seen k j from.0 g no_ from.1 (ap (has_lock g) e ∙ sym (lock g (leaf_unequal g off)) ∙ has))
-                    (λ i other no_ has. locked.seen i j from.0 g no_ from.1 (sym (sees_lock h g (s.status i)) ∙ has)) i apart held))) j;
+              (either_if (λ b. b ≡ true) (L.same_leaf g h) true (from.0.foreign g) (λ at. refl)
+              (λ off. put_all same same_law k (Alive w) f (λ i y. same i j ≡ false → has_lock g y ≡ true → from.0.foreign g ≡ true)
+              (λ no_ has. locked.seen k j from.0 g no_ from.1 (ap (has_lock g) e ∙ sym (lock g (leaf_unequal g off)) ∙ has))
+              (λ i other no_ has. locked.seen i j from.0 g no_ from.1 (sym (sees_lock h g (s.status i)) ∙ has)) i apart held))) j;
         }
       where
         leaf_unequal : (g : L.Leaf) → L.same_leaf g h ≡ false → L.same_leaf h g ≡ false
         leaf_unequal g off = ⊎_elim (λ is. clash ((law.leaves g h).1 (sym ((law.leaves h g).0 is))) off) (λ none. none) (by_test (L.same_leaf h g))
+
         visit_same : (a b : Visit L) → Alive a ≡ Alive b → a ≡ b
         visit_same a b g = cc
+
         own : (g : L.Leaf) → has_exclusive g (Alive w) ≡ true → (j : Name) → same j k ≡ false → has_lock g (s.status j) ≡ false
         own g ex j other = ⊎_elim
             (λ at. subst (λ n. has_lock n (s.status j) ≡ false) ((law.leaves h g).0 at) (first j other (subst (λ n. has_exclusive n (Alive w) ≡ true) (sym ((law.leaves h g).0 at)) ex)))
             (λ off. locked.alone k j g (unequal j k other) (ap (has_exclusive g) e ∙ sym (exclusive g off) ∙ ex))
             (by_test (L.same_leaf h g))
+
         theirs : (g : L.Leaf) (j : Name) → same j k ≡ false → has_exclusive g (s.status j) ≡ true → has_lock g (Alive w) ≡ false
         theirs g j other ex = ⊎_elim
             (λ at. subst (λ n. has_lock n (Alive w) ≡ false) ((law.leaves h g).0 at) (second j other (subst (λ n. has_exclusive n (s.status j) ≡ true) (sym ((law.leaves h g).0 at)) ex)))
@@ -141,6 +143,7 @@ module _ {L : Lang} where
       where
         off_leaf : (g : L.Leaf) → L.same_leaf h g ≡ false → L.same_leaf g h ≡ false
         off_leaf g off = ⊎_elim (λ is. clash ((law.leaves h g).1 (sym ((law.leaves g h).0 is))) off) (λ none. none) (by_test (L.same_leaf g h))
+
         not_dead : (st : Status L) → has_exclusive h st ≡ true → is_dead st ≡ false
         not_dead Dead ex = cc
         not_dead (Alive u) ex = refl
@@ -155,6 +158,7 @@ module _ {L : Lang} where
       where
         touch_off : (g : L.Leaf) → L.same_leaf h g ≡ false → L.touches g (L.add h x v.changes) ≡ L.touches g v.changes
         touch_off g off = law.touches_add g h x v.changes ∙ if_false (L.same_leaf h g) true (L.touches g v.changes) off
+
         none_has : (j : Name) → same j k ≡ false → has_lock h (s.status j) ≡ false
         none_has j other = ⊎_elim (λ is. clash (locked.seen j k v h other e is) free) (λ none. none) (by_test (has_lock h (s.status j)))
 
@@ -164,25 +168,26 @@ module _ {L : Lang} where
         let k = next_ticket s in
         let status : Name → Status L = put same k (Alive (new_visit s)) s.status in
         let all : (j : Name) → is_dead (status j) ≡ false → In j (s.known ++ k ∷ []) =
-              put_all same same_law k (Alive (new_visit s)) s.status (λ j x. is_dead x ≡ false → In j (s.known ++ k ∷ [])) (λ d. in_right k s.known (k ∷ []) (inl refl)) (λ j other d. in_left j s.known (k ∷ []) (locked.known j d)) in
+        put_all same same_law k (Alive (new_visit s)) s.status (λ j x. is_dead x ≡ false → In j (s.known ++ k ∷ [])) (λ d. in_right k s.known (k ∷ []) (inl refl)) (λ j other d. in_left j s.known (k ∷ []) (locked.known j d)) in
         let new_is : In k s.known → ⊥ = λ here. not_drawn s (live k (locked.lives k here)) in
         record {
           known = listed status (s.known ++ k ∷ []) all;
           lives = listed_lives status (s.known ++ k ∷ []);
           once = once_filter (λ j. not (is_dead (status j))) (s.known ++ k ∷ []) (once_more s.known k locked.once new_is);
           alone = λ i j g. put_all same same_law k (Alive (new_visit s)) s.status (λ i x. same i j ≡ false → has_exclusive g x ≡ true → has_lock g (status j) ≡ false)
-            (λ apart ex. clash ex (law.touches_none g))
-            (λ i other apart ex. put_all same same_law k (Alive (new_visit s)) s.status (λ j y. same i j ≡ false → has_lock g y ≡ false) (λ no_. law.touches_none g) (λ j not_k no_. locked.alone i j g no_ ex) j apart) i;
+              (λ apart ex. clash ex (law.touches_none g))
+              (λ i other apart ex. put_all same same_law k (Alive (new_visit s)) s.status (λ j y. same i j ≡ false → has_lock g y ≡ false) (λ no_. law.touches_none g) (λ j not_k no_. locked.alone i j g no_ ex) j apart) i;
           seen = λ i j x g. put_all same same_law k (Alive (new_visit s)) s.status (λ j y. same i j ≡ false → y ≡ Alive x → has_lock g (status i) ≡ true → x.foreign g ≡ true)
-            (λ apart is held. put_all same same_law k (Alive (new_visit s)) s.status (λ i y. same i k ≡ false → has_lock g y ≡ true → x.foreign g ≡ true) (λ no_. clash (same_refl k) no_)
+              (λ apart is held. put_all same same_law k (Alive (new_visit s)) s.status (λ i y. same i k ≡ false → has_lock g y ≡ true → x.foreign g ≡ true) (λ no_. clash (same_refl k) no_)
               (λ i other no_ has. subst (λ z. z.foreign g ≡ true) (visit_same (new_visit s) x is)
-                (any_in (λ n. not (same n k) && has_lock g (s.status n)) i s.known (locked.known i (not_dead g (s.status i) has)) (both_true (not (same i k)) (has_lock g (s.status i)) (ap not other) has))) i apart held)
-            (λ j not_k apart is held. put_all same same_law k (Alive (new_visit s)) s.status (λ i y. same i j ≡ false → has_lock g y ≡ true → x.foreign g ≡ true)
+              (any_in (λ n. not (same n k) && has_lock g (s.status n)) i s.known (locked.known i (not_dead g (s.status i) has)) (both_true (not (same i k)) (has_lock g (s.status i)) (ap not other) has))) i apart held)
+              (λ j not_k apart is held. put_all same same_law k (Alive (new_visit s)) s.status (λ i y. same i j ≡ false → has_lock g y ≡ true → x.foreign g ≡ true)
               (λ no_ has. clash has (law.touches_none g)) (λ i other no_ has. locked.seen i j x g no_ is has) i apart held) j;
         }
       where
         visit_same : (a b : Visit L) → Alive a ≡ Alive b → a ≡ b
         visit_same a b g = cc
+
         not_dead : (g : L.Leaf) (st : Status L) → has_lock g st ≡ true → is_dead st ≡ false
         not_dead g Dead held = cc
         not_dead g (Alive u) held = refl
@@ -226,14 +231,17 @@ module _ {L : Lang} where
         live Dead e = e
         live (Alive v) e = refl
         live (Prepared t i) e = e
+
         exclusive : (g : L.Leaf) (st : Status L) → has_exclusive g (restarted st) ≡ true → has_exclusive g st ≡ true
         exclusive g Dead e = e
         exclusive g (Alive v) e = cc
         exclusive g (Prepared t i) e = e
+
         lock : (g : L.Leaf) (st : Status L) → has_lock g (restarted st) ≡ true → has_lock g st ≡ true
         lock g Dead e = e
         lock g (Alive v) e = cc
         lock g (Prepared t i) e = e
+
         alive : (v : Visit L) (st : Status L) → restarted st ≡ Alive v → st ≡ Alive v
         alive v Dead e = e
         alive v (Alive u) e = cc

@@ -1,13 +1,9 @@
 -- Operations of a visit in order, what their writes come to, and what intentions made of them touch.
-use Rattle.std.proofs.Common.{◌≡◌, refl, sym, ap, ap₂, ◌∙◌, subst, ℕ, zero, suc, ◌+◌, ◌≤◌, Bool, true, false, ◌||◌, not, List, [], ◌∷◌, ◌++◌, length, drop, ◌⊎◌, inl, inr, ⊎_elim, Option, Some, None, if◌then◌else◌, arith, append_assoc, append-nil, filter}
-use Rattle.std.proofs.Math.Seq.{drop-append_seam}
+use Rattle.std.proofs.Common.{◌≡◌, refl, sym, ap, ap₂, ◌∙◌, ◌+◌, Bool, true, false, ◌||◌, List, [], ◌∷◌, ◌++◌, length, ⊎_elim, if◌then◌else◌, arith, filter}
 use Rattle.std.specs.List.{list_any}
+pub use Rattle.protocol.specs.Parts.{Op, Get, Set, sets, writes_to}
 use Rattle.protocol.specs.Language.{Lang, IsLawful, written}
-use Rattle.protocol.proofs.Basics.{Every, In, in_left, in_right, either, either_if, if_true, if_false, by_test, clash, or_left, or_right, or_none_left, or_none_right}
-
-pub data Op (L : Lang) : Type 0 where
-  Get : (leaf : L.Leaf) (query : L.Query) → Op L
-  Set : (leaf : L.Leaf) (write : L.Write) → Op L
+use Rattle.protocol.proofs.Basics.{if_true, if_false, by_test, clash, or_left, or_none_left, or_none_right}
 
 -- ---- lists
 pub split_same : {A : Type 0} (xs xs' ys ys' : List A) → xs ++ ys ≡ xs' ++ ys' → length xs ≡ length xs' → (xs ≡ xs') × (ys ≡ ys')
@@ -42,12 +38,6 @@ module _ {L : Lang} where
   pub get_set : (h g : L.Leaf) (p : L.Query) (x : L.Write) → (let y : Op L = Get h p in y ≡ Set g x) → ⊥
   get_set h g p x e = cc
 
-  -- the writes among operations
-  abbrev pub sets : List (Op L) → List (L.Leaf × L.Write)
-  sets [] = []
-  sets (Get g q ∷ ops) = sets ops
-  sets (Set g x ∷ ops) = (g, x) ∷ sets ops
-
   pub sets_append : (xs ys : List (Op L)) → sets (xs ++ ys) ≡ sets xs ++ sets ys
   sets_append [] ys = refl
   sets_append (Get g q ∷ xs) ys = sets_append xs ys
@@ -58,10 +48,6 @@ module _ (L : Lang) where
   abbrev pub adds : List (L.Leaf × L.Write) → L.Intentions → L.Intentions
   adds [] i = i
   adds (w ∷ ws) i = adds ws (L.add w.0 w.1 i)
-
-  -- whether some write is to the leaf
-  abbrev pub writes_to : L.Leaf → List (L.Leaf × L.Write) → Bool
-  writes_to g ws = list_any (λ w. L.same_leaf w.0 g) ws
 
   -- the writes to one leaf
   abbrev pub on : L.Leaf → List (L.Leaf × L.Write) → List (L.Leaf × L.Write)
@@ -82,10 +68,10 @@ module _ (L : Lang) where
       (λ other. ap (λ l. written L g l c) (if_false (L.same_leaf w.0 g) (w ∷ on g ws) (on g ws) other) ∙ written_on g ws c ∙ ap (λ d. written L g ws d) (sym (if_false (L.same_leaf w.0 g) (L.put_in w.1 c) c other)))
       (by_test (L.same_leaf w.0 g))
 
-  pub written_none : (g : L.Leaf) (ws : List (L.Leaf × L.Write)) (c : L.Content) → writes_to g ws ≡ false → written L g ws c ≡ c
+  pub written_none : (g : L.Leaf) (ws : List (L.Leaf × L.Write)) (c : L.Content) → writes_to L g ws ≡ false → written L g ws c ≡ c
   written_none g [] c none = refl
   written_none g (w ∷ ws) c none =
-      ap (λ d. written L g ws d) (if_false (L.same_leaf w.0 g) (L.put_in w.1 c) c (or_none_left (L.same_leaf w.0 g) (writes_to g ws) none)) ∙ written_none g ws c (or_none_right (L.same_leaf w.0 g) (writes_to g ws) none)
+      ap (λ d. written L g ws d) (if_false (L.same_leaf w.0 g) (L.put_in w.1 c) c (or_none_left (L.same_leaf w.0 g) (writes_to L g ws) none)) ∙ written_none g ws c (or_none_right (L.same_leaf w.0 g) (writes_to L g ws) none)
 
   pub on_append : (g : L.Leaf) (ws vs : List (L.Leaf × L.Write)) → on g (ws ++ vs) ≡ on g ws ++ on g vs
   on_append g [] vs = refl
@@ -95,16 +81,16 @@ module _ (L : Lang) where
       (by_test (L.same_leaf w.0 g))
 
   -- whether a list writes to the leaf is seen at its writes to the leaf
-  pub writes_on : (g : L.Leaf) (ws : List (L.Leaf × L.Write)) → writes_to g (on g ws) ≡ writes_to g ws
+  pub writes_on : (g : L.Leaf) (ws : List (L.Leaf × L.Write)) → writes_to L g (on g ws) ≡ writes_to L g ws
   writes_on g [] = refl
   writes_on g (w ∷ ws) = ⊎_elim
-      (λ is. ap (λ l. writes_to g l) (if_true (L.same_leaf w.0 g) (w ∷ on g ws) (on g ws) is) ∙ or_left (L.same_leaf w.0 g) (writes_to g (on g ws)) is ∙ sym (or_left (L.same_leaf w.0 g) (writes_to g ws) is))
-      (λ other. ap (λ l. writes_to g l) (if_false (L.same_leaf w.0 g) (w ∷ on g ws) (on g ws) other) ∙ writes_on g ws ∙ sym (ap (λ b. b || writes_to g ws) other))
+      (λ is. ap (λ l. writes_to L g l) (if_true (L.same_leaf w.0 g) (w ∷ on g ws) (on g ws) is) ∙ or_left (L.same_leaf w.0 g) (writes_to L g (on g ws)) is ∙ sym (or_left (L.same_leaf w.0 g) (writes_to L g ws) is))
+      (λ other. ap (λ l. writes_to L g l) (if_false (L.same_leaf w.0 g) (w ∷ on g ws) (on g ws) other) ∙ writes_on g ws ∙ sym (ap (λ b. b || writes_to L g ws) other))
       (by_test (L.same_leaf w.0 g))
 
-  pub writes_append : (g : L.Leaf) (ws vs : List (L.Leaf × L.Write)) → writes_to g ws ≡ false → writes_to g (ws ++ vs) ≡ writes_to g vs
+  pub writes_append : (g : L.Leaf) (ws vs : List (L.Leaf × L.Write)) → writes_to L g ws ≡ false → writes_to L g (ws ++ vs) ≡ writes_to L g vs
   writes_append g [] vs none = refl
-  writes_append g (w ∷ ws) vs none = ap (λ b. b || writes_to g (ws ++ vs)) (or_none_left (L.same_leaf w.0 g) (writes_to g ws) none) ∙ writes_append g ws vs (or_none_right (L.same_leaf w.0 g) (writes_to g ws) none)
+  writes_append g (w ∷ ws) vs none = ap (λ b. b || writes_to L g (ws ++ vs)) (or_none_left (L.same_leaf w.0 g) (writes_to L g ws) none) ∙ writes_append g ws vs (or_none_right (L.same_leaf w.0 g) (writes_to L g ws) none)
 
   module _ (law : IsLawful L) where
     pub changed_adds : (g : L.Leaf) (ws : List (L.Leaf × L.Write)) (i : L.Intentions) (c : L.Content) → L.changed g (adds ws i) c ≡ written L g ws (L.changed g i c)
@@ -115,9 +101,9 @@ module _ (L : Lang) where
     pub changed_by : (g : L.Leaf) (ws : List (L.Leaf × L.Write)) (c : L.Content) → L.changed g (adds ws L.none) c ≡ written L g ws c
     changed_by g ws c = changed_adds g ws L.none c ∙ ap (λ d. written L g ws d) (law.changed_none g c)
 
-    touches_adds : (g : L.Leaf) (ws : List (L.Leaf × L.Write)) (i : L.Intentions) → L.touches g (adds ws i) ≡ (writes_to g ws || L.touches g i)
+    touches_adds : (g : L.Leaf) (ws : List (L.Leaf × L.Write)) (i : L.Intentions) → L.touches g (adds ws i) ≡ (writes_to L g ws || L.touches g i)
     touches_adds g [] i = refl
-    touches_adds g (w ∷ ws) i = touches_adds g ws (L.add w.0 w.1 i) ∙ ap (λ b. writes_to g ws || b) (law.touches_add g w.0 w.1 i) ∙ swapped (writes_to g ws) (L.same_leaf w.0 g) (L.touches g i)
+    touches_adds g (w ∷ ws) i = touches_adds g ws (L.add w.0 w.1 i) ∙ ap (λ b. writes_to L g ws || b) (law.touches_add g w.0 w.1 i) ∙ swapped (writes_to L g ws) (L.same_leaf w.0 g) (L.touches g i)
       where
         swapped : (a b c : Bool) → (a || (if b then true else c)) ≡ ((b || a) || c)
         swapped true true c = refl
@@ -125,8 +111,8 @@ module _ (L : Lang) where
         swapped false true c = refl
         swapped false false c = refl
 
-    pub touches_by : (g : L.Leaf) (ws : List (L.Leaf × L.Write)) → L.touches g (adds ws L.none) ≡ writes_to g ws
-    touches_by g ws = touches_adds g ws L.none ∙ ap (λ b. writes_to g ws || b) (law.touches_none g) ∙ or_false (writes_to g ws)
+    pub touches_by : (g : L.Leaf) (ws : List (L.Leaf × L.Write)) → L.touches g (adds ws L.none) ≡ writes_to L g ws
+    touches_by g ws = touches_adds g ws L.none ∙ ap (λ b. writes_to L g ws || b) (law.touches_none g) ∙ or_false (writes_to L g ws)
       where
         or_false : (b : Bool) → (b || false) ≡ b
         or_false true = refl
@@ -135,4 +121,4 @@ module _ (L : Lang) where
     -- intentions that are none are those of no write
     pub empty_by : (ws : List (L.Leaf × L.Write)) → L.is_empty (adds ws L.none) ≡ true → ws ≡ []
     empty_by [] e = refl
-    empty_by (w ∷ ws) e = clash (or_left (L.same_leaf w.0 w.0) (writes_to w.0 ws) ((law.leaves w.0 w.0).1 refl)) (sym (touches_by w.0 (w ∷ ws)) ∙ law.empty_touches w.0 (adds (w ∷ ws) L.none) e)
+    empty_by (w ∷ ws) e = clash (or_left (L.same_leaf w.0 w.0) (writes_to L w.0 ws) ((law.leaves w.0 w.0).1 refl)) (sym (touches_by w.0 (w ∷ ws)) ∙ law.empty_touches w.0 (adds (w ∷ ws) L.none) e)

@@ -1,17 +1,17 @@
 -- Part four of the invariant, for every run: a committed transaction is applied whole and once.
-use Rattle.std.proofs.Common.{◌≡◌, refl, sym, ap, ◌∙◌, subst, ℕ, suc, Bool, true, false, ◌||◌, List, [], ◌∷◌, ◌++◌, map, ◌⊎◌, inl, inr, ⊎_elim, Option, Some, None, slice_get, arith, le_refl, le_trans, le_of_lt, lt-suc_self}
+use Rattle.std.proofs.Common.{◌≡◌, refl, sym, ap, ◌∙◌, subst, ℕ, suc, Bool, true, false, List, [], ◌∷◌, ◌++◌, inl, inr, ⊎_elim, Option, Some, None, slice_get, arith, le_refl, le_trans, le_of_lt, lt-suc_self}
 use Rattle.std.proofs.lemmas.List.Folds.{list_any-append}
 use Rattle.std.specs.List.{flat_map}
-use Rattle.protocol.specs.Language.{Lang, IsLawful, Name, same, put}
-use Rattle.protocol.specs.Letter.{Body, Abort, Ack, Commit, Letter, is_for_desk}
-use Rattle.protocol.specs.Site.{Status, Dead, Prepared, SiteState, is_dead, is_alive, is_prepared, Alive}
-use Rattle.protocol.specs.Desk.{Undecided, Idle, fresh, Txn, Unknown, Known, Row, Choice, Deed, Began, Aborted, By_restart, Desk, Turn, Request, on_request, on_desk_letter, desk_after, next_txn, desk_began, commits, txn_restarted, desk_restarted, is_desk_within}
-use Rattle.protocol.specs.World.{World, is_site, Event, Begin, Call, Deliver, Site_gives_up, Site_inquires, Site_restarts, Desk_restarts, turned, turns, begun, begins, called, comes_to, comes, delivered, desk_lives, desk_restarts, happens, run}
+use Rattle.protocol.specs.Language.{Lang, IsLawful, Name, same}
+use Rattle.protocol.specs.Letter.{Body, Abort, Ack, Letter, is_for_desk}
+use Rattle.protocol.specs.Site.{Status, Dead, Prepared, SiteState, is_dead, is_prepared, Alive}
+use Rattle.protocol.specs.Desk.{Undecided, fresh, Txn, Unknown, Known, Row, Choice, Began, Desk, Turn, on_request, on_desk_letter, desk_after, next_txn, desk_began, commits, txn_restarted, desk_restarted, is_desk_within}
+use Rattle.protocol.specs.World.{World, is_site, Event, Begin, Call, Deliver, Site_gives_up, Site_inquires, Site_restarts, Desk_restarts, turned, turns, begun, comes_to, delivered, desk_lives, happens, run}
 use Rattle.protocol.specs.Serial.{is_committed, commits_it, IsOpening}
 use Rattle.protocol.specs.Whole.{AckedOnce, AbortsNone, IsWhole, AppliedWholeAndOnce}
 use Rattle.protocol.proofs.Deciding.{voters_is, acked_is}
-use Rattle.protocol.proofs.Basics.{Every, In, in_at, put_all, put_here, every_append, every_more, every_at, every_flat, clash, same_law, either, either_if, or_left, or_cases}
-use Rattle.protocol.proofs.Fits.{Drawn, Born, Und, IsCommitted, FitsBody, Fits, KnownAt, Gone, Votes, Fit}
+use Rattle.protocol.proofs.Basics.{Every, In, in_at, put_all, every_append, every_more, every_at, every_flat, clash, same_law, either, or_left, or_cases}
+use Rattle.protocol.proofs.Fits.{Born, IsCommitted, FitsBody, Fits, KnownAt, Gone, Votes, Fit}
 use Rattle.protocol.proofs.SiteEvents.{site_letter, restart_fit, give_up_fit, inquire_fit}
 use Rattle.protocol.proofs.DeskFits.{Grows, grows_same, DeskLater, letters_desk}
 use Rattle.protocol.proofs.Turns.{known_is}
@@ -37,7 +37,7 @@ module _ {L : Lang} where
     began_later = record {
       born = born_next w.desk;
       grown = λ t born. put_all same same_law (next_txn w.desk) (Known fresh) w.desk.txn (λ j x. Born w.desk j → (v : Undecided L) → x ≡ Known v → (u : Undecided L) × (w.desk.txn j ≡ Known u) × Grows u v)
-        (λ new. absurd (not_born w.desk new)) (λ j other old v e. (v, e, grows_same v)) t born;
+          (λ new. absurd (not_born w.desk new)) (λ j other old v e. (v, e, grows_same v)) t born;
       more = λ t was. list_any-append (commits_it t) w.past (Began (next_txn w.desk) ∷ []) ∙ or_left (is_committed w.past t) false was;
       newly = λ t done. inl (⊎_elim (λ was. was) (λ now. let f : false ≡ true = now in cc) (or_cases (is_committed w.past t) false (sym (list_any-append (commits_it t) w.past (Began (next_txn w.desk) ∷ [])) ∙ done)));
     }
@@ -51,15 +51,16 @@ module _ {L : Lang} where
         record {
           live = fit.live;
           prepared = λ a k j i row. let p = fit.prepared a k j i row in record {
-            owner = p.owner; born = born_next w.desk j p.born;
+            owner = p.owner;
+            born = born_next w.desk j p.born;
             own = λ v e. let g = began_later.grown j p.born v e in let own = p.own g.0 g.1 in (g.2.ticket a k own.0, g.2.voting own.1);
             voter = λ done. let v = p.voter (was_before j done) in
-              (v.0, v.1, put_all same same_law new (Known fresh) w.desk.txn (λ j x. Born w.desk j → w.desk.txn j ≡ Row v.0 v.1 → x ≡ Row v.0 v.1) (λ born e. absurd (not_born w.desk born)) (λ j other born e. e) j p.born v.2, v.3);
+                (v.0, v.1, put_all same same_law new (Known fresh) w.desk.txn (λ j x. Born w.desk j → w.desk.txn j ≡ Row v.0 v.1 → x ≡ Row v.0 v.1) (λ born e. absurd (not_born w.desk born)) (λ j other born e. e) j p.born v.2, v.3);
           };
           born = put_all same same_law new (Known fresh) w.desk.txn (λ j x. (v : Undecided L) → x ≡ Known v → Born (desk_began w.desk) j) (λ v e. inr (refl, le_refl (suc w.desk.number))) (λ j other v e. born_next w.desk j (fit.born j v e));
           known = put_all same same_law new (Known fresh) w.desk.txn (λ j x. (v : Undecided L) → x ≡ Known v → KnownAt o w.sites w.letters j v) (λ v e. subst (KnownAt o w.sites w.letters new) (known_is fresh v e) (fresh_known o w.sites w.letters new)) (λ j other v e. fit.known j v e);
           rows = put_all same same_law new (Known fresh) w.desk.txn (λ j x. (vs acked : List (L.Site × Name)) → x ≡ Row vs acked → IsCommitted (w.past ++ Began new ∷ []) j × Every (Gone w.sites) acked × Every (Votes o w.sites j) vs)
-            (λ vs acked e. cc) (λ j other vs acked e. let r = fit.rows j vs acked e in (began_later.more j r.0, r.1, r.2));
+              (λ vs acked e. cc) (λ j other vs acked e. let r = fit.rows j vs acked e in (began_later.more j r.0, r.1, r.2));
           committed = λ j done. let c = fit.committed j (was_before j done) in (born_next w.desk j c.0, λ v e. let g = began_later.grown j c.0 v e in c.1 g.0 g.1);
           letters = letters_desk o w (desk_began w.desk) (w.past ++ Began new ∷ []) fit began_later w.letters fit.letters;
         }
@@ -74,7 +75,7 @@ module _ {L : Lang} where
     no_commit t j (Known u) = refl
     no_commit t j (Row vs acked) = refl
 
-    no_commits : (j : Name) (names : List Name) → is_committed (flat_map (λ t. (txn_restarted t (w.desk.txn t)).deeds) names) j ≡ false
+    pub no_commits : (j : Name) (names : List Name) → is_committed (flat_map (λ t. (txn_restarted t (w.desk.txn t)).deeds) names) j ≡ false
     no_commits j [] = refl
     no_commits j (t ∷ names) = list_any-append (commits_it j) (txn_restarted t (w.desk.txn t)).deeds (flat_map (λ t. (txn_restarted t (w.desk.txn t)).deeds) names) ∙ rw (no_commit t j (w.desk.txn t)) (no_commits j names)
 
@@ -112,7 +113,8 @@ module _ {L : Lang} where
     lives_fit = record {
       live = fit.live;
       prepared = λ a k j i row. let p = fit.prepared a k j i row in record {
-        owner = p.owner; born = born_restarted w.desk j p.born;
+        owner = p.owner;
+        born = born_restarted w.desk j p.born;
         own = λ v e. absurd (none_known j (w.desk.txn j) v e);
         voter = λ done. let v = p.voter (lives_before j done) in (v.0, [], ap (λ x. (txn_restarted j x).txn) v.2, v.3);
       };
@@ -121,8 +123,8 @@ module _ {L : Lang} where
       rows = λ t vs acked e. rows_again t vs acked (w.desk.txn t) refl e;
       committed = λ t done. let c = fit.committed t (lives_before t done) in (born_restarted w.desk t c.0, λ v e. none_known t (w.desk.txn t) v e);
       letters = every_append (Fits o (desk_restarted w.desk) (desk_lives w).past w.sites) w.letters (flat_map (λ t. (txn_restarted t (w.desk.txn t)).letters) w.desk.known)
-        (letters_desk o w (desk_restarted w.desk) (desk_lives w).past fit lives_later w.letters fit.letters)
-        (every_flat (Fits o (desk_restarted w.desk) (desk_lives w).past w.sites) (λ t. (txn_restarted t (w.desk.txn t)).letters) w.desk.known (λ t. restart_letters t (w.desk.txn t) refl));
+          (letters_desk o w (desk_restarted w.desk) (desk_lives w).past fit lives_later w.letters fit.letters)
+          (every_flat (Fits o (desk_restarted w.desk) (desk_lives w).past w.sites) (λ t. (txn_restarted t (w.desk.txn t)).letters) w.desk.known (λ t. restart_letters t (w.desk.txn t) refl));
     }
 
   module _ (law : IsLawful L) where
@@ -178,6 +180,7 @@ module _ {L : Lang} where
         acks : (a : L.Site) (t : Name) (b : Body L) → FitsBody o w.desk w.past a (w.sites a) t b → AckedOnce w a b
         acks a t (Ack k) here = dead_is ((w.sites a).status k) here.2
         acks a t _ here = tt
+
         aborts : (a : L.Site) (t : Name) (b : Body L) → FitsBody o w.desk w.past a (w.sites a) t b → AbortsNone w a t b
         aborts a t (Abort k) here = λ done i row. clash (ap is_prepared row) (here.3 done)
         aborts a t _ here = tt

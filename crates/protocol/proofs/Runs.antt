@@ -4,7 +4,7 @@ use Rattle.protocol.specs.Language.{Name}
 use Rattle.protocol.specs.Letter.{Body, Open, Fetch, Write, Prepare, Commit, Abort, Ticket, Rows, Refused, Voted, Ack, Inquire, Lock, Gone, Yes, No}
 use Rattle.protocol.specs.Site.{Dead}
 use Rattle.protocol.specs.Desk.{Unknown, State, Commit_call, Choice}
-use Rattle.protocol.specs.World.{World, Event, Begin, Call, Deliver, Site_inquires, Desk_restarts, run}
+use Rattle.protocol.specs.World.{World, Event, Begin, Call, Deliver, Site_inquires, Site_restarts, Desk_restarts, run}
 use Rattle.protocol.specs.Serial.{committed, settled}
 use Rattle.protocol.specs.Toy.{toy, Pair, Move, Look, part_of}
 
@@ -129,3 +129,43 @@ late_write_refused = refl
 
 none_but_the_look : committed_in (looked ++ all_of (9 ∷ 10 ∷ 11 ∷ 18 ∷ 19 ∷ 20 ∷ [])) ≡ two ∷ []
 none_but_the_look = refl
+
+-- a write is late; a reader had its lock when the writer's visit was opened, and has read, committed and gone since
+abbrev overtaken : List (Event toy)
+overtaken = Begin ∷ Begin ∷ Call two (State (Look true)) (0, []) ∷ all_of (0 ∷ 1 ∷ 2 ∷ []) ++ Call one (State Move) (0, []) ∷ all_of (4 ∷ 5 ∷ 6 ∷ 7 ∷ 8 ∷ 9 ∷ 10 ∷ []) ++ Deliver 11 true moves ∷ Deliver 12 true (0, []) ∷ Call one Commit_call (0, []) ∷ Deliver 3 true (0, []) ∷ Call two Commit_call (0, []) ∷ all_of (16 ∷ 17 ∷ [])
+
+committed_reader : committed_in overtaken ≡ two ∷ []
+committed_reader = refl
+
+standing_lock_counts : new_letters overtaken (all_of (13 ∷ [])) ≡ Refused two Lock ∷ []
+standing_lock_counts = refl
+
+-- a site restarts with a prepared row, whose lock still refuses a fetch
+abbrev restarted_in_doubt : List (Event toy)
+restarted_in_doubt = moved ++ all_of (8 ∷ 10 ∷ []) ++ Site_restarts false true ∷ Begin ∷ Call two (State (Look false)) (0, []) ∷ all_of (13 ∷ 14 ∷ [])
+
+row_keeps_its_lock : new_letters restarted_in_doubt (all_of (15 ∷ [])) ≡ Refused (record { life = 2; number = 1 }) Lock ∷ []
+row_keeps_its_lock = refl
+
+-- the order is that of the first phases, not of the decisions
+abbrev two_looks : List (Event toy)
+two_looks = Begin ∷ Begin ∷ Call one (State (Look false)) (0, []) ∷ all_of (0 ∷ 1 ∷ 2 ∷ []) ++ Deliver 3 true (7, []) ∷ Call two (State (Look true)) (0, []) ∷ all_of (4 ∷ 5 ∷ 6 ∷ 7 ∷ []) ++ Call one Commit_call (0, []) ∷ Call two Commit_call (0, []) ∷ all_of (9 ∷ 10 ∷ 8 ∷ 11 ∷ [])
+
+committed_in_order : committed_in two_looks ≡ one ∷ two ∷ []
+committed_in_order = refl
+
+-- an inquiry about an undecided transaction is not answered
+not_answered : new_letters (moved ++ all_of (8 ∷ 10 ∷ [])) (Site_inquires false ∷ all_of (13 ∷ [])) ≡ Inquire one ∷ []
+not_answered = refl
+
+-- a ticket that comes again while there is a commit row is passed over
+ticket_again : new_letters decided (all_of (2 ∷ [])) ≡ []
+ticket_again = refl
+
+-- one acknowledgement of two leaves the commit row
+row_left : (run (decided ++ all_of (14 ∷ 16 ∷ [])) start).desk.known ≡ one ∷ []
+row_left = refl
+
+-- a commit that comes again finds nothing to apply
+applied_once : ((run (decided ++ all_of (14 ∷ 14 ∷ [])) start).sites false).known ≡ []
+applied_once = refl

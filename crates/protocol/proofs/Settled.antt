@@ -1,20 +1,16 @@
 -- Settled fragments: at most one decided row changes a leaf, and most events leave the settled contents alone.
-use Rattle.std.proofs.Common.{◌≡◌, refl, sym, ap, ◌∙◌, subst, ◌&&◌, ◌||◌, Bool, true, false, List, [], ◌∷◌, ◌++◌, ◌⊎◌, inl, inr, ⊎_elim, Option, Some, None, append-nil}
+use Rattle.std.proofs.Common.{◌≡◌, refl, sym, ap, ◌∙◌, subst, ◌&&◌, Bool, true, false, List, [], ◌∷◌, ◌⊎◌, inl, inr, ⊎_elim}
 use Rattle.std.specs.List.{list_any}
-use Rattle.protocol.specs.Language.{Lang, IsLawful, Name, same, written}
-use Rattle.protocol.specs.Letter.{Voted, Read, Letter}
-use Rattle.protocol.specs.Site.{Visit, Status, Dead, Alive, Prepared, SiteState, is_dead, is_alive, has_exclusive, has_lock}
-use Rattle.protocol.specs.Desk.{Txn, Unknown, Known, Row, Undecided, Idle, Deed, Desk}
+use Rattle.protocol.specs.Language.{Lang, IsLawful, Name, same}
+use Rattle.protocol.specs.Site.{Status, Dead, Alive, Prepared, is_dead, has_exclusive, has_lock}
+use Rattle.protocol.specs.Desk.{Txn, Unknown, Known, Row, Deed, Desk}
 use Rattle.protocol.specs.World.{World}
 use Rattle.protocol.specs.Serial.{is_committed, with_row, with_decided, with_all_decided, settled}
-use Rattle.protocol.proofs.Basics.{In, any_in, found, clash, same_law, same_refl, by_test, both_true, left_true, right_true, some_is, every_in}
-use Rattle.protocol.proofs.Fits.{Drawn, Own, IsCommitted, Fit}
-use Rattle.protocol.proofs.Locks.{Locked, Once, exclusive_lock}
-use Rattle.protocol.proofs.Ops.{Op, sets, adds, writes_to, on, writes_on, written_on, written_none, changed_by, touches_by}
-use Rattle.protocol.proofs.Data.{untouched, TellsBody}
-use Rattle.protocol.proofs.Works.{works, own_of}
-use Rattle.protocol.proofs.Book.{sets_at, unsent_of}
-use Rattle.protocol.proofs.Viable.{ViableNow, is_row, may_go_on, Viable, alone_at}
+use Rattle.protocol.proofs.Basics.{In, any_in, found, clash, same_law, by_test, both_true, left_true, right_true}
+use Rattle.protocol.proofs.Fits.{IsCommitted}
+use Rattle.protocol.proofs.Locks.{Once, exclusive_lock}
+use Rattle.protocol.proofs.Ops.{Op}
+use Rattle.protocol.proofs.Data.{untouched}
 use Rattle.protocol.proofs.Base.{Base}
 
 module _ {L : Lang} where
@@ -29,7 +25,7 @@ module _ {L : Lang} where
   changed_by_row g (Alive v) c = c
   changed_by_row g (Prepared t i) c = L.changed g i c
 
-  changes_exclusive : (past : List (Deed L)) (g : L.Leaf) (st : Status L) → changes_it past g st ≡ true → has_exclusive g st ≡ true
+  pub changes_exclusive : (past : List (Deed L)) (g : L.Leaf) (st : Status L) → changes_it past g st ≡ true → has_exclusive g st ≡ true
   changes_exclusive past g Dead e = e
   changes_exclusive past g (Alive v) e = cc
   changes_exclusive past g (Prepared t i) e = right_true (is_committed past t) (L.touches g i) e
@@ -80,7 +76,7 @@ module _ {L : Lang} where
         let locked = base.locked (L.home g) in
         let held = exclusive_lock g (s.status k) (changes_exclusive w.past g (s.status k) is) in
         one_changes w.desk g s.status k s.known (s.kept g) locked.once (locked.known k (lock_lives g (s.status k) held))
-          (λ j other. neutral j (s.status j) refl (⊎_elim (λ too. clash held (locked.alone j k g other (changes_exclusive w.past g (s.status j) too))) (λ f. f) (by_test (changes_it w.past g (s.status j)))))
+        (λ j other. neutral j (s.status j) refl (⊎_elim (λ too. clash held (locked.alone j k g other (changes_exclusive w.past g (s.status j) too))) (λ f. f) (by_test (changes_it w.past g (s.status j)))))
         ∙ decided_row k (s.status k) refl is (s.kept g)
 
     -- whether some row changes it
@@ -88,10 +84,10 @@ module _ {L : Lang} where
     some_row =
         let s = w.sites (L.home g) in
         ⊎_elim (λ is. let f = found (λ k. changes_it w.past g (s.status k)) s.known is in inl (f.0, f.2))
-          (λ none. inr (λ k. ⊎_elim
-            (λ is. clash (any_in (λ j. changes_it w.past g (s.status j)) k s.known ((base.locked (L.home g)).known k (lock_lives g (s.status k) (exclusive_lock g (s.status k) (changes_exclusive w.past g (s.status k) is)))) is) none)
-            (λ f. f) (by_test (changes_it w.past g (s.status k)))))
-          (by_test (list_any (λ k. changes_it w.past g (s.status k)) s.known))
+        (λ none. inr (λ k. ⊎_elim
+        (λ is. clash (any_in (λ j. changes_it w.past g (s.status j)) k s.known ((base.locked (L.home g)).known k (lock_lives g (s.status k) (exclusive_lock g (s.status k) (changes_exclusive w.past g (s.status k) is)))) is) none)
+        (λ f. f) (by_test (changes_it w.past g (s.status k)))))
+        (by_test (list_any (λ k. changes_it w.past g (s.status k)) s.known))
 
   -- the same decided rows over the same kept content
   pub settled_same : IsLawful L → (o p : L.Site → Name → Name) (ops opt : L.Site → Name → List (Op L)) (w v : World L) → Base o ops w → Base p opt v → (g : L.Leaf) → (v.sites (L.home g)).kept g ≡ (w.sites (L.home g)).kept g →
@@ -99,7 +95,7 @@ module _ {L : Lang} where
       ((k : Name) → changes_it v.past g ((v.sites (L.home g)).status k) ≡ true → changes_it w.past g ((w.sites (L.home g)).status k) ≡ true) → settled v g ≡ settled w g
   settled_same law o p ops opt w v bw bv g kept to from = ⊎_elim
       (λ row. let now = to row.0 row.1 in
-        settled_one law p opt v bv g row.0 now.1 ∙ ap (λ c. changed_by_row g ((v.sites (L.home g)).status row.0) c) kept ∙ ap (λ st. changed_by_row g st ((w.sites (L.home g)).kept g)) now.0 ∙ sym (settled_one law o ops w bw g row.0 row.1))
+      settled_one law p opt v bv g row.0 now.1 ∙ ap (λ c. changed_by_row g ((v.sites (L.home g)).status row.0) c) kept ∙ ap (λ st. changed_by_row g st ((w.sites (L.home g)).kept g)) now.0 ∙ sym (settled_one law o ops w bw g row.0 row.1))
       (λ none. settled_none law p opt v bv g (λ k. ⊎_elim (λ is. clash (from k is) (none k)) (λ f. f) (by_test (changes_it v.past g ((v.sites (L.home g)).status k)))) ∙ kept ∙ sym (settled_none law o ops w bw g none))
       (some_row law o ops w bw g)
 
@@ -114,19 +110,21 @@ module _ {L : Lang} where
       (v.sites (L.home g)).kept g ≡ L.changed g i ((w.sites (L.home g)).kept g) → (v.sites (L.home g)).status k ≡ Dead → ((j : Name) → same j k ≡ false → (v.sites (L.home g)).status j ≡ (w.sites (L.home g)).status j) → settled v g ≡ settled w g
   settled_applied law o p ops opt w v bw bv g k u i e done past kept gone others = ⊎_elim
       (λ touches.
-        let is : changes_it w.past g ((w.sites (L.home g)).status k) ≡ true = ap (changes_it w.past g) e ∙ both_true (is_committed w.past u) (L.touches g i) done touches in
-        settled_none law p opt v bv g (λ j. ⊎_elim (λ same_. ap (λ n. changes_it v.past g ((v.sites (L.home g)).status n)) ((same_law j k).0 same_) ∙ ap (changes_it v.past g) gone)
-          (λ other. ap (changes_it v.past g) (others j other) ∙ ap (λ l. changes_it l g ((w.sites (L.home g)).status j)) past ∙ alone_there j other is) (by_test (same j k)))
-        ∙ kept ∙ ap (λ st. changed_by_row g st ((w.sites (L.home g)).kept g)) (sym e) ∙ sym (settled_one law o ops w bw g k is))
+      let is : changes_it w.past g ((w.sites (L.home g)).status k) ≡ true = ap (changes_it w.past g) e ∙ both_true (is_committed w.past u) (L.touches g i) done touches in
+      settled_none law p opt v bv g (λ j. ⊎_elim (λ same_. ap (λ n. changes_it v.past g ((v.sites (L.home g)).status n)) ((same_law j k).0 same_) ∙ ap (changes_it v.past g) gone)
+      (λ other. ap (changes_it v.past g) (others j other) ∙ ap (λ l. changes_it l g ((w.sites (L.home g)).status j)) past ∙ alone_there j other is) (by_test (same j k)))
+      ∙ kept ∙ ap (λ st. changed_by_row g st ((w.sites (L.home g)).kept g)) (sym e) ∙ sym (settled_one law o ops w bw g k is))
       (λ free. settled_same law o p ops opt w v bw bv g (kept ∙ untouched law (ops (L.home g) k) i g ((w.sites (L.home g)).kept g) ((bw.data_at (L.home g)).rows k u i e) free)
-        (λ j is. let other = not_k j free is in (others j other, ap (changes_it v.past g) (others j other) ∙ ap (λ l. changes_it l g ((w.sites (L.home g)).status j)) past ∙ is))
-        (λ j is. ⊎_elim (λ same_. absurd (dead_no j same_ is)) (λ other. ap (λ l. changes_it l g ((w.sites (L.home g)).status j)) (sym past) ∙ ap (changes_it v.past g) (sym (others j other)) ∙ is) (by_test (same j k))))
+      (λ j is. let other = not_k j free is in (others j other, ap (changes_it v.past g) (others j other) ∙ ap (λ l. changes_it l g ((w.sites (L.home g)).status j)) past ∙ is))
+      (λ j is. ⊎_elim (λ same_. absurd (dead_no j same_ is)) (λ other. ap (λ l. changes_it l g ((w.sites (L.home g)).status j)) (sym past) ∙ ap (changes_it v.past g) (sym (others j other)) ∙ is) (by_test (same j k))))
       (by_test (L.touches g i))
     where
       alone_there : (j : Name) → same j k ≡ false → changes_it w.past g ((w.sites (L.home g)).status k) ≡ true → changes_it w.past g ((w.sites (L.home g)).status j) ≡ false
       alone_there j other is = ⊎_elim (λ too. clash (exclusive_lock g ((w.sites (L.home g)).status k) (changes_exclusive w.past g ((w.sites (L.home g)).status k) is)) ((bw.locked (L.home g)).alone j k g other (changes_exclusive w.past g ((w.sites (L.home g)).status j) too)))
           (λ f. f) (by_test (changes_it w.past g ((w.sites (L.home g)).status j)))
+
       not_k : (j : Name) → L.touches g i ≡ false → changes_it w.past g ((w.sites (L.home g)).status j) ≡ true → same j k ≡ false
       not_k j free is = ⊎_elim (λ same_. clash (right_true (is_committed w.past u) (L.touches g i) (sym (ap (changes_it w.past g) (ap (w.sites (L.home g)).status ((same_law j k).0 same_) ∙ e)) ∙ is)) free) (λ f. f) (by_test (same j k))
+
       dead_no : (j : Name) → same j k ≡ true → changes_it v.past g ((v.sites (L.home g)).status j) ≡ true → ⊥
       dead_no j same_ is = let f : false ≡ true = sym (ap (changes_it v.past g) (ap (v.sites (L.home g)).status ((same_law j k).0 same_) ∙ gone)) ∙ is in cc

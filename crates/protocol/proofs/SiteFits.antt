@@ -1,13 +1,12 @@
 -- A step of one site keeps what letters, prepared rows and transactions say.
-use Rattle.std.proofs.Common.{◌≡◌, refl, sym, ap, ◌∙◌, subst, ℕ, suc, ◌≤◌, Bool, true, false, List, [], ◌∷◌, ◌++◌, ◌⊎◌, inl, inr, ⊎_elim, Option, Some, None, true≢false}
-use Rattle.std.specs.Prelude.{⊤}
-use Rattle.protocol.specs.Language.{Lang, IsLawful, Name, same, put}
+use Rattle.std.proofs.Common.{◌≡◌, refl, sym, ap, ◌∙◌, subst, true, false, List, ◌⊎◌, inl, ⊎_elim}
+use Rattle.protocol.specs.Language.{Lang, IsLawful, Name, put}
 use Rattle.protocol.specs.Letter.{Yes, No, Read, Vote, Body, Open, Fetch, Write, Prepare, Commit, Abort, Ticket, Rows, Refused, Voted, Ack, Inquire, Letter}
-use Rattle.protocol.specs.Site.{Visit, Status, Dead, Alive, Prepared, SiteState, is_dead, is_alive, is_prepared}
-use Rattle.protocol.specs.Desk.{Undecided, Known, Row, Voting, Deed, Desk}
-use Rattle.protocol.specs.World.{World, is_site, with_site}
-use Rattle.protocol.proofs.Basics.{Every, In, in_left, put_all, put_here, every_append, every_more, clash}
-use Rattle.protocol.proofs.Fits.{Drawn, Born, Und, Own, OwnVoting, IsCommitted, FitsVote, FitsBody, Fits, PreparedAt, VoteAt, KnownAt, Gone, Votes, Fit}
+use Rattle.protocol.specs.Site.{Status, Dead, Alive, Prepared, SiteState, is_dead, is_alive, is_prepared}
+use Rattle.protocol.specs.Desk.{Undecided, Known, Deed, Desk}
+use Rattle.protocol.specs.World.{World, with_site}
+use Rattle.protocol.proofs.Basics.{Every, in_left, put_all, put_here, every_append, every_more, clash}
+use Rattle.protocol.proofs.Fits.{Drawn, Born, Und, OwnVoting, IsCommitted, FitsVote, FitsBody, Fits, PreparedAt, VoteAt, Gone, Votes, Fit}
 
 module _ {L : Lang} where
   -- how a site may change: drawn tickets stay drawn, the dead stay dead, a prepared row of an undecided transaction stays, and a new one is its transaction's own
@@ -36,9 +35,9 @@ module _ {L : Lang} where
 
     never_prepared : (t k : Name) → o a k ≡ t → (IsCommitted past t → is_prepared (s.status k) ≡ false) → IsCommitted past t → is_prepared (new.status k) ≡ false
     never_prepared t k owner before done = not_prepared (new.status k) (λ u i e. ⊎_elim
-      (λ held. clash (is_prepared_at (s.status k) u i held) (before done))
-      (λ fresh. fresh.3 (subst (IsCommitted past) (sym owner ∙ fresh.0) done))
-      (later.comes k u i e))
+        (λ held. clash (is_prepared_at (s.status k) u i held) (before done))
+        (λ fresh. fresh.3 (subst (IsCommitted past) (sym owner ∙ fresh.0) done))
+        (later.comes k u i e))
 
     pub body_later : (t : Name) (b : Body L) → FitsBody o d past a s t b → FitsBody o d past a new t b
     body_later t Open fit = fit
@@ -56,9 +55,9 @@ module _ {L : Lang} where
 
     pub prepared_later : (k t : Name) (i : L.Intentions) → ((i : L.Intentions) → s.status k ≡ Prepared t i → PreparedAt o d past a k t) → new.status k ≡ Prepared t i → PreparedAt o d past a k t
     prepared_later k t i before e = ⊎_elim
-      (λ held. before i held)
-      (λ fresh. record { owner = fresh.0; born = fresh.1; own = fresh.2; voter = λ done. absurd (fresh.3 done) })
-      (later.comes k t i e)
+        (λ held. before i held)
+        (λ fresh. record { owner = fresh.0; born = fresh.1; own = fresh.2; voter = λ done. absurd (fresh.3 done) })
+        (later.comes k t i e)
 
     pub vote_at_later : (t k : Name) (u : Undecided L) (x : Vote) → d.txn t ≡ Known u → Drawn s k → VoteAt s t k x → VoteAt new t k x
     vote_at_later t k u Yes e drawn (i, held) = (i, later.stays k t i u e held)
@@ -74,7 +73,7 @@ module _ {L : Lang} where
         Every (λ l. Born w.desk l.txn × (l.site ≡ a) × FitsBody o w.desk w.past a new l.txn l.body) letters → Fit o (with_site w a new letters)
     site_moves o w a new letters fit later fits =
         let at : (b : L.Site) → Later o w.desk w.past b (w.sites b) (put L.same_site a new w.sites b) =
-              put_all L.same_site law.sites a new w.sites (λ b s. Later o w.desk w.past b (w.sites b) s) later (λ b e. same_later o w.desk w.past b (w.sites b) (fit.live b)) in
+        put_all L.same_site law.sites a new w.sites (λ b s. Later o w.desk w.past b (w.sites b) s) later (λ b e. same_later o w.desk w.past b (w.sites b) (fit.live b)) in
         record {
           live = λ b. (at b).live;
           prepared = λ b k t i e. prepared_later o w.desk w.past b (w.sites b) (put L.same_site a new w.sites b) (at b) k t i (fit.prepared b k t) e;
@@ -86,12 +85,15 @@ module _ {L : Lang} where
             named = known.named;
             reads = λ votes stage b k is own. in_left (record { site = b; txn = t; body = Voted k Read }) w.letters letters (known.reads votes stage b k is own);
           };
-          rows = λ t vs acked e. ((fit.rows t vs acked e).0, every_more (Gone w.sites) (Gone (put L.same_site a new w.sites)) acked (λ v gone. ((at v.0).drawn v.1 gone.0, (at v.0).dead v.1 gone.0 gone.1)) (fit.rows t vs acked e).1,
-            every_more (Votes o w.sites t) (Votes o (put L.same_site a new w.sites) t) vs (λ v is. ((at v.0).drawn v.1 is.0, is.1, (at v.0).quiet v.1 is.0 is.2)) (fit.rows t vs acked e).2);
+          rows = λ t vs acked e. (
+            (fit.rows t vs acked e).0,
+            every_more (Gone w.sites) (Gone (put L.same_site a new w.sites)) acked (λ v gone. ((at v.0).drawn v.1 gone.0, (at v.0).dead v.1 gone.0 gone.1)) (fit.rows t vs acked e).1,
+            every_more (Votes o w.sites t) (Votes o (put L.same_site a new w.sites) t) vs (λ v is. ((at v.0).drawn v.1 is.0, is.1, (at v.0).quiet v.1 is.0 is.2)) (fit.rows t vs acked e).2,
+          );
           committed = fit.committed;
           letters = every_append (Fits o w.desk w.past (put L.same_site a new w.sites)) w.letters letters
-            (every_more (Fits o w.desk w.past w.sites) (Fits o w.desk w.past (put L.same_site a new w.sites)) w.letters
+              (every_more (Fits o w.desk w.past w.sites) (Fits o w.desk w.past (put L.same_site a new w.sites)) w.letters
               (λ l was. (was.0, body_later o w.desk w.past l.site (w.sites l.site) (put L.same_site a new w.sites l.site) (at l.site) l.txn l.body was.1)) fit.letters)
-            (every_more (λ l. Born w.desk l.txn × (l.site ≡ a) × FitsBody o w.desk w.past a new l.txn l.body) (Fits o w.desk w.past (put L.same_site a new w.sites)) letters
+              (every_more (λ l. Born w.desk l.txn × (l.site ≡ a) × FitsBody o w.desk w.past a new l.txn l.body) (Fits o w.desk w.past (put L.same_site a new w.sites)) letters
               (λ l is. (is.0, subst (λ b. FitsBody o w.desk w.past b (put L.same_site a new w.sites b) l.txn l.body) (sym is.1) (subst (λ s. FitsBody o w.desk w.past a s l.txn l.body) (sym (put_here L.same_site law.sites a new w.sites)) is.2))) fits);
         }

@@ -1,13 +1,12 @@
 -- What a letter does at its site, a restart and giving up keep what letters, prepared rows and transactions say.
-use Rattle.std.proofs.Common.{◌≡◌, refl, sym, ap, ◌∙◌, subst, ℕ, suc, ◌≤◌, ◌&&◌, Bool, true, false, List, [], ◌∷◌, ◌++◌, map, if◌then◌else◌, ◌⊎◌, inl, inr, ⊎_elim, Option, Some, None, arith}
-use Rattle.std.specs.Prelude.{⊤}
-use Rattle.protocol.specs.Language.{Lang, IsLawful, Name, same, put}
-use Rattle.protocol.specs.Letter.{Yes, No, Read, Vote, Body, Open, Fetch, Write, Prepare, Commit, Abort, Ticket, Rows, Refused, Voted, Ack, Inquire, Letter}
-use Rattle.protocol.specs.Site.{Visit, Status, Dead, Alive, Prepared, SiteState, Act, Says, Opens, Locks, Prepares, Applies, Ends, is_dead, is_alive, is_prepared, sees, next_ticket, site_after, said, restarted, site_restarted}
+use Rattle.std.proofs.Common.{◌≡◌, refl, sym, ap, ◌∙◌, subst, true, false, List, ◌⊎◌, inl, inr, Some, arith}
+use Rattle.protocol.specs.Language.{Lang, Name, same, put}
+use Rattle.protocol.specs.Letter.{Body, Open}
+use Rattle.protocol.specs.Site.{Visit, Status, Dead, Alive, Prepared, SiteState, Act, is_dead, is_alive, is_prepared, sees, next_ticket, site_after, said}
 use Rattle.protocol.specs.Desk.{Undecided, Known, Deed, Desk}
-use Rattle.protocol.specs.World.{World, is_site, with_site, addressed}
-use Rattle.protocol.proofs.Basics.{Every, In, put_all, put_here, every_append, every_more, clash, same_law, same_refl, either_if, both_true, left_true, right_true, if_true, if_false, some_is}
-use Rattle.protocol.proofs.Fits.{Drawn, Born, Und, Own, OwnVoting, IsCommitted, FitsVote, FitsBody, Fits, PreparedAt, VoteAt, KnownAt, Gone, Fit}
+use Rattle.protocol.specs.World.{World}
+use Rattle.protocol.proofs.Basics.{Every, put_all, put_here, clash, same_law, some_is}
+use Rattle.protocol.proofs.Fits.{Drawn, Born, Und, OwnVoting, IsCommitted, FitsBody, Fit}
 use Rattle.protocol.proofs.SiteTable.{Acted, says_nothing, says_gone, says_no, says_yes, says_ack, opens, reads, writes, prepares, only_read, votes_no, refuses, applies, ends, discards}
 use Rattle.protocol.proofs.SiteFits.{Later, same_later}
 
@@ -89,7 +88,7 @@ module _ {L : Lang} where
 
   module _ (o : L.Site → Name → Name) (w : World L) (a : L.Site) (fit : Fit o w) where
     -- the row of a decided transaction goes at its Commit
-    over_at_commit : (t k u : Name) (i : L.Intentions) → o a k ≡ t → IsCommitted w.past t → (w.sites a).status k ≡ Prepared u i → Und w.desk u (λ v. ⊥)
+    pub over_at_commit : (t k u : Name) (i : L.Intentions) → o a k ≡ t → IsCommitted w.past t → (w.sites a).status k ≡ Prepared u i → Und w.desk u (λ v. ⊥)
     over_at_commit t k u i owner done row = subst (λ n. Und w.desk n (λ v. ⊥)) (sym owner ∙ (fit.prepared a k u i row).owner) (fit.committed t done).1
 
     over_at_abort : (t k u : Name) (i : L.Intentions) → o a k ≡ t → Und w.desk t (λ v. (j : Name) × (v.ticket a ≡ Some j) × (same j k ≡ false)) → (w.sites a).status k ≡ Prepared u i → Und w.desk u (λ v. ⊥)
@@ -112,7 +111,7 @@ module _ {L : Lang} where
     letter_later t b act born fit_b (writes k op g x v e next free) no_open = from_alive o w.desk w.past a (w.sites a) (fit.live a) k v _ g _ e (λ u i row. cc)
     letter_later t b act born fit_b (prepares k n v e done) no_open = from_visit o w.desk w.past a (w.sites a) (fit.live a) k v _ _ e
         (λ u i row. let is : t ≡ u = same_row t u v.changes i (Prepared t v.changes) refl row in
-          subst (λ n. (o a k ≡ n) × Born w.desk n × Und w.desk n (OwnVoting a k) × (IsCommitted w.past n → ⊥)) is (fit_b.1, born, fit_b.2, λ decided. clash (ap is_alive e) (fit_b.3 decided)))
+        subst (λ n. (o a k ≡ n) × Born w.desk n × Und w.desk n (OwnVoting a k) × (IsCommitted w.past n → ⊥)) is (fit_b.1, born, fit_b.2, λ decided. clash (ap is_alive e) (fit_b.3 decided)))
     letter_later t b act born fit_b (only_read k n v e done empty) no_open = from_visit o w.desk w.past a (w.sites a) (fit.live a) k v Dead _ e (λ u i row. cc)
     letter_later t b act born fit_b (votes_no k n v e) no_open = from_visit o w.desk w.past a (w.sites a) (fit.live a) k v Dead _ e (λ u i row. cc)
     letter_later t b act born fit_b (refuses c k v reason e) no_open = from_visit o w.desk w.past a (w.sites a) (fit.live a) k v Dead _ e (λ u i row. cc)

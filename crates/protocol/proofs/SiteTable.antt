@@ -1,6 +1,6 @@
 -- The site's table seen as a list of rows: each act with the reason for which the table chose it.
-use Rattle.std.proofs.Common.{◌≡◌, refl, ap, ℕ, suc, ◌==◌, Bool, true, false, List, [], ◌∷◌}
-use Rattle.protocol.specs.Language.{Lang, Name, same, put}
+use Rattle.std.proofs.Common.{◌≡◌, refl, ap, ℕ, suc, ◌==◌, Bool, true, false, [], ◌∷◌}
+use Rattle.protocol.specs.Language.{Lang, Name, put}
 use Rattle.protocol.specs.Letter.{Yes, No, Read, Reason, Lock, Full, Gone, Body, Open, Fetch, Write, Prepare, Commit, Abort, Ticket, Rows, Refused, Voted, Ack, Inquire}
 use Rattle.protocol.specs.Site.{Visit, Status, Dead, Alive, Prepared, SiteState, Act, Says, Opens, Locks, Prepares, Applies, Ends, is_prepared, others_exclusive, on_fetch, on_write, on_prepare, on_commit, on_abort, on_letter}
 use Rattle.std.proofs.lemmas.Bool.{eqb-true}
@@ -32,8 +32,8 @@ module _ {L : Lang} (s : SiteState L) (t : Name) (kept : Bool) where
   fetched k op g q (Alive v) e =
       either_if (Acted s t (Fetch k op g q)) (op == suc v.done) _ _
       (λ next. either_if (Acted s t (Fetch k op g q)) (others_exclusive s k g) _ _
-        (λ held. refuses (Fetch k op g q) k v Lock e)
-        (λ free. either (Acted s t (Fetch k op g q)) kept _ _ (reads k op g q v e (eqb-true op (suc v.done) next) free) (says_nothing (Fetch k op g q))))
+      (λ held. refuses (Fetch k op g q) k v Lock e)
+      (λ free. either (Acted s t (Fetch k op g q)) kept _ _ (reads k op g q v e (eqb-true op (suc v.done) next) free) (says_nothing (Fetch k op g q))))
       (λ other. says_nothing (Fetch k op g q))
 
   wrote : (k : Name) (op : ℕ) (g : L.Leaf) (x : L.Write) (st : Status L) → s.status k ≡ st → Acted s t (Write k op g x) (on_write k op g x st)
@@ -42,8 +42,8 @@ module _ {L : Lang} (s : SiteState L) (t : Name) (kept : Bool) where
   wrote k op g x (Alive v) e =
       either_if (Acted s t (Write k op g x)) (op == suc v.done) _ _
       (λ next. either_if (Acted s t (Write k op g x)) (v.foreign g) _ _
-        (λ held. refuses (Write k op g x) k v Lock e)
-        (λ free. either (Acted s t (Write k op g x)) (L.is_full g x v.changes) _ _ (refuses (Write k op g x) k v Full e) (writes k op g x v e (eqb-true op (suc v.done) next) free)))
+      (λ held. refuses (Write k op g x) k v Lock e)
+      (λ free. either (Acted s t (Write k op g x)) (L.is_full g x v.changes) _ _ (refuses (Write k op g x) k v Full e) (writes k op g x v e (eqb-true op (suc v.done) next) free)))
       (λ other. says_nothing (Write k op g x))
 
   asked : (k : Name) (n : ℕ) (st : Status L) → s.status k ≡ st → Acted s t (Prepare k n) (on_prepare kept t k n st)
@@ -52,8 +52,8 @@ module _ {L : Lang} (s : SiteState L) (t : Name) (kept : Bool) where
   asked k n (Alive v) e =
       either_if (Acted s t (Prepare k n)) (v.done == n) _ _
       (λ all. either_if (Acted s t (Prepare k n)) (L.is_empty v.changes) _ _
-        (λ empty. only_read k n v e (eqb-true v.done n all) empty)
-        (λ some. either (Acted s t (Prepare k n)) kept _ _ (prepares k n v e (eqb-true v.done n all)) (votes_no k n v e)))
+      (λ empty. only_read k n v e (eqb-true v.done n all) empty)
+      (λ some. either (Acted s t (Prepare k n)) kept _ _ (prepares k n v e (eqb-true v.done n all)) (votes_no k n v e)))
       (λ other. votes_no k n v e)
 
   told : (k : Name) (st : Status L) → s.status k ≡ st → Acted s t (Commit k) (on_commit kept k st)

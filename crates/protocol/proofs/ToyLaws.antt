@@ -1,8 +1,8 @@
 -- The toy language is lawful.
-use Rattle.std.proofs.Common.{◌≡◌, refl, sym, ap, ◌∙◌, subst, ℕ, ◌==◌, Bool, true, false, List, [], ◌∷◌, ◌++◌, if◌then◌else◌, Option, Some, None, ◌↔◌, ◌&&◌, is_none}
+use Rattle.std.proofs.Common.{◌≡◌, refl, ℕ, ◌==◌, Bool, true, false, [], ◌∷◌, ◌++◌, if◌then◌else◌, Option, Some, None, ◌↔◌, ◌&&◌, is_none}
 use Rattle.std.proofs.lemmas.Bool.{eqb-true}
-use Rattle.protocol.specs.Language.{Lang, IsLawful, written}
-use Rattle.protocol.specs.Toy.{toy, Pair, Intended, Toy_statement, Move, Look, is_same, part_of, intended, adds, applied, is_intended, toy_meaning}
+use Rattle.protocol.specs.Language.{IsLawful, written}
+use Rattle.protocol.specs.Toy.{toy, Pair, Intended, is_same, part_of, intended, adds, applied, is_intended, toy_meaning}
 
 same_is : (a b : Bool) → (is_same a b ≡ true) ↔ (a ≡ b)
 same_is true true = (λ e. refl, λ e. refl)
@@ -56,6 +56,12 @@ wrote g before after = go g (before.north == after.north) (before.south == after
 
 pub toy_lawful : IsLawful toy
 toy_lawful = record {
-  leaves = same_is; sites = same_is; changed_none = change_none; changed_add = change_add; touches_none = touch_none; touches_add = touch_add; empty_touches = empty_touch;
+  leaves = same_is;
+  sites = same_is;
+  changed_none = change_none;
+  changed_add = change_add;
+  touches_none = touch_none;
+  touches_add = touch_add;
+  empty_touches = empty_touch;
   writes_right = λ s before g. wrote g before (toy_meaning s before).1;
 }

@@ -1,16 +1,15 @@
 -- The kinds of turns of the coordinator: each keeps what the invariant asks.
-use Rattle.std.proofs.Common.{◌≡◌, refl, sym, ap, ◌∙◌, subst, ℕ, suc, Bool, true, false, ◌&&◌, ◌||◌, not, List, [], ◌∷◌, ◌++◌, map, ◌⊎◌, inl, inr, ⊎_elim, Option, Some, None, is_some, if◌then◌else◌}
-use Rattle.std.specs.List.{list_all, list_any, filter_map, cons_option}
+use Rattle.std.proofs.Common.{◌≡◌, refl, sym, ◌∙◌, subst, false, List, [], ◌∷◌, inl, inr, Option, Some, None}
+use Rattle.std.specs.List.{cons_option}
 use Rattle.std.specs.Option.{option_map}
-use Rattle.protocol.specs.Language.{Lang, IsLawful, Name, same, put}
-use Rattle.protocol.specs.Letter.{Yes, No, Read, Vote, Body, Open, Fetch, Write, Prepare, Commit, Abort, Ticket, Rows, Refused, Voted, Ack, Inquire, Letter, letters_to}
-use Rattle.protocol.specs.Site.{Status, Dead, Alive, Prepared, SiteState, is_dead, is_alive, is_prepared}
-use Rattle.protocol.specs.Desk.{Ask, Stage, Idle, Reading, Writing, Voting, Undecided, Txn, Unknown, Known, Row, Deed, Stated, Worked, Answered, Phased, Committed, Aborted, Rolled_back, By_store, Desk, Turn, Out, desk_after, stays, ask_out, asks_out, write_out, writes_out, is_new, opening, opens, visits, writing, ends_by, voter_at, voters_of, are_all_in, decides, votes_go, commits, is_pair, are_acked, on_ack, may_hold, vote_at, to_abort, when, to_prepare}
-use Rattle.protocol.specs.World.{World, is_site}
+use Rattle.protocol.specs.Language.{Lang, Name, same}
+use Rattle.protocol.specs.Letter.{Body, Letter, letters_to}
+use Rattle.protocol.specs.Desk.{Undecided, Txn, Unknown, Known, Row, Deed, Desk, desk_after}
+use Rattle.protocol.specs.World.{World}
 use Rattle.protocol.specs.Serial.{is_committed}
-use Rattle.protocol.proofs.Basics.{Every, In, put_all, put_here, every_append, every_more, every_flat, every_map, every_in, clash, same_law, either, either_if, or_left, or_right, or_cases, not_false, found, all_in, any_in, in_flat, some_is, left_true, right_true, if_true}
-use Rattle.protocol.proofs.Fits.{Drawn, Born, Und, is_voting, Own, Other, OwnVoting, IsCommitted, FitsVote, FitsBody, Fits, PreparedAt, VoteAt, KnownAt, Gone, Votes, Fit}
-use Rattle.protocol.proofs.DeskFits.{Grows, grows_same, TurnFine, DeskLater, turn_later, letters_desk}
+use Rattle.protocol.proofs.Basics.{Every, In, put_here, clash, same_law}
+use Rattle.protocol.proofs.Fits.{Und, IsCommitted, KnownAt, Fit}
+use Rattle.protocol.proofs.DeskFits.{Grows, grows_same, TurnFine}
 
 module _ {L : Lang} where
   pub known_is : (u v : Undecided L) → Known u ≡ Known v → u ≡ v

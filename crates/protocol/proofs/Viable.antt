@@ -1,32 +1,22 @@
 -- Viable transactions: one that can no longer commit never can again.
-use Rattle.std.proofs.Common.{◌≡◌, refl, sym, ap, ◌∙◌, subst, ℕ, suc, ◌||◌, Bool, true, false, List, [], ◌∷◌, ◌++◌, map, length, drop, ◌⊎◌, inl, inr, ⊎_elim, Option, Some, None, append-nil}
+use Rattle.std.proofs.Common.{◌≡◌, refl, sym, ap, ◌∙◌, subst, ℕ, suc, Bool, true, false, List, [], ◌∷◌, ◌++◌, length, drop, ◌⊎◌, inl, inr, ⊎_elim}
 use Rattle.std.proofs.Math.Seq.{drop-append_seam}
+pub use Rattle.protocol.specs.Parts.{ViableNow, is_row, may_go_on, Viable}
 use Rattle.protocol.specs.Language.{Lang, IsLawful, Name, same, put}
-use Rattle.protocol.specs.Letter.{Yes, No, Read, Vote, Body, Open, Fetch, Write, Prepare, Commit, Abort, Ticket, Rows, Refused, Voted, Ack, Inquire, Letter}
-use Rattle.protocol.specs.Site.{Visit, Status, Dead, Alive, Prepared, SiteState, Act, Says, Opens, Locks, Prepares, Applies, Ends, is_dead, has_exclusive, has_lock, sees, next_ticket, new_visit, site_after, said, restarted, site_restarted, on_give_up}
+use Rattle.protocol.specs.Letter.{Read, Body, Voted, Letter}
+use Rattle.protocol.specs.Site.{Visit, Status, Dead, Alive, Prepared, SiteState, Act, has_exclusive, has_lock, sees, next_ticket, new_visit, site_after, said, restarted, site_restarted, on_give_up}
 use Rattle.protocol.specs.Desk.{Undecided, Known}
 use Rattle.protocol.specs.World.{World, addressed}
-use Rattle.protocol.proofs.Basics.{Every, In, in_append, put_all, put_here, clash, same_law, by_test, or_cases, if_true, if_false, every_in}
+use Rattle.protocol.proofs.Basics.{In, put_all, clash, same_law, by_test, or_cases, if_true, if_false, every_in}
 use Rattle.protocol.proofs.Fits.{Drawn, is_voting, Own}
 use Rattle.protocol.proofs.SiteTable.{Acted, says_nothing, says_gone, says_no, says_yes, says_ack, opens, reads, writes, prepares, only_read, votes_no, refuses, applies, ends, discards}
 use Rattle.protocol.proofs.SiteSteps.{not_drawn, sees_prepared}
-use Rattle.protocol.proofs.Locks.{Locked, seen_from, exclusive_lock, unequal}
-use Rattle.protocol.proofs.Ops.{Op, Get, Set, sets, sets_append, adds, touches_by, writes_to, writes_append}
-use Rattle.protocol.proofs.Data.{VisitAt, SiteData, NthOp, TellsBody, all_done, next_is, visit_is}
+use Rattle.protocol.proofs.Locks.{seen_from, unequal}
+use Rattle.protocol.proofs.Ops.{Op, Get, Set, sets, sets_append, touches_by, writes_to, writes_append}
+use Rattle.protocol.proofs.Data.{VisitAt, SiteData, NthOp, TellsBody, next_is, visit_is}
 use Rattle.protocol.proofs.Base.{Base}
 
 module _ {L : Lang} where
-  -- a ticket is prepared, or lives and no write still to come meets a foreign leaf
-  pub data ViableNow (ops : List (Op L)) (st : Status L) : Type 0 where
-    is_row : (t : Name) (i : L.Intentions) → st ≡ Prepared t i → ViableNow ops st
-    may_go_on : (v : Visit L) → st ≡ Alive v → ((g : L.Leaf) → writes_to L g (sets (drop v.done ops)) ≡ true → v.foreign g ≡ false) → ViableNow ops st
-
-  pub record Viable (ops : L.Site → Name → List (Op L)) (w : World L) (t : Name) : Type 0 where
-    pub u : Undecided L
-    pub known : w.desk.txn t ≡ Known u
-    pub voting : is_voting u.stage ≡ true
-    pub each : (a : L.Site) (k : Name) → Own a k u → ViableNow (ops a k) ((w.sites a).status k) ⊎ In (record { site = a; txn = t; body = Voted k Read }) w.letters
-
   pub rest_is : (ops : List (Op L)) (v : Visit L) (at : VisitAt ops v) → drop v.done ops ≡ at.rest
   rest_is ops v at = ap (λ n. drop n ops) at.done ∙ ap (drop (length at.past)) at.split ∙ drop-append_seam at.past at.rest
 
@@ -72,14 +62,14 @@ module _ {L : Lang} where
       let is = next_is ops v (suc v.done) op at nth refl in
       let same_ = visit_is w x f in
       may_go_on v e (λ g it_writes.
-        let split = ap (λ l. writes_to L g (sets l)) (rest_is ops v at ∙ is.1) in
-        ⊎_elim
-          (λ first. free g first)
-          (λ not_. ap (λ h. h g) (sym foreign) ∙ ap (λ (y : Visit L). y.foreign g) same_
-            ∙ later g (ap (λ (y : Visit L). writes_to L g (sets (drop y.done ops))) (sym same_)
-              ∙ ap (λ n. writes_to L g (sets (drop n ops))) done ∙ ap (λ l. writes_to L g (sets l)) (drop_next ops at.past op nth.after v.done at.done (at.split ∙ ap (λ l. at.past ++ l) is.1))
-              ∙ sym (writes_append L g (sets (op ∷ [])) (sets nth.after) not_) ∙ ap (writes_to L g) (sym (sets_append (op ∷ []) nth.after)) ∙ sym split ∙ it_writes))
-          (by_test (writes_to L g (sets (op ∷ [])))))
+      let split = ap (λ l. writes_to L g (sets l)) (rest_is ops v at ∙ is.1) in
+      ⊎_elim
+      (λ first. free g first)
+      (λ not_. ap (λ h. h g) (sym foreign) ∙ ap (λ (y : Visit L). y.foreign g) same_
+      ∙ later g (ap (λ (y : Visit L). writes_to L g (sets (drop y.done ops))) (sym same_)
+      ∙ ap (λ n. writes_to L g (sets (drop n ops))) done ∙ ap (λ l. writes_to L g (sets l)) (drop_next ops at.past op nth.after v.done at.done (at.split ∙ ap (λ l. at.past ++ l) is.1))
+      ∙ sym (writes_append L g (sets (op ∷ [])) (sets nth.after) not_) ∙ ap (writes_to L g) (sym (sets_append (op ∷ []) nth.after)) ∙ sym split ∙ it_writes))
+      (by_test (writes_to L g (sets (op ∷ [])))))
     where
       drop_next : (ops past : List (Op L)) (op : Op L) (after : List (Op L)) (n : ℕ) → n ≡ length past → ops ≡ past ++ op ∷ after → drop (suc n) ops ≡ after
       drop_next ops past op after n e f = ap (λ m. drop (suc m) ops) e ∙ ap (drop (suc (length past))) f ∙ go past
@@ -160,6 +150,6 @@ module _ {L : Lang} where
           let at = (base.data_at a).visits k v e in
           let both = ap (writes_to L g) (ap sets at.split ∙ sets_append at.past at.rest) in
           ⊎_elim
-            (λ past. (base.locked a).alone k j g (unequal j k apart) (ap (has_exclusive g) e ∙ ap (L.touches g) at.changes ∙ touches_by L law g (sets at.past) ∙ past))
-            (λ not_. ⊎_elim (λ held. clash ((base.locked a).seen j k v g apart e held) (free g (ap (λ l. writes_to L g (sets l)) (rest_is (ops a k) v at) ∙ sym (writes_append L g (sets at.past) (sets at.rest) not_) ∙ sym both ∙ it_writes))) (λ none. none) (by_test (has_lock g ((w.sites a).status j))))
-            (by_test (writes_to L g (sets at.past)))
+          (λ past. (base.locked a).alone k j g (unequal j k apart) (ap (has_exclusive g) e ∙ ap (L.touches g) at.changes ∙ touches_by L law g (sets at.past) ∙ past))
+          (λ not_. ⊎_elim (λ held. clash ((base.locked a).seen j k v g apart e held) (free g (ap (λ l. writes_to L g (sets l)) (rest_is (ops a k) v at) ∙ sym (writes_append L g (sets at.past) (sets at.rest) not_) ∙ sym both ∙ it_writes))) (λ none. none) (by_test (has_lock g ((w.sites a).status j))))
+          (by_test (writes_to L g (sets at.past)))

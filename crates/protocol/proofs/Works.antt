@@ -1,29 +1,13 @@
 -- What past deeds say of one transaction: its evaluated statements, and that deeds of another don't matter.
-use Rattle.std.proofs.Common.{◌≡◌, refl, sym, ap, ◌∙◌, subst, Bool, true, false, List, [], ◌∷◌, ◌++◌, map, if◌then◌else◌, append-nil, flat_map}
+use Rattle.std.proofs.Common.{◌≡◌, refl, ap, ◌∙◌, false, List, [], ◌∷◌, ◌++◌, if◌then◌else◌, append-nil, flat_map}
 use Rattle.std.proofs.lemmas.Grind.{flat_map-append}
+pub use Rattle.protocol.specs.Parts.{Work, work_in, works, own_of}
 use Rattle.protocol.specs.Language.{Lang, Name, same}
 use Rattle.protocol.specs.Desk.{Ask, Choice, Deed, Began, Stated, Worked, Answered, Phased, Committed, Aborted, Rolled_back}
-use Rattle.protocol.specs.Serial.{statement_in, statements_of, answer_in, answers_of, phased_of, phases_of, is_committed}
-use Rattle.protocol.proofs.Basics.{Every, every_more, if_true, if_false, same_refl}
-
--- a statement that was evaluated, what came for it, what it answered and wrote
-pub record Work (L : Lang) : Type 0 where
-  pub statement : L.Statement
-  pub asks : List (Ask L)
-  pub choice : Choice L
+use Rattle.protocol.specs.Serial.{statement_in, statements_of, answer_in, answers_of}
+use Rattle.protocol.proofs.Basics.{Every, if_true, if_false, same_refl}
 
 module _ {L : Lang} where
-  abbrev pub work_in : Name → Deed L → List (Work L)
-  work_in t (Worked u s asks choice) = if same u t then record { statement = s; asks = asks; choice = choice } ∷ [] else []
-  work_in t deed = []
-
-  abbrev pub works : List (Deed L) → Name → List (Work L)
-  works past t = flat_map (work_in t) past
-
-  -- all that it writes
-  abbrev pub own_of : List (Work L) → List (L.Leaf × L.Write)
-  own_of xs = flat_map (λ x. x.choice.1) xs
-
   abbrev pub txn_of : Deed L → Name
   txn_of (Began t) = t
   txn_of (Stated t s) = t

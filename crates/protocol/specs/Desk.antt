@@ -333,6 +333,7 @@ module _ {L : Lang} where
   on_known t u a kept choice (Rows k n rows) = if is_named (u.ticket a) k then on_rows t u a n rows choice u.stage else stays (Known u)
   on_known t u a kept choice (Refused k reason) = if is_named (u.ticket a) k then on_refused t u u.stage else stays (Known u)
   on_known t u a kept choice (Voted k vote) = if is_named (u.ticket a) k then on_vote t u a kept vote u.stage else stays (Known u)
+  on_known t u a kept choice (Inquire k) = stays (Known u)
   on_known t u a kept choice body = stays (Known u)
 
   -- an unknown transaction is presumed aborted
@@ -353,6 +354,7 @@ module _ {L : Lang} where
   abbrev pub on_row : Name → List (L.Site × Name) → List (L.Site × Name) → L.Site → Bool → Body L → Turn L
   on_row t voters acked a kept (Ack k) = on_ack voters acked (a, k) kept
   on_row t voters acked a kept (Inquire k) = record { txn = Row voters acked; letters = record { site = a; txn = t; body = Commit k } ∷ []; deeds = [] }
+  on_row t voters acked a kept (Ticket k) = stays (Row voters acked)
   on_row t voters acked a kept body = stays (Row voters acked)
 
   -- what a letter from a site makes of its transaction

@@ -5,4 +5,5 @@ pub mod Desk
 pub mod World
 pub mod Serial
 pub mod Whole
+pub mod Parts
 pub mod Toy

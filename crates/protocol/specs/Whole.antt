@@ -1,8 +1,8 @@
 -- Part four of the invariant as a fact of one world: a committed transaction is applied whole and once.
-use Rattle.std.specs.Prelude.{◌≡◌, ⊤, Bool, true, false, List}
+use Rattle.std.specs.Prelude.{◌≡◌, ⊤, true, List}
 use Rattle.std.specs.List.{AllByRecursion}
 use Rattle.protocol.specs.Language.{Lang, Name}
-use Rattle.protocol.specs.Letter.{Body, Abort, Ack, Letter}
+use Rattle.protocol.specs.Letter.{Body, Abort, Ack}
 use Rattle.protocol.specs.Site.{Dead, Prepared}
 use Rattle.protocol.specs.Desk.{Row}
 use Rattle.protocol.specs.World.{World, Event, run}

@@ -1,0 +1,31 @@
+-- Parts one to three of the invariant, for every run, over the operations that the letters show.
+use Rattle.std.proofs.Common.{◌≡◌, refl, sym, subst, ap, ◌∙◌, Bool, true, false, List, [], Some}
+use Rattle.protocol.specs.Language.{Lang, IsLawful, Name, same}
+use Rattle.protocol.specs.Site.{has_lock}
+use Rattle.protocol.specs.World.{World, Event, run}
+use Rattle.protocol.specs.Serial.{is_committed, phases_of, settled, IsOpening}
+use Rattle.protocol.specs.Parts.{Op, sets, works, writes_to, operations, Viable, Counts, Two, Line, AreApart, PartsOneAndTwo, PartThree}
+use Rattle.protocol.proofs.Viable.{alone_at}
+use Rattle.protocol.proofs.DeepSites.{IsDeep}
+use Rattle.protocol.proofs.DeepEvents.{run_deep, opening_deep}
+
+module _ {L : Lang} (law : IsLawful L) where
+  -- the operations of the invariant are those of the letters
+  shown : (whole : L.Whole) (w : World L) (deep : IsDeep law whole w) → deep.1 ≡ operations w.letters
+  shown whole w deep = λ i a k. deep.2.base.is_sent a k i
+
+  apart_of : (whole : L.Whole) (w : World L) → IsDeep law whole w → AreApart w
+  apart_of whole w deep = record {
+    alone = subst (λ q. (t : Name) (viable : Viable q w t) (a : L.Site) (k j : Name) (g : L.Leaf) → viable.u.ticket a ≡ Some k → writes_to L g (sets (q a k)) ≡ true → same j k ≡ false → has_lock g ((w.sites a).status j) ≡ false) (shown whole w deep)
+      (λ t viable a k j g own writes apart. alone_at law deep.0 deep.1 w t deep.2.base viable a k own g writes j apart);
+    two = subst (λ q. Two (works w.past) (is_committed w.past) (Counts q w) (Viable q w) (phases_of w.past)) (shown whole w deep) deep.2.two;
+  }
+
+  pub parts_one_and_two : PartsOneAndTwo L
+  parts_one_and_two whole w events opening = apart_of whole (run events w) (run_deep law whole events w (opening_deep law whole w opening))
+
+  pub part_three : PartThree L
+  part_three whole w events opening =
+      let v = run events w in
+      let deep = run_deep law whole events w (opening_deep law whole w opening) in
+      subst (λ q. Line (works v.past) (is_committed v.past) (Counts q v) (settled v) (λ g. L.content g whole) (phases_of v.past)) (shown whole v deep) deep.2.line
