@@ -17,7 +17,7 @@ module _ {L : Lang} (law : IsLawful L) where
   apart_of : (whole : L.Whole) (w : World L) → IsDeep law whole w → AreApart w
   apart_of whole w deep = record {
     alone = subst (λ q. (t : Name) (viable : Viable q w t) (a : L.Site) (k j : Name) (g : L.Leaf) → viable.u.ticket a ≡ Some k → writes_to L g (sets (q a k)) ≡ true → same j k ≡ false → has_lock g ((w.sites a).status j) ≡ false) (shown whole w deep)
-      (λ t viable a k j g own writes apart. alone_at law deep.0 deep.1 w t deep.2.base viable a k own g writes j apart);
+        (λ t viable a k j g own writes apart. alone_at law deep.0 deep.1 w t deep.2.base viable a k own g writes j apart);
     two = subst (λ q. Two (works w.past) (is_committed w.past) (Counts q w) (Viable q w) (phases_of w.past)) (shown whole w deep) deep.2.two;
   }
 
