@@ -110,6 +110,8 @@ module _ {L : Lang} where
 
 -- parts one and two, in one world
 pub record AreApart {L : Lang} (w : World L) : Type 0 where
+  -- one that can no longer commit never can again, whatever happens next
+  pub lost : (e : Event L) (t : Name) (u : Undecided L) → w.desk.txn t ≡ Known u → is_voting u.stage ≡ true → Viable (operations (happens w e).letters) (happens w e) t → Viable (operations w.letters) w t
   -- where a viable one writes nobody else has a lock
   pub alone : (t : Name) (viable : Viable (operations w.letters) w t) (a : L.Site) (k j : Name) (g : L.Leaf) → viable.u.ticket a ≡ Some k → writes_to L g (sets (operations w.letters a k)) ≡ true → same j k ≡ false → has_lock g ((w.sites a).status j) ≡ false
   pub two : Two (works w.past) (is_committed w.past) (Counts (operations w.letters) w) (Viable (operations w.letters) w) (phases_of w.past)
