@@ -76,7 +76,7 @@ module _ {L : Lang} where
               (every_more (λ l. (l.site ≡ a) × TellsBody (ops a) new l.body × NoOps l) (λ l. TellsBody (ops l.site) (sites l.site) l.body) letters
               (λ l is. subst (λ b. TellsBody (ops b) (sites b) l.body) (sym is.0) (subst (λ s. TellsBody (ops a) s l.body) (sym (put_here L.same_site law.sites a new w.sites)) is.1)) says);
           is_sent = λ b k. base.is_sent b k ∙ sym (flat_map-append (λ (l : Letter L). op_of b k l.site l.body) w.letters letters
-            ∙ ap (λ x. operations w.letters b k ++ x) (none_put letters (every_more (λ l. (l.site ≡ a) × TellsBody (ops a) new l.body × NoOps l) NoOps letters (λ l is. is.2) says) b k) ∙ append-nil (operations w.letters b k));
+              ∙ ap (λ x. operations w.letters b k ++ x) (none_put letters (every_more (λ l. (l.site ≡ a) × TellsBody (ops a) new l.body × NoOps l) NoOps letters (λ l is. is.2) says) b k) ∙ append-nil (operations w.letters b k));
           book = λ t u e. book_site (λ b k d. ⊎_elim (λ was. inl (alike b k was)) (λ not_. inr (fresh b k not_)) (drawn_or_not (w.sites b) k)) (λ b k d. ⊎_elim (λ was. inl was) (λ not_. inr (fresh b k not_)) (drawn_or_not (w.sites b) k)) t u (base.book t u e);
           told = base.told;
           unborn = base.unborn;

@@ -40,7 +40,7 @@ module _ {L : Lang} (o : L.Site → Name → Name) (ops : L.Site → Name → Li
     tells = every_append (λ l. TellsBody (ops l.site) (w.sites l.site) l.body) w.letters (inquiries a (w.sites a)) base.tells
         (every_flat (λ l. TellsBody (ops l.site) (w.sites l.site) l.body) (λ k. inquiry_of a k ((w.sites a).status k)) (w.sites a).known (λ k. one k ((w.sites a).status k)));
     is_sent = λ b k. base.is_sent b k ∙ sym (flat_map-append (λ (l : Letter L). op_of b k l.site l.body) w.letters (inquiries a (w.sites a))
-      ∙ ap (λ x. operations w.letters b k ++ x) (none_put (inquiries a (w.sites a)) (every_flat NoOps (λ k. inquiry_of a k ((w.sites a).status k)) (w.sites a).known (λ k. plain k ((w.sites a).status k))) b k) ∙ append-nil (operations w.letters b k));
+        ∙ ap (λ x. operations w.letters b k ++ x) (none_put (inquiries a (w.sites a)) (every_flat NoOps (λ k. inquiry_of a k ((w.sites a).status k)) (w.sites a).known (λ k. plain k ((w.sites a).status k))) b k) ∙ append-nil (operations w.letters b k));
     book = λ t u e. books_more (inquiries a (w.sites a)) w.past t u e (same_view w.past t);
     told = base.told;
     unborn = base.unborn;
@@ -54,6 +54,7 @@ module _ {L : Lang} (o : L.Site → Name → Name) (ops : L.Site → Name → Li
       plain k Dead = tt
       plain k (Alive v) = tt
       plain k (Prepared t i) = ((λ b j. refl), tt)
+
       one : (k : Name) (st : Status L) → Every (λ l. TellsBody (ops l.site) (w.sites l.site) l.body) (inquiry_of a k st)
       one k Dead = tt
       one k (Alive v) = tt
@@ -89,7 +90,8 @@ module _ {L : Lang} (o : L.Site → Name → Name) (ops : L.Site → Name → Li
         fit = begun_fit o w base.fit;
         locked = base.locked;
         data_at = base.data_at;
-        tells = base.tells; is_sent = base.is_sent;
+        tells = base.tells;
+        is_sent = base.is_sent;
         book = put_all same same_law new (Known fresh) w.desk.txn (λ j x. (u : Undecided L) → x ≡ Known u → BookAt o ops w.sites w.letters later j u)
             (λ u e. subst (BookAt o ops w.sites w.letters later new) (fresh_is u e) (fresh_book (unborn new (not_born w.desk))))
             (λ j other u e. subst (λ l. BookAt o ops w.sites l later j u) (append-nil w.letters) (books_more [] later j u e (began_view j)));
@@ -149,7 +151,7 @@ module _ {L : Lang} (o : L.Site → Name → Name) (ops : L.Site → Name → Li
     tells = every_append (λ l. TellsBody (ops l.site) (w.sites l.site) l.body) w.letters (flat_map (λ t. (txn_restarted t (w.desk.txn t)).letters) w.desk.known) base.tells
         (every_flat (λ l. TellsBody (ops l.site) (w.sites l.site) l.body) (λ t. (txn_restarted t (w.desk.txn t)).letters) w.desk.known (λ t. one t (w.desk.txn t)));
     is_sent = λ b k. base.is_sent b k ∙ sym (flat_map-append (λ (l : Letter L). op_of b k l.site l.body) w.letters (flat_map (λ t. (txn_restarted t (w.desk.txn t)).letters) w.desk.known)
-      ∙ ap (λ x. operations w.letters b k ++ x) (none_put (flat_map (λ t. (txn_restarted t (w.desk.txn t)).letters) w.desk.known) (every_flat NoOps (λ t. (txn_restarted t (w.desk.txn t)).letters) w.desk.known (λ t. plain t (w.desk.txn t))) b k) ∙ append-nil (operations w.letters b k));
+        ∙ ap (λ x. operations w.letters b k ++ x) (none_put (flat_map (λ t. (txn_restarted t (w.desk.txn t)).letters) w.desk.known) (every_flat NoOps (λ t. (txn_restarted t (w.desk.txn t)).letters) w.desk.known (λ t. plain t (w.desk.txn t))) b k) ∙ append-nil (operations w.letters b k));
     book = λ t u e. absurd (none_known o w base.fit t (w.desk.txn t) u e);
     told = λ t done. told_view w.past (desk_lives w).past t (restart_view t) (base.told t (lives_before o w base.fit t done));
     unborn = λ t not_. let was = base.unborn t (λ born. not_ (born_restarted w.desk t born)) in let more = restart_view t in
@@ -167,10 +169,12 @@ module _ {L : Lang} (o : L.Site → Name → Name) (ops : L.Site → Name → Li
       commits_plain : (t : Name) (vs : List (L.Site × Name)) → Every (NoOps {L = L}) (commits {L = L} t vs)
       commits_plain t [] = tt
       commits_plain t (v ∷ vs) = ((λ b j. refl), commits_plain t vs)
+
       plain : (t : Name) (x : Txn L) → Every (NoOps {L = L}) (txn_restarted t x).letters
       plain t Unknown = tt
       plain t (Known u) = tt
       plain t (Row vs acked) = commits_plain t vs
+
       one : (t : Name) (x : Txn L) → Every (λ l. TellsBody (ops l.site) (w.sites l.site) l.body) (txn_restarted t x).letters
       one t Unknown = tt
       one t (Known u) = tt

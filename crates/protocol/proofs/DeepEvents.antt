@@ -46,7 +46,9 @@ module _ {L : Lang} (law : IsLawful L) (whole : L.Whole) where
     -- a new transaction
     begun_was : (t : Name) → In t (phases_of w.past) → Viable ops (begun w) t → Viable ops w t
     begun_was t here viable = record {
-      u = viable.u; voting = viable.voting; each = viable.each;
+      u = viable.u;
+      voting = viable.voting;
+      each = viable.each;
       known = put_all same same_law (next_txn w.desk) (Known fresh) w.desk.txn (λ j x. Born w.desk j → x ≡ Known viable.u → w.desk.txn j ≡ Known viable.u) (λ born f. absurd (not_born w.desk born)) (λ j other born f. f) t (deep.base.phased t here).0 viable.known;
     }
 
@@ -73,7 +75,9 @@ module _ {L : Lang} (law : IsLawful L) (whole : L.Whole) where
     -- inquiries
     inquires_was : (a : L.Site) (t : Name) → In t (phases_of w.past) → Viable ops (inquires w a) t → Viable ops w t
     inquires_was a t here viable = record {
-      u = viable.u; known = viable.known; voting = viable.voting;
+      u = viable.u;
+      known = viable.known;
+      voting = viable.voting;
       each = λ b k own. ⊎_elim (λ now. inl now)
           (λ letter. ⊎_elim (λ was. inr was)
           (λ new. absurd (every_in NoVote (inquiries a (w.sites a)) (record { site = b; txn = t; body = Voted k Read }) (every_flat NoVote (λ j. inquiry_of a j ((w.sites a).status j)) (w.sites a).known (λ j. one j ((w.sites a).status j))) new k refl))

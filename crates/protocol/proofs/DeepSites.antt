@@ -207,4 +207,4 @@ module _ {L : Lang} (law : IsLawful L) (whole : L.Whole) where
     give_up_viable k j =
         let new = site_after (w.sites a) (on_give_up k ((w.sites a).status k)) in
         either (λ v. Viable ops v j → Viable ops w j) (is_within new) (with_site w a new []) w
-          (viable_site law o o ops whole w a new [] deep.base (give_up_was (ops a) (w.sites a) k ((w.sites a).status k)) (λ c i u here. absurd here) j) (λ viable. viable)
+        (viable_site law o o ops whole w a new [] deep.base (give_up_was (ops a) (w.sites a) k ((w.sites a).status k)) (λ c i u here. absurd here) j) (λ viable. viable)

@@ -1,12 +1,15 @@
 -- Small runs of the toy language, each computed: a moved row with its write lost, committed, repeated, in doubt, and late.
-use Rattle.std.proofs.Common.{◌≡◌, refl, ℕ, Bool, true, false, List, [], ◌∷◌, ◌++◌, map, length, drop}
+use Rattle.std.proofs.Common.{◌≡◌, refl, subst₂, ℕ, Bool, true, false, List, [], ◌∷◌, ◌++◌, map, length, drop}
 use Rattle.protocol.specs.Language.{Name}
 use Rattle.protocol.specs.Letter.{Body, Open, Fetch, Write, Prepare, Commit, Abort, Ticket, Rows, Refused, Voted, Ack, Inquire, Lock, Gone, Yes, No}
 use Rattle.protocol.specs.Site.{Dead}
 use Rattle.protocol.specs.Desk.{Unknown, State, Commit_call, Choice}
 use Rattle.protocol.specs.World.{World, Event, Begin, Call, Deliver, Site_inquires, Site_restarts, Desk_restarts, run}
-use Rattle.protocol.specs.Serial.{committed, settled}
+use Rattle.protocol.specs.Serial.{committed, settled, AllExplained, IsOpening, IsSerial}
 use Rattle.protocol.specs.Toy.{toy, Pair, Move, Look, part_of}
+use Rattle.protocol.proofs.Basics.{some_is}
+use Rattle.protocol.proofs.SerialLaw.{serial_law}
+use Rattle.protocol.proofs.ToyLaws.{toy_lawful}
 
 abbrev opening : Pair → World toy
 opening p = record {
@@ -169,3 +172,22 @@ row_left = refl
 -- a commit that comes again finds nothing to apply
 applied_once : ((run (decided ++ all_of (14 ∷ 14 ∷ [])) start).sites false).known ≡ []
 applied_once = refl
+
+-- the law's premise can be met: what the moved row was answered and wrote is explained, and so the law speaks of this run
+moved_explained : AllExplained (run decided start).past
+moved_explained = (tt, (tt, ((λ whole gives. (refl, wrote whole.north whole.south (some_is gives.0) (some_is gives.1.0))), (tt, (tt, (tt, tt))))))
+  where
+    between : ℕ → ℕ → List (Bool × ℕ)
+    between north south = toy.writes (record { north = north; south = south }) (record { north = south; south = north })
+
+    wrote : (north south : ℕ) → 7 ≡ north → 0 ≡ south → between 7 0 ≡ between north south
+    wrote north south n s = subst₂ (λ a b. between 7 0 ≡ between a b) n s refl
+
+moved_serially : IsSerial (record { north = 7; south = 0 }) (run decided start)
+moved_serially = serial_law toy_lawful (record { north = 7; south = 0 }) start decided opened moved_explained
+  where
+    at : (g : Bool) → part_of g (record { north = 7; south = 0 }) ≡ part_of g (record { north = 7; south = 0 })
+    at g = refl
+
+    opened : IsOpening (record { north = 7; south = 0 }) start
+    opened = record { letters = refl; past = refl; visits = λ a k. refl; tickets = λ a. refl; undecided = λ t. refl; names = refl; rebuilt = at }
