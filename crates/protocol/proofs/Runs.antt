@@ -169,6 +169,10 @@ ticket_again = refl
 row_left : (run (decided ++ all_of (14 ∷ 16 ∷ [])) start).desk.known ≡ one ∷ []
 row_left = refl
 
+-- an acknowledgement that comes again is none of the other voter
+row_left_again : (run (decided ++ all_of (14 ∷ 16 ∷ 16 ∷ [])) start).desk.known ≡ one ∷ []
+row_left_again = refl
+
 -- a commit that comes again finds nothing to apply
 applied_once : ((run (decided ++ all_of (14 ∷ 14 ∷ [])) start).sites false).known ≡ []
 applied_once = refl

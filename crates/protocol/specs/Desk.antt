@@ -25,7 +25,7 @@ pub record Undecided (L : Lang) : Type 0 where
   pub sent : L.Site → ℕ
   pub stage : Stage L
 
--- a transaction is unknown, undecided, or has a commit row
+-- a transaction is unknown, undecided, or has a commit row with the acknowledgements counted so far, as they came
 pub data Txn (L : Lang) : Type 0 where
   Unknown : Txn L
   Known : (undecided : Undecided L) → Txn L
@@ -364,13 +364,13 @@ module _ {L : Lang} where
   on_unknown t a (Inquire k) = record { txn = Unknown; letters = record { site = a; txn = t; body = Abort k } ∷ []; deeds = [] }
   on_unknown t a body = stays Unknown
 
-  -- with the last acknowledgement the commit row goes; if its store refuses that, the acknowledgement is as good as lost
+  -- with the last acknowledgement the commit row goes; if its store refuses that, the acknowledgement is as good as lost. One that comes again changes nothing
   abbrev pub on_ack : List (L.Site × Name) → List (L.Site × Name) → L.Site × Name → Bool → Turn L
   on_ack voters acked v kept =
-      if list_any (is_pair L v.0 v.1) voters
-      then (if are_acked L voters (v ∷ acked)
+      if list_any (is_pair L v.0 v.1) voters && not (list_any (is_pair L v.0 v.1) acked)
+      then (if are_acked L voters (acked ++ v ∷ [])
       then (if kept then stays Unknown else stays (Row voters acked))
-      else stays (Row voters (v ∷ acked)))
+      else stays (Row voters (acked ++ v ∷ [])))
       else stays (Row voters acked)
 
   -- a committed transaction answers acknowledgements and inquiries
