@@ -1,5 +1,5 @@
 -- The book after each request and each letter at the coordinator.
-use Rattle.std.proofs.Common.{◌≡◌, refl, sym, ap, ◌∙◌, subst, ℕ, Bool, true, false, ◌&&◌, List, [], ◌∷◌, ◌++◌, map, inl, inr, Option, Some, None, is_some, is_none, append_assoc, append-nil}
+use Rattle.std.proofs.Common.{◌≡◌, refl, sym, ap, ◌∙◌, subst, ℕ, Bool, true, false, ◌&&◌, List, [], ◌∷◌, ◌++◌, map, inl, inr, Option, Some, None, is_some, is_none, append_assoc, append-nil, not}
 use Rattle.std.specs.List.{list_any, list_all}
 use Rattle.protocol.specs.Parts.{op_of}
 use Rattle.protocol.specs.Language.{Lang, IsLawful, Name, same, put}
@@ -233,8 +233,8 @@ module _ {L : Lang} (law : IsLawful L) (o : L.Site → Name → Name) (ops : L.S
     row_booked a vs acked kept (Rows k n rows) e = row_gone vs acked
     row_booked a vs acked kept (Refused k reason) e = row_gone vs acked
     row_booked a vs acked kept (Voted k x) e = row_gone vs acked
-    row_booked a vs acked kept (Ack k) e = either (Booked o ops w t) (list_any (is_pair L a k) vs) _ _
-        (either (Booked o ops w t) (are_acked L vs ((a, k) ∷ acked)) _ _ (either (Booked o ops w t) kept _ _ (gone_booked Unknown (λ v f. cc)) (row_gone vs acked)) (row_gone vs ((a, k) ∷ acked)))
+    row_booked a vs acked kept (Ack k) e = either (Booked o ops w t) (list_any (is_pair L a k) vs && not (list_any (is_pair L a k) acked)) _ _
+        (either (Booked o ops w t) (are_acked L vs (acked ++ (a, k) ∷ [])) _ _ (either (Booked o ops w t) kept _ _ (gone_booked Unknown (λ v f. cc)) (row_gone vs acked)) (row_gone vs (acked ++ (a, k) ∷ [])))
         (row_gone vs acked)
     row_booked a vs acked kept (Inquire k) e = still_booked (Row vs acked) (record { site = a; txn = t; body = Commit k } ∷ []) e books (((tt, refl), (λ x j. refl)), tt)
 

@@ -1,5 +1,5 @@
 -- Each request and each letter at the coordinator keeps what letters, prepared rows and transactions say.
-use Rattle.std.proofs.Common.{◌≡◌, refl, sym, ap, ◌∙◌, subst, ℕ, Bool, true, false, List, [], ◌∷◌, ◌++◌, map, inl, ⊎_elim, Option, Some, None, is_some, is_none}
+use Rattle.std.proofs.Common.{◌≡◌, refl, sym, ap, ◌∙◌, subst, ℕ, Bool, true, false, List, [], ◌∷◌, ◌++◌, map, inl, ⊎_elim, Option, Some, None, is_some, is_none, not, ◌&&◌}
 use Rattle.std.specs.List.{list_any, list_all}
 use Rattle.protocol.specs.Language.{Lang, IsLawful, Name, same, put}
 use Rattle.protocol.specs.Letter.{Yes, No, Read, Vote, Body, Open, Fetch, Write, Prepare, Commit, Abort, Ticket, Rows, Refused, Voted, Ack, Inquire, Letter}
@@ -7,7 +7,7 @@ use Rattle.protocol.specs.Site.{is_dead}
 use Rattle.protocol.specs.Desk.{Ask, Stage, Idle, Reading, Writing, Voting, Undecided, Txn, Unknown, Known, Row, Choice, Deed, Stated, Worked, Phased, Aborted, Rolled_back, By_vote, By_refusal, Given_up, Turn, Request, State, Commit_call, Rollback, Give_up, desk_after, stays, is_named, states, ends_by, phases, votes_go, decides, voters_of, are_all_in, when, to_prepare, on_state, on_commit_call, on_rollback, on_request, ticket_goes, on_ticket, with_rows, on_rows, on_refused, counts, on_vote, on_known, on_unknown, is_pair, are_acked, on_ack, on_row, on_desk_letter}
 use Rattle.protocol.specs.World.{World, is_site}
 use Rattle.protocol.specs.Serial.{is_committed}
-use Rattle.protocol.proofs.Basics.{Every, In, put_all, every_in, clash, same_law, either, either_if, some_is, found, all_in, left_true, right_true}
+use Rattle.protocol.proofs.Basics.{every_append, Every, In, put_all, every_in, clash, same_law, either, either_if, some_is, found, all_in, left_true, right_true}
 use Rattle.protocol.proofs.Fits.{Drawn, Born, is_voting, Own, OwnVoting, IsCommitted, FitsBody, Fits, VoteAt, KnownAt, Gone, Votes, Fit}
 use Rattle.protocol.proofs.SiteFits.{not_prepared}
 use Rattle.protocol.proofs.DeskFits.{Grows, grows_same, TurnFine, turn_later, letters_desk, split}
@@ -294,11 +294,11 @@ module _ {L : Lang} where
 
         ack_good : (kept : Bool) (k : Name) → FitsBody o w.desk w.past a (w.sites a) t (Ack k) → Good o w t (on_ack vs acked (a, k) kept)
         ack_good kept k here =
-            let more : Every (Gone w.sites) ((a, k) ∷ acked) = ((here.0, here.2), (fit.rows t vs acked e).1) in
-            either (Good o w t) (list_any (is_pair L a k) vs) _ _
-            (either_if (Good o w t) (are_acked L vs ((a, k) ∷ acked)) _ _
-            (λ all. either (Good o w t) kept _ _ (record { fine = row_goes ((a, k) ∷ acked) more all; letters = tt }) row_same)
-            (λ some. record { fine = row_acks ((a, k) ∷ acked) more; letters = tt }))
+            let more : Every (Gone w.sites) (acked ++ (a, k) ∷ []) = every_append (Gone w.sites) acked ((a, k) ∷ []) (fit.rows t vs acked e).1 ((here.0, here.2), tt) in
+            either (Good o w t) (list_any (is_pair L a k) vs && not (list_any (is_pair L a k) acked)) _ _
+            (either_if (Good o w t) (are_acked L vs (acked ++ (a, k) ∷ [])) _ _
+            (λ all. either (Good o w t) kept _ _ (record { fine = row_goes (acked ++ (a, k) ∷ []) more all; letters = tt }) row_same)
+            (λ some. record { fine = row_acks (acked ++ (a, k) ∷ []) more; letters = tt }))
             row_same
 
         row_good : (kept : Bool) (b : Body L) → Born w.desk t → FitsBody o w.desk w.past a (w.sites a) t b → Good o w t (on_row t vs acked a kept b)

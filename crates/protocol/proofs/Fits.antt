@@ -1,10 +1,10 @@
 -- What every letter ever sent, every prepared row and every transaction says of the world: the facts behind part four of the invariant.
-use Rattle.std.proofs.Common.{◌≡◌, suc, ◌≤◌, Bool, true, false, List, ◌++◌, ◌⊎◌, Option, Some}
+use Rattle.std.proofs.Common.{◌≡◌, suc, ◌≤◌, true, false, List, ◌++◌, ◌⊎◌, Option, Some}
 use Rattle.std.specs.Prelude.{⊤}
 use Rattle.protocol.specs.Language.{Lang, Name, same}
 use Rattle.protocol.specs.Letter.{Yes, No, Read, Vote, Body, Open, Fetch, Write, Prepare, Commit, Abort, Ticket, Rows, Refused, Voted, Ack, Inquire, Letter}
 use Rattle.protocol.specs.Site.{Prepared, SiteState, is_dead, is_alive, is_prepared}
-use Rattle.protocol.specs.Desk.{Voting, Stage, Undecided, Known, Row, Deed, Desk}
+use Rattle.protocol.specs.Desk.{Voting, Undecided, Known, Row, Deed, Desk}
 use Rattle.protocol.specs.World.{World, is_site}
 pub use Rattle.protocol.specs.Parts.{is_voting}
 use Rattle.protocol.specs.Serial.{is_committed}

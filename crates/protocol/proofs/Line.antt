@@ -1,6 +1,5 @@
 -- The line of transactions in the order of their first phases: what each has read, and how a late commit goes into its middle.
 use Rattle.std.proofs.Common.{◌≡◌, refl, sym, ap, ◌∙◌, subst, Bool, true, false, List, [], ◌∷◌, ◌++◌, inl, inr, ⊎_elim, Some, if◌then◌else◌}
-use Rattle.std.specs.Prelude.{⊤}
 use Rattle.std.specs.List.{list_any}
 pub use Rattle.protocol.specs.Parts.{reads_from, RightFrom, after, Line, Apart, Two}
 use Rattle.protocol.specs.Language.{Lang, IsLawful, Name, written}

@@ -1,6 +1,5 @@
 -- Operations of a visit in order, what their writes come to, and what intentions made of them touch.
 use Rattle.std.proofs.Common.{◌≡◌, refl, sym, ap, ap₂, ◌∙◌, ◌+◌, Bool, true, false, ◌||◌, List, [], ◌∷◌, ◌++◌, length, ⊎_elim, if◌then◌else◌, arith, filter}
-use Rattle.std.specs.List.{list_any}
 pub use Rattle.protocol.specs.Parts.{Op, Get, Set, sets, writes_to}
 use Rattle.protocol.specs.Language.{Lang, IsLawful, written}
 use Rattle.protocol.proofs.Basics.{if_true, if_false, by_test, clash, or_left, or_none_left, or_none_right}

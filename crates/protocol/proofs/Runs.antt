@@ -1,12 +1,15 @@
 -- Small runs of the toy language, each computed: a moved row with its write lost, committed, repeated, in doubt, and late.
-use Rattle.std.proofs.Common.{◌≡◌, refl, ℕ, Bool, true, false, List, [], ◌∷◌, ◌++◌, map, length, drop}
+use Rattle.std.proofs.Common.{◌≡◌, refl, subst₂, ℕ, Bool, true, false, List, [], ◌∷◌, ◌++◌, map, length, drop}
 use Rattle.protocol.specs.Language.{Name}
 use Rattle.protocol.specs.Letter.{Body, Open, Fetch, Write, Prepare, Commit, Abort, Ticket, Rows, Refused, Voted, Ack, Inquire, Lock, Gone, Yes, No}
-use Rattle.protocol.specs.Site.{Dead}
+use Rattle.protocol.specs.Site.{Dead, is_within}
 use Rattle.protocol.specs.Desk.{Unknown, State, Commit_call, Choice}
-use Rattle.protocol.specs.World.{World, Event, Begin, Call, Deliver, Site_inquires, Site_restarts, Desk_restarts, run}
-use Rattle.protocol.specs.Serial.{committed, settled}
+use Rattle.protocol.specs.World.{World, Event, Begin, Call, Deliver, Site_gives_up, Site_inquires, Site_restarts, Desk_restarts, run}
+use Rattle.protocol.specs.Serial.{committed, settled, AllExplained, IsOpening, IsSerial}
 use Rattle.protocol.specs.Toy.{toy, Pair, Move, Look, part_of}
+use Rattle.protocol.proofs.Basics.{some_is}
+use Rattle.protocol.proofs.SerialLaw.{serial_law}
+use Rattle.protocol.proofs.ToyLaws.{toy_lawful}
 
 abbrev opening : Pair → World toy
 opening p = record {
@@ -166,6 +169,64 @@ ticket_again = refl
 row_left : (run (decided ++ all_of (14 ∷ 16 ∷ [])) start).desk.known ≡ one ∷ []
 row_left = refl
 
+-- an acknowledgement that comes again is none of the other voter
+row_left_again : (run (decided ++ all_of (14 ∷ 16 ∷ 16 ∷ [])) start).desk.known ≡ one ∷ []
+row_left_again = refl
+
 -- a commit that comes again finds nothing to apply
 applied_once : ((run (decided ++ all_of (14 ∷ 14 ∷ [])) start).sites false).known ≡ []
 applied_once = refl
+
+-- the law's premise can be met: what the moved row was answered and wrote is explained, and so the law speaks of this run
+moved_explained : AllExplained (run decided start).past
+moved_explained = (tt, (tt, ((λ whole gives. (refl, wrote whole.north whole.south (some_is gives.0) (some_is gives.1.0))), (tt, (tt, (tt, tt))))))
+  where
+    between : ℕ → ℕ → List (Bool × ℕ)
+    between north south = toy.writes (record { north = north; south = south }) (record { north = south; south = north })
+
+    wrote : (north south : ℕ) → 7 ≡ north → 0 ≡ south → between 7 0 ≡ between north south
+    wrote north south n s = subst₂ (λ a b. between 7 0 ≡ between a b) n s refl
+
+moved_serially : IsSerial (record { north = 7; south = 0 }) (run decided start)
+moved_serially = serial_law toy_lawful (record { north = 7; south = 0 }) start decided opened moved_explained
+  where
+    at : (g : Bool) → part_of g (record { north = 7; south = 0 }) ≡ part_of g (record { north = 7; south = 0 })
+    at g = refl
+
+    opened : IsOpening (record { north = 7; south = 0 }) start
+    opened = record { letters = refl; past = refl; visits = λ a k. refl; tickets = λ a. refl; undecided = λ t. refl; names = refl; rebuilt = at }
+
+-- a prepare that its store refuses is a vote No
+refused_prepare : new_letters (moved ++ all_of (8 ∷ 9 ∷ [])) (Deliver 10 false (0, []) ∷ []) ≡ Voted one No ∷ []
+refused_prepare = refl
+
+-- a commit row that is refused aborts
+refused_commit_row : new_letters (moved ++ all_of (8 ∷ 9 ∷ 10 ∷ 11 ∷ 12 ∷ [])) (Deliver 13 false (0, []) ∷ []) ≡ Abort one ∷ Abort one ∷ []
+refused_commit_row = refl
+
+none_where_refused : committed_in (moved ++ all_of (8 ∷ 9 ∷ 10 ∷ 11 ∷ 12 ∷ []) ++ Deliver 13 false (0, []) ∷ []) ≡ []
+none_where_refused = refl
+
+-- an apply that is refused is not acknowledged, and can come again
+refused_apply : new_letters decided (Deliver 14 false (0, []) ∷ Deliver 14 true (0, []) ∷ []) ≡ Ack one ∷ []
+refused_apply = refl
+
+-- a commit row that could not be dropped stays
+refused_drop : (run (decided ++ all_of (14 ∷ 15 ∷ 16 ∷ []) ++ Deliver 17 false (0, []) ∷ []) start).desk.known ≡ one ∷ []
+refused_drop = refl
+
+-- a fetch that is refused leaves all as it was, and can come again
+refused_fetch : new_letters (Begin ∷ Call one (State (Look true)) (0, []) ∷ all_of (0 ∷ 1 ∷ [])) (Deliver 2 false (0, []) ∷ Deliver 2 true (0, []) ∷ []) ≡ Rows one 1 0 ∷ []
+refused_fetch = refl
+
+-- a visit that its site gave up votes No
+given_up : new_letters moved (Site_gives_up true one ∷ all_of (9 ∷ 11 ∷ [])) ≡ Voted one No ∷ []
+given_up = refl
+
+-- a transaction that only read has no commit row, and its ticket that comes again hears Abort
+only_read : new_letters looked (all_of (13 ∷ [])) ≡ Abort two ∷ []
+only_read = refl
+
+-- a number at 2^63 is past the limits
+not_within : is_within {L = toy} (record { kept = λ g. 0; status = λ k. Dead; known = []; life = 1; number = 9223372036854775808 }) ≡ false
+not_within = refl

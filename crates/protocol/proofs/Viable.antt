@@ -1,14 +1,13 @@
 -- Viable transactions: one that can no longer commit never can again.
-use Rattle.std.proofs.Common.{◌≡◌, refl, sym, ap, ◌∙◌, subst, ℕ, suc, Bool, true, false, List, [], ◌∷◌, ◌++◌, length, drop, ◌⊎◌, inl, inr, ⊎_elim}
+use Rattle.std.proofs.Common.{◌≡◌, refl, sym, ap, ◌∙◌, subst, ℕ, suc, Bool, true, false, List, [], ◌∷◌, ◌++◌, length, drop, inl, inr, ⊎_elim}
 use Rattle.std.proofs.Math.Seq.{drop-append_seam}
 pub use Rattle.protocol.specs.Parts.{ViableNow, is_row, may_go_on, Viable}
 use Rattle.protocol.specs.Language.{Lang, IsLawful, Name, same, put}
 use Rattle.protocol.specs.Letter.{Read, Body, Voted, Letter}
 use Rattle.protocol.specs.Site.{Visit, Status, Dead, Alive, Prepared, SiteState, Act, has_exclusive, has_lock, sees, next_ticket, new_visit, site_after, said, restarted, site_restarted, on_give_up}
-use Rattle.protocol.specs.Desk.{Undecided, Known}
 use Rattle.protocol.specs.World.{World, addressed}
 use Rattle.protocol.proofs.Basics.{In, put_all, clash, same_law, by_test, or_cases, if_true, if_false, every_in}
-use Rattle.protocol.proofs.Fits.{Drawn, is_voting, Own}
+use Rattle.protocol.proofs.Fits.{Drawn, Own}
 use Rattle.protocol.proofs.SiteTable.{Acted, says_nothing, says_gone, says_no, says_yes, says_ack, opens, reads, writes, prepares, only_read, votes_no, refuses, applies, ends, discards}
 use Rattle.protocol.proofs.SiteSteps.{not_drawn, sees_prepared}
 use Rattle.protocol.proofs.Locks.{seen_from, unequal}

@@ -1,5 +1,5 @@
 -- What past deeds say of one transaction: its evaluated statements, and that deeds of another don't matter.
-use Rattle.std.proofs.Common.{◌≡◌, refl, ap, ◌∙◌, false, List, [], ◌∷◌, ◌++◌, if◌then◌else◌, append-nil, flat_map}
+use Rattle.std.proofs.Common.{◌≡◌, refl, ap, ◌∙◌, false, List, [], ◌∷◌, ◌++◌, append-nil, flat_map}
 use Rattle.std.proofs.lemmas.Grind.{flat_map-append}
 pub use Rattle.protocol.specs.Parts.{Work, work_in, works, own_of}
 use Rattle.protocol.specs.Language.{Lang, Name, same}

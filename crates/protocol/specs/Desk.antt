@@ -18,13 +18,14 @@ pub data Stage (L : Lang) : Type 0 where
   Writing : (answer : L.Answer) (unsent : List (L.Leaf × L.Write)) → Stage L
   Voting : (votes : L.Site → Option Vote) → Stage L
 
+-- an undecided transaction: the sites visited, their first tickets, the operations sent to each
 pub record Undecided (L : Lang) : Type 0 where
   pub visited : L.Site → Bool
   pub ticket : L.Site → Option Name
   pub sent : L.Site → ℕ
   pub stage : Stage L
 
--- a transaction is unknown, undecided, or has a commit row
+-- a transaction is unknown, undecided, or has a commit row with the acknowledgements counted so far, as they came
 pub data Txn (L : Lang) : Type 0 where
   Unknown : Txn L
   Known : (undecided : Undecided L) → Txn L
@@ -66,6 +67,7 @@ pub record Turn (L : Lang) : Type 0 where
   pub letters : List (Letter L)
   pub deeds : List (Deed L)
 
+-- known: the transactions that aren't unknown, oldest first; life and number: those of the last name given
 pub record Desk (L : Lang) : Type 0 where
   pub txn : Name → Txn L
   pub known : List Name
@@ -88,7 +90,7 @@ abbrev pub is_numbered : Option ℕ → ℕ → Bool
 is_numbered None n = false
 is_numbered (Some m) n = m == n
 
--- an Abort goes to each visited site with a ticket whose vote isn't No or Read
+-- who voted No or Read has let go by itself, everybody else may still hold locks
 abbrev pub may_hold : Option Vote → Bool
 may_hold (Some No) = false
 may_hold (Some Read) = false
@@ -108,6 +110,7 @@ abbrev pub are_acked : (L : Lang) → List (L.Site × Name) → List (L.Site × 
 are_acked L voters acked = list_all (λ v. list_any (is_pair L v.0 v.1) acked) voters
 
 module _ {L : Lang} where
+  -- nothing is put out
   abbrev pub stays : Txn L → Turn L
   stays x = record { txn = x; letters = []; deeds = [] }
 
@@ -115,6 +118,7 @@ module _ {L : Lang} where
   abbrev pub fresh : Undecided L
   fresh = record { visited = λ a. false; ticket = λ a. None; sent = λ a. 0; stage = Idle }
 
+  -- a fetch that has not gone out
   abbrev pub ask_of : L.Leaf × L.Query → Ask L
   ask_of f = record { leaf = f.0; query = f.1; number = None; rows = None }
 
@@ -152,6 +156,7 @@ module _ {L : Lang} where
   abbrev pub is_new : Undecided L → List L.Leaf → L.Site → Bool
   is_new u leaves a = not (u.visited a) && list_any (λ g. L.same_site (L.home g) a) leaves
 
+  -- an Open, where there is to be one
   abbrev pub opening : Bool → Option (Body L)
   opening true = Some Open
   opening false = None
@@ -160,6 +165,7 @@ module _ {L : Lang} where
   abbrev pub opens : Name → Undecided L → List L.Leaf → List (Letter L)
   opens t u leaves = letters_to t (λ a. opening (is_new u leaves a)) L.sites
 
+  -- new sites of these leaves are visited from now on
   abbrev pub visits : Undecided L → List L.Leaf → Undecided L
   visits u leaves = record u { visited = λ a. u.visited a || is_new u leaves a }
 
@@ -182,6 +188,7 @@ module _ {L : Lang} where
       let out = writes_out t u.ticket ws u.sent in
       writing t (visits u leaves) answer out.sent out.left (opens t u leaves ++ out.letters)
 
+  -- a deed before the others
   abbrev pub after_deed : Deed L → Turn L → Turn L
   after_deed d turn = record turn { deeds = d ∷ turn.deeds }
 
@@ -189,29 +196,36 @@ module _ {L : Lang} where
   abbrev pub works : Name → Undecided L → L.Statement → List (Ask L) → Choice L → Turn L
   works t u s asks choice = after_deed (Worked t s asks choice) (writes_go t u choice.0 choice.1)
 
+  -- a statement without fetches is evaluated at once
   abbrev pub states : Name → Undecided L → L.Statement → List (Ask L) → Choice L → Turn L
   states t u s [] choice = works t u s [] choice
   states t u s (q ∷ qs) choice = asks_go t u s (q ∷ qs)
 
+  -- a site that has given a ticket is asked to prepare as many operations as were sent to it
   abbrev pub to_prepare : Undecided L → L.Site → Option Name → Option (Body L)
   to_prepare u a None = None
   to_prepare u a (Some k) = Some (Prepare k (u.sent a))
 
+  -- something is said, or nothing
   abbrev pub when : Bool → Option (Body L) → Option (Body L)
   when true body = body
   when false body = None
 
+  -- the vote that was counted of a site
   abbrev pub vote_at : Stage L → L.Site → Option Vote
   vote_at (Voting votes) a = votes a
   vote_at stage a = None
 
+  -- an Abort to a ticket
   abbrev pub to_abort : Option Name → Option (Body L)
   to_abort None = None
   to_abort (Some k) = Some (Abort k)
 
+  -- the transaction ends without a commit, and whoever may hold locks hears Abort
   abbrev pub ends_by : Name → Undecided L → Deed L → Turn L
   ends_by t u d = record { txn = Unknown; letters = letters_to t (λ a. when (u.visited a && may_hold (vote_at u.stage a)) (to_abort (u.ticket a))) L.sites; deeds = d ∷ [] }
 
+  -- a Commit to each voter
   abbrev pub commits : Name → List (L.Site × Name) → List (Letter L)
   commits t voters = map (λ v. record { site = v.0; txn = t; body = Commit v.1 }) voters
 
@@ -227,6 +241,7 @@ module _ {L : Lang} where
   abbrev pub voters_of : Undecided L → (L.Site → Option Vote) → List (L.Site × Name)
   voters_of u votes = flat_map (λ a. if u.visited a then voter_at a (votes a) (u.ticket a) else []) L.sites
 
+  -- whether each visited site has voted
   abbrev pub are_all_in : Undecided L → (L.Site → Option Vote) → Bool
   are_all_in u votes = list_all (λ a. not (u.visited a) || is_some (votes a)) L.sites
 
@@ -237,20 +252,23 @@ module _ {L : Lang} where
       then decides t (record u { stage = Voting votes }) kept (voters_of u votes)
       else stays (Known (record u { stage = Voting votes }))
 
-  -- a commit begins the first phase: Prepare with its count to each visited site; with none it is committed at once
+  -- the first phase: each visited site is asked to prepare what was sent to it; a transaction without sites is committed right away
   abbrev pub phases : Name → Undecided L → Turn L
   phases t u =
       let turn = votes_go t u (λ a. None) true in
       record turn { letters = letters_to t (λ a. when (u.visited a) (to_prepare u a (u.ticket a))) L.sites; deeds = Phased t ∷ turn.deeds }
 
+  -- a commit is asked for between statements alone
   abbrev pub on_commit_call : Name → Undecided L → Stage L → Turn L
   on_commit_call t u Idle = phases t u
   on_commit_call t u stage = stays (Known u)
 
+  -- so is a statement
   abbrev pub on_state : Name → Undecided L → L.Statement → Choice L → Stage L → Turn L
   on_state t u s choice Idle = after_deed (Stated t s) (states t u s (map ask_of (L.fetches s)) choice)
   on_state t u s choice stage = stays (Known u)
 
+  -- a rollback is too late in the first phase
   abbrev pub on_rollback : Name → Undecided L → Stage L → Turn L
   on_rollback t u (Voting votes) = stays (Known u)
   on_rollback t u stage = ends_by t u (Rolled_back t)
@@ -275,6 +293,7 @@ module _ {L : Lang} where
   refusal_at Rollback stage = None
   refusal_at Give_up stage = None
 
+  -- with no undecided transaction there is nothing to ask for
   abbrev pub refusal : Request L → Txn L → Option Refusal
   refusal request (Known u) = refusal_at request u.stage
   refusal Give_up txn = None
@@ -287,7 +306,7 @@ module _ {L : Lang} where
   ticket_goes t u choice (Writing answer ws) = writes_go t u answer ws
   ticket_goes t u choice (Voting votes) = stays (Known u)
 
-  -- the first ticket of a site counts, another is let go by an Abort
+  -- one ticket of a site is enough, a further one hears Abort
   abbrev pub on_ticket : Name → Undecided L → L.Site → Name → Choice L → Option Name → Turn L
   on_ticket t u a k choice None = ticket_goes t (record u { ticket = put L.same_site a (Some k) u.ticket }) choice u.stage
   on_ticket t u a k choice (Some j) =
@@ -299,6 +318,7 @@ module _ {L : Lang} where
   abbrev pub awaits : L.Site → ℕ → L.Rows → Ask L → Bool
   awaits a n rows q = L.same_site (L.home q.leaf) a && is_numbered q.number n && is_none q.rows && L.well_formed q.leaf rows
 
+  -- the fetch with its rows, if these are they
   abbrev pub with_rows : L.Site → ℕ → L.Rows → Ask L → Ask L
   with_rows a n rows q = if awaits a n rows q then record q { rows = Some rows } else q
 
@@ -309,20 +329,22 @@ module _ {L : Lang} where
       then works t u s asks choice
       else stays (Known (record u { stage = Reading s asks }))
 
+  -- rows are waited for while a statement reads
   abbrev pub on_rows : Name → Undecided L → L.Site → ℕ → L.Rows → Choice L → Stage L → Turn L
   on_rows t u a n rows choice (Reading s asks) = rows_go t u s (map (with_rows a n rows) asks) choice
   on_rows t u a n rows choice stage = stays (Known u)
 
-  -- a refusal counts until the first phase begins
+  -- a refused operation ends the transaction, but not one in its first phase
   abbrev pub on_refused : Name → Undecided L → Stage L → Turn L
   on_refused t u (Voting votes) = stays (Known u)
   on_refused t u stage = ends_by t u (Aborted t By_refusal)
 
+  -- one No aborts, other votes go on
   abbrev pub counts : Name → Undecided L → L.Site → (L.Site → Option Vote) → Bool → Vote → Turn L
   counts t u a votes kept No = ends_by t (record u { stage = Voting (put L.same_site a (Some No) votes) }) (Aborted t By_vote)
   counts t u a votes kept vote = votes_go t u (put L.same_site a (Some vote) votes) kept
 
-  -- the first vote of each site counts
+  -- a site votes once
   abbrev pub on_vote : Name → Undecided L → L.Site → Bool → Vote → Stage L → Turn L
   on_vote t u a kept vote (Voting votes) = if is_none (votes a) then counts t u a votes kept vote else stays (Known u)
   on_vote t u a kept vote stage = stays (Known u)
@@ -342,15 +364,16 @@ module _ {L : Lang} where
   on_unknown t a (Inquire k) = record { txn = Unknown; letters = record { site = a; txn = t; body = Abort k } ∷ []; deeds = [] }
   on_unknown t a body = stays Unknown
 
-  -- the last acknowledgement drops the commit row; where that is not kept it counts as not received
+  -- with the last acknowledgement the commit row goes; if its store refuses that, the acknowledgement is as good as lost. One that comes again changes nothing
   abbrev pub on_ack : List (L.Site × Name) → List (L.Site × Name) → L.Site × Name → Bool → Turn L
   on_ack voters acked v kept =
-      if list_any (is_pair L v.0 v.1) voters
-      then (if are_acked L voters (v ∷ acked)
+      if list_any (is_pair L v.0 v.1) voters && not (list_any (is_pair L v.0 v.1) acked)
+      then (if are_acked L voters (acked ++ v ∷ [])
       then (if kept then stays Unknown else stays (Row voters acked))
-      else stays (Row voters (v ∷ acked)))
+      else stays (Row voters (acked ++ v ∷ [])))
       else stays (Row voters acked)
 
+  -- a committed transaction answers acknowledgements and inquiries
   abbrev pub on_row : Name → List (L.Site × Name) → List (L.Site × Name) → L.Site → Bool → Body L → Turn L
   on_row t voters acked a kept (Ack k) = on_ack voters acked (a, k) kept
   on_row t voters acked a kept (Inquire k) = record { txn = Row voters acked; letters = record { site = a; txn = t; body = Commit k } ∷ []; deeds = [] }
@@ -363,10 +386,12 @@ module _ {L : Lang} where
   on_desk_letter t a kept choice body Unknown = on_unknown t a body
   on_desk_letter t a kept choice body (Row voters acked) = on_row t voters acked a kept body
 
+  -- whether nothing is known of it
   abbrev pub is_unknown : Txn L → Bool
   is_unknown Unknown = true
   is_unknown txn = false
 
+  -- whether it is undecided
   abbrev pub is_undecided : Txn L → Bool
   is_undecided (Known u) = true
   is_undecided txn = false
@@ -375,6 +400,7 @@ module _ {L : Lang} where
   abbrev pub with_txns : Desk L → (Name → Txn L) → List Name → Desk L
   with_txns d txn names = record d { txn = txn; known = filter (λ t. not (is_unknown (txn t))) names }
 
+  -- one transaction is another
   abbrev pub desk_after : Desk L → Name → Txn L → Desk L
   desk_after d t txn = with_txns d (put same t txn d.txn) d.known
 
@@ -382,6 +408,7 @@ module _ {L : Lang} where
   abbrev pub next_txn : Desk L → Name
   next_txn d = record { life = d.life; number = suc d.number }
 
+  -- a new transaction
   abbrev pub desk_began : Desk L → Desk L
   desk_began d = record (with_txns d (put same (next_txn d) (Known fresh) d.txn) (d.known ++ next_txn d ∷ [])) { number = suc d.number }
 
@@ -391,6 +418,7 @@ module _ {L : Lang} where
   txn_restarted t (Known u) = record { txn = Unknown; letters = []; deeds = Aborted t By_restart ∷ [] }
   txn_restarted t (Row voters acked) = record { txn = Row voters []; letters = commits t voters; deeds = [] }
 
+  -- undecided transactions and acknowledgements are lost, commit rows stay, a new life begins
   abbrev pub desk_restarted : Desk L → Desk L
   desk_restarted d = record (with_txns d (λ t. (txn_restarted t (d.txn t)).txn) d.known) { life = suc d.life; number = 0 }
 

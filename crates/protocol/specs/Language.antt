@@ -14,6 +14,7 @@ same a b = (a.life == b.life) && (a.number == b.number)
 abbrev pub put : {A B : Type 0} → (A → A → Bool) → A → B → (A → B) → A → B
 put is k v f j = if is j k then v else f j
 
+-- a language: its types, and what the protocol asks of them
 pub record Lang : Type 1 where
   pub Leaf : Type 0
   pub Site : Type 0

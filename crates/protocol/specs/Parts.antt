@@ -1,5 +1,5 @@
 -- Parts one to three of the invariant: viable transactions, what they keep others from, and the line of all whose first phase began.
-use Rattle.std.specs.Prelude.{◌≡◌, ◌⊎◌, ⊤, ℕ, suc, ◌&&◌, ◌||◌, Bool, true, false, List, [], ◌∷◌, ◌++◌, drop, if◌then◌else◌, Option, Some, None}
+use Rattle.std.specs.Prelude.{◌≡◌, ◌⊎◌, ⊤, ◌&&◌, Bool, true, false, List, [], ◌∷◌, drop, if◌then◌else◌, Some}
 use Rattle.std.specs.List.{list_any, flat_map, AllByRecursion}
 use Rattle.protocol.specs.Language.{Lang, Name, same, written}
 use Rattle.protocol.specs.Letter.{Read, Body, Fetch, Write, Voted, Letter}
@@ -25,10 +25,12 @@ pub record Work (L : Lang) : Type 0 where
   pub choice : Choice L
 
 module _ {L : Lang} where
+  -- one operation, or none
   abbrev pub op_if : Bool → Op L → List (Op L)
   op_if true op = op ∷ []
   op_if false op = []
 
+  -- the operation that a letter asks of this ticket
   abbrev pub op_of : L.Site → Name → L.Site → Body L → List (Op L)
   op_of a k b (Fetch j n g q) = op_if (L.same_site a b && same k j) (Get g q)
   op_of a k b (Write j n g x) = op_if (L.same_site a b && same k j) (Set g x)
@@ -44,6 +46,7 @@ module _ {L : Lang} where
   sets (Get g q ∷ ops) = sets ops
   sets (Set g x ∷ ops) = (g, x) ∷ sets ops
 
+  -- the work that a deed shows of this transaction
   abbrev pub work_in : Name → Deed L → List (Work L)
   work_in t (Worked u s asks choice) = if same u t then record { statement = s; asks = asks; choice = choice } ∷ [] else []
   work_in t deed = []
@@ -60,6 +63,7 @@ module _ {L : Lang} where
   abbrev pub reads_from : L.Leaf → List (Work L) → Bool
   reads_from g xs = list_any (λ x. list_any (λ q. L.same_leaf q.leaf g) x.asks) xs
 
+  -- whether the first phase has begun
   abbrev pub is_voting : Stage L → Bool
   is_voting (Voting votes) = true
   is_voting stage = false
@@ -110,6 +114,8 @@ module _ {L : Lang} where
 
 -- parts one and two, in one world
 pub record AreApart {L : Lang} (w : World L) : Type 0 where
+  -- one that can no longer commit never can again, whatever happens next
+  pub lost : (e : Event L) (t : Name) (u : Undecided L) → w.desk.txn t ≡ Known u → is_voting u.stage ≡ true → Viable (operations (happens w e).letters) (happens w e) t → Viable (operations w.letters) w t
   -- where a viable one writes nobody else has a lock
   pub alone : (t : Name) (viable : Viable (operations w.letters) w t) (a : L.Site) (k j : Name) (g : L.Leaf) → viable.u.ticket a ≡ Some k → writes_to L g (sets (operations w.letters a k)) ≡ true → same j k ≡ false → has_lock g ((w.sites a).status j) ≡ false
   pub two : Two (works w.past) (is_committed w.past) (Counts (operations w.letters) w) (Viable (operations w.letters) w) (phases_of w.past)

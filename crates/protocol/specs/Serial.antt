@@ -12,13 +12,16 @@ module _ {L : Lang} where
   phased_of (Phased t) = t ∷ []
   phased_of deed = []
 
+  -- the first phases, in their order
   abbrev pub phases_of : List (Deed L) → List Name
   phases_of past = flat_map phased_of past
 
+  -- whether the deed commits this transaction
   abbrev pub commits_it : Name → Deed L → Bool
   commits_it t (Committed u) = same u t
   commits_it t deed = false
 
+  -- whether the transaction was committed
   abbrev pub is_committed : List (Deed L) → Name → Bool
   is_committed past t = list_any (commits_it t) past
 
@@ -26,6 +29,7 @@ module _ {L : Lang} where
   abbrev pub committed : List (Deed L) → List Name
   committed past = filter (is_committed past) (phases_of past)
 
+  -- the statement that a deed shows of this transaction
   abbrev pub statement_in : Name → Deed L → List L.Statement
   statement_in t (Stated u s) = if same u t then s ∷ [] else []
   statement_in t deed = []
@@ -34,6 +38,7 @@ module _ {L : Lang} where
   abbrev pub statements_of : List (Deed L) → Name → List L.Statement
   statements_of past t = flat_map (statement_in t) past
 
+  -- the answer that a deed shows of this transaction
   abbrev pub answer_in : Name → Deed L → List L.Answer
   answer_in t (Answered u x) = if same u t then x ∷ [] else []
   answer_in t deed = []
@@ -47,10 +52,12 @@ module _ {L : Lang} where
   with_row g i (Row voters acked) content = L.changed g i content
   with_row g i txn content = content
 
+  -- a visit changes nothing, a prepared row may
   abbrev pub with_decided : Desk L → L.Leaf → Status L → L.Content → L.Content
   with_decided d g (Prepared t i) content = with_row g i (d.txn t) content
   with_decided d g status content = content
 
+  -- the rows of all these tickets
   abbrev pub with_all_decided : Desk L → L.Leaf → (Name → Status L) → List Name → L.Content → L.Content
   with_all_decided d g status [] content = content
   with_all_decided d g status (k ∷ ks) content = with_all_decided d g status ks (with_decided d g (status k) content)
@@ -65,11 +72,12 @@ module _ {L : Lang} where
   abbrev pub Gives : L.Whole → List (Ask L) → Type 0
   Gives whole asks = AllByRecursion (λ q. q.rows ≡ Some (L.parts q.query (L.content q.leaf whole))) asks
 
-  -- over every whole database that gives the rows received, answer and writes are those of the serial meaning
+  -- whatever the whole database was that gave these rows, the statement's meaning over it has this answer and makes these writes
   abbrev pub Explained : Deed L → Type 0
   Explained (Worked t s asks choice) = (whole : L.Whole) → Gives whole asks → (choice.0 ≡ (L.meaning s whole).0) × (choice.1 ≡ L.writes whole (L.meaning s whole).1)
   Explained deed = ⊤
 
+  -- each evaluated statement was explained
   abbrev pub AllExplained : List (Deed L) → Type 0
   AllExplained past = AllByRecursion Explained past
 
@@ -78,6 +86,7 @@ abbrev pub whole_after : (L : Lang) → List L.Statement → L.Whole → L.Whole
 whole_after L [] whole = whole
 whole_after L (s ∷ ss) whole = whole_after L ss (L.meaning s whole).1
 
+-- the answers of statements one after another
 abbrev pub answers_in_turn : (L : Lang) → List L.Statement → L.Whole → List L.Answer
 answers_in_turn L [] whole = []
 answers_in_turn L (s ∷ ss) whole = (L.meaning s whole).0 ∷ answers_in_turn L ss (L.meaning s whole).1
@@ -87,6 +96,7 @@ abbrev pub serial_whole : (L : Lang) → List (List L.Statement) → L.Whole →
 serial_whole L [] whole = whole
 serial_whole L (ss ∷ rest) whole = serial_whole L rest (whole_after L ss whole)
 
+-- the answers of transactions one after another
 abbrev pub serial_answers : (L : Lang) → List (List L.Statement) → L.Whole → List (List L.Answer)
 serial_answers L [] whole = []
 serial_answers L (ss ∷ rest) whole = answers_in_turn L ss whole ∷ serial_answers L rest (whole_after L ss whole)

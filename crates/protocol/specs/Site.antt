@@ -35,14 +35,17 @@ pub data Act (L : Lang) : Type 0 where
   Ends : (ticket : Name) (replies : List (Body L)) → Act L
 
 module _ {L : Lang} where
+  -- whether nothing stands behind the ticket
   abbrev pub is_dead : Status L → Bool
   is_dead Dead = true
   is_dead _ = false
 
+  -- whether a visit does
   abbrev pub is_alive : Status L → Bool
   is_alive (Alive v) = true
   is_alive _ = false
 
+  -- whether a prepared row does
   abbrev pub is_prepared : Status L → Bool
   is_prepared (Prepared t i) = true
   is_prepared _ = false
@@ -112,11 +115,13 @@ module _ {L : Lang} where
       else (if kept then Prepares k t v.changes else Ends k (Voted k No ∷ [])))
       else Ends k (Voted k No ∷ [])
 
+  -- a prepared row is applied, anything else has been
   abbrev pub on_commit : Bool → Name → Status L → Act L
   on_commit kept k Dead = Says (Ack k ∷ [])
   on_commit kept k (Alive v) = Says (Ack k ∷ [])
   on_commit kept k (Prepared t i) = if kept then Applies k i else Says []
 
+  -- a visit ends, a prepared row is let go
   abbrev pub on_abort : Bool → Name → Status L → Act L
   on_abort kept k Dead = Says []
   on_abort kept k (Alive v) = Ends k []
@@ -142,6 +147,7 @@ module _ {L : Lang} where
   abbrev pub with_status : SiteState L → (Name → Status L) → List Name → SiteState L
   with_status s status names = record s { status = status; known = filter (λ j. not (is_dead (status j))) names }
 
+  -- the state after a step
   abbrev pub site_after : SiteState L → Act L → SiteState L
   site_after s (Says replies) = s
   site_after s Opens = record (with_status s (put same (next_ticket s) (Alive (new_visit s)) s.status) (s.known ++ next_ticket s ∷ [])) { number = suc s.number }
@@ -159,7 +165,7 @@ module _ {L : Lang} where
   said s (Applies k i) = Ack k ∷ []
   said s (Ends k replies) = replies
 
-  -- giving up ends a visit that isn't prepared
+  -- a visit can be given up, a prepared row can't
   abbrev pub on_give_up : Name → Status L → Act L
   on_give_up k Dead = Says []
   on_give_up k (Alive v) = Ends k []
@@ -171,6 +177,7 @@ module _ {L : Lang} where
   inquiry_of a k (Alive v) = []
   inquiry_of a k (Prepared t i) = record { site = a; txn = t; body = Inquire k } ∷ []
 
+  -- the inquiries of all prepared rows
   abbrev pub inquiries : L.Site → SiteState L → List (Letter L)
   inquiries a s = flat_map (λ k. inquiry_of a k (s.status k)) s.known
 
@@ -180,6 +187,7 @@ module _ {L : Lang} where
   restarted (Alive v) = Dead
   restarted (Prepared t i) = Prepared t i
 
+  -- a new life, in which tickets are numbered from 1 again
   abbrev pub site_restarted : SiteState L → SiteState L
   site_restarted s = record (with_status s (λ k. restarted (s.status k)) s.known) { life = suc s.life; number = 0 }
 

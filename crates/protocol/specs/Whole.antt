@@ -19,6 +19,7 @@ module _ {L : Lang} where
   AbortsNone w a t (Abort k) = is_committed w.past t ≡ true → (i : L.Intentions) → (w.sites a).status k ≡ Prepared t i → ⊥
   AbortsNone w a t body = ⊤
 
+-- what part four says of a world
 pub record IsWhole {L : Lang} (w : World L) : Type 0 where
   pub once : AllByRecursion (λ l. AckedOnce w l.site l.body) w.letters
   -- while a voter has not applied, the commit row stays

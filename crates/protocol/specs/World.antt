@@ -28,6 +28,7 @@ abbrev pub is_site : (L : Lang) → L.Site → List L.Site → Bool
 is_site L a sites = list_any (λ b. L.same_site b a) sites
 
 module _ {L : Lang} where
+  -- bodies as letters of a site and a transaction
   abbrev pub addressed : L.Site → Name → List (Body L) → List (Letter L)
   addressed a t bodies = map (λ body. record { site = a; txn = t; body = body }) bodies
 
@@ -43,15 +44,19 @@ module _ {L : Lang} where
   abbrev pub site_steps : World L → L.Site → SiteState L → List (Letter L) → World L
   site_steps w a s letters = if is_within s then with_site w a s letters else w
 
+  -- a turn within the limits, else it is refused and the world is as it was
   abbrev pub turns : World L → Name → Turn L → World L
   turns w t turn = if is_desk_within (desk_after w.desk t turn.txn) then turned w t turn else w
 
+  -- a new transaction is there
   abbrev pub begun : World L → World L
   begun w = record w { desk = desk_began w.desk; past = w.past ++ Began (next_txn w.desk) ∷ [] }
 
+  -- so, within the limits
   abbrev pub begins : World L → World L
   begins w = if is_desk_within (desk_began w.desk) then begun w else w
 
+  -- a client asks for something
   abbrev pub called : World L → Name → Choice L → Request L → World L
   called w t choice request = turns w t (on_request t choice request (w.desk.txn t))
 
@@ -62,31 +67,38 @@ module _ {L : Lang} where
       site_steps w l.site (site_after (w.sites l.site) act) (addressed l.site l.txn (said (w.sites l.site) act))
   comes_to true w kept choice l = turns w l.txn (on_desk_letter l.txn l.site kept choice l.body (w.desk.txn l.txn))
 
+  -- a letter comes where it is addressed
   abbrev pub comes : World L → Bool → Choice L → Letter L → World L
   comes w kept choice l = comes_to (is_for_desk l.body) w kept choice l
 
+  -- a letter that was sent comes
   abbrev pub delivered : World L → Bool → Choice L → Option (Letter L) → World L
   delivered w kept choice None = w
   delivered w kept choice (Some l) = comes w kept choice l
 
+  -- a site gives a visit up
   abbrev pub gives_up : World L → L.Site → Name → World L
   gives_up w a k = site_steps w a (site_after (w.sites a) (on_give_up k ((w.sites a).status k))) []
 
+  -- a site asks about its prepared rows
   abbrev pub inquires : World L → L.Site → World L
   inquires w a = record w { letters = w.letters ++ inquiries a (w.sites a) }
 
+  -- a site restarts
   abbrev pub restarts : World L → L.Site → World L
   restarts w a = site_steps w a (site_restarted (w.sites a)) []
 
+  -- the coordinator has restarted
   abbrev pub desk_lives : World L → World L
   desk_lives w =
       let turn : Name → Turn L = λ t. txn_restarted t (w.desk.txn t) in
       record w { desk = desk_restarted w.desk; letters = w.letters ++ flat_map (λ t. (turn t).letters) w.desk.known; past = w.past ++ flat_map (λ t. (turn t).deeds) w.desk.known }
 
+  -- so, within the limits
   abbrev pub desk_restarts : World L → World L
   desk_restarts w = if is_desk_within (desk_restarted w.desk) then desk_lives w else w
 
-  -- an event of an unsent letter or an unknown site, and a restart that isn't kept, leave the world as it is
+  -- nothing happens where no letter has the number, no site the name, or a restart could not be stored
   abbrev pub happens : World L → Event L → World L
   happens w Begin = begins w
   happens w (Call t request choice) = called w t choice request

@@ -1,14 +1,29 @@
 //! The laws of the protocol, each as the contract of a function that does nothing.
 
+ghost use Rattle.protocol.specs.Parts.{PartsOneAndTwo, PartThree};
 ghost use Rattle.protocol.specs.Serial.{SerialLaw};
-ghost use Rattle.protocol.specs.Whole.{AppliedWholeAndOnce};
 ghost use Rattle.protocol.specs.Toy.{toy};
+ghost use Rattle.protocol.specs.Whole.{AppliedWholeAndOnce};
 
 /// The serial law: after every list of events the committed transactions, run one after another over
 /// whole relations in the order of their first phases, give the answers that were given and what the
 /// settled fragments rebuild.
 pub fn serial_law()
     ensures { SerialLaw toy }
+{}
+
+/// After every list of events: a transaction in its first phase that can no longer commit never can
+/// again; where one that can still commit writes, nobody else has a lock; and what it writes no later
+/// one reads that can commit, and none writes that is committed.
+pub fn parts_one_and_two()
+    ensures { PartsOneAndTwo toy }
+{}
+
+/// After every list of events: each transaction that is committed, or can still be, has read the
+/// contents after the committed ones before it, with its own earlier writes; and the settled contents
+/// are those after all committed ones.
+pub fn part_three()
+    ensures { PartThree toy }
 {}
 
 /// A committed transaction is applied whole and once, after every list of events: a ticket that was
