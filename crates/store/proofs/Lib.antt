@@ -1,0 +1,2 @@
+-- What proves the contracts of the crate.
+pub mod Rooms

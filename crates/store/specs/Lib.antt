@@ -1,0 +1,10 @@
+-- What stores keep, in reading order.
+pub mod Name
+pub mod Slot
+pub mod Content
+pub mod Fault
+-- Laws of contents, and of the orders that they stand on.
+pub mod Orders
+pub mod ContentLaws
+-- The lists' own words, which a reader may skip.
+pub mod Entries

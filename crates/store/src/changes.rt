@@ -1,0 +1,88 @@
+//! Changes: what is to become of a site's fragments, slot by slot.
+
+ghost use Rattle.std.specs.Prelude.{◌≡◌, IfOk, IfSome, OnOk, OnErr, IsTrue, ◌↔◌, Some, None, unwrap_or};
+ghost use Rattle.std.specs.FinMap as map;
+ghost use Rattle.std.specs.Option.{option_copied};
+ghost use Rattle.terms.specs.Row.{key_of};
+ghost use Rattle.store.specs.declared.slot.Slot.{Slot as Place};
+ghost use Rattle.store.specs.Slot.{slot_of};
+ghost use Rattle.store.specs.Content.{AreKeyed};
+
+use crate::slot::{Slot, make_slot};
+
+use std::alloc::Global;
+use std::collections::BTreeMap;
+use std::marker::Model;
+use terms::leaf::Leaf;
+use terms::memory::Memory;
+use terms::part::Part;
+
+/// Changes: for each slot a part to put, or none where a part is to go. Contracts see a finite map.
+#[derive(Debug, Drop)]
+pub struct Changes {
+    slots: BTreeMap<Slot, Option<Part>>,
+}
+
+impl Model for Changes {
+    ghost use Rattle.std.specs.FinMap as map;
+    ghost use Rattle.store.specs.Content.{Changes as ChangesMap, changes_code, AreKeyed};
+
+    ghost Value = { ChangesMap };
+
+    ghost coded = { changes_code };
+
+    ghost view = { λ c. map.from_entries c.slots.entries };
+
+    ghost invariant = { λ c. AreKeyed (map.from_entries c.slots.entries) };
+}
+
+impl Changes {
+    /// No changes.
+    pub fn new(alloc: Global) -> Changes
+        ensures { result ≡ map.empty }
+    {
+        Changes {
+            slots: BTreeMap::new(alloc),
+        }
+    }
+
+    /// How many slots are changed.
+    pub fn len(&self) -> usize
+        ensures { result ≡ map.len self.now }
+    {
+        self.slots.len()
+    }
+
+    /// Whether nothing is changed.
+    pub fn is_empty(&self) -> bool
+        ensures { IsTrue result ↔ (self.now ≡ map.empty) }
+    {
+        self.slots.is_empty()
+    }
+
+    /// What the changes say of a slot, if they say anything.
+    pub fn get(&self, slot: &Slot) -> Option<&Option<Part>>
+        ensures { option_copied result ≡ map.get self.now slot.now }
+    {
+        self.slots.get(slot)
+    }
+
+    /// A leaf has this part, in place of any other of its key.
+    pub fn put(&mut self, leaf: Leaf, part: Part) -> Result<(), Memory>
+        ensures ok { OnOk result (self.new ≡ map.insert self.old (slot_of leaf (key_of part)) (Some part)) }
+        ensures err { OnErr result (self.new ≡ self.old) }
+    {
+        let slot = make_slot(leaf, part.key());
+        let _old = self.slots.insert(slot, Some(part))?;
+        Ok(())
+    }
+
+    /// A slot has no part.
+    pub fn del(&mut self, slot: Slot) -> Result<(), Memory>
+        ensures ok { OnOk result (self.new ≡ map.insert self.old slot None) }
+        ensures err { OnErr result (self.new ≡ self.old) }
+    {
+        let _old = self.slots.insert(slot, None)?;
+        Ok(())
+    }
+}

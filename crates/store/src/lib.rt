@@ -1,0 +1,17 @@
+//! What sites and the coordinator keep, and the letters between them.
+//!
+//! Stands on `terms`. The contracts that the crates above use: each call's effect on the content that a
+//! `SiteStore` or a `DeskStore` keeps. After any fault the content is as it was.
+//!
+//! ```text
+//! let mut store = PlainSite::new(alloc);
+//! let kept = store.keep_prepared(txn, ticket, changes)?;   // a restart finds the changes again
+//! store.apply(ticket)?;                                    // they are made, and the ticket is gone
+//! ```
+#![tactic(auto)]
+
+pub mod changes;
+pub mod fault;
+pub mod name;
+pub mod slot;
+mod slots;

@@ -1,0 +1,38 @@
+//! Slots: where a fragment keeps a part.
+
+ghost use Rattle.std.specs.Prelude.{◌≡◌};
+ghost use Rattle.store.specs.Slot.{slot_of};
+
+use terms::copy::TryCopy;
+use terms::leaf::Leaf;
+use terms::memory::Memory;
+use terms::same::Same;
+
+/// A key's place in a leaf.
+#[derive(Debug, Drop, PartialEq, Eq, PartialOrd, Ord)]
+pub struct Slot {
+    pub leaf: Leaf,
+    pub key: i64,
+}
+
+/// The place of this key in this leaf.
+pub fn make_slot(leaf: Leaf, key: i64) -> Slot
+    ensures { result ≡ slot_of leaf key }
+{
+    Slot { leaf, key }
+}
+
+impl TryCopy for Slot {
+    fn copy(&self) -> Result<Slot, Memory> {
+        Ok(Slot {
+            leaf: self.leaf.copy()?,
+            key: self.key,
+        })
+    }
+}
+
+impl Same for Slot {
+    fn same(&self, other: &Slot) -> bool {
+        self.leaf.same(&other.leaf) && self.key.same(&other.key)
+    }
+}
