@@ -1,2 +1,5 @@
 -- What proves the contracts of the crate.
 pub mod Rooms
+pub mod Views
+pub mod Keyed
+pub mod Scans

@@ -1,5 +1,5 @@
 -- The content of a leaf and intentions, as finite maps.
-use Rattle.std.specs.Prelude.{◌≡◌, ℤ, List, [], ◌∷◌, ◌++◌, Bool, Option, Some, None, IfSome, unwrap_or, option_to_list, if◌then◌else◌}
+use Rattle.std.specs.Prelude.{◌≡◌, ℤ, List, [], ◌∷◌, ◌++◌, Bool, Option, Some, None, IfSome, IsSome, unwrap_or, if◌then◌else◌}
 use Rattle.std.specs.Coded.{Coded, coded_list, coded_option}
 use Rattle.std.specs.FinMap as map
 use Rattle.std.specs.Ordering.{int_cmp, is_eq}
@@ -55,3 +55,7 @@ IsKeyed content = (key : ℤ) → IfSome (map.get content key) (λ part. key_of 
 -- each part that is put has the key of its slot
 abbrev pub AreKeyed : Changes → Type 0
 AreKeyed changes = (slot : Slot) (part : List Value) → map.get changes slot ≡ Some (Some part) → key_of part ≡ slot.key
+
+-- there is an entry wherever changes put a part
+abbrev pub HasRoomFor : Changes → Changes → Type 0
+HasRoomFor changes kept = (slot : Slot) (part : List Value) → map.get changes slot ≡ Some (Some part) → IsSome (map.get kept slot)

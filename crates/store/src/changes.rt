@@ -6,13 +6,15 @@ ghost use Rattle.std.specs.Option.{option_copied};
 ghost use Rattle.terms.specs.Row.{key_of};
 ghost use Rattle.store.specs.declared.slot.Slot.{Slot as Place};
 ghost use Rattle.store.specs.Slot.{slot_of};
-ghost use Rattle.store.specs.Content.{AreKeyed};
+ghost use Rattle.store.specs.Content.{AreKeyed, HasRoomFor, made_by, put_at};
 
-use crate::slot::{Slot, make_slot};
+use crate::slot::Slot;
+use crate::slots::{copy_slots, fill, list_parts, make_rooms};
 
 use std::alloc::Global;
 use std::collections::BTreeMap;
 use std::marker::Model;
+use terms::copy::TryCopy;
 use terms::leaf::Leaf;
 use terms::memory::Memory;
 use terms::part::Part;
@@ -20,6 +22,7 @@ use terms::part::Part;
 /// Changes: for each slot a part to put, or none where a part is to go. Contracts see a finite map.
 #[derive(Debug, Drop)]
 pub struct Changes {
+    alloc: Global,
     slots: BTreeMap<Slot, Option<Part>>,
 }
 
@@ -42,6 +45,7 @@ impl Changes {
         ensures { result ≡ map.empty }
     {
         Changes {
+            alloc,
             slots: BTreeMap::new(alloc),
         }
     }
@@ -72,7 +76,7 @@ impl Changes {
         ensures ok { OnOk result (self.new ≡ map.insert self.old (slot_of leaf (key_of part)) (Some part)) }
         ensures err { OnErr result (self.new ≡ self.old) }
     {
-        let slot = make_slot(leaf, part.key());
+        let slot = Slot::of_part(leaf, &part);
         let _old = self.slots.insert(slot, Some(part))?;
         Ok(())
     }
@@ -84,5 +88,50 @@ impl Changes {
     {
         let _old = self.slots.insert(slot, None)?;
         Ok(())
+    }
+
+    /// The part that the changes put at a slot, if they put one.
+    pub fn part_at(&self, slot: &Slot) -> Option<&Part>
+        ensures part { option_copied result ≡ put_at self.now slot.now }
+        ensures keyed { AreKeyed self.now }
+    {
+        match self.slots.get(slot) {
+            Some(part) => part.as_ref(),
+            None => None,
+        }
+    }
+
+    /// The parts that the changes make of nothing in a leaf, in the order of their keys.
+    pub fn list(&self, leaf: &Leaf) -> Result<Vec<Part>, Memory>
+        ensures { IfOk result (λ parts. parts.items ≡ map.values (made_by self.now leaf.now)) }
+    {
+        list_parts(self.alloc, &self.slots, leaf)
+    }
+
+    /// Room for each part that other changes put. No part is put or goes by this.
+    pub fn make_rooms(&mut self, changes: &Changes) -> Result<(), Memory>
+        ensures same { (slot : Place) → put_at self.new slot ≡ put_at self.old slot }
+        ensures ok { OnOk result (HasRoomFor changes.now self.new) }
+        ensures keyed { AreKeyed self.new }
+    {
+        make_rooms(&mut self.slots, &changes.slots)
+    }
+
+    /// Makes other changes too, the others last. There is room for the parts that they put.
+    pub fn make(&mut self, changes: Changes)
+        requires { HasRoomFor changes self.old }
+        ensures over { (slot : Place) → put_at self.new slot ≡ unwrap_or (map.get changes slot) (put_at self.old slot) }
+        ensures keyed { AreKeyed self.new }
+    {
+        fill(&mut self.slots, changes.slots);
+    }
+}
+
+impl TryCopy for Changes {
+    fn copy(&self) -> Result<Changes, Memory> {
+        Ok(Changes {
+            alloc: self.alloc,
+            slots: copy_slots(self.alloc, &self.slots)?,
+        })
     }
 }

@@ -1,11 +1,13 @@
 //! Slots: where a fragment keeps a part.
 
 ghost use Rattle.std.specs.Prelude.{◌≡◌};
+ghost use Rattle.terms.specs.Row.{key_of};
 ghost use Rattle.store.specs.Slot.{slot_of};
 
 use terms::copy::TryCopy;
 use terms::leaf::Leaf;
 use terms::memory::Memory;
+use terms::part::Part;
 use terms::same::Same;
 
 /// A key's place in a leaf.
@@ -15,11 +17,14 @@ pub struct Slot {
     pub key: i64,
 }
 
-/// The place of this key in this leaf.
-pub fn make_slot(leaf: Leaf, key: i64) -> Slot
-    ensures { result ≡ slot_of leaf key }
-{
-    Slot { leaf, key }
+impl Slot {
+    /// The place of a part in a leaf, by the part's key.
+    pub fn of_part(leaf: Leaf, part: &Part) -> Slot
+        ensures { result ≡ slot_of leaf (key_of part.now) }
+    {
+        let key = part.key();
+        Slot { leaf, key }
+    }
 }
 
 impl TryCopy for Slot {
