@@ -3,3 +3,4 @@ pub mod Rooms
 pub mod Views
 pub mod Keyed
 pub mod Scans
+pub mod RowLists

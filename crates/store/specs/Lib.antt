@@ -3,8 +3,11 @@ pub mod Name
 pub mod Slot
 pub mod Content
 pub mod Fault
+pub mod SiteContent
+pub mod PlainSite
 -- Laws of contents, and of the orders that they stand on.
 pub mod Orders
 pub mod ContentLaws
 -- The lists' own words, which a reader may skip.
 pub mod Entries
+pub mod RowList

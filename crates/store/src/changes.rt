@@ -128,7 +128,10 @@ impl Changes {
 }
 
 impl TryCopy for Changes {
-    fn copy(&self) -> Result<Changes, Memory> {
+    fn copy(&self) -> Result<Changes, Memory>
+        ensures equal { IfOk result (λ copy. copy ≡ self.now) }
+        ensures keyed { AreKeyed self.now }
+    {
         Ok(Changes {
             alloc: self.alloc,
             slots: copy_slots(self.alloc, &self.slots)?,

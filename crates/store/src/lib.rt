@@ -5,13 +5,16 @@
 //!
 //! ```text
 //! let mut store = PlainSite::new(alloc);
-//! let kept = store.keep_prepared(txn, ticket, changes)?;   // a restart finds the changes again
-//! store.apply(ticket)?;                                    // they are made, and the ticket is gone
+//! store.keep_prepared(txn, ticket, changes)?;   // a restart finds the changes again
+//! store.apply(ticket)?;                         // they are made, and the ticket's row is gone
 //! ```
 #![tactic(auto)]
 
 pub mod changes;
 pub mod fault;
 pub mod name;
+pub mod plain_site;
+pub mod prepared;
+pub mod site_store;
 pub mod slot;
 mod slots;

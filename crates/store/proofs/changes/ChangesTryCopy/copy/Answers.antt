@@ -8,5 +8,5 @@ use Rattle.store.proofs.changes.ChangesTryCopy.copy.Goals as goal
 pub invariant_of-result : goal.invariant_of-result
 invariant_of-result c = keyed_same c.self.inside.slots.entries c.in_ok-copy_slots.field-0.entries c.self.invariant (λ q. ap (λ found. unwrap_or found None) (c.in_ok-copy_slots.ensures q))
 
-pub returns : goal.returns
-returns c = same_view slot_cmp_total slot_cmp-IsAntisymmetric c.in_ok-copy_slots.field-0.entries c.self.inside.slots.entries c.in_ok-copy_slots.ensures ∙ c.self.view_is
+pub returns-clause-equal : goal.returns-clause-equal
+returns-clause-equal c = same_view slot_cmp_total slot_cmp-IsAntisymmetric c.in_ok-copy_slots.field-0.entries c.self.inside.slots.entries c.in_ok-copy_slots.ensures ∙ c.self.view_is
