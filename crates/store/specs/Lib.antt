@@ -5,6 +5,8 @@ pub mod Content
 pub mod Fault
 pub mod SiteContent
 pub mod PlainSite
+pub mod DeskContent
+pub mod PlainDesk
 -- Laws of contents, and of the orders that they stand on.
 pub mod Orders
 pub mod ContentLaws

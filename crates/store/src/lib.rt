@@ -11,8 +11,11 @@
 #![tactic(auto)]
 
 pub mod changes;
+pub mod commit;
+pub mod desk_store;
 pub mod fault;
 pub mod name;
+pub mod plain_desk;
 pub mod plain_site;
 pub mod prepared;
 pub mod site_store;
