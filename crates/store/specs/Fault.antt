@@ -8,6 +8,11 @@ fault_name Memory = codes "Memory"
 fault_name Refused = codes "Refused"
 fault_name Damaged = codes "Damaged"
 
+abbrev pub fault_number : StoreFault → ℕ
+fault_number Memory = 1
+fault_number Refused = 2
+fault_number Damaged = 3
+
 -- the count of refusals grew, or stands at the greatest of 64 bits
 abbrev pub HasRefused : ℕ → ℕ → Type 0
 HasRefused before after = (before < after) ⊎ (after ≡ 2 ^ 64 - 1)

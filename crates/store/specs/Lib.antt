@@ -2,6 +2,7 @@
 pub mod Name
 pub mod Slot
 pub mod Content
+pub mod Reply
 pub mod Fault
 pub mod SiteContent
 pub mod PlainSite

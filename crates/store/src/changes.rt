@@ -52,7 +52,8 @@ impl Changes {
 
     /// How many slots are changed.
     pub fn len(&self) -> usize
-        ensures { result ≡ map.len self.now }
+        ensures len { result ≡ map.len self.now }
+        ensures keyed { AreKeyed self.now }
     {
         self.slots.len()
     }

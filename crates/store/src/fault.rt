@@ -1,7 +1,7 @@
 //! Why a store's call failed.
 
-ghost use Rattle.std.specs.Prelude.{◌≡◌, Some, codes};
-ghost use Rattle.store.specs.Fault.{fault_name};
+ghost use Rattle.std.specs.Prelude.{◌≡◌, Some};
+ghost use Rattle.store.specs.Fault.{fault_name, fault_number};
 
 use std::fmt;
 use terms::memory::Memory;
@@ -16,6 +16,19 @@ pub enum StoreFault {
     Refused,
     /// The medium holds what no store of this kind has written.
     Damaged,
+}
+
+impl StoreFault {
+    /// The fault's number in messages.
+    pub fn number(self) -> u8
+        ensures { result ≡ fault_number self }
+    {
+        match self {
+            StoreFault::Memory => 1,
+            StoreFault::Refused => 2,
+            StoreFault::Damaged => 3,
+        }
+    }
 }
 
 impl Same for StoreFault {

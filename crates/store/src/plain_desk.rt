@@ -1,6 +1,6 @@
 //! The coordinator's store in memory.
 
-ghost use Rattle.std.specs.Prelude.{◌≡◌, IfOk, []};
+ghost use Rattle.std.specs.Prelude.{◌≡◌, IfOk};
 ghost use Rattle.std.specs.BTreeMap.{IsOrdered};
 ghost use Rattle.store.specs.Name.{txn_cmp};
 ghost use Rattle.store.specs.RowList.{commits_of};
@@ -44,11 +44,11 @@ fn list_commits(
 }
 
 impl PlainDesk {
+    ghost use Rattle.store.specs.PlainDesk.{KeepsNothing};
+
     /// A store that keeps no commit row yet, with the catalogue's first version.
     pub fn new(alloc: Global) -> PlainDesk
-        ensures commits { result.commits.entries ≡ [] }
-        ensures life { result.life ≡ 0 }
-        ensures version { result.version ≡ 1 }
+        ensures { KeepsNothing result }
     {
         PlainDesk {
             alloc,

@@ -1,6 +1,6 @@
 //! A site's store in memory.
 
-ghost use Rattle.std.specs.Prelude.{◌≡◌, IfOk, []};
+ghost use Rattle.std.specs.Prelude.{◌≡◌, IfOk};
 ghost use Rattle.std.specs.BTreeMap.{IsOrdered};
 ghost use Rattle.std.specs.FinMap as fin;
 ghost use Rattle.store.specs.Name.{ticket_cmp};
@@ -49,15 +49,25 @@ fn list_rows(
 }
 
 impl PlainSite {
+    ghost use Rattle.store.specs.PlainSite.{IsSound, HoldsParts};
+
     /// A store that keeps nothing yet.
     pub fn new(alloc: Global) -> PlainSite
-        ensures parts { result.parts ≡ fin.empty }
-        ensures prepared { result.prepared.entries ≡ [] }
-        ensures life { result.life ≡ 0 }
+        ensures sound { IsSound result }
+        ensures parts { HoldsParts fin.empty result }
     {
+        PlainSite::with_parts(alloc, Changes::new(alloc))
+    }
+
+    /// A store that keeps the parts that changes make of nothing.
+    pub fn with_parts(alloc: Global, parts: Changes) -> PlainSite
+        ensures sound { IsSound result }
+        ensures parts { HoldsParts parts result }
+    {
+        let _count = parts.len();
         PlainSite {
             alloc,
-            parts: Changes::new(alloc),
+            parts,
             prepared: BTreeMap::new(alloc),
             life: 0,
         }
@@ -66,13 +76,12 @@ impl PlainSite {
 
 impl SiteStore for PlainSite {
     ghost use Rattle.std.specs.Prelude.{ℕ};
-    ghost use Rattle.store.specs.Content.{AreKeyed};
     ghost use Rattle.store.specs.ContentLaws.{IsKeyed-made_by};
-    ghost use Rattle.store.specs.PlainSite.{kept_of};
+    ghost use Rattle.store.specs.PlainSite.{kept_of, IsSound};
 
     ghost is_clean = { λ _. Unit {0} };
 
-    ghost is_sound = { λ store. AreKeyed store.parts };
+    ghost is_sound = { IsSound };
 
     ghost kept = { kept_of };
 
