@@ -1,18 +1,16 @@
 -- Each part that changes put has the key of its slot, and what the lists' words say of changes.
-use Rattle.std.proofs.Common.{◌≡◌, List, [], ◌∷◌, ◌++◌, Bool, true, false, cond, Option, Some, None, IsSome, is_some, unwrap_or, option_to_list, map, T, refl, ap, sym, ◌∙◌, subst}
+use Rattle.std.proofs.Common.{◌≡◌, List, [], cond, Option, Some, None, unwrap_or, refl, ap, sym, ◌∙◌}
 use Rattle.std.specs.BTreeMap.{is_at}
 use Rattle.std.specs.FinMap as fin
 use Rattle.std.specs.Ordering.{is_eq}
-use Rattle.std.specs.declared.cmp.Ordering.{Ordering}
 use Rattle.std.specs.declared.cmp.Ordering.TheVariants.{Less, Equal, Greater}
-use Rattle.terms.specs.declared.leaf.Leaf.{Leaf}
 use Rattle.terms.specs.declared.value.Value.{Value}
 use Rattle.terms.specs.Row.{key_of}
 use Rattle.store.specs.declared.slot.Slot.{Slot}
 use Rattle.store.specs.Slot.{slot_cmp}
 use Rattle.store.specs.Orders.{slot_cmp_total, slot_cmp-IsAntisymmetric}
 use Rattle.store.specs.Content.{Changes, AreKeyed, put_at}
-use Rattle.store.specs.Entries.{Entries, entry_at, part_at, HasRooms}
+use Rattle.store.specs.Entries.{Entries, entry_at, part_at}
 use Rattle.store.proofs.Views.{get_view}
 
 abbrev pub view : Entries → Changes
@@ -59,6 +57,7 @@ keyed_over old changes new keyed changes_keyed over q p is =
     before None at is = cc
     before (Some None) at is = cc
     before (Some (Some other)) at is = keyed q p (at ∙ ap Some is)
+
     here : (found : Option (Option (List Value))) → fin.get (view changes) q ≡ found → unwrap_or found (part_at old q) ≡ Some p → key_of p ≡ q.key
     here None at is = before _ (get_entry old q) is
     here (Some None) at is = cc

@@ -1,17 +1,15 @@
 -- Entries of the map that holds changes, as they are put and taken.
-use Rattle.std.proofs.Common.{◌≡◌, List, [], ◌∷◌, ◌++◌, Bool, true, false, cond, Option, Some, None, IsSome, is_some, unwrap_or, option_to_list, refl, ap, sym, ◌∙◌, subst, if◌then◌else◌}
+use Rattle.std.proofs.Common.{◌≡◌, List, ◌∷◌, true, false, cond, Option, Some, None, IsSome, is_some, unwrap_or, refl, ap, sym, ◌∙◌, subst}
 use Rattle.std.specs.BTreeMap.{is_at}
 use Rattle.std.specs.Cmp.{eq_by_cmp_equiv}
 use Rattle.std.specs.Ordering.{is_eq}
 use Rattle.std.specs.declared.cmp.Ordering.{Ordering}
 use Rattle.std.specs.declared.cmp.Ordering.TheVariants.{Less, Equal, Greater}
-use Rattle.terms.specs.declared.leaf.Leaf.{Leaf}
 use Rattle.terms.specs.declared.value.Value.{Value}
 use Rattle.store.specs.declared.slot.Slot.{Slot}
 use Rattle.store.specs.Slot.{slot_cmp}
 use Rattle.store.specs.Orders.{slot_cmp-IsAntisymmetric, slot_cmp_total}
-use Rattle.store.specs.Content.{is_of}
-use Rattle.store.specs.Entries.{Entries, entry_at, part_at, parts_of, HasRooms}
+use Rattle.store.specs.Entries.{Entries, entry_at, part_at, HasRooms}
 
 none_of : {X : Type 0} (found : Option X) → is_some found ≡ false → found ≡ None
 none_of None is = refl

@@ -1,12 +1,11 @@
 -- The parts that changes make of nothing in a leaf are those of the leaf's entries, in their order.
-use Rattle.std.proofs.Common.{◌≡◌, ℤ, List, [], ◌∷◌, ◌++◌, Bool, true, false, cond, ◌&&◌, T, Option, Some, None, option_to_list, map, refl, ap, sym, ◌∙◌, subst, if◌then◌else◌}
+use Rattle.std.proofs.Common.{◌≡◌, ℤ, List, [], ◌∷◌, ◌++◌, Bool, true, false, cond, ◌&&◌, T, Option, Some, None, option_to_list, map, refl, ap, sym, ◌∙◌, subst}
 use Rattle.std.specs.Cmp.{int_cmp_total}
 use Rattle.std.specs.FinMap as fin
 use Rattle.std.specs.FinMap.Entries.{below_all, by_order}
 use Rattle.std.specs.List.Sorted.{IsStrictlySortedBy}
 use Rattle.std.specs.Map.{keys_of}
 use Rattle.std.specs.Ordering.{int_cmp, is_eq, is_lt, ordering_then}
-use Rattle.std.specs.declared.cmp.Ordering.{Ordering}
 use Rattle.std.specs.declared.cmp.Ordering.TheVariants.{Less, Equal, Greater}
 use Rattle.terms.specs.declared.leaf.Leaf.{Leaf}
 use Rattle.terms.specs.declared.value.Value.{Value}
@@ -89,7 +88,7 @@ pairs_below leaf slot [] tie below = tt
 pairs_below leaf slot (entry ∷ entries) tie below =
     let later = pairs_below leaf slot entries tie (and_right _ _ below) in
     let less : T (is_lt (ordering_then (leaf_cmp leaf entry.0.leaf) (int_cmp slot.key entry.0.key))) =
-        subst (λ r. T (is_lt (ordering_then r (int_cmp slot.key entry.0.key)))) (sym (leaf_cmp_total.congr leaf slot.leaf entry.0.leaf tie)) (and_left _ _ below) in
+    subst (λ r. T (is_lt (ordering_then r (int_cmp slot.key entry.0.key)))) (sym (leaf_cmp_total.congr leaf slot.leaf entry.0.leaf tie)) (and_left _ _ below) in
     elim (leaf_cmp leaf entry.0.leaf) as (λ r. T (is_lt (ordering_then r (int_cmp slot.key entry.0.key))) → T (below_all int_cmp slot.key (cond (is_eq r) (with_pair entry.0.key entry.1 (pairs_of leaf entries)) (pairs_of leaf entries)))) [
       | Less ↦ λ is. later
       | Equal ↦ λ is. pair_below slot.key entry.0.key entry.1 (pairs_of leaf entries) is later

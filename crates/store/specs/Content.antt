@@ -1,5 +1,5 @@
 -- The content of a leaf and intentions, as finite maps.
-use Rattle.std.specs.Prelude.{◌≡◌, ℤ, List, [], ◌∷◌, ◌++◌, Bool, Option, Some, None, IfSome, IsSome, unwrap_or, if◌then◌else◌}
+use Rattle.std.specs.Prelude.{◌≡◌, ℤ, List, [], ◌∷◌, Bool, Option, Some, None, IfSome, IsSome, unwrap_or, if◌then◌else◌}
 use Rattle.std.specs.Coded.{Coded, coded_list, coded_option}
 use Rattle.std.specs.FinMap as map
 use Rattle.std.specs.Ordering.{int_cmp, is_eq}
@@ -9,7 +9,7 @@ use Rattle.terms.specs.contracts.value.Value as value
 use Rattle.terms.specs.Leaf.{leaf_cmp}
 use Rattle.terms.specs.Row.{key_of}
 use Rattle.store.specs.declared.slot.Slot.{Slot}
-use Rattle.store.specs.Slot.{slot_of, slot_cmp, slot_code}
+use Rattle.store.specs.Slot.{slot_cmp, slot_code}
 
 -- what a leaf keeps: for each key at most one part
 abbrev pub Content : Type 0

@@ -1,10 +1,9 @@
 -- What changes make of a content, key by key.
-use Rattle.std.specs.Prelude.{◌≡◌, ℤ, List, [], ◌∷◌, Bool, true, false, cond, Option, Some, None, IfSome, unwrap_or, refl, if◌then◌else◌}
+use Rattle.std.specs.Prelude.{◌≡◌, ℤ, List, [], ◌∷◌, true, false, cond, Option, Some, None, IfSome, unwrap_or, refl}
 use Rattle.std.proofs.Common.{ap, sym, ◌∙◌, subst}
 use Rattle.std.specs.Cmp.{int_cmp_total}
 use Rattle.std.specs.FinMap as map
 use Rattle.std.specs.Ordering.{eq_by_cmp, int_cmp, is_eq, ordering_then}
-use Rattle.std.specs.declared.cmp.Ordering.{Ordering}
 use Rattle.std.specs.declared.cmp.Ordering.TheVariants.{Less, Equal, Greater}
 use Rattle.terms.specs.declared.leaf.Leaf.{Leaf}
 use Rattle.terms.specs.declared.value.Value.{Value}
@@ -12,7 +11,7 @@ use Rattle.terms.specs.Leaf.{leaf_cmp}
 use Rattle.terms.specs.Row.{key_of}
 use Rattle.store.specs.declared.slot.Slot.{Slot}
 use Rattle.store.specs.Slot.{slot_of, slot_cmp}
-use Rattle.store.specs.Content.{Content, Changes, set_at, is_of, with_entries, changed, made_by, put_at, IsKeyed, AreKeyed}
+use Rattle.store.specs.Content.{Content, Changes, set_at, with_entries, changed, made_by, put_at, IsKeyed, AreKeyed}
 
 -- what a content that was set at a key has at each
 pub get-set_at : (key : ℤ) (part : Option (List Value)) (content : Content) (q : ℤ) → map.get (set_at key part content) q ≡ cond (eq_by_cmp int_cmp q key) part (map.get content q)

@@ -3,6 +3,7 @@ pub mod Name
 pub mod Slot
 pub mod Content
 pub mod Reply
+pub mod LetterText
 pub mod Fault
 pub mod SiteContent
 pub mod PlainSite

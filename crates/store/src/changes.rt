@@ -10,7 +10,6 @@ ghost use Rattle.store.specs.Content.{AreKeyed, HasRoomFor, made_by, put_at};
 
 use crate::slot::Slot;
 use crate::slots::{copy_slots, fill, list_parts, make_rooms};
-
 use std::alloc::Global;
 use std::collections::BTreeMap;
 use std::marker::Model;

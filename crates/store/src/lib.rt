@@ -15,6 +15,7 @@ pub mod commit;
 pub mod desk_store;
 pub mod fault;
 pub mod letter;
+pub mod letter_text;
 pub mod name;
 pub mod order;
 pub mod plain_desk;

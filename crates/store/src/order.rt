@@ -124,9 +124,7 @@ impl TryCopy for Intention {
 
 impl Same for Intention {
     fn same(&self, other: &Intention) -> bool {
-        self.ticket.same(&other.ticket)
-            && self.op.same(&other.op)
-            && self.write.same(&other.write)
+        self.ticket.same(&other.ticket) && self.op.same(&other.op) && self.write.same(&other.write)
     }
 }
 

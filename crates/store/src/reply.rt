@@ -154,9 +154,7 @@ impl TryCopy for Rows {
 
 impl Same for Rows {
     fn same(&self, other: &Rows) -> bool {
-        self.ticket.same(&other.ticket)
-            && self.op.same(&other.op)
-            && self.parts.same(&other.parts)
+        self.ticket.same(&other.ticket) && self.op.same(&other.op) && self.parts.same(&other.parts)
     }
 }
 

@@ -14,6 +14,7 @@ pub mod copy;
 pub mod leaf;
 pub mod memory;
 pub mod part;
+pub mod print;
 pub mod row;
 pub mod same;
 pub mod satisfiable;

@@ -28,7 +28,8 @@ impl Same for Write {
     fn same(&self, other: &Write) -> bool {
         match self {
             Write::Put(leaf, part) => match other {
-                Write::Put(other_leaf, other_part) => leaf.same(other_leaf) && part.same(other_part),
+                Write::Put(other_leaf, other_part) => leaf.same(other_leaf)
+                    && part.same(other_part),
                 Write::Del(_, _) => false,
             },
             Write::Del(leaf, key) => match other {

@@ -1,5 +1,5 @@
 -- What each round of `slots::make_rooms` keeps.
-use Rattle.std.proofs.Common.{◌≡◌, List, Option, Some, None, IsSome}
+use Rattle.std.proofs.Common.{◌≡◌, List, Some, None, IsSome}
 use Rattle.terms.specs.declared.value.Value.{Value}
 use Rattle.store.specs.declared.slot.Slot.{Slot}
 use Rattle.store.specs.Entries.{entry_at, part_at}
