@@ -4,3 +4,4 @@ pub mod Views
 pub mod Keyed
 pub mod Scans
 pub mod RowLists
+pub mod Changing

@@ -2,10 +2,13 @@
 use Rattle.std.specs.Prelude.{◌≡◌, ℤ, List, [], ◌∷◌, Bool, Option, Some, None, IfSome, IsSome, unwrap_or, if◌then◌else◌}
 use Rattle.std.specs.Coded.{Coded, coded_list, coded_option}
 use Rattle.std.specs.FinMap as map
+use Rattle.std.specs.List.{filter, list_any}
 use Rattle.std.specs.Ordering.{int_cmp, is_eq}
+use Rattle.terms.specs.declared.cond.Cond.{Cond}
 use Rattle.terms.specs.declared.leaf.Leaf.{Leaf}
 use Rattle.terms.specs.declared.value.Value.{Value}
 use Rattle.terms.specs.contracts.value.Value as value
+use Rattle.terms.specs.Cond.{conds_hold}
 use Rattle.terms.specs.Leaf.{leaf_cmp}
 use Rattle.terms.specs.Row.{key_of}
 use Rattle.store.specs.declared.slot.Slot.{Slot}
@@ -59,3 +62,11 @@ AreKeyed changes = (slot : Slot) (part : List Value) → map.get changes slot �
 -- there is an entry wherever changes put a part
 abbrev pub HasRoomFor : Changes → Changes → Type 0
 HasRoomFor changes kept = (slot : Slot) (part : List Value) → map.get changes slot ≡ Some (Some part) → IsSome (map.get kept slot)
+
+-- whether changes say something of a leaf
+abbrev pub touches : Leaf → Changes → Bool
+touches leaf changes = list_any (is_of leaf) (map.keys changes)
+
+-- a leaf's parts that meet conditions, in the order of their keys
+abbrev pub parts : List Cond → Content → List (List Value)
+parts conds content = filter (conds_hold conds) (map.values content)

@@ -9,6 +9,7 @@ pub mod SiteContent
 pub mod PlainSite
 pub mod DeskContent
 pub mod PlainDesk
+pub mod Laws
 -- Laws of contents, and of the orders that they stand on.
 pub mod Orders
 pub mod ContentLaws

@@ -14,6 +14,7 @@ pub mod changes;
 pub mod commit;
 pub mod desk_store;
 pub mod fault;
+pub mod laws;
 pub mod letter;
 pub mod letter_text;
 pub mod name;
