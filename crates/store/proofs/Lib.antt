@@ -5,3 +5,4 @@ pub mod Keyed
 pub mod Scans
 pub mod RowLists
 pub mod Changing
+pub mod ByKey

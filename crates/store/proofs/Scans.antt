@@ -19,11 +19,11 @@ use Rattle.store.specs.Entries.{Entries, parts_of}
 use Rattle.store.proofs.Keyed.{view}
 use Rattle.store.proofs.Views.{sorted_from, sorted_view}
 
-and_left : (one other : Bool) → T (one && other) → T one
+pub and_left : (one other : Bool) → T (one && other) → T one
 and_left true other both = tt
 and_left false other both = both
 
-and_right : (one other : Bool) → T (one && other) → T other
+pub and_right : (one other : Bool) → T (one && other) → T other
 and_right true other both = both
 and_right false other both = absurd both
 
@@ -51,7 +51,7 @@ put_below key part (pair ∷ pairs) below =
     ] (and_left _ _ below)
 
 -- a key below all is not found
-find_below : (key : ℤ) (pairs : List (ℤ × List Value)) → T (below_all int_cmp key pairs) → fin.find int_cmp key pairs ≡ None
+pub find_below : (key : ℤ) (pairs : List (ℤ × List Value)) → T (below_all int_cmp key pairs) → fin.find int_cmp key pairs ≡ None
 find_below key [] below = refl
 find_below key (pair ∷ pairs) below =
     elim (int_cmp key pair.0) as (λ r. T (is_lt r) → cond (is_eq r) (Some pair.1) (fin.find int_cmp key pairs) ≡ None) [
