@@ -6,10 +6,10 @@ ghost use Rattle.std.specs.Option.{option_copied};
 ghost use Rattle.terms.specs.Row.{key_of};
 ghost use Rattle.store.specs.declared.slot.Slot.{Slot as Place};
 ghost use Rattle.store.specs.Slot.{slot_of};
-ghost use Rattle.store.specs.Content.{AreKeyed, HasRoomFor, made_by, put_at};
+ghost use Rattle.store.specs.Content.{AreKeyed, HasRoomFor, made_by, put_at, touches};
 
 use crate::slot::Slot;
-use crate::slots::{copy_slots, fill, list_parts, make_rooms};
+use crate::slots::{copy_slots, fill, list_parts, make_rooms, touch};
 use std::alloc::Global;
 use std::collections::BTreeMap;
 use std::marker::Model;
@@ -99,6 +99,13 @@ impl Changes {
             Some(part) => part.as_ref(),
             None => None,
         }
+    }
+
+    /// Whether the changes say something of a leaf.
+    pub fn touches(&self, leaf: &Leaf) -> bool
+        ensures { result ≡ touches leaf.now self.now }
+    {
+        touch(&self.slots, leaf)
     }
 
     /// The parts that the changes make of nothing in a leaf, in the order of their keys.

@@ -2,7 +2,8 @@
 
 ghost use Rattle.std.specs.Prelude.{◌≡◌, ◌++◌, [], IfOk, OnOk, IsSome, false, if◌then◌else◌, unwrap_or, option_to_list};
 ghost use Rattle.store.specs.declared.slot.Slot.{Slot as Place};
-ghost use Rattle.std.specs.BTreeMap.{is_at, IsOrdered};
+ghost use Rattle.std.specs.BTreeMap.{is_at, keys, IsOrdered};
+ghost use Rattle.std.specs.List.{list_any};
 ghost use Rattle.store.specs.Slot.{slot_cmp};
 ghost use Rattle.store.specs.Entries.{entry_at, part_at, parts_of, HasRooms};
 ghost use Rattle.store.specs.Content.{is_of};
@@ -127,4 +128,13 @@ fn push_part(
         parts.push(part.copy()?)?;
     }
     Ok(())
+}
+
+/// Whether a slot is of the leaf.
+pub(crate) fn touch(slots: &Slots, leaf: &Leaf) -> bool
+    ensures answer { result ≡ list_any (is_of leaf.now) (keys slots.now) }
+    ensures ordered { IsOrdered slot_cmp slots.now }
+{
+    let _count = slots.len();
+    slots.keys().any(|slot| leaf.cmp(&slot.leaf).is_eq())
 }
