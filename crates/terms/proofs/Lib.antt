@@ -6,3 +6,4 @@ pub mod Rows
 pub mod SortedTests
 pub mod SearchLaws
 pub mod LeastRow
+pub mod Doubled

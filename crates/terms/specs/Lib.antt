@@ -6,5 +6,6 @@ pub mod Row
 pub mod Cond
 pub mod TestValues
 pub mod Leaf
+pub mod Print
 -- The search's own words, which a reader may skip.
 pub mod Search

@@ -6,6 +6,7 @@ ghost use Rattle.terms.specs.Cond.{compares, cond_holds, conds_hold};
 use crate::copy::{TryCopy, copy_all};
 use crate::memory::Memory;
 use crate::row::Row;
+use crate::same::{Same, same_all};
 use crate::value::Value;
 use std::alloc::Global;
 use std::marker::Model;
@@ -61,6 +62,18 @@ impl Cond {
             Some(value) => self.cmp.compares(value, &self.value),
             None => false,
         }
+    }
+}
+
+impl Same for Cmp {
+    fn same(&self, other: &Cmp) -> bool {
+        *self == *other
+    }
+}
+
+impl Same for Cond {
+    fn same(&self, other: &Cond) -> bool {
+        self.col.same(&other.col) && self.cmp.same(&other.cmp) && self.value.same(&other.value)
     }
 }
 
@@ -126,5 +139,11 @@ impl TryCopy for Conds {
     fn copy(&self) -> Result<Conds, Memory> {
         let conds = copy_all(self.allocator(), self.conds.as_slice())?;
         Ok(Conds { conds })
+    }
+}
+
+impl Same for Conds {
+    fn same(&self, other: &Conds) -> bool {
+        same_all(self.as_slice(), other.as_slice())
     }
 }

@@ -5,6 +5,7 @@ ghost use Rattle.terms.specs.Leaf.{leaf_text, LeavesGoByRelation};
 
 use crate::copy::TryCopy;
 use crate::memory::Memory;
+use crate::same::Same;
 use crate::text::Text;
 use std::fmt;
 
@@ -26,6 +27,12 @@ impl TryCopy for Leaf {
             relation: self.relation.copy()?,
             number: self.number,
         })
+    }
+}
+
+impl Same for Leaf {
+    fn same(&self, other: &Leaf) -> bool {
+        self.relation.same(&other.relation) && self.number.same(&other.number)
     }
 }
 

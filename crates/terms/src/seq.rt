@@ -4,6 +4,7 @@ ghost use Rattle.std.specs.Prelude.{◌≡◌, List, [], IfOk, length};
 
 use crate::copy::{TryCopy, copy_all};
 use crate::memory::Memory;
+use crate::same::{Same, same_all};
 use std::alloc::Global;
 use std::marker::Model;
 
@@ -48,6 +49,12 @@ impl<T: TryCopy> TryCopy for Seq<T> {
     fn copy(&self) -> Result<Seq<T>, Memory> {
         let items = copy_all(*self.items.allocator(), self.items.as_slice())?;
         Ok(Seq { items })
+    }
+}
+
+impl<T: Same> Same for Seq<T> {
+    fn same(&self, other: &Seq<T>) -> bool {
+        same_all(self.as_slice(), other.as_slice())
     }
 }
 

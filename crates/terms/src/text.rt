@@ -9,6 +9,7 @@ ghost use Rattle.terms.specs.Text.{IsTextUpTo, IsPrintable};
 
 use crate::copy::TryCopy;
 use crate::memory::Memory;
+use crate::same::Same;
 use std::alloc::Global;
 use std::cmp::Ordering;
 use std::fmt;
@@ -73,6 +74,12 @@ impl TryCopy for Text {
         Ok(Text {
             text: self.text.clone()?,
         })
+    }
+}
+
+impl Same for Text {
+    fn same(&self, other: &Text) -> bool {
+        self.as_str() == other.as_str()
     }
 }
 

@@ -8,6 +8,7 @@ ghost use Rattle.terms.specs.Order.{EqualValuesAreOne, value_cmp_total};
 
 use crate::copy::TryCopy;
 use crate::memory::Memory;
+use crate::same::Same;
 use crate::text::{Text, is_text_up_to};
 use std::cmp::Ordering;
 
@@ -64,6 +65,21 @@ impl TryCopy for Value {
         match self {
             Value::Int(n) => Ok(Value::Int(*n)),
             Value::Text(text) => Ok(Value::Text(text.copy()?)),
+        }
+    }
+}
+
+impl Same for Value {
+    fn same(&self, other: &Value) -> bool {
+        match self {
+            Value::Int(m) => match other {
+                Value::Int(n) => m.same(n),
+                Value::Text(_) => false,
+            },
+            Value::Text(s) => match other {
+                Value::Int(_) => false,
+                Value::Text(t) => s.same(t),
+            },
         }
     }
 }

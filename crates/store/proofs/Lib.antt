@@ -1,0 +1,8 @@
+-- What proves the contracts of the crate.
+pub mod Rooms
+pub mod Views
+pub mod Keyed
+pub mod Scans
+pub mod RowLists
+pub mod Changing
+pub mod ByKey

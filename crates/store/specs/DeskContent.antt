@@ -1,0 +1,62 @@
+-- What the coordinator's store keeps, and what its calls make of it.
+use Rattle.std.specs.Prelude.{◌≡◌, ℕ, ◌+◌, ◌<◌, List, [], ◌∷◌, map, length, nat_eq, Bool, Option, Some, None, if◌then◌else◌}
+use Rattle.std.specs.Cmp.Lexicographic.{pointwise}
+use Rattle.std.specs.List.{IsDistinct}
+use Rattle.std.specs.List.Sorted.{IsStrictlySortedBy}
+use Rattle.std.specs.Ordering.{is_eq}
+use Rattle.store.specs.declared.commit.CommitRow.{CommitRow}
+use Rattle.store.specs.declared.commit.DeskKept.{DeskKept}
+use Rattle.store.specs.declared.commit.Voter.{Voter}
+use Rattle.store.specs.declared.name.Txn.{Txn}
+use Rattle.store.specs.Name.{txn_cmp}
+
+-- the voters of each transaction that has a commit row, the incarnation, and the catalogue's version
+pub record DeskContent : Type 0 where
+  pub commits : Txn → Option (List Voter)
+  pub life : ℕ
+  pub version : ℕ
+
+-- whether two transactions are the same
+abbrev pub is_txn : Txn → Txn → Bool
+is_txn one other = is_eq (txn_cmp one other)
+
+-- at least one voter, and each site once
+pub record AreVoters (voters : List Voter) : Type 0 where
+  pub some : 0 < length voters
+  pub once : IsDistinct (pointwise nat_eq) (map (λ voter. voter.site) voters)
+
+-- nothing has changed
+pub record IsUnchanged (old new : DeskContent) : Type 0 where
+  pub commits : (txn : Txn) → new.commits txn ≡ old.commits txn
+  pub life : new.life ≡ old.life
+  pub version : new.version ≡ old.version
+
+-- the transaction has a commit row with these voters
+pub record KeepsCommit (txn : Txn) (voters : List Voter) (old new : DeskContent) : Type 0 where
+  pub commits : (other : Txn) → new.commits other ≡ (if is_txn txn other then Some voters else old.commits other)
+  pub life : new.life ≡ old.life
+  pub version : new.version ≡ old.version
+
+-- the transaction's commit row is gone
+pub record DropsCommit (txn : Txn) (old new : DeskContent) : Type 0 where
+  pub commits : (other : Txn) → new.commits other ≡ (if is_txn txn other then None else old.commits other)
+  pub life : new.life ≡ old.life
+  pub version : new.version ≡ old.version
+
+-- the next incarnation begins
+pub record BeginsLife (old new : DeskContent) : Type 0 where
+  pub commits : (txn : Txn) → new.commits txn ≡ old.commits txn
+  pub life : new.life ≡ old.life + 1
+  pub version : new.version ≡ old.version
+
+-- the voters of a transaction in a list of commit rows
+abbrev pub voters_in : Txn → List CommitRow → Option (List Voter)
+voters_in txn [] = None
+voters_in txn (row ∷ rows) = if is_txn txn row.txn then Some row.voters else voters_in txn rows
+
+-- a listing of all that is kept
+pub record Lists (kept : DeskContent) (all : DeskKept) : Type 0 where
+  pub rows : (txn : Txn) → voters_in txn all.commits ≡ kept.commits txn
+  pub ascend : IsStrictlySortedBy txn_cmp (map (λ row. row.txn) all.commits)
+  pub incarnation : all.life ≡ kept.life
+  pub catalogue : all.version ≡ kept.version

@@ -1,0 +1,72 @@
+//! Stores of the coordinator: commit rows, an incarnation and the catalogue's version.
+
+ghost use Rattle.std.specs.Prelude.{◌≡◌, ◌≢◌, ◌≤◌, ◌<◌, ◌+◌, ◌^◌, ℕ, None, Err, IfOk, OnOk, OnErr};
+ghost use Rattle.store.specs.DeskContent.{DeskContent, AreVoters, IsUnchanged, KeepsCommit, DropsCommit, BeginsLife, Lists};
+ghost use Rattle.store.specs.Fault.{HasRefused};
+
+use crate::commit::{DeskKept, Voter};
+use crate::fault::StoreFault;
+use crate::name::Txn;
+
+/// A store of the coordinator. What its clauses say holds where the store is clean as the call ends.
+/// That it is sound is learned from `load`, and kept by the other calls.
+pub trait DeskStore {
+    /// No wrong answer of the medium was taken, and it still answers.
+    ghost is_clean: { Self → Type 0 };
+
+    /// What is kept is as stores leave it.
+    ghost is_sound: { Self → Type 0 };
+
+    ghost kept: { Self → DeskContent };
+
+    /// How often the medium has refused.
+    ghost refused: { Self → ℕ };
+
+    /// Keeps that a transaction is committed, until the row is dropped. It has no commit row yet.
+    fn keep_commit(&mut self, txn: Txn, voters: &[Voter]) -> Result<(), StoreFault>
+        ensures clean { is_clean self.new → is_clean self.old }
+        ensures sound { is_clean self.new → is_sound self.old → is_sound self.new }
+        ensures ok { is_clean self.new → is_sound self.old → (kept self.old).commits txn ≡ None → AreVoters voters.now
+            → OnOk result (KeepsCommit txn voters.now (kept self.old) (kept self.new)) }
+        ensures err { is_clean self.new → is_sound self.old → OnErr result (IsUnchanged (kept self.old) (kept self.new)) }
+        ensures counts { refused self.old ≤ refused self.new }
+        ensures refusal { result ≡ Err StoreFault.Refused → HasRefused (refused self.old) (refused self.new) }
+        ensures intact { result ≢ Err StoreFault.Damaged };
+
+    /// Drops a transaction's commit row, if it has one.
+    fn drop_commit(&mut self, txn: Txn) -> Result<(), StoreFault>
+        ensures clean { is_clean self.new → is_clean self.old }
+        ensures sound { is_clean self.new → is_sound self.old → is_sound self.new }
+        ensures ok { is_clean self.new → is_sound self.old → OnOk result (DropsCommit txn (kept self.old) (kept self.new)) }
+        ensures err { is_clean self.new → is_sound self.old → OnErr result (IsUnchanged (kept self.old) (kept self.new)) }
+        ensures counts { refused self.old ≤ refused self.new }
+        ensures refusal { result ≡ Err StoreFault.Refused → HasRefused (refused self.old) (refused self.new) }
+        ensures intact { result ≢ Err StoreFault.Damaged };
+
+    /// Begins the next incarnation, and answers it. The caller knows from `load` that it stays below the
+    /// limit.
+    fn next_incarnation(&mut self) -> Result<u64, StoreFault>
+        ensures clean { is_clean self.new → is_clean self.old }
+        ensures sound { is_clean self.new → is_sound self.old → is_sound self.new }
+        ensures ok { is_clean self.new → is_sound self.old → (kept self.old).life + 1 < 2 ^ 63 → OnOk result (BeginsLife (kept self.old) (kept self.new)) }
+        ensures life { is_clean self.new → is_sound self.old → IfOk result (λ life. life ≡ (kept self.new).life) }
+        ensures err { is_clean self.new → is_sound self.old → OnErr result (IsUnchanged (kept self.old) (kept self.new)) }
+        ensures counts { refused self.old ≤ refused self.new }
+        ensures refusal { result ≡ Err StoreFault.Refused → HasRefused (refused self.old) (refused self.new) }
+        ensures intact { result ≢ Err StoreFault.Damaged };
+
+    /// All that is kept. A store that answers it is sound.
+    fn load(&mut self) -> Result<DeskKept, StoreFault>
+        ensures clean { is_clean self.new → is_clean self.old }
+        ensures sound { is_clean self.new → OnOk result (is_sound self.new) }
+        ensures keeps { is_clean self.new → is_sound self.old → is_sound self.new }
+        ensures all { is_clean self.new → IfOk result (Lists (kept self.new)) }
+        ensures same { is_clean self.new → is_sound self.old → IsUnchanged (kept self.old) (kept self.new) }
+        ensures counts { refused self.old ≤ refused self.new }
+        ensures refusal { result ≡ Err StoreFault.Refused → HasRefused (refused self.old) (refused self.new) }
+        ensures intact { is_clean self.new → is_sound self.old → result ≢ Err StoreFault.Damaged };
+
+    /// How often the medium has refused.
+    fn refusals(&self) -> u64
+        ensures { result ≡ refused self.now };
+}

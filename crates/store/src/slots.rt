@@ -1,0 +1,140 @@
+//! The map that holds changes, slot by slot.
+
+ghost use Rattle.std.specs.Prelude.{◌≡◌, ◌++◌, [], IfOk, OnOk, IsSome, false, if◌then◌else◌, unwrap_or, option_to_list};
+ghost use Rattle.store.specs.declared.slot.Slot.{Slot as Place};
+ghost use Rattle.std.specs.BTreeMap.{is_at, keys, IsOrdered};
+ghost use Rattle.std.specs.List.{list_any};
+ghost use Rattle.store.specs.Slot.{slot_cmp};
+ghost use Rattle.store.specs.Entries.{entry_at, part_at, parts_of, HasRooms};
+ghost use Rattle.store.specs.Content.{is_of};
+
+use crate::slot::Slot;
+use std::alloc::Global;
+use std::collections::BTreeMap;
+use terms::copy::TryCopy;
+use terms::leaf::Leaf;
+use terms::memory::Memory;
+use terms::part::Part;
+
+/// What stands at each slot; `None` where a part is to go, or where there is room for one.
+pub(crate) type Slots = BTreeMap<Slot, Option<Part>>;
+
+/// Room for the part at this slot, if there is one.
+fn make_room(slots: &mut Slots, slot: &Slot, part: &Option<Part>) -> Result<(), Memory>
+    ensures parts { (q : Place) → part_at slots.new.entries q ≡ part_at slots.old.entries q }
+    ensures grows { (q : Place) → IsSome (entry_at slots.old.entries q) → IsSome (entry_at slots.new.entries q) }
+    ensures ok { OnOk result (IsSome part.now → IsSome (entry_at slots.new.entries slot.now)) }
+{
+    if part.is_some() && !slots.contains_key(slot) {
+        let slot = slot.copy()?;
+        let _old = slots.insert(slot, None)?;
+    }
+    Ok(())
+}
+
+/// Room for each part that the changes put.
+pub(crate) fn make_rooms(slots: &mut Slots, changes: &Slots) -> Result<(), Memory>
+    ensures parts { (q : Place) → part_at slots.new.entries q ≡ part_at slots.old.entries q }
+    ensures ok { OnOk result (HasRooms changes.now.entries slots.new.entries) }
+{
+    for (slot, part) in changes {
+        make_room(slots, slot, part)?;
+    }
+    Ok(())
+}
+
+/// Each change is made; there is room for the parts that they put.
+pub(crate) fn fill(slots: &mut Slots, changes: Slots)
+    requires { HasRooms changes.entries slots.old.entries }
+    ensures { (q : Place) → part_at slots.new.entries q ≡ unwrap_or (entry_at changes.entries q) (part_at slots.old.entries q) }
+{
+    let mut rest = changes;
+    while let Some((slot, part)) = rest.pop_first() {
+        fill_slot(slots, slot, part);
+    }
+}
+
+/// The part, or none, at a slot that has room for it.
+fn fill_slot(slots: &mut Slots, slot: Slot, part: Option<Part>)
+    requires { IsSome part → IsSome (entry_at slots.old.entries slot) }
+
+    ensures parts { (q : Place) → part_at slots.new.entries q ≡ (if is_at (slot_cmp slot) q then part else part_at slots.old.entries q) }
+    ensures rooms { (q : Place) → is_at (slot_cmp slot) q ≡ false → entry_at slots.new.entries q ≡ entry_at slots.old.entries q }
+{
+    match part {
+        Some(part) => {
+            let Ok(_) = slots.insert(slot, Some(part)) else {
+                unreachable!()
+            };
+        }
+        None => {
+            let _gone = slots.remove(&slot);
+        }
+    }
+}
+
+/// What stands at each slot, once more.
+pub(crate) fn copy_slots(alloc: Global, slots: &Slots) -> Result<Slots, Memory>
+    ensures { IfOk result (λ copies. (q : Place) → entry_at copies.entries q ≡ entry_at slots.now.entries q) }
+{
+    let mut copies = BTreeMap::new(alloc);
+    for (slot, part) in slots {
+        copy_slot(&mut copies, slot, part)?;
+    }
+    Ok(copies)
+}
+
+fn copy_slot(copies: &mut Slots, slot: &Slot, part: &Option<Part>) -> Result<(), Memory>
+    ensures { OnOk result ((q : Place) → entry_at copies.new.entries q ≡ (if is_at (slot_cmp slot.now) q then Some part.now else entry_at copies.old.entries q)) }
+{
+    let _old = copies.insert(slot.copy()?, copy_part(part)?)?;
+    Ok(())
+}
+
+fn copy_part(part: &Option<Part>) -> Result<Option<Part>, Memory>
+    ensures { IfOk result (λ copy. copy ≡ part.now) }
+{
+    match part {
+        Some(part) => Ok(Some(part.copy()?)),
+        None => Ok(None),
+    }
+}
+
+/// The parts of a leaf, in order.
+pub(crate) fn list_parts(alloc: Global, slots: &Slots, leaf: &Leaf) -> Result<Vec<Part>, Memory>
+    ensures parts { IfOk result (λ parts. parts.items ≡ parts_of leaf.now slots.now.entries) }
+    ensures ordered { IsOrdered slot_cmp slots.now }
+{
+    let mut parts = Vec::new(alloc);
+    let _count = slots.len();
+    for (slot, part) in slots {
+        push_part(&mut parts, leaf, slot, part)?;
+    }
+    Ok(parts)
+}
+
+/// The part, if there is one and its slot is of the leaf.
+fn push_part(
+    parts: &mut Vec<Part>,
+    leaf: &Leaf,
+    slot: &Slot,
+    part: &Option<Part>,
+) -> Result<(), Memory>
+    ensures { OnOk result (parts.new.items ≡ parts.old.items ++ (if is_of leaf.now slot.now then option_to_list part.now else [])) }
+{
+    if leaf.cmp(&slot.leaf).is_eq()
+        && let Some(part) = part
+    {
+        parts.push(part.copy()?)?;
+    }
+    Ok(())
+}
+
+/// Whether a slot is of the leaf.
+pub(crate) fn touch(slots: &Slots, leaf: &Leaf) -> bool
+    ensures answer { result ≡ list_any (is_of leaf.now) (keys slots.now) }
+    ensures ordered { IsOrdered slot_cmp slots.now }
+{
+    let _count = slots.len();
+    slots.keys().any(|slot| leaf.cmp(&slot.leaf).is_eq())
+}
