@@ -7,5 +7,7 @@
 
 pub mod fetch;
 pub mod fetches;
+pub mod localize;
 pub mod need;
+pub mod plan;
 pub mod stated;
