@@ -7,3 +7,6 @@ pub mod NeedsFit
 pub mod Places
 pub mod StatementFits
 pub mod JoinStated
+pub mod RowsOf
+pub mod PartsSeen
+pub mod AtKey
