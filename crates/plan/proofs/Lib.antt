@@ -10,3 +10,6 @@ pub mod JoinStated
 pub mod RowsOf
 pub mod PartsSeen
 pub mod AtKey
+pub mod LeafReads
+pub mod Covered
+pub mod OneSide
