@@ -13,3 +13,5 @@ pub mod AtKey
 pub mod LeafReads
 pub mod Covered
 pub mod OneSide
+pub mod OneFound
+pub mod JoinSeen

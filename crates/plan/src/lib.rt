@@ -10,4 +10,5 @@ pub mod fetches;
 pub mod localize;
 pub mod need;
 pub mod plan;
+pub mod reduce;
 pub mod stated;
