@@ -15,3 +15,5 @@ pub mod Covered
 pub mod OneSide
 pub mod OneFound
 pub mod JoinSeen
+pub mod JoinFound
+pub mod JoinRows

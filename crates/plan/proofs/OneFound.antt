@@ -32,7 +32,7 @@ use Rattle.plan.proofs.RowsOf.{covered_all}
 abbrev pub AreMarked : (FragmentLeaf → Type 0) → (Leaf → Bool) → List FragmentLeaf → Type 0
 AreMarked Stated marked leaves = AllByRecursion (λ leaf. Stated leaf → marked leaf.name ≡ true) leaves
 
-marked_for : (kinds : List Kind) (need : Need) (marked : Leaf → Bool) (row : List Value) (leaves : List FragmentLeaf) → FitsKinds kinds row → conds_hold need.conds row ≡ true →
+pub marked_for : (kinds : List Kind) (need : Need) (marked : Leaf → Bool) (row : List Value) (leaves : List FragmentLeaf) → FitsKinds kinds row → conds_hold need.conds row ≡ true →
     AreMarked (IsStated kinds need) marked leaves → AllByRecursion (IsMarkedFor marked need row) leaves
 marked_for kinds need marked row [] fits asked marks = tt
 marked_for kinds need marked row (leaf ∷ leaves) fits asked marks =
