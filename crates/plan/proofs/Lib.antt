@@ -17,3 +17,5 @@ pub mod OneFound
 pub mod JoinSeen
 pub mod JoinFound
 pub mod JoinRows
+pub mod Marks
+pub mod SideOf
