@@ -19,3 +19,5 @@ pub mod JoinFound
 pub mod JoinRows
 pub mod Marks
 pub mod SideOf
+pub mod PlacesFit
+pub mod JoinOf
