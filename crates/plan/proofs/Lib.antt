@@ -21,3 +21,4 @@ pub mod Marks
 pub mod SideOf
 pub mod PlacesFit
 pub mod JoinOf
+pub mod PlanFound

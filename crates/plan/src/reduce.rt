@@ -7,7 +7,7 @@ ghost use Rattle.meaning.specs.Statement.{IsStatementOf};
 ghost use Rattle.catalog.specs.FragmentLeaf.{schemas_of};
 ghost use Rattle.catalog.specs.Relation.{catalogue_of};
 ghost use Rattle.plan.specs.Located.{located};
-ghost use Rattle.plan.specs.Reduced.{is_fetched, reduced};
+ghost use Rattle.plan.specs.Reduced.{FindsAll, is_fetched, reduced};
 ghost use Rattle.plan.specs.Shape.{shape};
 ghost use Rattle.plan.specs.Stated.{AreFetchesOf};
 
@@ -15,6 +15,7 @@ use crate::fetch::Fetch;
 use crate::fetches::statement_fetches;
 use crate::plan::Plan;
 use catalog::catalogue::Catalog;
+use catalog::laws::{one_leaf_serves, some_leaf_serves};
 use meaning::statement::Statement;
 use std::alloc::Global;
 use terms::leaf::Leaf;
@@ -38,9 +39,15 @@ pub fn reduce(
     requires plan { shape plan ≡ located (catalogue_of catalog.now) statement.now }
     // The fetches are exactly those that the statement may need.
     ensures fetches { IfOk result (λ less. AreFetchesOf (catalogue_of catalog.now) statement.now less.fetches.items) }
+    // Over contents of their leaves the plan has at each key what the statement is to find there, in every whole
+    // database that fits the schema.
+    ensures rows { IfOk result (λ less. FindsAll (catalogue_of catalog.now) statement.now less.fetches.items (shape less.plan)) }
     // The plan reads their leaves alone.
     ensures reads { IfOk result (λ less. shape less.plan ≡ reduced (is_fetched less.fetches.items) (located (catalogue_of catalog.now) statement.now)) }
 {
+    some_leaf_serves();
+    one_leaf_serves();
+    let _relations = catalog.relations();
     let fetches = statement_fetches(alloc, catalog, statement)?;
     let plan = pruned(alloc, plan, fetches.as_slice())?;
     Ok(Reduced { plan, fetches })
