@@ -1,6 +1,6 @@
 -- Lemmas on conditions that a join carries from one of its columns to the other: a row of one side, given the other's value in
 -- its column of ON, still meets its conditions.
-use Rattle.std.proofs.Common.{◌≡◌, ◌≢◌, ℕ, zero, suc, ℤ, ◌-◌, ◌<◌, ◌==◌, ◌||◌, ◌&&◌, nat_lt, nat_eq, Bool, true, false, not, cond, List, [], ◌∷◌, map, filter, Some, refl, ap, sym, ◌∙◌, subst, slice_set, arith}
+use Rattle.std.proofs.Common.{◌≡◌, ◌≢◌, ℕ, zero, suc, ℤ, ◌-◌, ◌<◌, ◌==◌, ◌||◌, ◌&&◌, nat_lt, Bool, true, false, not, cond, List, [], ◌∷◌, map, filter, Some, refl, ap, sym, ◌∙◌, subst, slice_set, arith}
 use Rattle.std.proofs.lemmas.Bool.Decides.{nat_tests}
 use Rattle.std.specs.List.{list_all, slice_get}
 use Rattle.terms.specs.declared.cond.Cond.{Cond}
@@ -73,10 +73,13 @@ past_moved width col n x rest row conds at own carries =
   where
     P : Cond → Bool
     P c = not (not (nat_lt c.col width)) || cond_holds (on_column (c.col - width) c) (Int n ∷ rest)
+
     Q : Cond → Bool
     Q c = not (not (nat_lt c.col width)) || cond_holds (on_column (c.col - width) c) (x ∷ rest)
+
     R : Cond → Bool
     R c = not (c.col == width) || cond_holds (on_column col c) row
+
     each : (c : Cond) → Q c ≡ true → R c ≡ true → P c ≡ true
     each c q r = past_each (nat_lt c.col width) (c.col == width) c width col n x rest row refl refl at q r
 
@@ -100,8 +103,10 @@ carried_holds width col n rest row conds within at own =
   where
     P : Cond → Bool
     P c = not (c.col == col) || cond_holds (on_column 0 c) (Int n ∷ rest)
+
     Q : Cond → Bool
     Q c = not (nat_lt c.col width) || cond_holds c row
+
     each : (c : Cond) → Q c ≡ true → Q c ≡ true → P c ≡ true
     each c q again = carried_each (c.col == col) (nat_lt c.col width) c width col n rest row refl refl within at q
 
@@ -125,10 +130,13 @@ below_moved width col n old row rest conds there own carries =
   where
     P : Cond → Bool
     P c = not (nat_lt c.col width) || cond_holds c (slice_set row col (Int n))
+
     Q : Cond → Bool
     Q c = not (nat_lt c.col width) || cond_holds c row
+
     R : Cond → Bool
     R c = not (c.col == col) || cond_holds (on_column 0 c) (Int n ∷ rest)
+
     each : (c : Cond) → Q c ≡ true → R c ≡ true → P c ≡ true
     each c q r = below_each (nat_lt c.col width) (c.col == col) c width col n old row rest refl refl there q r
 
@@ -152,9 +160,12 @@ brought_holds width col n row rest conds at own =
   where
     P : Cond → Bool
     P c = not (c.col == width) || cond_holds (on_column col c) row
+
     Q : Cond → Bool
     Q c = not (not (nat_lt c.col width)) || cond_holds (on_column (c.col - width) c) (Int n ∷ rest)
+
     own_is : list_all Q conds ≡ true
     own_is = sym (holds_passed (λ c. on_column (c.col - width) c) (λ c. not (nat_lt c.col width)) conds (Int n ∷ rest)) ∙ own
+
     each : (c : Cond) → Q c ≡ true → Q c ≡ true → P c ≡ true
     each c q again = brought_each (c.col == width) (nat_lt c.col width) c width col n row rest refl refl at q

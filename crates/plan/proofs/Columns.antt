@@ -1,5 +1,5 @@
 -- Lemmas on a row with another value in one column.
-use Rattle.std.proofs.Common.{◌≡◌, ◌≢◌, ℕ, zero, suc, List, [], ◌∷◌, Some, None, refl, ap, slice_set}
+use Rattle.std.proofs.Common.{◌≡◌, ◌≢◌, ℕ, zero, suc, List, [], ◌∷◌, Some, refl, ap, slice_set}
 use Rattle.std.specs.List.{slice_get}
 use Rattle.terms.specs.declared.value.Kind.{Kind}
 use Rattle.terms.specs.declared.value.Value.{Value}

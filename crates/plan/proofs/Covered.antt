@@ -1,5 +1,5 @@
 -- The law of cover on plans: each row that meets a need's conditions is given, in each needed column, by some leaf.
-use Rattle.std.proofs.Common.{◌≡◌, ◌≢◌, ℕ, zero, suc, ◌<◌, Bool, true, false, cond, ◌&&◌, ◌||◌, ◌==◌, List, [], ◌∷◌, length, refl, ap, sym, ◌∙◌, arith}
+use Rattle.std.proofs.Common.{◌≡◌, ℕ, zero, suc, ◌<◌, Bool, true, false, cond, ◌&&◌, ◌||◌, ◌==◌, List, [], ◌∷◌, length, refl, arith}
 use Rattle.std.specs.List.{AllByRecursion, list_all, list_any}
 use Rattle.std.proofs.lemmas.Bool.Decides.{nat_tests}
 use Rattle.terms.specs.declared.value.Kind.{Kind}
@@ -41,7 +41,7 @@ some_step need row gives relation beside columns number path true others rest is
     let leaf = leaf_of relation beside number path in
     let for = is refl in
     or_first (reaches need columns leaf && gives leaf) rest
-        (and_true (reaches need columns leaf) (gives leaf) (and_true (wanted need.columns leaf.steps) (list_all (has leaf.columns) columns) for.0 for.2) (given for.0 for.1))
+    (and_true (reaches need columns leaf) (gives leaf) (and_true (wanted need.columns leaf.steps) (list_all (has leaf.columns) columns) for.0 for.2) (given for.0 for.1))
 some_step need row gives relation beside columns number path false others rest is given more h =
     let leaf = leaf_of relation beside number path in
     or_second (reaches need columns leaf && gives leaf) rest (more h)
@@ -51,7 +51,7 @@ pub covered_some : (need : Need) (row : List Value) (gives : FragmentLeaf → Bo
 covered_some need row gives relation beside columns number test [] is given some = absurd (cc)
 covered_some need row gives relation beside columns number test (path ∷ all) is given some =
     some_step need row gives relation beside columns number path (test path) (list_any test all) (covered need columns gives (leaves_from relation beside (suc number) all)) (is path) given.0
-        (covered_some need row gives relation beside columns (suc number) test all is given.1) some
+    (covered_some need row gives relation beside columns (suc number) test all is given.1) some
 
 -- what is counted once is there
 counted_step : (t others : Bool) (count : ℕ) → (count ≡ 1 → others ≡ true) → cond t (suc count) count ≡ 1 → (t || others) ≡ true
@@ -67,23 +67,23 @@ pub covered_base : (kinds : List Kind) (tree : Tree) (need : Need) (row : List V
     AllByRecursion (GivesWanted need row gives) (leaves_from relation (columns_beside_key kinds) 1 (paths tree)) → covered need [] gives (leaves_from relation (columns_beside_key kinds) 1 (paths tree)) ≡ true
 covered_base kinds tree need row gives relation cover valid fits given =
     covered_some need row gives relation (columns_beside_key kinds) [] 1 (serves need.columns row) (paths tree)
-        (λ path h. let each = both (leads row path) (wanted need.columns path.steps) h in (each.1, each.0, refl)) given (cover kinds tree need.columns row valid fits)
+    (λ path h. let each = both (leads row path) (wanted need.columns path.steps) h in (each.1, each.0, refl)) given (cover kinds tree need.columns row valid fits)
 
 -- and of one column
 covered_one : (kinds : List Kind) (tree : Tree) (need : Need) (row : List Value) (gives : FragmentLeaf → Bool) (relation : List ℕ) (col : ℕ) → SomeServes → OneServes → IsValid kinds tree → FitsKinds kinds row →
     has need.columns col ≡ true → col < length kinds → AllByRecursion (GivesWanted need row gives) (leaves_from relation (columns_beside_key kinds) 1 (paths tree)) → covered need (col ∷ []) gives (leaves_from relation (columns_beside_key kinds) 1 (paths tree)) ≡ true
 covered_one kinds tree need row gives relation zero cover one valid fits needed within given =
     covered_some need row gives relation (columns_beside_key kinds) (0 ∷ []) 1 (serves need.columns row) (paths tree)
-        (λ path h. let each = both (leads row path) (wanted need.columns path.steps) h in (each.1, each.0, refl)) given (cover kinds tree need.columns row valid fits)
+    (λ path h. let each = both (leads row path) (wanted need.columns path.steps) h in (each.1, each.0, refl)) given (cover kinds tree need.columns row valid fits)
 covered_one kinds tree need row gives relation (suc col) cover one valid fits needed within given =
     let beside = columns_beside_key kinds in
     let test : Path → Bool = λ path. serves need.columns row path && has (path_columns beside path.steps) (suc col) in
     covered_some need row gives relation beside (suc col ∷ []) 1 test (paths tree)
-        (λ path h.
-        let there = both (serves need.columns row path) (has (path_columns beside path.steps) (suc col)) h in
-        let each = both (leads row path) (wanted need.columns path.steps) there.0 in
-        (each.1, each.0, and_true (has (0 ∷ path_columns beside path.steps) (suc col)) true (or_second (0 == suc col) (has (path_columns beside path.steps) (suc col)) there.1) refl)) given
-        (counted_one test (paths tree) (one kinds tree need.columns row (suc col) valid fits needed (λ zero_is. absurd (omega arith)) within))
+    (λ path h.
+    let there = both (serves need.columns row path) (has (path_columns beside path.steps) (suc col)) h in
+    let each = both (leads row path) (wanted need.columns path.steps) there.0 in
+    (each.1, each.0, and_true (has (0 ∷ path_columns beside path.steps) (suc col)) true (or_second (0 == suc col) (has (path_columns beside path.steps) (suc col)) there.1) refl)) given
+    (counted_one test (paths tree) (one kinds tree need.columns row (suc col) valid fits needed (λ zero_is. absurd (omega arith)) within))
 
 -- and of all needed columns
 pub covered_columns : (kinds : List Kind) (tree : Tree) (need : Need) (row : List Value) (gives : FragmentLeaf → Bool) (relation columns : List ℕ) → SomeServes → OneServes → IsValid kinds tree → FitsKinds kinds row →
@@ -93,7 +93,7 @@ covered_columns kinds tree need row gives relation [] cover one valid fits neede
 covered_columns kinds tree need row gives relation (col ∷ columns) cover one valid fits needed within given =
     let leaves = leaves_from relation (columns_beside_key kinds) 1 (paths tree) in
     and_true (covered need (col ∷ []) gives leaves) (covered_all need gives leaves columns) (covered_one kinds tree need row gives relation col cover one valid fits needed.0 within.0 given)
-        (covered_columns kinds tree need row gives relation columns cover one valid fits needed.1 within.1 given)
+    (covered_columns kinds tree need row gives relation columns cover one valid fits needed.1 within.1 given)
 
 -- each of some columns is one of them
 itself : (col : ℕ) (rest : Bool) → ((col == col) || rest) ≡ true

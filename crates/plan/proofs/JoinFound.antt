@@ -1,40 +1,29 @@
 -- The plan of a join has at each key what is to be found there.
-use Rattle.std.proofs.Common.{◌≡◌, ℕ, suc, ℤ, ◌-◌, ◌<◌, ◌≤◌, Bool, true, false, not, cond, ◌&&◌, ◌||◌, ◌==◌, nat_lt, List, [], ◌∷◌, ◌++◌, length, Option, Some, None, option_map, option_and_then, refl, ap, ap₂, sym, ◌∙◌, subst, arith}
-use Rattle.std.specs.List.{AllByRecursion, list_all, slice_get}
+use Rattle.std.proofs.Common.{◌≡◌, ℕ, suc, ℤ, ◌-◌, ◌<◌, ◌≤◌, Bool, true, false, not, cond, ◌&&◌, ◌||◌, nat_lt, List, [], ◌∷◌, ◌++◌, length, Option, Some, None, option_map, option_and_then, refl, ap, sym, ◌∙◌, subst, arith}
+use Rattle.std.specs.List.{list_all, slice_get}
 use Rattle.std.proofs.lemmas.Bool.Decides.{nat_tests}
 use Rattle.terms.specs.declared.cond.Cond.{Cond}
 use Rattle.terms.specs.declared.leaf.Leaf.{Leaf}
 use Rattle.terms.specs.declared.value.Kind.{Kind}
-use Rattle.terms.specs.declared.value.Kind.TheVariants as kinds
 use Rattle.terms.specs.declared.value.Value.{Value}
 use Rattle.terms.specs.declared.value.Value.TheVariants.{Int, Text}
 use Rattle.terms.specs.Cond.{cond_holds, conds_hold, holds_of}
 use Rattle.terms.specs.Row.{FitsKinds, key_of}
-use Rattle.meaning.specs.Selected.{joined, paired, partner}
+use Rattle.meaning.specs.Selected.{paired, partner}
 use Rattle.catalog.specs.declared.fragment_leaf.FragmentLeaf.{FragmentLeaf}
-use Rattle.catalog.specs.Cover.{OneServes, SomeServes}
-use Rattle.catalog.specs.Keyed.{row_at}
+use Rattle.catalog.specs.Cover.{SomeServes}
 use Rattle.catalog.specs.Split.{Tree}
 use Rattle.catalog.specs.Valid.{IsValid}
 use Rattle.plan.specs.declared.need.Need.{Need}
-use Rattle.plan.specs.Found.{found_of}
-use Rattle.plan.specs.Located.{by_columns}
 use Rattle.plan.specs.Need.{carried, conds_below, conds_past, on_column, places_below, places_past}
-use Rattle.plan.specs.Reduced.{reduced}
-use Rattle.plan.specs.Rows.{Seen, at_value, is_seen, kept, merged, rows, seen_meets, seen_of, shifted}
-use Rattle.plan.specs.Shape.{Shape, Filter, Lookup}
+use Rattle.plan.specs.Rows.{Seen, at_value, merged, shifted}
 use Rattle.plan.specs.Stated.{IsMet, IsStated, IsStatedFrom, IsStatedJoined}
-use Rattle.plan.proofs.AtKey.{KeepsKeys, at_mapped}
+use Rattle.plan.proofs.AtKey.{KeepsKeys}
 use Rattle.plan.proofs.CarriedConds.{and_true, both, brought_holds, carried_holds, holds_filtered, holds_passed}
-use Rattle.plan.proofs.Columns.{fits_at}
-use Rattle.plan.proofs.Covered.{or_second}
-use Rattle.plan.proofs.JoinSeen.{pair_seen}
-use Rattle.plan.proofs.LeafReads.{gives_row}
-use Rattle.plan.proofs.Meeting.{IsJoin, conds_joined, first_of, integer, is_met_by, meets, rest_of}
+use Rattle.plan.proofs.Meeting.{IsJoin, conds_joined, first_of, is_met_by, meets, rest_of}
 use Rattle.plan.proofs.NeedsFit.{get_front, get_past}
-use Rattle.plan.proofs.OneFound.{AreMarked, marked_for}
-use Rattle.plan.proofs.OneSide.{AreSeen, IsSide, all_at, kept_one, seen_conds, side_leaves, side_none, side_row, side_there}
-use Rattle.plan.proofs.RowsOf.{covered_all, one_seen}
+use Rattle.plan.proofs.OneFound.{AreMarked}
+use Rattle.plan.proofs.OneSide.{AreSeen, IsSide, side_leaves}
 
 -- what the conditions on a pair ask of each row
 all_passed_by : (P Q : Cond → Bool) (conds : List Cond) → ((c : Cond) → P c ≡ true → Q c ≡ true) → list_all P conds ≡ true → list_all Q conds ≡ true
@@ -65,7 +54,7 @@ past_of_pair : (width : ℕ) (row other : List Value) (conds : List Cond) → le
 past_of_pair width row other conds long h =
     holds_passed (λ c. on_column (c.col - width) c) (λ c. not (nat_lt c.col width)) conds other
     ∙ all_passed_by (λ c. cond_holds c (row ++ other)) (λ c. not (not (nat_lt c.col width)) || cond_holds (on_column (c.col - width) c) other) conds
-        (λ c holds. if_not (nat_lt c.col width) (cond_holds (on_column (c.col - width) c) other) (λ past. at c holds past)) h
+    (λ c holds. if_not (nat_lt c.col width) (cond_holds (on_column (c.col - width) c) other) (λ past. at c holds past)) h
   where
     at : (c : Cond) → cond_holds c (row ++ other) ≡ true → nat_lt c.col width ≡ false → cond_holds (on_column (c.col - width) c) other ≡ true
     at c holds past =
@@ -86,9 +75,10 @@ both_asked types others width col conds need other_need n row other join long at
     let There : List Cond → Type 0 = λ cs. conds_hold cs other ≡ true in
     let Carried : List Value → Type 0 = λ r. conds_hold (carried col 0 conds) r ≡ true in
     let brought = brought_holds width col n row rest conds at (subst Past split past) in
-    let came = subst Carried (sym split) (carried_holds width col n rest row conds join.within at own) in
-    (subst Own (sym join.own) (conds_joined (conds_below width conds) (carried width col conds) row own brought),
-     subst There (sym join.joined) (conds_joined (conds_past width conds) (carried col 0 conds) other past came))
+    let came = subst Carried (sym split) (carried_holds width col n rest row conds join.within at own) in (
+      subst Own (sym join.own) (conds_joined (conds_below width conds) (carried width col conds) row own brought),
+      subst There (sym join.joined) (conds_joined (conds_past width conds) (carried col 0 conds) other past came),
+    )
 
 -- a join's leaves, which are fetched where they meet, are fetched where they may serve alone, if the other side's conditions can be met
 pub stated_from : (types others : List Kind) (width col : ℕ) (conds : List Cond) (need other : Need) (marked : Leaf → Bool) (relation : List ℕ) (tree : Tree) (leaves : List FragmentLeaf) → SomeServes → IsValid others tree → IsJoin types others width col conds need other → IsMet others other.conds →
@@ -129,6 +119,7 @@ pair_keeps col others (value ∷ row) made is = at (partner others (slice_get (v
     key_front : (value : Value) (row other : List Value) → key_of (value ∷ (row ++ other)) ≡ key_of (value ∷ row)
     key_front (Int n) row other = refl
     key_front (Text bytes) row other = refl
+
     at : (found : Option (List Value)) → option_map (λ other. (value ∷ row) ++ other) found ≡ Some made → key_of made ≡ key_of (value ∷ row)
     at None h = absurd (cc)
     at (Some other) h = let same : (value ∷ row) ++ other ≡ made = cc in ap key_of (sym same) ∙ key_front value row other

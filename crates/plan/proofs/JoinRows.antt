@@ -1,5 +1,5 @@
 -- The reduced plan of a join has at each key the pair that is to be found there.
-use Rattle.std.proofs.Common.{◌≡◌, ℕ, ℤ, Bool, true, false, cond, ◌&&◌, ◌||◌, ◌==◌, List, [], ◌∷◌, ◌++◌, length, Option, Some, None, option_map, option_and_then, refl, ap, ap₂, sym, ◌∙◌, subst, arith}
+use Rattle.std.proofs.Common.{◌≡◌, ℕ, ℤ, Bool, true, false, cond, ◌&&◌, ◌==◌, List, [], ◌∷◌, ◌++◌, length, Option, Some, None, option_map, option_and_then, refl, ap, ap₂, sym, ◌∙◌, arith}
 use Rattle.std.specs.List.{AllByRecursion, slice_get}
 use Rattle.std.specs.Ordering.{int_eq}
 use Rattle.std.proofs.lemmas.Bool.Decides.{nat_tests}
@@ -23,7 +23,7 @@ use Rattle.plan.specs.Found.{found_of}
 use Rattle.plan.specs.Located.{by_columns}
 use Rattle.plan.specs.Reduced.{reduced}
 use Rattle.plan.specs.Rows.{Seen, at_value, is_seen, kept, merged, rows, seen_of, shifted}
-use Rattle.plan.specs.Shape.{Shape, Filter, Lookup}
+use Rattle.plan.specs.Shape.{Filter, Lookup}
 use Rattle.plan.proofs.AtKey.{at_mapped}
 use Rattle.plan.proofs.CarriedConds.{and_true}
 use Rattle.plan.proofs.Columns.{fits_at}
@@ -73,12 +73,16 @@ join_found types others tree tree_other width col conds read need other_need rel
   where
     leaves : List FragmentLeaf
     leaves = side_leaves types tree relation
+
     leaves_other : List FragmentLeaf
     leaves_other = side_leaves others tree_other relation_other
+
     right : ℤ → Option Seen
     right k = rows (reduced marked (by_columns other_need leaves_other other_need.columns)) contents k
+
     looked : Option Seen → Option Seen
     looked left = option_and_then (λ seen. option_map (λ found. merged seen (shifted width found)) (at_value right (seen col))) left
+
     at_pair : (row : List Value) (n : ℤ) (other : List Value) → row_at key all ≡ Some row → slice_get row col ≡ Some (Int n) → row_at n all_others ≡ Some other →
         kept conds (looked (one_seen (covered_all need (gives_row marked need row) leaves need.columns) need.columns row)) ≡ found_of conds (col ∷ width ∷ read) (row ++ other)
     at_pair row n other is there found =
@@ -94,15 +98,16 @@ join_found types others tree tree_other width col conds read need other_need rel
         ap (kept conds) (lookup_one a b width col (seen_of need.columns row) (seen_of other_need.columns other) right n col_seen (side_row others tree_other other_need relation_other marked contents all_others n other s.there found)
         ∙ ap (λ (seen : Seen). cond (a && b) (Some seen) None) pair)
         ∙ kept_one conds (seen_of (col ∷ width ∷ read) (row ++ other)) (a && b) (conds_hold conds (row ++ other)) (seen_conds (col ∷ width ∷ read) conds (row ++ other) s.seen)
-            (λ holds.
-                let asked = both_asked types others width col conds need other_need n row other s.join long there key_is holds in
-                and_true a b
-                    (side_there types tree need relation marked contents all key row cover one s.from is asked.0
-                        (marked_for types need marked row leaves fits asked.0
-                            (stated_from types others width col conds need other_need marked relation_other tree_other leaves cover s.there.valid s.join (record { row = other; fits = fits_other; holds = asked.1 }) s.marks)))
-                    (side_there others tree_other other_need relation_other marked contents all_others n other cover one s.there found asked.1
-                        (marked_for others other_need marked other leaves_other fits_other asked.1
-                            (stated_joined types others width col conds need other_need marked relation tree leaves_other cover s.from.valid s.join (record { row = row; fits = fits; holds = asked.0 }) s.marks_other))))
+        (λ holds.
+        let asked = both_asked types others width col conds need other_need n row other s.join long there key_is holds in
+        and_true a b
+        (side_there types tree need relation marked contents all key row cover one s.from is asked.0
+        (marked_for types need marked row leaves fits asked.0
+        (stated_from types others width col conds need other_need marked relation_other tree_other leaves cover s.there.valid s.join (record { row = other; fits = fits_other; holds = asked.1 }) s.marks)))
+        (side_there others tree_other other_need relation_other marked contents all_others n other cover one s.there found asked.1
+        (marked_for others other_need marked other leaves_other fits_other asked.1
+        (stated_joined types others width col conds need other_need marked relation tree leaves_other cover s.from.valid s.join (record { row = row; fits = fits; holds = asked.0 }) s.marks_other))))
+
     at_key : (row : List Value) (n : ℤ) (found : Option (List Value)) → row_at key all ≡ Some row → slice_get row col ≡ Some (Int n) → row_at n all_others ≡ found →
         kept conds (looked (one_seen (covered_all need (gives_row marked need row) leaves need.columns) need.columns row)) ≡ option_and_then (found_of conds (col ∷ width ∷ read)) (option_map (λ other. row ++ other) found)
     at_key row n None is there found =
@@ -110,6 +115,7 @@ join_found types others tree tree_other width col conds read need other_need rel
         let col_seen = seen_col (is_seen need.columns col) (slice_get row col) n (ap (λ columns. is_seen columns col) s.columns ∙ own_seen col _) there in
         ap (kept conds) (lookup_none a width col (seen_of need.columns row) right n col_seen (side_none others tree_other other_need relation_other marked contents all_others n s.there found))
     at_key row n (Some other) is there found = at_pair row n other is there found
+
     at_row : (found : Option (List Value)) → row_at key all ≡ found →
         kept conds (looked (rows (reduced marked (by_columns need leaves need.columns)) contents key)) ≡ option_and_then (found_of conds (col ∷ width ∷ read)) (option_and_then (paired col all_others) found)
     at_row None is = ap (λ left. kept conds (looked left)) (side_none types tree need relation marked contents all key s.from is)

@@ -1,5 +1,5 @@
 -- A pair of rows, seen in a join's columns, is what both sides see of it, put together.
-use Rattle.std.proofs.Common.{◌≡◌, ℕ, suc, ◌-◌, ◌<◌, ◌≤◌, Bool, true, false, not, cond, ◌||◌, ◌==◌, nat_lt, List, [], ◌∷◌, ◌++◌, length, filter, map, Option, Some, None, refl, ap, ap₂, sym, ◌∙◌, arith}
+use Rattle.std.proofs.Common.{◌≡◌, ℕ, ◌-◌, ◌<◌, ◌≤◌, Bool, true, false, not, cond, ◌||◌, ◌==◌, nat_lt, List, [], ◌∷◌, ◌++◌, length, filter, map, Option, Some, None, refl, ap, ap₂, sym, ◌∙◌, arith}
 use Rattle.std.specs.List.{slice_get}
 use Rattle.std.specs.Option.{option_or}
 use Rattle.std.proofs.Math.Path.{fun_ext}
@@ -7,7 +7,7 @@ use Rattle.std.proofs.lemmas.Bool.Decides.{nat_tests}
 use Rattle.terms.specs.declared.value.Value.{Value}
 use Rattle.catalog.specs.Counts.{has}
 use Rattle.plan.specs.Need.{places_below, places_past}
-use Rattle.plan.specs.Rows.{Seen, is_seen, merged, seen_of, shifted}
+use Rattle.plan.specs.Rows.{is_seen, merged, seen_of, shifted}
 use Rattle.plan.proofs.NeedsFit.{get_front, get_past}
 
 same_test : (t s : Bool) → (t ≡ true → s ≡ true) → (s ≡ true → t ≡ true) → t ≡ s
@@ -57,7 +57,7 @@ front_at col width read row other place long below =
     let not_width : (width == place) ≡ false = grind (arith, nat_tests) in
     let within : place < length row = grind (arith, nat_tests) in
     ap₂ (λ (t : Bool) (value : Option Value). cond ((place == 0) || ((col == place) || t)) value None)
-        (has_below width read place below ∙ ap (λ (t : Bool). t || has read place) (sym not_width)) (sym (get_front row other place within))
+    (has_below width read place below ∙ ap (λ (t : Bool). t || has read place) (sym not_width)) (sym (get_front row other place within))
 
 -- a place of the second
 past_at : (col width : ℕ) (read : List ℕ) (row other : List Value) (place : ℕ) → length row ≡ width → col < width → nat_lt place width ≡ false →
@@ -72,8 +72,8 @@ past_at col width read row other place long within past =
     let other_value : slice_get (row ++ other) place ≡ slice_get other (place - width) = get_past row other place behind ∙ ap (slice_get other) at in
     let left : cond (is_seen (col ∷ places_below width read) place) (slice_get row place) None ≡ None = rw (not_zero, not_col, none_below width read place past) refl in
     let right : is_seen (places_past width read) (place - width) ≡ is_seen (col ∷ width ∷ read) place =
-        ap₂ (λ (s t : Bool). s || t) key_is (has_past width read place past)
-        ∙ ap₂ (λ (s t : Bool). s || (t || ((width == place) || has read place))) (sym not_zero) (sym not_col) in
+    ap₂ (λ (s t : Bool). s || t) key_is (has_past width read place past)
+    ∙ ap₂ (λ (s t : Bool). s || (t || ((width == place) || has read place))) (sym not_zero) (sym not_col) in
     ap₂ (λ (one two : Option Value). option_or one two) left (ap₂ (λ (t : Bool) (value : Option Value). cond t value None) right (sym other_value))
 
 pub pair_seen : (col width : ℕ) (read : List ℕ) (row other : List Value) → length row ≡ width → col < width →

@@ -12,19 +12,17 @@ use Rattle.catalog.specs.declared.fragment_leaf.FragmentLeaf.{FragmentLeaf}
 use Rattle.catalog.specs.Catalogue.{Catalogue, IsValidCatalogue}
 use Rattle.catalog.specs.Cover.{SomeServes}
 use Rattle.catalog.specs.Formed.{IsFormed}
-use Rattle.catalog.specs.FragmentLeaf as catalog
 use Rattle.catalog.specs.FragmentLeaf.{leaves_from, schemas_of}
 use Rattle.catalog.specs.Path.{columns_beside_key, paths}
 use Rattle.catalog.specs.Split.{Tree}
 use Rattle.catalog.specs.Valid.{IsValid}
 use Rattle.plan.specs.declared.fetch.Fetch.{Fetch}
 use Rattle.plan.specs.declared.need.Need.{Need}
-use Rattle.plan.specs.declared.need.Needs.{Needs}
-use Rattle.plan.specs.declared.need.Needs.TheVariants.{One, Joined}
+use Rattle.plan.specs.declared.need.Needs.TheVariants.{Joined}
 use Rattle.plan.specs.Need.{need_from, need_joined, needs, needs_of_select}
 use Rattle.plan.specs.Side.{AreSidesFetches}
 use Rattle.plan.specs.Stated.{AreFetchesFor, AreFetchesOf, AreJoinFetches, IsMet, IsStated, IsStatedFrom, IsStatedJoined, kinds_in, leaves_of}
-use Rattle.plan.proofs.InCatalogue.{IsIn, kinds_are, leaves_are}
+use Rattle.plan.proofs.InCatalogue.{kinds_are, leaves_are}
 use Rattle.plan.proofs.LeafByLeaf.{same_rule}
 use Rattle.plan.proofs.Meeting.{IsJoin, meets, meets_only, is_met_by, is_met_only}
 use Rattle.plan.proofs.StatementFits.{Sides, sides_of, sides_join}
@@ -42,7 +40,7 @@ sides_stated cover catalogue select join fetches s h =
     let others_are : others ≡ kinds_of second.schema = kinds_are catalogue other.relation s.other s.other_is ∙ ap kinds_of (sym s.other_is.same) in
     let J : List Kind → List Kind → Type 0 = λ a b. IsJoin a b (length select.from.columns) join.col select.conds need other in
     let joins : IsJoin types others (length select.from.columns) join.col select.conds need other =
-        subst (λ a. J a others) (sym (kinds_are catalogue need.relation s.from s.from_is)) (subst (λ b. J (kinds_of s.from) b) (sym (kinds_are catalogue other.relation s.other s.other_is)) (sides_join catalogue select join s)) in
+    subst (λ a. J a others) (sym (kinds_are catalogue need.relation s.from s.from_is)) (subst (λ b. J (kinds_of s.from) b) (sym (kinds_are catalogue other.relation s.other s.other_is)) (sides_join catalogue select join s)) in
     let V : Tree → List Kind → Type 0 = λ tree all. IsValid all tree in
     let first_valid : IsValid types first.tree = subst (V first.tree) (sym types_are) s.from_is.valid in
     let second_valid : IsValid others second.tree = subst (V second.tree) (sym others_are) s.other_is.valid in
@@ -56,12 +54,12 @@ sides_stated cover catalogue select join fetches s h =
       both = h.both;
       from = same_rule (λ leaf. IsStated types need leaf × IsMet others other.conds) (IsStatedFrom types others join.col need other (leaves_of catalogue other.relation)) need
           (λ leaf may. subst (λ leaves. IsStatedFrom types others join.col need other leaves leaf) second_leaves
-              (meets types others (length select.from.columns) join.col select.conds need other leaf second.schema.name second.tree cover second_valid joins may.0 may.1))
+          (meets types others (length select.from.columns) join.col select.conds need other leaf second.schema.name second.tree cover second_valid joins may.0 may.1))
           (λ leaf stated. meets_only types others join.col need other (leaves_of catalogue other.relation) leaf stated)
           (leaves_of catalogue need.relation) h.first h.from;
       joined = same_rule (λ leaf. IsStated others other leaf × IsMet types need.conds) (IsStatedJoined types others join.col need other (leaves_of catalogue need.relation)) other
           (λ leaf may. subst (λ leaves. IsStatedJoined types others join.col need other leaves leaf) first_leaves
-              (is_met_by types others (length select.from.columns) join.col select.conds need other leaf first.schema.name first.tree cover first_valid joins may.0 may.1))
+          (is_met_by types others (length select.from.columns) join.col select.conds need other leaf first.schema.name first.tree cover first_valid joins may.0 may.1))
           (λ leaf stated. is_met_only types others join.col need other (leaves_of catalogue need.relation) leaf stated)
           (leaves_of catalogue other.relation) h.second h.joined;
     }

@@ -1,5 +1,5 @@
 -- Lemmas on the fetches of leaves, leaf by leaf.
-use Rattle.std.proofs.Common.{◌≡◌, ℕ, ◌<◌, ◌≤◌, ◌++◌, List, [], ◌∷◌, length, drop, append-nil, Result, Ok, Err, IfOk, Vec, Global, inl, inr, refl, subst, sym, arith}
+use Rattle.std.proofs.Common.{◌≡◌, ℕ, ◌≤◌, ◌++◌, List, [], ◌∷◌, length, drop, append-nil, Result, Ok, Err, IfOk, Vec, Global, inl, inr, refl, subst, sym, arith}
 use Rattle.std.proofs.lemmas.Grind.{common_steps}
 use Rattle.catalog.specs.declared.fragment_leaf.FragmentLeaf.{FragmentLeaf}
 use Rattle.plan.specs.declared.fetch.Fetch.{Fetch}
@@ -38,4 +38,4 @@ pub with_met : (catalogue : Catalogue) (need other : Need) (result : Result (Vec
 with_met catalogue need other (Err e) met h = tt
 with_met catalogue need other (Ok fetches) met h =
     same_rule (IsStated (kinds_in catalogue need.relation) need) (λ leaf. IsStated (kinds_in catalogue need.relation) need leaf × IsMet (kinds_in catalogue other.relation) other.conds) need
-        (λ leaf stated. (stated, met)) (λ leaf both. both.0) (leaves_of catalogue need.relation) fetches.items h
+    (λ leaf stated. (stated, met)) (λ leaf both. both.0) (leaves_of catalogue need.relation) fetches.items h

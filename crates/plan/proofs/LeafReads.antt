@@ -1,5 +1,5 @@
 -- What the read of a leaf has at a key, over contents that are the leaf's as far as the read looks.
-use Rattle.std.proofs.Common.{◌≡◌, ℕ, suc, ℤ, Bool, true, false, cond, ◌&&◌, List, [], ◌∷◌, map, filter, Option, Some, None, option_map, option_and_then, refl, ap, sym, ◌∙◌}
+use Rattle.std.proofs.Common.{◌≡◌, ℕ, suc, ℤ, Bool, true, false, cond, ◌&&◌, List, [], ◌∷◌, Option, Some, None, option_map, option_and_then, refl, ap, ◌∙◌}
 use Rattle.std.specs.List.{AllByRecursion}
 use Rattle.terms.specs.declared.leaf.Leaf.{Leaf}
 use Rattle.terms.specs.declared.value.Value.{Value}
@@ -14,9 +14,8 @@ use Rattle.catalog.specs.Keyed.{row_at}
 use Rattle.catalog.specs.Path.{path_columns, path_conds}
 use Rattle.plan.specs.declared.need.Need.{Need}
 use Rattle.plan.specs.Fetch.{fetch_of, placed}
-use Rattle.plan.specs.Reduced.{reduced}
 use Rattle.plan.specs.Rows.{Seen, met, rows, seen_of, seen_part}
-use Rattle.plan.specs.Shape.{Shape, Empty, Fetch}
+use Rattle.plan.specs.Shape.{Empty, Fetch}
 use Rattle.plan.proofs.AtKey.{at_mapped, parts_keep_keys, parts_passed, passed_part}
 use Rattle.plan.proofs.PartsSeen.{IsThere, part_is}
 use Rattle.plan.proofs.RowsOf.{Reads, one_seen}

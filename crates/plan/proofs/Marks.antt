@@ -1,7 +1,6 @@
 -- The leaves that are stated are fetched.
-use Rattle.std.proofs.Common.{◌≡◌, ◌⊎◌, inl, inr, ℕ, Bool, true, false, ◌&&◌, ◌||◌, ◌==◌, List, [], ◌∷◌, ◌++◌, nat_eq, refl, ap, sym, ◌∙◌, arith}
+use Rattle.std.proofs.Common.{◌≡◌, inl, inr, ℕ, Bool, true, false, ◌||◌, ◌==◌, List, [], ◌∷◌, ◌++◌, nat_eq, refl, ap, ◌∙◌, arith}
 use Rattle.std.specs.Cmp.Lexicographic.{pointwise}
-use Rattle.std.specs.List.{AllByRecursion, list_any}
 use Rattle.std.proofs.lemmas.Bool.Decides.{nat_tests}
 use Rattle.terms.specs.declared.leaf.Leaf.{Leaf}
 use Rattle.catalog.specs.declared.fragment_leaf.FragmentLeaf.{FragmentLeaf}
@@ -37,9 +36,10 @@ pub fetched_marks : (Stated : FragmentLeaf → Type 0) (need : Need) (leaves : L
 fetched_marks Stated need [] fetches h = tt
 fetched_marks Stated need (leaf ∷ leaves) fetches (inl there) =
     let rest = there.1.0 in
-    let same : (name : Leaf) → is_fetched fetches name ≡ is_fetched (fetch_of need leaf ∷ rest) name = λ name. ap (λ (all : List Fetch). is_fetched all name) there.1.1 in
-    (λ stated. same leaf.name ∙ or_here (same_leaf leaf.name leaf.name) (is_fetched rest leaf.name) (itself leaf.name),
-     marks_more Stated (is_fetched rest) (is_fetched fetches) leaves (λ name h. same name ∙ or_second (same_leaf leaf.name name) (is_fetched rest name) h) (fetched_marks Stated need leaves rest there.1.2))
+    let same : (name : Leaf) → is_fetched fetches name ≡ is_fetched (fetch_of need leaf ∷ rest) name = λ name. ap (λ (all : List Fetch). is_fetched all name) there.1.1 in (
+      λ stated. same leaf.name ∙ or_here (same_leaf leaf.name leaf.name) (is_fetched rest leaf.name) (itself leaf.name),
+      marks_more Stated (is_fetched rest) (is_fetched fetches) leaves (λ name h. same name ∙ or_second (same_leaf leaf.name name) (is_fetched rest name) h) (fetched_marks Stated need leaves rest there.1.2),
+    )
 fetched_marks Stated need (leaf ∷ leaves) fetches (inr none) = (λ stated. absurd (none.0 stated), fetched_marks Stated need leaves fetches none.1)
 
 -- among the fetches of both sides of a join

@@ -1,5 +1,5 @@
 -- A leaf of one side of a join meets some leaf of the other exactly where it may serve alone and the other side's conditions can be met.
-use Rattle.std.proofs.Common.{◌≡◌, ℕ, zero, suc, ℤ, ◌+◌, ◌<◌, ◌&&◌, ◌||◌, Bool, true, false, List, [], ◌∷◌, ◌++◌, length, Some, None, refl, ap, sym, ◌∙◌, subst, slice_set, arith}
+use Rattle.std.proofs.Common.{◌≡◌, ℕ, suc, ℤ, ◌<◌, ◌&&◌, ◌||◌, Bool, true, false, List, [], ◌∷◌, ◌++◌, Some, refl, ap, sym, ◌∙◌, subst, slice_set, arith}
 use Rattle.std.specs.List.{Contains, list_any, slice_get}
 use Rattle.std.proofs.lemmas.List.Folds.{list_all-append}
 use Rattle.terms.specs.declared.cond.Cond.{Cond}
@@ -14,12 +14,12 @@ use Rattle.catalog.specs.declared.fragment_leaf.FragmentLeaf.{FragmentLeaf}
 use Rattle.catalog.specs.declared.path.Path.{Path}
 use Rattle.catalog.specs.Cover.{SomeServes, leads, serves}
 use Rattle.catalog.specs.FragmentLeaf.{leaf_of, leaves_from}
-use Rattle.catalog.specs.Path.{columns_beside_key, path_conds, paths, wanted}
+use Rattle.catalog.specs.Path.{columns_beside_key, paths, wanted}
 use Rattle.catalog.specs.Split.{Tree}
 use Rattle.catalog.specs.Valid.{IsValid}
 use Rattle.plan.specs.declared.need.Need.{Need}
 use Rattle.plan.specs.Need.{carried, conds_below, conds_past}
-use Rattle.plan.specs.Stated.{IsMet, IsStated, IsStatedFrom, IsStatedJoined, Meet, Serves}
+use Rattle.plan.specs.Stated.{IsMet, IsStated, IsStatedFrom, IsStatedJoined}
 use Rattle.plan.proofs.CarriedConds.{and_true, below_moved, both, brought_holds, carried_holds, past_moved}
 use Rattle.plan.proofs.Columns.{FoundAt, fits_at, fits_set, get_set_same}
 
@@ -95,8 +95,8 @@ meets types others width col conds need other leaf relation tree cover valid joi
     let fits : FitsKinds others row = fits_set others (old.value ∷ rest) 0 kinds.Int (Int value.0) (subst Fit found met.fits) join.key refl value.2 in
     let Asked : List Cond → Type 0 = λ cs. conds_hold cs row ≡ true in
     let asked : conds_hold other.conds row ≡ true = subst Asked (sym join.joined)
-        (conds_joined (conds_past width conds) (carried col 0 conds) row (past_moved width col value.0 old.value rest stated.row conds value.1 past.0 own.1)
-            (carried_holds width col value.0 rest stated.row conds join.within value.1 own.0)) in
+    (conds_joined (conds_past width conds) (carried col 0 conds) row (past_moved width col value.0 old.value rest stated.row conds value.1 past.0 own.1)
+    (carried_holds width col value.0 rest stated.row conds join.within value.1 own.0)) in
     let among = served_among relation (columns_beside_key others) 1 (paths tree) other.columns row (cover others tree other.columns row valid fits) in
     record {
       other_leaf = among.leaf;
@@ -128,8 +128,8 @@ is_met_by types others width col conds need other leaf relation tree cover valid
     let fits : FitsKinds types row = fits_set types met.row col kinds.Int (Int key.0) met.fits join.column refl key.2 in
     let Asked : List Cond → Type 0 = λ cs. conds_hold cs row ≡ true in
     let asked : conds_hold need.conds row ≡ true = subst Asked (sym join.own)
-        (conds_joined (conds_below width conds) (carried width col conds) row (below_moved width col key.0 old.value met.row rest conds old.there own.0 past.1)
-            (brought_holds width col key.0 row rest conds there past.0)) in
+    (conds_joined (conds_below width conds) (carried width col conds) row (below_moved width col key.0 old.value met.row rest conds old.there own.0 past.1)
+    (brought_holds width col key.0 row rest conds there past.0)) in
     let among = served_among relation (columns_beside_key types) 1 (paths tree) need.columns row (cover types tree need.columns row valid fits) in
     let Key : List Value → Type 0 = λ other_row. slice_get row col ≡ Some (Int (key_of other_row)) in
     record {

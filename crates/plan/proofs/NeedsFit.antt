@@ -1,7 +1,6 @@
 -- The needs of a statement of the schema: their conditions fit the columns of their relations.
-use Rattle.std.proofs.Common.{◌≡◌, ℕ, zero, suc, ◌+◌, ◌-◌, ◌<◌, ◌≤◌, ◌==◌, nat_lt, nat_eq, not, Bool, true, false, cond, List, [], ◌∷◌, ◌++◌, map, filter, length, Option, Some, None, refl, ap, sym, ◌∙◌, subst, arith}
+use Rattle.std.proofs.Common.{◌≡◌, ℕ, zero, suc, ◌-◌, ◌<◌, ◌≤◌, ◌==◌, nat_lt, not, Bool, true, false, cond, List, [], ◌∷◌, ◌++◌, map, filter, length, Some, refl, ap, sym, ◌∙◌, arith}
 use Rattle.std.proofs.lemmas.Bool.Decides.{nat_tests}
-use Rattle.std.proofs.lemmas.List.{append-nil}
 use Rattle.std.specs.List.{AllByRecursion, slice_get}
 use Rattle.terms.specs.declared.cond.Cond.{Cond}
 use Rattle.terms.specs.declared.value.Kind.{Kind}
@@ -49,13 +48,14 @@ all_passed P Q test (c ∷ conds) each all =
 pub own_fit : (types others : List Kind) (width col : ℕ) (conds : List Cond) → width ≡ length types → slice_get types col ≡ Some kinds.Int → slice_get others 0 ≡ Some kinds.Int → AllByRecursion (IsCondOf (types ++ others)) conds → AllByRecursion (IsCondOf types) (conds_below width conds ++ carried width col conds)
 own_fit types others width col conds is_width column key all =
     all_both (IsCondOf types) (conds_below width conds) (carried width col conds)
-        (all_passed (IsCondOf (types ++ others)) (IsCondOf types) (λ c. nat_lt c.col width) conds below all)
-        (all_made (IsCondOf (types ++ others)) (IsCondOf types) (on_column col) (λ c. c.col == width) conds brought all)
+    (all_passed (IsCondOf (types ++ others)) (IsCondOf types) (λ c. nat_lt c.col width) conds below all)
+    (all_made (IsCondOf (types ++ others)) (IsCondOf types) (on_column col) (λ c. c.col == width) conds brought all)
   where
     below : (c : Cond) → nat_lt c.col width ≡ true → IsCondOf (types ++ others) c → IsCondOf types c
     below c is fits =
         let within : c.col < length types = grind (arith, nat_tests) in
         record { column = sym (get_front types others c.col within) ∙ fits.column; constant = fits.constant }
+
     brought : (c : Cond) → (c.col == width) ≡ true → IsCondOf (types ++ others) c → IsCondOf types (on_column col c)
     brought c is fits =
         let past : length types ≤ c.col = grind (arith, nat_tests) in
@@ -66,14 +66,15 @@ own_fit types others width col conds is_width column key all =
 pub joined_fit : (types others : List Kind) (width col : ℕ) (conds : List Cond) → width ≡ length types → col < width → slice_get types col ≡ Some kinds.Int → slice_get others 0 ≡ Some kinds.Int → AllByRecursion (IsCondOf (types ++ others)) conds → AllByRecursion (IsCondOf others) (conds_past width conds ++ carried col 0 conds)
 joined_fit types others width col conds is_width within column key all =
     all_both (IsCondOf others) (conds_past width conds) (carried col 0 conds)
-        (all_made (IsCondOf (types ++ others)) (IsCondOf others) (λ c. on_column (c.col - width) c) (λ c. not (nat_lt c.col width)) conds past all)
-        (all_made (IsCondOf (types ++ others)) (IsCondOf others) (on_column 0) (λ c. c.col == col) conds carries all)
+    (all_made (IsCondOf (types ++ others)) (IsCondOf others) (λ c. on_column (c.col - width) c) (λ c. not (nat_lt c.col width)) conds past all)
+    (all_made (IsCondOf (types ++ others)) (IsCondOf others) (on_column 0) (λ c. c.col == col) conds carries all)
   where
     past : (c : Cond) → not (nat_lt c.col width) ≡ true → IsCondOf (types ++ others) c → IsCondOf others (on_column (c.col - width) c)
     past c is fits =
         let beyond : length types ≤ c.col = grind (arith, nat_tests) in
         let at : c.col - width ≡ c.col - length types = ap (λ w. c.col - w) is_width in
         record { column = ap (slice_get others) at ∙ sym (get_past types others c.col beyond) ∙ fits.column; constant = fits.constant }
+
     carries : (c : Cond) → (c.col == col) ≡ true → IsCondOf (types ++ others) c → IsCondOf others (on_column 0 c)
     carries c is fits =
         let here : col ≡ c.col = grind (arith, nat_tests) in

@@ -1,5 +1,5 @@
 -- The plan of one need has at each key what is to be found there.
-use Rattle.std.proofs.Common.{◌≡◌, ℕ, zero, suc, ℤ, ◌+◌, ◌<◌, ◌≤◌, ◌≢◌, Bool, true, false, cond, ◌&&◌, ◌||◌, ◌==◌, List, [], ◌∷◌, ◌++◌, length, map, Option, Some, None, option_and_then, refl, ap, sym, ◌∙◌, arith}
+use Rattle.std.proofs.Common.{◌≡◌, ℕ, zero, suc, ℤ, ◌+◌, ◌<◌, ◌≤◌, ◌≢◌, Bool, true, false, ◌||◌, ◌==◌, List, [], ◌∷◌, ◌++◌, Option, Some, None, option_and_then, refl, ap, ◌∙◌, arith}
 use Rattle.std.specs.List.{AllByRecursion, range_with_len}
 use Rattle.std.proofs.lemmas.Bool.Decides.{nat_tests}
 use Rattle.terms.specs.declared.cond.Cond.{Cond}
@@ -12,14 +12,13 @@ use Rattle.catalog.specs.declared.fragment_leaf.FragmentLeaf.{FragmentLeaf}
 use Rattle.catalog.specs.Counts.{has}
 use Rattle.catalog.specs.Cover.{OneServes, SomeServes}
 use Rattle.catalog.specs.Keyed.{row_at}
-use Rattle.catalog.specs.Path.{wanted}
 use Rattle.catalog.specs.Split.{Tree}
 use Rattle.plan.specs.declared.need.Need.{Need}
 use Rattle.plan.specs.Found.{found_of}
 use Rattle.plan.specs.Located.{by_columns}
 use Rattle.plan.specs.Need.{columns_of, places_to}
 use Rattle.plan.specs.Reduced.{reduced}
-use Rattle.plan.specs.Rows.{Seen, is_seen, kept, rows, seen_of}
+use Rattle.plan.specs.Rows.{kept, rows, seen_of}
 use Rattle.plan.specs.Shape.{Filter}
 use Rattle.plan.specs.Stated.{IsStated}
 use Rattle.plan.proofs.Covered.{or_second}
@@ -35,9 +34,10 @@ AreMarked Stated marked leaves = AllByRecursion (λ leaf. Stated leaf → marked
 pub marked_for : (kinds : List Kind) (need : Need) (marked : Leaf → Bool) (row : List Value) (leaves : List FragmentLeaf) → FitsKinds kinds row → conds_hold need.conds row ≡ true →
     AreMarked (IsStated kinds need) marked leaves → AllByRecursion (IsMarkedFor marked need row) leaves
 marked_for kinds need marked row [] fits asked marks = tt
-marked_for kinds need marked row (leaf ∷ leaves) fits asked marks =
-    (λ want holds. marks.0 (record { row = row; serves = record { is_wanted = want; fits = fits; holds = conds_joined leaf.conds need.conds row holds asked } }),
-     marked_for kinds need marked row leaves fits asked marks.1)
+marked_for kinds need marked row (leaf ∷ leaves) fits asked marks = (
+  λ want holds. marks.0 (record { row = row; serves = record { is_wanted = want; fits = fits; holds = conds_joined leaf.conds need.conds row holds asked } }),
+  marked_for kinds need marked row leaves fits asked marks.1,
+)
 
 pub one_found : (kinds : List Kind) (tree : Tree) (need : Need) (relation : List ℕ) (marked : Leaf → Bool) (contents : Leaf → List (List Value)) (all : List (List Value)) (key : ℤ) → SomeServes → OneServes →
     IsSide kinds tree need relation marked contents all → AreSeen need.columns need.conds → AreMarked (IsStated kinds need) marked (side_leaves kinds tree relation) →
@@ -51,8 +51,8 @@ one_found kinds tree need relation marked contents all key cover one s seen mark
         let there = covered_all need (gives_row marked need row) leaves need.columns in
         ap (kept need.conds) (side_row kinds tree need relation marked contents all key row s is)
         ∙ kept_one need.conds (seen_of need.columns row) there (conds_hold need.conds row) (seen_conds need.columns need.conds row seen)
-            (λ asked. side_there kinds tree need relation marked contents all key row cover one s is asked
-                (marked_for kinds need marked row leaves (all_at (FitsKinds kinds) key all row s.whole.fit is) asked marks))
+        (λ asked. side_there kinds tree need relation marked contents all key row cover one s is asked
+        (marked_for kinds need marked row leaves (all_at (FitsKinds kinds) key all row s.whole.fit is) asked marks))
 
 -- which columns are seen
 has_behind : (front columns : List ℕ) (col : ℕ) → has columns col ≡ true → has (front ++ columns) col ≡ true

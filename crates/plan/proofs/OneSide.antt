@@ -1,6 +1,6 @@
 -- The rows of one need at a key: the relation's row, in the needed columns, at the latest where the need's conditions hold of it.
-use Rattle.std.proofs.Common.{◌≡◌, ℕ, suc, ℤ, ◌<◌, Bool, true, false, cond, ◌&&◌, ◌||◌, ◌==◌, List, [], ◌∷◌, length, find, Option, Some, None, option_and_then, refl, ap, sym, ◌∙◌, subst}
-use Rattle.std.specs.List.{AllByRecursion, list_all, slice_get}
+use Rattle.std.proofs.Common.{◌≡◌, ℕ, ℤ, ◌<◌, Bool, true, false, cond, ◌&&◌, List, [], ◌∷◌, length, Option, Some, None, refl, ap, ◌∙◌, subst}
+use Rattle.std.specs.List.{AllByRecursion, slice_get}
 use Rattle.std.specs.Ordering.{int_eq}
 use Rattle.terms.specs.declared.cond.Cond.{Cond}
 use Rattle.terms.specs.declared.leaf.Leaf.{Leaf}
@@ -8,9 +8,8 @@ use Rattle.terms.specs.declared.value.Kind.{Kind}
 use Rattle.terms.specs.declared.value.Value.{Value}
 use Rattle.terms.specs.Cond.{cond_holds, conds_hold, holds_of}
 use Rattle.terms.specs.Row.{FitsKinds, key_of}
-use Rattle.meaning.specs.Relation.{Ascends, IsRelation}
+use Rattle.meaning.specs.Relation.{IsRelation}
 use Rattle.catalog.specs.declared.fragment_leaf.FragmentLeaf.{FragmentLeaf}
-use Rattle.catalog.specs.Counts.{has}
 use Rattle.catalog.specs.Cover.{OneServes, SomeServes}
 use Rattle.catalog.specs.FragmentLeaf.{leaves_from}
 use Rattle.catalog.specs.Keyed.{row_at}
@@ -21,11 +20,10 @@ use Rattle.meaning.specs.Listed.{listed}
 use Rattle.plan.specs.declared.need.Need.{Need}
 use Rattle.plan.specs.Fetch.{placed}
 use Rattle.plan.specs.Located.{by_columns}
-use Rattle.plan.specs.Need.{columns_of}
 use Rattle.plan.specs.Reduced.{reduced}
 use Rattle.plan.specs.Rows.{Seen, is_seen, kept, rows, seen_meets, seen_of}
-use Rattle.plan.proofs.CarriedConds.{and_true, both}
-use Rattle.plan.proofs.Covered.{GivesWanted, covered_columns, each_is_one, none_covered_all, or_second}
+use Rattle.plan.proofs.CarriedConds.{and_true}
+use Rattle.plan.proofs.Covered.{GivesWanted, covered_columns, each_is_one, none_covered_all}
 use Rattle.plan.proofs.LeafReads.{GivesLeaf, gives_row, leaves_read, no_leaves_read}
 use Rattle.plan.proofs.PartsSeen.{IsThere, all_there, placed_holds}
 use Rattle.plan.proofs.RowsOf.{columns_row, covered_all, one_seen}
@@ -64,7 +62,7 @@ side_row kinds tree need relation marked contents all key row s at =
     let fits = all_at (FitsKinds kinds) key all row s.whole.fit at in
     let leaves = side_leaves kinds tree relation in
     columns_row marked contents key need row (gives_row marked need row) leaves need.columns
-        (leaves_read marked contents key need all row relation (columns_beside_key kinds) 1 (paths tree) s.whole.ascends at (leaves_there kinds row leaves fits s.columns) s.given)
+    (leaves_read marked contents key need all row relation (columns_beside_key kinds) 1 (paths tree) s.whole.ascends at (leaves_there kinds row leaves fits s.columns) s.given)
 
 -- and with none
 pub side_none : (kinds : List Kind) (tree : Tree) (need : Need) (relation : List ℕ) (marked : Leaf → Bool) (contents : Leaf → List (List Value)) (all : List (List Value)) (key : ℤ) →
@@ -81,12 +79,13 @@ IsMarkedFor marked need row leaf = wanted need.columns leaf.steps ≡ true → c
 given_wanted : (kinds : List Kind) (need : Need) (marked : Leaf → Bool) (row : List Value) (leaves : List FragmentLeaf) → FitsKinds kinds row → conds_hold need.conds row ≡ true →
     AllByRecursion (λ leaf. AllByRecursion (λ col. col < length kinds) leaf.columns) leaves → AllByRecursion (IsMarkedFor marked need row) leaves → AllByRecursion (GivesWanted need row (gives_row marked need row)) leaves
 given_wanted kinds need marked row [] fits asked columns marks = tt
-given_wanted kinds need marked row (leaf ∷ leaves) fits asked columns marks =
-    (λ want holds.
-        and_true (marked leaf.name) (conds_hold leaf.conds row && conds_hold (placed leaf.columns need.conds) (listed leaf.columns row)) (marks.0 want holds)
-            (and_true (conds_hold leaf.conds row) (conds_hold (placed leaf.columns need.conds) (listed leaf.columns row)) holds
-                (placed_holds leaf.columns need.conds row (all_there kinds row leaf.columns fits columns.0) asked)),
-     given_wanted kinds need marked row leaves fits asked columns.1 marks.1)
+given_wanted kinds need marked row (leaf ∷ leaves) fits asked columns marks = (
+  λ want holds.
+      and_true (marked leaf.name) (conds_hold leaf.conds row && conds_hold (placed leaf.columns need.conds) (listed leaf.columns row)) (marks.0 want holds)
+      (and_true (conds_hold leaf.conds row) (conds_hold (placed leaf.columns need.conds) (listed leaf.columns row)) holds
+      (placed_holds leaf.columns need.conds row (all_there kinds row leaf.columns fits columns.0) asked)),
+  given_wanted kinds need marked row leaves fits asked columns.1 marks.1,
+)
 
 -- where the need's conditions hold of the row, it is there
 pub side_there : (kinds : List Kind) (tree : Tree) (need : Need) (relation : List ℕ) (marked : Leaf → Bool) (contents : Leaf → List (List Value)) (all : List (List Value)) (key : ℤ) (row : List Value) → SomeServes → OneServes →
@@ -95,7 +94,7 @@ pub side_there : (kinds : List Kind) (tree : Tree) (need : Need) (relation : Lis
 side_there kinds tree need relation marked contents all key row cover one s at asked marks =
     let fits = all_at (FitsKinds kinds) key all row s.whole.fit at in
     covered_columns kinds tree need row (gives_row marked need row) relation need.columns cover one s.valid fits (each_is_one need.columns) s.needed
-        (given_wanted kinds need marked row (side_leaves kinds tree relation) fits asked s.columns marks)
+    (given_wanted kinds need marked row (side_leaves kinds tree relation) fits asked s.columns marks)
 
 -- conditions on columns that are seen ask the same of what is seen
 abbrev pub AreSeen : List ℕ → List Cond → Type 0

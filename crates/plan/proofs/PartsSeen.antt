@@ -1,6 +1,6 @@
 -- What a leaf's part of a row shows: the row's values in the leaf's columns, and of them the conditions that were carried.
-use Rattle.std.proofs.Common.{◌≡◌, ℕ, zero, suc, ◌+◌, ◌<◌, Bool, true, false, cond, ◌&&◌, ◌||◌, ◌==◌, List, [], ◌∷◌, length, Option, Some, None, option_map, option_and_then, refl, ap, ap₂, sym, ◌∙◌, subst, arith}
-use Rattle.std.specs.List.{AllByRecursion, cons_option, filter_map, list_all, list_any, slice_get}
+use Rattle.std.proofs.Common.{◌≡◌, ℕ, zero, suc, ◌<◌, Bool, true, false, cond, ◌||◌, ◌==◌, List, [], ◌∷◌, length, Option, Some, None, option_map, option_and_then, refl, ap, sym, ◌∙◌, subst, arith}
+use Rattle.std.specs.List.{AllByRecursion, cons_option, slice_get}
 use Rattle.std.proofs.Math.Path.{fun_ext}
 use Rattle.std.proofs.lemmas.Bool.Decides.{nat_tests}
 use Rattle.terms.specs.declared.cond.Cond.{Cond}
@@ -12,7 +12,7 @@ use Rattle.meaning.specs.Listed.{listed}
 use Rattle.catalog.specs.Counts.{has}
 use Rattle.plan.specs.Fetch.{place_in, placed}
 use Rattle.plan.specs.Need.{on_column}
-use Rattle.plan.specs.Rows.{Seen, seen_of, seen_part, is_seen}
+use Rattle.plan.specs.Rows.{seen_of, seen_part}
 use Rattle.plan.proofs.CarriedConds.{and_true, both}
 
 -- a row has a value in a column

@@ -1,5 +1,5 @@
 -- Lemmas on places of columns.
-use Rattle.std.proofs.Common.{◌≡◌, ℕ, zero, suc, ◌+◌, ◌++◌, List, [], ◌∷◌, ap, ◌∙◌, arith}
+use Rattle.std.proofs.Common.{◌≡◌, ℕ, zero, suc, ◌+◌, ◌++◌, [], ◌∷◌, ap, ◌∙◌, arith}
 use Rattle.std.specs.List.{range_with_len}
 
 -- one place more

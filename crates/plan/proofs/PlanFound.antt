@@ -1,5 +1,5 @@
 -- The reduced plan of a statement has at each key what the statement is to find there.
-use Rattle.std.proofs.Common.{◌≡◌, ℕ, ℤ, ◌<◌, Bool, true, List, [], ◌∷◌, ◌++◌, length, append-nil, Option, Some, None, option_and_then, refl, ap, sym, ◌∙◌, subst}
+use Rattle.std.proofs.Common.{◌≡◌, ℕ, ℤ, ◌<◌, List, [], ◌∷◌, ◌++◌, length, append-nil, Option, Some, None, option_and_then, refl, ap, sym, ◌∙◌, subst}
 use Rattle.std.specs.List.{AllByRecursion}
 use Rattle.std.proofs.lemmas.List.{length-map}
 use Rattle.terms.specs.declared.cond.Cond.{Cond}
@@ -52,7 +52,7 @@ all_found catalogue schema source conds fetches contents whole key cover one for
     let Needed : ℕ → Type 0 = λ n. AreBelow n (places_to (length source.columns)) in
     let Below : ℕ → Type 0 = λ n. AllByRecursion (λ c. c.col < n) conds in
     one_need catalogue schema need (is_in catalogue source.name schema formed valid there) fetches contents whole key cover one fit there (subst Needed wide (to_below (length source.columns)))
-        (all_seen (length source.columns) conds (subst Below (sym wide) (conds_below (kinds_of schema) conds fits))) are given
+    (all_seen (length source.columns) conds (subst Below (sym wide) (conds_below (kinds_of schema) conds fits))) are given
 
 pub plan_finds : (catalogue : Catalogue) (statement : Statement) (fetches : List Fetch) → SomeServes → OneServes → IsFormed catalogue → IsValidCatalogue catalogue → IsStatementOf (schemas_of catalogue) statement →
     AreFetchesOf catalogue statement fetches → FindsAll catalogue statement fetches (reduced (is_fetched fetches) (located catalogue statement))
@@ -68,7 +68,7 @@ plan_finds catalogue (statement.Select select) fetches cover one formed valid of
         let Conds : List Kind → Type 0 = λ all. AllByRecursion (IsCondOf all) select.conds in
         let Columns : List Kind → Type 0 = λ all. AreBelow (length all) select.columns in
         one_need catalogue of.relation (need_of_select select) (is_in catalogue select.from.name of.relation formed valid of.there) fetches contents whole key cover one fit of.there
-            (read_below (kinds_of of.relation) select.columns select.conds (subst Columns types of.columns) (subst Conds types of.conds)) (own_seen select.columns select.conds) are given
+        (read_below (kinds_of of.relation) select.columns select.conds (subst Columns types of.columns) (subst Conds types of.conds)) (own_seen select.columns select.conds) are given
     at (Some join) is are given = join_need catalogue select join (sides_of catalogue select join formed valid of is) fetches contents whole key cover one fit are given
 plan_finds catalogue (statement.Insert insert) fetches cover one formed valid of are whole contents key fit given =
     let need : Need = record { relation = insert.into; columns = []; conds = key_is insert.row ∷ [] } in

@@ -4,18 +4,16 @@ use Rattle.std.specs.List.{AllByRecursion, list_all, list_any, slice_get}
 use Rattle.std.specs.Option.{option_or}
 use Rattle.std.proofs.Math.Path.{fun_ext}
 use Rattle.std.proofs.lemmas.Bool.Decides.{nat_tests}
-use Rattle.terms.specs.declared.cond.Cond.{Cond}
 use Rattle.terms.specs.declared.leaf.Leaf.{Leaf}
 use Rattle.terms.specs.declared.value.Value.{Value}
-use Rattle.terms.specs.Cond.{cond_holds, conds_hold, holds_of}
 use Rattle.catalog.specs.declared.fragment_leaf.FragmentLeaf.{FragmentLeaf}
 use Rattle.catalog.specs.Counts.{has}
 use Rattle.catalog.specs.Path.{wanted}
 use Rattle.plan.specs.declared.need.Need.{Need}
 use Rattle.plan.specs.Fetch.{fetch_of}
 use Rattle.plan.specs.Located.{cover, by_columns, reaches}
-use Rattle.plan.specs.Rows.{Seen, seen_of, is_seen, restricted, merged, seen_meets, kept, rows}
-use Rattle.plan.specs.Shape.{Shape, Empty, Fetch, Filter, Project, Union, KeyJoin, Lookup}
+use Rattle.plan.specs.Rows.{Seen, seen_of, is_seen, restricted, merged, rows}
+use Rattle.plan.specs.Shape.{Fetch, Project, Union}
 use Rattle.plan.specs.Reduced.{reduced}
 use Rattle.plan.proofs.CarriedConds.{both}
 
@@ -64,7 +62,7 @@ or_off false b = refl
 merged_seen : (col : ℕ) (columns : List ℕ) (row : List Value) → merged (seen_of (col ∷ []) row) (seen_of columns row) ≡ seen_of (col ∷ columns) row
 merged_seen col columns row =
     fun_ext (λ place. merged_at (place == 0) (has (col ∷ []) place) (has columns place) (slice_get row place)
-      ∙ ap (λ (t : Bool). cond ((place == 0) || t) (slice_get row place) None) (or_off (col == place) (has columns place)))
+    ∙ ap (λ (t : Bool). cond ((place == 0) || t) (slice_get row place) None) (or_off (col == place) (has columns place)))
 
 joined_one : (a b : Bool) (col : ℕ) (columns : List ℕ) (row : List Value) →
     option_and_then (λ seen. option_map (merged seen) (one_seen b columns row)) (one_seen a (col ∷ []) row) ≡ one_seen (a && b) (col ∷ columns) row

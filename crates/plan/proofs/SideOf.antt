@@ -1,11 +1,10 @@
 -- A need of a relation of a catalogue, over a whole database that fits its schema.
-use Rattle.std.proofs.Common.{◌≡◌, ℕ, ℤ, ◌<◌, Bool, true, List, [], ◌∷◌, length, Some, option_and_then, refl, ap, sym, ◌∙◌, subst}
+use Rattle.std.proofs.Common.{◌≡◌, ℕ, ℤ, ◌<◌, Bool, List, [], ◌∷◌, length, Some, option_and_then, ap, ◌∙◌, subst}
 use Rattle.std.specs.List.{AllByRecursion}
 use Rattle.terms.specs.declared.leaf.Leaf.{Leaf}
 use Rattle.terms.specs.declared.value.Kind.{Kind}
 use Rattle.terms.specs.declared.value.Value.{Value}
 use Rattle.meaning.specs.declared.schema.RelationSchema.{RelationSchema}
-use Rattle.meaning.specs.Relation.{IsRelation}
 use Rattle.meaning.specs.Schema.{kinds_of}
 use Rattle.meaning.specs.Schema as meaning
 use Rattle.meaning.specs.Whole.{FitsSchema, Relations, rows_of}
@@ -72,4 +71,4 @@ one_need catalogue schema need found fetches contents whole key cover one fit th
     let marks_here = subst (λ types. Marks types (leaves_at catalogue need.relation schema found)) (kinds_are catalogue need.relation schema found) (subst (λ leaves. Marks (kinds_in catalogue need.relation) leaves) same marks) in
     ap (λ (leaves : List FragmentLeaf). rows (reduced passes (Filter need.conds (by_columns need leaves need.columns))) contents key) same
     ∙ one_found (kinds_of schema) found.relation.tree need found.relation.schema.name passes contents (rows_of whole need.relation) key cover one
-        (side_of catalogue schema need found passes contents whole fit there needed given) seen marks_here
+    (side_of catalogue schema need found passes contents whole fit there needed given) seen marks_here

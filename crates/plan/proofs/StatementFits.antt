@@ -1,16 +1,15 @@
 -- A statement of a catalogue's schema: its needs fit, and the sides of its join are as a join's must be.
-use Rattle.std.proofs.Common.{◌≡◌, ℕ, ◌<◌, List, [], ◌∷◌, ◌++◌, map, length, append-nil, Option, Some, None, refl, ap, sym, ◌∙◌, subst, arith}
+use Rattle.std.proofs.Common.{◌≡◌, ◌<◌, List, [], ◌∷◌, ◌++◌, length, append-nil, Option, Some, None, refl, ap, sym, ◌∙◌, subst}
 use Rattle.std.proofs.lemmas.List.{length-map}
 use Rattle.std.proofs.lemmas.Option.{slice_get_within}
 use Rattle.std.specs.List.{AllByRecursion, slice_get}
-use Rattle.terms.specs.declared.cond.Cond.{Cond}
 use Rattle.terms.specs.declared.value.Kind.{Kind}
 use Rattle.terms.specs.declared.value.Kind.TheVariants as kinds
 use Rattle.terms.specs.declared.value.Value.{Value}
 use Rattle.terms.specs.declared.value.Value.TheVariants.{Int, Text}
 use Rattle.terms.specs.Cond.{IsCondOf}
 use Rattle.terms.specs.Row.{FitsKinds, key_of}
-use Rattle.terms.specs.Value.{Fits, kind_of}
+use Rattle.terms.specs.Value.{Fits}
 use Rattle.meaning.specs.declared.schema.RelationSchema.{RelationSchema}
 use Rattle.meaning.specs.declared.statement.Statement.{Statement}
 use Rattle.meaning.specs.declared.statement.Statement.TheVariants as statement
@@ -22,12 +21,10 @@ use Rattle.meaning.specs.Statement.{IsStatementOf, IsSelectOf, IsJoinOf, MayJoin
 use Rattle.catalog.specs.Catalogue.{Catalogue, IsValidCatalogue}
 use Rattle.catalog.specs.Formed.{IsFormed}
 use Rattle.catalog.specs.FragmentLeaf.{schemas_of}
-use Rattle.plan.specs.declared.need.Need.{Need}
 use Rattle.plan.specs.declared.need.Needs.{Needs}
 use Rattle.plan.specs.declared.need.Needs.TheVariants.{One, Joined}
 use Rattle.plan.specs.Need.{key_is, need_from, need_joined, needs, needs_of_select}
 use Rattle.plan.specs.Stated.{kinds_in}
-use Rattle.plan.proofs.Columns.{fits_at}
 use Rattle.plan.proofs.InCatalogue.{IsIn, is_in, kinds_are}
 use Rattle.plan.proofs.Meeting.{IsJoin}
 use Rattle.plan.proofs.NeedsFit.{own_fit, joined_fit}
@@ -78,9 +75,10 @@ pub sides_fit : (catalogue : Catalogue) (select : Select) (join : Join) → Side
 sides_fit catalogue select join s =
     let within : join.col < length select.from.columns = rw (s.width) (slice_get_within (kinds_of s.from) join.col kinds.Int s.column) in
     let Own : List Kind → Type 0 = λ types. AllByRecursion (IsCondOf types) (need_from select join).conds in
-    let There : List Kind → Type 0 = λ types. AllByRecursion (IsCondOf types) (need_joined select join).conds in
-    (subst Own (sym (kinds_are catalogue select.from.name s.from s.from_is)) (own_fit (kinds_of s.from) (kinds_of s.other) (length select.from.columns) join.col select.conds s.width s.column s.key s.conds),
-     subst There (sym (kinds_are catalogue join.relation.name s.other s.other_is)) (joined_fit (kinds_of s.from) (kinds_of s.other) (length select.from.columns) join.col select.conds s.width within s.column s.key s.conds))
+    let There : List Kind → Type 0 = λ types. AllByRecursion (IsCondOf types) (need_joined select join).conds in (
+      subst Own (sym (kinds_are catalogue select.from.name s.from s.from_is)) (own_fit (kinds_of s.from) (kinds_of s.other) (length select.from.columns) join.col select.conds s.width s.column s.key s.conds),
+      subst There (sym (kinds_are catalogue join.relation.name s.other s.other_is)) (joined_fit (kinds_of s.from) (kinds_of s.other) (length select.from.columns) join.col select.conds s.width within s.column s.key s.conds),
+    )
 
 pub sides_join : (catalogue : Catalogue) (select : Select) (join : Join) (s : Sides catalogue select join) → IsJoin (kinds_of s.from) (kinds_of s.other) (length select.from.columns) join.col select.conds (need_from select join) (need_joined select join)
 sides_join catalogue select join s = record {

@@ -1,5 +1,5 @@
 -- What a statement needs of each of its relations: columns, and conditions on them.
-use Rattle.std.specs.Prelude.{ℕ, ◌==◌, ◌-◌, nat_lt, not, pos, List, [], ◌∷◌, ◌++◌, Option, Some, None, map, filter, length}
+use Rattle.std.specs.Prelude.{ℕ, ◌==◌, ◌-◌, nat_lt, not, List, [], ◌∷◌, ◌++◌, Option, Some, None, map, filter, length}
 use Rattle.std.specs.List.{range_with_len}
 use Rattle.terms.specs.declared.cond.Cond.{Cond}
 use Rattle.terms.specs.declared.cond.Cmp.TheVariants.{Eq}

@@ -1,5 +1,5 @@
 -- What plans mean: rows over named columns, by their keys.
-use Rattle.std.specs.Prelude.{ℕ, ℤ, ◌-◌, ◌==◌, ◌||◌, nat_lt, Bool, if◌then◌else◌, List, [], Option, Some, None, filter, option_map, option_and_then}
+use Rattle.std.specs.Prelude.{ℕ, ℤ, ◌-◌, ◌==◌, ◌||◌, nat_lt, Bool, if◌then◌else◌, List, Option, Some, None, filter, option_map, option_and_then}
 use Rattle.std.specs.List.{list_all, slice_get}
 use Rattle.std.specs.Option.{option_or}
 use Rattle.terms.specs.declared.cond.Cond.{Cond}

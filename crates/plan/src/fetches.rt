@@ -70,12 +70,7 @@ fn sides(
 }
 
 /// The fetches of one side of a join: none where the conditions on the other side can't be met.
-fn side(
-    alloc: Global,
-    catalog: &Catalog,
-    need: &Need,
-    other: &Need,
-) -> Result<Vec<Fetch>, Memory>
+fn side(alloc: Global, catalog: &Catalog, need: &Need, other: &Need) -> Result<Vec<Fetch>, Memory>
     requires need { AllByRecursion (IsCondOf (kinds_in (catalogue_of catalog.now) need.now.relation)) need.now.conds }
     requires other { AllByRecursion (IsCondOf (kinds_in (catalogue_of catalog.now) other.now.relation)) other.now.conds }
     ensures { IfOk result (λ fetches. AreSideFetches (catalogue_of catalog.now) need.now other.now fetches.items) }

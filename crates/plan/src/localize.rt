@@ -96,10 +96,7 @@ fn by_columns(
     };
     let one = cover(alloc, need, &[*first], leaves)?;
     let others = by_columns(alloc, need, leaves, rest)?;
-    Ok(Plan::KeyJoin(
-        Box::new(alloc, one)?,
-        Box::new(alloc, others)?,
-    ))
+    Ok(Plan::KeyJoin(Box::new(alloc, one)?, Box::new(alloc, others)?))
 }
 
 /// The union of the wanted leaves that have these columns, cut to them.
@@ -121,10 +118,7 @@ fn cover(
     let read = Plan::Fetch(fetch_of(alloc, need, leaf)?);
     let columns = Seq::new(copy_all(alloc, columns)?);
     let cut = Plan::Project(columns, Box::new(alloc, read)?);
-    Ok(Plan::Union(
-        Box::new(alloc, cut)?,
-        Box::new(alloc, others)?,
-    ))
+    Ok(Plan::Union(Box::new(alloc, cut)?, Box::new(alloc, others)?))
 }
 
 /// Whether a leaf is wanted for a need and has these columns.

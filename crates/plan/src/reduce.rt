@@ -1,7 +1,6 @@
 //! Plans without the reads of leaves that a statement can't need.
 
 ghost use Rattle.std.specs.Prelude.{◌≡◌, ℤ, List, IfOk};
-
 ghost use Rattle.terms.specs.declared.value.Value.{Value};
 ghost use Rattle.meaning.specs.Statement.{IsStatementOf};
 ghost use Rattle.catalog.specs.FragmentLeaf.{schemas_of};
@@ -51,6 +50,13 @@ pub fn reduce(
     let fetches = statement_fetches(alloc, catalog, statement)?;
     let plan = pruned(alloc, plan, fetches.as_slice())?;
     Ok(Reduced { plan, fetches })
+}
+
+/// The fetches of a reduced plan.
+pub fn fetches(reduced: &Reduced) -> &[Fetch]
+    ensures { result.now ≡ reduced.now.fetches.items }
+{
+    reduced.fetches.as_slice()
 }
 
 /// The plan with the reads of other leaves emptied.

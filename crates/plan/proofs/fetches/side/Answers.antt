@@ -18,7 +18,7 @@ returns-then-not-branch c =
     let conds_is : c.in_ok-conds.conds.items ≡ other.conds = search rules in
     let Met : List Kind → List Cond → Type 0 = λ kinds conds. IsMet kinds conds → ⊥ in
     let none : IsMet (kinds_in catalogue other.relation) other.conds → ⊥ =
-        subst (λ conds. Met (kinds_in catalogue other.relation) conds) conds_is (subst (λ kinds. Met kinds c.in_ok-conds.conds.items) kinds_is (c.in_ok-is_met.ensures.none (search rules))) in
+    subst (λ conds. Met (kinds_in catalogue other.relation) conds) conds_is (subst (λ kinds. Met kinds c.in_ok-conds.conds.items) kinds_is (c.in_ok-is_met.ensures.none (search rules))) in
     let P : List Fetch → Type 0 = λ fetches. AreSideFetches catalogue need other fetches in
     subst P (sym c.new.ensures.items) (none_stated (λ leaf. IsStated (kinds_in catalogue need.relation) need leaf × IsMet (kinds_in catalogue other.relation) other.conds) need (λ leaf h. none h.1) (leaves_of catalogue need.relation))
 
@@ -31,5 +31,5 @@ returns c =
     let conds_is : c.in_ok-conds.conds.items ≡ other.conds = search rules in
     let Met : List Kind → List Cond → Type 0 = λ kinds conds. IsMet kinds conds in
     let met : IsMet (kinds_in catalogue other.relation) other.conds =
-        subst (λ conds. Met (kinds_in catalogue other.relation) conds) conds_is (subst (λ kinds. Met kinds c.in_ok-conds.conds.items) kinds_is (c.in_ok-is_met.ensures.met (search rules))) in
+    subst (λ conds. Met (kinds_in catalogue other.relation) conds) conds_is (subst (λ kinds. Met kinds c.in_ok-conds.conds.items) kinds_is (c.in_ok-is_met.ensures.met (search rules))) in
     with_met catalogue need other c.need_fetches.result met c.need_fetches.ensures

@@ -1,10 +1,7 @@
 -- Why `fetches::statement_fetches` meets its contract.
-use Rattle.std.proofs.Common.{◌≡◌, ◌∙◌, List, sym, subst, IfOk}
-use Rattle.std.proofs.lemmas.Result.{IfOk-weaker}
+use Rattle.std.proofs.Common.{◌∙◌, sym, subst}
 use Rattle.catalog.specs.Relation.{catalogue_of}
-use Rattle.plan.specs.declared.fetch.Fetch.{Fetch}
 use Rattle.plan.specs.declared.need.Needs.{Needs}
-use Rattle.plan.specs.Need.{needs}
 use Rattle.plan.proofs.JoinStated.{join_result}
 use Rattle.plan.proofs.StatementFits.{NeedsFit, needs_fit}
 use Rattle.plan.proofs.fetches.statement_fetches.Goals as goal
@@ -30,4 +27,4 @@ sides-requires-clause-second c =
 pub returns-in-Joined : goal.returns-in-Joined
 returns-in-Joined c =
     join_result c.some_leaf_serves.ensures.whole (catalogue_of c.args.catalog.now) c.args.statement.now c.in-Joined.col c.in-Joined.first c.in-Joined.second c.sides.result
-        c.relations-relations.ensures.formed c.relations-relations.ensures.valid c.requires (sym c.in-Joined.is ∙ c.in_ok-need.ensures) c.sides.ensures
+    c.relations-relations.ensures.formed c.relations-relations.ensures.valid c.requires (sym c.in-Joined.is ∙ c.in_ok-need.ensures) c.sides.ensures

@@ -1,5 +1,5 @@
 -- Why `need::need_of_all` meets its contract.
-use Rattle.std.proofs.Common.{◌≡◌, ◌++◌, ◌∷◌, [], ap, sym, ◌∙◌}
+use Rattle.std.proofs.Common.{◌++◌, ◌∷◌, [], ap, sym, ◌∙◌}
 use Rattle.plan.proofs.Places.{places_more}
 use Rattle.plan.proofs.need.need_of_all.Goals as goal
 

@@ -15,4 +15,4 @@ returns-clause-rows c = λ whole contents key fit given.
     let is : shape c.in_ok-plan.plan ≡ reduced (is_fetched fetches) (located catalogue c.args.statement.now) = search rules in
     ap (λ (plan : Shape). rows plan contents key) is
     ∙ plan_finds catalogue c.args.statement.now fetches c.some_leaf_serves.ensures.whole c.one_leaf_serves.ensures.whole c.relations-relations.ensures.formed c.relations-relations.ensures.valid c.requires.statement
-        c.in_ok-fetches.ensures whole contents key fit given
+    c.in_ok-fetches.ensures whole contents key fit given
