@@ -61,7 +61,7 @@ pub record IsJoin (types others : List Kind) (width col : ℕ) (conds : List Con
   pub joined : other.conds ≡ conds_past width conds ++ carried col 0 conds
 
 -- an integer in a column
-integer : (row : List Value) (col : ℕ) (found : FoundAt row col kinds.Int) → (n : ℤ) × (slice_get row col ≡ Some (Int n)) × Fits (Int n)
+pub integer : (row : List Value) (col : ℕ) (found : FoundAt row col kinds.Int) → (n : ℤ) × (slice_get row col ≡ Some (Int n)) × Fits (Int n)
 integer row col found = of found.value found.there found.of found.good
   where
     of : (value : Value) → slice_get row col ≡ Some value → kind_of value ≡ kinds.Int → Fits value → (n : ℤ) × (slice_get row col ≡ Some (Int n)) × Fits (Int n)
@@ -69,11 +69,11 @@ integer row col found = of found.value found.there found.of found.good
     of (Text bytes) there is good = absurd (cc)
 
 -- the values after the first of a row that has one
-abbrev rest_of : List Value → List Value
+abbrev pub rest_of : List Value → List Value
 rest_of [] = []
 rest_of (value ∷ row) = row
 
-first_of : (row : List Value) (value : Value) → slice_get row 0 ≡ Some value → row ≡ value ∷ rest_of row
+pub first_of : (row : List Value) (value : Value) → slice_get row 0 ≡ Some value → row ≡ value ∷ rest_of row
 first_of [] value there = absurd (cc)
 first_of (first ∷ row) value there = let same : first ≡ value = cc in ap (λ v. v ∷ row) same
 

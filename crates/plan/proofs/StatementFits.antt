@@ -15,6 +15,7 @@ use Rattle.meaning.specs.declared.statement.Statement.{Statement}
 use Rattle.meaning.specs.declared.statement.Statement.TheVariants as statement
 use Rattle.meaning.specs.declared.statement.Select.{Select}
 use Rattle.meaning.specs.declared.statement.Join.{Join}
+use Rattle.meaning.specs.Schema as meaning
 use Rattle.meaning.specs.Schema.{kinds_of}
 use Rattle.meaning.specs.Statement.{IsStatementOf, IsSelectOf, IsJoinOf, MayJoin}
 use Rattle.catalog.specs.Catalogue.{Catalogue, IsValidCatalogue}
@@ -44,6 +45,9 @@ pub record Sides (catalogue : Catalogue) (select : Select) (join : Join) : Type 
   pub column : slice_get (kinds_of from) join.col ≡ Some kinds.Int
   pub key : slice_get (kinds_of other) 0 ≡ Some kinds.Int
   pub conds : AllByRecursion (IsCondOf (kinds_of from ++ kinds_of other)) select.conds
+  pub columns : AllByRecursion (λ place. place < length (kinds_of from ++ kinds_of other)) select.columns
+  pub from_there : meaning.relation_named select.from.name (schemas_of catalogue) ≡ Some from
+  pub other_there : meaning.relation_named join.relation.name (schemas_of catalogue) ≡ Some other
 
 pub sides_of : (catalogue : Catalogue) (select : Select) (join : Join) → IsFormed catalogue → IsValidCatalogue catalogue → IsSelectOf (schemas_of catalogue) select → select.join ≡ Some join → Sides catalogue select join
 sides_of catalogue select join formed valid of is_join =
@@ -51,6 +55,7 @@ sides_of catalogue select join formed valid of is_join =
     let joins : IsJoinOf (schemas_of catalogue) of.relation join of.joined = subst Joins is_join of.joins in
     let Conds : List Kind → Type 0 = λ types. AllByRecursion (IsCondOf (kinds_of of.relation ++ types)) select.conds in
     let Key : List Kind → Type 0 = λ types. slice_get types 0 ≡ Some kinds.Int in
+    let Columns : List Kind → Type 0 = λ types. AllByRecursion (λ place. place < length (kinds_of of.relation ++ types)) select.columns in
     record {
       from = of.relation;
       other = joins.other;
@@ -60,6 +65,9 @@ sides_of catalogue select join formed valid of is_join =
       column = joins.column;
       key = subst Key joins.types joins.key;
       conds = subst Conds joins.types of.conds;
+      columns = subst Columns joins.types of.columns;
+      from_there = of.there;
+      other_there = joins.there;
     }
 
 -- both sides fit, and are as a join's must be

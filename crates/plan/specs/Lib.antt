@@ -3,3 +3,8 @@ pub mod Need
 pub mod Fetch
 pub mod Stated
 pub mod Side
+pub mod Shape
+pub mod Rows
+pub mod Located
+pub mod Found
+pub mod Reduced

@@ -7,5 +7,8 @@
 
 pub mod fetch;
 pub mod fetches;
+pub mod localize;
 pub mod need;
+pub mod plan;
+pub mod reduce;
 pub mod stated;
