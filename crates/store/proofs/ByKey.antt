@@ -1,5 +1,5 @@
 -- Conditions that ask for one key find what stands at that key.
-use Rattle.std.proofs.Common.{◌≡◌, ℤ, List, [], ◌∷◌, Bool, true, false, cond, T, Option, Some, None, IfSome, unwrap_or, option_to_list, map, refl, ap, sym, ◌∙◌, subst}
+use Rattle.std.proofs.Common.{◌≡◌, ℤ, List, [], ◌∷◌, true, false, cond, T, Option, Some, None, IfSome, unwrap_or, option_to_list, map, refl, ap, sym, ◌∙◌, subst}
 use Rattle.std.specs.Cmp.{int_cmp_total, tied_itself}
 use Rattle.std.specs.FinMap as fin
 use Rattle.std.specs.FinMap.Entries.{below_all}
@@ -65,9 +65,10 @@ module _ (conds : List Cond) (key : ℤ) (ask : AskKey conds key) where
 -- each entry of a keyed content has its key
 keyed_pairs : (pairs : List (ℤ × List Value)) → T (fin.is_sorted int_cmp pairs) → ((key : ℤ) → IfSome (fin.find int_cmp key pairs) (λ part. key_of part ≡ key)) → AllByRecursion (λ pair. key_of pair.1 ≡ pair.0) pairs
 keyed_pairs [] sorted keyed = tt
-keyed_pairs (pair ∷ pairs) sorted keyed =
-    (subst (λ r. IfSome (cond (is_eq r) (Some pair.1) (fin.find int_cmp pair.0 pairs)) (λ part. key_of part ≡ pair.0)) (tied_itself int_cmp_total pair.0) (keyed pair.0),
-    keyed_pairs pairs (and_right _ _ sorted) later)
+keyed_pairs (pair ∷ pairs) sorted keyed = (
+  subst (λ r. IfSome (cond (is_eq r) (Some pair.1) (fin.find int_cmp pair.0 pairs)) (λ part. key_of part ≡ pair.0)) (tied_itself int_cmp_total pair.0) (keyed pair.0),
+  keyed_pairs pairs (and_right _ _ sorted) later,
+)
   where
     later : (key : ℤ) → IfSome (fin.find int_cmp key pairs) (λ part. key_of part ≡ key)
     later key =

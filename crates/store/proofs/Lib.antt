@@ -6,3 +6,4 @@ pub mod Scans
 pub mod RowLists
 pub mod Changing
 pub mod ByKey
+pub mod Near

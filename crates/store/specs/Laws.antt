@@ -1,5 +1,5 @@
 -- What holds of contents and changes, whatever keeps them.
-use Rattle.std.specs.Prelude.{◌≡◌, ℤ, Bool, true, false, ◌||◌, List, Option, if◌then◌else◌, unwrap_or, option_to_list}
+use Rattle.std.specs.Prelude.{◌≡◌, ℤ, true, false, ◌||◌, List, Option, if◌then◌else◌, unwrap_or, option_to_list}
 use Rattle.std.specs.FinMap as map
 use Rattle.std.specs.List.{filter}
 use Rattle.terms.specs.declared.cond.Cond.{Cond}

@@ -1,6 +1,6 @@
 //! The map that holds changes, slot by slot.
 
-ghost use Rattle.std.specs.Prelude.{◌≡◌, ◌++◌, [], IfOk, OnOk, IsSome, false, if◌then◌else◌, unwrap_or, option_to_list};
+ghost use Rattle.std.specs.Prelude.{◌≡◌, ◌<◌, ◌+◌, ◌^◌, ◌++◌, [], IfOk, OnOk, IsSome, false, if◌then◌else◌, unwrap_or, option_to_list};
 ghost use Rattle.store.specs.declared.slot.Slot.{Slot as Place};
 ghost use Rattle.std.specs.BTreeMap.{is_at, keys, IsOrdered};
 ghost use Rattle.std.specs.List.{list_any};
@@ -105,12 +105,56 @@ pub(crate) fn list_parts(alloc: Global, slots: &Slots, leaf: &Leaf) -> Result<Ve
     ensures parts { IfOk result (λ parts. parts.items ≡ parts_of leaf.now slots.now.entries) }
     ensures ordered { IsOrdered slot_cmp slots.now }
 {
+    if leaf.number == 0 {
+        return list_all(alloc, slots, leaf);
+    }
+    if leaf.number == usize::MAX {
+        return list_all(alloc, slots, leaf);
+    }
+    list_near(alloc, slots, leaf)
+}
+
+/// The parts of a leaf, among all slots.
+fn list_all(alloc: Global, slots: &Slots, leaf: &Leaf) -> Result<Vec<Part>, Memory>
+    ensures parts { IfOk result (λ parts. parts.items ≡ parts_of leaf.now slots.now.entries) }
+    ensures ordered { IsOrdered slot_cmp slots.now }
+{
     let mut parts = Vec::new(alloc);
     let _count = slots.len();
     for (slot, part) in slots {
         push_part(&mut parts, leaf, slot, part)?;
     }
     Ok(parts)
+}
+
+/// The parts of a leaf, among the slots from the end of the leaf before it to the beginning of the leaf
+/// after it: so a scan goes over no other leaf.
+fn list_near(alloc: Global, slots: &Slots, leaf: &Leaf) -> Result<Vec<Part>, Memory>
+    requires low { 0 < leaf.now.number }
+    requires high { leaf.now.number + 1 < 2 ^ 64 }
+
+    ensures parts { IfOk result (λ parts. parts.items ≡ parts_of leaf.now slots.now.entries) }
+    ensures ordered { IsOrdered slot_cmp slots.now }
+{
+    let _count = slots.len();
+    let from = slot_near(leaf, leaf.number - 1, i64::MAX)?;
+    let to = slot_near(leaf, leaf.number + 1, i64::MIN)?;
+    let mut parts = Vec::new(alloc);
+    for (slot, part) in slots.range(from..to) {
+        push_part(&mut parts, leaf, slot, part)?;
+    }
+    Ok(parts)
+}
+
+/// A slot of another leaf of the same relation.
+fn slot_near(leaf: &Leaf, number: usize, key: i64) -> Result<Slot, Memory>
+    ensures { IfOk result (λ slot. slot.leaf ≡ record { relation = leaf.now.relation; number = number }) }
+{
+    let relation = leaf.relation.copy()?;
+    Ok(Slot {
+        leaf: Leaf { relation, number },
+        key,
+    })
 }
 
 /// The part, if there is one and its slot is of the leaf.
