@@ -22,3 +22,4 @@ pub mod SideOf
 pub mod PlacesFit
 pub mod JoinOf
 pub mod PlanFound
+pub mod GivenContents

@@ -8,3 +8,4 @@ pub mod Rows
 pub mod Located
 pub mod Found
 pub mod Reduced
+pub mod Given

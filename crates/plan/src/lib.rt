@@ -7,6 +7,7 @@
 
 pub mod fetch;
 pub mod fetches;
+pub mod laws;
 pub mod localize;
 pub mod need;
 pub mod plan;

@@ -60,6 +60,7 @@ pub fn fetches(reduced: &Reduced) -> &[Fetch]
 }
 
 /// The plan with the reads of other leaves emptied.
+#[cycle(pruned)]
 fn pruned(alloc: Global, plan: Plan, fetches: &[Fetch]) -> Result<Plan, Memory>
     ensures { IfOk result (λ less. shape less ≡ reduced (is_fetched fetches.now) (shape plan)) }
 {
@@ -72,40 +73,38 @@ fn pruned(alloc: Global, plan: Plan, fetches: &[Fetch]) -> Result<Plan, Memory>
                 Ok(Plan::Empty)
             }
         }
-        Plan::Filter(conds, below) => {
-            let below = pruned(alloc, Box::into_inner(below), fetches)?;
-            Ok(Plan::Filter(conds, Box::new(alloc, below)?))
-        }
+        Plan::Filter(conds, below) => Ok(Plan::Filter(conds, below_pruned(alloc, below, fetches)?)),
         Plan::Project(columns, below) => {
-            let below = pruned(alloc, Box::into_inner(below), fetches)?;
-            Ok(Plan::Project(columns, Box::new(alloc, below)?))
+            Ok(Plan::Project(columns, below_pruned(alloc, below, fetches)?))
         }
         Plan::Union(one, other) => {
-            let one = pruned(alloc, Box::into_inner(one), fetches)?;
-            let other = pruned(alloc, Box::into_inner(other), fetches)?;
-            Ok(Plan::Union(Box::new(alloc, one)?, Box::new(alloc, other)?))
+            let one = below_pruned(alloc, one, fetches)?;
+            Ok(Plan::Union(one, below_pruned(alloc, other, fetches)?))
         }
         Plan::KeyJoin(one, other) => {
-            let one = pruned(alloc, Box::into_inner(one), fetches)?;
-            let other = pruned(alloc, Box::into_inner(other), fetches)?;
-            Ok(Plan::KeyJoin(Box::new(alloc, one)?, Box::new(alloc, other)?))
+            let one = below_pruned(alloc, one, fetches)?;
+            Ok(Plan::KeyJoin(one, below_pruned(alloc, other, fetches)?))
         }
         Plan::Lookup {
             col,
             width,
             left,
             right,
-        } => {
-            let left = Box::new(alloc, pruned(alloc, Box::into_inner(left), fetches)?)?;
-            let right = Box::new(alloc, pruned(alloc, Box::into_inner(right), fetches)?)?;
-            Ok(Plan::Lookup {
-                col,
-                width,
-                left,
-                right,
-            })
-        }
+        } => Ok(Plan::Lookup {
+            col,
+            width,
+            left: below_pruned(alloc, left, fetches)?,
+            right: below_pruned(alloc, right, fetches)?,
+        }),
     }
+}
+
+#[cycle(pruned)]
+fn below_pruned(alloc: Global, plan: Box<Plan>, fetches: &[Fetch]) -> Result<Box<Plan>, Memory>
+    ensures { IfOk result (λ less. shape less.value ≡ reduced (is_fetched fetches.now) (shape plan.value)) }
+{
+    let less = pruned(alloc, Box::into_inner(plan), fetches)?;
+    Ok(Box::new(alloc, less)?)
 }
 
 /// Whether some of the fetches reads a leaf.

@@ -1,0 +1,36 @@
+-- When contents give what a statement's reads look for.
+use Rattle.std.specs.Prelude.{◌≡◌, ℕ, Bool, true, List}
+use Rattle.std.specs.List.{AllByRecursion}
+use Rattle.terms.specs.declared.leaf.Leaf.{Leaf}
+use Rattle.terms.specs.declared.value.Value.{Value}
+use Rattle.meaning.specs.Whole.{Relations, rows_of}
+use Rattle.catalog.specs.Catalogue.{Catalogue}
+use Rattle.catalog.specs.Fragment.{content}
+use Rattle.catalog.specs.FragmentLeaf.{unnamed}
+use Rattle.plan.specs.declared.need.Need.{Need}
+use Rattle.plan.specs.declared.need.Needs.{Needs}
+use Rattle.plan.specs.declared.need.Needs.TheVariants.{One, Joined}
+use Rattle.plan.specs.Fetch.{fetch_of}
+use Rattle.plan.specs.Reduced.{GivesNeeds}
+use Rattle.plan.specs.Rows.{met}
+use Rattle.plan.specs.Stated.{leaves_of}
+
+-- the contents of a whole database
+abbrev pub AreContents : Catalogue → Relations → (Leaf → List (List Value)) → Type 0
+AreContents catalogue whole contents = (name : List ℕ) → AllByRecursion (λ leaf. contents leaf.name ≡ content (unnamed leaf) (rows_of whole name)) (leaves_of catalogue name)
+
+-- what the reads of a need's fetched leaves leave of them
+abbrev pub AreRead : Catalogue → Relations → (Leaf → Bool) → (Leaf → List (List Value)) → Need → Type 0
+AreRead catalogue whole passes contents need =
+    AllByRecursion (λ leaf. passes leaf.name ≡ true → contents leaf.name ≡ met (fetch_of need leaf).conds (content (unnamed leaf) (rows_of whole need.relation))) (leaves_of catalogue need.relation)
+
+abbrev pub AreReads : Catalogue → Relations → (Leaf → Bool) → (Leaf → List (List Value)) → Needs → Type 0
+AreReads catalogue whole passes contents (One need) = AreRead catalogue whole passes contents need
+AreReads catalogue whole passes contents (Joined col need other) = AreRead catalogue whole passes contents need × AreRead catalogue whole passes contents other
+
+-- whole contents give it, and so does what the reads leave of them
+abbrev pub ContentsGive : Type 0
+ContentsGive = (catalogue : Catalogue) (whole : Relations) (passes : Leaf → Bool) (contents : Leaf → List (List Value)) (needs : Needs) → AreContents catalogue whole contents → GivesNeeds catalogue whole passes contents needs
+
+abbrev pub ReadsGive : Type 0
+ReadsGive = (catalogue : Catalogue) (whole : Relations) (passes : Leaf → Bool) (contents : Leaf → List (List Value)) (needs : Needs) → AreReads catalogue whole passes contents needs → GivesNeeds catalogue whole passes contents needs
