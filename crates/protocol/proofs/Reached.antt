@@ -1,13 +1,13 @@
 -- A world without its delivered letters stays that of a run, through every step of one client.
-use Rattle.std.proofs.Common.{◌≡◌, refl, sym, ap, ◌∙◌, subst, ℕ, suc, Bool, true, false, List, [], ◌∷◌, ◌++◌, length, if◌then◌else◌, Option, Some, None, slice_get, append_assoc, append-nil}
+use Rattle.std.proofs.Common.{◌≡◌, refl, sym, ap, ◌∙◌, subst, Bool, true, false, List, [], ◌∷◌, ◌++◌, length, if◌then◌else◌, Some, slice_get, append_assoc}
 use Rattle.protocol.specs.Language.{Lang, IsLawful, Name}
-use Rattle.protocol.specs.Letter.{Body, Letter, is_for_desk}
+use Rattle.protocol.specs.Letter.{Letter, is_for_desk}
 use Rattle.protocol.specs.Site.{SiteState, is_within, on_letter, site_after, said}
-use Rattle.protocol.specs.Desk.{Choice, Deed, Began, Request, Turn, desk_after, desk_began, is_desk_within, next_txn, on_request, on_desk_letter}
+use Rattle.protocol.specs.Desk.{Choice, Began, Request, Turn, desk_after, desk_began, is_desk_within, next_txn}
 use Rattle.protocol.specs.World.{World, Event, Begin, Call, Deliver, begins, begun, called, comes, comes_to, delivered, happens, run, turns, turned, site_steps, with_site, addressed}
 use Rattle.protocol.specs.Serial.{Explained, AllExplained, IsOpening, IsSerial, SerialLaw}
 use Rattle.protocol.specs.Client.{first, next, rest_of, loses, IsReached, ReachedLaw}
-use Rattle.protocol.proofs.Basics.{Every, every_append}
+use Rattle.protocol.proofs.Basics.{every_append}
 use Rattle.protocol.proofs.SerialLaw.{serial_law}
 
 module _ {L : Lang} where
