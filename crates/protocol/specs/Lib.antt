@@ -6,4 +6,5 @@ pub mod World
 pub mod Serial
 pub mod Whole
 pub mod Parts
+pub mod Client
 pub mod Toy

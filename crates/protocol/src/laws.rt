@@ -1,5 +1,6 @@
 //! The laws of the protocol, each as the contract of a function that does nothing.
 
+ghost use Rattle.protocol.specs.Client.{ReachedLaw, RoundsLaw};
 ghost use Rattle.protocol.specs.Parts.{PartsOneAndTwo, PartThree};
 ghost use Rattle.protocol.specs.Serial.{SerialLaw};
 ghost use Rattle.protocol.specs.Toy.{toy};
@@ -30,4 +31,16 @@ pub fn part_three()
 /// acknowledged is gone, the commit row stays until every voter has applied, and no Abort goes to one.
 pub fn applied_whole_and_once()
     ensures { AppliedWholeAndOnce toy }
+{}
+
+/// One client alone, whose delivered letters are forgotten: a beginning, a call, a delivery of the oldest
+/// letter and the loss of it lead from a world of a run to a world of a run, and there the serial law holds.
+pub fn one_client_is_a_run()
+    ensures { ReachedLaw toy }
+{}
+
+/// Nine rounds of deliveries are enough until no letter waits, whatever the stores answer: four after a
+/// commit is asked for, and one after a rollback or where a transaction is given up.
+pub fn nine_rounds_are_enough()
+    ensures { RoundsLaw toy }
 {}

@@ -1,0 +1,86 @@
+-- One client alone: a world whose letters are those that wait, each delivered once in the order in which they wait.
+use Rattle.std.specs.Prelude.{◌≡◌, ⊤, ℕ, zero, suc, not, Bool, false, List, [], ◌∷◌, ◌++◌, length}
+use Rattle.std.specs.List.{list_any}
+use Rattle.protocol.specs.Language.{Lang, Name}
+use Rattle.protocol.specs.Letter.{Letter}
+use Rattle.protocol.specs.Desk.{Choice, Request, Commit_call, Rollback, Give_up, Stage, Idle, Reading, Writing, Voting, Undecided, Txn, Known}
+use Rattle.protocol.specs.World.{World, Event, begins, called, comes, run}
+use Rattle.protocol.specs.Serial.{AllExplained, IsOpening, IsSerial}
+
+module _ {L : Lang} where
+  -- the first of these letters comes, the others wait on
+  abbrev pub first : World L → Bool → Choice L → List (Letter L) → World L
+  first w kept choice [] = w
+  first w kept choice (l ∷ q) = comes (record w { letters = q }) kept choice l
+
+  -- the oldest letter that waits comes
+  abbrev pub next : World L → Bool → Choice L → World L
+  next w kept choice = first w kept choice w.letters
+
+  -- the letters that wait but for the oldest
+  abbrev pub rest_of : List (Letter L) → List (Letter L)
+  rest_of [] = []
+  rest_of (l ∷ q) = q
+
+  -- the oldest letter that waits is let go
+  abbrev pub loses : World L → World L
+  loses w = record w { letters = rest_of w.letters }
+
+  -- so many deliveries; pick: whether the store call is kept, and the choice, of the delivery in a world
+  abbrev pub deliveries : (World L → Bool × Choice L) → ℕ → World L → World L
+  deliveries pick zero w = w
+  deliveries pick (suc n) w = deliveries pick n (next w (pick w).0 (pick w).1)
+
+  -- a round: all letters that wait as it begins
+  abbrev pub round : (World L → Bool × Choice L) → World L → World L
+  round pick w = deliveries pick (length w.letters) w
+
+  -- so many rounds
+  abbrev pub rounds : (World L → Bool × Choice L) → ℕ → World L → World L
+  rounds pick zero w = w
+  rounds pick (suc n) w = rounds pick n (round pick w)
+
+  -- a world whose delivered and lost letters are forgotten: with those in front it is that of a run
+  pub record IsReached (whole : L.Whole) (w : World L) : Type 0 where
+    pub opening : World L
+    pub opens : IsOpening whole opening
+    pub events : List (Event L)
+    pub gone : List (Letter L)
+    pub is : run events opening ≡ record w { letters = gone ++ w.letters }
+    pub explained : AllExplained w.past
+
+  -- whether fetches or writes wait whose site isn't visited
+  abbrev pub waits_unvisited : Undecided L → Stage L → Bool
+  waits_unvisited u Idle = false
+  waits_unvisited u (Reading s asks) = list_any (λ q. not (u.visited (L.home q.leaf))) asks
+  waits_unvisited u (Writing answer ws) = list_any (λ x. not (u.visited (L.home x.0))) ws
+  waits_unvisited u (Voting votes) = false
+
+  -- so of an undecided transaction
+  abbrev pub IsVisited : Txn L → Type 0
+  IsVisited (Known u) = waits_unvisited u u.stage ≡ false
+  IsVisited txn = ⊤
+
+  -- what waits for a ticket waits for that of a visited site
+  abbrev pub AllVisited : World L → Type 0
+  AllVisited w = (t : Name) → IsVisited (w.desk.txn t)
+
+-- what one client does with a world leads from reached worlds to reached worlds, and those are serial
+pub record ReachedLaw (L : Lang) : Type 0 where
+  pub begun : (whole : L.Whole) (w : World L) → IsReached whole w → IsReached whole (begins w)
+  pub asked : (whole : L.Whole) (w : World L) (t : Name) (choice : Choice L) (request : Request L) → IsReached whole w → AllExplained (called w t choice request).past → IsReached whole (called w t choice request)
+  pub came : (whole : L.Whole) (w : World L) (kept : Bool) (choice : Choice L) → IsReached whole w → AllExplained (next w kept choice).past → IsReached whole (next w kept choice)
+  pub lost : (whole : L.Whole) (w : World L) → IsReached whole w → IsReached whole (loses w)
+  pub serial : (whole : L.Whole) (w : World L) → IsReached whole w → IsSerial whole w
+
+-- how many rounds are enough until no letter waits: nine, four after a commit is asked for, one after a rollback or where a transaction is given up
+pub record RoundsLaw (L : Lang) : Type 0 where
+  pub nine : (pick : World L → Bool × Choice L) (w : World L) → AllVisited w → (rounds pick 9 w).letters ≡ []
+  pub four : (pick : World L → Bool × Choice L) (w : World L) (t : Name) (choice : Choice L) → AllVisited w → w.letters ≡ [] → (rounds pick 4 (called w t choice Commit_call)).letters ≡ []
+  pub rolled_back : (pick : World L → Bool × Choice L) (w : World L) (t : Name) (choice : Choice L) → AllVisited w → w.letters ≡ [] → (rounds pick 1 (called w t choice Rollback)).letters ≡ []
+  pub given_up : (pick : World L → Bool × Choice L) (w : World L) (t : Name) (choice : Choice L) → AllVisited w → w.letters ≡ [] → (rounds pick 1 (called w t choice Give_up)).letters ≡ []
+  -- the premise holds of an opening, and each step keeps it
+  pub opened : (whole : L.Whole) (w : World L) → IsOpening whole w → AllVisited w
+  pub begun : (w : World L) → AllVisited w → AllVisited (begins w)
+  pub asked : (w : World L) (t : Name) (choice : Choice L) (request : Request L) → AllVisited w → AllVisited (called w t choice request)
+  pub came : (w : World L) (kept : Bool) (choice : Choice L) → AllVisited w → AllVisited (next w kept choice)
