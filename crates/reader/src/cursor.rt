@@ -47,7 +47,8 @@ impl<'a> Cursor<'a> {
         self.rest.is_empty()
     }
 
-    /// Where the next token stands, `BEYOND` where none is left. Offsets are in no contract.
+    /// Where the next token stands, `BEYOND` where none is left. It has no `ensures`, since contracts
+    /// see a cursor as its symbols, and a symbol has no offset.
     pub fn offset(&self) -> usize {
         self.rest.first().map_or(BEYOND, |placed| placed.offset)
     }
