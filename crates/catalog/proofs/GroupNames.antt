@@ -26,7 +26,7 @@ place_among within (Some p) place is =
     let P : ℕ → Type 0 = λ q. has within q ≡ true in subst P both.0 both.1
 
 -- a first answer and the others
-both_answers : {C : Type 0} (first : Option C) (rest : Option (List C)) (ys : List C) → option_and_then (λ z. option_map (λ zs. z ∷ zs) rest) first ≡ Some ys → (z : C) × (zs : List C) × (first ≡ Some z) × (rest ≡ Some zs) × (ys ≡ z ∷ zs)
+pub both_answers : {C : Type 0} (first : Option C) (rest : Option (List C)) (ys : List C) → option_and_then (λ z. option_map (λ zs. z ∷ zs) rest) first ≡ Some ys → (z : C) × (zs : List C) × (first ≡ Some z) × (rest ≡ Some zs) × (ys ≡ z ∷ zs)
 both_answers None rest ys is = absurd cc
 both_answers (Some z) None ys is = absurd cc
 both_answers (Some z) (Some zs) ys is = (z, zs, refl, refl, cc)

@@ -29,6 +29,9 @@ pub mod TestColumns
 pub mod ShownValues
 pub mod Answered
 pub mod GroupNames
+pub mod LeavesSaid
+pub mod NodeBreaks
+pub mod GroupBreaks
 pub mod Distinct
 pub mod Seeking
 pub mod SiteNames
@@ -38,6 +41,7 @@ pub mod DocumentParts
 pub mod Entries
 pub mod CatalogueTexts
 pub mod Told
+pub mod TextBreaks
 pub mod NumberedLeaves
 pub mod FormedTrees
 pub mod FormedCatalogues

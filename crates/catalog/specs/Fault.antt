@@ -3,7 +3,6 @@ use Rattle.std.specs.Prelude.{ℕ, List, [], ◌∷◌, ◌++◌, Option, Some, 
 use Rattle.std.specs.Fmt.{decimal}
 use Rattle.reader.specs.PrintStatement.{constant_bytes, separated_bytes}
 use Rattle.reader.specs.Written.{constant_as}
-use Rattle.catalog.specs.declared.fault.CatFault.{CatFault}
 use Rattle.catalog.specs.declared.fault.Cell.{Cell}
 use Rattle.catalog.specs.declared.fault.Shown.{Shown}
 use Rattle.catalog.specs.declared.fault.Rule.{Rule}
@@ -60,6 +59,11 @@ witness_text (Gap cell) = 32 ∷ cell_text cell
 witness_text (Overlap cell) = 32 ∷ cell_text cell
 witness_text _ = []
 
+-- the rule that a catalogue breaks, and the relation in which it does, if it is in one
+pub record Fault : Type 0 where
+  pub rule : Rule
+  pub relation : Option (List ℕ)
+
 -- a refusal in messages, as `11 Gap emp dept = 10`
-abbrev pub fault_text : CatFault → List ℕ
+abbrev pub fault_text : Fault → List ℕ
 fault_text fault = decimal (rule_number fault.rule) ++ 32 ∷ rule_name fault.rule ++ relation_text fault.relation ++ witness_text fault.rule

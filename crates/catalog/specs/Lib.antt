@@ -22,9 +22,11 @@ pub mod Document
 pub mod Relation
 pub mod Fault
 pub mod Refuses
+pub mod NodeBreaks
 pub mod Below
 pub mod Sites
 pub mod Columns
+pub mod Breaks
 pub mod Parts
 pub mod Exactness
 pub mod Form

@@ -1,14 +1,18 @@
 //! Catalogues, read from their texts.
 
-ghost use Rattle.std.specs.Prelude.{◌≡◌, ◌<◌, length, map, option_map, option_and_then, IfOk, IfErr};
+ghost use Rattle.std.specs.Prelude.{◌≡◌, ◌<◌, true, None, is_some, length, map, option_map, option_and_then, IfOk, IfErr};
 ghost use Rattle.std.specs.List.{AllByRecursion};
 ghost use Rattle.toml.specs.Data.{as_table};
 ghost use Rattle.toml.specs.Parse.{parse_document};
 ghost use Rattle.toml.specs.View.{view, table_view};
 ghost use Rattle.reader.specs.Printable.{AreNamed};
+ghost use Rattle.reader.specs.Breaks.{SomeOf};
+ghost use Rattle.catalog.specs.declared.fault.Rule.TheVariants.{Toml};
+ghost use Rattle.catalog.specs.Breaks.{CatalogueTextBreaks, DocumentBreaks, RelationBreaks};
 ghost use Rattle.catalog.specs.Catalogue as spec;
 ghost use Rattle.catalog.specs.Catalogue.{IsRelationIn, IsDocumentOf, IsCatalogueText, IsValidRelation, IsValidCatalogue, entries};
 ghost use Rattle.catalog.specs.Describes.{Each, site_numbered};
+ghost use Rattle.catalog.specs.Refuses.{is_of_text};
 ghost use Rattle.catalog.specs.Relation.{relation_of, catalogue_of};
 ghost use Rattle.catalog.specs.Formed.{IsFormed};
 ghost use Rattle.catalog.specs.Fragment.{part};
@@ -84,12 +88,16 @@ impl Catalog {
         ensures none { IfErr result (λ fault. RefusesText text.now fault.relation fault.rule) }
         // And so is each fault inside a relation.
         ensures told { IfErr result (λ fault. TellsText text.now fault.relation fault.rule) }
+        // The text breaks the rule.
+        ensures breaks { IfErr result (λ fault. is_of_text fault.rule ≡ true → CatalogueTextBreaks fault.rule text.now) }
     {
         if text.len() > TEXT_BYTES {
-            return Err(CatFault::from(Rule::Limit));
+            return Err(CatFault::new(Rule::Limit));
         }
-        let root = document(alloc, text)?;
-        catalog_of(alloc, &root)
+        match document(alloc, text) {
+            Ok(root) => catalog_of(alloc, &root),
+            Err(rule) => Err(CatFault::outside(rule)),
+        }
     }
 
     /// The names of the sites, in the order of the text.
@@ -206,20 +214,24 @@ fn catalog_of(alloc: Global, root: &Value) -> Result<Catalog, CatFault>
     ensures valid { IfOk result (λ catalog. IsValidCatalogue (catalogue_of catalog)) }
     ensures none { IfErr result (λ fault. RefusesRoot (view root.now) fault.relation fault.rule) }
     ensures told { IfErr result (λ fault. TellsRoot (view root.now) fault.relation fault.rule) }
+    ensures breaks { IfErr result (λ fault. is_of_text fault.rule ≡ true → DocumentBreaks fault.rule (view root.now)) }
 {
     let Some(parts) = document_parts(alloc, root)? else {
-        return Err(CatFault::from(Rule::Field));
+        return Err(CatFault::new(Rule::Field));
     };
     if !are_tables(parts.relations) {
-        return Err(CatFault::from(Rule::Field));
+        return Err(CatFault::new(Rule::Field));
     }
-    let sites = sites(alloc, parts.sites.as_slice())?;
+    let sites = match sites(alloc, parts.sites.as_slice()) {
+        Ok(sites) => sites,
+        Err(rule) => return Err(CatFault::outside(rule)),
+    };
     let count = parts.relations.len();
     if count == 0 {
-        return Err(CatFault::from(Rule::Field));
+        return Err(CatFault::new(Rule::Field));
     }
     if count > RELATIONS {
-        return Err(CatFault::from(Rule::Limit));
+        return Err(CatFault::new(Rule::Limit));
     }
     let relations = relations(alloc, sites.as_slice(), parts.relations)?;
     // That the conditions fit their columns rests on this law.
@@ -271,7 +283,9 @@ pub(crate) struct Parts<'a> {
 /// The document of a text, as a value.
 pub(crate) fn document(alloc: Global, text: &str) -> Result<Value, Rule>
     ensures found { IfOk result (λ root. as_table (view root) ≡ parse_document text.now) }
+    ensures table { IfOk result (λ root. is_some (as_table (view root)) ≡ true) }
     ensures none { IfErr result (λ rule. RefusesDocument text.now rule) }
+    ensures breaks { IfErr result (λ rule. is_of_text rule ≡ true → (rule ≡ Toml) × (parse_document text.now ≡ None)) }
 {
     match toml::table_from_str(alloc, text) {
         Ok(table) => Ok(Value::Table(table)),
@@ -315,6 +329,7 @@ pub(crate) fn relations(
     ensures valid { IfOk result (λ found. AllByRecursion IsValidRelation (map relation_of found.items)) }
     ensures none { IfErr result (λ fault. RefusesRelations sites.now (entries (table_view table.now)) fault.relation fault.rule) }
     ensures told { IfErr result (λ fault. TellsRelation sites.now (entries (table_view table.now)) fault.relation fault.rule) }
+    ensures breaks { IfErr result (λ fault. is_of_text fault.rule ≡ true → SomeOf (RelationBreaks fault.rule sites.now) (entries (table_view table.now))) }
 {
     // What a refusal says rests on this law.
     one_list_of_conds();

@@ -1,15 +1,19 @@
 //! The columns of a relation, from their texts.
 
-ghost use Rattle.std.specs.Prelude.{◌≡◌, ◌≢◌, false, ◌++◌, ◌∷◌, map, IfOk, IfErr, IfSome, IfNone, OnOk};
+ghost use Rattle.std.specs.Prelude.{◌≡◌, ◌≢◌, ◌⊎◌, true, false, ◌++◌, ◌∷◌, map, IfOk, IfErr, IfSome, IfNone, OnOk};
+ghost use Rattle.toml.specs.View.{view};
+ghost use Rattle.catalog.specs.Breaks.{ColumnsBreak, texts_before};
 ghost use Rattle.catalog.specs.Catalogue.{IsColumnText, kind_word};
 ghost use Rattle.catalog.specs.Columns as spec;
-ghost use Rattle.catalog.specs.Refuses.{is_shown};
+ghost use Rattle.catalog.specs.declared.fault.Rule.TheVariants.{Field};
+ghost use Rattle.catalog.specs.Refuses.{is_of_text, is_shown};
 ghost use Rattle.catalog.specs.Columns.{AreColumns, RefusesColumns, RefusesColumn, FitRelation, RefusesFit, IsFitFault, IsColumnFault};
 
 use crate::fault::Rule;
 use meaning::schema::Column;
 use reader::word::is_name;
 use std::alloc::Global;
+use terms::memory::Memory;
 use terms::text::Text;
 use terms::value::Kind;
 use toml::Value;
@@ -21,6 +25,7 @@ const COLUMNS: usize = 16;
 pub(crate) fn columns(alloc: Global, texts: &[&str]) -> Result<Vec<Column>, Rule>
     ensures found { IfOk result (λ columns. AreColumns (map (λ text. text.now) texts.now) columns.items) }
     ensures none { IfErr result (λ rule. RefusesColumns (map (λ text. text.now) texts.now) rule) }
+    ensures breaks { IfErr result (λ rule. is_of_text rule ≡ true → ColumnsBreak rule (map (λ text. text.now) texts.now)) }
 {
     let mut columns = Vec::new(alloc);
     for text in texts {
@@ -33,24 +38,21 @@ pub(crate) fn columns(alloc: Global, texts: &[&str]) -> Result<Vec<Column>, Rule
 
 /// The rule that columns break which are not all said by texts: the first fault of those before the
 /// first that is no text, or that it is none.
-pub(crate) fn broken_columns(alloc: Global, items: &[Value]) -> Rule
-    ensures { is_shown result ≡ false }
+pub(crate) fn broken_columns(alloc: Global, items: &[Value]) -> Result<Rule, Memory>
+    ensures shown { IfOk result (λ rule. is_shown rule ≡ false) }
+    ensures breaks { IfOk result (λ rule. is_of_text rule ≡ true → (rule ≡ Field) ⊎ ColumnsBreak rule (texts_before (map view items.now))) }
 {
     let mut columns = Vec::new(alloc);
     for item in items {
         let Some(text) = item.as_str() else {
-            return Rule::Field;
+            return Ok(Rule::Field);
         };
         match next_column(alloc, columns.as_slice(), text) {
-            Ok(column) => {
-                if columns.push(column).is_err() {
-                    return Rule::Memory;
-                }
-            }
-            Err(rule) => return rule,
+            Ok(column) => columns.push(column)?,
+            Err(rule) => return Ok(rule),
         }
     }
-    Rule::Field
+    Ok(Rule::Field)
 }
 
 /// The column that a text says behind others.

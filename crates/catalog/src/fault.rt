@@ -1,12 +1,14 @@
 //! Why a catalogue was refused.
 
-ghost use Rattle.std.specs.Prelude.{◌≡◌, ◌⊎◌, Some, None};
+ghost use Rattle.std.specs.Prelude.{◌≡◌, ◌≢◌, ◌⊎◌, Some, None};
+ghost use Rattle.std.specs.Option.{option_copied};
 ghost use Rattle.catalog.specs.Fault.{rule_number, rule_name, shown_text, cell_text, fault_text};
 ghost use Rattle.catalog.specs.declared.fault.Rule.TheVariants as rules;
 
 use reader::print_constant::PrintedConstant;
 use std::alloc::{AllocError, AllocFailed, Global};
 use std::fmt;
+use std::marker::Model;
 use terms::memory::Memory;
 use terms::row::Row;
 use terms::seq::Seq;
@@ -131,24 +133,81 @@ impl Rule {
 }
 
 /// A refusal of a catalogue: the rule that it breaks, and the relation in which it does, if it is in one.
+/// That memory ran out is told of none.
 #[derive(Debug, Drop)]
 pub struct CatFault {
-    pub rule: Rule,
-    pub relation: Option<Text>,
+    rule: Rule,
+    relation: Option<Text>,
+}
+
+impl Model for CatFault {
+    ghost use Rattle.std.specs.Prelude.{◌≡◌, None};
+    ghost use Rattle.catalog.specs.declared.fault.Rule.TheVariants.{Memory};
+    ghost use Rattle.catalog.specs.Fault.{Fault};
+
+    ghost Value = { Fault };
+
+    ghost view = { λ f. record { rule = f.rule; relation = f.relation } };
+
+    ghost inverse = { λ f. record { rule = f.rule; relation = f.relation } };
+
+    ghost invariant = { λ f. f.rule ≡ Memory → f.relation ≡ None };
 }
 
 impl CatFault {
+    /// A fault outside of the relations. That memory ran out is no fault of a text: it is made of the
+    /// error that says so.
+    pub fn new(rule: Rule) -> CatFault
+        requires { rule ≢ Rule.Memory }
+        ensures rule { result.rule ≡ rule }
+        ensures relation { result.relation ≡ None }
+    {
+        CatFault {
+            rule,
+            relation: None,
+        }
+    }
+
+    /// A fault outside of the relations, or that memory ran out.
+    pub(crate) fn outside(rule: Rule) -> CatFault
+        ensures rule { result.rule ≡ rule }
+        ensures relation { result.relation ≡ None }
+    {
+        CatFault {
+            rule,
+            relation: None,
+        }
+    }
+
     /// A fault in the relation of this name.
     pub(crate) fn in_relation(alloc: Global, name: &str, rule: Rule) -> CatFault
         ensures { ((result.rule ≡ rule) × (result.relation ≡ Some name.now)) ⊎ (result.rule ≡ Rule.Memory) }
     {
+        if matches!(rule, Rule::Memory) {
+            return CatFault::outside(rule);
+        }
         match String::from_str(alloc, name) {
             Ok(name) => CatFault {
                 rule,
                 relation: Some(Text::new(name)),
             },
-            Err(_) => CatFault::from(Rule::Memory),
+            Err(_) => CatFault::outside(Rule::Memory),
         }
+    }
+
+    /// The rule that the catalogue breaks.
+    pub fn rule(&self) -> &Rule
+        ensures { result.now ≡ self.now.rule }
+    {
+        &self.rule
+    }
+
+    /// The name of the relation in which it does, if it is in one.
+    pub fn relation(&self) -> Option<&Text>
+        ensures named { option_copied result ≡ self.now.relation }
+        ensures memory { self.now.rule ≡ Rule.Memory → self.now.relation ≡ None }
+    {
+        self.relation.as_ref()
     }
 }
 
@@ -167,22 +226,11 @@ impl fmt::Display for CatFault {
     }
 }
 
-impl From<Rule> for CatFault {
-    ghost from_gives = { λ rule fault. (fault.rule ≡ rule) × (fault.relation ≡ None) };
-
-    fn from(rule: Rule) -> CatFault {
-        CatFault {
-            rule,
-            relation: None,
-        }
-    }
-}
-
 impl From<Memory> for CatFault {
     ghost from_gives = { λ _ fault. fault.rule ≡ rules.Memory };
 
     fn from(_error: Memory) -> CatFault {
-        CatFault::from(Rule::Memory)
+        CatFault::outside(Rule::Memory)
     }
 }
 
@@ -190,7 +238,7 @@ impl<T: Drop> From<AllocFailed<T>> for CatFault {
     ghost from_gives = { λ _ fault. fault.rule ≡ rules.Memory };
 
     fn from(_error: AllocFailed<T>) -> CatFault {
-        CatFault::from(Rule::Memory)
+        CatFault::outside(Rule::Memory)
     }
 }
 

@@ -1,12 +1,14 @@
 //! The columns of the groups of a column split.
 
-ghost use Rattle.std.specs.Prelude.{◌≡◌, true, Some, map, option_map, IfOk, IfErr, OnOk};
+ghost use Rattle.std.specs.Prelude.{◌≡◌, ◌++◌, true, Some, map, option_map, IfOk, IfErr, OnOk};
 ghost use Rattle.std.specs.List.{AllByRecursion};
 ghost use Rattle.toml.specs.View.{view};
 ghost use Rattle.reader.specs.Names.{all_of};
 ghost use Rattle.catalog.specs.Counts as counts;
 ghost use Rattle.catalog.specs.Describes.{AreNamedIn, named_in, place_within};
 ghost use Rattle.catalog.specs.Frame.{frame_of};
+ghost use Rattle.catalog.specs.NodeBreaks.{GroupBreaks, GroupsBreak, IsAgain, places_before};
+ghost use Rattle.catalog.specs.declared.fault.Rule.TheVariants.{Field, ColumnAbsent};
 ghost use Rattle.catalog.specs.Parts.{named, AreApart};
 ghost use Rattle.catalog.specs.Refuses.{RefusesGroup, RefusesNames, RefusesNamed, RefusesParts, IsPartsFault, is_of_text};
 ghost use Rattle.catalog.specs.Valid.{AreParts};
@@ -28,6 +30,7 @@ pub(crate) fn named_columns(
 ) -> Result<Vec<Seq<usize>>, Rule>
     ensures found { IfOk result (λ groups. AreNamedIn (frame_of frame.now) within.now (map view nodes.now) groups.items) }
     ensures none { IfErr result (λ rule. RefusesNamed (frame_of frame.now) within.now (map view nodes.now) rule) }
+    ensures breaks { IfErr result (λ rule. is_of_text rule ≡ true → GroupsBreak rule (frame_of frame.now) within.now (map view nodes.now)) }
 {
     let groups = all_groups(frame, within, nodes)?;
     require_parts(frame.alloc, within, groups)
@@ -37,6 +40,7 @@ pub(crate) fn named_columns(
 fn all_groups(frame: &Frame<'_>, within: &[usize], nodes: &[Value]) -> Result<Vec<Seq<usize>>, Rule>
     ensures found { IfOk result (λ groups. all_of (named_in (frame_of frame.now) within.now) (map view nodes.now) ≡ Some groups.items) }
     ensures none { IfErr result (λ rule. RefusesNames (frame_of frame.now) within.now (map view nodes.now) rule) }
+    ensures breaks { IfErr result (λ rule. is_of_text rule ≡ true → GroupsBreak rule (frame_of frame.now) within.now (map view nodes.now)) }
 {
     let mut seen = Vec::new(frame.alloc);
     let mut groups = Vec::new(frame.alloc);
@@ -56,6 +60,8 @@ fn group(
 ) -> Result<Vec<usize>, Rule>
     ensures found { IfOk result (λ places. named_in (frame_of frame.now) within.now (view node.now) ≡ Some places.items) }
     ensures none { IfErr result (λ rule. RefusesGroup (frame_of frame.now) within.now (view node.now) rule) }
+    ensures seen { IfOk result (λ places. seen.new.items ≡ seen.old.items ++ places.items) }
+    ensures breaks { IfErr result (λ rule. is_of_text rule ≡ true → GroupBreaks rule (frame_of frame.now) within.now seen.old.items (view node.now)) }
 {
     let Some(names) = texts_at(frame.alloc, "of", node)? else {
         return Err(missing(seen.as_slice()));
@@ -73,7 +79,8 @@ fn places_of(
     names: &[&str],
     seen: &mut Vec<usize>,
 ) -> Result<Option<Vec<usize>>, Memory>
-    ensures { IfOk result (λ found. option_map (λ places. places.items) found ≡ all_of (place_within (frame_of frame.now) within.now) (map (λ name. name.now) names.now)) }
+    ensures found { IfOk result (λ found. option_map (λ places. places.items) found ≡ all_of (place_within (frame_of frame.now) within.now) (map (λ name. name.now) names.now)) }
+    ensures seen { IfOk result (λ found. seen.new.items ≡ seen.old.items ++ places_before (frame_of frame.now) within.now (map (λ name. name.now) names.now)) }
 {
     let mut places = Vec::new(frame.alloc);
     for name in names {
@@ -88,7 +95,8 @@ fn places_of(
 
 /// The rule that a group without names breaks, if no name before it stands twice.
 fn missing(seen: &[usize]) -> Rule
-    ensures { is_of_text result ≡ true }
+    ensures of_text { is_of_text result ≡ true }
+    ensures twice { IsAgain result Field seen.now }
 {
     match first_again(seen) {
         Some(_) => Rule::ColumnTwice,
@@ -98,7 +106,8 @@ fn missing(seen: &[usize]) -> Rule
 
 /// The rule that a name of no column breaks, if no name before it stands twice.
 fn absent(seen: &[usize]) -> Rule
-    ensures { is_of_text result ≡ true }
+    ensures of_text { is_of_text result ≡ true }
+    ensures twice { IsAgain result ColumnAbsent seen.now }
 {
     match first_again(seen) {
         Some(_) => Rule::ColumnTwice,

@@ -1,6 +1,6 @@
 //! A relation of a document: its columns and its fragment tree.
 
-ghost use Rattle.std.specs.Prelude.{◌≡◌, ◌≤◌, false, [], codes, find, length, map, nat_eq, IfOk, IfErr};
+ghost use Rattle.std.specs.Prelude.{◌≡◌, ◌⊎◌, ◌≤◌, true, false, [], codes, find, length, map, nat_eq, IfOk, IfErr};
 ghost use Rattle.std.specs.Option.{option_copied};
 ghost use Rattle.toml.specs.View.{view};
 ghost use Rattle.std.specs.Cmp.Lexicographic.{pointwise};
@@ -8,7 +8,11 @@ ghost use Rattle.meaning.specs.Schema.{kinds_of};
 ghost use Rattle.catalog.specs.Catalogue.{IsRelationIn};
 ghost use Rattle.catalog.specs.Describes.{Describes};
 ghost use Rattle.catalog.specs.Path.{columns_beside_key, paths};
-ghost use Rattle.catalog.specs.Refuses.{Refuses, is_shown};
+ghost use Rattle.catalog.specs.declared.fault.Rule.TheVariants.{Field};
+ghost use Rattle.catalog.specs.Breaks.{ColumnsBreak, RelationBreaks, listed_texts};
+ghost use Rattle.catalog.specs.Node.{form_of};
+ghost use Rattle.catalog.specs.NodeBreaks.{NodeBreaks};
+ghost use Rattle.catalog.specs.Refuses.{Refuses, is_of_text, is_shown};
 ghost use Rattle.catalog.specs.Relation.{relation_of, RefusesRelation};
 ghost use Rattle.catalog.specs.Split.{tree_of};
 ghost use Rattle.catalog.specs.Valid.{IsValid};
@@ -94,12 +98,13 @@ pub(crate) fn relation(
     ensures found { IfOk result (λ relation. IsRelationIn sites.now (name.now, view node.now) (relation_of relation)) }
     ensures valid { IfOk result (λ relation. IsValid (kinds_of relation.schema) (tree_of relation.split)) }
     ensures none { IfErr result (λ rule. RefusesRelation sites.now (name.now, view node.now) rule) }
+    ensures breaks { IfErr result (λ rule. is_of_text rule ≡ true → RelationBreaks rule sites.now (name.now, view node.now)) }
 {
     if !is_name(name.as_bytes()) {
         return Err(Rule::Name);
     }
     let Some(texts) = texts_at(alloc, "columns", node)? else {
-        return Err(no_columns(alloc, node));
+        return Err(no_columns(alloc, node)?);
     };
     let columns = columns(alloc, texts.as_slice())?;
     let split = split(alloc, sites, columns.as_slice(), node)?;
@@ -110,15 +115,16 @@ pub(crate) fn relation(
 }
 
 /// The rule that a relation breaks whose columns are not all said by texts.
-fn no_columns(alloc: Global, node: &Value) -> Rule
-    ensures { is_shown result ≡ false }
+fn no_columns(alloc: Global, node: &Value) -> Result<Rule, Memory>
+    ensures shown { IfOk result (λ rule. is_shown rule ≡ false) }
+    ensures breaks { IfOk result (λ rule. is_of_text rule ≡ true → (rule ≡ Field) ⊎ ColumnsBreak rule (listed_texts (view node.now))) }
 {
     let Some(listed) = node.get("columns") else {
-        return Rule::Field;
+        return Ok(Rule::Field);
     };
     match some_items(listed) {
         Some(items) => broken_columns(alloc, items),
-        None => Rule::Field,
+        None => Ok(Rule::Field),
     }
 }
 
@@ -128,6 +134,7 @@ fn split(alloc: Global, sites: &[Text], columns: &[Column], node: &Value) -> Res
     ensures valid { IfOk result (λ split. IsValid (map (λ column. column.kind) columns.now) (tree_of split)) }
     ensures few { IfOk result (λ split. length (paths (tree_of split)) ≤ 32) }
     ensures none { IfErr result (λ rule. Refuses (record { sites = sites.now; columns = columns.now }) 4 [] (columns_beside_key (map (λ column. column.kind) columns.now)) (codes "columns") (view node.now) 0 rule) }
+    ensures breaks { IfErr result (λ rule. is_of_text rule ≡ true → NodeBreaks rule (record { sites = sites.now; columns = columns.now }) 4 [] (columns_beside_key (map (λ column. column.kind) columns.now)) (form_of (codes "columns") (view node.now)) 0) }
 {
     let within = beside_key(alloc, columns)?;
     let frame = Frame {

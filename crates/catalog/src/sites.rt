@@ -1,8 +1,10 @@
 //! The names of a catalogue's sites.
 
-ghost use Rattle.std.specs.Prelude.{◌≡◌, ◌↔◌, map, IsTrue, IfOk, IfErr};
+ghost use Rattle.std.specs.Prelude.{◌≡◌, ◌↔◌, true, map, IsTrue, IfOk, IfErr};
+ghost use Rattle.catalog.specs.Breaks.{SitesBreak};
 ghost use Rattle.catalog.specs.Catalogue.{IsSiteName};
 ghost use Rattle.catalog.specs.Describes.{site_numbered};
+ghost use Rattle.catalog.specs.Refuses.{is_of_text};
 ghost use Rattle.catalog.specs.Sites as spec;
 ghost use Rattle.catalog.specs.Sites.{AreSites, RefusesSites, IsNextSite, RefusesNextSite, IsSiteFault};
 
@@ -21,6 +23,7 @@ const COORDINATOR: &str = "desk";
 pub(crate) fn sites(alloc: Global, texts: &[&str]) -> Result<Vec<Text>, Rule>
     ensures found { IfOk result (λ sites. (sites.items ≡ map (λ text. text.now) texts.now) × AreSites (map (λ text. text.now) texts.now)) }
     ensures none { IfErr result (λ rule. RefusesSites (map (λ text. text.now) texts.now) rule) }
+    ensures breaks { IfErr result (λ rule. is_of_text rule ≡ true → SitesBreak rule (map (λ text. text.now) texts.now)) }
 {
     let mut sites = Vec::new(alloc);
     for text in texts {

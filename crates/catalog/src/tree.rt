@@ -1,6 +1,6 @@
 //! The fragment tree that the nodes of a document describe.
 
-ghost use Rattle.std.specs.Prelude.{◌≡◌, ◌≤◌, ◌+◌, ◌++◌, [], length, map, codes, Some, IfOk, IfErr};
+ghost use Rattle.std.specs.Prelude.{◌≡◌, ◌⊎◌, ◌≤◌, ◌+◌, ◌++◌, true, [], length, map, codes, Some, IfOk, IfErr};
 ghost use Rattle.std.specs.List.{AllByRecursion};
 ghost use Rattle.terms.specs.Cond.{IsCondOf};
 ghost use Rattle.toml.specs.View.{view};
@@ -8,7 +8,9 @@ ghost use Rattle.catalog.specs.Below.{branches_seen, groups_seen, AreRows, AreCo
 ghost use Rattle.catalog.specs.Describes.{kinds_in, site_numbered, in_order, Describes, AreBranches, AreGroups};
 ghost use Rattle.catalog.specs.Frame.{frame_of};
 ghost use Rattle.catalog.specs.Path.{paths, paths_by_rows, paths_by_cols, branch_conds, group_columns};
-ghost use Rattle.catalog.specs.Refuses.{Refuses};
+ghost use Rattle.catalog.specs.Node.{SplitByRows, SplitByCols, form_of};
+ghost use Rattle.catalog.specs.NodeBreaks.{NodeBreaks, BranchesBreak, BelowBreak, IsLeafTooMany};
+ghost use Rattle.catalog.specs.Refuses.{Refuses, is_of_text};
 ghost use Rattle.catalog.specs.Split as spec;
 ghost use Rattle.catalog.specs.Split.{tree_of, tree_branch, tree_group};
 ghost use Rattle.catalog.specs.Valid.{IsValidWithin, AreValidBranches, AreValidGroups};
@@ -57,6 +59,7 @@ impl<'a> Place<'a> {
         ensures counted { IfOk result (λ split. leaves.new ≡ leaves.old + length (paths (tree_of split))) }
         ensures few { IfOk result (λ split. leaves.new ≤ 32) }
         ensures none { IfErr result (λ rule. Refuses (frame_of self.now.frame.now) self.now.splits self.now.way.now self.now.within.now beside.now (view node.now) leaves.old rule) }
+        ensures breaks { IfErr result (λ rule. is_of_text rule ≡ true → NodeBreaks rule (frame_of self.now.frame.now) self.now.splits self.now.way.now self.now.within.now (form_of beside.now (view node.now)) leaves.old) }
     {
         match form_of_node(beside, node) {
             Form::AtSite(name) => Ok(Split::Leaf(self.site(name, leaves)?)),
@@ -101,6 +104,7 @@ impl<'a> Place<'a> {
         ensures counted { IfOk result (λ branches. leaves.new ≡ leaves.old + length (paths_by_rows (branches_seen branches.items))) }
         ensures few { IfOk result (λ branches. leaves.new ≤ 32) }
         ensures none { IfErr result (λ rule. RefusesRows (frame_of self.now.frame.now) self.now.splits self.now.way.now self.now.within.now (map view nodes.now) leaves.old rule) }
+        ensures breaks { IfErr result (λ rule. is_of_text rule ≡ true → NodeBreaks rule (frame_of self.now.frame.now) self.now.splits self.now.way.now self.now.within.now (SplitByRows (map view nodes.now)) leaves.old) }
     {
         // What a refusal says rests on this law.
         one_list_of_conds();
@@ -136,6 +140,7 @@ impl<'a> Place<'a> {
         ensures counted { IfOk result (λ branches. leaves.new ≡ leaves.old + length (paths_by_rows (branches_seen branches.items))) }
         ensures few { IfOk result (λ branches. leaves.new ≤ 32) }
         ensures none { IfErr result (λ rule. RefusesBranches (frame_of self.now.frame.now) self.now.splits self.now.way.now self.now.within.now (map view nodes.now) conds.now leaves.old rule) }
+        ensures breaks { IfErr result (λ rule. is_of_text rule ≡ true → BranchesBreak self.now.splits rule (frame_of self.now.frame.now) self.now.way.now self.now.within.now (map view nodes.now) conds.now ⊎ IsLeafTooMany rule self.now.splits (codes "where") (map view nodes.now) leaves.old) }
     {
         one_list_of_conds();
         let mut branches = Vec::new(self.frame.alloc);
@@ -158,6 +163,7 @@ impl<'a> Place<'a> {
         ensures counted { IfOk result (λ branch. leaves.new ≡ leaves.old + length (paths (tree_branch branch).tree)) }
         ensures few { IfOk result (λ branch. leaves.new ≤ 32) }
         ensures none { IfErr result (λ rule. Refuses (frame_of self.now.frame.now) self.now.splits (self.now.way.now ++ conds.now) self.now.within.now (codes "where") (view node.now) leaves.old rule) }
+        ensures breaks { IfErr result (λ rule. is_of_text rule ≡ true → NodeBreaks rule (frame_of self.now.frame.now) self.now.splits (self.now.way.now ++ conds.now) self.now.within.now (form_of (codes "where") (view node.now)) leaves.old) }
     {
         let longer = joined(self.frame.alloc, self.way, conds.as_slice())?;
         let below = Place {
@@ -181,6 +187,7 @@ impl<'a> Place<'a> {
         ensures counted { IfOk result (λ groups. leaves.new ≡ leaves.old + length (paths_by_cols [] (groups_seen groups.items))) }
         ensures few { IfOk result (λ groups. leaves.new ≤ 32) }
         ensures none { IfErr result (λ rule. RefusesCols (frame_of self.now.frame.now) self.now.splits self.now.way.now self.now.within.now (map view nodes.now) leaves.old rule) }
+        ensures breaks { IfErr result (λ rule. is_of_text rule ≡ true → NodeBreaks rule (frame_of self.now.frame.now) self.now.splits self.now.way.now self.now.within.now (SplitByCols (map view nodes.now)) leaves.old) }
     {
         if self.splits == 0 {
             return Err(Rule::Limit);
@@ -212,6 +219,7 @@ impl<'a> Place<'a> {
         ensures counted { IfOk result (λ groups. leaves.new ≡ leaves.old + length (paths_by_cols [] (groups_seen groups.items))) }
         ensures few { IfOk result (λ groups. leaves.new ≤ 32) }
         ensures none { IfErr result (λ rule. RefusesGroups (frame_of self.now.frame.now) self.now.splits self.now.way.now (map view nodes.now) (map (in_order self.now.within.now) named.now) leaves.old rule) }
+        ensures breaks { IfErr result (λ rule. is_of_text rule ≡ true → BelowBreak self.now.splits rule (frame_of self.now.frame.now) self.now.way.now (map view nodes.now) (map (in_order self.now.within.now) named.now) ⊎ IsLeafTooMany rule self.now.splits (codes "of") (map view nodes.now) leaves.old) }
     {
         one_list_of_conds();
         let mut groups = Vec::new(self.frame.alloc);
@@ -234,6 +242,7 @@ impl<'a> Place<'a> {
         ensures counted { IfOk result (λ group. leaves.new ≡ leaves.old + length (paths (tree_group group).tree)) }
         ensures few { IfOk result (λ group. leaves.new ≤ 32) }
         ensures none { IfErr result (λ rule. Refuses (frame_of self.now.frame.now) self.now.splits self.now.way.now columns.items (codes "of") (view node.now) leaves.old rule) }
+        ensures breaks { IfErr result (λ rule. is_of_text rule ≡ true → NodeBreaks rule (frame_of self.now.frame.now) self.now.splits self.now.way.now columns.items (form_of (codes "of") (view node.now)) leaves.old) }
     {
         let below = Place {
             frame: self.frame,

@@ -1,6 +1,7 @@
 //! The conditions of the branches of a row split, and whether they are exact.
 
-ghost use Rattle.std.specs.Prelude.{◌≡◌, ◌++◌, map, IfOk, IfErr, OnOk};
+ghost use Rattle.std.specs.Prelude.{◌≡◌, ◌++◌, true, map, IfOk, IfErr, OnOk};
+ghost use Rattle.reader.specs.Breaks.{SomeOf};
 ghost use Rattle.std.specs.List.{AllByRecursion};
 ghost use Rattle.terms.specs.Cond.{IsCondOf};
 ghost use Rattle.toml.specs.View.{view};
@@ -11,7 +12,8 @@ ghost use Rattle.catalog.specs.Frame.{frame_of};
 ghost use Rattle.catalog.specs.Refuses as spec;
 ghost use Rattle.catalog.specs.Inexact as inexact;
 ghost use Rattle.catalog.specs.Inexact.{shown_here, shown_from};
-ghost use Rattle.catalog.specs.Refuses.{RefusesWhere, RefusesConds, RefusesSplit};
+ghost use Rattle.catalog.specs.NodeBreaks.{WhereBreaks};
+ghost use Rattle.catalog.specs.Refuses.{RefusesWhere, RefusesConds, RefusesSplit, is_of_text};
 ghost use Rattle.catalog.specs.Valid.{AreExact};
 
 use crate::exact::{Exactness, conds_of_split, try_cells};
@@ -38,6 +40,7 @@ pub(crate) fn branch_conds(
     ensures found { IfOk result (λ conds. Each (IsWhere (frame_of frame.now) within.now) (map view nodes.now) conds.items) }
     ensures fit { IfOk result (λ conds. AllByRecursion (λ cs. AllByRecursion (IsCondOf (kinds_in (frame_of frame.now))) cs) conds.items) }
     ensures none { IfErr result (λ rule. RefusesConds (visible within.now (frame_of frame.now).columns) (map view nodes.now) rule) }
+    ensures breaks { IfErr result (λ rule. is_of_text rule ≡ true → SomeOf (WhereBreaks rule (visible within.now (frame_of frame.now).columns)) (map view nodes.now)) }
 {
     let columns = frame.visible(within)?;
     conds_on(frame.alloc, columns.as_slice(), nodes)
@@ -48,6 +51,7 @@ fn conds_on(alloc: Global, columns: &[Column], nodes: &[toml::Value]) -> Result<
     ensures found { IfOk result (λ conds. Each (IsWhereOn columns.now) (map view nodes.now) conds.items) }
     ensures fit { IfOk result (λ conds. AllByRecursion (λ cs. AllByRecursion (IsCondOf (types columns.now)) cs) conds.items) }
     ensures none { IfErr result (λ rule. RefusesConds columns.now (map view nodes.now) rule) }
+    ensures breaks { IfErr result (λ rule. is_of_text rule ≡ true → SomeOf (WhereBreaks rule columns.now) (map view nodes.now)) }
 {
     let mut conds = Vec::new(alloc);
     for node in nodes {
@@ -60,6 +64,7 @@ fn where_of(alloc: Global, columns: &[Column], node: &toml::Value) -> Result<Con
     ensures found { IfOk result (λ conds. IsWhereOn columns.now (view node.now) conds) }
     ensures fit { IfOk result (λ conds. AllByRecursion (IsCondOf (types columns.now)) conds) }
     ensures none { IfErr result (λ rule. RefusesWhere columns.now (view node.now) rule) }
+    ensures breaks { IfErr result (λ rule. is_of_text rule ≡ true → WhereBreaks rule columns.now (view node.now)) }
 {
     let Some(text) = text_at("where", node) else {
         return Err(Rule::Field);

@@ -2,7 +2,7 @@
 use Rattle.std.proofs.Common.{◌≡◌, ℕ, ◌+◌, ◌≤◌, Bool, true, false, cond, List, length, take, Option, Some, None, IfSome, Result, Ok, Err, IfErr, IsErrAnd, arith, subst, sym, refl, inl, inr, ◌∙◌}
 use Rattle.std.specs.Borrow.{Bor}
 use Rattle.std.specs.Str.{IsUtf8}
-use Rattle.catalog.specs.declared.fault.CatFault.{CatFault}
+use Rattle.catalog.specs.Fault.{Fault}
 use Rattle.catalog.specs.declared.fault.Rule.{Rule}
 use Rattle.catalog.specs.declared.fault.Rule.TheVariants.{Toml, Field, Name, Twice, NoSite, KeyType, ColumnTwice, ColumnLost, ColumnAbsent, WrongType, Gap, Overlap, Limit, Memory as NoMemory}
 use Rattle.catalog.specs.Catalogue.{Catalogue, IsCatalogueText}
@@ -76,16 +76,16 @@ refused_of bytes read text told rule all of refuses sure =
       no_text = λ _ other. absurd (other utf8);
     }
 
-fault_by : (file : Bor (List ℕ)) (bytes : List ℕ) (fault : CatFault) (is : Bool) → (is ≡ false → RefusesFile bytes fault.relation fault.rule) → IsFaultOf file bytes (cond is (Program Memory) (Refused fault))
+fault_by : (file : Bor (List ℕ)) (bytes : List ℕ) (fault : Fault) (is : Bool) → (is ≡ false → RefusesFile bytes fault.relation fault.rule) → IsFaultOf file bytes (cond is (Program Memory) (Refused fault))
 fault_by file bytes fault true h = inl refl
 fault_by file bytes fault false h = h refl
 
 -- a fault of what was read
-pub no_text : (file : Bor (List ℕ)) (known : Option (List ℕ)) (read : List ℕ) (fault : CatFault) → IfSome known (λ bytes. read ≡ take (65536 + 1) bytes) → IsNoText read fault.rule → IfSome known (λ bytes. IsFaultOf file bytes (fault_of_refusal fault))
+pub no_text : (file : Bor (List ℕ)) (known : Option (List ℕ)) (read : List ℕ) (fault : Fault) → IfSome known (λ bytes. read ≡ take (65536 + 1) bytes) → IsNoText read fault.rule → IfSome known (λ bytes. IsFaultOf file bytes (fault_of_refusal fault))
 no_text file None read fault front none = tt
 no_text file (Some bytes) read fault front none = fault_by file bytes fault (is_memory fault.rule) (λ _. no_text_of bytes read fault.relation fault.rule front none)
 
-pub refused_text : (file : Bor (List ℕ)) (known : Option (List ℕ)) (read text : List ℕ) (fault : CatFault) → IfSome known (λ bytes. read ≡ take (65536 + 1) bytes) → IsTextOf read text → RefusesText text fault.relation fault.rule → IfSome known (λ bytes. IsFaultOf file bytes (fault_of_refusal fault))
+pub refused_text : (file : Bor (List ℕ)) (known : Option (List ℕ)) (read text : List ℕ) (fault : Fault) → IfSome known (λ bytes. read ≡ take (65536 + 1) bytes) → IsTextOf read text → RefusesText text fault.relation fault.rule → IfSome known (λ bytes. IsFaultOf file bytes (fault_of_refusal fault))
 refused_text file None read text fault front of refuses = tt
 refused_text file (Some bytes) read text fault front of refuses =
     fault_by file bytes fault (is_memory fault.rule) (λ sure. refused_of bytes read text fault.relation fault.rule (all_read bytes read 65536 front of.short) of refuses sure)

@@ -2,7 +2,7 @@
 use Rattle.std.specs.Prelude.{◌≡◌, ◌≤◌, ◌<◌, ◌⊎◌, ℕ, Bool, true, false, if◌then◌else◌, List, Option, length}
 use Rattle.std.specs.Borrow.{Bor}
 use Rattle.std.specs.Str.{IsUtf8}
-use Rattle.catalog.specs.declared.fault.CatFault.{CatFault}
+use Rattle.catalog.specs.Fault.{Fault}
 use Rattle.catalog.specs.declared.fault.Rule.{Rule}
 use Rattle.catalog.specs.declared.fault.Rule.TheVariants as rules
 use Rattle.catalog.specs.Catalogue.{Catalogue, IsCatalogueText, IsValidCatalogue}
@@ -62,5 +62,5 @@ IsFaultOf file bytes (Program fault) = IsOfInput file fault
 IsFaultOf file bytes (Refused fault) = RefusesFile bytes fault.relation fault.rule
 
 -- what stops the program where a text was refused
-abbrev pub fault_of_refusal : CatFault → CatalogFault
+abbrev pub fault_of_refusal : Fault → CatalogFault
 fault_of_refusal fault = if is_memory fault.rule then Program Memory else Refused fault

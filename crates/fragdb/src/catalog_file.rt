@@ -39,7 +39,7 @@ impl From<CatFault> for CatalogFault<'_> {
     ghost from_gives = { λ refusal fault. fault ≡ fault_of_refusal refusal };
 
     fn from(fault: CatFault) -> Self {
-        match fault.rule {
+        match fault.rule() {
             Rule::Memory => CatalogFault::Program(ProgramFault::Memory),
             _ => CatalogFault::Refused(fault),
         }
@@ -79,7 +79,7 @@ fn text_of(bytes: &[u8]) -> Result<&str, CatFault>
     ensures none { IfErr result (λ fault. IsNoText bytes.now fault.rule) }
 {
     if bytes.len() > CATALOG_LIMIT {
-        return Err(CatFault::from(Rule::Limit));
+        return Err(CatFault::new(Rule::Limit));
     }
-    str::from_utf8(bytes).map_err(|_error| CatFault::from(Rule::Toml))
+    str::from_utf8(bytes).map_err(|_error| CatFault::new(Rule::Toml))
 }

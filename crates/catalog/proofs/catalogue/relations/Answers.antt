@@ -1,9 +1,13 @@
-use Rattle.std.proofs.Common.{◌≡◌, ◌⊎◌, List, [], ◌∷◌, ◌++◌, ℕ, Some, ap, sym, subst, ◌∙◌, append_assoc, map, string_bytes}
+use Rattle.std.proofs.Common.{◌≡◌, ◌⊎◌, true, List, [], ◌∷◌, ◌++◌, ℕ, Some, ap, sym, subst, ◌∙◌, append_assoc, map, string_bytes}
 use Rattle.std.proofs.lemmas.List.{map-append}
 use Rattle.std.specs.List.{AllByRecursion}
 use Rattle.toml.specs.Data.{Data}
 use Rattle.toml.specs.View.{view, members_view}
 use Rattle.catalog.specs.declared.fault.Rule.TheVariants.{Memory}
+use Rattle.reader.specs.Breaks.{SomeOf}
+use Rattle.catalog.specs.Breaks.{RelationBreaks}
+use Rattle.catalog.specs.Refuses.{is_of_text}
+use Rattle.catalog.proofs.TextBreaks.{one_breaks}
 use Rattle.catalog.specs.Catalogue.{SplitRelation, IsRelationIn, IsValidRelation, entries}
 use Rattle.catalog.specs.Describes.{Each}
 use Rattle.catalog.specs.Document.{RefusesRelations, TellsRelation}
@@ -60,3 +64,17 @@ returns-in-Err-clause-told c =
     let Q : List (List ℕ × Data) → Type 0 = λ said. TellsRelation c.args.sites.now said c.in_relation.result.relation c.in_relation.result.rule in
     subst Q (sym (ap (λ es. entries (members_view es)) all ∙ entries_both done e left))
     (told_or_memory c.args.sites.now (entries (members_view done)) (entries (members_view left)) _ c.in-Err.rule c.in_relation.result.relation c.in_relation.result.rule (subst R c.as_str-in-Err.ensures.value c.in_relation.ensures) here)
+
+pub returns-in-Err-clause-breaks : goal.returns-in-Err-clause-breaks
+returns-in-Err-clause-breaks c of_text =
+    let l = c.loop-name in
+    let done = l.invariant.0 in
+    let e : Entry = (c.in-Some.name.now, c.in-Some.node.now) in
+    let left = c.next.new.self in
+    let all : c.args.table.now.entries ≡ done ++ e ∷ left = l.invariant.1 ∙ ap (λ es. done ++ es) c.in-Some.ensures.steps in
+    let P : List ℕ → Type 0 = λ name. is_of_text c.in-Err.rule ≡ true → RelationBreaks c.in-Err.rule c.args.sites.now (name, view c.in-Some.node.now) in
+    let name = string_bytes c.in-Some.name.now in
+    let R : List ℕ → Type 0 = λ own. ((c.in_relation.result.rule ≡ c.in-Err.rule) × (c.in_relation.result.relation ≡ Some own)) ⊎ (c.in_relation.result.rule ≡ Memory) in
+    let Q : List (List ℕ × Data) → Type 0 = SomeOf (RelationBreaks c.in_relation.result.rule c.args.sites.now) in
+    subst Q (sym (ap (λ es. entries (members_view es)) all ∙ entries_both done e left))
+    (one_breaks c.args.sites.now (entries (members_view done)) (entries (members_view left)) name (view c.in-Some.node.now) c.in-Err.rule c.in_relation.result.rule c.in_relation.result.relation (subst R c.as_str-in-Err.ensures.value c.in_relation.ensures) (subst P c.as_str.ensures.value c.in-Err.ensures.breaks) of_text)

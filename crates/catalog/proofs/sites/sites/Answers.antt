@@ -5,6 +5,7 @@ use Rattle.catalog.specs.Sites.{IsNextSite}
 use Rattle.catalog.proofs.BranchConds.{all_more}
 use Rattle.catalog.proofs.Distinct.{distinct_more, taken_more}
 use Rattle.catalog.proofs.SiteNames.{next_of_sites, refuses_sites}
+use Rattle.catalog.proofs.TextBreaks.{site_break}
 use Rattle.catalog.proofs.sites.sites.Goals as goal
 
 pub loop-text-preserved : goal.loop-text-preserved
@@ -24,3 +25,8 @@ returns-in_err-site-clause-none c =
     rw (p.1, p.2) (refuses_sites (map (λ text. text.now) c.args.texts.now) c.as_slice.result.now _ c.in_err-site.field-0.0
     (next_of_sites (λ text. text.now) c.args.texts.now c.loop-text.text-index _ _ c.as_slice.result.now refl c.loop-text-test.true (c.as_slice.ensures.value ∙ c.loop-text.invariant.found))
     c.in_err-site.ensures.none)
+
+pub returns-in_err-site-clause-breaks : goal.returns-in_err-site-clause-breaks
+returns-in_err-site-clause-breaks c =
+    let p = err_from_is_err_and c.from_residual.result c.from_residual.ensures.1 in
+    rw (p.1, p.2) (site_break (λ text. text.now) c.args.texts.now c.loop-text.text-index _ _ c.as_slice.result.now c.in_err-site.field-0.0 refl c.loop-text-test.true (c.as_slice.ensures.value ∙ c.loop-text.invariant.found) c.in_err-site.ensures.fault)
