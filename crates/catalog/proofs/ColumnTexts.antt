@@ -17,7 +17,7 @@ use Rattle.std.proofs.lemmas.Str.Pattern.{IsSplitOnceResult, split_once_first}
 use Rattle.std.specs.Borrow.{Bor}
 use Rattle.catalog.specs.Catalogue.{IsColumnText, kind_word}
 use Rattle.catalog.proofs.Refusals.{refuses_also}
-use Rattle.catalog.specs.Columns.{AreColumns, RefusesColumns, has_column, IsNextColumn, RefusesColumn, FitRelation, RefusesFit}
+use Rattle.catalog.specs.Columns.{AreColumns, RefusesColumns, has_column, IsNextColumn, RefusesColumn, FitRelation, RefusesFit, HasNoBlank, HasNoForm}
 use Rattle.catalog.specs.Describes.{Each}
 use Rattle.catalog.specs.Sites.{has_name}
 use Rattle.catalog.specs.declared.fault.Rule.{Rule}
@@ -26,10 +26,6 @@ use Rattle.catalog.proofs.Pairs.{each_one}
 use Rattle.catalog.proofs.Distinct.{new_at, distinct_more}
 
 -- ---- one blank
-
--- no byte is a blank
-abbrev HasNoBlank : List ℕ → Type 0
-HasNoBlank bytes = AllByRecursion (λ b. (b == 32) ≡ false) bytes
 
 letter_no_blank : (b : ℕ) → is_in Letter b ≡ true → (b == 32) ≡ false
 letter_no_blank b letter =
@@ -74,10 +70,18 @@ one_blank (x ∷ xs) ys (u ∷ us) vs before behind same =
     let both = one_blank xs ys us vs before.1 behind rest in
     (rw (first, both.0) refl, both.1)
 
+-- a name and a type's word are parted so by any blank
+pub form_parts : (text name : List ℕ) (kind : Kind) (before behind : List ℕ) → HasNoBlank name → text ≡ name ++ 32 ∷ kind_word kind → text ≡ before ++ 32 ∷ behind → (name ≡ before) × (kind_word kind ≡ behind)
+form_parts text name kind before behind none spelled parted = one_blank name (kind_word kind) before behind none (kind_no_blank kind) (sym spelled ∙ parted)
+
+-- a text without form says no column
+pub no_column : (text : List ℕ) → HasNoForm text → (column : Column) → IsColumnText text column → ⊥
+no_column text none column says = none column.name column.kind (word_no_blank column.name says.name.is_word) says.spelled
+
 -- a column's text is parted so by any blank
 pub parts_of : (text : List ℕ) (column : Column) (before behind : List ℕ) → IsColumnText text column → text ≡ before ++ 32 ∷ behind → (column.name ≡ before) × (kind_word column.kind ≡ behind)
 parts_of text column before behind says parted =
-    one_blank column.name (kind_word column.kind) before behind (word_no_blank column.name says.name.is_word) (kind_no_blank column.kind) (sym says.spelled ∙ parted)
+    form_parts text column.name column.kind before behind (word_no_blank column.name says.name.is_word) says.spelled parted
 
 one_kind : (one other : Kind) → kind_word one ≡ kind_word other → one ≡ other
 one_kind kinds.Int kinds.Int same = refl
@@ -179,8 +183,8 @@ distinct_column columns column distinct new =
     rw (map-append (λ (other : Column). other.name) columns (column ∷ [])) (distinct_more (map (λ other. other.name) columns) column.name distinct (sym (has_column_named columns column.name) ∙ new))
 
 -- bytes with a blank have a first one
-pub has_a_blank : (text : List ℕ) (column : Column) → IsColumnText text column → position_or_len (λ b. b == 32) text ≡ length text → ⊥
-has_a_blank text column says none = let P : List ℕ → Type 0 = λ t. position_or_len (λ b. b == 32) t ≡ length t in within column.name (kind_word column.kind) (subst P says.spelled none)
+has_a_blank : (text name : List ℕ) (kind : Kind) → text ≡ name ++ 32 ∷ kind_word kind → position_or_len (λ b. b == 32) text ≡ length text → ⊥
+has_a_blank text name kind spelled none = let P : List ℕ → Type 0 = λ t. position_or_len (λ b. b == 32) t ≡ length t in within name (kind_word kind) (subst P spelled none)
   where
     within : (before behind : List ℕ) → position_or_len (λ b. b == 32) (before ++ 32 ∷ behind) ≡ length (before ++ 32 ∷ behind) → ⊥
     within [] behind none = cc
@@ -192,10 +196,10 @@ has_a_blank text column says none = let P : List ℕ → Type 0 = λ t. position
 
 -- ---- the parts about the first blank
 
-pub no_parts : (text : List ℕ) (r : Option (Bor (List ℕ) × Bor (List ℕ))) → IsSplitOnceResult 32 text r → r ≡ None → (column : Column) → IsColumnText text column → ⊥
-no_parts text r split none column says =
+pub no_parts : (text : List ℕ) (r : Option (Bor (List ℕ) × Bor (List ℕ))) → IsSplitOnceResult 32 text r → r ≡ None → HasNoForm text
+no_parts text r split none name kind blankless spelled =
     let P : Option (Bor (List ℕ) × Bor (List ℕ)) → Type 0 = IsSplitOnceResult 32 text in
-    has_a_blank text column says (split_once_first 32 text None (subst P none split) (omega arith))
+    has_a_blank text name kind spelled (split_once_first 32 text None (subst P none split) (omega arith))
 
 pub two_parts : (text : List ℕ) (r : Option (Bor (List ℕ) × Bor (List ℕ))) (x : Bor (List ℕ) × Bor (List ℕ)) → IsSplitOnceResult 32 text r → r ≡ Some x → text ≡ x.0.now ++ 32 ∷ x.1.now
 two_parts text r x split some =

@@ -13,7 +13,7 @@ use Rattle.catalog.specs.declared.fault.Rule.{Rule}
 use Rattle.catalog.specs.declared.fault.Rule.TheVariants.{Limit, Toml, Field, Name, Twice, NoSite, KeyType, ColumnTwice, ColumnLost, ColumnAbsent, WrongType, Gap, Overlap, Memory}
 use Rattle.catalog.specs.Breaks.{SitesBreak, ColumnsBreak, HasNoName, IsNamedAgain, RelationBreaks, DocumentBreaks, CatalogueTextBreaks, listed_texts, text_before, texts_before}
 use Rattle.catalog.specs.Catalogue.{IsColumnText, IsSiteName, document_parts}
-use Rattle.catalog.specs.Columns.{IsColumnFault, IsFitFault}
+use Rattle.catalog.specs.Columns.{HasNoForm, IsColumnFault, IsFitFault}
 use Rattle.catalog.specs.Describes.{Each}
 use Rattle.catalog.specs.Node.{form_of, some_items, texts_at}
 use Rattle.catalog.specs.NodeBreaks.{NodeBreaks}
@@ -60,7 +60,7 @@ some_in P (y ∷ front) x after here = inr (some_in P front x after here)
 
 pub column_in : (front : List (List ℕ)) (text : List ℕ) (after : List (List ℕ)) (before columns : List Column) (rule : Rule) →
     before ≡ columns → Each IsColumnText front columns → IsColumnFault before text rule → is_of_text rule ≡ true → ColumnsBreak rule (front ++ text ∷ after)
-column_in front text after before columns Field same said fault of_text = inl (refl, inr (some_in (λ one. (column : Column) → IsColumnText one column → ⊥) front text after fault))
+column_in front text after before columns Field same said fault of_text = inl (refl, inr (some_in HasNoForm front text after fault))
 column_in front text after before columns Name same said fault of_text =
     inr (inl (refl, some_in HasNoName front text after (record { name = fault.0; kind = fault.1; spelled = fault.2; none = fault.3 })))
 column_in front text after before columns Twice same said fault of_text =

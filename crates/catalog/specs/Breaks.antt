@@ -12,7 +12,7 @@ use Rattle.reader.specs.Tokens.{IsName}
 use Rattle.catalog.specs.declared.fault.Rule.{Rule}
 use Rattle.catalog.specs.declared.fault.Rule.TheVariants.{Toml, Field, Name, Twice, KeyType, Limit}
 use Rattle.catalog.specs.Catalogue.{IsColumnText, IsSiteName, document_parts, entries, kind_word}
-use Rattle.catalog.specs.Columns.{has_column}
+use Rattle.catalog.specs.Columns.{HasNoForm, has_column}
 use Rattle.catalog.specs.Describes.{Each}
 use Rattle.catalog.specs.Document.{are_tables}
 use Rattle.catalog.specs.Node.{form_of, some_items, texts_at}
@@ -45,10 +45,10 @@ pub record IsNamedAgain (texts : List (List ℕ)) : Type 0 where
   pub says : IsColumnText text column
   pub again : has_column columns column.name ≡ true
 
--- the columns of a relation: there are none, or a text says none; a name is none; one stands twice; there are more than 16; the key is a text
+-- the columns of a relation: there are none, or a text is of no column; a name is none; one stands twice; there are more than 16; the key is a text
 abbrev pub ColumnsBreak : Rule → List (List ℕ) → Type 0
 ColumnsBreak rule texts =
-    ((rule ≡ Field) × ((texts ≡ []) ⊎ SomeOf (λ text. (column : Column) → IsColumnText text column → ⊥) texts))
+    ((rule ≡ Field) × ((texts ≡ []) ⊎ SomeOf HasNoForm texts))
     ⊎ (((rule ≡ Name) × SomeOf HasNoName texts)
     ⊎ (((rule ≡ Twice) × IsNamedAgain texts)
     ⊎ (((rule ≡ Limit) × (16 < length texts))

@@ -1,6 +1,6 @@
 -- The texts of a relation's columns.
-use Rattle.std.specs.Prelude.{◌≡◌, ◌≤◌, ◌<◌, ℕ, Bool, true, false, List, [], ◌∷◌, ◌++◌, Some, length, map, nat_eq}
-use Rattle.std.specs.List.{list_any, slice_get}
+use Rattle.std.specs.Prelude.{◌≡◌, ◌≤◌, ◌<◌, ℕ, ◌==◌, Bool, true, false, List, [], ◌∷◌, ◌++◌, Some, length, map, nat_eq}
+use Rattle.std.specs.List.{AllByRecursion, list_any, slice_get}
 use Rattle.std.specs.Cmp.Lexicographic.{pointwise}
 use Rattle.terms.specs.declared.value.Kind.TheVariants as kinds
 use Rattle.meaning.specs.declared.schema.Column.{Column}
@@ -56,9 +56,17 @@ IsFitFault columns KeyType = slice_get (map (λ column. column.kind) columns) 0 
 IsFitFault columns Field = columns ≡ []
 IsFitFault columns _ = ⊥
 
+-- no byte is a blank
+abbrev pub HasNoBlank : List ℕ → Type 0
+HasNoBlank bytes = AllByRecursion (λ byte. (byte == 32) ≡ false) bytes
+
+-- a text that is no name and a type's word with a blank between
+abbrev pub HasNoForm : List ℕ → Type 0
+HasNoForm text = (name : List ℕ) (kind : Kind) → HasNoBlank name → text ≡ name ++ 32 ∷ kind_word kind → ⊥
+
 -- what is wrong with the text of a column behind others, by the rule
 abbrev pub IsColumnFault : List Column → List ℕ → Rule → Type 0
-IsColumnFault before text Field = (column : Column) → IsColumnText text column → ⊥
+IsColumnFault before text Field = HasNoForm text
 IsColumnFault before text Name = (name : List ℕ) × (kind : Kind) × (text ≡ name ++ 32 ∷ kind_word kind) × (IsName name → ⊥)
 IsColumnFault before text Twice = (column : Column) × IsColumnText text column × (has_column before column.name ≡ true)
 IsColumnFault before text Memory = Unit {0}

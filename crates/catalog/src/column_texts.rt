@@ -7,7 +7,7 @@ ghost use Rattle.catalog.specs.Catalogue.{IsColumnText, kind_word};
 ghost use Rattle.catalog.specs.Columns as spec;
 ghost use Rattle.catalog.specs.declared.fault.Rule.TheVariants.{Field};
 ghost use Rattle.catalog.specs.Refuses.{is_of_text, is_shown};
-ghost use Rattle.catalog.specs.Columns.{AreColumns, RefusesColumns, RefusesColumn, FitRelation, RefusesFit, IsFitFault, IsColumnFault};
+ghost use Rattle.catalog.specs.Columns.{HasNoForm, AreColumns, RefusesColumns, RefusesColumn, FitRelation, RefusesFit, IsFitFault, IsColumnFault};
 
 use crate::fault::Rule;
 use meaning::schema::Column;
@@ -78,7 +78,7 @@ fn next_column(alloc: Global, before: &[Column], text: &str) -> Result<Column, R
 /// The two words of a text, of which the second is a type's.
 fn name_and_kind(text: &str) -> Option<(&str, Kind)>
     ensures some { IfSome result (λ found. text.now ≡ found.0.now ++ 32 ∷ kind_word found.1) }
-    ensures none { IfNone result ((column : Column) → IsColumnText text.now column → ⊥) }
+    ensures none { IfNone result (HasNoForm text.now) }
 {
     let (name, word) = text.split_once(' ')?;
     let kind = kind_of(word)?;

@@ -1,6 +1,6 @@
 use Rattle.std.proofs.Common.{◌≡◌, true, false, sym, subst, ◌∙◌}
 use Rattle.reader.specs.Tokens.{IsName}
-use Rattle.catalog.proofs.ColumnTexts.{named_so}
+use Rattle.catalog.proofs.ColumnTexts.{named_so, no_column}
 use Rattle.catalog.proofs.column_texts.next_column.Goals as goal
 
 pub returns-then-not-is_name-clause-none : goal.returns-then-not-is_name-clause-none
@@ -19,3 +19,6 @@ returns-then-has_column-clause-none c = λ column next.
 pub returns-then-has_column-clause-fault : goal.returns-then-has_column-clause-fault
 returns-then-has_column-clause-fault c =
     (record { name = c.in-Some.name.now; kind = c.in-Some.kind }, record { spelled = c.in-Some.ensures.some; name = subst IsName c.as_bytes.ensures.value (c.is_name.ensures.0 c.if-not-is_name.false) }, sym c.has_column.ensures ∙ c.if-has_column.true)
+
+pub returns-in_default-clause-none : goal.returns-in_default-clause-none
+returns-in_default-clause-none c = λ column next. no_column c.args.text.now c.in_default.ensures.none column next.says
