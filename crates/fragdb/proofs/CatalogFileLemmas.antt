@@ -6,7 +6,9 @@ use Rattle.catalog.specs.Fault.{Fault}
 use Rattle.catalog.specs.declared.fault.Rule.{Rule}
 use Rattle.catalog.specs.declared.fault.Rule.TheVariants.{Toml, Field, Name, Twice, NoSite, KeyType, ColumnTwice, ColumnLost, ColumnAbsent, WrongType, Gap, Overlap, Limit, Memory as NoMemory}
 use Rattle.catalog.specs.Catalogue.{Catalogue, IsCatalogueText}
+use Rattle.catalog.specs.Breaks.{CatalogueTextBreaks}
 use Rattle.catalog.specs.Document.{RefusesText}
+use Rattle.catalog.specs.Refuses.{is_of_text}
 use Rattle.catalog.specs.Refusal.{RefusesBy}
 use Rattle.fragdb.specs.declared.catalog_file.CatalogFault.TheVariants.{Program, Refused}
 use Rattle.fragdb.specs.declared.fault.ProgramFault.TheVariants.{Memory}
@@ -50,6 +52,7 @@ no_text_of bytes read told rule front (inl (long, is)) =
       sure = refl;
       long = λ _. refl;
       no_text = λ short _. absurd (omega arith);
+      breaks = λ of_text utf8. inl (refl, more);
     })
 no_text_of bytes read told rule front (inr (short, other, is)) =
     let P : Rule → Type 0 = RefusesFile bytes told in
@@ -60,11 +63,12 @@ no_text_of bytes read told rule front (inr (short, other, is)) =
       sure = refl;
       long = λ more. absurd (omega arith);
       no_text = λ _ _. refl;
+      breaks = λ of_text utf8. absurd (other (subst IsUtf8 (sym all) utf8));
     })
 
 -- a text that is refused, and not for want of memory
-refused_of : (bytes read text : List ℕ) (told : Option (List ℕ)) (rule : Rule) → read ≡ bytes → IsTextOf read text → RefusesText text told rule → is_memory rule ≡ false → RefusesFile bytes told rule
-refused_of bytes read text told rule all of refuses sure =
+refused_of : (bytes read text : List ℕ) (told : Option (List ℕ)) (rule : Rule) → read ≡ bytes → IsTextOf read text → RefusesText text told rule → (is_of_text rule ≡ true → CatalogueTextBreaks rule text) → is_memory rule ≡ false → RefusesFile bytes told rule
+refused_of bytes read text told rule all of refuses broken sure =
     let same = of.same ∙ all in
     let short : length bytes ≤ 65536 = rw (sym all) of.short in
     let utf8 = subst IsUtf8 all of.utf8 in
@@ -74,6 +78,7 @@ refused_of bytes read text told rule all of refuses sure =
       sure = sure;
       long = λ more. absurd (omega arith);
       no_text = λ _ other. absurd (other utf8);
+      breaks = λ of_text _. subst (CatalogueTextBreaks rule) same (broken of_text);
     }
 
 fault_by : (file : Bor (List ℕ)) (bytes : List ℕ) (fault : Fault) (is : Bool) → (is ≡ false → RefusesFile bytes fault.relation fault.rule) → IsFaultOf file bytes (cond is (Program Memory) (Refused fault))
@@ -85,10 +90,11 @@ pub no_text : (file : Bor (List ℕ)) (known : Option (List ℕ)) (read : List �
 no_text file None read fault front none = tt
 no_text file (Some bytes) read fault front none = fault_by file bytes fault (is_memory fault.rule) (λ _. no_text_of bytes read fault.relation fault.rule front none)
 
-pub refused_text : (file : Bor (List ℕ)) (known : Option (List ℕ)) (read text : List ℕ) (fault : Fault) → IfSome known (λ bytes. read ≡ take (65536 + 1) bytes) → IsTextOf read text → RefusesText text fault.relation fault.rule → IfSome known (λ bytes. IsFaultOf file bytes (fault_of_refusal fault))
-refused_text file None read text fault front of refuses = tt
-refused_text file (Some bytes) read text fault front of refuses =
-    fault_by file bytes fault (is_memory fault.rule) (λ sure. refused_of bytes read text fault.relation fault.rule (all_read bytes read 65536 front of.short) of refuses sure)
+pub refused_text : (file : Bor (List ℕ)) (known : Option (List ℕ)) (read text : List ℕ) (fault : Fault) → IfSome known (λ bytes. read ≡ take (65536 + 1) bytes) → IsTextOf read text → RefusesText text fault.relation fault.rule → (is_of_text fault.rule ≡ true → CatalogueTextBreaks fault.rule text) →
+    IfSome known (λ bytes. IsFaultOf file bytes (fault_of_refusal fault))
+refused_text file None read text fault front of refuses broken = tt
+refused_text file (Some bytes) read text fault front of refuses broken =
+    fault_by file bytes fault (is_memory fault.rule) (λ sure. refused_of bytes read text fault.relation fault.rule (all_read bytes read 65536 front of.short) of refuses broken sure)
 
 -- the exit of a `?` whose error is known
 pub err_is : {T E : Type 0} (r : Result T E) (Q : E → Type 0) (y : E) → IsErrAnd r (λ x. x ≡ y) → Q y → IfErr r Q

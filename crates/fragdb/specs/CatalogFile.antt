@@ -6,8 +6,10 @@ use Rattle.catalog.specs.Fault.{Fault}
 use Rattle.catalog.specs.declared.fault.Rule.{Rule}
 use Rattle.catalog.specs.declared.fault.Rule.TheVariants as rules
 use Rattle.catalog.specs.Catalogue.{Catalogue, IsCatalogueText, IsValidCatalogue}
+use Rattle.catalog.specs.Breaks.{CatalogueTextBreaks}
 use Rattle.catalog.specs.Inexact.{IsFirstFaulty}
 use Rattle.catalog.specs.Refusal.{RefusesBy}
+use Rattle.catalog.specs.Refuses.{is_of_text}
 use Rattle.fragdb.specs.declared.catalog_file.CatalogFault.{CatalogFault}
 use Rattle.fragdb.specs.declared.catalog_file.CatalogFault.TheVariants.{Program, Refused}
 use Rattle.fragdb.specs.declared.fault.ProgramFault.TheVariants.{Memory}
@@ -50,11 +52,13 @@ is_memory rules.Memory = true
 is_memory _ = false
 
 -- A refusal of bytes by the rule, with the name of a relation if it is in one. Too many bytes are refused as that, whatever they are.
+-- A text breaks the rule.
 pub record RefusesFile (bytes : List ℕ) (told : Option (List ℕ)) (rule : Rule) : Type 0 where
   pub none : RefusesBy (IsFaultyFile bytes told rule) (IsFileOfNone bytes) rule
   pub sure : is_memory rule ≡ false
   pub long : longest_catalogue < length bytes → rule ≡ rules.Limit
   pub no_text : length bytes ≤ longest_catalogue → ¬ (IsUtf8 bytes) → rule ≡ rules.Toml
+  pub breaks : is_of_text rule ≡ true → IsUtf8 bytes → CatalogueTextBreaks rule bytes
 
 -- why this file, of these bytes, gives no catalogue
 abbrev pub IsFaultOf : Bor (List ℕ) → List ℕ → CatalogFault → Type 0

@@ -16,7 +16,7 @@ returns-in_err-read-clause-faults g c =
     let fault = c.in_err-read.field-0.0 in
     let P : List ℕ → Type 0 = λ bytes. IsTextOf bytes c.in_ok-text.text.now in
     err_is c.from_residual-in_err-read.result (λ fault. IfSome (g.R.Read.remaining c.args.input) (λ bytes. IsFaultOf c.args.file bytes fault)) (fault_of_refusal fault) c.from_residual-in_err-read.ensures.1
-    (refused_text c.args.file (g.R.Read.remaining c.args.input) c.in_ok-bytes.bytes.items c.in_ok-text.text.now fault c.in_ok-bytes.ensures.front (subst P c.as_slice.ensures.value c.in_ok-text.ensures.text) c.in_err-read.ensures.none)
+    (refused_text c.args.file (g.R.Read.remaining c.args.input) c.in_ok-bytes.bytes.items c.in_ok-text.text.now fault c.in_ok-bytes.ensures.front (subst P c.as_slice.ensures.value c.in_ok-text.ensures.text) c.in_err-read.ensures.none c.in_err-read.ensures.breaks)
 
 pub returns-clause-found : goal.returns-clause-found
 returns-clause-found g c =
