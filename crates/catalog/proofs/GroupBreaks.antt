@@ -1,6 +1,6 @@
 -- What the refusal of groups says of them, by its rule.
 use Rattle.std.proofs.Common.{◌≡◌, ◌⊎◌, ◌<◌, ℕ, zero, suc, Bool, true, false, ◌||◌, ◌==◌, List, [], ◌∷◌, ◌++◌, Option, Some, None, option_map, option_and_then, length, map, take, get_or, inl, inr, refl, sym, ap, ◌∙◌, subst, arith, append_assoc, append-nil}
-use Rattle.std.specs.Prelude.{codes, flat_map, unwrap_or}
+use Rattle.std.specs.Prelude.{codes, unwrap_or}
 use Rattle.std.specs.List.{cons_option, filter_map}
 use Rattle.reader.specs.Breaks.{SomeOf}
 use Rattle.reader.specs.Names.{all_of}
@@ -11,7 +11,7 @@ use Rattle.catalog.specs.Counts.{has}
 use Rattle.catalog.specs.Describes.{Frame, named_in, place_within}
 use Rattle.catalog.specs.Node.{texts_at}
 use Rattle.catalog.specs.NodeBreaks.{GroupBreaks, GroupsBreak, IsAgain, names_in, names_said, place_before, places_before, places_said}
-use Rattle.catalog.specs.Parts.{named, AreApart, first_lost}
+use Rattle.catalog.specs.Parts.{named, AreApart}
 use Rattle.catalog.specs.Refuses.{IsPartsFault, is_of_text}
 use Rattle.catalog.proofs.GroupNames.{both_answers}
 use Rattle.catalog.proofs.NodeBreaks.{some_taken}

@@ -1,14 +1,13 @@
 -- How many leaves a node says: as many as the tree has that it describes.
-use Rattle.std.proofs.Common.{◌≡◌, ◌<◌, ◌≤◌, ◌+◌, ℕ, zero, suc, List, [], ◌∷◌, ◌++◌, length, map, take, refl, sym, ap, ap₂, ◌∙◌, subst, arith}
+use Rattle.std.proofs.Common.{◌≡◌, ◌+◌, ℕ, zero, suc, List, [], ◌∷◌, ◌++◌, length, refl, sym, ap, ap₂, ◌∙◌}
 use Rattle.std.specs.Prelude.{codes}
 use Rattle.toml.specs.Data.{Data}
 use Rattle.terms.specs.declared.cond.Cond.{Cond}
-use Rattle.catalog.specs.Describes.{Frame, Each, Describes, AreBranches, AreGroups}
-use Rattle.catalog.specs.Node.{Form, AtSite, SplitByRows, SplitByCols, form_of}
+use Rattle.catalog.specs.Describes.{Frame, Describes, AreBranches, AreGroups}
+use Rattle.catalog.specs.Node.{form_of}
 use Rattle.catalog.specs.NodeBreaks.{leaves_said, leaves_of_all}
 use Rattle.catalog.specs.Path.{paths, paths_by_rows, paths_by_cols}
-use Rattle.catalog.specs.Split.{Tree, Site, ByRows, ByCols, Branches, NoBranch, Branch, Groups, NoGroup, Group, TreeBranch, TreeGroup, branches_of, groups_of}
-use Rattle.catalog.proofs.Below.{IsBranch, IsGroup, are_branches, are_groups}
+use Rattle.catalog.specs.Split.{Tree, Site, ByRows, ByCols, Branches, NoBranch, Branch, Groups, NoGroup, Group}
 use Rattle.catalog.proofs.Leaves.{rows_first, cols_first}
 
 mutual

@@ -1,5 +1,6 @@
 -- The lemmas, from trees and their leaves to documents and their texts.
 pub mod Trees
+pub mod SameTrees
 pub mod Counts
 pub mod Exactly
 pub mod Somewhere

@@ -1,5 +1,5 @@
 -- What the refusal of a node says of it, by its rule.
-use Rattle.std.proofs.Common.{◌≡◌, ◌≢◌, ◌⊎◌, ◌<◌, ◌≤◌, ◌+◌, ℕ, zero, suc, Bool, true, false, ◌||◌, List, [], ◌∷◌, ◌++◌, Option, Some, None, length, map, take, get_or, inl, inr, refl, sym, ap, ◌∙◌, subst, arith, append_assoc, append-nil}
+use Rattle.std.proofs.Common.{◌≡◌, ◌≢◌, ◌⊎◌, ◌<◌, ◌≤◌, ◌+◌, ℕ, zero, suc, true, false, List, [], ◌∷◌, ◌++◌, Option, Some, length, map, take, get_or, inl, inr, refl, sym, ap, ◌∙◌, subst, arith}
 use Rattle.std.specs.Prelude.{codes}
 use Rattle.reader.specs.Breaks.{CondsTextBreaks, SomeOf}
 use Rattle.reader.specs.declared.fault.Rule as readers
@@ -11,7 +11,7 @@ use Rattle.catalog.specs.declared.fault.Rule.{Rule}
 use Rattle.catalog.specs.declared.fault.Rule.TheVariants.{Limit, Toml, Field, Name, Twice, NoSite, KeyType, ColumnTwice, ColumnLost, ColumnAbsent, WrongType, Gap, Overlap, Memory}
 use Rattle.reader.specs.Names.{all_of}
 use Rattle.catalog.specs.Below.{IsLeafFault}
-use Rattle.catalog.specs.Describes.{Frame, kinds_in, Each, IsWhere, HasFewCells, in_order, named_in, visible}
+use Rattle.catalog.specs.Describes.{Frame, Each, IsWhere, in_order, named_in}
 use Rattle.catalog.specs.Node.{Form, AtSite, SplitByRows, SplitByCols, form_of, text_at}
 use Rattle.catalog.specs.NodeBreaks.{TextBreaks, WhereBreaks, CellsBreak, GroupsBreak, FormBreaks, NodeBreaks, BranchesBreak, BelowBreak, IsLeafTooMany, leaves_said, leaves_of_all}
 use Rattle.catalog.specs.Path.{paths_by_rows, paths_by_cols}

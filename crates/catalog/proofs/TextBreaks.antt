@@ -1,5 +1,5 @@
 -- What the refusal of sites and of columns says of their texts, by its rule.
-use Rattle.std.proofs.Common.{◌≡◌, ◌⊎◌, ◌<◌, ℕ, zero, suc, Bool, true, false, List, [], ◌∷◌, ◌++◌, Option, Some, None, length, map, take, drop, get_or, inl, inr, refl, sym, ap, ◌∙◌, subst, arith}
+use Rattle.std.proofs.Common.{◌≡◌, ◌⊎◌, ◌<◌, ℕ, zero, suc, true, false, List, [], ◌∷◌, ◌++◌, Option, Some, None, length, map, take, drop, get_or, inl, inr, refl, sym, ap, ◌∙◌, subst, arith}
 use Rattle.std.proofs.Common.{append_assoc, is_some, option_and_then, String, Global}
 use Rattle.toml.specs.declared.value.Value.{Value}
 use Rattle.std.specs.Prelude.{codes, unwrap_or}
@@ -8,10 +8,9 @@ use Rattle.toml.specs.Parse.{parse_document}
 use Rattle.toml.specs.View.{members_view}
 use Rattle.meaning.specs.declared.schema.Column.{Column}
 use Rattle.reader.specs.Breaks.{SomeOf}
-use Rattle.reader.specs.Printable.{AreDistinct}
 use Rattle.catalog.specs.declared.fault.Rule.{Rule}
 use Rattle.catalog.specs.declared.fault.Rule.TheVariants.{Limit, Toml, Field, Name, Twice, NoSite, KeyType, ColumnTwice, ColumnLost, ColumnAbsent, WrongType, Gap, Overlap, Memory}
-use Rattle.catalog.specs.Breaks.{SitesBreak, ColumnsBreak, HasNoName, IsNamedAgain, RelationBreaks, DocumentBreaks, CatalogueTextBreaks, listed_texts, text_before, texts_before}
+use Rattle.catalog.specs.Breaks.{SitesBreak, ColumnsBreak, HasNoName, RelationBreaks, DocumentBreaks, CatalogueTextBreaks, listed_texts, text_before, texts_before}
 use Rattle.catalog.specs.Catalogue.{IsColumnText, IsSiteName, document_parts}
 use Rattle.catalog.specs.Columns.{HasNoForm, IsColumnFault, IsFitFault}
 use Rattle.catalog.specs.Describes.{Each}

@@ -1,5 +1,5 @@
 -- What the refusal of a catalogue says of its text, by its rule.
-use Rattle.std.specs.Prelude.{◌≡◌, ◌⊎◌, ◌<◌, ℕ, Bool, true, false, List, [], ◌∷◌, ◌++◌, Option, Some, None, codes, length, map, unwrap_or, option_and_then}
+use Rattle.std.specs.Prelude.{◌≡◌, ◌⊎◌, ◌<◌, ℕ, true, false, List, [], ◌∷◌, ◌++◌, Option, Some, None, codes, length, map, unwrap_or, option_and_then}
 use Rattle.std.specs.List.{slice_get}
 use Rattle.toml.specs.Data.{Data, table, Members, as_str, get}
 use Rattle.toml.specs.Parse.{parse_document}

@@ -1,12 +1,13 @@
 //! Fragment trees: how a relation's rows and columns are split over sites.
 
-ghost use Rattle.std.specs.Prelude.{◌≡◌, IfOk, map};
+ghost use Rattle.std.specs.Prelude.{◌≡◌, ◌↔◌, IfOk, IsTrue, map};
 ghost use Rattle.catalog.specs.Split.{tree_of, tree_branch, tree_group};
 
 use std::alloc::Global;
 use terms::cond::Conds;
 use terms::copy::TryCopy;
 use terms::memory::Memory;
+use terms::same::Same;
 use terms::seq::Seq;
 
 /// A branch of a row split: the rows of which its conditions hold, split further.
@@ -53,6 +54,71 @@ impl Split {
             }
         }
     }
+
+    /// Whether this is the same tree as another.
+    #[cycle(comparisons)]
+    pub fn same(&self, other: &Split) -> bool
+        ensures { IsTrue result ↔ (tree_of self.now ≡ tree_of other.now) }
+    {
+        match self {
+            Split::Leaf(site) => match other {
+                Split::Leaf(other) => *site == *other,
+                _ => false,
+            },
+            Split::ByRows(branches) => match other {
+                Split::ByRows(others) => same_branches(branches.as_slice(), others.as_slice()),
+                _ => false,
+            },
+            Split::ByCols(groups) => match other {
+                Split::ByCols(others) => same_groups(groups.as_slice(), others.as_slice()),
+                _ => false,
+            },
+        }
+    }
+}
+
+#[cycle(comparisons)]
+fn same_branches(branches: &[Branch], others: &[Branch]) -> bool
+    ensures { IsTrue result ↔ (map tree_branch branches.now ≡ map tree_branch others.now) }
+{
+    if branches.len() != others.len() {
+        return false;
+    }
+    for place in 0..branches.len() {
+        if !same_branch(&branches[place], &others[place]) {
+            return false;
+        }
+    }
+    true
+}
+
+#[cycle(comparisons)]
+fn same_branch(branch: &Branch, other: &Branch) -> bool
+    ensures { IsTrue result ↔ (tree_branch branch.now ≡ tree_branch other.now) }
+{
+    branch.conds.same(&other.conds) && branch.split.same(&other.split)
+}
+
+#[cycle(comparisons)]
+fn same_groups(groups: &[Group], others: &[Group]) -> bool
+    ensures { IsTrue result ↔ (map tree_group groups.now ≡ map tree_group others.now) }
+{
+    if groups.len() != others.len() {
+        return false;
+    }
+    for place in 0..groups.len() {
+        if !same_group(&groups[place], &others[place]) {
+            return false;
+        }
+    }
+    true
+}
+
+#[cycle(comparisons)]
+fn same_group(group: &Group, other: &Group) -> bool
+    ensures { IsTrue result ↔ (tree_group group.now ≡ tree_group other.now) }
+{
+    group.columns.same(&other.columns) && group.split.same(&other.split)
 }
 
 #[cycle(copies)]

@@ -1,4 +1,4 @@
-use Rattle.std.proofs.Common.{inr, ◌≡◌, List, ℕ, [], ◌∷◌, add-one, map, refl, sym, ap, ◌∙◌, subst, option_map}
+use Rattle.std.proofs.Common.{inr, List, ℕ, add-one, sym, ap, ◌∙◌, option_map}
 use Rattle.std.specs.Borrow.{Bor}
 use Rattle.toml.specs.View.{view}
 use Rattle.catalog.proofs.TextBreaks.{texts_more, item_break}

@@ -1,4 +1,4 @@
-use Rattle.std.proofs.Common.{◌≡◌, List, ◌++◌, ℕ, drop, map, take}
+use Rattle.std.proofs.Common.{◌≡◌, List, ◌++◌, ℕ, drop, map}
 use Rattle.toml.specs.View.{view}
 use Rattle.catalog.specs.Breaks.{texts_before}
 use Rattle.catalog.specs.Catalogue.{IsColumnText}

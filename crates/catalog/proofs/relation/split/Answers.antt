@@ -1,4 +1,4 @@
-use Rattle.std.proofs.Common.{◌≡◌, List, ℕ, [], true, map, IfErr, ◌∙◌, subst}
+use Rattle.std.proofs.Common.{◌≡◌, List, ℕ, [], true, IfErr, ◌∙◌, subst}
 use Rattle.std.specs.Prelude.{codes}
 use Rattle.toml.specs.View.{view}
 use Rattle.catalog.specs.Node.{form_of}
