@@ -1,10 +1,11 @@
 #!/usr/bin/env bash
-# Refuses each allocation of `fragdb solo` on a script, and of `fragdb check` on catalogues, in turn, and says how the
-# runs end. Each must end with status 4, `fragdb: out of memory` and the beginning of the whole output, or go on as if
+# Refuses each allocation of `fragdb solo` on a script, of `fragdb check` on catalogues and of `fragdb plan` on a join
+# and an update, in turn, and says how the runs end. Each must end with status 4, `fragdb: out of memory` and the beginning of the whole output, or go on as if
 # nothing had happened. It wants a C compiler (cc), for a library that stands before the system's allocator.
 #
-# usage: bench/refused_memory.sh [PROGRAM [COMMAND FILE]]
-# (default: crates/fragdb/out/fragdb, and `solo` on crates/fragdb/stdin and `check` on each catalogue of crates/fragdb/data)
+# usage: bench/refused_memory.sh [PROGRAM [COMMAND ARGUMENT ..]]
+# (default: crates/fragdb/out/fragdb, and `solo` on crates/fragdb/stdin, `check` on each catalogue of crates/fragdb/data
+# and `plan` of two statements on one)
 set -eu
 top=$(cd "$(dirname "$0")/.." && pwd)
 program=${1:-$top/crates/fragdb/out/fragdb}
@@ -13,10 +14,12 @@ trap 'rm -rf "$folder"' EXIT
 
 cc -shared -fPIC -O1 -o "$folder/refuse.so" "$top/bench/refuse.c" -ldl
 
-# Runs the command $2 on the file $3 with allocation $1 refused, and leaves the number of its allocations in `calls`.
+# Runs the program on the other arguments with allocation $1 refused, and leaves the number of its allocations in `calls`.
 run() {
+    local number=$1
+    shift
     status=0
-    REFUSE=$1 LD_PRELOAD=$folder/refuse.so "$program" "$2" "$3" \
+    REFUSE=$number LD_PRELOAD=$folder/refuse.so "$program" "$@" \
         9> "$folder/calls" > "$folder/output" 2> "$folder/errors" || status=$?
     calls=$(cat "$folder/calls")
 }
@@ -33,35 +36,38 @@ is_ended() {
 }
 
 all_wrong=0
-# Refuses each allocation of the command $1 on the file $2.
+# Refuses each allocation of the program on these arguments.
 refuse_each() {
-    run 0 "$1" "$2"
+    run 0 "$@"
     mv "$folder/output" "$folder/whole"
     mv "$folder/errors" "$folder/whole_errors"
     whole_status=$status
     local last=$calls number=1 ended=0 same=0 wrong=0
     while [ "$number" -le "$last" ]; do
-        run "$number" "$1" "$2"
+        run "$number" "$@"
         if is_ended; then
             ended=$((ended + 1))
         elif is_same; then
             same=$((same + 1))
         else
             wrong=$((wrong + 1))
-            echo "$1 $2: allocation $number: status $status: $(cat "$folder/errors")"
+            echo "$*: allocation $number: status $status: $(cat "$folder/errors")"
         fi
         number=$((number + 1))
     done
-    echo "$1 $2: $last allocations refused in turn: $ended ended for want of memory, $same went on the same, $wrong wrong"
+    echo "$*: $last allocations refused in turn: $ended ended for want of memory, $same went on the same, $wrong wrong"
     all_wrong=$((all_wrong + wrong))
 }
 
-if [ $# -ge 3 ]; then
-    refuse_each "$2" "$3"
+if [ $# -ge 2 ]; then
+    shift
+    refuse_each "$@"
 else
     refuse_each solo "$top/crates/fragdb/stdin"
     for catalogue in "$top"/crates/fragdb/data/*.toml; do
         refuse_each check "$catalogue"
     done
+    refuse_each plan "$top/crates/fragdb/data/emp_and_dept.toml" "SELECT emp.id, dept.title FROM emp JOIN dept ON emp.dept = dept.no WHERE dept.no = 12"
+    refuse_each plan "$top/crates/fragdb/data/emp_and_dept.toml" "UPDATE emp SET dept = dept + 5 WHERE id = 1"
 fi
 [ "$all_wrong" = 0 ]
