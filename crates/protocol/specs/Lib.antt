@@ -7,4 +7,5 @@ pub mod Serial
 pub mod Whole
 pub mod Parts
 pub mod Client
+pub mod Statements
 pub mod Toy
