@@ -7,4 +7,6 @@ pub mod Serial
 pub mod Whole
 pub mod Parts
 pub mod Client
+pub mod Spots
+pub mod Course
 pub mod Toy
