@@ -11,7 +11,7 @@ use Rattle.protocol.proofs.Ranks.{none_any}
 use Rattle.protocol.proofs.Queue.{Unlocked, unlocked_free, Flow, flow_append, Spot, Asked, Works, away, asked, offered, works}
 
 -- the heads of equal lists
-head_is : {A : Type 0} (x y : A) (xs ys : List A) → x ∷ xs ≡ y ∷ ys → x ≡ y
+pub head_is : {A : Type 0} (x y : A) (xs ys : List A) → x ∷ xs ≡ y ∷ ys → x ≡ y
 head_is x y xs ys e = cc
 
 not_other : (b c : Bool) → (b ≡ false → c ≡ false) → (not b && c) ≡ false
