@@ -47,7 +47,7 @@ module _ {L : Lang} where
 
   module _ (law : IsLawful L) where
     -- something is said to it once
-    at_said : (t : Name) (says : L.Site → Option (Body L)) (a : L.Site) (c : Body L) (sites : List L.Site) → In a sites → Once sites → says a ≡ Some c → at a (letters_to t says sites) ≡ c ∷ []
+    pub at_said : (t : Name) (says : L.Site → Option (Body L)) (a : L.Site) (c : Body L) (sites : List L.Site) → In a sites → Once sites → says a ≡ Some c → at a (letters_to t says sites) ≡ c ∷ []
     at_said t says a c [] here once e = absurd here
     at_said t says a c (b ∷ sites) (inl is) once e =
         go (says b) (ap says (sym is) ∙ e) (at_none (λ i. if_apart b sites is once.0 i))

@@ -35,7 +35,7 @@ module _ {L : Lang} where
   pub none_locked : (s : SiteState L) (k : Name) (g : L.Leaf) → ((j : Name) → same j k ≡ false → Unlocked (s.status j)) → others_lock s k g ≡ false
   none_locked s k g free = none_any (λ j. not (same j k) && has_lock g (s.status j)) s.known (λ j here. not_other (same j k) (has_lock g (s.status j)) (λ other. unlocked_free g (s.status j) (free j other)))
 
-  sees_unlocked : (g : L.Leaf) (st : Status L) → Unlocked st → Unlocked (sees g st)
+  pub sees_unlocked : (g : L.Leaf) (st : Status L) → Unlocked st → Unlocked (sees g st)
   sees_unlocked g Dead free = free
   sees_unlocked g (Alive v) free = free
   sees_unlocked g (Prepared t i) free = free

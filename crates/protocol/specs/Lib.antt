@@ -9,4 +9,5 @@ pub mod Parts
 pub mod Client
 pub mod Spots
 pub mod Course
+pub mod Leaving
 pub mod Toy
