@@ -67,7 +67,7 @@ module _ {L : Lang} where
   letter_idles t a kept choice c (Row voters acked) none = row_idles t voters acked a kept c
   letter_idles t a kept choice c (Known u) none = let e : true ≡ false = none in cc
 
-  desk_no_end : (c : Body L) → is_for_desk c ≡ true → NoEnd c
+  pub desk_no_end : (c : Body L) → is_for_desk c ≡ true → NoEnd c
   desk_no_end (Commit k) e = let f : false ≡ true = e in absurd (cc)
   desk_no_end (Abort k) e = let f : false ≡ true = e in absurd (cc)
   desk_no_end Open e = tt
@@ -82,7 +82,7 @@ module _ {L : Lang} where
   desk_no_end (Inquire k) e = tt
 
   -- either no limit is met, or the letter may be let go
-  end_or_not : (c : Body L) → OfTheEnd c ⊎ NoEnd c
+  pub end_or_not : (c : Body L) → OfTheEnd c ⊎ NoEnd c
   end_or_not (Commit k) = inl tt
   end_or_not (Abort k) = inl tt
   end_or_not Open = inr tt
