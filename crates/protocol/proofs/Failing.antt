@@ -1,226 +1,184 @@
--- A statement that fails: each letter that comes leaves a transaction that may be given up, or has ended.
+-- A statement that fails: each letter that comes leaves a transaction that may be given up, or has ended, until no letter waits.
 use Rattle.std.proofs.Common.{◌≡◌, refl, sym, ap, ◌∙◌, subst, ℕ, suc, ◌==◌, ◌&&◌, ◌||◌, not, Bool, true, false, List, [], ◌∷◌, ◌++◌, map, if◌then◌else◌, Option, Some, None, is_some, is_none, ◌⊎◌, inl, inr, ⊎_elim, append-nil, append_assoc}
 use Rattle.std.specs.Prelude.{⊤}
-use Rattle.std.specs.List.{list_all}
 use Rattle.protocol.specs.Language.{Lang, IsLawful, Name, same, put}
-use Rattle.protocol.specs.Letter.{Body, Vote, Reason, Open, Fetch, Write, Prepare, Commit, Abort, Ticket, Rows, Refused, Voted, Ack, Inquire, Letter, letters_to, is_for_desk}
+use Rattle.protocol.specs.Letter.{Body, Vote, Reason, Open, Fetch, Write, Prepare, Commit, Abort, Ticket, Rows, Refused, Voted, Ack, Inquire, Letter, is_for_desk}
 use Rattle.protocol.specs.Site.{Status, SiteState, on_letter, site_after, said, is_within}
-use Rattle.protocol.specs.Desk.{Ask, Choice, Stage, Idle, Reading, Writing, Voting, Undecided, Txn, Unknown, Known, Deed, Stated, Worked, Answered, Aborted, By_refusal, Turn, stays, is_undecided, is_named, ask_out, asks_out, write_out, writes_out, is_new, opening, opens, visits, asks_go, writing, writes_go, works, after_deed, ticket_goes, awaits, with_rows, on_rows, on_ticket, on_refused, on_vote, on_known, on_desk_letter, desk_after, is_desk_within, ends_by}
+use Rattle.protocol.specs.Desk.{Choice, Stage, Idle, Reading, Writing, Voting, Undecided, Txn, Unknown, Known, Deed, Aborted, By_refusal, Turn, stays, is_named, ticket_goes, on_rows, on_ticket, on_refused, on_vote, on_known, on_desk_letter, desk_after, is_desk_within, ends_by}
 use Rattle.protocol.specs.World.{World, turned, turns, with_site, addressed, comes_to}
 use Rattle.protocol.specs.Parts.{is_voting}
-use Rattle.protocol.specs.Client.{first, next}
+use Rattle.protocol.specs.Client.{first, next, IsQuiet}
 use Rattle.protocol.specs.Spots.{at}
 use Rattle.protocol.specs.Course.{AtSites}
-use Rattle.protocol.specs.Leaving.{Closed, LeavingAt, Ending, EndKept, Within, Own, Fruitless, Since, leaves_of, Loose}
-use Rattle.protocol.proofs.Basics.{Every, In, in_left, in_right, every_append, every_map, every_more, every_self, either, either_if, put_all, put_here, same_law, same_refl, if_true, if_false, clash, by_test, some_is, or_left, or_cases, left_true, right_true, found, not_false}
+use Rattle.protocol.specs.Leaving.{Closed, LeavingAt, Ending, EndKept, Within, Own, Fruitless, Since, leaves_of, Loose, Doomed, Failing, doomed, has_ended}
+use Rattle.protocol.proofs.Basics.{Every, In, in_left, in_right, every_append, every_map, either, either_if, put_all, put_here, put_there, same_law, same_refl, if_true, if_false, clash, by_test, some_is}
 use Rattle.protocol.proofs.Locks.{Once}
-use Rattle.protocol.proofs.Turns.{every_letter}
-use Rattle.protocol.proofs.Going.{opening_is}
-use Rattle.protocol.proofs.Ranks.{all_visited, in_map}
 use Rattle.protocol.proofs.Queue.{at_append, at_here, at_away}
+use Rattle.protocol.proofs.Waiting.{in_at}
 use Rattle.protocol.proofs.Working.{with_ticket}
 use Rattle.protocol.proofs.Limits.{end_within}
-use Rattle.protocol.proofs.Leaving.{NoOp, NoEnd, closed_none, closed_append, left}
-use Rattle.protocol.proofs.Ended.{at_none, in_front, elsewhere, by_site, end_or_not, desk_no_end}
-use Rattle.protocol.proofs.Loose.{leaving_to, loose_ends, loose_lost, ends_within}
-
--- what is said of each leaf
-at_leaves : (L : Lang) {A : Type 0} (leaf : A → L.Leaf) (xs : List A) → Every (λ x. In (L.home (leaf x)) L.sites) xs → AtSites L (map leaf xs)
-at_leaves L leaf [] all g here = absurd here
-at_leaves L leaf (x ∷ xs) all g (inl e) = subst (λ h. In (L.home h) L.sites) (sym e) all.0
-at_leaves L leaf (x ∷ xs) all g (inr below) = at_leaves L leaf xs all.1 g below
+use Rattle.protocol.proofs.Leaving.{NoEnd, left}
+use Rattle.protocol.proofs.Ended.{in_front, elsewhere, end_or_not, desk_no_end, ending_goes_on, ending_quiet}
+use Rattle.protocol.proofs.Loose.{loose_ends, loose_lost, ends_within}
+use Rattle.protocol.proofs.LooseTurns.{LooseTurn, since_more, loose_turned, loose_stays, goes_loose, rows_loose}
 
 module _ {L : Lang} where
-  -- an operation goes to an own ticket
-  abbrev pub OwnLetter : Undecided L → Letter L → Type 0
-  OwnLetter v l = Closed (Own v l.site) (l.body ∷ [])
+  -- what a letter from a site makes of a transaction that may be given up
+  data KnownTurn (t : Name) (u : Undecided L) (turn : Turn L) : Type 0 where
+    goes : LooseTurn t u turn → KnownTurn t u turn
+    ends : (d : Deed L) → turn ≡ ends_by t u d → Fruitless t d → KnownTurn t u turn
 
-  own_closed : (v : Undecided L) (a : L.Site) (letters : List (Letter L)) → IsLawful L → Every (OwnLetter v) letters → Closed (Own v a) (at a letters)
-  own_closed v a [] law all = tt
-  own_closed v a (l ∷ letters) law all = either_if (Closed (Own v a)) (L.same_site a l.site) (l.body ∷ at a letters) (at a letters)
-      (λ is. closed_append (Own v a) (l.body ∷ []) (at a letters) (subst (λ b. Closed (Own v b) (l.body ∷ [])) (sym ((law.sites a l.site).0 is)) all.0) (own_closed v a letters law all.1))
-      (λ other. own_closed v a letters law all.1)
+  -- one step of such a transaction: it may still be given up and keeps its tickets, or it has ended. old: its tickets before, q: the letters that still wait
+  pub data LooseStep (t : Name) (before : List (Deed L)) (old : L.Site → Option Name) (q : List (Letter L)) (w : World L) : Type 0 where
+    still : (loose : Loose t before w) → ((a : L.Site) (k : Name) → old a ≡ Some k → loose.u.ticket a ≡ Some k) → ((a : L.Site) (c : Body L) → In c (at a q) → In c (at a w.letters)) → LooseStep t before old q w
+    over : (deeds : List (Deed L)) → Since t before deeds → Ending deeds w → LooseStep t before old q w
 
-  -- stage and counts say nothing of tickets
-  own_still : (v : Undecided L) (counts : L.Site → ℕ) (stage : Stage L) (l : Letter L) → OwnLetter v l → OwnLetter (record v { sent = counts; stage = stage }) l
-  own_still v counts stage l own = closed_still l.body own
-    where
-      closed_still : (c : Body L) → Closed (Own v l.site) (c ∷ []) → Closed (Own (record v { sent = counts; stage = stage }) l.site) (c ∷ [])
-      closed_still (Fetch k op g q) own = own
-      closed_still (Write k op g x) own = own
-      closed_still (Prepare k n) own = own
-      closed_still Open own = tt
-      closed_still (Commit k) own = tt
-      closed_still (Abort k) own = tt
-      closed_still (Ticket k) own = tt
-      closed_still (Rows k n rows) own = tt
-      closed_still (Refused k reason) own = tt
-      closed_still (Voted k x) own = tt
-      closed_still (Ack k) own = tt
-      closed_still (Inquire k) own = tt
+  module _ (law : IsLawful L) (t : Name) (u : Undecided L) (calm : is_voting u.stage ≡ false) (homes : AtSites L (leaves_of u.stage)) (a : L.Site) (kept : Bool) (choice : Choice L) (written : AtSites L (map (λ x. x.0) choice.1)) where
+    nothing : KnownTurn t u (stays (Known u))
+    nothing = goes (loose_stays t u calm homes)
 
-  -- a turn after which the transaction may still be given up
-  record LooseTurn (t : Name) (u : Undecided L) (turn : Turn L) : Type 0 where
-    new : Undecided L
-    is : turn.txn ≡ Known new
-    calm : is_voting new.stage ≡ false
-    homes : AtSites L (leaves_of new.stage)
-    own : Every (λ l. l.txn ≡ t) turn.letters
-    among : ((a : L.Site) → u.visited a ≡ true → In a L.sites) → (a : L.Site) → new.visited a ≡ true → In a L.sites
-    visited : (a : L.Site) → u.visited a ≡ true → new.visited a ≡ true
-    ticket : (a : L.Site) (k : Name) → u.ticket a ≡ Some k → new.ticket a ≡ Some k
-    sends : Every (OwnLetter new) turn.letters
-    deeds : Every (Fruitless t) turn.deeds
-
-  since_more : (t : Name) (before past deeds : List (Deed L)) → Since t before past → Every (Fruitless t) deeds → Since t before (past ++ deeds)
-  since_more t before past deeds since fruitless = record {
-    more = since.more ++ deeds;
-    is = ap (λ x. x ++ deeds) since.is ∙ append_assoc before since.more deeds;
-    fruitless = every_append (Fruitless t) since.more deeds since.fruitless fruitless;
-  }
-
-  loose_turned : IsLawful L → (t : Name) (before : List (Deed L)) (w : World L) (turn : Turn L) (loose : Loose t before w) (to : LooseTurn t loose.u turn) → Loose t before (turned w t turn)
-  loose_turned law t before w turn loose to = record {
-    u = to.new;
-    known = put_here same same_law t turn.txn w.desk.txn ∙ to.is;
-    calm = to.calm;
-    homes = to.homes;
-    alone = every_append (λ l. l.txn ≡ t) w.letters turn.letters loose.alone to.own;
-    others = put_all same same_law t turn.txn w.desk.txn (λ j x. same j t ≡ false → is_undecided x ≡ false) (λ other. clash (same_refl t) other) (λ j away other. loose.others j other);
-    among = to.among loose.among;
-    leaving = λ a. subst (LeavingAt (Own to.new a) (w.sites a).status) (sym (at_append a w.letters turn.letters))
-        (leaving_to (Own loose.u a) (Own to.new a) (at a turn.letters) (λ k own. inl (to.visited a own.0, to.ticket a k own.1)) (w.sites a).status (at a w.letters) (own_closed to.new a turn.letters law to.sends) (loose.leaving a));
-    since = since_more t before w.past turn.deeds loose.since to.deeds;
-  }
-
-  loose_stays : (t : Name) (u : Undecided L) → is_voting u.stage ≡ false → AtSites L (leaves_of u.stage) → LooseTurn t u (stays (Known u))
-  loose_stays t u calm homes = record { new = u; is = refl; calm = calm; homes = homes; own = tt; among = λ old. old; visited = λ a is. is; ticket = λ a k is. is; sends = tt; deeds = tt }
-
-  -- ---- operations go to own tickets
-  asks_seen : (P : Letter L → Type 0) (V : L.Leaf → Type 0) (t : Name) (ticket : L.Site → Option Name) → ((g : L.Leaf) (q : L.Query) (k : Name) (n : ℕ) → V g → ticket (L.home g) ≡ Some k → P (record { site = L.home g; txn = t; body = Fetch k n g q })) →
-      (asks : List (Ask L)) (counts : L.Site → ℕ) → Every (λ q. V q.leaf) asks → Every P (asks_out t ticket asks counts).letters × Every (λ q. V q.leaf) (asks_out t ticket asks counts).left
-  asks_seen P V t ticket each [] counts all = (tt, tt)
-  asks_seen P V t ticket each (q ∷ qs) counts all = go q.number (ticket (L.home q.leaf)) refl (λ counts. asks_seen P V t ticket each qs counts all.1)
-    where
-      go : (m : Option ℕ) (k : Option Name) → ticket (L.home q.leaf) ≡ k → ((counts : L.Site → ℕ) → Every P (asks_out t ticket qs counts).letters × Every (λ q. V q.leaf) (asks_out t ticket qs counts).left) → Every P (ask_out t q m k counts (asks_out t ticket qs)).letters × Every (λ q. V q.leaf) (ask_out t q m k counts (asks_out t ticket qs)).left
-      go None None e rest = let r = rest counts in (r.0, (all.0, r.1))
-      go None (Some k) e rest = let r = rest (put L.same_site (L.home q.leaf) (suc (counts (L.home q.leaf))) counts) in ((each q.leaf q.query k (suc (counts (L.home q.leaf))) all.0 e, r.0), (all.0, r.1))
-      go (Some n) None e rest = let r = rest counts in (r.0, (all.0, r.1))
-      go (Some n) (Some k) e rest = let r = rest counts in (r.0, (all.0, r.1))
-
-  writes_seen : (P : Letter L → Type 0) (V : L.Leaf → Type 0) (t : Name) (ticket : L.Site → Option Name) → ((g : L.Leaf) (x : L.Write) (k : Name) (n : ℕ) → V g → ticket (L.home g) ≡ Some k → P (record { site = L.home g; txn = t; body = Write k n g x })) →
-      (ws : List (L.Leaf × L.Write)) (counts : L.Site → ℕ) → Every (λ x. V x.0) ws → Every P (writes_out {L = L} t ticket ws counts).letters × Every (λ x. V x.0) (writes_out {L = L} t ticket ws counts).left
-  writes_seen P V t ticket each [] counts all = (tt, tt)
-  writes_seen P V t ticket each (x ∷ ws) counts all = go (ticket (L.home x.0)) refl (λ counts. writes_seen P V t ticket each ws counts all.1)
-    where
-      go : (k : Option Name) → ticket (L.home x.0) ≡ k → ((counts : L.Site → ℕ) → Every P (writes_out {L = L} t ticket ws counts).letters × Every (λ x. V x.0) (writes_out {L = L} t ticket ws counts).left) → Every P (write_out {L = L} t x k counts (writes_out t ticket ws)).letters × Every (λ x. V x.0) (write_out {L = L} t x k counts (writes_out t ticket ws)).left
-      go None e rest = let r = rest counts in (r.0, (all.0, r.1))
-      go (Some k) e rest = let r = rest (put L.same_site (L.home x.0) (suc (counts (L.home x.0))) counts) in ((each x.0 x.1 k (suc (counts (L.home x.0))) all.0 e, r.0), r.1)
-
-  module _ (law : IsLawful L) (t : Name) (u : Undecided L) where
-    opens_own : (v : Undecided L) (leaves : List L.Leaf) → Every (OwnLetter v) (opens t u leaves) × Every (λ l. l.txn ≡ t) (opens t u leaves)
-    opens_own v leaves = (
-      every_letter (OwnLetter v) t (λ a. opening (is_new u leaves a)) L.sites (λ a b here e. subst (λ c. Closed (Own v a) (c ∷ [])) (sym (opening_is (is_new u leaves a) b e).1) tt),
-      every_letter (λ l. l.txn ≡ t) t (λ a. opening (is_new u leaves a)) L.sites (λ a b here e. refl),
-    )
-
-    -- new sites are those of leaves
-    new_among : (leaves : List L.Leaf) → AtSites L leaves → ((a : L.Site) → u.visited a ≡ true → In a L.sites) → (a : L.Site) → (u.visited a || is_new u leaves a) ≡ true → In a L.sites
-    new_among leaves homes old a is = ⊎_elim (old a) (λ new. (let g = found (λ g. L.same_site (L.home g) a) leaves (right_true (not (u.visited a)) _ new) in subst (λ b. In b L.sites) ((law.sites (L.home g.0) a).0 g.2) (homes g.0 g.1))) (or_cases (u.visited a) (is_new u leaves a) is)
-
-    -- a leaf of a visited site among the sites
-    abbrev Seen : List L.Leaf → L.Leaf → Type 0
-    Seen leaves g = In (L.home g) L.sites × ((visits u leaves).visited (L.home g) ≡ true)
-
-    all_seen : {A : Type 0} (leaf : A → L.Leaf) (xs : List A) → AtSites L (map leaf xs) → Every (λ x. Seen (map leaf xs) (leaf x)) xs
-    all_seen leaf xs homes = every_self (λ x. Seen (map leaf xs) (leaf x)) xs (λ x here. let there = in_map leaf x xs here in (homes (leaf x) there, not_false ((visits u (map leaf xs)).visited (L.home (leaf x))) (all_visited law u (map leaf xs) (leaf x) there)))
-
-    asks_loose : (s : L.Statement) (asks : List (Ask L)) → AtSites L (map (λ q. q.leaf) asks) → LooseTurn t u (asks_go t u s asks)
-    asks_loose s asks homes =
-        let leaves = map (λ (q : Ask L). q.leaf) asks in
-        let out = asks_out t u.ticket asks u.sent in
-        let v : Undecided L = record (visits u leaves) { sent = out.sent; stage = Reading s out.left } in
-        let seen = asks_seen (λ l. OwnLetter v l × (l.txn ≡ t)) (Seen leaves) t u.ticket (λ g q k n seen e. ((inl (seen.1, e), tt), refl)) asks u.sent (all_seen (λ (q : Ask L). q.leaf) asks homes) in
-        let first = opens_own v leaves in
+    -- a first ticket
+    first_ticket : (k : Name) → u.ticket a ≡ None → LooseTurn t u (ticket_goes t (with_ticket u a k) choice u.stage)
+    first_ticket k none =
+        let to = goes_loose law t (with_ticket u a k) choice u.stage calm homes homes in
         record {
-          new = v;
-          is = refl;
-          calm = refl;
-          homes = at_leaves L (λ (q : Ask L). q.leaf) out.left (every_more (λ (q : Ask L). Seen leaves q.leaf) (λ q. In (L.home q.leaf) L.sites) out.left (λ q r. r.0) seen.1);
-          own = every_append (λ l. l.txn ≡ t) (opens t u leaves) out.letters first.1 (every_more (λ l. OwnLetter v l × (l.txn ≡ t)) (λ l. l.txn ≡ t) out.letters (λ l r. r.1) seen.0);
-          among = new_among leaves homes;
-          visited = λ a is. or_left (u.visited a) (is_new u leaves a) is;
-          ticket = λ a k is. is;
-          sends = every_append (OwnLetter v) (opens t u leaves) out.letters first.0 (every_more (λ l. OwnLetter v l × (l.txn ≡ t)) (OwnLetter v) out.letters (λ l r. r.0) seen.0);
-          deeds = tt;
+          new = to.new; is = to.is; calm = to.calm; homes = to.homes; own = to.own; among = to.among; visited = to.visited;
+          ticket = λ b j own. to.ticket b j (⊎_elim (λ is. (let f : None ≡ Some j = sym none ∙ ap u.ticket (sym ((law.sites b a).0 is)) ∙ own in cc)) (λ other. put_there L.same_site law.sites a (Some k) u.ticket b other ∙ own) (by_test (L.same_site b a)));
+          sends = to.sends; deeds = to.deeds;
         }
 
-    writes_loose : (answer : L.Answer) (ws : List (L.Leaf × L.Write)) → AtSites L (map (λ x. x.0) ws) → LooseTurn t u (writes_go t u answer ws)
-    writes_loose answer ws homes =
-        let leaves = map (λ (x : L.Leaf × L.Write). x.0) ws in
-        let out = writes_out {L = L} t u.ticket ws u.sent in
-        let seen = writes_seen (λ l. OwnLetter (visits u leaves) l × (l.txn ≡ t)) (Seen leaves) t u.ticket (λ g x k n seen e. ((inl (seen.1, e), tt), refl)) ws u.sent (all_seen (λ (x : L.Leaf × L.Write). x.0) ws homes) in
-        let first = opens_own (visits u leaves) leaves in
-        go leaves homes out.sent out.left (opens t u leaves ++ out.letters)
-        (at_leaves L (λ (x : L.Leaf × L.Write). x.0) out.left (every_more (λ (x : L.Leaf × L.Write). Seen leaves x.0) (λ x. In (L.home x.0) L.sites) out.left (λ x r. r.0) seen.1))
-        (every_append (λ l. OwnLetter (visits u leaves) l × (l.txn ≡ t)) (opens t u leaves) out.letters (two (opens t u leaves) first.0 first.1) seen.0)
+    ticket_turn : (k : Name) (tk : Option Name) → u.ticket a ≡ tk → KnownTurn t u (on_ticket t u a k choice tk)
+    ticket_turn k None e = goes (first_ticket k e)
+    ticket_turn k (Some j) e = either (KnownTurn t u) (same j k) _ _ nothing
+        (goes (record { new = u; is = refl; calm = calm; homes = homes; own = (refl, tt); among = λ old. old; visited = λ b is. is; ticket = λ b i is. is; sends = (tt, tt); deeds = tt }))
+
+    refused_turn : (stage : Stage L) → is_voting stage ≡ false → on_refused t u stage ≡ ends_by t u (Aborted t By_refusal)
+    refused_turn Idle none = refl
+    refused_turn (Reading s asks) none = refl
+    refused_turn (Writing answer ws) none = refl
+    refused_turn (Voting votes) none = let e : true ≡ false = none in cc
+
+    vote_turn : (x : Vote) (stage : Stage L) → is_voting stage ≡ false → KnownTurn t u (on_vote t u a kept x stage)
+    vote_turn x Idle none = nothing
+    vote_turn x (Reading s asks) none = nothing
+    vote_turn x (Writing answer ws) none = nothing
+    vote_turn x (Voting votes) none = let e : true ≡ false = none in cc
+
+    known_turn : (c : Body L) → KnownTurn t u (on_known t u a kept choice c)
+    known_turn (Ticket k) = ticket_turn k (u.ticket a) refl
+    known_turn (Rows k n rows) = either (KnownTurn t u) (is_named (u.ticket a) k) _ _ (goes (rows_loose law t u a n rows choice u.stage calm homes homes written)) nothing
+    known_turn (Refused k reason) = either (KnownTurn t u) (is_named (u.ticket a) k) _ _ (ends (Aborted t By_refusal) (refused_turn u.stage calm) refl) nothing
+    known_turn (Voted k x) = either (KnownTurn t u) (is_named (u.ticket a) k) _ _ (vote_turn x u.stage calm) nothing
+    known_turn (Inquire k) = nothing
+    known_turn (Ack k) = nothing
+    known_turn Open = nothing
+    known_turn (Fetch k op g q) = nothing
+    known_turn (Write k op g x) = nothing
+    known_turn (Prepare k n) = nothing
+    known_turn (Commit k) = nothing
+    known_turn (Abort k) = nothing
+
+  module _ (law : IsLawful L) (once : Once L.sites) (t : Name) (before : List (Deed L)) (w : World L) (l : Letter L) (q : List (Letter L)) (e : w.letters ≡ l ∷ q) (loose : Loose t before w) where
+    abbrev Step : World L → Type 0
+    Step v = LooseStep t before loose.u.ticket q v
+
+    lost_step : NoEnd l.body → Step (record w { letters = q })
+    lost_step none = still (loose_lost law t before w l q e none loose) (λ a k own. own) (λ a c here. here)
+
+    own_letter : l.txn ≡ t
+    own_letter = (subst (Every (λ x. x.txn ≡ t)) e loose.alone).0
+
+    -- at its site
+    site_step : (kept : Bool) → EndKept kept l.body → Step (with_site (record w { letters = q }) l.site (site_after (w.sites l.site) (on_letter (w.sites l.site) l.txn kept l.body)) (addressed l.site l.txn (said (w.sites l.site) (on_letter (w.sites l.site) l.txn kept l.body))))
+    site_step kept end =
+        let a = l.site in
+        let s = w.sites a in
+        let act = on_letter s l.txn kept l.body in
+        let out = addressed a l.txn (said s act) in
+        still (record {
+          u = loose.u;
+          known = loose.known;
+          calm = loose.calm;
+          homes = loose.homes;
+          alone = every_append (λ x. x.txn ≡ t) q out (subst (Every (λ x. x.txn ≡ t)) e loose.alone).1 (every_map (λ x. x.txn ≡ t) _ (said s act) (λ b. own_letter));
+          others = loose.others;
+          among = loose.among;
+          leaving = put_all L.same_site law.sites a (site_after s act) w.sites (λ b x. LeavingAt (Own loose.u b) x.status (at b (q ++ out)))
+              (subst (LeavingAt (Own loose.u a) (site_after s act).status) (sym (at_append a q out ∙ ap (λ x. at a q ++ x) (at_here a a l.txn (said s act) ((law.sites a a).1 refl))))
+              (left (Own loose.u a) s (at a q) law.touches_none l.txn kept l.body end (subst (LeavingAt (Own loose.u a) s.status) (ap (at a) e ∙ in_front law l q) (loose.leaving a))))
+              (λ b other. subst (LeavingAt (Own loose.u b) (w.sites b).status)
+              (ap (at b) e ∙ elsewhere law b l q other ∙ sym (at_append b q out ∙ ap (λ x. at b q ++ x) (at_away b a l.txn (said s act) other) ∙ append-nil (at b q))) (loose.leaving b));
+          since = loose.since;
+        }) (λ b k own. own) (λ b c here. in_at b c q out here)
+
+    -- at the coordinator
+    turn_step : NoEnd l.body → (turn : Turn L) → KnownTurn t loose.u turn → Step (turned (record w { letters = q }) t turn)
+    turn_step none turn (goes to) = still (loose_turned law t before (record w { letters = q }) turn (loose_lost law t before w l q e none loose) to) to.ticket (λ a c here. in_at a c q turn.letters here)
+    turn_step none turn (ends d is fruitless) = subst (λ x. Step (turned (record w { letters = q }) t x)) (sym is)
+        (over (w.past ++ d ∷ []) (since_more t before w.past (d ∷ []) loose.since (fruitless, tt)) (loose_ends law once t before d (record w { letters = q }) (loose_lost law t before w l q e none loose)))
+
+    -- a letter comes; none of these is a Commit or an Abort that isn't kept
+    pub loose_step : (within : Within w) (kept : Bool) (choice : Choice L) → EndKept kept l.body → AtSites L (map (λ x. x.0) choice.1) → Step (next w kept choice)
+    loose_step within kept choice end written = subst (λ letters. Step (first w kept choice letters)) (sym e) (go (is_for_desk l.body) refl)
       where
-        two : (letters : List (Letter L)) → Every (OwnLetter (visits u (map (λ x. x.0) ws))) letters → Every (λ l. l.txn ≡ t) letters → Every (λ l. OwnLetter (visits u (map (λ x. x.0) ws)) l × (l.txn ≡ t)) letters
-        two [] p q = tt
-        two (l ∷ letters) p q = ((p.0, q.0), two letters p.1 q.1)
+        at_desk : is_for_desk l.body ≡ true → Step (comes_to true (record w { letters = q }) kept choice l)
+        at_desk to_desk = subst (λ j. Step (turns (record w { letters = q }) j (on_desk_letter j l.site kept choice l.body (w.desk.txn j)))) (sym own_letter)
+            (subst (λ x. Step (turns (record w { letters = q }) t (on_desk_letter t l.site kept choice l.body x))) (sym loose.known)
+            (either Step (is_desk_within (desk_after w.desk t (on_known t loose.u l.site kept choice l.body).txn)) _ _
+            (turn_step (desk_no_end l.body to_desk) (on_known t loose.u l.site kept choice l.body) (known_turn law t loose.u loose.calm loose.homes l.site kept choice written l.body))
+            (lost_step (desk_no_end l.body to_desk))))
 
-        go : (leaves : List L.Leaf) → AtSites L leaves → (counts : L.Site → ℕ) (left : List (L.Leaf × L.Write)) (letters : List (Letter L)) → AtSites L (map (λ x. x.0) left) → Every (λ l. OwnLetter (visits u leaves) l × (l.txn ≡ t)) letters → LooseTurn t u (writing t (visits u leaves) answer counts left letters)
-        go leaves homes counts [] letters left all = record {
-          new = record (visits u leaves) { sent = counts; stage = Idle };
-          is = refl;
-          calm = refl;
-          homes = λ g here. absurd here;
-          own = every_more (λ l. OwnLetter (visits u leaves) l × (l.txn ≡ t)) (λ l. l.txn ≡ t) letters (λ l r. r.1) all;
-          among = new_among leaves homes;
-          visited = λ a is. or_left (u.visited a) (is_new u leaves a) is;
-          ticket = λ a k is. is;
-          sends = every_more (λ l. OwnLetter (visits u leaves) l × (l.txn ≡ t)) (OwnLetter (record (visits u leaves) { sent = counts; stage = Idle })) letters (λ l r. own_still (visits u leaves) counts Idle l r.0) all;
-          deeds = (refl, tt);
-        }
-        go leaves homes counts (x ∷ left) letters there all = record {
-          new = record (visits u leaves) { sent = counts; stage = Writing answer (x ∷ left) };
-          is = refl;
-          calm = refl;
-          homes = there;
-          own = every_more (λ l. OwnLetter (visits u leaves) l × (l.txn ≡ t)) (λ l. l.txn ≡ t) letters (λ l r. r.1) all;
-          among = new_among leaves homes;
-          visited = λ a is. or_left (u.visited a) (is_new u leaves a) is;
-          ticket = λ a k is. is;
-          sends = every_more (λ l. OwnLetter (visits u leaves) l × (l.txn ≡ t)) (OwnLetter (record (visits u leaves) { sent = counts; stage = Writing answer (x ∷ left) })) letters (λ l r. own_still (visits u leaves) counts (Writing answer (x ∷ left)) l r.0) all;
-          deeds = tt;
-        }
+        go : (b : Bool) → is_for_desk l.body ≡ b → Step (comes_to b (record w { letters = q }) kept choice l)
+        go true to_desk = at_desk to_desk
+        go false to_site = either_if Step (is_within (site_after (w.sites l.site) (on_letter (w.sites l.site) l.txn kept l.body))) _ _
+            (λ is. site_step kept end)
+            (λ full. ⊎_elim (λ of. clash (end_within (w.sites l.site) (within.sites l.site) l.txn kept l.body of) full) lost_step (end_or_not l.body))
 
-    works_loose : (s : L.Statement) (asks : List (Ask L)) (choice : Choice L) → AtSites L (map (λ x. x.0) choice.1) → LooseTurn t u (works t u s asks choice)
-    works_loose s asks choice homes =
-        let to = writes_loose choice.0 choice.1 homes in
-        record { new = to.new; is = to.is; calm = to.calm; homes = to.homes; own = to.own; among = to.among; visited = to.visited; ticket = to.ticket; sends = to.sends; deeds = (refl, to.deeds) }
-
-    -- the statement goes on
-    goes_loose : (choice : Choice L) (stage : Stage L) → is_voting u.stage ≡ false → AtSites L (leaves_of u.stage) → AtSites L (leaves_of stage) → LooseTurn t u (ticket_goes t u choice stage)
-    goes_loose choice Idle calm now homes = loose_stays t u calm now
-    goes_loose choice (Reading s asks) calm now homes = asks_loose s asks homes
-    goes_loose choice (Writing answer ws) calm now homes = writes_loose answer ws homes
-    goes_loose choice (Voting votes) calm now homes = loose_stays t u calm now
-
-    rows_homes : (a : L.Site) (n : ℕ) (rows : L.Rows) (asks : List (Ask L)) → AtSites L (map (λ q. q.leaf) asks) → AtSites L (map (λ q. q.leaf) (map (with_rows a n rows) asks))
-    rows_homes a n rows [] homes g here = absurd here
-    rows_homes a n rows (q ∷ asks) homes g (inl e) = subst (λ h. In (L.home h) L.sites) (sym (e ∙ same_place (awaits a n rows q))) (homes q.leaf (inl refl))
+    -- ---- the coordinator will hear of a refused operation
+    -- the refusal is in front: the transaction ends
+    refusal_ends : (within : Within w) (kept : Bool) (choice : Choice L) (k : Name) (reason : Reason) → loose.u.ticket l.site ≡ Some k → Refused k reason ≡ l.body → Ending (w.past ++ Aborted t By_refusal ∷ []) (next w kept choice)
+    refusal_ends within kept choice k reason own is =
+        let w1 : World L = record w { letters = q } in
+        let turn_is : on_known t loose.u l.site kept choice (Refused k reason) ≡ ends_by t loose.u (Aborted t By_refusal) =
+        if_true (is_named (loose.u.ticket l.site) k) (on_refused t loose.u loose.u.stage) (stays (Known loose.u)) (ap (λ tk. is_named tk k) own ∙ same_refl k) ∙ refused_ends loose.u.stage loose.calm in
+        subst (λ letters. Ending (w.past ++ Aborted t By_refusal ∷ []) (first w kept choice letters)) (sym e)
+        (subst (λ b. Ending (w.past ++ Aborted t By_refusal ∷ []) (comes_to b w1 kept choice l)) (ap is_for_desk is)
+        (subst (λ c. Ending (w.past ++ Aborted t By_refusal ∷ []) (turns w1 l.txn (on_desk_letter l.txn l.site kept choice c (w.desk.txn l.txn)))) is
+        (subst (λ j. Ending (w.past ++ Aborted t By_refusal ∷ []) (turns w1 j (on_desk_letter j l.site kept choice (Refused k reason) (w.desk.txn j)))) (sym own_letter)
+        (subst (λ x. Ending (w.past ++ Aborted t By_refusal ∷ []) (turns w1 t (on_desk_letter t l.site kept choice (Refused k reason) x))) (sym loose.known)
+        (subst (λ turn. Ending (w.past ++ Aborted t By_refusal ∷ []) (turns w1 t turn)) (sym turn_is)
+        (subst (Ending (w.past ++ Aborted t By_refusal ∷ [])) (sym (if_true _ (turned w1 t (ends_by t loose.u (Aborted t By_refusal))) w1 (ends_within law once w1 t loose.u (Aborted t By_refusal) (record { desk = within.desk; sites = within.sites }))))
+        (loose_ends law once t before (Aborted t By_refusal) w1 (loose_lost law t before w l q e (subst NoEnd is tt) loose))))))))
       where
-        same_place : (b : Bool) → (if b then record q { rows = Some rows } else q).leaf ≡ q.leaf
-        same_place true = refl
-        same_place false = refl
-    rows_homes a n rows (q ∷ asks) homes g (inr below) = rows_homes a n rows asks (λ h there. homes h (inr there)) g below
+        refused_ends : (stage : Stage L) → is_voting stage ≡ false → on_refused t loose.u stage ≡ ends_by t loose.u (Aborted t By_refusal)
+        refused_ends Idle none = refl
+        refused_ends (Reading s asks) none = refl
+        refused_ends (Writing answer ws) none = refl
+        refused_ends (Voting votes) none = let f : true ≡ false = none in cc
 
-    rows_loose : (a : L.Site) (n : ℕ) (rows : L.Rows) (choice : Choice L) (stage : Stage L) → is_voting u.stage ≡ false → AtSites L (leaves_of u.stage) → AtSites L (leaves_of stage) → AtSites L (map (λ x. x.0) choice.1) → LooseTurn t u (on_rows t u a n rows choice stage)
-    rows_loose a n rows choice Idle calm now homes written = loose_stays t u calm now
-    rows_loose a n rows choice (Writing answer ws) calm now homes written = loose_stays t u calm now
-    rows_loose a n rows choice (Voting votes) calm now homes written = loose_stays t u calm now
-    rows_loose a n rows choice (Reading s asks) calm now homes written =
-        let new = map (with_rows a n rows) asks in
-        either (LooseTurn t u) (list_all (λ (q : Ask L). is_some q.rows) new) (works t u s new choice) (stays (Known (record u { stage = Reading s new }))) (works_loose s new choice written)
-        (record { new = record u { stage = Reading s new }; is = refl; calm = refl; homes = rows_homes a n rows asks homes; own = tt; among = λ old. old; visited = λ b is. is; ticket = λ b k is. is; sends = tt; deeds = tt })
+    pub doomed_step : (a : L.Site) (k : Name) (reason : Reason) → loose.u.ticket a ≡ Some k → In (Refused k reason) (at a w.letters) → (within : Within w) (kept : Bool) (choice : Choice L) → EndKept kept l.body → AtSites L (map (λ x. x.0) choice.1) → Failing t before (next w kept choice)
+    doomed_step a k reason own waits within kept choice end written = by_front (found (L.same_site a l.site) refl (subst (λ x. In (Refused k reason) (at a x)) e waits))
+      where
+        found : (b : Bool) → L.same_site a l.site ≡ b → In (Refused k reason) (if b then l.body ∷ at a q else at a q) → ((a ≡ l.site) × (Refused k reason ≡ l.body)) ⊎ In (Refused k reason) (at a q)
+        found true f (inl is) = inl ((law.sites a l.site).0 f, is)
+        found true f (inr below) = inr below
+        found false f here = inr here
+
+        later : In (Refused k reason) (at a q) → Step (next w kept choice) → Failing t before (next w kept choice)
+        later here (still new grows keeps) = doomed (record { loose = new; site = a; ticket = k; reason = reason; own = grows a k own; waits = keeps a (Refused k reason) here })
+        later here (over deeds since ending) = has_ended deeds since ending
+
+        by_front : ((a ≡ l.site) × (Refused k reason ≡ l.body)) ⊎ In (Refused k reason) (at a q) → Failing t before (next w kept choice)
+        by_front (inl f) = has_ended (w.past ++ Aborted t By_refusal ∷ []) (since_more t before w.past (Aborted t By_refusal ∷ []) loose.since (refl, tt)) (refusal_ends within kept choice k reason (ap loose.u.ticket (sym f.0) ∙ own) f.1)
+        by_front (inr here) = later here (loose_step within kept choice end written)
+
+  module _ (law : IsLawful L) (once : Once L.sites) (t : Name) (before : List (Deed L)) (w : World L) where
+    -- a letter comes while a statement fails; whatever the stores answer but to a Commit or an Abort
+    pub failing_goes_on : (l : Letter L) (q : List (Letter L)) → w.letters ≡ l ∷ q → Within w → (kept : Bool) (choice : Choice L) → EndKept kept l.body → AtSites L (map (λ x. x.0) choice.1) → Failing t before w → Failing t before (next w kept choice)
+    failing_goes_on l q e within kept choice end written (doomed d) = doomed_step law once t before w l q e d.loose d.site d.ticket d.reason d.own d.waits within kept choice end written
+    failing_goes_on l q e within kept choice end written (has_ended deeds since ending) = has_ended deeds since (ending_goes_on law deeds w l q e ending law.touches_none within kept choice end)
+
+    -- no letter waits
+    pub failing_ends : Failing t before w → w.letters ≡ [] → IsQuiet w × Since t before w.past
+    failing_ends (doomed d) silent = absurd (subst (λ x. In (Refused d.ticket d.reason) (at d.site x)) silent d.waits)
+    failing_ends (has_ended deeds since ending) silent = (ending_quiet law deeds w ending silent, subst (Since t before) (sym ending.past) since)

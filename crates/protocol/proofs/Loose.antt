@@ -168,7 +168,7 @@ module _ {L : Lang} where
       go (is_answered asks choice is deeds) = stands_loose t before at_.u w at_.known (ap is_voting is) (λ g here. absurd (subst (λ st. In g (leaves_of st)) is here)) at_.stands (record { more = Stated t s ∷ Worked t s asks choice ∷ Answered t choice.0 ∷ []; is = deeds; fruitless = (refl, (refl, (refl, tt))) })
 
   -- a letter that says nothing of an end is let go
-  pub loose_lost : IsLawful L → (t : Name) (before : List (Deed L)) (w : World L) (l : Letter L) (q : List (Letter L)) → w.letters ≡ l ∷ q → NoEnd l.body → Loose t before w → Loose t before (record w { letters = q })
+  abbrev pub loose_lost : IsLawful L → (t : Name) (before : List (Deed L)) (w : World L) (l : Letter L) (q : List (Letter L)) → w.letters ≡ l ∷ q → NoEnd l.body → Loose t before w → Loose t before (record w { letters = q })
   loose_lost law t before w l q e none loose = record {
     u = loose.u;
     known = loose.known;
