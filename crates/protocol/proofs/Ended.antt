@@ -10,7 +10,7 @@ use Rattle.protocol.specs.World.{World, addressed, with_site, site_steps, turned
 use Rattle.protocol.specs.Client.{first, next, rest_of, loses, IsQuiet}
 use Rattle.protocol.specs.Spots.{at, Unlocked, Spot, away, asked, offered, works, Flow}
 use Rattle.protocol.specs.Course.{Stands}
-use Rattle.protocol.specs.Leaving.{Closed, Leaves, is_free, is_own, aborts, commits, LeavingAt, Ending, EndKept, Within}
+use Rattle.protocol.specs.Leaving.{Closed, Leaves, is_free, is_own, hears_abort, hears_commit, LeavingAt, Ending, EndKept, Within}
 use Rattle.protocol.proofs.Basics.{Every, In, in_left, in_right, every_append, either, either_if, put_all, same_law, if_true, if_false, clash, by_test}
 use Rattle.protocol.proofs.Locks.{Once}
 use Rattle.protocol.proofs.Turns.{every_letter}
@@ -166,5 +166,5 @@ module _ {L : Lang} where
         go : {k : Name} (st : Status L) (bs : List (Body L)) → bs ≡ [] → Leaves (λ k. ⊥) k st bs → Unlocked st
         go st bs none (is_free free) = free
         go st bs none (is_own own) = absurd own
-        go {k} st bs none (aborts here) = absurd (subst (In (Abort k)) none here)
-        go {k} st bs none (commits row here) = absurd (subst (In (Commit k)) none here)
+        go {k} st bs none (hears_abort here) = absurd (subst (In (Abort k)) none here)
+        go {k} st bs none (hears_commit row here) = absurd (subst (In (Commit k)) none here)

@@ -5,7 +5,7 @@ use Rattle.protocol.specs.Language.{Lang, Name, same, put}
 use Rattle.protocol.specs.Letter.{Body, Open, Fetch, Write, Prepare, Commit, Abort, Ticket, Rows, Refused, Voted, Ack, Inquire, Lock, Full, Gone, Yes, No, Read}
 use Rattle.protocol.specs.Site.{Visit, Status, Dead, Alive, Prepared, SiteState, Act, Says, Opens, Locks, Prepares, Applies, Ends, is_prepared, others_exclusive, next_ticket, new_visit, on_letter, on_fetch, on_write, on_prepare, on_commit, on_abort, sees, site_after, said}
 use Rattle.protocol.specs.Spots.{Unlocked}
-use Rattle.protocol.specs.Leaving.{Closed, Leaves, is_free, is_own, aborts, commits, LeavingAt, EndKept}
+use Rattle.protocol.specs.Leaving.{Closed, Leaves, is_free, is_own, hears_abort, hears_commit, LeavingAt, EndKept}
 use Rattle.protocol.proofs.Basics.{Every, In, in_left, either, put_all, same_law, by_test, clash, same_refl}
 use Rattle.protocol.proofs.AtSite.{sees_unlocked}
 
@@ -75,50 +75,50 @@ module _ {L : Lang} where
     pub leaves_more : (k : Name) (st : Status L) (bs more : List (Body L)) → Leaves O k st bs → Leaves O k st (bs ++ more)
     leaves_more k st bs more (is_free free) = is_free free
     leaves_more k st bs more (is_own own) = is_own own
-    leaves_more k st bs more (aborts here) = aborts (in_left (Abort k) bs more here)
-    leaves_more k st bs more (commits row here) = commits row (in_left (Commit k) bs more here)
+    leaves_more k st bs more (hears_abort here) = hears_abort (in_left (Abort k) bs more here)
+    leaves_more k st bs more (hears_commit row here) = hears_commit row (in_left (Commit k) bs more here)
 
     leaves_seen : (k : Name) (g : L.Leaf) (st : Status L) (bs : List (Body L)) → Leaves O k st bs → Leaves O k (sees g st) bs
     leaves_seen k g st bs (is_free free) = is_free (sees_unlocked g st free)
     leaves_seen k g st bs (is_own own) = is_own own
-    leaves_seen k g st bs (aborts here) = aborts here
-    leaves_seen k g Dead bs (commits row here) = commits row here
-    leaves_seen k g (Alive v) bs (commits row here) = let e : false ≡ true = row in cc
-    leaves_seen k g (Prepared t i) bs (commits row here) = commits row here
+    leaves_seen k g st bs (hears_abort here) = hears_abort here
+    leaves_seen k g Dead bs (hears_commit row here) = hears_commit row here
+    leaves_seen k g (Alive v) bs (hears_commit row here) = let e : false ≡ true = row in cc
+    leaves_seen k g (Prepared t i) bs (hears_commit row here) = hears_commit row here
 
     -- a letter that says nothing of an end is gone
     pub leaves_rest : (k : Name) (st : Status L) (c : Body L) (bs : List (Body L)) → NoEnd c → Leaves O k st (c ∷ bs) → Leaves O k st bs
     leaves_rest k st c bs none (is_free free) = is_free free
     leaves_rest k st c bs none (is_own own) = is_own own
-    leaves_rest k st c bs none (aborts (inl e)) = absurd (subst NoEnd (sym e) none)
-    leaves_rest k st c bs none (aborts (inr below)) = aborts below
-    leaves_rest k st c bs none (commits row (inl e)) = absurd (subst NoEnd (sym e) none)
-    leaves_rest k st c bs none (commits row (inr below)) = commits row below
+    leaves_rest k st c bs none (hears_abort (inl e)) = absurd (subst NoEnd (sym e) none)
+    leaves_rest k st c bs none (hears_abort (inr below)) = hears_abort below
+    leaves_rest k st c bs none (hears_commit row (inl e)) = absurd (subst NoEnd (sym e) none)
+    leaves_rest k st c bs none (hears_commit row (inr below)) = hears_commit row below
 
     -- one of another ticket is
     other_abort : (j k : Name) (st : Status L) (bs : List (Body L)) → same j k ≡ false → Leaves O j st (Abort k ∷ bs) → Leaves O j st bs
     other_abort j k st bs other (is_free free) = is_free free
     other_abort j k st bs other (is_own own) = is_own own
-    other_abort j k st bs other (aborts (inl e)) = clash ((same_law j k).1 cc) other
-    other_abort j k st bs other (aborts (inr below)) = aborts below
-    other_abort j k st bs other (commits row (inl e)) = cc
-    other_abort j k st bs other (commits row (inr below)) = commits row below
+    other_abort j k st bs other (hears_abort (inl e)) = clash ((same_law j k).1 cc) other
+    other_abort j k st bs other (hears_abort (inr below)) = hears_abort below
+    other_abort j k st bs other (hears_commit row (inl e)) = cc
+    other_abort j k st bs other (hears_commit row (inr below)) = hears_commit row below
 
     other_commit : (j k : Name) (st : Status L) (bs : List (Body L)) → same j k ≡ false → Leaves O j st (Commit k ∷ bs) → Leaves O j st bs
     other_commit j k st bs other (is_free free) = is_free free
     other_commit j k st bs other (is_own own) = is_own own
-    other_commit j k st bs other (aborts (inl e)) = cc
-    other_commit j k st bs other (aborts (inr below)) = aborts below
-    other_commit j k st bs other (commits row (inl e)) = clash ((same_law j k).1 cc) other
-    other_commit j k st bs other (commits row (inr below)) = commits row below
+    other_commit j k st bs other (hears_abort (inl e)) = cc
+    other_commit j k st bs other (hears_abort (inr below)) = hears_abort below
+    other_commit j k st bs other (hears_commit row (inl e)) = clash ((same_law j k).1 cc) other
+    other_commit j k st bs other (hears_commit row (inr below)) = hears_commit row below
 
     -- a Commit to a ticket that isn't prepared
     no_commit : (j k : Name) (st : Status L) (bs : List (Body L)) → is_prepared st ≡ false → Leaves O j st (Commit k ∷ bs) → Leaves O j st bs
     no_commit j k st bs none (is_free free) = is_free free
     no_commit j k st bs none (is_own own) = is_own own
-    no_commit j k st bs none (aborts (inl e)) = cc
-    no_commit j k st bs none (aborts (inr below)) = aborts below
-    no_commit j k st bs none (commits row here) = clash row none
+    no_commit j k st bs none (hears_abort (inl e)) = cc
+    no_commit j k st bs none (hears_abort (inr below)) = hears_abort below
+    no_commit j k st bs none (hears_commit row here) = clash row none
 
     pub leaving_lost : (f : Name → Status L) (c : Body L) (bs : List (Body L)) → NoEnd c → LeavingAt O f (c ∷ bs) → LeavingAt O f bs
     leaving_lost f c bs none leaving = record { locks = λ k. leaves_rest k (f k) c bs none (leaving.locks k); closed = closed_rest c bs leaving.closed }
@@ -146,7 +146,7 @@ module _ {L : Lang} where
         -- its Abort comes behind
         by_abort : (k : Name) (st : Status L) → O k ⊎ In (Abort k) bs → Leaves O k st bs
         by_abort k st (inl own) = is_own own
-        by_abort k st (inr here) = aborts here
+        by_abort k st (inr here) = hears_abort here
 
         locks_left : (k : Name) (v : Visit L) (g : L.Leaf) (replies : List (Body L)) → Closed O replies → O k ⊎ In (Abort k) bs → After (Locks k v g replies)
         locks_left k v g replies none ends = record {

@@ -9,7 +9,7 @@ use Rattle.protocol.specs.World.{World, turned, turns, called}
 use Rattle.protocol.specs.Parts.{is_voting}
 use Rattle.protocol.specs.Spots.{at, Unlocked, Spot, away, asked, offered, works, Flow}
 use Rattle.protocol.specs.Course.{AtSites, Stands, AskStands, WriteWaits, Far, reads, writes, is_answered, InStatement, Steady}
-use Rattle.protocol.specs.Leaving.{Closed, Leaves, is_free, is_own, aborts, commits, LeavingAt, Ending, Within, Own, Fruitless, Since, Loose, leaves_of}
+use Rattle.protocol.specs.Leaving.{Closed, Leaves, is_free, is_own, hears_abort, hears_commit, LeavingAt, Ending, Within, Own, Fruitless, Since, Loose, leaves_of}
 use Rattle.protocol.proofs.Basics.{Every, In, in_left, in_right, every_append, either, put_all, same_law, if_true, clash, by_test, some_is}
 use Rattle.protocol.proofs.Locks.{Once}
 use Rattle.protocol.proofs.Turns.{every_letter}
@@ -24,9 +24,9 @@ module _ {L : Lang} where
   module _ (O P : Name → Type 0) (more : List (Body L)) (hears : (k : Name) → O k → P k ⊎ In (Abort k) more) where
     leaves_to : (k : Name) (st : Status L) (bs : List (Body L)) → Leaves O k st bs → Leaves P k st (bs ++ more)
     leaves_to k st bs (is_free free) = is_free free
-    leaves_to k st bs (is_own own) = ⊎_elim is_own (λ here. aborts (in_right (Abort k) bs more here)) (hears k own)
-    leaves_to k st bs (aborts here) = aborts (in_left (Abort k) bs more here)
-    leaves_to k st bs (commits row here) = commits row (in_left (Commit k) bs more here)
+    leaves_to k st bs (is_own own) = ⊎_elim is_own (λ here. hears_abort (in_right (Abort k) bs more here)) (hears k own)
+    leaves_to k st bs (hears_abort here) = hears_abort (in_left (Abort k) bs more here)
+    leaves_to k st bs (hears_commit row here) = hears_commit row (in_left (Commit k) bs more here)
 
     or_to : (k : Name) (bs : List (Body L)) → O k ⊎ In (Abort k) bs → P k ⊎ In (Abort k) (bs ++ more)
     or_to k bs (inl own) = ⊎_elim inl (λ here. inr (in_right (Abort k) bs more here)) (hears k own)

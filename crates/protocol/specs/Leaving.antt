@@ -23,8 +23,8 @@ module _ {L : Lang} where
   pub data Leaves (O : Name → Type 0) (k : Name) (st : Status L) (bs : List (Body L)) : Type 0 where
     is_free : Unlocked st → Leaves O k st bs
     is_own : O k → Leaves O k st bs
-    aborts : In (Abort k) bs → Leaves O k st bs
-    commits : is_prepared st ≡ true → In (Commit k) bs → Leaves O k st bs
+    hears_abort : In (Abort k) bs → Leaves O k st bs
+    hears_commit : is_prepared st ≡ true → In (Commit k) bs → Leaves O k st bs
 
   -- so of all tickets of a site. f: their statuses, bs: what waits to and from it
   pub record LeavingAt (O : Name → Type 0) (f : Name → Status L) (bs : List (Body L)) : Type 0 where

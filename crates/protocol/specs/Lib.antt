@@ -10,4 +10,5 @@ pub mod Client
 pub mod Spots
 pub mod Course
 pub mod Leaving
+pub mod Committing
 pub mod Toy
