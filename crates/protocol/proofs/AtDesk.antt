@@ -37,7 +37,7 @@ module _ {L : Lang} where
   }
 
   -- nothing is said to a site
-  at_unsaid : (t : Name) (says : L.Site → Option (Body L)) (a : L.Site) (sites : List L.Site) → ((b : L.Site) → In b sites → L.same_site a b ≡ true → says b ≡ None) → at a (letters_to t says sites) ≡ []
+  pub at_unsaid : (t : Name) (says : L.Site → Option (Body L)) (a : L.Site) (sites : List L.Site) → ((b : L.Site) → In b sites → L.same_site a b ≡ true → says b ≡ None) → at a (letters_to t says sites) ≡ []
   at_unsaid t says a [] none = refl
   at_unsaid t says a (b ∷ sites) none = go (says b) refl (at_unsaid t says a sites (λ c here. none c (inr here)))
     where

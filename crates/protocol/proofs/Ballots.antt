@@ -14,7 +14,7 @@ use Rattle.protocol.specs.Committing.{VotedBy, Ballot, is_aside, is_asked, has_v
 use Rattle.protocol.proofs.Basics.{Every, in_flat, either, either_if, put_all, put_here, same_law, if_true, clash, by_test, some_is, all_in}
 use Rattle.protocol.proofs.AtSite.{head_is}
 
-none_behind : {A : Type 0} (x y : A) (xs : List A) → x ∷ xs ≡ y ∷ [] → xs ≡ []
+pub none_behind : {A : Type 0} (x y : A) (xs : List A) → x ∷ xs ≡ y ∷ [] → xs ≡ []
 none_behind x y xs e = cc
 
 -- the ticket that will hear Abort
