@@ -89,7 +89,7 @@ module _ {L : Lang} where
     own_letter = (subst (Every (λ x. x.txn ≡ t)) e loose.alone).0
 
     -- at its site
-    site_step : (kept : Bool) → EndKept kept l.body → Step (with_site (record w { letters = q }) l.site (site_after (w.sites l.site) (on_letter (w.sites l.site) l.txn kept l.body)) (addressed l.site l.txn (said (w.sites l.site) (on_letter (w.sites l.site) l.txn kept l.body))))
+    pub site_step : (kept : Bool) → EndKept kept l.body → Step (with_site (record w { letters = q }) l.site (site_after (w.sites l.site) (on_letter (w.sites l.site) l.txn kept l.body)) (addressed l.site l.txn (said (w.sites l.site) (on_letter (w.sites l.site) l.txn kept l.body))))
     site_step kept end =
         let a = l.site in
         let s = w.sites a in

@@ -132,7 +132,7 @@ module _ {L : Lang} where
       known_step (Inquire k) to_desk of e = absurd of
 
     -- a letter that waits comes, and is taken as it should be
-    module _ (bare : (g : L.Leaf) → L.touches g L.none ≡ false) (before : List (Deed L)) (w : World L) (at_ : InStatement t s before w) (kept : Bool) (choice : Choice L) (l : Letter L) (q : List (Letter L)) (e : w.letters ≡ l ∷ q) (well : Well w kept choice l) where
+    module _ (bare : (g : L.Leaf) → L.touches g L.none ≡ false) (before : List (Deed L)) (w : World L) (at_ : InStatement t s before w) (kept : Bool) (choice : Choice L) (l : Letter L) (q : List (Letter L)) (e : w.letters ≡ l ∷ q) (E : Type 0) (well : Well E w kept choice l) (room : Room (w.sites l.site) l.body) where
       own : l.txn ≡ t
       own = (subst (Every (λ x. x.txn ≡ t)) e at_.stands.alone).0
 
@@ -149,7 +149,7 @@ module _ {L : Lang} where
       at_site to_site = record {
         u = at_.u;
         known = at_.known;
-        stands = site_stands law bare t at_.u w l q e at_.stands to_site well.room;
+        stands = site_stands law bare t at_.u w l q e at_.stands to_site room;
         far = site_far law t s before at_.u w l q e at_.stands well.fit to_site w.past at_.far;
       }
 

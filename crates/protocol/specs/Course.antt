@@ -1,5 +1,5 @@
 -- Where one client's transaction stands, letter by letter: between its statements, or in one of them.
-use Rattle.std.specs.Prelude.{◌≡◌, ⊤, ℕ, map, Bool, true, false, List, [], ◌∷◌, ◌++◌, Option, Some, None, is_some}
+use Rattle.std.specs.Prelude.{◌≡◌, ◌⊎◌, ⊤, ℕ, map, Bool, true, false, List, [], ◌∷◌, ◌++◌, Option, Some, None, is_some}
 use Rattle.std.specs.List.{list_all, AllByRecursion}
 use Rattle.protocol.specs.Language.{Lang, Name, same}
 use Rattle.protocol.specs.Letter.{Body, Fetch, Write, Rows, Letter, is_for_desk}
@@ -66,6 +66,11 @@ module _ {L : Lang} where
   Room s (Write k op g x) = (v : Visit L) → s.status k ≡ Alive v → L.is_full g x v.changes ≡ false
   Room s body = ⊤
 
+  -- so, or there is an excuse
+  abbrev pub RoomOr : (E : Type 0) → SiteState L → Body L → Type 0
+  RoomOr E s (Write k op g x) = (v : Visit L) → s.status k ≡ Alive v → (L.is_full g x v.changes ≡ false) ⊎ E
+  RoomOr E s body = ⊤
+
   -- the rows that a fetch brings fit its leaf
   abbrev pub RowsFit : SiteState L → Body L → Type 0
   RowsFit s (Fetch k op g q) = (v : Visit L) → s.status k ≡ Alive v → L.well_formed g (L.parts q (L.changed g v.changes (s.kept g))) ≡ true
@@ -80,10 +85,10 @@ module _ {L : Lang} where
   abbrev pub passes : World L → Bool → Choice L → Letter L → Bool
   passes w kept choice l = passes_to (is_for_desk l.body) w kept choice l
 
-  -- a letter of a statement is taken as it should be: the store keeps what it is asked for, no limit is met, rows fit, writes are of leaves at the sites
-  pub record Well (w : World L) (kept : Bool) (choice : Choice L) (l : Letter L) : Type 0 where
+  -- a letter of a statement is taken as it should be: the store keeps what it is asked for, no limit is met, rows fit, writes are of leaves at the sites; where a visit has no room there is an excuse E
+  pub record Well (E : Type 0) (w : World L) (kept : Bool) (choice : Choice L) (l : Letter L) : Type 0 where
     pub is_kept : kept ≡ true
     pub within : passes w kept choice l ≡ true
-    pub room : Room (w.sites l.site) l.body
+    pub room : RoomOr E (w.sites l.site) l.body
     pub fit : RowsFit (w.sites l.site) l.body
     pub homes : AtSites L (map (λ x. x.0) choice.1)

@@ -8,7 +8,7 @@ use Rattle.protocol.specs.Desk.{Stage, Idle, Reading, Writing, Voting, Undecided
 use Rattle.protocol.specs.World.{World}
 use Rattle.protocol.specs.Parts.{In, is_voting}
 use Rattle.protocol.specs.Spots.{at, Unlocked}
-use Rattle.protocol.specs.Course.{AtSites}
+use Rattle.protocol.specs.Course.{AtSites, InStatement}
 
 module _ {L : Lang} where
   -- whoever is to do something for its ticket hears Abort after it, or the ticket is still its transaction's own (O)
@@ -101,3 +101,7 @@ module _ {L : Lang} where
   pub data Failing (t : Name) (before : List (Deed L)) (w : World L) : Type 0 where
     doomed : Doomed t before w → Failing t before w
     has_ended : (deeds : List (Deed L)) → Since t before deeds → Ending deeds w → Failing t before w
+
+  -- the world while a statement works, or fails with an excuse E
+  abbrev pub Went : (E : Type 0) → Name → L.Statement → List (Deed L) → World L → Type 0
+  Went E t s before w = InStatement t s before w ⊎ (E × Failing t before w)
