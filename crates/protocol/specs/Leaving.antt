@@ -105,3 +105,8 @@ module _ {L : Lang} where
   -- the world while a statement works, or fails with an excuse E
   abbrev pub Went : (E : Type 0) → Name → L.Statement → List (Deed L) → World L → Type 0
   Went E t s before w = InStatement t s before w ⊎ (E × Failing t before w)
+
+  -- the world after whatever became of a letter: the transaction may still be given up, or it has ended
+  pub data Lost (t : Name) (before : List (Deed L)) (w : World L) : Type 0 where
+    may_end : Loose t before w → Lost t before w
+    has_gone : (deeds : List (Deed L)) → Since t before deeds → Ending deeds w → Lost t before w

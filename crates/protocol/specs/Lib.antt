@@ -11,4 +11,5 @@ pub mod Spots
 pub mod Course
 pub mod Leaving
 pub mod Committing
+pub mod ClientLaw
 pub mod Toy
