@@ -96,6 +96,21 @@ module _ {L : Lang} where
   end_or_not (Ack k) = inr tt
   end_or_not (Inquire k) = inr tt
 
+  -- a store call that is kept is so at an end
+  pub kept_end : (kept : Bool) (c : Body L) → kept ≡ true → EndKept kept c
+  kept_end kept (Commit k) is = is
+  kept_end kept (Abort k) is = is
+  kept_end kept Open is = tt
+  kept_end kept (Fetch k op g y) is = tt
+  kept_end kept (Write k op g y) is = tt
+  kept_end kept (Prepare k n) is = tt
+  kept_end kept (Ticket k) is = tt
+  kept_end kept (Rows k n rows) is = tt
+  kept_end kept (Refused k reason) is = tt
+  kept_end kept (Voted k y) is = tt
+  kept_end kept (Ack k) is = tt
+  kept_end kept (Inquire k) is = tt
+
   module _ (law : IsLawful L) where
     -- what waits at a site, the letter in front aside
     pub in_front : (l : Letter L) (q : List (Letter L)) → at l.site (l ∷ q) ≡ l.body ∷ at l.site q

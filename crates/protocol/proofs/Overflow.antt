@@ -14,7 +14,7 @@ use Rattle.protocol.specs.Leaving.{LeavingAt, Ending, EndKept, Within, Since, Lo
 use Rattle.protocol.proofs.Basics.{Every, In, in_right, either, put_all, same_law, if_true, if_false, clash, by_test}
 use Rattle.protocol.proofs.Locks.{Once}
 use Rattle.protocol.proofs.Queue.{at_append, at_here}
-use Rattle.protocol.proofs.Ended.{in_front, ending_goes_on, ending_quiet, ending_lost}
+use Rattle.protocol.proofs.Ended.{kept_end, in_front, ending_goes_on, ending_quiet, ending_lost}
 use Rattle.protocol.proofs.Loose.{statement_loose, loose_lost, give_up_ends}
 use Rattle.protocol.proofs.LooseTurns.{since_more}
 use Rattle.protocol.proofs.Leaving.{NoEnd}
@@ -124,20 +124,6 @@ module _ {L : Lang} where
           go (Voted k y) is = goes (subst (Room (w.sites here)) (sym is) tt)
           go (Ack k) is = goes (subst (Room (w.sites here)) (sym is) tt)
           go (Inquire k) is = goes (subst (Room (w.sites here)) (sym is) tt)
-
-    kept_end : (kept : Bool) (c : Body L) → kept ≡ true → EndKept kept c
-    kept_end kept (Commit k) is = is
-    kept_end kept (Abort k) is = is
-    kept_end kept Open is = tt
-    kept_end kept (Fetch k op g y) is = tt
-    kept_end kept (Write k op g y) is = tt
-    kept_end kept (Prepare k n) is = tt
-    kept_end kept (Ticket k) is = tt
-    kept_end kept (Rows k n rows) is = tt
-    kept_end kept (Refused k reason) is = tt
-    kept_end kept (Voted k y) is = tt
-    kept_end kept (Ack k) is = tt
-    kept_end kept (Inquire k) is = tt
 
     -- a letter comes while the statement works or fails
     pub went_on : Within w → (kept : Bool) (choice : Choice L) (l : Letter L) (q : List (Letter L)) → w.letters ≡ l ∷ q → Well E w kept choice l → Went E t s before w → Went E t s before (next w kept choice)
