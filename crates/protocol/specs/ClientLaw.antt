@@ -108,3 +108,7 @@ pub record CourseLaw (L : Lang) (E : Type 0) : Type 0 where
   pub rolled_back : (w : World L) (t : Name) (choice : Choice L) → Steady t w → Within w → Ending (w.past ++ Rolled_back t ∷ []) (called w t choice Rollback)
   pub left : (w : World L) (deeds : List (Deed L)) (kept : Bool) (choice : Choice L) (l : Letter L) (q : List (Letter L)) → w.letters ≡ l ∷ q → Within w → EndKept kept l.body → Ending deeds w → Ending deeds (next w kept choice)
   pub quiet : (w : World L) (deeds : List (Deed L)) → Ending deeds w → w.letters ≡ [] → IsQuiet w × (w.past ≡ deeds)
+
+-- so whether or not there is an excuse
+abbrev pub LetterByLetter : Lang → Type 0
+LetterByLetter L = (excused : Bool) → CourseLaw L (excused ≡ true)

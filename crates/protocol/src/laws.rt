@@ -1,6 +1,7 @@
 //! The laws of the protocol, each as the contract of a function that does nothing.
 
 ghost use Rattle.protocol.specs.Client.{ReachedLaw, RoundsLaw};
+ghost use Rattle.protocol.specs.ClientLaw.{ClientLaw, LetterByLetter};
 ghost use Rattle.protocol.specs.Parts.{PartsOneAndTwo, PartThree};
 ghost use Rattle.protocol.specs.Serial.{SerialLaw};
 ghost use Rattle.protocol.specs.Toy.{toy};
@@ -43,4 +44,20 @@ pub fn one_client_is_a_run()
 /// commit is asked for, and one after a rollback or where a transaction is given up.
 pub fn nine_rounds_are_enough()
     ensures { RoundsLaw toy }
+{}
+
+/// One client alone, whose letters come each once, oldest first, with every store call kept, no limit met
+/// and no visit full: a transaction that began in a quiet world and asks for its commit is committed and
+/// leaves a quiet world, each of its statements answered as it was evaluated; one that asks for a rollback
+/// is rolled back.
+pub fn one_client_commits()
+    ensures { ClientLaw toy }
+{}
+
+/// The same letter by letter, and where something is refused: a statement that meets a full visit or loses
+/// a letter at a limit ends its transaction or can be given up; a commit is aborted only where a store
+/// refused a Prepare or the decision; whatever the end, all is quiet where no letter waits, as long as each
+/// Commit and Abort is kept.
+pub fn one_client_letter_by_letter()
+    ensures { LetterByLetter toy }
 {}
