@@ -12,4 +12,5 @@ pub mod Course
 pub mod Leaving
 pub mod Committing
 pub mod ClientLaw
+pub mod OneClient
 pub mod Toy

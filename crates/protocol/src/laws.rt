@@ -2,6 +2,7 @@
 
 ghost use Rattle.protocol.specs.Client.{ReachedLaw, RoundsLaw};
 ghost use Rattle.protocol.specs.ClientLaw.{ClientLaw, LetterByLetter};
+ghost use Rattle.protocol.specs.OneClient.{OneAtATime};
 ghost use Rattle.protocol.specs.Parts.{PartsOneAndTwo, PartThree};
 ghost use Rattle.protocol.specs.Serial.{SerialLaw};
 ghost use Rattle.protocol.specs.Toy.{toy};
@@ -60,4 +61,12 @@ pub fn one_client_commits()
 /// Commit and Abort is kept.
 pub fn one_client_letter_by_letter()
     ensures { LetterByLetter toy }
+{}
+
+/// One transaction at a time: where all is quiet the fragments are those of the whole database after all
+/// that was committed; a transaction that commits answers as its statements in turn over that whole
+/// database and makes of it what they make; one that ends without a commit leaves it as it was; and so for
+/// transactions one after another.
+pub fn one_client_is_serial()
+    ensures { OneAtATime toy }
 {}
