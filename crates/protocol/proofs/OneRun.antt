@@ -78,8 +78,8 @@ taken_well w l within = record { is_kept = refl; within = within; room = room l.
     room (Ack k) = tt
     room (Inquire k) = tt
 
-    fit : (c : Body toy) → RowsFit (w.sites l.site) c
-    fit (Fetch k op g q) = λ v alive. refl
+    fit : (c : Body toy) → RowsFit l.site (w.sites l.site) c
+    fit (Fetch k op g q) = λ home v alive. refl
     fit Open = tt
     fit (Write k op g x) = tt
     fit (Prepare k n) = tt

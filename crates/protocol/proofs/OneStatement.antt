@@ -50,17 +50,17 @@ module _ {L : Lang} where
   spot_head f b tk n c bs (works k s) = flow_head k s.visit.done n c bs s.flow
 
   -- what a fetch brings
-  fetch_said : (s : SiteState L) (t : Name) (b : Bool) (tk : Option Name) (n : ℕ) (k : Name) (op : ℕ) (g : L.Leaf) (q : L.Query) (bs : List (Body L)) → RowsFit s (Fetch k op g q) → Spot s.status b tk n (Fetch k op g q ∷ bs) →
+  fetch_said : (s : SiteState L) (t : Name) (b : Bool) (tk : Option Name) (n : ℕ) (k : Name) (op : ℕ) (g : L.Leaf) (q : L.Query) (bs : List (Body L)) (a : L.Site) → L.home g ≡ a → RowsFit a s (Fetch k op g q) → Spot s.status b tk n (Fetch k op g q ∷ bs) →
       (rows : L.Rows) × (L.well_formed g rows ≡ true) × (said s (on_letter s t true (Fetch k op g q)) ≡ Rows k op rows ∷ [])
-  fetch_said s t b tk n k op g q bs fit (away p) = let e : Fetch k op g q ∷ bs ≡ [] = p.silent in cc
-  fetch_said s t b tk n k op g q bs fit (asked p) = let e : Fetch k op g q ∷ bs ≡ Open ∷ [] = p.waits in cc
-  fetch_said s t b tk n k op g q bs fit (offered j p) = let e : Fetch k op g q ∷ bs ≡ Ticket j ∷ [] = p.waits in cc
-  fetch_said s t b tk n k op g q bs fit (works j p) =
+  fetch_said s t b tk n k op g q bs a home fit (away p) = let e : Fetch k op g q ∷ bs ≡ [] = p.silent in cc
+  fetch_said s t b tk n k op g q bs a home fit (asked p) = let e : Fetch k op g q ∷ bs ≡ Open ∷ [] = p.waits in cc
+  fetch_said s t b tk n k op g q bs a home fit (offered j p) = let e : Fetch k op g q ∷ bs ≡ Ticket j ∷ [] = p.waits in cc
+  fetch_said s t b tk n k op g q bs a home fit (works j p) =
       let w : Works k s.status b tk n (Fetch k op g q ∷ bs) = subst (λ i. Works i s.status b tk n (Fetch k op g q ∷ bs)) (sym p.flow.0) p in
-      (L.parts q (L.changed g w.visit.changes (s.kept g)), fit w.visit w.alive, ap (said s) (fetch_acts s b tk n k bs op g q w))
+      (L.parts q (L.changed g w.visit.changes (s.kept g)), fit home w.visit w.alive, ap (said s) (fetch_acts s b tk n k bs op g q w))
 
   -- a letter comes to its site: what is awaited is on its way still
-  module _ (law : IsLawful L) (t : Name) (s : L.Statement) (before : List (Deed L)) (u : Undecided L) (w : World L) (l : Letter L) (q : List (Letter L)) (e : w.letters ≡ l ∷ q) (stands : Stands t u w) (fit : RowsFit (w.sites l.site) l.body) (to_site : is_for_desk l.body ≡ false) where
+  module _ (law : IsLawful L) (t : Name) (s : L.Statement) (before : List (Deed L)) (u : Undecided L) (w : World L) (l : Letter L) (q : List (Letter L)) (e : w.letters ≡ l ∷ q) (stands : Stands t u w) (fit : RowsFit l.site (w.sites l.site) l.body) (to_site : is_for_desk l.body ≡ false) where
     abbrev out : List (Letter L)
     out = addressed l.site l.txn (said (w.sites l.site) (on_letter (w.sites l.site) l.txn true l.body))
 
@@ -70,7 +70,7 @@ module _ {L : Lang} where
     answered_here : (x : Ask L) (k : Name) (n : ℕ) → x.number ≡ Some n → L.same_site (L.home x.leaf) l.site ≡ true → Fetch k n x.leaf x.query ≡ l.body → AskWaits u (q ++ out) x
     answered_here x k n number here is =
         let a = l.site in
-        let told_ = fetch_said (w.sites a) l.txn (u.visited a) (u.ticket a) (u.sent a) k n x.leaf x.query (at a q) (subst (RowsFit (w.sites a)) (sym is) fit) (subst (λ c. Spot (w.sites a).status (u.visited a) (u.ticket a) (u.sent a) (c ∷ at a q)) (sym is) front) in
+        let told_ = fetch_said (w.sites a) l.txn (u.visited a) (u.ticket a) (u.sent a) k n x.leaf x.query (at a q) a ((law.sites (L.home x.leaf) a).0 here) (subst (RowsFit a (w.sites a)) (sym is) fit) (subst (λ c. Spot (w.sites a).status (u.visited a) (u.ticket a) (u.sent a) (c ∷ at a q)) (sym is) front) in
         told k n told_.0 number told_.1
         (subst (In (Rows k n told_.0)) (sym (at_append (L.home x.leaf) q out)) (in_right (Rows k n told_.0) (at (L.home x.leaf) q) (at (L.home x.leaf) out)
         (subst (In (Rows k n told_.0)) (sym (at_here (L.home x.leaf) a l.txn _ here ∙ ap (λ c. said (w.sites a) (on_letter (w.sites a) l.txn true c)) (sym is) ∙ told_.2)) (inl refl))))

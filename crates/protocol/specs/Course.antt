@@ -71,10 +71,10 @@ module _ {L : Lang} where
   RoomOr E s (Write k op g x) = (v : Visit L) → s.status k ≡ Alive v → (L.is_full g x v.changes ≡ false) ⊎ E
   RoomOr E s body = ⊤
 
-  -- the rows that a fetch brings fit its leaf
-  abbrev pub RowsFit : SiteState L → Body L → Type 0
-  RowsFit s (Fetch k op g q) = (v : Visit L) → s.status k ≡ Alive v → L.well_formed g (L.parts q (L.changed g v.changes (s.kept g))) ≡ true
-  RowsFit s body = ⊤
+  -- the rows that a fetch brings of a leaf of site a fit it
+  abbrev pub RowsFit : L.Site → SiteState L → Body L → Type 0
+  RowsFit a s (Fetch k op g q) = L.home g ≡ a → (v : Visit L) → s.status k ≡ Alive v → L.well_formed g (L.parts q (L.changed g v.changes (s.kept g))) ≡ true
+  RowsFit a s body = ⊤
 
   -- the step that a letter makes is within the limits
   abbrev pub passes_to : Bool → World L → Bool → Choice L → Letter L → Bool
@@ -90,5 +90,5 @@ module _ {L : Lang} where
     pub is_kept : kept ≡ true
     pub within : passes w kept choice l ≡ true
     pub room : RoomOr E (w.sites l.site) l.body
-    pub fit : RowsFit (w.sites l.site) l.body
+    pub fit : RowsFit l.site (w.sites l.site) l.body
     pub homes : AtSites L (map (λ x. x.0) choice.1)
