@@ -1,18 +1,15 @@
 -- A site in the first phase of one client's transaction: how it is asked and votes, and what an end leaves there.
-use Rattle.std.proofs.Common.{◌≡◌, refl, sym, ap, ◌∙◌, subst, ℕ, suc, ◌==◌, ◌&&◌, ◌||◌, not, Bool, true, false, List, [], ◌∷◌, ◌++◌, map, if◌then◌else◌, Option, Some, None, is_some, ◌⊎◌, inl, inr, ⊎_elim, append-nil, flat_map}
+use Rattle.std.proofs.Common.{◌≡◌, refl, sym, ap, ◌∙◌, subst, ℕ, ◌==◌, ◌||◌, not, Bool, true, false, List, [], ◌∷◌, ◌++◌, if◌then◌else◌, Option, Some, None, is_some, ◌⊎◌, inl, inr, ⊎_elim}
 use Rattle.std.proofs.lemmas.Bool.{eq-eqb}
-use Rattle.std.specs.Prelude.{⊤}
-use Rattle.std.specs.List.{list_all}
 use Rattle.protocol.specs.Language.{Lang, IsLawful, Name, same, put}
-use Rattle.protocol.specs.Letter.{Vote, Yes, No, Read, Body, Open, Fetch, Write, Prepare, Commit, Abort, Ticket, Rows, Refused, Voted, Ack, Inquire, Letter}
+use Rattle.protocol.specs.Letter.{Vote, Yes, No, Read, Body, Open, Prepare, Commit, Ticket, Voted}
 use Rattle.protocol.specs.Site.{Visit, Status, Dead, Alive, Prepared, SiteState, Act, Prepares, Ends, is_prepared, on_letter, on_prepare, site_after, said}
-use Rattle.protocol.specs.Desk.{Undecided, may_hold, voter_at, voters_of, are_all_in, commits}
+use Rattle.protocol.specs.Desk.{Undecided, may_hold, voter_at, voters_of, commits}
 use Rattle.protocol.specs.Parts.{In}
 use Rattle.protocol.specs.Spots.{at, Unlocked, Spot, away, asked, offered, works, Flow}
 use Rattle.protocol.specs.Leaving.{Closed, Leaves, is_free, is_own, hears_commit, LeavingAt}
 use Rattle.protocol.specs.Committing.{VotedBy, Ballot, is_aside, is_asked, has_voted, is_counted}
-use Rattle.protocol.proofs.Basics.{Every, in_flat, either, either_if, put_all, put_here, same_law, if_true, clash, by_test, some_is, all_in}
-use Rattle.protocol.proofs.AtSite.{head_is}
+use Rattle.protocol.proofs.Basics.{in_flat, either, either_if, put_all, put_here, same_law, if_true, clash, by_test}
 
 pub none_behind : {A : Type 0} (x y : A) (xs : List A) → x ∷ xs ≡ y ∷ [] → xs ≡ []
 none_behind x y xs e = cc

@@ -1,19 +1,18 @@
 -- One client's commit, letter by letter: it is committed, unless something gave an excuse.
-use Rattle.std.proofs.Common.{◌≡◌, refl, sym, ap, ◌∙◌, subst, ℕ, ◌==◌, ◌&&◌, ◌||◌, not, Bool, true, false, List, [], ◌∷◌, ◌++◌, map, if◌then◌else◌, Option, Some, None, is_some, is_none, ◌⊎◌, inl, inr, ⊎_elim, append-nil, append_assoc, flat_map}
-use Rattle.std.specs.Prelude.{⊤}
+use Rattle.std.proofs.Common.{◌≡◌, refl, sym, ap, ◌∙◌, subst, ◌||◌, not, Bool, true, false, List, [], ◌∷◌, ◌++◌, if◌then◌else◌, Option, Some, None, is_some, is_none, ◌⊎◌, inl, inr, ⊎_elim, append-nil, append_assoc, flat_map}
 use Rattle.std.specs.List.{list_all}
 use Rattle.protocol.specs.Language.{Lang, IsLawful, Name, same, put}
 use Rattle.protocol.specs.Letter.{Vote, Yes, No, Read, Body, Open, Fetch, Write, Prepare, Commit, Abort, Ticket, Rows, Refused, Voted, Ack, Inquire, Letter, letters_to, is_for_desk}
-use Rattle.protocol.specs.Site.{Visit, Status, SiteState, Alive, on_letter, site_after, said, is_within}
-use Rattle.protocol.specs.Desk.{Choice, Stage, Idle, Voting, Undecided, Txn, Unknown, Known, Row, Deed, Phased, Committed, Aborted, By_vote, By_store, Why, Commit_call, Turn, stays, after_deed, is_named, is_undecided, is_short_txn, when, to_prepare, to_abort, may_hold, vote_at, voter_at, voters_of, are_all_in, commits, decides, votes_go, phases, on_commit_call, counts, on_vote, on_known, on_request, on_desk_letter, desk_after, is_desk_within, ends_by}
+use Rattle.protocol.specs.Site.{Visit, Status, Alive, on_letter, site_after, said, is_within}
+use Rattle.protocol.specs.Desk.{Choice, Voting, Undecided, Txn, Unknown, Known, Row, Deed, Phased, Committed, Aborted, By_vote, By_store, Why, Commit_call, Turn, stays, is_named, is_undecided, is_short_txn, when, to_prepare, voter_at, voters_of, are_all_in, commits, decides, votes_go, phases, on_commit_call, counts, on_vote, on_request, on_desk_letter, desk_after, is_desk_within, ends_by}
 use Rattle.protocol.specs.World.{World, turned, turns, with_site, addressed, comes, comes_to, called}
 use Rattle.protocol.specs.Client.{first, next, IsQuiet}
 use Rattle.protocol.specs.Parts.{In}
 use Rattle.protocol.specs.Spots.{at, Unlocked}
-use Rattle.protocol.specs.Course.{Stands, Steady}
+use Rattle.protocol.specs.Course.{Steady}
 use Rattle.protocol.specs.Leaving.{Closed, is_free, LeavingAt, Ending, EndKept, Within}
 use Rattle.protocol.specs.Committing.{VotedBy, Ballot, is_aside, is_asked, has_voted, is_counted, InVote, Committing, in_vote, is_done, is_undone, CommitKept}
-use Rattle.protocol.proofs.Basics.{Every, every_append, every_map, every_all, either, either_if, put_all, put_here, put_there, same_law, same_refl, if_true, if_false, clash, by_test, some_is, all_in}
+use Rattle.protocol.proofs.Basics.{Every, every_append, every_map, either, either_if, put_all, put_here, same_law, same_refl, if_true, clash, all_in}
 use Rattle.protocol.proofs.Locks.{Once}
 use Rattle.protocol.proofs.Turns.{every_letter}
 use Rattle.protocol.proofs.Queue.{at_append, at_here, at_away}
@@ -123,7 +122,6 @@ module _ {L : Lang} (law : IsLawful L) (once : Once L.sites) (E : Type 0) (t : N
   none_out : (u : Undecided L) → (votes_go t u (λ a. None) true).letters ≡ []
   none_out u = either (λ (turn : Turn L). turn.letters ≡ []) (are_all_in u (λ a. None)) _ _
       (ap (λ voters. (decides t (record u { stage = Voting (λ a. None) }) true voters).letters) (no_voters u.visited u.ticket L.sites)) refl
-
 
   module _ (w : World L) (steady : Steady t w) (choice : Choice L) where
     abbrev u : Undecided L
@@ -320,7 +318,14 @@ module _ {L : Lang} (E F : Type 0) (more : E → F) where
 
   pub excuse_more : (t : Name) (before : List (Deed L)) (w : World L) → Committing E t before w → Committing F t before w
   excuse_more t before w (in_vote vote) = in_vote (record {
-    u = vote.u; votes = vote.votes; known = vote.known; stage = vote.stage; missing = vote.missing; alone = vote.alone; others = vote.others; among = vote.among;
+    u = vote.u;
+    votes = vote.votes;
+    known = vote.known;
+    stage = vote.stage;
+    missing = vote.missing;
+    alone = vote.alone;
+    others = vote.others;
+    among = vote.among;
     ballots = λ a. ballot_more (w.sites a).status (vote.u.visited a) (vote.u.ticket a) (vote.votes a) (at a w.letters) (vote.ballots a);
     past = vote.past;
   })

@@ -1,15 +1,14 @@
 -- One client letter by letter: each step of a transaction leads from fact to fact.
-use Rattle.std.proofs.Common.{◌≡◌, refl, sym, ap, ◌∙◌, subst, Bool, true, false, List, [], ◌∷◌, ◌++◌, map, if◌then◌else◌, ◌⊎◌, inl, inr, append-nil}
-use Rattle.protocol.specs.Language.{Lang, IsLawful, Name, same, put}
+use Rattle.std.proofs.Common.{◌≡◌, refl, sym, ap, ◌∙◌, subst, Bool, true, false, List, [], ◌∷◌, ◌++◌, map, inl, inr, append-nil}
+use Rattle.protocol.specs.Language.{Lang, IsLawful, Name, same}
 use Rattle.protocol.specs.Letter.{Letter}
-use Rattle.protocol.specs.Desk.{Choice, Request, Undecided, Txn, Unknown, Known, Row, Deed, Aborted, Rolled_back, Given_up, Give_up, fresh, stays, is_undecided, next_txn, desk_began, desk_after, on_request, is_desk_within}
+use Rattle.protocol.specs.Desk.{Choice, Txn, Unknown, Known, Row, Deed, Aborted, Given_up, Give_up, fresh, stays, is_undecided, next_txn, desk_began, desk_after, on_request, is_desk_within}
 use Rattle.protocol.specs.World.{World, begun, begins, called, turned, turns}
 use Rattle.protocol.specs.Serial.{IsOpening}
 use Rattle.protocol.specs.Client.{next, IsQuiet}
 use Rattle.protocol.specs.Spots.{Unlocked}
-use Rattle.protocol.specs.Course.{AtSites, Steady, Well}
-use Rattle.protocol.specs.Leaving.{LeavingAt, EndKept, Within, Since, Loose, Ending, doomed, has_ended, Failing, Went, Lost, may_end, has_gone}
-use Rattle.protocol.specs.Committing.{Committing, CommitKept}
+use Rattle.protocol.specs.Course.{AtSites, Steady}
+use Rattle.protocol.specs.Leaving.{LeavingAt, EndKept, Within, Since, Ending, doomed, has_ended, Failing, Went, Lost, may_end, has_gone}
 use Rattle.protocol.specs.ClientLaw.{CourseLaw}
 use Rattle.protocol.specs.Spots.{at}
 use Rattle.protocol.proofs.Basics.{either, put_all, put_here, same_law, if_true}

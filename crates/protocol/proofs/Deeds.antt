@@ -1,17 +1,17 @@
 -- What the deeds of one more transaction add to those that were committed, to statements and to answers.
-use Rattle.std.proofs.Common.{◌≡◌, refl, sym, ap, ap₂, ◌∙◌, subst, suc, ◌≤◌, ◌||◌, Bool, true, false, List, [], ◌∷◌, ◌++◌, map, filter, flat_map, if◌then◌else◌, ◌⊎◌, inl, inr, ⊎_elim, append_assoc, append-nil, arith}
+use Rattle.std.proofs.Common.{◌≡◌, refl, sym, ap, ap₂, ◌∙◌, subst, ◌||◌, Bool, true, false, List, [], ◌∷◌, ◌++◌, map, filter, if◌then◌else◌, inl, inr, ⊎_elim, append-nil, arith}
 use Rattle.std.proofs.lemmas.Grind.{flat_map-append}
 use Rattle.std.proofs.lemmas.List.Elements.{filter-append}
 use Rattle.std.proofs.lemmas.List.Folds.{list_any-append}
 use Rattle.std.specs.List.{list_any}
 use Rattle.protocol.specs.Language.{Lang, IsLawful, Name, same}
 use Rattle.protocol.specs.Desk.{Deed, Began, Stated, Worked, Answered, Phased, Committed, Aborted, Rolled_back, next_txn}
-use Rattle.protocol.specs.World.{World, run}
+use Rattle.protocol.specs.World.{World}
 use Rattle.protocol.specs.Serial.{commits_it, is_committed, phased_of, phases_of, committed, statement_in, statements_of, answer_in, answers_of}
 use Rattle.protocol.specs.Client.{IsReached}
 use Rattle.protocol.specs.Leaving.{Fruitless}
 use Rattle.protocol.specs.ClientLaw.{Entry, log}
-use Rattle.protocol.proofs.Basics.{Every, In, every_append, every_more, by_test, clash, same_law, same_refl, if_true, if_false}
+use Rattle.protocol.proofs.Basics.{Every, In, every_more, by_test, same_law, same_refl, if_true, if_false}
 use Rattle.protocol.proofs.Locks.{from_filter}
 use Rattle.protocol.proofs.Fits.{Born}
 use Rattle.protocol.proofs.Works.{txn_of, view_other}

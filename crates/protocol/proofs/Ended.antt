@@ -1,23 +1,18 @@
 -- After its end a transaction of one client is left behind: whatever letters and stores answer, no lock stays where no letter waits.
-use Rattle.std.proofs.Common.{◌≡◌, refl, sym, ap, ◌∙◌, subst, ℕ, ◌&&◌, not, Bool, true, false, List, [], ◌∷◌, ◌++◌, if◌then◌else◌, Option, Some, None, ◌⊎◌, inl, inr, ⊎_elim, append-nil}
-use Rattle.std.specs.Prelude.{⊤}
+use Rattle.std.proofs.Common.{◌≡◌, refl, sym, ap, ◌∙◌, subst, ◌&&◌, not, Bool, true, false, List, [], ◌∷◌, ◌++◌, ◌⊎◌, inl, inr, ⊎_elim, append-nil}
 use Rattle.std.specs.List.{list_any}
-use Rattle.protocol.specs.Language.{Lang, IsLawful, Name, same, put}
-use Rattle.protocol.specs.Letter.{Body, Open, Fetch, Write, Prepare, Commit, Abort, Ticket, Rows, Refused, Voted, Ack, Inquire, Letter, letters_to, is_for_desk}
-use Rattle.protocol.specs.Site.{Status, SiteState, on_letter, site_after, said, is_within}
-use Rattle.protocol.specs.Desk.{Choice, Undecided, Txn, Unknown, Known, Row, Deed, Turn, Desk, stays, is_undecided, is_pair, are_acked, on_unknown, on_row, on_ack, on_desk_letter, desk_after, is_desk_within, when, to_abort, may_hold, vote_at, ends_by}
-use Rattle.protocol.specs.World.{World, addressed, with_site, site_steps, turned, turns, comes_to}
-use Rattle.protocol.specs.Client.{first, next, rest_of, loses, IsQuiet}
-use Rattle.protocol.specs.Spots.{at, Unlocked, Spot, away, asked, offered, works, Flow}
-use Rattle.protocol.specs.Course.{Stands}
-use Rattle.protocol.specs.Leaving.{Closed, Leaves, is_free, is_own, hears_abort, hears_commit, LeavingAt, Ending, EndKept, Within}
-use Rattle.protocol.proofs.Basics.{Every, In, in_left, in_right, every_append, either, either_if, put_all, same_law, if_true, if_false, clash, by_test}
-use Rattle.protocol.proofs.Locks.{Once}
-use Rattle.protocol.proofs.Turns.{every_letter}
+use Rattle.protocol.specs.Language.{Lang, IsLawful, Name, same}
+use Rattle.protocol.specs.Letter.{Body, Open, Fetch, Write, Prepare, Commit, Abort, Ticket, Rows, Refused, Voted, Ack, Inquire, Letter, is_for_desk}
+use Rattle.protocol.specs.Site.{Status, on_letter, site_after, said, is_within}
+use Rattle.protocol.specs.Desk.{Choice, Txn, Unknown, Known, Row, Deed, Turn, stays, is_undecided, is_pair, are_acked, on_unknown, on_row, on_desk_letter, desk_after, is_desk_within}
+use Rattle.protocol.specs.World.{World, addressed, with_site, turned, comes_to}
+use Rattle.protocol.specs.Client.{first, next, IsQuiet}
+use Rattle.protocol.specs.Spots.{at, Unlocked}
+use Rattle.protocol.specs.Leaving.{Leaves, is_free, is_own, hears_abort, hears_commit, LeavingAt, Ending, EndKept, Within}
+use Rattle.protocol.proofs.Basics.{Every, In, either, either_if, put_all, same_law, if_true, if_false, clash, by_test}
 use Rattle.protocol.proofs.Queue.{at_append, at_here, at_away}
-use Rattle.protocol.proofs.AtDesk.{at_said}
 use Rattle.protocol.proofs.Limits.{OfTheEnd, end_within}
-use Rattle.protocol.proofs.Leaving.{NoOp, NoEnd, closed_none, closed_append, leaves_more, leaving_lost, leaving_more, left}
+use Rattle.protocol.proofs.Leaving.{NoOp, NoEnd, closed_none, leaving_lost, leaving_more, left}
 
 module _ {L : Lang} where
   -- letters that ask a site for nothing to do

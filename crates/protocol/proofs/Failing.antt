@@ -1,17 +1,16 @@
 -- A statement that fails: each letter that comes leaves a transaction that may be given up, or has ended, until no letter waits.
-use Rattle.std.proofs.Common.{◌≡◌, refl, sym, ap, ◌∙◌, subst, ℕ, suc, ◌==◌, ◌&&◌, ◌||◌, not, Bool, true, false, List, [], ◌∷◌, ◌++◌, map, if◌then◌else◌, Option, Some, None, is_some, is_none, ◌⊎◌, inl, inr, ⊎_elim, append-nil, append_assoc}
-use Rattle.std.specs.Prelude.{⊤}
-use Rattle.protocol.specs.Language.{Lang, IsLawful, Name, same, put}
+use Rattle.std.proofs.Common.{◌≡◌, refl, sym, ap, ◌∙◌, subst, Bool, true, false, List, [], ◌∷◌, ◌++◌, map, if◌then◌else◌, Option, Some, None, ◌⊎◌, inl, inr, ⊎_elim, append-nil}
+use Rattle.protocol.specs.Language.{Lang, IsLawful, Name, same}
 use Rattle.protocol.specs.Letter.{Body, Vote, Reason, Open, Fetch, Write, Prepare, Commit, Abort, Ticket, Rows, Refused, Voted, Ack, Inquire, Letter, is_for_desk}
-use Rattle.protocol.specs.Site.{Status, SiteState, on_letter, site_after, said, is_within}
-use Rattle.protocol.specs.Desk.{Choice, Stage, Idle, Reading, Writing, Voting, Undecided, Txn, Unknown, Known, Deed, Aborted, By_refusal, Turn, stays, is_named, ticket_goes, on_rows, on_ticket, on_refused, on_vote, on_known, on_desk_letter, desk_after, is_desk_within, ends_by}
+use Rattle.protocol.specs.Site.{on_letter, site_after, said, is_within}
+use Rattle.protocol.specs.Desk.{Choice, Stage, Idle, Reading, Writing, Voting, Undecided, Known, Deed, Aborted, By_refusal, Turn, stays, is_named, ticket_goes, on_ticket, on_refused, on_vote, on_known, on_desk_letter, desk_after, is_desk_within, ends_by}
 use Rattle.protocol.specs.World.{World, turned, turns, with_site, addressed, comes_to}
 use Rattle.protocol.specs.Parts.{is_voting}
 use Rattle.protocol.specs.Client.{first, next, IsQuiet}
 use Rattle.protocol.specs.Spots.{at}
 use Rattle.protocol.specs.Course.{AtSites}
-use Rattle.protocol.specs.Leaving.{Closed, LeavingAt, Ending, EndKept, Within, Own, Fruitless, Since, leaves_of, Loose, Doomed, Failing, doomed, has_ended}
-use Rattle.protocol.proofs.Basics.{Every, In, in_left, in_right, every_append, every_map, either, either_if, put_all, put_here, put_there, same_law, same_refl, if_true, if_false, clash, by_test, some_is}
+use Rattle.protocol.specs.Leaving.{LeavingAt, Ending, EndKept, Within, Own, Fruitless, Since, leaves_of, Loose, Failing, doomed, has_ended}
+use Rattle.protocol.proofs.Basics.{Every, In, every_append, every_map, either, either_if, put_all, put_there, same_refl, if_true, clash, by_test}
 use Rattle.protocol.proofs.Locks.{Once}
 use Rattle.protocol.proofs.Queue.{at_append, at_here, at_away}
 use Rattle.protocol.proofs.Waiting.{in_at}
@@ -42,9 +41,16 @@ module _ {L : Lang} where
     first_ticket k none =
         let to = goes_loose law t (with_ticket u a k) choice u.stage calm homes homes in
         record {
-          new = to.new; is = to.is; calm = to.calm; homes = to.homes; own = to.own; among = to.among; visited = to.visited;
+          new = to.new;
+          is = to.is;
+          calm = to.calm;
+          homes = to.homes;
+          own = to.own;
+          among = to.among;
+          visited = to.visited;
           ticket = λ b j own. to.ticket b j (⊎_elim (λ is. (let f : None ≡ Some j = sym none ∙ ap u.ticket (sym ((law.sites b a).0 is)) ∙ own in cc)) (λ other. put_there L.same_site law.sites a (Some k) u.ticket b other ∙ own) (by_test (L.same_site b a)));
-          sends = to.sends; deeds = to.deeds;
+          sends = to.sends;
+          deeds = to.deeds;
         }
 
     ticket_turn : (k : Name) (tk : Option Name) → u.ticket a ≡ tk → KnownTurn t u (on_ticket t u a k choice tk)

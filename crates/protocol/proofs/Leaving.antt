@@ -1,12 +1,12 @@
 -- A site that is being left: no letter gives anybody a lock that stays.
-use Rattle.std.proofs.Common.{◌≡◌, refl, sym, ap, ◌∙◌, subst, ℕ, suc, ◌==◌, ◌&&◌, Bool, true, false, List, [], ◌∷◌, ◌++◌, if◌then◌else◌, Option, Some, None, ◌⊎◌, inl, inr, ⊎_elim, append-nil}
+use Rattle.std.proofs.Common.{◌≡◌, refl, sym, ap, subst, ℕ, suc, ◌==◌, Bool, true, false, List, [], ◌∷◌, ◌++◌, ◌⊎◌, inl, inr, ⊎_elim}
 use Rattle.std.specs.Prelude.{⊤}
 use Rattle.protocol.specs.Language.{Lang, Name, same, put}
 use Rattle.protocol.specs.Letter.{Body, Open, Fetch, Write, Prepare, Commit, Abort, Ticket, Rows, Refused, Voted, Ack, Inquire, Lock, Full, Gone, Yes, No, Read}
-use Rattle.protocol.specs.Site.{Visit, Status, Dead, Alive, Prepared, SiteState, Act, Says, Opens, Locks, Prepares, Applies, Ends, is_prepared, others_exclusive, next_ticket, new_visit, on_letter, on_fetch, on_write, on_prepare, on_commit, on_abort, sees, site_after, said}
+use Rattle.protocol.specs.Site.{Visit, Status, Dead, Alive, Prepared, SiteState, Act, Says, Opens, Locks, is_prepared, others_exclusive, next_ticket, new_visit, on_letter, on_fetch, on_write, on_prepare, on_commit, on_abort, sees, site_after, said}
 use Rattle.protocol.specs.Spots.{Unlocked}
 use Rattle.protocol.specs.Leaving.{Closed, Leaves, is_free, is_own, hears_abort, hears_commit, LeavingAt, EndKept}
-use Rattle.protocol.proofs.Basics.{Every, In, in_left, either, put_all, same_law, by_test, clash, same_refl}
+use Rattle.protocol.proofs.Basics.{Every, In, in_left, either, put_all, same_law, by_test, clash}
 use Rattle.protocol.proofs.AtSite.{sees_unlocked}
 
 module _ {L : Lang} where

@@ -1,11 +1,11 @@
 -- The limits hold from step to step, and what ends or prepares a visit never meets one.
-use Rattle.std.proofs.Common.{◌≡◌, ◌^◌, List, refl, sym, ap, ◌∙◌, subst, ℕ, suc, ◌≤◌, ◌==◌, ◌&&◌, not, Bool, true, false, [], ◌∷◌, ◌++◌, length, if◌then◌else◌, filter, nat_lt, nat_le, arith}
+use Rattle.std.proofs.Common.{◌≡◌, ◌^◌, List, refl, sym, ◌∙◌, ℕ, ◌≤◌, ◌==◌, ◌&&◌, not, Bool, true, false, [], ◌∷◌, length, if◌then◌else◌, filter, nat_lt, nat_le, arith}
 use Rattle.std.proofs.lemmas.Bool.{le-leb, leb-true}
 use Rattle.std.specs.Prelude.{⊤}
 use Rattle.std.specs.List.{list_all}
 use Rattle.protocol.specs.Language.{Lang, IsLawful, Name, same, put}
-use Rattle.protocol.specs.Letter.{Body, Letter, Open, Fetch, Write, Prepare, Commit, Abort, Ticket, Rows, Refused, Voted, Ack, Inquire, Yes, No, Read, is_for_desk}
-use Rattle.protocol.specs.Site.{Visit, Status, Dead, Alive, Prepared, SiteState, Act, Says, Prepares, Applies, Ends, is_dead, is_alive, is_short, is_within, on_letter, on_prepare, on_commit, on_abort, with_status, site_after, said}
+use Rattle.protocol.specs.Letter.{Body, Letter, Open, Fetch, Write, Prepare, Commit, Abort, Ticket, Rows, Refused, Voted, Ack, Inquire, No, Read, is_for_desk}
+use Rattle.protocol.specs.Site.{Status, Dead, Alive, Prepared, SiteState, Act, Ends, is_dead, is_alive, is_short, is_within, on_letter, on_prepare, on_commit, on_abort, with_status, site_after, said}
 use Rattle.protocol.specs.Desk.{Txn, Choice, Request, Turn, Desk, desk_began, on_request, on_desk_letter, is_unknown, is_undecided, is_short_txn, is_desk_within, desk_after}
 use Rattle.protocol.specs.Client.{first, next}
 use Rattle.protocol.specs.Leaving.{Within}

@@ -1,16 +1,15 @@
 -- A transaction that may still be given up, whatever letters were let go: how it ends.
-use Rattle.std.proofs.Common.{◌≡◌, refl, sym, ap, ◌∙◌, subst, ℕ, suc, ◌&&◌, not, Bool, true, false, List, [], ◌∷◌, ◌++◌, map, if◌then◌else◌, Option, Some, None, ◌⊎◌, inl, inr, ⊎_elim, append-nil, append_assoc}
-use Rattle.std.specs.Prelude.{⊤}
-use Rattle.protocol.specs.Language.{Lang, IsLawful, Name, same, put}
-use Rattle.protocol.specs.Letter.{Body, Vote, Open, Fetch, Write, Prepare, Commit, Abort, Ticket, Rows, Refused, Voted, Ack, Inquire, Letter, letters_to, is_for_desk}
+use Rattle.std.proofs.Common.{◌≡◌, refl, sym, ap, ◌∙◌, subst, ℕ, suc, ◌&&◌, Bool, true, false, List, [], ◌∷◌, ◌++◌, map, Option, Some, None, ◌⊎◌, inl, inr, ⊎_elim, append-nil}
+use Rattle.protocol.specs.Language.{Lang, IsLawful, Name, same}
+use Rattle.protocol.specs.Letter.{Body, Open, Fetch, Write, Prepare, Commit, Abort, Ticket, Rows, Refused, Voted, Ack, Inquire, Letter, letters_to}
 use Rattle.protocol.specs.Site.{Status}
-use Rattle.protocol.specs.Desk.{Ask, Choice, Stage, Idle, Reading, Writing, Voting, Undecided, Txn, Unknown, Known, Deed, Stated, Worked, Answered, Aborted, Rolled_back, Given_up, Rollback, Give_up, Request, is_undecided, on_request, on_rollback, desk_after, is_desk_within, when, to_abort, may_hold, vote_at, ends_by}
+use Rattle.protocol.specs.Desk.{Ask, Choice, Stage, Idle, Reading, Writing, Voting, Undecided, Unknown, Known, Deed, Stated, Worked, Answered, Aborted, Rolled_back, Given_up, Rollback, Give_up, Request, is_undecided, on_request, on_rollback, desk_after, is_desk_within, when, to_abort, may_hold, vote_at, ends_by}
 use Rattle.protocol.specs.World.{World, turned, turns, called}
 use Rattle.protocol.specs.Parts.{is_voting}
-use Rattle.protocol.specs.Spots.{at, Unlocked, Spot, away, asked, offered, works, Flow}
+use Rattle.protocol.specs.Spots.{at, Spot, away, asked, offered, works, Flow}
 use Rattle.protocol.specs.Course.{AtSites, Stands, AskStands, WriteWaits, Far, reads, writes, is_answered, InStatement, Steady}
-use Rattle.protocol.specs.Leaving.{Closed, Leaves, is_free, is_own, hears_abort, hears_commit, LeavingAt, Ending, Within, Own, Fruitless, Since, Loose, leaves_of}
-use Rattle.protocol.proofs.Basics.{Every, In, in_left, in_right, every_append, either, put_all, same_law, if_true, clash, by_test, some_is}
+use Rattle.protocol.specs.Leaving.{Closed, Leaves, is_free, is_own, hears_abort, hears_commit, LeavingAt, Ending, Within, Own, Since, Loose, leaves_of}
+use Rattle.protocol.proofs.Basics.{Every, In, in_left, in_right, put_all, same_law, if_true, by_test, some_is}
 use Rattle.protocol.proofs.Locks.{Once}
 use Rattle.protocol.proofs.Turns.{every_letter}
 use Rattle.protocol.proofs.Queue.{at_append}

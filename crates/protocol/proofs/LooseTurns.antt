@@ -1,28 +1,21 @@
 -- Turns of a statement after which its transaction may still be given up: operations go to own tickets alone.
-use Rattle.std.proofs.Common.{◌≡◌, refl, sym, ap, ◌∙◌, subst, ℕ, suc, ◌==◌, ◌&&◌, ◌||◌, not, Bool, true, false, List, [], ◌∷◌, ◌++◌, map, if◌then◌else◌, Option, Some, None, is_some, is_none, ◌⊎◌, inl, inr, ⊎_elim, append-nil, append_assoc}
-use Rattle.std.specs.Prelude.{⊤}
+use Rattle.std.proofs.Common.{◌≡◌, refl, sym, ap, ◌∙◌, subst, ℕ, suc, ◌||◌, not, Bool, true, false, List, [], ◌∷◌, ◌++◌, map, if◌then◌else◌, Option, Some, None, is_some, inl, inr, ⊎_elim, append_assoc}
 use Rattle.std.specs.List.{list_all}
 use Rattle.protocol.specs.Language.{Lang, IsLawful, Name, same, put}
-use Rattle.protocol.specs.Letter.{Body, Vote, Reason, Open, Fetch, Write, Prepare, Commit, Abort, Ticket, Rows, Refused, Voted, Ack, Inquire, Letter, letters_to, is_for_desk}
-use Rattle.protocol.specs.Site.{Status, SiteState, on_letter, site_after, said, is_within}
-use Rattle.protocol.specs.Desk.{Ask, Choice, Stage, Idle, Reading, Writing, Voting, Undecided, Txn, Unknown, Known, Deed, Stated, Worked, Answered, Aborted, By_refusal, Turn, stays, is_undecided, is_named, ask_out, asks_out, write_out, writes_out, is_new, opening, opens, visits, asks_go, writing, writes_go, works, after_deed, ticket_goes, awaits, with_rows, on_rows, on_ticket, on_refused, on_vote, on_known, on_desk_letter, desk_after, is_desk_within, ends_by}
-use Rattle.protocol.specs.World.{World, turned, turns, with_site, addressed, comes_to}
+use Rattle.protocol.specs.Letter.{Body, Open, Fetch, Write, Prepare, Commit, Abort, Ticket, Rows, Refused, Voted, Ack, Inquire, Letter}
+use Rattle.protocol.specs.Desk.{Ask, Choice, Stage, Idle, Reading, Writing, Voting, Undecided, Known, Deed, Turn, stays, is_undecided, ask_out, asks_out, write_out, writes_out, is_new, opening, opens, visits, asks_go, writing, writes_go, works, ticket_goes, awaits, with_rows, on_rows}
+use Rattle.protocol.specs.World.{World, turned}
 use Rattle.protocol.specs.Parts.{is_voting}
-use Rattle.protocol.specs.Client.{first, next}
 use Rattle.protocol.specs.Spots.{at}
 use Rattle.protocol.specs.Course.{AtSites}
-use Rattle.protocol.specs.Leaving.{Closed, LeavingAt, Ending, EndKept, Within, Own, Fruitless, Since, leaves_of, Loose}
-use Rattle.protocol.proofs.Basics.{Every, In, in_left, in_right, every_append, every_map, every_more, every_self, either, either_if, put_all, put_here, same_law, same_refl, if_true, if_false, clash, by_test, some_is, or_left, or_cases, left_true, right_true, found, not_false}
-use Rattle.protocol.proofs.Locks.{Once}
+use Rattle.protocol.specs.Leaving.{Closed, LeavingAt, Own, Fruitless, Since, leaves_of, Loose}
+use Rattle.protocol.proofs.Basics.{Every, In, every_append, every_more, every_self, either, either_if, put_all, put_here, same_law, same_refl, clash, or_left, or_cases, right_true, found, not_false}
 use Rattle.protocol.proofs.Turns.{every_letter}
 use Rattle.protocol.proofs.Going.{opening_is}
 use Rattle.protocol.proofs.Ranks.{all_visited, in_map}
-use Rattle.protocol.proofs.Queue.{at_append, at_here, at_away}
-use Rattle.protocol.proofs.Working.{with_ticket}
-use Rattle.protocol.proofs.Limits.{end_within}
-use Rattle.protocol.proofs.Leaving.{NoOp, NoEnd, closed_none, closed_append, left}
-use Rattle.protocol.proofs.Ended.{at_none, in_front, elsewhere, by_site, end_or_not, desk_no_end}
-use Rattle.protocol.proofs.Loose.{leaving_to, loose_ends, loose_lost, ends_within}
+use Rattle.protocol.proofs.Queue.{at_append}
+use Rattle.protocol.proofs.Leaving.{closed_append, left}
+use Rattle.protocol.proofs.Loose.{leaving_to}
 
 -- what is said of each leaf
 at_leaves : (L : Lang) {A : Type 0} (leaf : A → L.Leaf) (xs : List A) → Every (λ x. In (L.home (leaf x)) L.sites) xs → AtSites L (map leaf xs)

@@ -1,12 +1,12 @@
 -- From the serial law: what one client's transactions answer and leave.
-use Rattle.std.proofs.Common.{◌≡◌, refl, sym, ap, ap₂, ◌∙◌, subst, Bool, true, false, List, [], ◌∷◌, ◌++◌, map, append_assoc, append-nil}
+use Rattle.std.proofs.Common.{◌≡◌, refl, sym, ap, ap₂, ◌∙◌, true, false, List, [], ◌∷◌, ◌++◌, map, append_assoc}
 use Rattle.std.proofs.lemmas.List.{map-append}
 use Rattle.std.specs.List.{list_any}
 use Rattle.protocol.specs.Language.{Lang, IsLawful, Name}
 use Rattle.protocol.specs.Site.{Status, Dead, Alive, Prepared}
 use Rattle.protocol.specs.Desk.{Deed, Desk, Began, Phased, Committed, next_txn}
 use Rattle.protocol.specs.World.{World}
-use Rattle.protocol.specs.Serial.{commits_it, committed, statements_of, answers_of, with_decided, with_all_decided, settled, whole_after, answers_in_turn, serial_whole, serial_answers, IsSerial}
+use Rattle.protocol.specs.Serial.{commits_it, committed, statements_of, answers_of, with_decided, with_all_decided, whole_after, answers_in_turn, serial_whole, serial_answers, IsSerial}
 use Rattle.protocol.specs.Client.{IsReached, IsQuiet}
 use Rattle.protocol.specs.Spots.{Unlocked}
 use Rattle.protocol.specs.Leaving.{Since, Fruitless}

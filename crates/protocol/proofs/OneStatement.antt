@@ -1,21 +1,21 @@
 -- One client's statement from its beginning to its answer, letter by letter.
-use Rattle.std.proofs.Common.{◌≡◌, refl, sym, ap, ◌∙◌, subst, ℕ, ◌==◌, ◌&&◌, Bool, true, false, List, [], ◌∷◌, ◌++◌, map, if◌then◌else◌, Option, Some, None, is_some, ◌⊎◌, inl, inr, ⊎_elim, append_assoc}
+use Rattle.std.proofs.Common.{◌≡◌, refl, sym, ap, ◌∙◌, subst, ℕ, Bool, true, false, List, [], ◌∷◌, ◌++◌, map, if◌then◌else◌, Option, Some, is_some, ◌⊎◌, inl, inr, ⊎_elim}
 use Rattle.std.specs.Prelude.{⊤}
 use Rattle.std.specs.List.{list_all}
-use Rattle.protocol.specs.Language.{Lang, IsLawful, Name, same, put}
+use Rattle.protocol.specs.Language.{Lang, IsLawful, Name}
 use Rattle.protocol.specs.Letter.{Body, Open, Fetch, Write, Prepare, Commit, Abort, Ticket, Rows, Refused, Voted, Ack, Inquire, Letter, is_for_desk}
-use Rattle.protocol.specs.Site.{SiteState, Status, on_letter, on_fetch, site_after, said, is_within}
-use Rattle.protocol.specs.Desk.{Ask, Choice, Stage, Idle, Undecided, Txn, Known, Deed, Stated, Worked, Answered, State, Turn, ticket_goes, stays, is_named, ask_of, on_request, on_state, on_known, on_ticket, on_rows, on_desk_letter, desk_after, is_desk_within}
-use Rattle.protocol.specs.World.{World, addressed, with_site, turned, turns, called, comes, comes_to, site_steps}
+use Rattle.protocol.specs.Site.{SiteState, Status, on_letter, site_after, said}
+use Rattle.protocol.specs.Desk.{Ask, Choice, Idle, Undecided, Known, Deed, Stated, Worked, Answered, State, ticket_goes, stays, is_named, on_request, on_state, on_known, on_ticket, on_rows, on_desk_letter, desk_after, is_desk_within}
+use Rattle.protocol.specs.World.{World, addressed, with_site, turned, called, comes_to}
 use Rattle.protocol.specs.Client.{first, next}
 use Rattle.protocol.specs.Spots.{at, Spot, Works, Flow, away, asked, offered, works}
-use Rattle.protocol.specs.Course.{AtSites, Stands, AskWaits, came, unsent, sent, told, AskStands, WriteWaits, Far, reads, writes, is_answered, InStatement, Steady, RowsFit, Room, passes, passes_to, Well}
-use Rattle.protocol.proofs.Basics.{Every, In, every_more, in_left, in_right, if_true, if_false, same_refl, clash}
+use Rattle.protocol.specs.Course.{AtSites, Stands, AskWaits, came, unsent, sent, told, AskStands, Far, reads, writes, is_answered, InStatement, Steady, RowsFit, Room, passes_to, Well}
+use Rattle.protocol.proofs.Basics.{Every, In, every_more, in_right, if_true, same_refl, clash}
 use Rattle.protocol.proofs.Locks.{Once}
 use Rattle.protocol.proofs.Queue.{at_append, at_here}
 use Rattle.protocol.proofs.AtSite.{fetch_acts, head_is}
 use Rattle.protocol.proofs.AtDesk.{site_stands}
-use Rattle.protocol.proofs.Working.{with_ticket, ticket_came, first_ticket, rows_came, stays_goes}
+use Rattle.protocol.proofs.Working.{with_ticket, ticket_came, first_ticket, rows_came}
 use Rattle.protocol.proofs.Waiting.{in_at, all_came, none_unsent}
 use Rattle.protocol.proofs.Stating.{GoesOn, turned_on, ticket_on, rows_on, states_on}
 

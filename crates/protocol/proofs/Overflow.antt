@@ -1,25 +1,22 @@
 -- A statement that meets a full visit: it fails, else it goes on.
-use Rattle.std.proofs.Common.{◌≡◌, refl, sym, ap, ◌∙◌, subst, ℕ, suc, ◌==◌, Bool, true, false, List, [], ◌∷◌, ◌++◌, map, if◌then◌else◌, Option, Some, None, ◌⊎◌, inl, inr, ⊎_elim, append-nil}
+use Rattle.std.proofs.Common.{◌≡◌, refl, sym, ap, ◌∙◌, subst, ℕ, suc, ◌==◌, Bool, true, false, List, [], ◌∷◌, ◌++◌, if◌then◌else◌, Option, ◌⊎◌, inl, inr, ⊎_elim}
 use Rattle.std.proofs.lemmas.Bool.{eq-eqb}
-use Rattle.std.specs.Prelude.{⊤}
-use Rattle.protocol.specs.Language.{Lang, IsLawful, Name, same}
+use Rattle.protocol.specs.Language.{Lang, IsLawful, Name}
 use Rattle.protocol.specs.Letter.{Body, Open, Fetch, Write, Prepare, Commit, Abort, Ticket, Rows, Refused, Voted, Ack, Inquire, Lock, Full, Letter, is_for_desk}
 use Rattle.protocol.specs.Site.{Visit, SiteState, Alive, Act, Says, Ends, Locks, on_letter, on_write, site_after, said, is_within}
-use Rattle.protocol.specs.Desk.{Choice, Undecided, Txn, Known, Unknown, Row, Deed, Stated, Worked, Answered, Aborted, Given_up, Give_up, Ask, Turn, stays, is_undecided, on_request, desk_after, is_desk_within}
-use Rattle.protocol.specs.World.{World, with_site, addressed, turned, turns, called, comes_to}
-use Rattle.protocol.specs.Client.{first, next, rest_of, loses, IsQuiet}
+use Rattle.protocol.specs.Desk.{Choice, Undecided, Known, Deed, Stated, Worked, Answered, Ask}
+use Rattle.protocol.specs.World.{World, with_site, addressed, comes_to}
+use Rattle.protocol.specs.Client.{first, next, IsQuiet}
 use Rattle.protocol.specs.Spots.{at, Spot, Works, away, asked, offered, works}
-use Rattle.protocol.specs.Course.{AtSites, InStatement, Steady, Room, RoomOr, passes_to, Well}
-use Rattle.protocol.specs.Leaving.{LeavingAt, Ending, EndKept, Within, Since, Loose, Doomed, Failing, doomed, has_ended, Went}
-use Rattle.protocol.proofs.Basics.{Every, In, in_right, either, put_all, same_law, if_true, if_false, clash, by_test}
+use Rattle.protocol.specs.Course.{InStatement, Steady, Room, RoomOr, passes_to, Well}
+use Rattle.protocol.specs.Leaving.{EndKept, Within, Since, Loose, Failing, doomed, has_ended, Went}
+use Rattle.protocol.proofs.Basics.{In, in_right, if_true, if_false, clash}
 use Rattle.protocol.proofs.Locks.{Once}
 use Rattle.protocol.proofs.Queue.{at_append, at_here}
-use Rattle.protocol.proofs.Ended.{kept_end, in_front, ending_goes_on, ending_quiet, ending_lost}
-use Rattle.protocol.proofs.Loose.{statement_loose, loose_lost, give_up_ends}
-use Rattle.protocol.proofs.LooseTurns.{since_more}
-use Rattle.protocol.proofs.Leaving.{NoEnd}
+use Rattle.protocol.proofs.Ended.{kept_end, in_front}
+use Rattle.protocol.proofs.Loose.{statement_loose}
 use Rattle.protocol.proofs.Failing.{LooseStep, still, over, site_step, failing_goes_on, failing_ends}
-use Rattle.protocol.proofs.OneStatement.{OfStatement, spot_head, statement_step, statement_ends}
+use Rattle.protocol.proofs.OneStatement.{statement_step, statement_ends}
 
 module _ {L : Lang} where
   -- a write that is next, of an own leaf, at a full visit

@@ -1,9 +1,8 @@
 -- What waits to and from each site while one client's statement works: operations in the order of their numbers.
-use Rattle.std.proofs.Common.{◌≡◌, refl, sym, ap, ◌∙◌, subst, ℕ, suc, ◌||◌, Bool, true, false, List, [], ◌∷◌, ◌++◌, if◌then◌else◌, Option, Some, None, append-nil}
-use Rattle.std.specs.Prelude.{⊤}
-use Rattle.protocol.specs.Language.{Lang, IsLawful, Name, same, put}
+use Rattle.std.proofs.Common.{◌≡◌, refl, sym, ap, ◌∙◌, subst, ℕ, suc, Bool, true, false, List, [], ◌∷◌, ◌++◌, if◌then◌else◌, Option, Some, None, append-nil}
+use Rattle.protocol.specs.Language.{Lang, IsLawful, Name, put}
 use Rattle.protocol.specs.Letter.{Body, Open, Fetch, Write, Prepare, Commit, Abort, Ticket, Rows, Refused, Voted, Ack, Inquire, Letter}
-use Rattle.protocol.specs.Site.{Visit, Status, Dead, Alive, Prepared, has_lock}
+use Rattle.protocol.specs.Site.{Status, Dead, Alive, Prepared, has_lock}
 use Rattle.protocol.specs.Desk.{Ask, ask_out, asks_out, write_out, writes_out}
 use Rattle.protocol.specs.World.{addressed}
 pub use Rattle.protocol.specs.Spots.{at, Unlocked, Flow, Away, Asked, Offered, Works, Spot, away, asked, offered, works}

@@ -1,16 +1,16 @@
 -- How far a statement has come is kept by each turn of the coordinator: what it waits for is on its way.
-use Rattle.std.proofs.Common.{◌≡◌, refl, sym, ap, ◌∙◌, subst, ℕ, suc, ◌==◌, ◌&&◌, Bool, true, false, List, [], ◌∷◌, ◌++◌, map, Option, Some, None, is_some, is_none, inl, inr, ⊎_elim, append_assoc, append-nil, if◌then◌else◌}
+use Rattle.std.proofs.Common.{◌≡◌, refl, sym, ap, ◌∙◌, subst, ℕ, suc, ◌&&◌, Bool, true, false, List, [], ◌∷◌, ◌++◌, map, Option, Some, None, is_some, is_none, inl, inr, ⊎_elim, append_assoc, append-nil, if◌then◌else◌}
 use Rattle.std.proofs.lemmas.Bool.{eq-eqb}
 use Rattle.std.specs.List.{list_all}
 use Rattle.protocol.specs.Language.{Lang, IsLawful, Name, same, put}
-use Rattle.protocol.specs.Letter.{Body, Open, Fetch, Ticket, Rows, Letter}
+use Rattle.protocol.specs.Letter.{Body, Fetch, Ticket, Rows, Letter}
 use Rattle.protocol.specs.Desk.{Ask, Choice, Stage, Idle, Reading, Writing, Undecided, Known, Deed, Stated, Worked, Answered, Turn, ask_of, ask_out, asks_out, write_out, writes_out, opens, visits, asks_go, writing, writes_go, works, states, stays, ticket_goes, is_numbered, awaits, with_rows, on_rows, after_deed}
 use Rattle.protocol.specs.World.{World, turned}
 use Rattle.protocol.specs.Course.{AtSites, Stands, AskWaits, came, unsent, sent, told, AskStands, WriteWaits, Far, reads, writes, is_answered, InStatement}
-use Rattle.protocol.proofs.Basics.{Every, In, every_more, every_self, in_left, put_here, same_law, clash, not_false, if_true, if_false, by_test, or_left, some_is, left_true, right_true, both_true}
+use Rattle.protocol.proofs.Basics.{Every, In, every_more, every_self, put_here, same_law, clash, not_false, or_left, both_true}
 use Rattle.protocol.proofs.Locks.{Once}
 use Rattle.protocol.proofs.Ranks.{all_visited, in_map}
-use Rattle.protocol.proofs.Queue.{at, at_append}
+use Rattle.protocol.proofs.Queue.{at}
 use Rattle.protocol.proofs.AtDesk.{Goes, asks_goes, writes_goes}
 use Rattle.protocol.proofs.Working.{GoesTo, turned_stands, stays_goes, stage_goes, with_ticket}
 use Rattle.protocol.proofs.Waiting.{AskReady, new_ask, old_ask, asks_wait, in_at}
@@ -106,7 +106,7 @@ module _ {L : Lang} where
         let out = writes_out {L = L} t u.ticket ws u.sent in
         go out.sent out.left (opens t u leaves ++ out.letters) (λ stage. writes_goes law once t u ws stage homes)
         (λ stage. left_waits (record (visits u leaves) { sent = out.sent; stage = stage }) t ws u.sent (every_self (λ x. In (L.home x.0) L.sites × ((visits u leaves).visited (L.home x.0) ≡ true)) ws (λ x here.
-            let there = in_map (λ (y : L.Leaf × L.Write). y.0) x ws here in (homes x.0 there, not_false ((visits u leaves).visited (L.home x.0)) (all_visited law u leaves x.0 there)))))
+        let there = in_map (λ (y : L.Leaf × L.Write). y.0) x ws here in (homes x.0 there, not_false ((visits u leaves).visited (L.home x.0)) (all_visited law u leaves x.0 there)))))
       where
         v : Undecided L
         v = visits u (map (λ (x : L.Leaf × L.Write). x.0) ws)

@@ -1,14 +1,14 @@
 -- A whole transaction of one client: from a quiet world to a quiet world.
-use Rattle.std.proofs.Common.{◌≡◌, refl, sym, ap, ap₂, ◌∙◌, subst, Bool, true, false, List, [], ◌∷◌, ◌++◌, map, ◌⊎◌, inl, inr, ⊎_elim, append-nil, append_assoc}
+use Rattle.std.proofs.Common.{◌≡◌, refl, sym, ap, ◌∙◌, subst, Bool, true, List, [], ◌∷◌, ◌++◌, map, ◌⊎◌, inl, inr, ⊎_elim, append-nil, append_assoc}
 use Rattle.protocol.specs.Language.{Lang, IsLawful, Name}
 use Rattle.protocol.specs.Letter.{Body, Letter, Open, Fetch, Write, Prepare, Commit, Abort, Ticket, Rows, Refused, Voted, Ack, Inquire}
-use Rattle.protocol.specs.Desk.{Ask, Choice, Deed, Began, Stated, Worked, Answered, Phased, Committed, Aborted, Rolled_back, Why, State, Commit_call, Rollback, next_txn, desk_began, is_desk_within}
+use Rattle.protocol.specs.Desk.{Choice, Deed, Began, Stated, Worked, Answered, Phased, Committed, Aborted, Rolled_back, Why, State, Commit_call, Rollback, next_txn, desk_began, is_desk_within}
 use Rattle.protocol.specs.World.{World, begun, begins, called}
 use Rattle.protocol.specs.Client.{first, next, IsQuiet}
 use Rattle.protocol.specs.Course.{Steady, InStatement, Well}
 use Rattle.protocol.specs.Leaving.{EndKept, Within, Ending, Went}
 use Rattle.protocol.specs.Committing.{Committing, CommitKept}
-use Rattle.protocol.specs.ClientLaw.{taken, OfFirst, AllTaken, Doing, Entry, does_one, does, IsDone, AllDone, log, Kept, ClientLaw}
+use Rattle.protocol.specs.ClientLaw.{taken, OfFirst, AllTaken, Doing, Entry, does_one, does, AllDone, log, Kept, ClientLaw}
 use Rattle.protocol.proofs.Basics.{if_true}
 use Rattle.protocol.proofs.Locks.{Once}
 use Rattle.protocol.proofs.Limits.{begins_within, called_within, next_within}
@@ -46,11 +46,19 @@ module _ {L : Lang} (law : IsLawful L) where
         let came = all_taken (InStatement t s w.past) (Well ⊥) (λ v l q e inside kept choice well at_. still_works t s w.past (next v kept choice) (went_on law once ⊥ t s w.past v inside kept choice l q e well (inl at_))) x.takes asked (called_within w t x.choice (State s) within) (statement_starts law once t s w x.choice steady one.fetched one.written one.within) one.all in
         let done = statement_ends law once t s w.past (does_one t w x) came.0 came.1.1 in
         let rest = all_done t xs (does_one t w x) done.0 came.1.0 all.1 in
-        let entry : Entry L = record { statement = s; asks = done.1.0; choice = done.1.1 } in
-        (rest.0, (rest.1.0, (entry ∷ rest.1.1.0, (
-          ap (λ y. s ∷ y) rest.1.1.1.0,
-          rest.1.1.1.1 ∙ ap (λ y. y ++ log t rest.1.1.0) done.1.2 ∙ append_assoc w.past (Stated t s ∷ Worked t s done.1.0 done.1.1 ∷ Answered t done.1.1.0 ∷ []) (log t rest.1.1.0),
-        ))))
+        let entry : Entry L = record { statement = s; asks = done.1.0; choice = done.1.1 } in (
+          rest.0,
+          (
+            rest.1.0,
+            (
+              entry ∷ rest.1.1.0,
+              (
+                ap (λ y. s ∷ y) rest.1.1.1.0,
+                rest.1.1.1.1 ∙ ap (λ y. y ++ log t rest.1.1.0) done.1.2 ∙ append_assoc w.past (Stated t s ∷ Worked t s done.1.0 done.1.1 ∷ Answered t done.1.1.0 ∷ []) (log t rest.1.1.0),
+              ),
+            ),
+          ),
+        )
 
     -- the deeds of a transaction up to its last request
     opened_past : (w : World L) → is_desk_within (desk_began w.desk) ≡ true → (begins w).past ≡ w.past ++ Began (next_txn w.desk) ∷ []
@@ -79,10 +87,14 @@ module _ {L : Lang} (law : IsLawful L) where
           let came = all_taken (Committing E t v.past) (λ y kept c l. CommitKept E kept l.body) (λ y l q e inside kept c keeps committing. commit_goes_on law once E t v.past y l q e inside kept c keeps committing) takes asked (called_within v t choice Commit_call worked.1.0) (commit_starts law once E t v.past v worked.0 choice worked.1.0 refl) kept in
           let done = commit_ends law once E t v.past (taken takes asked) came.0 came.1.1 in
           let es = worked.1.1.0 in
-          let past = worked.1.1.1.1 in
-          (done.0, (es, worked.1.1.1.0,
-            ⊎_elim (λ is. inl (is ∙ ap (λ y. y ++ (Phased t ∷ Committed t ∷ [])) past)) (λ excused. inr (excused.0, (excused.1.0, excused.1.1 ∙ ap (λ y. y ++ (Phased t ∷ Aborted t excused.1.0 ∷ [])) past))) done.1,
-          ))
+          let past = worked.1.1.1.1 in (
+            done.0,
+            (
+              es,
+              worked.1.1.1.0,
+              ⊎_elim (λ is. inl (is ∙ ap (λ y. y ++ (Phased t ∷ Committed t ∷ [])) past)) (λ excused. inr (excused.0, (excused.1.0, excused.1.1 ∙ ap (λ y. y ++ (Phased t ∷ Aborted t excused.1.0 ∷ [])) past))) done.1,
+            ),
+          )
 
       pub transaction_rolls_back : (choice : Choice L) (takes : List (Bool × Choice L)) → AllTaken (λ y kept c l. EndKept kept l.body) takes (called v t choice Rollback) →
           IsQuiet (taken takes (called v t choice Rollback)) × ((es : List (Entry L)) × (map (λ x. x.statement) es ≡ map (λ x. x.statement) xs) × ((taken takes (called v t choice Rollback)).past ≡ Before es ++ (Rolled_back t ∷ [])))

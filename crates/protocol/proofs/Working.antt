@@ -1,14 +1,13 @@
 -- One client's transaction from its beginning through its statements: no step meets a lock, each site stays at one of its places.
-use Rattle.std.proofs.Common.{◌≡◌, refl, sym, ap, ◌∙◌, subst, ℕ, Bool, true, false, List, [], ◌∷◌, map, Some, None, append-nil}
+use Rattle.std.proofs.Common.{◌≡◌, refl, sym, ap, ◌∙◌, subst, ℕ, Bool, true, false, List, [], ◌∷◌, Some, None, append-nil}
 use Rattle.protocol.specs.Language.{Lang, IsLawful, Name, same, put}
 use Rattle.protocol.specs.Letter.{Ticket, Rows, Letter}
-use Rattle.protocol.specs.Desk.{Ask, Choice, Stage, Idle, Reading, Writing, Voting, Undecided, Known, Turn, fresh, next_txn, is_undecided, visits, asks_out, asks_go, writing, writes_go, works, states, stays, ticket_goes}
+use Rattle.protocol.specs.Desk.{Stage, Undecided, Known, Turn, fresh, next_txn, is_undecided, stays}
 use Rattle.protocol.specs.World.{World, begun, turned}
 pub use Rattle.protocol.specs.Client.{IsQuiet}
-use Rattle.protocol.proofs.Basics.{Every, In, put_all, same_law, if_true, if_false, clash}
-use Rattle.protocol.proofs.Locks.{Once}
-use Rattle.protocol.proofs.Queue.{at, Unlocked, Spot, away, spot_ticket, spot_rows}
-use Rattle.protocol.proofs.AtDesk.{Stands, Goes, turn_stands, asks_goes, writes_goes}
+use Rattle.protocol.proofs.Basics.{Every, put_all, same_law, if_true, if_false, clash}
+use Rattle.protocol.proofs.Queue.{at, Spot, away, spot_ticket, spot_rows}
+use Rattle.protocol.proofs.AtDesk.{Stands, Goes, turn_stands}
 
 module _ {L : Lang} where
   -- a transaction begins

@@ -1,10 +1,10 @@
 -- Where one client's transaction stands, letter by letter: between its statements, or in one of them.
-use Rattle.std.specs.Prelude.{◌≡◌, ◌⊎◌, ⊤, ℕ, map, Bool, true, false, List, [], ◌∷◌, ◌++◌, Option, Some, None, is_some}
+use Rattle.std.specs.Prelude.{◌≡◌, ◌⊎◌, ⊤, ℕ, map, Bool, true, false, List, [], ◌∷◌, ◌++◌, Some, None, is_some}
 use Rattle.std.specs.List.{list_all, AllByRecursion}
 use Rattle.protocol.specs.Language.{Lang, Name, same}
 use Rattle.protocol.specs.Letter.{Body, Fetch, Write, Rows, Letter, is_for_desk}
 use Rattle.protocol.specs.Site.{Visit, Alive, SiteState, on_letter, site_after, is_within}
-use Rattle.protocol.specs.Desk.{Ask, Choice, Stage, Idle, Reading, Writing, Undecided, Known, Deed, Stated, Worked, Answered, is_undecided, on_desk_letter, desk_after, is_desk_within}
+use Rattle.protocol.specs.Desk.{Ask, Choice, Idle, Reading, Writing, Undecided, Known, Deed, Stated, Worked, Answered, is_undecided, on_desk_letter, desk_after, is_desk_within}
 use Rattle.protocol.specs.World.{World}
 use Rattle.protocol.specs.Parts.{In}
 use Rattle.protocol.specs.Spots.{at, Spot}
