@@ -13,4 +13,5 @@ pub mod Leaving
 pub mod Committing
 pub mod ClientLaw
 pub mod OneClient
+pub mod Fitting
 pub mod Toy
