@@ -21,10 +21,10 @@ module _ {L : Lang} where
   at_none a (l ∷ letters) none = either (λ bs. Every NoOp bs) (L.same_site a l.site) (l.body ∷ at a letters) (at a letters) (none.0, at_none a letters none.1) (at_none a letters none.1)
 
   -- a turn of a decided transaction: it stays decided, no operation goes out, nothing happens
-  record Idles (turn : Turn L) : Type 0 where
-    decided : is_undecided turn.txn ≡ false
-    none : Every (λ l. NoOp l.body) turn.letters
-    deeds : turn.deeds ≡ []
+  pub record Idles (turn : Turn L) : Type 0 where
+    pub decided : is_undecided turn.txn ≡ false
+    pub none : Every (λ l. NoOp l.body) turn.letters
+    pub deeds : turn.deeds ≡ []
 
   unknown_idles : (t : Name) (a : L.Site) (c : Body L) → Idles (on_unknown t a c)
   unknown_idles t a (Ticket k) = record { decided = refl; none = (tt, tt); deeds = refl }
@@ -57,7 +57,7 @@ module _ {L : Lang} where
   row_idles t voters acked a kept (Refused k reason) = record { decided = refl; none = tt; deeds = refl }
   row_idles t voters acked a kept (Voted k x) = record { decided = refl; none = tt; deeds = refl }
 
-  letter_idles : (t : Name) (a : L.Site) (kept : Bool) (choice : Choice L) (c : Body L) (x : Txn L) → is_undecided x ≡ false → Idles (on_desk_letter t a kept choice c x)
+  pub letter_idles : (t : Name) (a : L.Site) (kept : Bool) (choice : Choice L) (c : Body L) (x : Txn L) → is_undecided x ≡ false → Idles (on_desk_letter t a kept choice c x)
   letter_idles t a kept choice c Unknown none = unknown_idles t a c
   letter_idles t a kept choice c (Row voters acked) none = row_idles t voters acked a kept c
   letter_idles t a kept choice c (Known u) none = let e : true ≡ false = none in cc

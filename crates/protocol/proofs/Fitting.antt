@@ -5,7 +5,7 @@ use Rattle.std.specs.List.{list_all, list_any}
 use Rattle.protocol.specs.Language.{Lang, IsLawful, Name, same, put}
 use Rattle.protocol.specs.Letter.{Vote, Yes, No, Read, Body, Open, Fetch, Write, Prepare, Commit, Abort, Ticket, Rows, Refused, Voted, Ack, Inquire, Letter, letters_to, is_for_desk}
 use Rattle.protocol.specs.Site.{SiteState, Visit, Alive, on_letter, site_after, said, is_within}
-use Rattle.protocol.specs.Desk.{Ask, Choice, Stage, Idle, Reading, Writing, Voting, Undecided, Txn, Unknown, Known, Row, Deed, Request, State, Commit_call, Rollback, Give_up, Stated, Worked, Phased, Rolled_back, Aborted, Given_up, By_refusal, By_vote, By_store, Turn, fresh, stays, ask_of, write_out, writes_out, asks_out, is_new, opening, opens, visits, asks_go, writing, writes_go, works, states, after_deed, to_prepare, when, vote_at, to_abort, may_hold, ends_by, commits, decides, voters_of, are_all_in, votes_go, phases, on_commit_call, on_state, on_rollback, on_request, ticket_goes, on_ticket, with_rows, rows_go, on_rows, on_refused, counts, on_vote, is_named, on_known, on_unknown, on_ack, is_pair, are_acked, on_row, on_desk_letter, next_txn, desk_began, desk_after, is_desk_within}
+use Rattle.protocol.specs.Desk.{Ask, Choice, Stage, Idle, Reading, Writing, Voting, Undecided, is_undecided, Txn, Unknown, Known, Row, Deed, Request, State, Commit_call, Rollback, Give_up, Stated, Worked, Phased, Rolled_back, Aborted, Given_up, By_refusal, By_vote, By_store, Turn, fresh, stays, ask_of, write_out, writes_out, asks_out, is_new, opening, opens, visits, asks_go, writing, writes_go, works, states, after_deed, to_prepare, when, vote_at, to_abort, may_hold, ends_by, commits, decides, voters_of, are_all_in, votes_go, phases, on_commit_call, on_state, on_rollback, on_request, ticket_goes, on_ticket, with_rows, rows_go, on_rows, on_refused, counts, on_vote, is_named, on_known, on_unknown, on_ack, is_pair, are_acked, on_row, on_desk_letter, next_txn, desk_began, desk_after, is_desk_within}
 use Rattle.protocol.specs.World.{World, begun, begins, called, turned, turns, with_site, site_steps, addressed, comes_to}
 use Rattle.protocol.specs.Serial.{IsOpening}
 use Rattle.protocol.specs.Client.{first, next, rest_of, loses}
@@ -14,6 +14,8 @@ use Rattle.protocol.specs.Fitting.{Suits, KeepsFit, StatusFits, BodyFits, StageF
 use Rattle.protocol.proofs.Basics.{Every, every_append, every_map, every_more, either, put_all, same_law, some_is}
 use Rattle.protocol.proofs.Turns.{every_letter}
 use Rattle.protocol.proofs.Going.{asks_each, opening_is}
+use Rattle.protocol.proofs.Leaving.{NoOp}
+use Rattle.protocol.proofs.Ended.{Idles, letter_idles}
 use Rattle.protocol.proofs.FittingSites.{letter_fits}
 
 module _ {L : Lang} (law : IsLawful L) (fits : L.Leaf → L.Content → Bool) where
@@ -164,3 +166,117 @@ module _ {L : Lang} (law : IsLawful L) (fits : L.Leaf → L.Content → Bool) wh
     request_fit Commit_call (Row voters acked) fit = (tt, tt)
     request_fit Rollback (Row voters acked) fit = (tt, tt)
     request_fit Give_up (Row voters acked) fit = (tt, tt)
+
+  -- ---- worlds
+  no_op_fits : (c : Body L) → NoOp c → BodyFits L fits c
+  no_op_fits Open none = tt
+  no_op_fits (Fetch k op g q) none = tt
+  no_op_fits (Write k op g x) none = absurd none
+  no_op_fits (Prepare k n) none = tt
+  no_op_fits (Commit k) none = tt
+  no_op_fits (Abort k) none = tt
+  no_op_fits (Ticket k) none = tt
+  no_op_fits (Rows k n rows) none = tt
+  no_op_fits (Refused k reason) none = tt
+  no_op_fits (Voted k x) none = tt
+  no_op_fits (Ack k) none = tt
+  no_op_fits (Inquire k) none = tt
+
+  decided_fits : (x : Txn L) → is_undecided x ≡ false → TxnFits L fits x
+  decided_fits Unknown none = tt
+  decided_fits (Row voters acked) none = tt
+  decided_fits (Known u) none = let e : true ≡ false = none in cc
+
+  idles_fit : (turn : Turn L) → Idles turn → TurnFits turn
+  idles_fit turn idles = (decided_fits turn.txn idles.decided, every_more (λ l. NoOp l.body) LetterFits turn.letters (λ l none. no_op_fits l.body none) idles.none)
+
+  desk_letter_fit : (t : Name) (a : L.Site) (kept : Bool) (choice : Choice L) → Every (Suits L fits) choice.1 → (c : Body L) (x : Txn L) → TxnFits L fits x → TurnFits (on_desk_letter t a kept choice c x)
+  desk_letter_fit t a kept choice suits c (Known u) fit = known_fit t choice suits u fit a kept c
+  desk_letter_fit t a kept choice suits c Unknown fit = idles_fit _ (letter_idles t a kept choice c Unknown refl)
+  desk_letter_fit t a kept choice suits c (Row voters acked) fit = idles_fit _ (letter_idles t a kept choice c (Row voters acked) refl)
+
+  turns_fit : (w : World L) (t : Name) (turn : Turn L) → TurnFits turn → Fitting L fits w → Fitting L fits (turns w t turn)
+  turns_fit w t turn to fit = either (Fitting L fits) (is_desk_within (desk_after w.desk t turn.txn)) (turned w t turn) w (record {
+    sites = fit.sites;
+    letters = every_append LetterFits w.letters turn.letters fit.letters to.1;
+    txns = put_all same same_law t turn.txn w.desk.txn (λ j x. TxnFits L fits x) to.0 (λ j other. fit.txns j);
+  }) fit
+
+  site_step_fits : (w : World L) (l : Letter L) (kept : Bool) → BodyFits L fits l.body → Fitting L fits w →
+      let act = on_letter (w.sites l.site) l.txn kept l.body in
+      Fitting L fits (site_steps w l.site (site_after (w.sites l.site) act) (addressed l.site l.txn (said (w.sites l.site) act)))
+  site_step_fits w l kept suits fit =
+      let s = w.sites l.site in
+      let act = on_letter s l.txn kept l.body in
+      let to = letter_fits law fits l.site s (fit.sites l.site) l.txn kept l.body suits in
+      either (Fitting L fits) (is_within (site_after s act)) (with_site w l.site (site_after s act) (addressed l.site l.txn (said s act))) w (record {
+        sites = put_all L.same_site law.sites l.site (site_after s act) w.sites (λ a x. SiteFitting L fits a x) to.0 (λ a other. fit.sites a);
+        letters = every_append LetterFits w.letters (addressed l.site l.txn (said s act)) fit.letters (says (said s act) to.1);
+        txns = fit.txns;
+      }) fit
+    where
+      says : (replies : List (Body L)) → Every (BodyFits L fits) replies → Every LetterFits (addressed l.site l.txn replies)
+      says [] all = tt
+      says (c ∷ replies) all = (all.0, says replies all.1)
+
+  next_fits : (w : World L) (kept : Bool) (choice : Choice L) → Every (Suits L fits) choice.1 → Fitting L fits w → Fitting L fits (next w kept choice)
+  next_fits w kept choice suits fit = go w.letters fit.letters
+    where
+      at_ : (b : Bool) (l : Letter L) (q : List (Letter L)) → Every LetterFits (l ∷ q) → Fitting L fits (comes_to b (record w { letters = q }) kept choice l)
+      at_ true l q all = turns_fit (record w { letters = q }) l.txn (on_desk_letter l.txn l.site kept choice l.body (w.desk.txn l.txn)) (desk_letter_fit l.txn l.site kept choice suits l.body (w.desk.txn l.txn) (fit.txns l.txn)) (record { sites = fit.sites; letters = all.1; txns = fit.txns })
+      at_ false l q all = site_step_fits (record w { letters = q }) l kept all.0 (record { sites = fit.sites; letters = all.1; txns = fit.txns })
+
+      go : (letters : List (Letter L)) → Every LetterFits letters → Fitting L fits (first w kept choice letters)
+      go [] all = fit
+      go (l ∷ q) all = at_ (is_for_desk l.body) l q all
+
+  begins_fits : (w : World L) → Fitting L fits w → Fitting L fits (begins w)
+  begins_fits w fit = either (Fitting L fits) (is_desk_within (desk_began w.desk)) (begun w) w (record {
+    sites = fit.sites;
+    letters = fit.letters;
+    txns = put_all same same_law (next_txn w.desk) (Known fresh) w.desk.txn (λ j x. TxnFits L fits x) tt (λ j other. fit.txns j);
+  }) fit
+
+  loses_fits : (w : World L) → Fitting L fits w → Fitting L fits (loses w)
+  loses_fits w fit = record { sites = fit.sites; letters = go w.letters fit.letters; txns = fit.txns }
+    where
+      go : (letters : List (Letter L)) → Every LetterFits letters → Every LetterFits (rest_of letters)
+      go [] all = tt
+      go (l ∷ q) all = all.1
+
+  opening_fits : (whole : L.Whole) (w : World L) → IsOpening whole w → ((g : L.Leaf) → fits g (L.content g whole) ≡ true) → Fitting L fits w
+  opening_fits whole w opening all = record {
+    sites = λ a. record {
+      kept = λ g home. subst (λ b. fits g ((w.sites b).kept g) ≡ true) home (ap (fits g) (opening.rebuilt g) ∙ all g);
+      status = λ k. subst (StatusFits L fits) (sym (opening.visits a k)) tt;
+    };
+    letters = subst (Every LetterFits) (sym opening.letters) tt;
+    txns = λ t. subst (TxnFits L fits) (sym (opening.undecided t)) tt;
+  }
+
+  rows_are_fit : (w : World L) (l : Letter L) → ((g : L.Leaf) (q : L.Query) (c : L.Content) → fits g c ≡ true → L.well_formed g (L.parts q c) ≡ true) → Fitting L fits w → RowsFit l.site (w.sites l.site) l.body
+  rows_are_fit w l formed fit = go l.body
+    where
+      go : (c : Body L) → RowsFit l.site (w.sites l.site) c
+      go (Fetch k op g q) = λ home v alive. formed g q _ (subst (StatusFits L fits) alive ((fit.sites l.site).status k) g ((w.sites l.site).kept g) ((fit.sites l.site).kept g home))
+      go Open = tt
+      go (Write k op g x) = tt
+      go (Prepare k n) = tt
+      go (Commit k) = tt
+      go (Abort k) = tt
+      go (Ticket k) = tt
+      go (Rows k n rows) = tt
+      go (Refused k reason) = tt
+      go (Voted k x) = tt
+      go (Ack k) = tt
+      go (Inquire k) = tt
+
+  pub fitting_law : FittingLaw L fits
+  fitting_law = record {
+    opened = opening_fits;
+    begun = begins_fits;
+    asked = λ w t choice request suits fit. turns_fit w t (on_request t choice request (w.desk.txn t)) (request_fit t choice suits request (w.desk.txn t) (fit.txns t)) fit;
+    came = next_fits;
+    lost = loses_fits;
+    rows = rows_are_fit;
+  }

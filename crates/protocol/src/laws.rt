@@ -2,6 +2,7 @@
 
 ghost use Rattle.protocol.specs.Client.{ReachedLaw, RoundsLaw};
 ghost use Rattle.protocol.specs.ClientLaw.{ClientLaw, LetterByLetter};
+ghost use Rattle.protocol.specs.Fitting.{StaysFitting};
 ghost use Rattle.protocol.specs.OneClient.{OneAtATime};
 ghost use Rattle.protocol.specs.Parts.{PartsOneAndTwo, PartThree};
 ghost use Rattle.protocol.specs.Serial.{SerialLaw};
@@ -69,4 +70,11 @@ pub fn one_client_letter_by_letter()
 /// transactions one after another.
 pub fn one_client_is_serial()
     ensures { OneAtATime toy }
+{}
+
+/// Whatever contents are said to fit their leaves: they do through all that one client does, as long as
+/// what its statements write keeps them fitting; and so the rows that a site brings are well formed where
+/// those of every fitting content are.
+pub fn contents_stay_fitting()
+    ensures { StaysFitting toy }
 {}
