@@ -7,6 +7,7 @@ pub mod Serial
 pub mod Whole
 pub mod Parts
 pub mod Client
+pub mod Rounds
 pub mod Spots
 pub mod Course
 pub mod Leaving

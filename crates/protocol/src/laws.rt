@@ -5,6 +5,7 @@ ghost use Rattle.protocol.specs.ClientLaw.{ClientLaw, LetterByLetter};
 ghost use Rattle.protocol.specs.Fitting.{StaysFitting};
 ghost use Rattle.protocol.specs.OneClient.{OneAtATime};
 ghost use Rattle.protocol.specs.Parts.{PartsOneAndTwo, PartThree};
+ghost use Rattle.protocol.specs.Rounds.{RoundByLetter};
 ghost use Rattle.protocol.specs.Serial.{SerialLaw};
 ghost use Rattle.protocol.specs.Toy.{toy};
 ghost use Rattle.protocol.specs.Whole.{AppliedWholeAndOnce};
@@ -46,6 +47,13 @@ pub fn one_client_is_a_run()
 /// commit is asked for, and one after a rollback or where a transaction is given up.
 pub fn nine_rounds_are_enough()
     ensures { RoundsLaw toy }
+{}
+
+/// The same letter by letter, for whoever counts rounds: each delivery leaves one letter less of those that
+/// waited as the round began, and those that it brings about rank lower; also where the transaction is
+/// given up within a round.
+pub fn rounds_letter_by_letter()
+    ensures { RoundByLetter toy }
 {}
 
 /// One client alone, whose letters come each once, oldest first, with every store call kept, no limit met
