@@ -1,17 +1,16 @@
 -- Contents that fit stay so through each step of one client.
-use Rattle.std.proofs.Common.{◌≡◌, refl, sym, ap, ◌∙◌, subst, ℕ, suc, ◌&&◌, Bool, true, false, List, [], ◌∷◌, ◌++◌, map, if◌then◌else◌, Option, Some, None, is_some, is_none, not}
-use Rattle.std.specs.Prelude.{⊤}
-use Rattle.std.specs.List.{list_all, list_any}
+use Rattle.std.proofs.Common.{◌≡◌, refl, sym, ap, ◌∙◌, subst, ℕ, suc, ◌&&◌, Bool, true, false, List, [], ◌∷◌, map, Option, Some, None, is_some, is_none}
+use Rattle.std.specs.List.{list_all}
 use Rattle.protocol.specs.Language.{Lang, IsLawful, Name, same, put}
-use Rattle.protocol.specs.Letter.{Vote, Yes, No, Read, Body, Open, Fetch, Write, Prepare, Commit, Abort, Ticket, Rows, Refused, Voted, Ack, Inquire, Letter, letters_to, is_for_desk}
-use Rattle.protocol.specs.Site.{SiteState, Visit, Alive, on_letter, site_after, said, is_within}
-use Rattle.protocol.specs.Desk.{Ask, Choice, Stage, Idle, Reading, Writing, Voting, Undecided, is_undecided, Txn, Unknown, Known, Row, Deed, Request, State, Commit_call, Rollback, Give_up, Stated, Worked, Phased, Rolled_back, Aborted, Given_up, By_refusal, By_vote, By_store, Turn, fresh, stays, ask_of, write_out, writes_out, asks_out, is_new, opening, opens, visits, asks_go, writing, writes_go, works, states, after_deed, to_prepare, when, vote_at, to_abort, may_hold, ends_by, commits, decides, voters_of, are_all_in, votes_go, phases, on_commit_call, on_state, on_rollback, on_request, ticket_goes, on_ticket, with_rows, rows_go, on_rows, on_refused, counts, on_vote, is_named, on_known, on_unknown, on_ack, is_pair, are_acked, on_row, on_desk_letter, next_txn, desk_began, desk_after, is_desk_within}
-use Rattle.protocol.specs.World.{World, begun, begins, called, turned, turns, with_site, site_steps, addressed, comes_to}
+use Rattle.protocol.specs.Letter.{Vote, Yes, No, Read, Body, Open, Fetch, Write, Prepare, Commit, Abort, Ticket, Rows, Refused, Voted, Ack, Inquire, Letter, is_for_desk}
+use Rattle.protocol.specs.Site.{on_letter, site_after, said, is_within}
+use Rattle.protocol.specs.Desk.{Ask, Choice, Stage, Idle, Reading, Writing, Voting, Undecided, is_undecided, Txn, Unknown, Known, Row, Deed, Request, State, Commit_call, Rollback, Give_up, Rolled_back, Aborted, Given_up, By_refusal, By_vote, By_store, Turn, fresh, stays, ask_of, write_out, writes_out, is_new, opening, opens, visits, asks_go, writing, writes_go, works, states, to_prepare, when, vote_at, to_abort, may_hold, ends_by, commits, decides, voters_of, are_all_in, votes_go, phases, on_commit_call, on_state, on_rollback, on_request, ticket_goes, on_ticket, with_rows, on_rows, on_refused, counts, on_vote, is_named, on_known, on_desk_letter, next_txn, desk_began, desk_after, is_desk_within}
+use Rattle.protocol.specs.World.{World, begun, begins, turned, turns, with_site, site_steps, addressed, comes_to}
 use Rattle.protocol.specs.Serial.{IsOpening}
 use Rattle.protocol.specs.Client.{first, next, rest_of, loses}
 use Rattle.protocol.specs.Course.{RowsFit}
-use Rattle.protocol.specs.Fitting.{Suits, KeepsFit, StatusFits, BodyFits, StageFits, TxnFits, SiteFitting, Fitting, FittingLaw}
-use Rattle.protocol.proofs.Basics.{Every, every_append, every_map, every_more, either, put_all, same_law, some_is}
+use Rattle.protocol.specs.Fitting.{Suits, StatusFits, BodyFits, StageFits, TxnFits, SiteFitting, Fitting, FittingLaw}
+use Rattle.protocol.proofs.Basics.{Every, every_append, every_more, either, put_all, same_law, some_is}
 use Rattle.protocol.proofs.Turns.{every_letter}
 use Rattle.protocol.proofs.Going.{asks_each, opening_is}
 use Rattle.protocol.proofs.Leaving.{NoOp}

@@ -1,9 +1,8 @@
 -- Contents that fit, at a site: each letter leaves them fitting.
-use Rattle.std.proofs.Common.{◌≡◌, refl, sym, ap, ◌∙◌, subst, ℕ, suc, ◌==◌, Bool, true, false, List, [], ◌∷◌, if◌then◌else◌}
-use Rattle.std.specs.Prelude.{⊤}
+use Rattle.std.proofs.Common.{◌≡◌, sym, ap, ◌∙◌, subst, ℕ, suc, ◌==◌, Bool, true, List, [], ◌∷◌}
 use Rattle.protocol.specs.Language.{Lang, IsLawful, Name, same, put}
 use Rattle.protocol.specs.Letter.{Body, Open, Fetch, Write, Prepare, Commit, Abort, Ticket, Rows, Refused, Voted, Ack, Inquire, Lock, Full, Gone, Yes, No, Read}
-use Rattle.protocol.specs.Site.{Visit, Status, Dead, Alive, Prepared, SiteState, Act, Says, Opens, Locks, Prepares, Applies, Ends, others_exclusive, next_ticket, new_visit, on_letter, on_fetch, on_write, on_prepare, on_commit, on_abort, sees, site_after, said}
+use Rattle.protocol.specs.Site.{Visit, Status, Dead, Alive, Prepared, SiteState, Act, Says, Opens, Locks, Ends, others_exclusive, next_ticket, new_visit, on_letter, on_fetch, on_write, on_prepare, on_commit, on_abort, sees, site_after, said}
 use Rattle.protocol.specs.Fitting.{Suits, KeepsFit, StatusFits, BodyFits, SiteFitting}
 use Rattle.protocol.proofs.Basics.{Every, either, either_if, put_all, same_law}
 

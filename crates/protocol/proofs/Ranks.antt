@@ -4,7 +4,7 @@ use Rattle.std.specs.List.{list_any}
 use Rattle.protocol.specs.Language.{Lang, IsLawful, Name, put}
 use Rattle.protocol.specs.Letter.{Body, Open, Fetch, Write, Prepare, Commit, Abort, Ticket, Rows, Refused, Voted, Ack, Inquire, Letter}
 use Rattle.protocol.specs.Site.{SiteState, Status, Dead, Alive, Prepared, Act, on_letter, on_fetch, on_write, on_prepare, on_commit, on_abort, others_exclusive, said}
-use Rattle.protocol.specs.Desk.{Ask, Stage, Reading, Undecided, Txn, Known, Deed, Turn, ask_out, asks_out, write_out, writes_out, is_new, opens, visits, asks_go, writing, writes_go, stays, when, to_abort, vote_at, may_hold, ends_by}
+use Rattle.protocol.specs.Desk.{Ask, Undecided, Txn, Deed, Turn, ask_out, asks_out, write_out, writes_out, is_new, opens, visits, asks_go, writing, writes_go, stays, when, to_abort, vote_at, may_hold, ends_by}
 use Rattle.protocol.specs.Client.{IsVisited}
 pub use Rattle.protocol.specs.Rounds.{is_stage_reading, is_reading, rank, rank_in}
 use Rattle.protocol.proofs.Basics.{Every, every_append, In, either, clash, left_true, right_true, found, any_in, some_is}

@@ -1,5 +1,5 @@
 -- Contents that fit their leaves stay so, as long as what statements write keeps them fitting.
-use Rattle.std.specs.Prelude.{◌≡◌, ⊤, Bool, true, false, List, [], ◌∷◌}
+use Rattle.std.specs.Prelude.{◌≡◌, ⊤, Bool, true}
 use Rattle.std.specs.List.{AllByRecursion}
 use Rattle.protocol.specs.Language.{Lang, Name}
 use Rattle.protocol.specs.Letter.{Body, Write, Letter}
