@@ -4,7 +4,7 @@ use Rattle.std.proofs.lemmas.List.{map-append}
 use Rattle.std.specs.List.{list_any}
 use Rattle.protocol.specs.Language.{Lang, IsLawful, Name}
 use Rattle.protocol.specs.Site.{Status, Dead, Alive, Prepared}
-use Rattle.protocol.specs.Desk.{Deed, Desk, Began, Phased, Committed, next_txn}
+use Rattle.protocol.specs.Desk.{Deed, Desk, Began, Stated, Worked, Answered, Phased, Committed, Aborted, Rolled_back, next_txn}
 use Rattle.protocol.specs.World.{World}
 use Rattle.protocol.specs.Serial.{commits_it, committed, statements_of, answers_of, with_decided, with_all_decided, whole_after, answers_in_turn, serial_whole, serial_answers, IsSerial}
 use Rattle.protocol.specs.Client.{IsReached, IsQuiet}
@@ -143,11 +143,18 @@ module _ {L : Lang} (law : IsLawful L) where
     fruitless = every_append (Fruitless t) (log t es) since.more (log_fruitless t es) since.fruitless;
   }
 
+  log_append : (t : Name) (es more : List (Entry L)) → log t (es ++ more) ≡ log t es ++ log t more
+  log_append t [] more = refl
+  log_append t (x ∷ es) more = ap (λ d. Stated t x.statement ∷ Worked t x.statement x.asks x.choice ∷ Answered t x.choice.0 ∷ d) (log_append t es more)
+
   pub one_at_a_time : OneAtATime L
   one_at_a_time = record {
     rebuilt = quiet_rebuilt;
     commits = λ whole w v es reached later leads. commits_serially whole w v reached later es leads;
     ends = λ whole w v reached later leads. nothing_changed whole w v reached later leads;
     since_began = since_log;
+    aborted = λ t before past why is. record { more = Phased t ∷ Aborted t why ∷ []; is = is; fruitless = (refl, (refl, tt)) };
+    rolled_back = λ t before past is. record { more = Rolled_back t ∷ []; is = is; fruitless = (refl, tt) };
+    one_more = λ t before past es x is. is ∙ append_assoc before (log t es) (log t (x ∷ [])) ∙ ap (λ d. before ++ d) (sym (log_append t es (x ∷ [])));
     all = serially;
   }

@@ -1,7 +1,7 @@
 -- One transaction at a time: each that commits is the serial run of its statements over the whole database before it, and each other changes nothing.
 use Rattle.std.specs.Prelude.{◌≡◌, List, [], ◌∷◌, ◌++◌, map}
 use Rattle.protocol.specs.Language.{Lang, Name}
-use Rattle.protocol.specs.Desk.{Deed, Began, Phased, Committed, next_txn}
+use Rattle.protocol.specs.Desk.{Deed, Began, Phased, Committed, Aborted, Rolled_back, Why, next_txn}
 use Rattle.protocol.specs.World.{World}
 use Rattle.protocol.specs.Serial.{committed, statements_of, whole_after, answers_in_turn, serial_whole, serial_answers}
 use Rattle.protocol.specs.Client.{IsReached, IsQuiet}
@@ -55,5 +55,9 @@ pub record OneAtATime (L : Lang) : Type 0 where
   pub ends : (whole : L.Whole) (w v : World L) → IsReached whole w → IsReached whole v → Leads Did_end w v → now whole v ≡ now whole w
   -- what happened since a transaction's answered statements happened since it began
   pub since_began : (t : Name) (before past : List (Deed L)) (es : List (Entry L)) → Since t (before ++ log t es) past → Since t before past
+  -- an end without a commit, and one more statement, as they are found
+  pub aborted : (t : Name) (before past : List (Deed L)) (why : Why) → past ≡ before ++ Phased t ∷ Aborted t why ∷ [] → Since t before past
+  pub rolled_back : (t : Name) (before past : List (Deed L)) → past ≡ before ++ Rolled_back t ∷ [] → Since t before past
+  pub one_more : (t : Name) (before past : List (Deed L)) (es : List (Entry L)) (x : Entry L) → past ≡ (before ++ log t es) ++ log t (x ∷ []) → past ≡ before ++ log t (es ++ x ∷ [])
   -- so for transactions one after another
   pub all : (whole : L.Whole) (xs : List (Outcome L)) (w v : World L) → IsReached whole w → Follows whole xs w v → (map answered_in (done_in xs) ≡ serial_answers L (map stated_in (done_in xs)) (now whole w)) × (now whole v ≡ serial_whole L (map stated_in (done_in xs)) (now whole w))
