@@ -7,7 +7,8 @@ use Rattle.protocol.specs.Letter.{Body, Open, Letter, letters_to, is_for_desk}
 use Rattle.protocol.specs.Site.{Status, on_letter, site_after, said}
 use Rattle.protocol.specs.Desk.{Ask, Stage, Undecided, Known, Deed, is_undecided, is_new, opening, opens, visits, asks_out, writes_out}
 use Rattle.protocol.specs.World.{World, addressed, with_site, turned}
-use Rattle.protocol.proofs.Basics.{Every, In, every_append, every_map, put_all, same_law, if_true, if_false, by_test, clash, some_is, left_true, right_true, found}
+pub use Rattle.protocol.specs.Course.{Stands}
+use Rattle.protocol.proofs.Basics.{Every, In, every_append, every_map, put_all, same_law, if_true, if_false, by_test, clash, some_is, left_true, right_true, found, or_cases}
 use Rattle.protocol.proofs.Locks.{Once}
 use Rattle.protocol.proofs.Turns.{every_letter}
 use Rattle.protocol.proofs.Going.{asks_each, writes_each}
@@ -20,15 +21,10 @@ module _ {L : Lang} where
   bodies_of None = []
   bodies_of (Some b) = b ∷ []
 
-  -- the world while a statement of transaction t works: its letters alone, nobody else is undecided, each site at one of its places
-  pub record Stands (t : Name) (u : Undecided L) (w : World L) : Type 0 where
-    pub alone : Every (λ l. l.txn ≡ t) w.letters
-    pub others : (j : Name) → same j t ≡ false → is_undecided (w.desk.txn j) ≡ false
-    pub spots : (a : L.Site) → Spot (w.sites a).status (u.visited a) (u.ticket a) (u.sent a) (at a w.letters)
-
   -- a turn that goes on with the statement
   pub record Goes (t : Name) (u v : Undecided L) (letters : List (Letter L)) : Type 0 where
     pub own : Every (λ l. l.txn ≡ t) letters
+    pub among : ((a : L.Site) → u.visited a ≡ true → In a L.sites) → (a : L.Site) → v.visited a ≡ true → In a L.sites
     pub spots : (a : L.Site) (f : Name → Status L) (bs : List (Body L)) → Spot f (u.visited a) (u.ticket a) (u.sent a) bs → Spot f (v.visited a) (v.ticket a) (v.sent a) (bs ++ at a letters)
 
   -- the coordinator's turn
@@ -36,11 +32,12 @@ module _ {L : Lang} where
   turn_stands t u v w letters deeds stands goes = record {
     alone = every_append (λ l. l.txn ≡ t) w.letters letters stands.alone goes.own;
     others = put_all same same_law t (Known v) w.desk.txn (λ j x. same j t ≡ false → is_undecided x ≡ false) (λ other. clash ((same_law t t).1 refl) other) (λ j away other. stands.others j other);
+    among = goes.among stands.among;
     spots = λ a. subst (Spot (w.sites a).status (v.visited a) (v.ticket a) (v.sent a)) (sym (at_append a w.letters letters)) (goes.spots a (w.sites a).status (at a w.letters) (stands.spots a));
   }
 
   -- nothing is said to a site
-  at_unsaid : (t : Name) (says : L.Site → Option (Body L)) (a : L.Site) (sites : List L.Site) → ((b : L.Site) → In b sites → L.same_site a b ≡ true → says b ≡ None) → at a (letters_to t says sites) ≡ []
+  pub at_unsaid : (t : Name) (says : L.Site → Option (Body L)) (a : L.Site) (sites : List L.Site) → ((b : L.Site) → In b sites → L.same_site a b ≡ true → says b ≡ None) → at a (letters_to t says sites) ≡ []
   at_unsaid t says a [] none = refl
   at_unsaid t says a (b ∷ sites) none = go (says b) refl (at_unsaid t says a sites (λ c here. none c (inr here)))
     where
@@ -50,7 +47,7 @@ module _ {L : Lang} where
 
   module _ (law : IsLawful L) where
     -- something is said to it once
-    at_said : (t : Name) (says : L.Site → Option (Body L)) (a : L.Site) (c : Body L) (sites : List L.Site) → In a sites → Once sites → says a ≡ Some c → at a (letters_to t says sites) ≡ c ∷ []
+    pub at_said : (t : Name) (says : L.Site → Option (Body L)) (a : L.Site) (c : Body L) (sites : List L.Site) → In a sites → Once sites → says a ≡ Some c → at a (letters_to t says sites) ≡ c ∷ []
     at_said t says a c [] here once e = absurd here
     at_said t says a c (b ∷ sites) (inl is) once e =
         go (says b) (ap says (sym is) ∙ e) (at_none (λ i. if_apart b sites is once.0 i))
@@ -97,6 +94,7 @@ module _ {L : Lang} where
       pub goes_on : (sent : L.Site → ℕ) (stage : Stage L) (out : List (Letter L)) → Every (λ l. l.txn ≡ t) out → ((a : L.Site) → OutAt (u.ticket a) (u.sent a) (sent a) (at a out)) → Goes t u (record (visits u leaves) { sent = sent; stage = stage }) (opens t u leaves ++ out)
       goes_on sent stage out own outs = record {
         own = every_append (λ l. l.txn ≡ t) (opens t u leaves) out (every_letter (λ l. l.txn ≡ t) t (λ a. opening (is_new u leaves a)) L.sites (λ a b here e. refl)) own;
+        among = λ old a is. ⊎_elim (old a) (λ new. (let g = found (λ g. L.same_site (L.home g) a) leaves (right_true (not (u.visited a)) (list_any (λ g. L.same_site (L.home g) a) leaves) new) in subst (λ b. In b L.sites) ((law.sites (L.home g.0) a).0 g.2) (homes g.0 g.1))) (or_cases (u.visited a) (is_new u leaves a) is);
         spots = λ a f bs spot.
             let first = open_step f (u.ticket a) (u.sent a) bs (at a (opens t u leaves)) (is_new u leaves a) (u.visited a) (λ new. unvisited a new) (opens_at_new a) (opens_at_old a) spot in
             subst (Spot f (u.visited a || is_new u leaves a) (u.ticket a) (sent a)) (append_assoc bs (at a (opens t u leaves)) (at a out) ∙ ap (λ x. bs ++ x) (sym (at_append a (opens t u leaves) out)))
@@ -131,6 +129,7 @@ module _ {L : Lang} where
         record {
           alone = every_append (λ x. x.txn ≡ t) q (addressed l.site l.txn replies) alone.1 (every_map (λ x. x.txn ≡ t) _ replies (λ b. alone.0));
           others = stands.others;
+          among = stands.among;
           spots = put_all L.same_site law.sites l.site (site_after (w.sites l.site) act) w.sites (λ a s. Spot s.status (u.visited a) (u.ticket a) (u.sent a) (at a (q ++ addressed l.site l.txn replies)))
               (let now = moved bare (w.sites l.site) l.txn (u.visited l.site) (u.ticket l.site) (u.sent l.site) l.body (at l.site q) to_site room
               (subst (Spot (w.sites l.site).status (u.visited l.site) (u.ticket l.site) (u.sent l.site)) (ap (at l.site) e ∙ if_true (L.same_site l.site l.site) (l.body ∷ at l.site q) (at l.site q) ((law.sites l.site l.site).1 refl)) (stands.spots l.site)) in

@@ -1,16 +1,16 @@
 -- What a letter of a statement does at its site, while nobody else has a lock there.
 use Rattle.std.proofs.Common.{◌≡◌, refl, sym, ap, ◌∙◌, subst, ℕ, suc, ◌==◌, not, ◌&&◌, ◌||◌, Bool, true, false, List, [], ◌∷◌, ◌++◌, if◌then◌else◌, Option, Some, append-nil}
 use Rattle.std.proofs.lemmas.Bool.{eq-eqb}
-use Rattle.std.specs.Prelude.{⊤}
 use Rattle.protocol.specs.Language.{Lang, Name, same, put}
 use Rattle.protocol.specs.Letter.{Body, Open, Fetch, Write, Prepare, Commit, Abort, Ticket, Rows, Refused, Voted, Ack, Inquire, Lock, Full, is_for_desk}
 use Rattle.protocol.specs.Site.{Visit, Status, Dead, Alive, Prepared, SiteState, Act, Says, Opens, Locks, Ends, has_lock, has_exclusive, others_exclusive, others_lock, next_ticket, new_visit, on_letter, on_fetch, on_write, sees, site_after, said}
+pub use Rattle.protocol.specs.Course.{Room}
 use Rattle.protocol.proofs.Basics.{put_here, put_all, same_law, if_true, if_false, clash}
 use Rattle.protocol.proofs.Ranks.{none_any}
 use Rattle.protocol.proofs.Queue.{Unlocked, unlocked_free, Flow, flow_append, Spot, Asked, Works, away, asked, offered, works}
 
 -- the heads of equal lists
-head_is : {A : Type 0} (x y : A) (xs ys : List A) → x ∷ xs ≡ y ∷ ys → x ≡ y
+pub head_is : {A : Type 0} (x y : A) (xs ys : List A) → x ∷ xs ≡ y ∷ ys → x ≡ y
 head_is x y xs ys e = cc
 
 not_other : (b c : Bool) → (b ≡ false → c ≡ false) → (not b && c) ≡ false
@@ -18,11 +18,6 @@ not_other true c free = refl
 not_other false c free = free refl
 
 module _ {L : Lang} where
-  -- the write that waits has room among the intentions of its visit
-  abbrev pub Room : SiteState L → Body L → Type 0
-  Room s (Write k op g x) = (v : Visit L) → s.status k ≡ Alive v → L.is_full g x v.changes ≡ false
-  Room s body = ⊤
-
   exclusive_locks : (g : L.Leaf) (st : Status L) → has_lock g st ≡ false → has_exclusive g st ≡ false
   exclusive_locks g Dead free = refl
   exclusive_locks g (Alive v) free = or_none (v.shared g) (L.touches g v.changes) free
@@ -39,7 +34,7 @@ module _ {L : Lang} where
   pub none_locked : (s : SiteState L) (k : Name) (g : L.Leaf) → ((j : Name) → same j k ≡ false → Unlocked (s.status j)) → others_lock s k g ≡ false
   none_locked s k g free = none_any (λ j. not (same j k) && has_lock g (s.status j)) s.known (λ j here. not_other (same j k) (has_lock g (s.status j)) (λ other. unlocked_free g (s.status j) (free j other)))
 
-  sees_unlocked : (g : L.Leaf) (st : Status L) → Unlocked st → Unlocked (sees g st)
+  pub sees_unlocked : (g : L.Leaf) (st : Status L) → Unlocked st → Unlocked (sees g st)
   sees_unlocked g Dead free = free
   sees_unlocked g (Alive v) free = free
   sees_unlocked g (Prepared t i) free = free
@@ -59,17 +54,20 @@ module _ {L : Lang} where
     })
 
     -- a letter to a ticket finds its visit
+    pub fetch_acts : (op : ℕ) (g : L.Leaf) (q : L.Query) (w : Works k s.status b tk n (Fetch k op g q ∷ bs)) →
+        on_fetch s true k op g q (s.status k) ≡ Locks k (record w.visit { done = op; shared = put L.same_leaf g true w.visit.shared }) g (Rows k op (L.parts q (L.changed g w.visit.changes (s.kept g))) ∷ [])
+    fetch_acts op g q w =
+        let v = w.visit in
+        let new = Locks k (record v { done = op; shared = put L.same_leaf g true v.shared }) g (Rows k op (L.parts q (L.changed g v.changes (s.kept g))) ∷ []) in
+        ap (on_fetch s true k op g q) w.alive
+        ∙ if_true (op == suc v.done) (if others_exclusive s k g then Ends k (Refused k Lock ∷ []) else new) (Says []) (eq-eqb op (suc v.done) w.flow.1)
+        ∙ if_false (others_exclusive s k g) (Ends k (Refused k Lock ∷ [])) new (none_exclusive s k g w.free)
+
     fetched : (op : ℕ) (g : L.Leaf) (q : L.Query) (w : Works k s.status b tk n (Fetch k op g q ∷ bs)) → (act : Act L) → on_fetch s true k op g q (s.status k) ≡ act → Spot (site_after s act).status b tk n (bs ++ said s act)
     fetched op g q w act is =
         let v = w.visit in
         let rows = L.parts q (L.changed g v.changes (s.kept g)) in
-        let new = Locks k (record v { done = op; shared = put L.same_leaf g true v.shared }) g (Rows k op rows ∷ []) in
-        let numbered : (op == suc v.done) ≡ true = eq-eqb op (suc v.done) w.flow.1 in
-        let acts : on_fetch s true k op g q (s.status k) ≡ new =
-        ap (on_fetch s true k op g q) w.alive
-        ∙ if_true (op == suc v.done) (if others_exclusive s k g then Ends k (Refused k Lock ∷ []) else new) (Says []) numbered
-        ∙ if_false (others_exclusive s k g) (Ends k (Refused k Lock ∷ [])) new (none_exclusive s k g w.free) in
-        subst (λ a. Spot (site_after s a).status b tk n (bs ++ said s a)) (sym acts ∙ is)
+        subst (λ a. Spot (site_after s a).status b tk n (bs ++ said s a)) (sym (fetch_acts op g q w) ∙ is)
         (did w.visited w.ticket (record v { done = op; shared = put L.same_leaf g true v.shared }) g (Rows k op rows ∷ []) w.own w.free
         (flow_append k op n n bs (Rows k op rows ∷ []) (subst (λ x. Flow k x n bs) (sym w.flow.1) w.flow.2) (refl, refl)))
 

@@ -1,19 +1,14 @@
 -- What waits to and from each site while one client's statement works: operations in the order of their numbers.
-use Rattle.std.proofs.Common.{◌≡◌, refl, sym, ap, ◌∙◌, subst, ℕ, suc, ◌||◌, Bool, true, false, List, [], ◌∷◌, ◌++◌, if◌then◌else◌, Option, Some, None, append-nil}
-use Rattle.std.specs.Prelude.{⊤}
-use Rattle.protocol.specs.Language.{Lang, IsLawful, Name, same, put}
+use Rattle.std.proofs.Common.{◌≡◌, refl, sym, ap, ◌∙◌, subst, ℕ, suc, Bool, true, false, List, [], ◌∷◌, ◌++◌, if◌then◌else◌, Option, Some, None, append-nil}
+use Rattle.protocol.specs.Language.{Lang, IsLawful, Name, put}
 use Rattle.protocol.specs.Letter.{Body, Open, Fetch, Write, Prepare, Commit, Abort, Ticket, Rows, Refused, Voted, Ack, Inquire, Letter}
-use Rattle.protocol.specs.Site.{Visit, Status, Dead, Alive, Prepared, has_lock}
+use Rattle.protocol.specs.Site.{Status, Dead, Alive, Prepared, has_lock}
 use Rattle.protocol.specs.Desk.{Ask, ask_out, asks_out, write_out, writes_out}
 use Rattle.protocol.specs.World.{addressed}
+pub use Rattle.protocol.specs.Spots.{at, Unlocked, Flow, Away, Asked, Offered, Works, Spot, away, asked, offered, works}
 use Rattle.protocol.proofs.Basics.{if_true, if_false, some_is}
 
 module _ {L : Lang} where
-  -- the bodies of the letters to and from a site, in their order
-  abbrev pub at : L.Site → List (Letter L) → List (Body L)
-  at a [] = []
-  at a (l ∷ q) = if L.same_site a l.site then l.body ∷ at a q else at a q
-
   pub at_append : (a : L.Site) (xs ys : List (Letter L)) → at a (xs ++ ys) ≡ at a xs ++ at a ys
   at_append a [] ys = refl
   at_append a (l ∷ xs) ys = go (L.same_site a l.site) (at_append a xs ys)
@@ -30,24 +25,10 @@ module _ {L : Lang} where
   at_away a b t [] e = refl
   at_away a b t (c ∷ bodies) e = if_false (L.same_site a b) (c ∷ at a (addressed b t bodies)) (at a (addressed b t bodies)) e ∙ at_away a b t bodies e
 
-  -- nobody has a lock by this status, and it isn't prepared
-  abbrev pub Unlocked : Status L → Type 0
-  Unlocked Dead = ⊤
-  Unlocked (Alive v) = (g : L.Leaf) → (v.shared g || L.touches g v.changes) ≡ false
-  Unlocked (Prepared t i) = ⊥
-
   pub unlocked_free : (g : L.Leaf) (st : Status L) → Unlocked st → has_lock g st ≡ false
   unlocked_free g Dead free = refl
   unlocked_free g (Alive v) free = free g
   unlocked_free g (Prepared t i) free = absurd free
-
-  -- operations of ticket k with the numbers after d, up to n, in order; rows of it anywhere
-  abbrev pub Flow : Name → ℕ → ℕ → List (Body L) → Type 0
-  Flow k d n [] = d ≡ n
-  Flow k d n (Fetch j m g q ∷ bs) = (j ≡ k) × (m ≡ suc d) × Flow k (suc d) n bs
-  Flow k d n (Write j m g x ∷ bs) = (j ≡ k) × (m ≡ suc d) × Flow k (suc d) n bs
-  Flow k d n (Rows j m rows ∷ bs) = (j ≡ k) × Flow k d n bs
-  Flow k d n (b ∷ bs) = ⊥
 
   pub flow_append : (k : Name) (d n m : ℕ) (bs more : List (Body L)) → Flow k d n bs → Flow k n m more → Flow k d m (bs ++ more)
   flow_append k d n m [] more flow rest = subst (λ x. Flow k x m more) (sym flow) rest
@@ -63,51 +44,6 @@ module _ {L : Lang} where
   flow_append k d n m (Voted j x ∷ bs) more flow rest = absurd flow
   flow_append k d n m (Ack j ∷ bs) more flow rest = absurd flow
   flow_append k d n m (Inquire j ∷ bs) more flow rest = absurd flow
-
-  -- a site that isn't visited. f: its statuses, b: whether it is visited, tk and n: the coordinator's ticket and count, bs: what waits
-  pub record Away (f : Name → Status L) (b : Bool) (tk : Option Name) (n : ℕ) (bs : List (Body L)) : Type 0 where
-    pub unvisited : b ≡ false
-    pub no_ticket : tk ≡ None
-    pub nothing_sent : n ≡ 0
-    pub silent : bs ≡ []
-    pub free : (j : Name) → Unlocked (f j)
-
-  -- its Open is on the way
-  pub record Asked (f : Name → Status L) (b : Bool) (tk : Option Name) (n : ℕ) (bs : List (Body L)) : Type 0 where
-    pub visited : b ≡ true
-    pub no_ticket : tk ≡ None
-    pub nothing_sent : n ≡ 0
-    pub waits : bs ≡ Open ∷ []
-    pub free : (j : Name) → Unlocked (f j)
-
-  -- its visit waits for operations, and its ticket is on the way
-  pub record Offered (k : Name) (f : Name → Status L) (b : Bool) (tk : Option Name) (n : ℕ) (bs : List (Body L)) : Type 0 where
-    pub visited : b ≡ true
-    pub no_ticket : tk ≡ None
-    pub nothing_sent : n ≡ 0
-    pub waits : bs ≡ Ticket k ∷ []
-    pub visit : Visit L
-    pub alive : f k ≡ Alive visit
-    pub nothing_done : visit.done ≡ 0
-    pub own : (g : L.Leaf) → visit.foreign g ≡ false
-    pub free : (j : Name) → Unlocked (f j)
-
-  -- its visit works: nobody else has a lock, and what was sent and isn't done is on the way
-  pub record Works (k : Name) (f : Name → Status L) (b : Bool) (tk : Option Name) (n : ℕ) (bs : List (Body L)) : Type 0 where
-    pub visited : b ≡ true
-    pub ticket : tk ≡ Some k
-    pub visit : Visit L
-    pub alive : f k ≡ Alive visit
-    pub own : (g : L.Leaf) → visit.foreign g ≡ false
-    pub free : (j : Name) → same j k ≡ false → Unlocked (f j)
-    pub flow : Flow k visit.done n bs
-
-  -- where a site stands while a statement works
-  pub data Spot (f : Name → Status L) (b : Bool) (tk : Option Name) (n : ℕ) (bs : List (Body L)) : Type 0 where
-    away : Away f b tk n bs → Spot f b tk n bs
-    asked : Asked f b tk n bs → Spot f b tk n bs
-    offered : (k : Name) → Offered k f b tk n bs → Spot f b tk n bs
-    works : (k : Name) → Works k f b tk n bs → Spot f b tk n bs
 
   -- what a turn puts out to a site: nothing without a ticket, else its next operations
   abbrev pub OutAt : Option Name → ℕ → ℕ → List (Body L) → Type 0

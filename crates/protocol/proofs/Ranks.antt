@@ -4,8 +4,9 @@ use Rattle.std.specs.List.{list_any}
 use Rattle.protocol.specs.Language.{Lang, IsLawful, Name, put}
 use Rattle.protocol.specs.Letter.{Body, Open, Fetch, Write, Prepare, Commit, Abort, Ticket, Rows, Refused, Voted, Ack, Inquire, Letter}
 use Rattle.protocol.specs.Site.{SiteState, Status, Dead, Alive, Prepared, Act, on_letter, on_fetch, on_write, on_prepare, on_commit, on_abort, others_exclusive, said}
-use Rattle.protocol.specs.Desk.{Ask, Stage, Reading, Undecided, Txn, Known, Deed, Turn, ask_out, asks_out, write_out, writes_out, is_new, opens, visits, asks_go, writing, writes_go, stays, when, to_abort, vote_at, may_hold, ends_by}
+use Rattle.protocol.specs.Desk.{Ask, Undecided, Txn, Deed, Turn, ask_out, asks_out, write_out, writes_out, is_new, opens, visits, asks_go, writing, writes_go, stays, when, to_abort, vote_at, may_hold, ends_by}
 use Rattle.protocol.specs.Client.{IsVisited}
+pub use Rattle.protocol.specs.Rounds.{is_stage_reading, is_reading, rank, rank_in}
 use Rattle.protocol.proofs.Basics.{Every, every_append, In, either, clash, left_true, right_true, found, any_in, some_is}
 use Rattle.protocol.proofs.Turns.{every_letter}
 use Rattle.protocol.proofs.Going.{asks_each, writes_each, opening_is}
@@ -38,37 +39,6 @@ module _ (L : Lang) where
       go (Some k) no_ rest = rest (put L.same_site (L.home x.0) (suc (sent (L.home x.0))) sent)
 
 module _ {L : Lang} where
-  -- whether a statement waits for its rows
-  abbrev pub is_stage_reading : Stage L → Bool
-  is_stage_reading (Reading s asks) = true
-  is_stage_reading stage = false
-
-  abbrev pub is_reading : Txn L → Bool
-  is_reading (Known u) = is_stage_reading u.stage
-  is_reading txn = false
-
-  -- the rank of a letter, by whether its transaction reads
-  abbrev pub rank : Bool → Body L → ℕ
-  rank true Open = 9
-  rank false Open = 5
-  rank true (Ticket k) = 8
-  rank false (Ticket k) = 4
-  rank true (Fetch k n g q) = 7
-  rank false (Fetch k n g q) = 3
-  rank true (Rows k n rows) = 6
-  rank false (Rows k n rows) = 1
-  rank r (Write k n g x) = 3
-  rank r (Refused k reason) = 2
-  rank r (Prepare k n) = 4
-  rank r (Voted k vote) = 3
-  rank r (Commit k) = 2
-  rank r (Abort k) = 1
-  rank r (Ack k) = 1
-  rank r (Inquire k) = 3
-
-  abbrev pub rank_in : (Name → Txn L) → Letter L → ℕ
-  rank_in txn l = rank (is_reading (txn l.txn)) l.body
-
   -- a transaction that stops reading lowers its letters
   pub rank_less : (r s : Bool) (b : Body L) → (r ≡ true → s ≡ true) → rank r b ≤ rank s b
   rank_less true true b to = omega arith
@@ -128,15 +98,15 @@ module _ {L : Lang} where
     abbrev Lowers : Body L → Act L → Type 0
     Lowers b act = Every (λ c. suc (rank r c) ≤ rank r b) (said s act)
 
-    opened_low : (r : Bool) (k : Name) → suc (rank r (Ticket k)) ≤ rank r Open
+    opened_low : (r : Bool) (k : Name) → suc (rank {L = L} r (Ticket k)) ≤ rank {L = L} r Open
     opened_low true k = omega arith
     opened_low false k = omega arith
 
-    refused_low : (r : Bool) (k : Name) (n : ℕ) (g : L.Leaf) (q : L.Query) → 3 ≤ rank r (Fetch k n g q)
+    refused_low : (r : Bool) (k : Name) (n : ℕ) (g : L.Leaf) (q : L.Query) → 3 ≤ rank {L = L} r (Fetch k n g q)
     refused_low true k n g q = omega arith
     refused_low false k n g q = omega arith
 
-    rows_low : (r : Bool) (k : Name) (n : ℕ) (g : L.Leaf) (q : L.Query) (rows : L.Rows) → suc (rank r (Rows k n rows)) ≤ rank r (Fetch k n g q)
+    rows_low : (r : Bool) (k : Name) (n : ℕ) (g : L.Leaf) (q : L.Query) (rows : L.Rows) → suc (rank {L = L} r (Rows k n rows)) ≤ rank {L = L} r (Fetch k n g q)
     rows_low true k n g q rows = omega arith
     rows_low false k n g q rows = omega arith
 

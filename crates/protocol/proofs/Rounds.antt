@@ -6,17 +6,12 @@ use Rattle.protocol.specs.Site.{SiteState, on_letter, site_after, said, is_withi
 use Rattle.protocol.specs.Desk.{Choice, Txn, Unknown, Known, Row, Aborted, Given_up, Request, State, Commit_call, Rollback, Give_up, Turn, desk_after, desk_began, next_txn, fresh, on_request, on_desk_letter, is_desk_within}
 use Rattle.protocol.specs.World.{World, begins, begun, called, comes, comes_to, turns, turned, site_steps, with_site, addressed}
 use Rattle.protocol.specs.Client.{first, next, deliveries, round, rounds, IsVisited, AllVisited, RoundsLaw}
+pub use Rattle.protocol.specs.Rounds.{InRound, RoundByLetter}
 use Rattle.protocol.proofs.Basics.{Every, every_append, every_more, either, put_all, same_law}
 use Rattle.protocol.proofs.Ranks.{is_reading, rank, rank_in, rank_less, rank_some, rank_nine, site_lowers}
 use Rattle.protocol.proofs.DeskRanks.{desk_low, commit_asked, rollback_asked, state_visited, ended_letters}
 
 module _ {L : Lang} where
-  -- the first i letters rank at most n + 1, the others at most n
-  abbrev pub InRound : (Name → Txn L) → ℕ → ℕ → List (Letter L) → Type 0
-  InRound txn n zero letters = Every (λ l. rank_in txn l ≤ n) letters
-  InRound txn n (suc i) [] = Every (λ l. rank_in txn l ≤ n) []
-  InRound txn n (suc i) (l ∷ q) = (rank_in txn l ≤ suc n) × InRound txn n i q
-
   -- what a step brings: letters that rank at most n; no letter ranks higher than before
   pub record Brings (n : ℕ) (w v : World L) : Type 0 where
     pub new : List (Letter L)
@@ -114,7 +109,7 @@ module _ {L : Lang} where
     pub round_over : (pick : World L → Bool × Choice L) (n : ℕ) (w : World L) → AllVisited w → Every (λ l. rank_in w.desk.txn l ≤ suc n) w.letters → Every (λ l. rank_in (round pick w).desk.txn l ≤ n) (round pick w).letters × AllVisited (round pick w)
     round_over pick n w visited all = deliveries_over pick n (length w.letters) w visited (round_starts w.desk.txn n w.letters all)
 
-    silent : (txn : Name → Txn L) (letters : List (Letter L)) → Every (λ l. rank_in txn l ≤ 0) letters → letters ≡ []
+    pub silent : (txn : Name → Txn L) (letters : List (Letter L)) → Every (λ l. rank_in txn l ≤ 0) letters → letters ≡ []
     silent txn [] all = refl
     silent txn (l ∷ letters) all = absurd (let some = rank_some (is_reading (txn l.txn)) l.body in let h = all.0 in omega arith)
 
@@ -184,6 +179,36 @@ module _ {L : Lang} where
         go : (letters : List (Letter L)) → AllVisited (first w kept choice letters)
         go [] = visited
         go (l ∷ q) = (comes_brings 9 (record w { letters = q }) kept choice l (is_for_desk l.body) visited (let h = rank_nine (is_reading (w.desk.txn l.txn)) l.body in omega arith)).visited
+
+    -- ---- letter by letter
+    gives_up_falls : (t : Name) (choice : Choice L) (x : Txn L) → is_reading (on_request t choice Give_up x).txn ≡ true → is_reading x ≡ true
+    gives_up_falls t choice Unknown e = e
+    gives_up_falls t choice (Row voters acked) e = e
+    gives_up_falls t choice (Known u) e = cc
+
+    -- a transaction is given up within a round
+    pub round_gives_up : (n i : ℕ) (w : World L) (t : Name) (choice : Choice L) → 1 ≤ n → AllVisited w → InRound w.desk.txn n i w.letters → InRound (called w t choice Give_up).desk.txn n i (called w t choice Give_up).letters × AllVisited (called w t choice Give_up)
+    round_gives_up n i w t choice some visited all =
+        let turn = on_request t choice Give_up (w.desk.txn t) in
+        let v : World L = called w t choice Give_up in
+        let b : Brings n w v = turn_brings n w t turn visited (gives_up_falls t choice (w.desk.txn t)) (request_visited t choice Give_up (w.desk.txn t) (visited t))
+        (every_more (λ l. (b : Bool) → rank b l.body ≤ 1) (λ l. rank_in (put same t turn.txn w.desk.txn) l ≤ n) turn.letters (λ l h. let low = h (is_reading (put same t turn.txn w.desk.txn l.txn)) in omega arith) (give_up_letters t choice (w.desk.txn t))) in
+        (subst (InRound v.desk.txn n i) (sym b.is) (in_more v.desk.txn n i w.letters b.new (in_less w.desk.txn v.desk.txn b.falls n i w.letters all) b.under), b.visited)
+
+    all_nine : (txn : Name → Txn L) (letters : List (Letter L)) → Every (λ l. rank_in txn l ≤ 9) letters
+    all_nine txn [] = tt
+    all_nine txn (l ∷ letters) = (rank_nine (is_reading (txn l.txn)) l.body, all_nine txn letters)
+
+    pub round_law : RoundByLetter L
+    round_law = record {
+      nine = λ w. all_nine w.desk.txn w.letters;
+      four = λ w t choice visited none. called_under 4 w t choice Commit_call none (commit_letters t choice (w.desk.txn t) (visited t));
+      one = λ w t choice visited none. called_under 1 w t choice Rollback none (rollback_letters t choice (w.desk.txn t) (visited t));
+      starts = λ w n all. round_starts w.desk.txn n w.letters all;
+      goes_on = λ w n i kept choice visited all. round_goes_on n i w kept choice visited all;
+      given_up = λ w n i t choice some visited all. round_gives_up n i w t choice some visited all;
+      over = λ w all. silent w.desk.txn w.letters all;
+    }
 
     pub rounds_law : RoundsLaw L
     rounds_law = record {

@@ -1,8 +1,9 @@
 -- The toy language is lawful.
-use Rattle.std.proofs.Common.{◌≡◌, refl, ℕ, ◌==◌, Bool, true, false, [], ◌∷◌, ◌++◌, if◌then◌else◌, Option, Some, None, ◌↔◌, ◌&&◌, is_none}
+use Rattle.std.proofs.Common.{◌≡◌, refl, sym, ⊎_elim, true≢false, ℕ, ◌==◌, Bool, true, false, [], ◌∷◌, ◌++◌, if◌then◌else◌, Option, Some, None, ◌↔◌, ◌&&◌, is_none}
 use Rattle.std.proofs.lemmas.Bool.{eqb-true}
 use Rattle.protocol.specs.Language.{IsLawful, written}
 use Rattle.protocol.specs.Toy.{toy, Pair, Intended, is_same, part_of, intended, adds, applied, is_intended, toy_meaning}
+use Rattle.protocol.proofs.Locks.{Once}
 
 same_is : (a b : Bool) → (is_same a b ≡ true) ↔ (a ≡ b)
 same_is true true = (λ e. refl, λ e. refl)
@@ -65,3 +66,6 @@ toy_lawful = record {
   empty_touches = empty_touch;
   writes_right = λ s before g. wrote g before (toy_meaning s before).1;
 }
+
+pub toy_once : Once toy.sites
+toy_once = ((λ here. ⊎_elim (λ e. true≢false (sym e)) (λ none. none) here), ((λ here. here), tt))

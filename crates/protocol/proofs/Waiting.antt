@@ -4,23 +4,12 @@ use Rattle.protocol.specs.Language.{Lang, IsLawful, Name, put}
 use Rattle.protocol.specs.Letter.{Body, Open, Fetch, Ticket, Rows, Letter}
 use Rattle.protocol.specs.Desk.{Ask, Undecided, ask_out, asks_out}
 use Rattle.protocol.specs.World.{World}
+pub use Rattle.protocol.specs.Course.{AskWaits, WriteWaits, came, unsent, sent, told}
 use Rattle.protocol.proofs.Basics.{Every, In, every_more, in_left, in_right, if_true}
 use Rattle.protocol.proofs.Queue.{at, at_append, Spot, away, asked, offered, works}
 use Rattle.protocol.proofs.AtDesk.{Stands}
 
 module _ {L : Lang} where
-  -- a fetch has its rows, or waits for the ticket of a visited site, or is on its way, or its rows are
-  pub data AskWaits (u : Undecided L) (letters : List (Letter L)) (q : Ask L) : Type 0 where
-    came : is_some q.rows ≡ true → AskWaits u letters q
-    unsent : q.number ≡ None → u.visited (L.home q.leaf) ≡ true → u.ticket (L.home q.leaf) ≡ None → AskWaits u letters q
-    sent : (k : Name) (n : ℕ) → q.number ≡ Some n → In (Fetch k n q.leaf q.query) (at (L.home q.leaf) letters) → AskWaits u letters q
-    told : (k : Name) (n : ℕ) (rows : L.Rows) → q.number ≡ Some n → L.well_formed q.leaf rows ≡ true → In (Rows k n rows) (at (L.home q.leaf) letters) → AskWaits u letters q
-
-  -- a write waits for the ticket of a visited site
-  pub record WriteWaits (u : Undecided L) (x : L.Leaf × L.Write) : Type 0 where
-    pub visited : u.visited (L.home x.0) ≡ true
-    pub no_ticket : u.ticket (L.home x.0) ≡ None
-
   -- at a visited site without ticket something waits
   not_silent : (w : World L) (t : Name) (u : Undecided L) (a : L.Site) → Stands t u w → w.letters ≡ [] → u.visited a ≡ true → u.ticket a ≡ None → ⊥
   not_silent w t u a stands silent visited no_ticket = go (stands.spots a)
@@ -56,7 +45,7 @@ module _ {L : Lang} where
     new_ask : q.number ≡ None → u.visited (L.home q.leaf) ≡ true → AskReady u letters q
     old_ask : (m : ℕ) → q.number ≡ Some m → AskWaits u letters q → AskReady u letters q
 
-  in_at : (a : L.Site) (c : Body L) (xs ys : List (Letter L)) → In c (at a xs) → In c (at a (xs ++ ys))
+  pub in_at : (a : L.Site) (c : Body L) (xs ys : List (Letter L)) → In c (at a xs) → In c (at a (xs ++ ys))
   in_at a c xs ys here = subst (In c) (sym (at_append a xs ys)) (in_left c (at a xs) (at a ys) here)
 
   -- more letters hinder none

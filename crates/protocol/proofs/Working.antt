@@ -1,30 +1,21 @@
 -- One client's transaction from its beginning through its statements: no step meets a lock, each site stays at one of its places.
-use Rattle.std.proofs.Common.{◌≡◌, refl, sym, ap, ◌∙◌, subst, ℕ, Bool, true, false, List, [], ◌∷◌, map, Some, None, append-nil}
+use Rattle.std.proofs.Common.{◌≡◌, refl, sym, ap, ◌∙◌, subst, ℕ, Bool, true, false, List, [], ◌∷◌, Some, None, append-nil}
 use Rattle.protocol.specs.Language.{Lang, IsLawful, Name, same, put}
 use Rattle.protocol.specs.Letter.{Ticket, Rows, Letter}
-use Rattle.protocol.specs.Desk.{Ask, Choice, Stage, Idle, Reading, Writing, Voting, Undecided, Known, Turn, fresh, next_txn, is_undecided, visits, asks_out, asks_go, writing, writes_go, works, states, stays, ticket_goes}
+use Rattle.protocol.specs.Desk.{Stage, Undecided, Known, Turn, fresh, next_txn, is_undecided, stays}
 use Rattle.protocol.specs.World.{World, begun, turned}
-use Rattle.protocol.proofs.Basics.{Every, In, put_all, same_law, if_true, if_false, clash}
-use Rattle.protocol.proofs.Locks.{Once}
-use Rattle.protocol.proofs.Queue.{at, Unlocked, Spot, away, spot_ticket, spot_rows}
-use Rattle.protocol.proofs.AtDesk.{Stands, Goes, turn_stands, asks_goes, writes_goes}
-
--- each of these leaves is at one of the sites
-abbrev pub AtSites : (L : Lang) → List L.Leaf → Type 0
-AtSites L leaves = (g : L.Leaf) → In g leaves → In (L.home g) L.sites
+pub use Rattle.protocol.specs.Client.{IsQuiet}
+use Rattle.protocol.proofs.Basics.{Every, put_all, same_law, if_true, if_false, clash}
+use Rattle.protocol.proofs.Queue.{at, Spot, away, spot_ticket, spot_rows}
+use Rattle.protocol.proofs.AtDesk.{Stands, Goes, turn_stands}
 
 module _ {L : Lang} where
-  -- nothing waits, no ticket has a lock or is prepared, nobody is undecided
-  pub record IsQuiet (w : World L) : Type 0 where
-    pub silent : w.letters ≡ []
-    pub calm : (a : L.Site) (k : Name) → Unlocked ((w.sites a).status k)
-    pub decided : (t : Name) → is_undecided (w.desk.txn t) ≡ false
-
   -- a transaction begins
   pub begins_stands : (w : World L) → IsQuiet w → Stands (next_txn w.desk) fresh (begun w)
   begins_stands w quiet = record {
     alone = subst (Every (λ l. l.txn ≡ next_txn w.desk)) (sym quiet.silent) tt;
     others = put_all same same_law (next_txn w.desk) (Known fresh) w.desk.txn (λ j x. same j (next_txn w.desk) ≡ false → is_undecided x ≡ false) (λ other. clash ((same_law (next_txn w.desk) (next_txn w.desk)).1 refl) other) (λ j apart other. quiet.decided j);
+    among = λ a is. cc;
     spots = λ a. away (record { unvisited = refl; no_ticket = refl; nothing_sent = refl; silent = ap (at a) quiet.silent; free = quiet.calm a });
   }
 
@@ -37,15 +28,12 @@ module _ {L : Lang} where
   pub turned_stands : (t : Name) (u : Undecided L) (w : World L) (turn : Turn L) → Stands t u w → (to : GoesTo t u turn) → Stands t to.new (turned w t turn)
   turned_stands t u w turn stands to = subst (λ x. Stands t to.new (turned w t (record { txn = x; letters = turn.letters; deeds = turn.deeds }))) (sym to.is) (turn_stands t u to.new w turn.letters turn.deeds stands to.goes)
 
-  stays_goes : (t : Name) (u : Undecided L) → GoesTo t u (stays (Known u))
-  stays_goes t u = record { new = u; is = refl; goes = record { own = tt; spots = λ a f bs spot. subst (Spot f (u.visited a) (u.ticket a) (u.sent a)) (sym (append-nil bs)) spot } }
+  -- nothing goes out
+  pub stage_goes : (t : Name) (u : Undecided L) (stage : Stage L) → Goes t u (record u { stage = stage }) []
+  stage_goes t u stage = record { own = tt; among = λ old. old; spots = λ a f bs spot. subst (Spot f (u.visited a) (u.ticket a) (u.sent a)) (sym (append-nil bs)) spot }
 
-  -- the leaves that a stage still sends to
-  abbrev pub leaves_of : Stage L → List L.Leaf
-  leaves_of Idle = []
-  leaves_of (Reading s asks) = map (λ q. q.leaf) asks
-  leaves_of (Writing answer ws) = map (λ x. x.0) ws
-  leaves_of (Voting votes) = []
+  abbrev pub stays_goes : (t : Name) (u : Undecided L) → GoesTo t u (stays (Known u))
+  stays_goes t u = record { new = u; is = refl; goes = stage_goes t u u.stage }
 
   -- a ticket comes
   abbrev pub with_ticket : Undecided L → L.Site → Name → Undecided L
@@ -57,6 +45,7 @@ module _ {L : Lang} where
       ticket_came k e = record {
         alone = (subst (Every (λ l. l.txn ≡ t)) e stands.alone).1;
         others = stands.others;
+        among = stands.among;
         spots = put_all L.same_site law.sites a (Some k) u.ticket (λ b tk. Spot (w.sites b).status (u.visited b) tk (u.sent b) (at b q))
             (spot_ticket (w.sites a).status (u.visited a) (u.sent a) k (at a q) (u.ticket a) (subst (Spot (w.sites a).status (u.visited a) (u.ticket a) (u.sent a)) (ap (at a) e ∙ if_true (L.same_site a a) (Ticket k ∷ at a q) (at a q) ((law.sites a a).1 refl)) (stands.spots a))).0
             (λ b other. subst (Spot (w.sites b).status (u.visited b) (u.ticket b) (u.sent b)) (ap (at b) e ∙ if_false (L.same_site b a) (Ticket k ∷ at b q) (at b q) other) (stands.spots b));
@@ -73,6 +62,7 @@ module _ {L : Lang} where
             record {
               alone = (subst (Every (λ l. l.txn ≡ t)) e stands.alone).1;
               others = stands.others;
+              among = stands.among;
               spots = λ b. by_site b here.0 (L.same_site b a) refl;
             },
             here.1,
@@ -81,28 +71,3 @@ module _ {L : Lang} where
           by_site : (b : L.Site) → Spot (w.sites a).status (u.visited a) (u.ticket a) (u.sent a) (at a q) → (x : Bool) → L.same_site b a ≡ x → Spot (w.sites b).status (u.visited b) (u.ticket b) (u.sent b) (at b q)
           by_site b here true is = subst (λ c. Spot (w.sites c).status (u.visited c) (u.ticket c) (u.sent c) (at c q)) (sym ((law.sites b a).0 is)) here
           by_site b here false other = subst (Spot (w.sites b).status (u.visited b) (u.ticket b) (u.sent b)) (ap (at b) e ∙ if_false (L.same_site b a) (Rows k m rows ∷ at b q) (at b q) other) (stands.spots b)
-
-    -- ---- the statement goes on
-    module _ (once : Once L.sites) (t : Name) (u : Undecided L) where
-      asks_to : (s : L.Statement) (asks : List (Ask L)) → AtSites L (map (λ q. q.leaf) asks) → GoesTo t u (asks_go t u s asks)
-      asks_to s asks homes = record { new = _; is = refl; goes = asks_goes law once t u asks (Reading s (asks_out t u.ticket asks u.sent).left) homes }
-
-      writing_to : (v : Undecided L) (answer : L.Answer) (sent : L.Site → ℕ) (left : List (L.Leaf × L.Write)) (letters : List (Letter L)) → ((stage : Stage L) → Goes t u (record v { sent = sent; stage = stage }) letters) → GoesTo t u (writing t v answer sent left letters)
-      writing_to v answer sent [] letters goes = record { new = record v { sent = sent; stage = Idle }; is = refl; goes = goes Idle }
-      writing_to v answer sent (x ∷ ws) letters goes = record { new = record v { sent = sent; stage = Writing answer (x ∷ ws) }; is = refl; goes = goes (Writing answer (x ∷ ws)) }
-
-      pub writes_to_sites : (answer : L.Answer) (ws : List (L.Leaf × L.Write)) → AtSites L (map (λ x. x.0) ws) → GoesTo t u (writes_go t u answer ws)
-      writes_to_sites answer ws homes = writing_to (visits u (map (λ x. x.0) ws)) answer _ _ _ (λ stage. writes_goes law once t u ws stage homes)
-
-      pub works_to : (s : L.Statement) (asks : List (Ask L)) (choice : Choice L) → AtSites L (map (λ x. x.0) choice.1) → GoesTo t u (works t u s asks choice)
-      works_to s asks choice homes = let to = writes_to_sites choice.0 choice.1 homes in record { new = to.new; is = to.is; goes = to.goes }
-
-      pub states_to : (s : L.Statement) (asks : List (Ask L)) (choice : Choice L) → AtSites L (map (λ q. q.leaf) asks) → AtSites L (map (λ x. x.0) choice.1) → GoesTo t u (states t u s asks choice)
-      states_to s [] choice homes writes = works_to s [] choice writes
-      states_to s (q ∷ qs) choice homes writes = asks_to s (q ∷ qs) homes
-
-      pub ticket_to : (choice : Choice L) (stage : Stage L) → AtSites L (leaves_of stage) → GoesTo t u (ticket_goes t u choice stage)
-      ticket_to choice Idle homes = stays_goes t u
-      ticket_to choice (Reading s asks) homes = asks_to s asks homes
-      ticket_to choice (Writing answer ws) homes = writes_to_sites answer ws homes
-      ticket_to choice (Voting votes) homes = stays_goes t u

@@ -3,7 +3,8 @@ use Rattle.std.specs.Prelude.{◌≡◌, ⊤, ℕ, zero, suc, not, Bool, false, 
 use Rattle.std.specs.List.{list_any}
 use Rattle.protocol.specs.Language.{Lang, Name}
 use Rattle.protocol.specs.Letter.{Letter}
-use Rattle.protocol.specs.Desk.{Choice, Request, Commit_call, Rollback, Give_up, Stage, Idle, Reading, Writing, Voting, Undecided, Txn, Known}
+use Rattle.protocol.specs.Desk.{Choice, Request, Commit_call, Rollback, Give_up, Stage, Idle, Reading, Writing, Voting, Undecided, Txn, Known, is_undecided}
+use Rattle.protocol.specs.Spots.{Unlocked}
 use Rattle.protocol.specs.World.{World, Event, begins, called, comes, run}
 use Rattle.protocol.specs.Serial.{AllExplained, IsOpening, IsSerial}
 
@@ -64,6 +65,12 @@ module _ {L : Lang} where
   -- what waits for a ticket waits for that of a visited site
   abbrev pub AllVisited : World L → Type 0
   AllVisited w = (t : Name) → IsVisited (w.desk.txn t)
+
+  -- nothing waits, no ticket has a lock or is prepared, nobody is undecided
+  pub record IsQuiet (w : World L) : Type 0 where
+    pub silent : w.letters ≡ []
+    pub calm : (a : L.Site) (k : Name) → Unlocked ((w.sites a).status k)
+    pub decided : (t : Name) → is_undecided (w.desk.txn t) ≡ false
 
 -- what one client does with a world leads from reached worlds to reached worlds, and those are serial
 pub record ReachedLaw (L : Lang) : Type 0 where

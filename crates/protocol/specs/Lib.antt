@@ -8,4 +8,12 @@ pub mod Whole
 pub mod Parts
 pub mod Client
 pub mod Statements
+pub mod Rounds
+pub mod Spots
+pub mod Course
+pub mod Leaving
+pub mod Committing
+pub mod ClientLaw
+pub mod OneClient
+pub mod Fitting
 pub mod Toy

@@ -1,7 +1,11 @@
 //! The laws of the protocol, each as the contract of a function that does nothing.
 
 ghost use Rattle.protocol.specs.Client.{ReachedLaw, RoundsLaw};
+ghost use Rattle.protocol.specs.ClientLaw.{ClientLaw, LetterByLetter};
+ghost use Rattle.protocol.specs.Fitting.{StaysFitting};
+ghost use Rattle.protocol.specs.OneClient.{OneAtATime};
 ghost use Rattle.protocol.specs.Parts.{PartsOneAndTwo, PartThree};
+ghost use Rattle.protocol.specs.Rounds.{RoundByLetter};
 ghost use Rattle.protocol.specs.Serial.{SerialLaw};
 ghost use Rattle.protocol.specs.Toy.{toy};
 ghost use Rattle.protocol.specs.Whole.{AppliedWholeAndOnce};
@@ -43,4 +47,42 @@ pub fn one_client_is_a_run()
 /// commit is asked for, and one after a rollback or where a transaction is given up.
 pub fn nine_rounds_are_enough()
     ensures { RoundsLaw toy }
+{}
+
+/// The same letter by letter, for whoever counts rounds: each delivery leaves one letter less of those that
+/// waited as the round began, and those that it brings about rank lower; also where the transaction is
+/// given up within a round.
+pub fn rounds_letter_by_letter()
+    ensures { RoundByLetter toy }
+{}
+
+/// One client alone, whose letters come each once, oldest first, with every store call kept, no limit met
+/// and no visit full: a transaction that began in a quiet world and asks for its commit is committed and
+/// leaves a quiet world, each of its statements answered as it was evaluated; one that asks for a rollback
+/// is rolled back.
+pub fn one_client_commits()
+    ensures { ClientLaw toy }
+{}
+
+/// The same letter by letter, and where something is refused: a statement that meets a full visit or loses
+/// a letter at a limit ends its transaction or can be given up; a commit is aborted only where a store
+/// refused a Prepare or the decision; whatever the end, all is quiet where no letter waits, as long as each
+/// Commit and Abort is kept.
+pub fn one_client_letter_by_letter()
+    ensures { LetterByLetter toy }
+{}
+
+/// One transaction at a time: where all is quiet the fragments are those of the whole database after all
+/// that was committed; a transaction that commits answers as its statements in turn over that whole
+/// database and makes of it what they make; one that ends without a commit leaves it as it was; and so for
+/// transactions one after another.
+pub fn one_client_is_serial()
+    ensures { OneAtATime toy }
+{}
+
+/// Whatever contents are said to fit their leaves: they do through all that one client does, as long as
+/// what its statements write keeps them fitting; and so the rows that a site brings are well formed where
+/// those of every fitting content are.
+pub fn contents_stay_fitting()
+    ensures { StaysFitting toy }
 {}

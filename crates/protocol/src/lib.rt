@@ -1,5 +1,6 @@
 //! The commit protocol, Presumed Abort: both machines, worlds and runs as definitions (`specs/`), and the
-//! proof of the serial law over every run (`proofs/`), for every language of statements over leaves.
+//! proof of the serial law over every run (`proofs/`), for every language of statements over leaves. For one
+//! client alone it is followed letter by letter to its end.
 //!
 //! Stands on nothing but `std`. The crates above state their machines by these definitions and cite the
 //! theorems at a language of their own; here each stands at a toy language, since a clause can't range
