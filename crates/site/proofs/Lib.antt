@@ -1,0 +1,6 @@
+-- What proves the contracts of the crate.
+pub mod Tickets
+pub mod LockLaws
+pub mod Listed
+pub mod Steps
+pub mod Leaves

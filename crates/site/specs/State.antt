@@ -1,0 +1,107 @@
+-- A site's state: what its store keeps, and what it has in memory.
+use Rattle.std.specs.Prelude.{◌≡◌, ℕ, ◌+◌, ◌<◌, ◌≤◌, ◌^◌, ◌⊎◌, Bool, true, false, List, [], ◌∷◌, map, length, Option, Some, None, is_some, if◌then◌else◌}
+use Rattle.std.specs.BTreeMap.{is_at}
+use Rattle.std.specs.List.{filter}
+use Rattle.std.specs.Map.{lookup, keys_of}
+use Rattle.std.specs.Option.{option_map}
+use Rattle.terms.specs.declared.leaf.Leaf.{Leaf}
+use Rattle.store.specs.declared.name.Ticket.{Ticket}
+use Rattle.store.specs.declared.name.Txn.{Txn}
+use Rattle.store.specs.declared.prepared.Prepared.{Prepared as Row}
+use Rattle.store.specs.Content.{touches}
+use Rattle.store.specs.Name.{ticket_cmp}
+use Rattle.store.specs.SiteContent.{SiteContent}
+use Rattle.protocol.specs.Language.{Name}
+use Rattle.protocol.specs.Parts.{In}
+use Rattle.protocol.specs.Site.{SiteState, Status, Dead, Alive, Prepared, has_exclusive}
+use Rattle.site.specs.declared.locks.Locks.{Locks}
+use Rattle.site.specs.declared.present.Present.{Present}
+use Rattle.site.specs.declared.standing.Standing as standings
+use Rattle.site.specs.declared.standing.Standing.TheVariants as standing
+use Rattle.site.specs.Local.{local}
+use Rattle.site.specs.Letters.{name_of, ticket_of, txn_name}
+use Rattle.site.specs.Locks.{reads, writes, is_foreign, locks_in}
+
+-- what is in memory, read ticket by ticket and leaf by leaf
+pub record Table : Type 0 where
+  pub standing : Ticket → Option standings.Standing
+  pub tickets : List Ticket
+  pub locks : Leaf → Locks
+  pub alive : ℕ
+  pub life : ℕ
+  pub number : ℕ
+
+abbrev pub table_from : List (Ticket × standings.Standing) → List Locks → ℕ → ℕ → ℕ → Table
+table_from entries locks alive life number = record { standing = λ ticket. lookup (is_at (ticket_cmp ticket)) entries; tickets = keys_of entries; locks = λ leaf. locks_in leaf locks; alive = alive; life = life; number = number }
+
+abbrev pub table_of : Present → Table
+table_of present = table_from present.standings.entries present.locks.items present.alive present.life present.number
+
+-- what stands behind a ticket without a prepared row: a visit, with its locks and the leaves that are foreign to it, or nothing
+abbrev pub visiting : (Leaf → Locks) → Ticket → Option standings.Standing → Status local
+visiting locks ticket None = Dead
+visiting locks ticket (Some (standing.Prepared txn)) = Dead
+visiting locks ticket (Some (standing.Alive visit)) = Alive (record {
+  done = visit.done;
+  changes = visit.changes;
+  shared = λ leaf. reads ticket (locks leaf);
+  foreign = λ leaf. is_foreign ticket (locks leaf);
+})
+
+-- what stands behind a ticket
+abbrev pub stands : Table → Ticket → Option Row → Status local
+stands table ticket (Some row) = Prepared (txn_name row.txn) row.changes
+stands table ticket None = visiting table.locks ticket (table.standing ticket)
+
+-- the state that the store and the memory make together
+abbrev pub state_of : SiteContent → Table → SiteState local
+state_of kept table = record {
+  kept = kept.content;
+  status = λ name. stands table (ticket_of name) (kept.prepared (ticket_of name));
+  known = map name_of table.tickets;
+  life = table.life;
+  number = table.number;
+}
+
+-- the transaction of a prepared standing
+abbrev pub txn_in : Option standings.Standing → Option Txn
+txn_in None = None
+txn_in (Some (standing.Alive visit)) = None
+txn_in (Some (standing.Prepared txn)) = Some txn
+
+-- whether a visit stands there
+abbrev pub is_visit : Option standings.Standing → Bool
+is_visit None = false
+is_visit (Some (standing.Alive visit)) = true
+is_visit (Some (standing.Prepared txn)) = false
+
+-- a ticket was drawn in an earlier life, or in this one
+abbrev pub IsDrawn : Table → Ticket → Type 0
+IsDrawn table ticket = (ticket.life < table.life) ⊎ ((ticket.life ≡ table.life) × (ticket.visit ≤ table.number))
+
+-- what a visit has done is below the limit
+abbrev pub IsShort : Option standings.Standing → Type 0
+IsShort None = Unit {0}
+IsShort (Some (standing.Alive visit)) = visit.done < 2 ^ 63
+IsShort (Some (standing.Prepared txn)) = Unit {0}
+
+-- what is in memory fits what the store keeps
+pub record Fits (kept : SiteContent) (table : Table) : Type 0 where
+  -- the prepared tickets are those of the store's rows
+  pub prepared : (ticket : Ticket) → txn_in (table.standing ticket) ≡ option_map (λ row. row.txn) (kept.prepared ticket)
+  pub life : table.life ≡ kept.life
+  -- the list has the tickets behind which something stands
+  pub listed : (ticket : Ticket) → is_some (table.standing ticket) ≡ true → In ticket table.tickets
+  pub lives : (ticket : Ticket) → In ticket table.tickets → is_some (table.standing ticket) ≡ true
+  -- readers are visits; a writer is who has intentions on the leaf
+  pub readers : (leaf : Leaf) (ticket : Ticket) → reads ticket (table.locks leaf) ≡ true → is_visit (table.standing ticket) ≡ true
+  pub writers : (leaf : Leaf) (ticket : Ticket) → writes ticket (table.locks leaf) ≡ has_exclusive leaf (stands table ticket (kept.prepared ticket))
+  -- tickets were drawn, those of visits in this life
+  pub drawn : (ticket : Ticket) → is_some (table.standing ticket) ≡ true → IsDrawn table ticket
+  pub fresh : (ticket : Ticket) → is_visit (table.standing ticket) ≡ true → (ticket.life ≡ table.life) × (ticket.visit ≤ table.number)
+  pub released : (leaf : Leaf) → (table.locks leaf).released ≤ table.number
+  -- the limits are kept
+  pub short : (ticket : Ticket) → IsShort (table.standing ticket)
+  pub numbers : (table.life < 2 ^ 63) × (table.number < 2 ^ 63)
+  pub counted : length (filter (λ ticket. is_visit (table.standing ticket)) table.tickets) ≡ table.alive
+  pub few : table.alive ≤ 1024

@@ -1,0 +1,7 @@
+//! The subordinate's machine: visits, locks and prepared rows, over any store.
+#![tactic(auto)]
+
+pub mod fault;
+mod locks;
+mod present;
+mod standing;
