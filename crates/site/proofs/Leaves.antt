@@ -15,13 +15,13 @@ use Rattle.protocol.proofs.Basics.{if_true}
 use Rattle.site.proofs.Tickets.{ticket_is}
 
 -- the next item changed
-front : {A : Type 0} (f : A → A) (xs : List A) (i : ℕ) (x y : A) → i < length xs → x ≡ get_or (map f (take i xs) ++ drop i xs) i x → y ≡ f x → slice_set (map f (take i xs) ++ drop i xs) i y ≡ map f (take (suc i) xs) ++ drop (suc i) xs
-front f [] i x y below got is = absurd (omega arith)
-front f (z ∷ xs) zero x y below got is = ap (λ v. v ∷ xs) (is ∙ ap f got)
-front f (z ∷ xs) (suc i) x y below got is = ap (λ l. f z ∷ l) (front f xs i x y (omega arith) got is)
+front : {A : Type 0} (f : A → A) (xs : List A) (i : ℕ) (d y : A) → i < length xs → y ≡ f (get_or (map f (take i xs) ++ drop i xs) i d) → slice_set (map f (take i xs) ++ drop i xs) i y ≡ map f (take (suc i) xs) ++ drop (suc i) xs
+front f [] i d y below is = absurd (omega arith)
+front f (z ∷ xs) zero d y below is = ap (λ v. v ∷ xs) is
+front f (z ∷ xs) (suc i) d y below is = ap (λ l. f z ∷ l) (front f xs i d y (omega arith) is)
 
-pub front_more : {A : Type 0} (f : A → A) (xs ys : List A) (i : ℕ) (x y : A) → i < length xs → ys ≡ map f (take i xs) ++ drop i xs → x ≡ get_or ys i x → y ≡ f x → slice_set ys i y ≡ map f (take (i + 1) xs) ++ drop (i + 1) xs
-front_more f xs ys i x y below e got is = rw (e, add-one) (front f xs i x y below (subst (λ l. x ≡ get_or l i x) e got) is)
+pub front_more : {A : Type 0} (f : A → A) (xs ys : List A) (i : ℕ) (d y : A) → i < length xs → ys ≡ map f (take i xs) ++ drop i xs → y ≡ f (get_or ys i d) → slice_set ys i y ≡ map f (take (i + 1) xs) ++ drop (i + 1) xs
+front_more f xs ys i d y below e is = rw (e, add-one) (front f xs i d y below (subst (λ l. y ≡ f (get_or l i d)) e is))
 
 -- of keys in order, all but one
 later : (k : Ticket) (x : Ticket) (xs : List Ticket) → is_ticket k x ≡ true → AllByRecursion (λ y. ticket_cmp x y ≡ Less) xs → filter (λ y. not (is_ticket k y)) xs ≡ xs
