@@ -4,3 +4,5 @@ pub mod LockLaws
 pub mod Listed
 pub mod Steps
 pub mod Leaves
+pub mod Tables
+pub mod Fitting

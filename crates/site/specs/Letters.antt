@@ -78,6 +78,11 @@ body_of (Reply reply) = reply_body reply
 abbrev pub letter_of : letters.Letter → Letter local
 letter_of letter = record { site = letter.site; txn = txn_name letter.txn; body = body_of letter.body }
 
+-- the bodies that a reply makes, if there is one
+abbrev pub said_by : Option replies.Reply → List (Body local)
+said_by None = []
+said_by (Some reply) = reply_body reply ∷ []
+
 -- whether a reply is a vote NO
 abbrev pub is_no : Vote → Bool
 is_no protocol.No = true

@@ -1,7 +1,6 @@
 -- A site's state: what its store keeps, and what it has in memory.
-use Rattle.std.specs.Prelude.{◌≡◌, ℕ, ◌+◌, ◌<◌, ◌≤◌, ◌^◌, ◌⊎◌, Bool, true, false, List, [], ◌∷◌, map, length, Option, Some, None, is_some, if◌then◌else◌}
+use Rattle.std.specs.Prelude.{◌≡◌, ℕ, ◌+◌, ◌<◌, ◌≤◌, ◌⊎◌, Bool, true, false, List, [], ◌∷◌, map, Option, Some, None, is_some, if◌then◌else◌}
 use Rattle.std.specs.BTreeMap.{is_at}
-use Rattle.std.specs.List.{filter}
 use Rattle.std.specs.Map.{lookup, keys_of}
 use Rattle.std.specs.Option.{option_map}
 use Rattle.terms.specs.declared.leaf.Leaf.{Leaf}
@@ -13,13 +12,14 @@ use Rattle.store.specs.Name.{ticket_cmp}
 use Rattle.store.specs.SiteContent.{SiteContent}
 use Rattle.protocol.specs.Language.{Name}
 use Rattle.protocol.specs.Parts.{In}
-use Rattle.protocol.specs.Site.{SiteState, Status, Dead, Alive, Prepared, has_exclusive}
+use Rattle.store.specs.declared.reply.Reply.{Reply}
+use Rattle.protocol.specs.Site.{SiteState, Status, Dead, Alive, Prepared, Act, has_exclusive, site_after, said}
 use Rattle.site.specs.declared.locks.Locks.{Locks}
 use Rattle.site.specs.declared.present.Present.{Present}
 use Rattle.site.specs.declared.standing.Standing as standings
 use Rattle.site.specs.declared.standing.Standing.TheVariants as standing
 use Rattle.site.specs.Local.{local}
-use Rattle.site.specs.Letters.{name_of, ticket_of, txn_name}
+use Rattle.site.specs.Letters.{name_of, ticket_of, txn_name, said_by}
 use Rattle.site.specs.Locks.{reads, writes, is_foreign, locks_in}
 
 -- what is in memory, read ticket by ticket and leaf by leaf
@@ -79,12 +79,6 @@ is_visit (Some (standing.Prepared txn)) = false
 abbrev pub IsDrawn : Table → Ticket → Type 0
 IsDrawn table ticket = (ticket.life < table.life) ⊎ ((ticket.life ≡ table.life) × (ticket.visit ≤ table.number))
 
--- what a visit has done is below the limit
-abbrev pub IsShort : Option standings.Standing → Type 0
-IsShort None = Unit {0}
-IsShort (Some (standing.Alive visit)) = visit.done < 2 ^ 63
-IsShort (Some (standing.Prepared txn)) = Unit {0}
-
 -- what is in memory fits what the store keeps
 pub record Fits (kept : SiteContent) (table : Table) : Type 0 where
   -- the prepared tickets are those of the store's rows
@@ -100,8 +94,14 @@ pub record Fits (kept : SiteContent) (table : Table) : Type 0 where
   pub drawn : (ticket : Ticket) → is_some (table.standing ticket) ≡ true → IsDrawn table ticket
   pub fresh : (ticket : Ticket) → is_visit (table.standing ticket) ≡ true → (ticket.life ≡ table.life) × (ticket.visit ≤ table.number)
   pub released : (leaf : Leaf) → (table.locks leaf).released ≤ table.number
-  -- the limits are kept
-  pub short : (ticket : Ticket) → IsShort (table.standing ticket)
-  pub numbers : (table.life < 2 ^ 63) × (table.number < 2 ^ 63)
-  pub counted : length (filter (λ ticket. is_visit (table.standing ticket)) table.tickets) ≡ table.alive
-  pub few : table.alive ≤ 1024
+
+-- a step of the machine: what the act makes of the state, and what it says
+pub record Steps (old : SiteContent) (before : Table) (new : SiteContent) (after : Table) (act : Act local) (reply : Option Reply) : Type 0 where
+  pub fits : Fits new after
+  pub state : state_of new after ≡ site_after (state_of old before) act
+  pub says : said (state_of old before) act ≡ said_by reply
+
+-- nothing has happened
+pub record Stays (old : SiteContent) (before : Table) (new : SiteContent) (after : Table) : Type 0 where
+  pub fits : Fits new after
+  pub state : state_of new after ≡ state_of old before
