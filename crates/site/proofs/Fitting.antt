@@ -17,6 +17,7 @@ use Rattle.protocol.proofs.Basics.{if_true, if_false, clash, in_left, in_right, 
 use Rattle.protocol.proofs.Locks.{from_filter}
 use Rattle.site.specs.declared.locks.Locks as locks
 use Rattle.site.specs.declared.standing.Standing as standings
+use Rattle.site.specs.declared.standing.Visit as visits
 use Rattle.site.specs.declared.standing.Standing.TheVariants as standing
 use Rattle.site.specs.Local.{local}
 use Rattle.site.specs.Locks.{reads, writes, stops, stops_reading, stops_writing}
@@ -143,3 +144,62 @@ module _ (kept : SiteContent) (table : Table) (fits : Fits kept table) where
     has_still new g j apart is =
         sym (ap (λ r. has_exclusive g (stands new j r)) (others_row j apart)
         ∙ has_by new table j (kept.prepared j) g (ap (λ f. f j) is ∙ if_false (is_ticket k j) o (table.standing j) apart))
+
+    reads_apart : (g : Leaf) (j : Ticket) → is_ticket k j ≡ false → reads j (stops k table.number (table.locks g)) ≡ reads j (table.locks g)
+    reads_apart g j apart = reads-stops_writing j k table.number (stops_reading k table.number (table.locks g)) ∙ others-stops_reading j k table.number (table.locks g) (ticket_sym j k ∙ apart)
+
+    writes_apart : (g : Leaf) (j : Ticket) → is_ticket k j ≡ false → writes j (stops k table.number (table.locks g)) ≡ writes j (table.locks g)
+    writes_apart g j apart = others-stops_writing j k table.number (stops_reading k table.number (table.locks g)) (ticket_sym j k ∙ apart) ∙ writes-stops_reading j k table.number (table.locks g)
+
+  -- nothing stands behind a ticket any more, nor has the store a row
+  pub fits_gone : (k : Ticket) (after : SiteContent) (alive : ℕ) → ((j : Ticket) → after.prepared j ≡ (if is_ticket k j then None else kept.prepared j)) → after.life ≡ kept.life → Fits after (gone k alive table)
+  fits_gone k after alive rows life =
+      let left : List Ticket = filter (λ j. not (is_ticket k j)) table.tickets in
+      record {
+        prepared = matches k None None after alive rows life refl;
+        life = fits.life ∙ sym life;
+        listed = stood_all k None table.standing (λ j o. is_some o ≡ true → In j left) (λ e. cc) (λ j apart e. in_filter (λ x. not (is_ticket k x)) j table.tickets (fits.listed j e) (ap not apart));
+        lives = stood_all k None table.standing (λ j o. In j left → is_some o ≡ true)
+            (λ here. clash (from_filter (λ x. not (is_ticket k x)) k table.tickets here).1 (ap not (ticket_self k)))
+            (λ j apart here. fits.lives j (from_filter (λ x. not (is_ticket k x)) j table.tickets here).0);
+        readers = λ g. stood_all k None table.standing (λ j o. reads j (stops k table.number (table.locks g)) ≡ true → is_visit o ≡ true)
+            (λ e. clash e (reads-stops_writing k k table.number (stops_reading k table.number (table.locks g)) ∙ reads-stops_reading k table.number (table.locks g)))
+            (λ j apart e. fits.readers g j (sym (reads_apart k None None after alive rows life g j apart) ∙ e));
+        writers = λ g j. go g j (is_ticket k j) refl;
+        drawn = stood_all k None table.standing (λ j o. is_some o ≡ true → IsDrawn table j) (λ e. cc) (λ j apart. fits.drawn j);
+        fresh = stood_all k None table.standing (λ j o. is_visit o ≡ true → (j.life ≡ table.life) × (j.visit ≤ table.number)) (λ e. cc) (λ j apart. fits.fresh j);
+        released = λ g. released-stops_writing k table.number (stops_reading k table.number (table.locks g)) (released-stops_reading k table.number (table.locks g) (fits.released g));
+      }
+    where
+      go : (g : Leaf) (j : Ticket) (b : Bool) → is_ticket k j ≡ b → writes j (stops k table.number (table.locks g)) ≡ has_exclusive g (stands (gone k alive table) j (after.prepared j))
+      go g j true e = subst (λ i. writes i (stops k table.number (table.locks g)) ≡ has_exclusive g (stands (gone k alive table) i (after.prepared i))) (ticket_is k j e)
+          (writes-stops_writing k table.number (stops_reading k table.number (table.locks g))
+          ∙ sym (ap (λ r. has_exclusive g (stands (gone k alive table) k r)) (own_row k None None after alive rows life) ∙ ap (λ o. has_exclusive g (visiting (λ h. stops k table.number (table.locks h)) k o)) (if_true (is_ticket k k) None (table.standing k) (ticket_self k))))
+      go g j false e = writes_apart k None None after alive rows life g j e ∙ fits.writers g j ∙ has_still k None None after alive rows life (gone k alive table) g j e refl
+
+  -- a visit is prepared
+  pub fits_prepared : (k : Ticket) (txn : Txn) (visit : visits.Visit) → table.standing k ≡ Some (standing.Alive visit) → (after : SiteContent) →
+      ((j : Ticket) → after.prepared j ≡ (if is_ticket k j then Some (record { txn = txn; changes = visit.changes }) else kept.prepared j)) → after.life ≡ kept.life → Fits after (prepared k txn table)
+  fits_prepared k txn visit is after rows life =
+      let new = Some (standing.Prepared txn) in
+      let row = Some (record { txn = txn; changes = visit.changes }) in
+      record {
+        prepared = matches k new row after 0 rows life refl;
+        life = fits.life ∙ sym life;
+        listed = stood_all k new table.standing (λ j o. is_some o ≡ true → In j table.tickets) (λ e. fits.listed k (ap is_some is)) (λ j apart. fits.listed j);
+        lives = stood_all k new table.standing (λ j o. In j table.tickets → is_some o ≡ true) (λ here. refl) (λ j apart. fits.lives j);
+        readers = λ g. stood_all k new table.standing (λ j o. reads j (stops_reading k table.number (table.locks g)) ≡ true → is_visit o ≡ true)
+            (λ e. clash e (reads-stops_reading k table.number (table.locks g)))
+            (λ j apart e. fits.readers g j (sym (others-stops_reading j k table.number (table.locks g) (ticket_sym j k ∙ apart)) ∙ e));
+        writers = λ g j. go g j (is_ticket k j) refl;
+        drawn = stood_all k new table.standing (λ j o. is_some o ≡ true → IsDrawn table j) (λ e. fits.drawn k (ap is_some is)) (λ j apart. fits.drawn j);
+        fresh = stood_all k new table.standing (λ j o. is_visit o ≡ true → (j.life ≡ table.life) × (j.visit ≤ table.number)) (λ e. cc) (λ j apart. fits.fresh j);
+        released = λ g. released-stops_reading k table.number (table.locks g) (fits.released g);
+      }
+    where
+      go : (g : Leaf) (j : Ticket) (b : Bool) → is_ticket k j ≡ b → writes j (stops_reading k table.number (table.locks g)) ≡ has_exclusive g (stands (prepared k txn table) j (after.prepared j))
+      go g j true e = subst (λ i. writes i (stops_reading k table.number (table.locks g)) ≡ has_exclusive g (stands (prepared k txn table) i (after.prepared i))) (ticket_is k j e)
+          (writes-stops_reading k k table.number (table.locks g) ∙ fits.writers g k
+          ∙ ap (λ r. has_exclusive g (stands table k r)) (row_none kept table fits k (ap txn_in is)) ∙ ap (λ o. has_exclusive g (visiting table.locks k o)) is
+          ∙ sym (ap (λ r. has_exclusive g (stands (prepared k txn table) k r)) (own_row k (Some (standing.Prepared txn)) (Some (record { txn = txn; changes = visit.changes })) after 0 rows life)))
+      go g j false e = writes-stops_reading j k table.number (table.locks g) ∙ fits.writers g j ∙ has_still k (Some (standing.Prepared txn)) (Some (record { txn = txn; changes = visit.changes })) after 0 rows life (prepared k txn table) g j e refl

@@ -6,3 +6,4 @@ pub mod Steps
 pub mod Leaves
 pub mod Tables
 pub mod Fitting
+pub mod Ending
