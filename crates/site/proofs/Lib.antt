@@ -7,3 +7,5 @@ pub mod Leaves
 pub mod Tables
 pub mod Fitting
 pub mod Ending
+pub mod Acts
+pub mod Turns

@@ -25,7 +25,7 @@ use Rattle.site.specs.Moves.{stood, locked}
 use Rattle.site.proofs.Leaves.{removed}
 use Rattle.site.proofs.Tickets.{same_bool, ticket_is, ticket_self, ticket_same, ticket_sym, leaf_is, leaf_self, leaf_sym}
 
-abbrev Entries : Type 0
+abbrev pub Entries : Type 0
 Entries = List (Ticket × Standing)
 
 -- what stands at a ticket

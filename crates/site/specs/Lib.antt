@@ -4,5 +4,6 @@ pub mod Local
 pub mod Locks
 pub mod Letters
 pub mod Standing
+pub mod Turn
 pub mod State
 pub mod Moves

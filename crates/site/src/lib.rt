@@ -5,3 +5,5 @@ pub mod fault;
 mod locks;
 mod present;
 mod standing;
+mod turn;
+mod writing;

@@ -29,7 +29,7 @@ use terms::write::Write;
 const VISITS: u64 = 1024;
 
 /// The greatest number of a ticket, or of a visit's operation.
-const LAST: u64 = 0x7fff_ffff_ffff_ffff;
+pub(crate) const LAST: u64 = 0x7fff_ffff_ffff_ffff;
 
 /// What a site has in memory.
 #[derive(Drop)]

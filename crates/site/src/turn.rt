@@ -1,0 +1,135 @@
+//! What becomes of an operation of a visit.
+
+ghost use Rattle.std.specs.Prelude.{◌≡◌, ◌==◌, suc, IfOk};
+ghost use Rattle.std.specs.Option.{option_copied};
+ghost use Rattle.store.specs.Slot.{slot_of};
+ghost use Rattle.site.specs.Letters.{leaf_of, at_key};
+ghost use Rattle.site.specs.Local.{is_full};
+ghost use Rattle.site.specs.Turn.{read_turn, write_turn};
+
+use crate::locks::Locks;
+use crate::standing::{Standing, Visit};
+use store::changes::Changes;
+use store::name::Ticket;
+use store::reply::Reason;
+use store::slot::Slot;
+use terms::copy::TryCopy;
+use terms::leaf::Leaf;
+use terms::memory::Memory;
+use terms::write::Write;
+
+/// What becomes of an operation.
+#[derive(Clone, Copy)]
+pub(crate) enum Turn {
+    /// Nothing: its turn hasn't come, or has gone.
+    Pass,
+    /// There is no such visit.
+    Gone,
+    /// It is refused.
+    Refuse(Reason),
+    /// It is done.
+    Go,
+}
+
+/// What becomes of an operation that reads the leaf of these locks.
+pub(crate) fn read_turn(
+    ticket: &Ticket,
+    op: u64,
+    locks: &Locks,
+    standing: Option<&Standing>,
+) -> Turn
+    ensures { result ≡ read_turn ticket.now op locks.now (option_copied standing.entry) }
+{
+    let Some(standing) = standing else {
+        return Turn::Gone;
+    };
+    match standing {
+        Standing::Prepared(_) => Turn::Pass,
+        Standing::Alive(visit) => {
+            if !is_next(visit, op) {
+                Turn::Pass
+            } else if locks.others_write(ticket) {
+                Turn::Refuse(Reason::Lock)
+            } else {
+                Turn::Go
+            }
+        }
+    }
+}
+
+/// What becomes of an operation that writes the leaf of these locks.
+pub(crate) fn write_turn(
+    ticket: &Ticket,
+    op: u64,
+    write: &Write,
+    locks: &Locks,
+    standing: Option<&Standing>,
+) -> Result<Turn, Memory>
+    ensures { IfOk result (λ turn. turn ≡ write_turn ticket.now op (leaf_of write.now) (at_key write.now) locks.now (option_copied standing.entry)) }
+{
+    let Some(standing) = standing else {
+        return Ok(Turn::Pass);
+    };
+    match standing {
+        Standing::Prepared(_) => Ok(Turn::Pass),
+        Standing::Alive(visit) => {
+            if !is_next(visit, op) {
+                return Ok(Turn::Pass);
+            }
+            if locks.is_foreign(ticket) {
+                return Ok(Turn::Refuse(Reason::Lock));
+            }
+            if is_full(&visit.changes, write)? {
+                return Ok(Turn::Refuse(Reason::Full));
+            }
+            Ok(Turn::Go)
+        }
+    }
+}
+
+/// Whether this is the visit's next operation.
+fn is_next(visit: &Visit, op: u64) -> bool
+    ensures { result ≡ (op == suc visit.now.done) }
+{
+    op > 0 && op - 1 == visit.done
+}
+
+/// How many intentions a visit may have.
+const INTENTIONS: usize = 65_536;
+
+/// Whether the write would be one intention too many.
+fn is_full(changes: &Changes, write: &Write) -> Result<bool, Memory>
+    ensures { IfOk result (λ full. full ≡ is_full (leaf_of write.now) (at_key write.now) changes.now) }
+{
+    if changes.len() < INTENTIONS {
+        return Ok(false);
+    }
+    let slot = slot_of(write)?;
+    Ok(changes.get(&slot).is_none())
+}
+
+/// The slot of a write.
+fn slot_of(write: &Write) -> Result<Slot, Memory>
+    ensures { IfOk result (λ slot. slot ≡ slot_of (leaf_of write.now) (at_key write.now).0) }
+{
+    match write {
+        Write::Put(leaf, part) => Ok(Slot {
+            leaf: leaf.copy()?,
+            key: part.key(),
+        }),
+        Write::Del(leaf, key) => Ok(Slot {
+            leaf: leaf.copy()?,
+            key: *key,
+        }),
+    }
+}
+
+/// The leaf of a write.
+pub(crate) fn leaf_of(write: &Write) -> &Leaf
+    ensures { result.now ≡ leaf_of write.now }
+{
+    match write {
+        Write::Put(leaf, _) => leaf,
+        Write::Del(leaf, _) => leaf,
+    }
+}
