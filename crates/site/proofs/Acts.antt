@@ -99,10 +99,10 @@ module _ (kept : SiteContent) (entries : Entries) (ls : List locks.Locks) (alive
       ap (λ es. table_from es ls (alive + 1) life (number + 1)) (put_last (next_of table) begun entries above)
       ∙ (λ i. record { standing = λ j. last_there (next_of table) begun entries above j i; tickets = last_keys (next_of table) begun entries i; locks = λ g. locks_in g ls; alive = add-one alive i; life = life; number = add-one number i })
 
-  pub opens_steps : Steps kept table kept (table_from (insert_entry ticket_cmp entries (next_of table) begun) ls (alive + 1) life (number + 1)) Opens (Some (reply.Ticket (next_of table)))
-  opens_steps =
-      steps_at kept kept table _ (opened table) Opens (Some (reply.Ticket (next_of table))) opened_table
-      (record { fits = fits_opened kept table fits; state = opens_state kept table fits (fits_opened kept table fits); says = refl })
+  pub opens_steps : (answer : Option Reply) → answer ≡ Some (reply.Ticket (next_of table)) → Steps kept table kept (table_from (insert_entry ticket_cmp entries (next_of table) begun) ls (alive + 1) life (number + 1)) Opens answer
+  opens_steps answer is =
+      steps_at kept kept table _ (opened table) Opens answer opened_table
+      (record { fits = fits_opened kept table fits; state = opens_state kept table fits (fits_opened kept table fits); says = ap said_by (sym is) })
 
   -- ---- an operation
   module _ (k : Ticket) (v : visits.Visit) (visit : at_ticket entries k ≡ Some (standing.Alive v)) (op : ℕ) (leaf : Leaf) (place : ℕ) (place_is : place_in leaf ls ≡ Some place) where
@@ -222,3 +222,12 @@ module _ (kept : SiteContent) (entries : Entries) (ls : List locks.Locks) (alive
                 ∙ ap (site_after (state_of kept table)) (sym is);
             says = ap (said (state_of kept table)) is;
           })
+
+  -- ---- an operation is refused, and the visit ends
+  pub refused_steps : (k : Ticket) (left : ℕ) → IsStrictlySortedBy ticket_cmp (keys_of entries) → is_visit (table.standing k) ≡ true → (act : Act local) (reason : Reason) (answer : Option Reply) →
+      answer ≡ Some (reply.Refused (record { ticket = k; reason = reason })) → act ≡ Ends (name_of k) (protocol.Refused (name_of k) (reason_of reason) ∷ []) →
+      Steps kept table kept (table_from (remove_entry (is_at (ticket_cmp k)) entries) (map (stops k number) ls) left life number) act answer
+  refused_steps k left sorted visit act reason answer said is = ends_steps k left sorted visit act answer (is ∙ ap ends (sym said))
+    where
+      ends : Option Reply → Act local
+      ends a = Ends (name_of k) (said_by a)

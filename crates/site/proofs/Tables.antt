@@ -1,5 +1,5 @@
 -- What changes of the entries and of the locks make of what is read from them.
-use Rattle.std.proofs.Common.{◌≡◌, refl, sym, ap, ◌∙◌, subst, ℕ, zero, suc, ◌+◌, ◌-◌, ◌<◌, add-one, Bool, true, false, not, List, [], ◌∷◌, ◌++◌, map, length, Option, Some, None, IsSome, filter, cond, if◌then◌else◌, slice_get, slice_set, arith}
+use Rattle.std.proofs.Common.{◌≡◌, refl, sym, ap, ◌∙◌, subst, ℕ, zero, suc, ◌+◌, ◌-◌, ◌<◌, add-one, Bool, true, false, not, List, [], ◌∷◌, ◌++◌, map, length, Option, Some, None, IsSome, filter, cond, if◌then◌else◌, slice_get, slice_set, get_or, arith}
 use Rattle.std.specs.BTreeMap.{is_at, insert_entry}
 use Rattle.std.specs.Cmp.{eq_by_cmp_equiv}
 use Rattle.std.specs.List.{position_from, AllByRecursion}
@@ -17,7 +17,7 @@ use Rattle.store.specs.declared.name.Ticket.{Ticket}
 use Rattle.store.specs.Name.{ticket_cmp}
 use Rattle.store.specs.Orders.{ticket_cmp_total}
 use Rattle.store.specs.SiteContent.{is_ticket}
-use Rattle.protocol.proofs.Basics.{either, either_if, if_true, if_false, clash}
+use Rattle.protocol.proofs.Basics.{either, either_if, if_true, if_false, clash, some_is}
 use Rattle.site.specs.declared.locks.Locks.{Locks}
 use Rattle.site.specs.declared.standing.Standing.{Standing}
 use Rattle.site.specs.Locks.{free, reads, writes, locks_in, place_in, with_reader, with_writer, stops, stops_reading, stops_writing}
@@ -155,3 +155,13 @@ locked_there leaf ls place is step keeps g =
     go : (b : Bool) → is_eq (leaf_cmp g leaf) ≡ b → (if b then step (locks_in leaf ls) else locks_in g ls) ≡ (if b then step (locks_in g ls) else locks_in g ls)
     go true e = ap (λ h. step (locks_in h ls)) (sym (leaf_is g leaf e))
     go false e = refl
+
+-- a place that was found in the code's slice
+pub placed : (leaf found : Leaf) (ls slice : List Locks) (place : ℕ) → Some place ≡ place_in found slice → found ≡ leaf → slice ≡ ls → IsPlace leaf place ls
+placed leaf found ls slice place is same all = is_place leaf ls place (let e : place_in leaf ls ≡ Some place = sym (is ∙ ap (λ f. place_in f slice) same ∙ ap (place_in leaf) all) in e)
+
+pub got : {A : Type 0} (xs : List A) (i : ℕ) (v d : A) → slice_get xs i ≡ Some v → get_or xs i d ≡ v
+got [] zero v d e = cc
+got [] (suc i) v d e = cc
+got (x ∷ xs) zero v d e = some_is e
+got (x ∷ xs) (suc i) v d e = got xs i v d e

@@ -1,13 +1,18 @@
 //! What becomes of an operation of a visit.
 
-ghost use Rattle.std.specs.Prelude.{◌≡◌, ◌==◌, suc, IfOk};
+ghost use Rattle.std.specs.Prelude.{◌≡◌, ◌<◌, ◌==◌, suc, Some, None, Err, IfOk, length};
+ghost use Rattle.site.specs.declared.fault.SiteFault.TheVariants as faults;
+ghost use Rattle.site.specs.Locks.{place_in};
+ghost use Rattle.site.specs.State.{table_of};
 ghost use Rattle.std.specs.Option.{option_copied};
 ghost use Rattle.store.specs.Slot.{slot_of};
 ghost use Rattle.site.specs.Letters.{leaf_of, at_key};
 ghost use Rattle.site.specs.Local.{is_full};
 ghost use Rattle.site.specs.Turn.{read_turn, write_turn};
 
-use crate::locks::Locks;
+use crate::fault::SiteFault;
+use crate::locks::{Locks, place_of};
+use crate::present::Present;
 use crate::standing::{Standing, Visit};
 use store::changes::Changes;
 use store::name::Ticket;
@@ -32,7 +37,7 @@ pub(crate) enum Turn {
 }
 
 /// What becomes of an operation that reads the leaf of these locks.
-pub(crate) fn read_turn(
+fn read_turn(
     ticket: &Ticket,
     op: u64,
     locks: &Locks,
@@ -58,7 +63,7 @@ pub(crate) fn read_turn(
 }
 
 /// What becomes of an operation that writes the leaf of these locks.
-pub(crate) fn write_turn(
+fn write_turn(
     ticket: &Ticket,
     op: u64,
     write: &Write,
@@ -125,11 +130,53 @@ fn slot_of(write: &Write) -> Result<Slot, Memory>
 }
 
 /// The leaf of a write.
-pub(crate) fn leaf_of(write: &Write) -> &Leaf
+fn leaf_of(write: &Write) -> &Leaf
     ensures { result.now ≡ leaf_of write.now }
 {
     match write {
         Write::Put(leaf, _) => leaf,
         Write::Del(leaf, _) => leaf,
+    }
+}
+
+/// The place of the leaf that an operation reads, and what becomes of the operation.
+pub(crate) fn turn_to_read(
+    present: &Present,
+    ticket: &Ticket,
+    op: u64,
+    leaf: &Leaf,
+) -> Result<(usize, Turn), SiteFault>
+    ensures place { IfOk result (λ found. place_in leaf.now present.now.locks.items ≡ Some found.0) }
+    ensures below { IfOk result (λ found. found.0 < length present.now.locks.items) }
+    ensures turn { IfOk result (λ found. found.1 ≡ read_turn ticket.now op ((table_of present.now).locks leaf.now) ((table_of present.now).standing ticket.now)) }
+    ensures stranger { place_in leaf.now present.now.locks.items ≡ None → result ≡ Err faults.Stranger }
+    ensures own { result ≡ Err faults.Stranger → place_in leaf.now present.now.locks.items ≡ None }
+{
+    let Some(place) = place_of(present.locks.as_slice(), leaf) else {
+        return Err(SiteFault::Stranger);
+    };
+    let turn = read_turn(ticket, op, &present.locks[place], present.standing(ticket));
+    Ok((place, turn))
+}
+
+/// The place of the leaf that an operation writes, and what becomes of the operation.
+pub(crate) fn turn_to_write(
+    present: &Present,
+    ticket: &Ticket,
+    op: u64,
+    write: &Write,
+) -> Result<(usize, Turn), SiteFault>
+    ensures place { IfOk result (λ found. place_in (leaf_of write.now) present.now.locks.items ≡ Some found.0) }
+    ensures below { IfOk result (λ found. found.0 < length present.now.locks.items) }
+    ensures turn { IfOk result (λ found. found.1 ≡ write_turn ticket.now op (leaf_of write.now) (at_key write.now) ((table_of present.now).locks (leaf_of write.now)) ((table_of present.now).standing ticket.now)) }
+    ensures stranger { place_in (leaf_of write.now) present.now.locks.items ≡ None → result ≡ Err faults.Stranger }
+    ensures own { result ≡ Err faults.Stranger → place_in (leaf_of write.now) present.now.locks.items ≡ None }
+{
+    let Some(place) = place_of(present.locks.as_slice(), leaf_of(write)) else {
+        return Err(SiteFault::Stranger);
+    };
+    match write_turn(ticket, op, write, &present.locks[place], present.standing(ticket)) {
+        Ok(turn) => Ok((place, turn)),
+        Err(_) => Err(SiteFault::Memory),
     }
 }

@@ -10,9 +10,8 @@ ghost use Rattle.site.specs.Locks.{place_in};
 ghost use Rattle.site.specs.State.{Fits, Steps, state_of, table_of};
 
 use crate::fault::SiteFault;
-use crate::locks::place_of;
 use crate::present::{LAST, Present};
-use crate::turn::{Turn, leaf_of, write_turn};
+use crate::turn::{Turn, turn_to_write};
 use store::name::Ticket;
 use store::order::Intention;
 use store::reply::{Reason, Refusal, Reply};
@@ -46,11 +45,7 @@ pub(crate) fn intend(
     ensures err { OnErr result (table_of present.new ≡ table_of present.old) }
 {
     let Intention { ticket, op, write } = intention;
-    let Some(place) = place_of(present.locks.as_slice(), leaf_of(&write)) else {
-        return Err(SiteFault::Stranger);
-    };
-    let standing = present.standing(&ticket);
-    let turn = write_turn(&ticket, op, &write, &present.locks[place], standing)?;
+    let (place, turn) = turn_to_write(present, &ticket, op, &write)?;
     match turn {
         Turn::Pass => Ok(None),
         Turn::Gone => Ok(None),
