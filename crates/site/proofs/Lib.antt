@@ -6,6 +6,6 @@ pub mod Steps
 pub mod Leaves
 pub mod Tables
 pub mod Fitting
-pub mod Ending
+pub mod Endings
 pub mod Acts
 pub mod Turns

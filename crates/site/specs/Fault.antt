@@ -1,6 +1,7 @@
 -- Faults of a site: their names and numbers.
 use Rattle.std.specs.Prelude.{ℕ, List, codes}
 use Rattle.store.specs.declared.fault.StoreFault.{StoreFault}
+use Rattle.store.specs.declared.fault.StoreFault.TheVariants as store
 use Rattle.site.specs.declared.fault.SiteFault.{SiteFault}
 use Rattle.site.specs.declared.fault.SiteFault.TheVariants.{Memory, Store, Full, Stranger}
 
@@ -15,3 +16,9 @@ fault_number Memory = 1
 fault_number (Store fault) = 2
 fault_number Full = 3
 fault_number Stranger = 4
+
+-- a store's fault as the site's
+abbrev pub fault_of : StoreFault → SiteFault
+fault_of store.Memory = Memory
+fault_of store.Refused = Store store.Refused
+fault_of store.Damaged = Store store.Damaged

@@ -83,11 +83,18 @@ abbrev pub said_by : Option replies.Reply → List (Body local)
 said_by None = []
 said_by (Some reply) = reply_body reply ∷ []
 
--- whether a reply is a vote NO
-abbrev pub is_no : Vote → Bool
-is_no protocol.No = true
-is_no vote = false
+-- whether a vote is NO
+abbrev pub is_no : votes.Vote → Bool
+is_no vote.Yes = false
+is_no vote.No = true
+is_no vote.Read = false
 
-abbrev pub votes_no : Body local → Bool
-votes_no (protocol.Voted ticket vote) = is_no vote
-votes_no body = false
+-- whether the step's store call was kept, where it was answered: only a vote NO may come of a call that wasn't
+abbrev pub kept_by : Option replies.Reply → Bool
+kept_by None = true
+kept_by (Some (reply.Ticket ticket)) = true
+kept_by (Some (reply.Rows rows)) = true
+kept_by (Some (reply.Refused refusal)) = true
+kept_by (Some (reply.Voted voted)) = not (is_no voted.vote)
+kept_by (Some (reply.Ack ticket)) = true
+kept_by (Some (reply.Inquire ticket)) = true

@@ -75,6 +75,12 @@ is_visit None = false
 is_visit (Some (standing.Alive visit)) = true
 is_visit (Some (standing.Prepared txn)) = false
 
+-- whether a prepared row stands there
+abbrev pub is_row : Option standings.Standing → Bool
+is_row None = false
+is_row (Some (standing.Alive visit)) = false
+is_row (Some (standing.Prepared txn)) = true
+
 -- a ticket was drawn in an earlier life, or in this one
 abbrev pub IsDrawn : Table → Ticket → Type 0
 IsDrawn table ticket = (ticket.life < table.life) ⊎ ((ticket.life ≡ table.life) × (ticket.visit ≤ table.number))

@@ -1,7 +1,7 @@
 //! Why a site's call was refused.
 
 ghost use Rattle.std.specs.Prelude.{◌≡◌, Some};
-ghost use Rattle.site.specs.Fault.{fault_name, fault_number};
+ghost use Rattle.site.specs.Fault.{fault_name, fault_number, fault_of};
 
 use std::alloc::AllocFailed;
 use std::fmt;
@@ -76,5 +76,15 @@ impl<T: Drop> From<AllocFailed<T>> for SiteFault {
 
     fn from(_error: AllocFailed<T>) -> SiteFault {
         SiteFault::Memory
+    }
+}
+
+/// A store's fault as the site's.
+pub(crate) fn site_fault(fault: StoreFault) -> SiteFault
+    ensures { result ≡ fault_of fault }
+{
+    match fault {
+        StoreFault::Memory => SiteFault::Memory,
+        _ => SiteFault::Store(fault),
     }
 }

@@ -2,6 +2,7 @@
 #![tactic(auto)]
 
 pub mod fault;
+mod ending;
 mod locks;
 mod present;
 mod standing;

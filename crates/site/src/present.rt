@@ -12,7 +12,7 @@ ghost use Rattle.site.specs.declared.standing.Standing.{Standing as StandingNow}
 ghost use Rattle.site.specs.declared.standing.Standing.TheVariants as standing;
 ghost use Rattle.site.specs.Locks.{with_reader, with_writer, stops, stops_reading};
 ghost use Rattle.site.specs.Standing.{with_done, intends};
-ghost use Rattle.site.specs.State.{table_of, table_from};
+ghost use Rattle.site.specs.State.{table_of, table_from, is_visit, is_row};
 ghost use Rattle.site.specs.Moves.{next_of};
 
 use crate::fault::SiteFault;
@@ -53,6 +53,26 @@ impl Present {
         ensures { option_copied result ≡ (table_of self.now).standing ticket.now }
     {
         self.standings.get(ticket)
+    }
+
+    /// Whether a visit stands behind a ticket.
+    pub(crate) fn is_visit(&self, ticket: &Ticket) -> bool
+        ensures { result ≡ is_visit ((table_of self.now).standing ticket.now) }
+    {
+        match self.standing(ticket) {
+            Some(standing) => standing.is_visit(),
+            None => false,
+        }
+    }
+
+    /// Whether a prepared row does.
+    pub(crate) fn is_prepared(&self, ticket: &Ticket) -> bool
+        ensures { result ≡ is_row ((table_of self.now).standing ticket.now) }
+    {
+        match self.standing(ticket) {
+            Some(standing) => !standing.is_visit(),
+            None => false,
+        }
     }
 
     /// Begins a visit, and draws its ticket.

@@ -7,6 +7,7 @@ ghost use Rattle.std.specs.Map.{set_value};
 ghost use Rattle.store.specs.Name.{ticket_cmp};
 ghost use Rattle.site.specs.declared.standing.Standing.{Standing as StandingNow};
 ghost use Rattle.site.specs.declared.standing.Standing.TheVariants as standing;
+ghost use Rattle.site.specs.State.{is_visit};
 ghost use Rattle.site.specs.Standing.{with_change, with_done, intends, with_changes, changes_in};
 
 use std::collections::BTreeMap;
@@ -36,6 +37,16 @@ pub(crate) enum Standing {
 pub(crate) type Standings = BTreeMap<Ticket, Standing>;
 
 impl Standing {
+    /// Whether this is a visit.
+    pub(crate) fn is_visit(&self) -> bool
+        ensures { result ≡ is_visit (Some self.now) }
+    {
+        match self {
+            Standing::Alive(_) => true,
+            Standing::Prepared(_) => false,
+        }
+    }
+
     /// A visit has done this operation.
     fn set_done(&mut self, op: u64)
         ensures { self.new ≡ with_done op self.old }

@@ -8,7 +8,7 @@ ghost use Rattle.std.specs.Option.{option_copied};
 ghost use Rattle.store.specs.Slot.{slot_of};
 ghost use Rattle.site.specs.Letters.{leaf_of, at_key};
 ghost use Rattle.site.specs.Local.{is_full};
-ghost use Rattle.site.specs.Turn.{read_turn, write_turn};
+ghost use Rattle.site.specs.Turn.{ballot, read_turn, write_turn};
 
 use crate::fault::SiteFault;
 use crate::locks::{Locks, place_of};
@@ -16,7 +16,7 @@ use crate::present::Present;
 use crate::standing::{Standing, Visit};
 use store::changes::Changes;
 use store::name::Ticket;
-use store::reply::Reason;
+use store::reply::{Reason, Vote};
 use store::slot::Slot;
 use terms::copy::TryCopy;
 use terms::leaf::Leaf;
@@ -178,5 +178,43 @@ pub(crate) fn turn_to_write(
     match write_turn(ticket, op, write, &present.locks[place], present.standing(ticket)) {
         Ok(turn) => Ok((place, turn)),
         Err(_) => Err(SiteFault::Memory),
+    }
+}
+
+/// What becomes of a prepare.
+#[derive(Clone, Copy)]
+pub(crate) enum Ballot {
+    /// The vote, and nothing else.
+    Stands(Vote),
+    /// The vote, and the visit ends.
+    Ends(Vote),
+    /// The store is to keep what the visit intends.
+    Keeps,
+}
+
+/// What becomes of a prepare that counts so many operations.
+pub(crate) fn ballot_at(present: &Present, ticket: &Ticket, count: u64) -> Ballot
+    ensures { result ≡ ballot count ((table_of present.now).standing ticket.now) }
+{
+    match present.standing(ticket) {
+        Some(standing) => ballot_of(standing, count),
+        None => Ballot::Stands(Vote::No),
+    }
+}
+
+fn ballot_of(standing: &Standing, count: u64) -> Ballot
+    ensures { result ≡ ballot count (Some standing.now) }
+{
+    match standing {
+        Standing::Prepared(_) => Ballot::Stands(Vote::Yes),
+        Standing::Alive(visit) => {
+            if visit.done != count {
+                Ballot::Ends(Vote::No)
+            } else if visit.changes.len() == 0 {
+                Ballot::Ends(Vote::Read)
+            } else {
+                Ballot::Keeps
+            }
+        }
     }
 }
