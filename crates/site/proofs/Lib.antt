@@ -9,3 +9,4 @@ pub mod Fitting
 pub mod Endings
 pub mod Acts
 pub mod Turns
+pub mod Finals
