@@ -5,5 +5,6 @@ pub mod Locks
 pub mod Letters
 pub mod Standing
 pub mod Turn
+pub mod Rows
 pub mod State
 pub mod Moves

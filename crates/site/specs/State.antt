@@ -1,13 +1,14 @@
 -- A site's state: what its store keeps, and what it has in memory.
 use Rattle.std.specs.Prelude.{◌≡◌, ℕ, ◌+◌, ◌<◌, ◌≤◌, ◌⊎◌, Bool, true, false, List, [], ◌∷◌, map, Option, Some, None, is_some, if◌then◌else◌}
 use Rattle.std.specs.BTreeMap.{is_at}
+use Rattle.std.specs.FinMap as fin
 use Rattle.std.specs.Map.{lookup, keys_of}
 use Rattle.std.specs.Option.{option_map}
 use Rattle.terms.specs.declared.leaf.Leaf.{Leaf}
 use Rattle.store.specs.declared.name.Ticket.{Ticket}
 use Rattle.store.specs.declared.name.Txn.{Txn}
 use Rattle.store.specs.declared.prepared.Prepared.{Prepared as Row}
-use Rattle.store.specs.Content.{touches}
+use Rattle.store.specs.Content.{Changes}
 use Rattle.store.specs.Name.{ticket_cmp}
 use Rattle.store.specs.SiteContent.{SiteContent}
 use Rattle.protocol.specs.Language.{Name}
@@ -80,6 +81,15 @@ abbrev pub is_row : Option standings.Standing → Bool
 is_row None = false
 is_row (Some (standing.Alive visit)) = false
 is_row (Some (standing.Prepared txn)) = true
+
+-- what a visit intends
+abbrev pub changes_of : Option standings.Standing → Changes
+changes_of None = fin.empty
+changes_of (Some (standing.Alive visit)) = visit.changes
+changes_of (Some (standing.Prepared txn)) = fin.empty
+
+abbrev pub changes_at : Table → Ticket → Changes
+changes_at table ticket = changes_of (table.standing ticket)
 
 -- a ticket was drawn in an earlier life, or in this one
 abbrev pub IsDrawn : Table → Ticket → Type 0

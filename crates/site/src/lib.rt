@@ -5,6 +5,8 @@ pub mod fault;
 mod ending;
 mod locks;
 mod present;
+mod reading;
+mod rows;
 mod standing;
 mod turn;
 mod writing;

@@ -1,6 +1,6 @@
 //! What a site has in memory, and a restart loses.
 
-ghost use Rattle.std.specs.Prelude.{◌≡◌, ◌+◌, ◌-◌, ◌^◌, ◌<◌, ◌≤◌, ◌⊎◌, Some, IfOk, IfErr, OnOk, OnErr, length, map, slice_get, slice_set};
+ghost use Rattle.std.specs.Prelude.{◌≡◌, ◌+◌, ◌-◌, ◌^◌, ◌<◌, ◌≤◌, ◌⊎◌, Some, IfOk, IfErr, OnOk, OnErr, length, map, slice_get, slice_set, unwrap_or};
 ghost use Rattle.std.specs.BTreeMap.{insert_entry, is_at, IsOrdered};
 ghost use Rattle.std.specs.FinMap as fin;
 ghost use Rattle.std.specs.Map.{set_value, remove_entry};
@@ -12,7 +12,7 @@ ghost use Rattle.site.specs.declared.standing.Standing.{Standing as StandingNow}
 ghost use Rattle.site.specs.declared.standing.Standing.TheVariants as standing;
 ghost use Rattle.site.specs.Locks.{with_reader, with_writer, stops, stops_reading};
 ghost use Rattle.site.specs.Standing.{with_done, intends};
-ghost use Rattle.site.specs.State.{table_of, table_from, is_visit, is_row};
+ghost use Rattle.site.specs.State.{table_of, table_from, is_visit, is_row, changes_at};
 ghost use Rattle.site.specs.Moves.{next_of};
 
 use crate::fault::SiteFault;
@@ -72,6 +72,16 @@ impl Present {
         match self.standing(ticket) {
             Some(standing) => !standing.is_visit(),
             None => false,
+        }
+    }
+
+    /// What a visit intends.
+    pub(crate) fn changes(&self, ticket: &Ticket) -> Option<&Changes>
+        ensures { unwrap_or (option_copied result) fin.empty ≡ changes_at (table_of self.now) ticket.now }
+    {
+        match self.standing(ticket) {
+            Some(standing) => standing.changes(),
+            None => None,
         }
     }
 

@@ -1,13 +1,15 @@
 //! What stands behind tickets.
 
-ghost use Rattle.std.specs.Prelude.{◌≡◌, Some, OnOk, OnErr};
+ghost use Rattle.std.specs.Prelude.{◌≡◌, Some, OnOk, OnErr, unwrap_or};
 ghost use Rattle.std.specs.BTreeMap.{is_at};
 ghost use Rattle.std.specs.BTreeMap as tree;
+ghost use Rattle.std.specs.FinMap as map;
 ghost use Rattle.std.specs.Map.{set_value};
+ghost use Rattle.std.specs.Option.{option_copied};
 ghost use Rattle.store.specs.Name.{ticket_cmp};
 ghost use Rattle.site.specs.declared.standing.Standing.{Standing as StandingNow};
 ghost use Rattle.site.specs.declared.standing.Standing.TheVariants as standing;
-ghost use Rattle.site.specs.State.{is_visit};
+ghost use Rattle.site.specs.State.{is_visit, changes_of};
 ghost use Rattle.site.specs.Standing.{with_change, with_done, intends, with_changes, changes_in};
 
 use std::collections::BTreeMap;
@@ -44,6 +46,16 @@ impl Standing {
         match self {
             Standing::Alive(_) => true,
             Standing::Prepared(_) => false,
+        }
+    }
+
+    /// What a visit intends.
+    pub(crate) fn changes(&self) -> Option<&Changes>
+        ensures { unwrap_or (option_copied result) map.empty ≡ changes_of (Some self.now) }
+    {
+        match self {
+            Standing::Alive(visit) => Some(&visit.changes),
+            Standing::Prepared(_) => None,
         }
     }
 
