@@ -10,3 +10,4 @@ pub mod Endings
 pub mod Acts
 pub mod Turns
 pub mod Finals
+pub mod Fetched

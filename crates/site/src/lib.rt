@@ -7,6 +7,7 @@ mod locks;
 mod present;
 mod reading;
 mod rows;
+pub mod site;
 mod standing;
 mod turn;
 mod writing;
