@@ -33,7 +33,7 @@ use Rattle.site.specs.declared.standing.Visit as visits
 use Rattle.site.specs.Local.{local, AtKey}
 use Rattle.site.specs.Letters.{name_of, ticket_of, txn_name, said_by, reason_of}
 use Rattle.site.specs.Locks.{reads, writes, is_writer, is_other, others_write, is_foreign, locks_in, place_in, with_reader, with_writer, stops, stops_reading}
-use Rattle.site.specs.State.{Table, Fits, Steps, Stays, table_from, state_of, stands, visiting, is_visit, txn_in}
+use Rattle.site.specs.State.{Table, Fits, Steps, table_from, state_of, stands, visiting, is_visit, txn_in}
 use Rattle.site.specs.Moves.{next_of, stood, locked, opened, gone, prepared}
 use Rattle.site.proofs.Endings.{ended_state, prepared_state}
 use Rattle.site.proofs.Fitting.{fits_opened, fits_operated, fits_gone, fits_prepared}

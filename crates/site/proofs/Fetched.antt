@@ -19,7 +19,11 @@ use Rattle.store.specs.ContentLaws.{same_content, get-made_by, made_over}
 use Rattle.store.specs.SiteContent.{SiteContent, IsUnchanged}
 use Rattle.store.proofs.Scans.{and_left, and_right, find_below}
 use Rattle.protocol.proofs.Basics.{or_none_left, or_none_right, if_false}
+use Rattle.store.specs.declared.reply.Reply.{Reply}
+use Rattle.protocol.specs.Site.{Act}
+use Rattle.site.specs.Local.{local}
 use Rattle.site.specs.Rows.{stored}
+use Rattle.site.specs.State.{Table, Steps}
 use Rattle.site.proofs.Tickets.{is_equal}
 
 -- one part more
@@ -101,3 +105,7 @@ untouched_same leaf changes content e = untouched leaf (fin.entries changes) con
 -- what is unchanged is the same
 pub unchanged_is : (old new : SiteContent) → IsUnchanged old new → old ≡ new
 unchanged_is old new same = λ i. record { content = λ leaf. sym (same.content leaf) i; prepared = λ ticket. sym (same.prepared ticket) i; life = sym same.life i }
+
+-- a step over a store that is unchanged
+pub moves : (old new : SiteContent) (before after : Table) (act : Act local) (answer : Option Reply) → IsUnchanged old new → Steps old before old after act answer → Steps old before new after act answer
+moves old new before after act answer same steps = subst (λ c. Steps old before c after act answer) (unchanged_is old new same) steps

@@ -98,3 +98,17 @@ kept_by (Some (reply.Refused refusal)) = true
 kept_by (Some (reply.Voted voted)) = not (is_no voted.vote)
 kept_by (Some (reply.Ack ticket)) = true
 kept_by (Some (reply.Inquire ticket)) = true
+
+-- the letter of a reply, if there is one
+abbrev pub letters_of : List ℕ → txns.Txn → Option replies.Reply → List letters.Letter
+letters_of site txn None = []
+letters_of site txn (Some reply) = record { site = site; txn = txn; body = Reply reply } ∷ []
+
+-- whether the step's store call was kept, by the letters that were answered
+abbrev pub kept_body : bodies.Body → Bool
+kept_body (Order order) = true
+kept_body (Reply reply) = kept_by (Some reply)
+
+abbrev pub kept_in : List letters.Letter → Bool
+kept_in [] = true
+kept_in (letter ∷ letters) = kept_body letter.body

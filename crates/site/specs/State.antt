@@ -14,13 +14,15 @@ use Rattle.store.specs.SiteContent.{SiteContent}
 use Rattle.protocol.specs.Language.{Name}
 use Rattle.protocol.specs.Parts.{In}
 use Rattle.store.specs.declared.reply.Reply.{Reply}
-use Rattle.protocol.specs.Site.{SiteState, Status, Dead, Alive, Prepared, Act, has_exclusive, site_after, said}
+use Rattle.protocol.specs.Site.{SiteState, Status, Dead, Alive, Prepared, Act, has_exclusive, site_after, said, on_letter}
+use Rattle.protocol.specs.World.{addressed}
+use Rattle.store.specs.declared.letter.Letter.{Letter}
 use Rattle.site.specs.declared.locks.Locks.{Locks}
 use Rattle.site.specs.declared.present.Present.{Present}
 use Rattle.site.specs.declared.standing.Standing as standings
 use Rattle.site.specs.declared.standing.Standing.TheVariants as standing
 use Rattle.site.specs.Local.{local}
-use Rattle.site.specs.Letters.{name_of, ticket_of, txn_name, said_by}
+use Rattle.site.specs.Letters.{name_of, ticket_of, txn_name, said_by, body_of, letter_of, kept_in}
 use Rattle.site.specs.Locks.{reads, writes, is_foreign, locks_in}
 
 -- what is in memory, read ticket by ticket and leaf by leaf
@@ -117,7 +119,12 @@ pub record Steps (old : SiteContent) (before : Table) (new : SiteContent) (after
   pub state : state_of new after ≡ site_after (state_of old before) act
   pub says : said (state_of old before) act ≡ said_by reply
 
--- nothing has happened
-pub record Stays (old : SiteContent) (before : Table) (new : SiteContent) (after : Table) : Type 0 where
+-- what the table says of a letter
+abbrev pub act_on : SiteContent → Table → Letter → List Letter → Act local
+act_on old before letter letters = on_letter (state_of old before) (txn_name letter.txn) (kept_in letters) (body_of letter.body)
+
+-- a letter comes: the state is the table's, and so is what is answered
+pub record Takes (old : SiteContent) (before : Table) (new : SiteContent) (after : Table) (letter : Letter) (letters : List Letter) : Type 0 where
   pub fits : Fits new after
-  pub state : state_of new after ≡ state_of old before
+  pub state : state_of new after ≡ site_after (state_of old before) (act_on old before letter letters)
+  pub says : map letter_of letters ≡ addressed letter.site (txn_name letter.txn) (said (state_of old before) (act_on old before letter letters))

@@ -1,5 +1,5 @@
 -- Why `fetch` meets its contract.
-use Rattle.std.proofs.Common.{◌≡◌, true, [], ◌∷◌, List, refl, sym, ap, ◌∙◌, subst}
+use Rattle.std.proofs.Common.{◌≡◌, true, [], ◌∷◌, List, refl, sym, ap, ◌∙◌}
 use Rattle.std.specs.Ordering.{is_eq}
 use Rattle.terms.specs.declared.value.Value.{Value}
 use Rattle.terms.specs.Leaf.{leaf_cmp}
@@ -11,9 +11,9 @@ use Rattle.site.specs.declared.standing.Standing.TheVariants as standing
 use Rattle.site.specs.Letters.{name_of}
 use Rattle.site.specs.Local.{local}
 use Rattle.site.specs.Locks.{locks_in}
-use Rattle.site.specs.State.{Steps, table_of, changes_of}
+use Rattle.site.specs.State.{table_of, changes_of}
 use Rattle.site.proofs.Acts.{steps_at, refused_steps, reads_steps}
-use Rattle.site.proofs.Fetched.{unchanged_is}
+use Rattle.site.proofs.Fetched.{moves}
 use Rattle.site.proofs.Tables.{is_place}
 use Rattle.site.proofs.Turns.{read_refused, read_goes, visit_of}
 use Rattle.site.proofs.reading.fetch.Goals as goal
@@ -39,6 +39,6 @@ returns-clause-ok g c = λ clean sound fits.
     let at = is_place leaf p.locks.items c.in_ok-place.place c.in_ok-place.ensures.place in
     let rows = c.new.ensures ∙ c.in_ok-parts-in-Go.ensures.rows clean sound ∙ ap (λ o. parts conds (changed leaf (changes_of o) (kept.content leaf))) r.stands_there in
     let act : List (List Value) → Act local = λ found. Locks (name_of k) (record (visit_of (table_of p) k r.visit) { done = op; shared = put (λ a b. is_eq (leaf_cmp a b)) leaf true (visit_of (table_of p) k r.visit).shared }) leaf (protocol.Rows (name_of k) op found ∷ []) in
-    subst (λ after. Steps kept (table_of p) after (table_of c.read.new.self) _ _) (unchanged_is kept (g.S.SiteStore.kept c.rows.new.store) (c.in_ok-parts-in-Go.ensures.same clean sound))
+    moves kept (g.S.SiteStore.kept c.rows.new.store) (table_of p) (table_of c.read.new.self) _ _ (c.in_ok-parts-in-Go.ensures.same clean sound)
     (steps_at kept kept (table_of p) (table_of c.read.new.self) _ _ _ (c.in_ok-read-in-Go.ensures.ok (standing.Alive r.visit) (locks_in leaf p.locks.items) r.stands_there at.here)
     (reads_steps kept p.standings.entries p.locks.items p.alive p.life p.number fits k r.visit r.stands_there op leaf c.in_ok-place.place c.in_ok-place.ensures.place _ _ (r.act_is ∙ ap act (sym rows))))
