@@ -110,8 +110,14 @@ module _ (kept : SiteContent) (entries : Entries) (ls : List locks.Locks) (alive
         table_from (set_value (is_at (ticket_cmp k)) entries (standing.Alive (record { done = op; changes = changes }))) (slice_set ls place (step (locks_in leaf ls))) alive life number
         ≡ record table { standing = stood k (Some (standing.Alive (record { done = op; changes = changes }))) table.standing; locks = locked leaf step table.locks }
     operated_table changes step keeps =
-        λ i. record { standing = λ j. set_there k entries (standing.Alive (record { done = op; changes = changes })) (standing.Alive v) visit j i; tickets = set_keys k entries (standing.Alive (record { done = op; changes = changes })) i;
-          locks = λ g. locked_there leaf ls place place_is step keeps g i; alive = alive; life = life; number = number }
+        λ i. record {
+          standing = λ j. set_there k entries (standing.Alive (record { done = op; changes = changes })) (standing.Alive v) visit j i;
+          tickets = set_keys k entries (standing.Alive (record { done = op; changes = changes })) i;
+          locks = λ g. locked_there leaf ls place place_is step keeps g i;
+          alive = alive;
+          life = life;
+          number = number;
+        }
 
     no_row : kept.prepared k ≡ None
     no_row = row_none kept table fits k (ap txn_in visit)
@@ -152,8 +158,8 @@ module _ (kept : SiteContent) (entries : Entries) (ls : List locks.Locks) (alive
         Steps kept table kept (table_from (set_value (is_at (ticket_cmp k)) entries (standing.Alive (record v { done = op }))) (slice_set ls place (with_reader k (locks_in leaf ls))) alive life number) act answer
     reads_steps act answer is =
         let new : Fits kept (record table { standing = stood k (Some (standing.Alive (record v { done = op }))) table.standing; locks = locked leaf (with_reader k) table.locks }) =
-            fits_operated kept table fits k op v.changes v.changes v.done leaf (with_reader k) visit
-            (λ j l apart. apart_reads j l (ticket_sym j k ∙ apart)) (λ l. refl) (λ g j apart. same_writes g j) (λ g. same_writes g k ∙ writes_touch g) in
+        fits_operated kept table fits k op v.changes v.changes v.done leaf (with_reader k) visit
+        (λ j l apart. apart_reads j l (ticket_sym j k ∙ apart)) (λ l. refl) (λ g j apart. same_writes g j) (λ g. same_writes g k ∙ writes_touch g) in
         steps_at kept kept table _ _ act answer (operated_table v.changes (with_reader k) (λ l. refl))
         (record {
           fits = new;
@@ -213,7 +219,7 @@ module _ (kept : SiteContent) (entries : Entries) (ls : List locks.Locks) (alive
           Steps kept table kept (table_from (set_value (is_at (ticket_cmp k)) entries (standing.Alive (record { done = op; changes = more }))) (slice_set ls place (with_writer k (locks_in leaf ls))) alive life number) act None
       writes_steps act is =
           let new : Fits kept (record table { standing = stood k (Some (standing.Alive (record { done = op; changes = more }))) table.standing; locks = locked leaf (with_writer k) table.locks }) =
-              fits_operated kept table fits k op v.changes more v.done leaf (with_writer k) visit (λ j l apart. refl) (λ l. refl) others_write_same own_write in
+          fits_operated kept table fits k op v.changes more v.done leaf (with_writer k) visit (λ j l apart. refl) (λ l. refl) others_write_same own_write in
           steps_at kept kept table _ _ act None (operated_table more (with_writer k) (λ l. refl))
           (record {
             fits = new;

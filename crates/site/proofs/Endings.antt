@@ -59,8 +59,8 @@ module _ (kept : SiteContent) (table : Table) (fits : Fits kept table) (k : Tick
   prepared_state txn changes after new rows is =
       let row : Option Row = Some (record { txn = txn; changes = changes }) in
       let prepared_at = let_go_at kept table fits k (Some (standing.Prepared txn)) (stops_reading k table.number) row (Prepared (txn_name txn) changes)
-          (λ j l apart. others-stops_reading j k table.number l apart)
-          (λ j l apart before. foreign-stops_reading j k table.number apart before l)
-          (prepared k txn table) refl refl after rows refl in
+      (λ j l apart. others-stops_reading j k table.number l apart)
+      (λ j l apart before. foreign-stops_reading j k table.number apart before l)
+      (prepared k txn table) refl refl after rows refl in
       let known = known_all after (prepared k txn table) new (status (Prepared (txn_name txn) changes)) (λ name. prepared_at (ticket_of name)) in
       λ i. record { kept = λ g. is g i; status = λ name. prepared_at (ticket_of name) i; known = known i; life = table.life; number = table.number }

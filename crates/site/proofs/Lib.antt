@@ -11,4 +11,3 @@ pub mod Acts
 pub mod Turns
 pub mod Finals
 pub mod Fetched
-pub mod Taken

@@ -147,10 +147,10 @@ module _ (kept : SiteContent) (table : Table) (fits : Fits kept table) where
 
   pub exclusive_is : (k : Ticket) (g : Leaf) → others_exclusive (state_of kept table) (name_of k) g ≡ others_write k (table.locks g)
   exclusive_is k g = same_bool _ _
-    (λ e. let f = found (λ n. not (same n (name_of k)) && has_exclusive g ((state_of kept table).status n)) (map name_of table.tickets) e in
+      (λ e. let f = found (λ n. not (same n (name_of k)) && has_exclusive g ((state_of kept table).status n)) (map name_of table.tickets) e in
       let j = ticket_of f.0 in
       writer_other j k (table.locks g).writer (another j k (left_true _ _ f.2)) (fits.writers g j ∙ right_true (not (same f.0 (name_of k))) _ f.2))
-    (λ e. let w = the_writer k (table.locks g).writer e in
+      (λ e. let w = the_writer k (table.locks g).writer e in
       any_in (λ n. not (same n (name_of k)) && has_exclusive g ((state_of kept table).status n)) (name_of w.0) (map name_of table.tickets)
       (in_names w.0 table.tickets (listed_alive w.0 (dead_not w.0 g (exclusive_lock w.0 g w.1))))
       (both_true _ _ (an_other w.0 k w.2) (sym (fits.writers g w.0) ∙ w.1)))
@@ -160,22 +160,22 @@ module _ (kept : SiteContent) (table : Table) (fits : Fits kept table) where
 
   have_other : (j k : Ticket) (l : Locks) → is_ticket k j ≡ false → (reads j l || writes j l) ≡ true → others_have k l ≡ true
   have_other j k l apart e = ⊎_elim
-    (λ r. or_right (others_write k l) _ (reader_other j k l.readers.keys apart r))
-    (λ w. or_left (others_write k l) _ (writer_other j k l.writer apart w))
-    (or_cases (reads j l) (writes j l) e)
+      (λ r. or_right (others_write k l) _ (reader_other j k l.readers.keys apart r))
+      (λ w. or_left (others_write k l) _ (writer_other j k l.writer apart w))
+      (or_cases (reads j l) (writes j l) e)
 
   the_holder : (k : Ticket) (l : Locks) → others_have k l ≡ true → (j : Ticket) × ((reads j l || writes j l) ≡ true) × (is_ticket k j ≡ false)
   the_holder k l e = ⊎_elim
-    (λ w. let h = the_writer k l.writer w in (h.0, or_right (reads h.0 l) _ h.1, h.2))
-    (λ r. let f = found (λ x. not (is_ticket k x)) l.readers.keys r in (f.0, or_left _ (writes f.0 l) (any_in (λ x. is_ticket f.0 x) f.0 l.readers.keys f.1 (ticket_self f.0)), not_true _ f.2))
-    (or_cases (others_write k l) _ e)
+      (λ w. let h = the_writer k l.writer w in (h.0, or_right (reads h.0 l) _ h.1, h.2))
+      (λ r. let f = found (λ x. not (is_ticket k x)) l.readers.keys r in (f.0, or_left _ (writes f.0 l) (any_in (λ x. is_ticket f.0 x) f.0 l.readers.keys f.1 (ticket_self f.0)), not_true _ f.2))
+      (or_cases (others_write k l) _ e)
 
   pub lock_is : (k : Ticket) (g : Leaf) → others_lock (state_of kept table) (name_of k) g ≡ others_have k (table.locks g)
   lock_is k g = same_bool _ _
-    (λ e. let f = found (λ n. not (same n (name_of k)) && has_lock g ((state_of kept table).status n)) (map name_of table.tickets) e in
+      (λ e. let f = found (λ n. not (same n (name_of k)) && has_lock g ((state_of kept table).status n)) (map name_of table.tickets) e in
       let j = ticket_of f.0 in
       have_other j k (table.locks g) (another j k (left_true _ _ f.2)) (sym (locks_are j g) ∙ right_true (not (same f.0 (name_of k))) _ f.2))
-    (λ e. let h = the_holder k (table.locks g) e in
+      (λ e. let h = the_holder k (table.locks g) e in
       let held = locks_are h.0 g ∙ h.1 in
       any_in (λ n. not (same n (name_of k)) && has_lock g ((state_of kept table).status n)) (name_of h.0) (map name_of table.tickets)
       (in_names h.0 table.tickets (listed_alive h.0 (dead_not h.0 g held)))

@@ -117,7 +117,7 @@ module _ (kept : SiteContent) (table : Table) (fits : Fits kept table) where
   pub opens_state : Fits kept (opened table) → state_of kept (opened table) ≡ site_after s Opens
   opens_state new =
       let known = ap (map name_of) refl ∙ known_all kept (opened table) new (put same (name_of next) (Alive (new_visit s)) s.status) (λ name. opened_at (ticket_of name))
-          ∙ ap (filter (λ j. not (is_dead (put same (name_of next) (Alive (new_visit s)) s.status j)))) (map_more name_of table.tickets (next ∷ [])) in
+      ∙ ap (filter (λ j. not (is_dead (put same (name_of next) (Alive (new_visit s)) s.status j)))) (map_more name_of table.tickets (next ∷ [])) in
       λ i. record { kept = kept.content; status = λ name. opened_at (ticket_of name) i; known = known i; life = table.life; number = suc table.number }
 
   -- an operation: the visit has locked a leaf
@@ -132,7 +132,7 @@ module _ (kept : SiteContent) (table : Table) (fits : Fits kept table) where
     off_leaf g e = if_false (is_eq (leaf_cmp g leaf)) (step (table.locks g)) (table.locks g) e
 
     module _ (others_read : (j : Ticket) (l : locks.Locks) → is_ticket j k ≡ false → reads j (step l) ≡ reads j l)
-             (others_see : (j : Ticket) (l : locks.Locks) → is_ticket j k ≡ false → is_foreign j (step l) ≡ true) where
+        (others_see : (j : Ticket) (l : locks.Locks) → is_ticket j k ≡ false → is_foreign j (step l) ≡ true) where
       read_at : (j : Ticket) → is_ticket j k ≡ false → (g : Leaf) → reads j (locked leaf step table.locks g) ≡ reads j (table.locks g)
       read_at j apart g = go (is_eq (leaf_cmp g leaf)) refl
         where
@@ -195,7 +195,7 @@ module _ (kept : SiteContent) (table : Table) (fits : Fits kept table) where
             let apart = ticket_sym j k ∙ e in
             ap (stands new j) (rows j ∙ if_false (is_ticket k j) row (kept.prepared j) e)
             ∙ stays table new j (kept.prepared j)
-                (ap (λ f. f j) standing_is ∙ if_false (is_ticket k j) o (table.standing j) e)
-                (λ g. ap (λ f. reads j (f g)) locks_are ∙ others_read j (table.locks g) apart)
-                (λ visit g. ap (λ f. is_foreign j (f g)) locks_are ∙ others_see j (table.locks g) apart (fits.fresh j visit).1)
+            (ap (λ f. f j) standing_is ∙ if_false (is_ticket k j) o (table.standing j) e)
+            (λ g. ap (λ f. reads j (f g)) locks_are ∙ others_read j (table.locks g) apart)
+            (λ visit g. ap (λ f. is_foreign j (f g)) locks_are ∙ others_see j (table.locks g) apart (fits.fresh j visit).1)
             ∙ sym (if_false (same (name_of j) (name_of k)) status _ (same_is j k ∙ apart))

@@ -136,8 +136,8 @@ module _ (kept : SiteContent) (table : Table) (fits : Fits kept table) (k : Tick
     alive_is kept_call v e =
         ap (on_fetch s kept_call (name_of k) op leaf conds) (stands_alive kept table fits k v e)
         ∙ ap (λ b. if op == suc v.done then (if b then Ends (name_of k) (protocol.Refused (name_of k) protocol.Lock ∷ []) else (if kept_call
-            then Locks (name_of k) (record (visit_of table k v) { done = op; shared = put (λ a c. is_eq (leaf_cmp a c)) leaf true (visit_of table k v).shared }) leaf (protocol.Rows (name_of k) op (parts conds (changed leaf v.changes (kept.content leaf))) ∷ [])
-            else Says [])) else Says []) (exclusive_is kept table fits k leaf)
+        then Locks (name_of k) (record (visit_of table k v) { done = op; shared = put (λ a c. is_eq (leaf_cmp a c)) leaf true (visit_of table k v).shared }) leaf (protocol.Rows (name_of k) op (parts conds (changed leaf v.changes (kept.content leaf))) ∷ [])
+        else Says [])) else Says []) (exclusive_is kept table fits k leaf)
 
     pub read_gone : (o : Option standings.Standing) → table.standing k ≡ o → looked o ≡ Gone → fetched ≡ Says (protocol.Refused (name_of k) protocol.Gone ∷ [])
     read_gone None e is = ap (on_fetch s true (name_of k) op leaf conds) (stands_dead kept table fits k e)

@@ -1,8 +1,8 @@
 //! The subordinate's machine: visits, locks and prepared rows, over any store.
 #![tactic(auto)]
 
-pub mod fault;
 mod ending;
+pub mod fault;
 mod locks;
 mod present;
 mod reading;

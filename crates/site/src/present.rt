@@ -117,7 +117,7 @@ impl Present {
         requires { place < length self.old.locks.items }
         ensures ok { (now : StandingNow) (at : LocksNow) → (table_of self.old).standing ticket.now ≡ Some now → slice_get self.old.locks.items place ≡ Some at
             → OnOk result (table_of self.new ≡ table_from (set_value (is_at (ticket_cmp ticket.now)) self.old.standings.entries (with_done op now))
-                (slice_set self.old.locks.items place (with_reader ticket.now at)) self.old.alive self.old.life self.old.number) }
+            (slice_set self.old.locks.items place (with_reader ticket.now at)) self.old.alive self.old.life self.old.number) }
         ensures err { OnErr result (table_of self.new ≡ table_of self.old) }
     {
         self.locks[place].share(*ticket)?;
@@ -136,7 +136,7 @@ impl Present {
         requires { place < length self.old.locks.items }
         ensures ok { (now : StandingNow) (at : LocksNow) → (table_of self.old).standing ticket.now ≡ Some now → slice_get self.old.locks.items place ≡ Some at
             → OnOk result (table_of self.new ≡ table_from (set_value (is_at (ticket_cmp ticket.now)) self.old.standings.entries (with_done op (intends write now)))
-                (slice_set self.old.locks.items place (with_writer ticket.now at)) self.old.alive self.old.life self.old.number) }
+            (slice_set self.old.locks.items place (with_writer ticket.now at)) self.old.alive self.old.life self.old.number) }
         ensures err { OnErr result (table_of self.new ≡ table_of self.old) }
     {
         set_change(&mut self.standings, ticket, op, write)?;
@@ -148,7 +148,7 @@ impl Present {
     pub(crate) fn prepare(&mut self, ticket: &Ticket, txn: Txn)
         ensures { (now : StandingNow) → (table_of self.old).standing ticket.now ≡ Some now
             → table_of self.new ≡ table_from (set_value (is_at (ticket_cmp ticket.now)) self.old.standings.entries (standing.Prepared txn))
-                (map (stops_reading ticket.now self.old.number) self.old.locks.items) (self.old.alive - 1) self.old.life self.old.number }
+            (map (stops_reading ticket.now self.old.number) self.old.locks.items) (self.old.alive - 1) self.old.life self.old.number }
     {
         set_prepared(&mut self.standings, ticket, txn);
         stop_reading(&mut self.locks, ticket, self.number);
@@ -158,7 +158,7 @@ impl Present {
     /// A visit ends: its locks go.
     pub(crate) fn end(&mut self, ticket: &Ticket)
         ensures ended { table_of self.new ≡ table_from (remove_entry (is_at (ticket_cmp ticket.now)) self.old.standings.entries)
-                (map (stops ticket.now self.old.number) self.old.locks.items) (self.old.alive - 1) self.old.life self.old.number }
+            (map (stops ticket.now self.old.number) self.old.locks.items) (self.old.alive - 1) self.old.life self.old.number }
         ensures ordered { IsOrdered ticket_cmp self.old.standings }
     {
         self.forget(ticket);
@@ -168,7 +168,7 @@ impl Present {
     /// Nothing stands behind a ticket any more: its locks go.
     pub(crate) fn forget(&mut self, ticket: &Ticket)
         ensures gone { table_of self.new ≡ table_from (remove_entry (is_at (ticket_cmp ticket.now)) self.old.standings.entries)
-                (map (stops ticket.now self.old.number) self.old.locks.items) self.old.alive self.old.life self.old.number }
+            (map (stops ticket.now self.old.number) self.old.locks.items) self.old.alive self.old.life self.old.number }
         ensures alive { self.new.alive ≡ self.old.alive }
         ensures ordered { IsOrdered ticket_cmp self.old.standings }
     {

@@ -8,12 +8,12 @@ ghost use Rattle.store.specs.SiteContent.{IsUnchanged};
 ghost use Rattle.site.specs.Letters.{name_of, order_body, txn_name, kept_by, letters_of};
 ghost use Rattle.site.specs.State.{Fits, Steps, Takes, state_of, table_of};
 
-use std::alloc::Global;
 use crate::ending::{abort, commit, give_up, prepare};
 use crate::fault::SiteFault;
 use crate::present::Present;
 use crate::reading::fetch;
 use crate::writing::{intend, open};
+use std::alloc::Global;
 use store::letter::{Body, Letter};
 use store::name::{Ticket, Txn};
 use store::order::Order;

@@ -37,12 +37,7 @@ pub(crate) enum Turn {
 }
 
 /// What becomes of an operation that reads the leaf of these locks.
-fn read_turn(
-    ticket: &Ticket,
-    op: u64,
-    locks: &Locks,
-    standing: Option<&Standing>,
-) -> Turn
+fn read_turn(ticket: &Ticket, op: u64, locks: &Locks, standing: Option<&Standing>) -> Turn
     ensures { result ≡ read_turn ticket.now op locks.now (option_copied standing.entry) }
 {
     let Some(standing) = standing else {
@@ -175,7 +170,13 @@ pub(crate) fn turn_to_write(
     let Some(place) = place_of(present.locks.as_slice(), leaf_of(write)) else {
         return Err(SiteFault::Stranger);
     };
-    match write_turn(ticket, op, write, &present.locks[place], present.standing(ticket)) {
+    match write_turn(
+        ticket,
+        op,
+        write,
+        &present.locks[place],
+        present.standing(ticket),
+    ) {
         Ok(turn) => Ok((place, turn)),
         Err(_) => Err(SiteFault::Memory),
     }

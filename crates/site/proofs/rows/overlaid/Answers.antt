@@ -22,6 +22,6 @@ returns c = λ content keyed is.
     let same = c.in_ok-all.ensures ∙ ap (λ ps. stored leaf ps fin.empty) c.as_slice.ensures.value in
     let made = λ (all : Changes). made_by all leaf in
     let whole = made_over c.make_rooms.new.self c.make.new.self c.in_ok-copy.field-0 c.make.ensures.over leaf
-        ∙ ap (λ ch. changed leaf ch (made_by c.make_rooms.new.self leaf)) c.in_ok-copy.ensures.equal
-        ∙ ap (changed leaf changes) (same_made c.make_rooms.new.self c.in_ok-all.all c.make_rooms.ensures.same leaf ∙ ap made same ∙ first) in
+    ∙ ap (λ ch. changed leaf ch (made_by c.make_rooms.new.self leaf)) c.in_ok-copy.ensures.equal
+    ∙ ap (changed leaf changes) (same_made c.make_rooms.new.self c.in_ok-all.all c.make_rooms.ensures.same leaf ∙ ap made same ∙ first) in
     c.meeting-2.ensures ∙ ap (filter (conds_hold c.args.conds.now)) (c.in_ok-parts.ensures ∙ ap fin.values whole)
