@@ -1,6 +1,9 @@
 //! Visits are prepared, and end.
 
-ghost use Rattle.std.specs.Prelude.{◌≡◌, true, [], ◌∷◌, Some, None, IfOk, OnErr, if◌then◌else◌};
+ghost use Rattle.std.specs.Prelude.{◌≡◌, true, [], ◌∷◌, Some, None, IfOk, OnErr, if◌then◌else◌, ◌≢◌, Err, ◌⊎◌, false};
+ghost use Rattle.store.specs.Fault.{HasRefused};
+ghost use Rattle.store.specs.declared.fault.StoreFault.TheVariants as store_faults;
+ghost use Rattle.site.specs.declared.fault.SiteFault.TheVariants as faults;
 ghost use Rattle.store.specs.declared.reply.Reply.TheVariants as replies;
 ghost use Rattle.store.specs.SiteContent.{SiteContent, IsUnchanged};
 ghost use Rattle.protocol.specs.Letter as protocol;
@@ -42,6 +45,8 @@ pub(crate) fn prepare<S: SiteStore>(
         (on_prepare (kept_by reply) (txn_name txn) (name_of prepare.ticket) prepare.count ((state_of (S.kept store.old) (table_of present.old)).status (name_of prepare.ticket))) reply) }
     ensures err { OnErr result (table_of present.new ≡ table_of present.old) }
     ensures same { S.is_clean store.new → S.is_sound store.old → OnErr result (IsUnchanged (S.kept store.old) (S.kept store.new)) }
+    ensures refusal { result ≡ Err (faults.Store store_faults.Refused) → (kept ≡ false) ⊎ HasRefused (S.refused store.old) (S.refused store.new) }
+    ensures intact { S.is_clean store.new → S.is_sound store.old → result ≢ Err (faults.Store store_faults.Damaged) }
 {
     let Prepare { ticket, count } = prepare;
     match ballot_at(present, &ticket, count) {
@@ -69,6 +74,8 @@ fn keep<S: SiteStore>(
         (if kept_by reply then Prepares (name_of ticket) (txn_name txn) visit.changes else Ends (name_of ticket) (protocol.Voted (name_of ticket) protocol.No ∷ [])) reply) }
     ensures err { (visit : Visited) → (table_of present.old).standing ticket ≡ Some (standing.Alive visit) → OnErr result (table_of present.new ≡ table_of present.old) }
     ensures same { S.is_clean store.new → S.is_sound store.old → OnErr result (IsUnchanged (S.kept store.old) (S.kept store.new)) }
+    ensures refusal { result ≡ Err (faults.Store store_faults.Refused) → (kept ≡ false) ⊎ HasRefused (S.refused store.old) (S.refused store.new) }
+    ensures intact { S.is_clean store.new → S.is_sound store.old → result ≢ Err (faults.Store store_faults.Damaged) }
 {
     if !kept {
         present.end(&ticket);
@@ -105,6 +112,8 @@ pub(crate) fn commit<S: SiteStore>(
         (on_commit true (name_of ticket) ((state_of (S.kept store.old) (table_of present.old)).status (name_of ticket))) reply) }
     ensures err { OnErr result (table_of present.new ≡ table_of present.old) }
     ensures same { S.is_clean store.new → S.is_sound store.old → OnErr result (IsUnchanged (S.kept store.old) (S.kept store.new)) }
+    ensures refusal { result ≡ Err (faults.Store store_faults.Refused) → (kept ≡ false) ⊎ HasRefused (S.refused store.old) (S.refused store.new) }
+    ensures intact { S.is_clean store.new → S.is_sound store.old → result ≢ Err (faults.Store store_faults.Damaged) }
 {
     if !present.is_prepared(&ticket) {
         return Ok(Some(Reply::Ack(ticket)));
@@ -134,6 +143,8 @@ pub(crate) fn abort<S: SiteStore>(
         (on_abort true (name_of ticket) ((state_of (S.kept store.old) (table_of present.old)).status (name_of ticket))) reply) }
     ensures err { OnErr result (table_of present.new ≡ table_of present.old) }
     ensures same { S.is_clean store.new → S.is_sound store.old → OnErr result (IsUnchanged (S.kept store.old) (S.kept store.new)) }
+    ensures refusal { result ≡ Err (faults.Store store_faults.Refused) → (kept ≡ false) ⊎ HasRefused (S.refused store.old) (S.refused store.new) }
+    ensures intact { S.is_clean store.new → S.is_sound store.old → result ≢ Err (faults.Store store_faults.Damaged) }
 {
     if !present.is_prepared(&ticket) {
         give_up(present, &ticket);

@@ -1,6 +1,9 @@
 //! Visits read.
 
-ghost use Rattle.std.specs.Prelude.{◌≡◌, true, IfOk, OnErr};
+ghost use Rattle.std.specs.Prelude.{◌≡◌, true, IfOk, OnErr, ◌≢◌, Err, ◌⊎◌, false};
+ghost use Rattle.store.specs.Fault.{HasRefused};
+ghost use Rattle.store.specs.declared.fault.StoreFault.TheVariants as store_faults;
+ghost use Rattle.site.specs.declared.fault.SiteFault.TheVariants as faults;
 ghost use Rattle.store.specs.SiteContent.{IsUnchanged};
 ghost use Rattle.protocol.specs.Site.{on_fetch};
 ghost use Rattle.site.specs.Letters.{name_of};
@@ -30,6 +33,8 @@ pub(crate) fn fetch<S: SiteStore>(
         (on_fetch (state_of (S.kept store.old) (table_of present.old)) true (name_of fetch.ticket) fetch.op fetch.leaf fetch.conds ((state_of (S.kept store.old) (table_of present.old)).status (name_of fetch.ticket))) reply) }
     ensures err { OnErr result (table_of present.new ≡ table_of present.old) }
     ensures same { S.is_clean store.new → S.is_sound store.old → IsUnchanged (S.kept store.old) (S.kept store.new) }
+    ensures refusal { result ≡ Err (faults.Store store_faults.Refused) → (kept ≡ false) ⊎ HasRefused (S.refused store.old) (S.refused store.new) }
+    ensures intact { S.is_clean store.new → S.is_sound store.old → result ≢ Err (faults.Store store_faults.Damaged) }
 {
     let Fetch {
         ticket,

@@ -1,6 +1,9 @@
 //! The rows that a fetch answers.
 
-ghost use Rattle.std.specs.Prelude.{◌≡◌, [], IfOk};
+ghost use Rattle.std.specs.Prelude.{◌≡◌, [], IfOk, ◌≢◌, Err};
+ghost use Rattle.store.specs.Fault.{HasRefused};
+ghost use Rattle.store.specs.declared.fault.StoreFault.TheVariants as store_faults;
+ghost use Rattle.site.specs.declared.fault.SiteFault.TheVariants as faults;
 ghost use Rattle.std.specs.FinMap as map;
 ghost use Rattle.std.specs.List.{filter};
 ghost use Rattle.terms.specs.Cond.{conds_hold};
@@ -33,6 +36,8 @@ pub(crate) fn rows<S: SiteStore>(
     ensures sound { S.is_clean store.new → S.is_sound store.old → S.is_sound store.new }
     ensures rows { S.is_clean store.new → S.is_sound store.old → IfOk result (λ rows. rows.items ≡ parts conds.now (changed leaf.now (changes_at (table_of present.now) ticket.now) ((S.kept store.old).content leaf.now))) }
     ensures same { S.is_clean store.new → S.is_sound store.old → IsUnchanged (S.kept store.old) (S.kept store.new) }
+    ensures refusal { result ≡ Err (faults.Store store_faults.Refused) → HasRefused (S.refused store.old) (S.refused store.new) }
+    ensures intact { S.is_clean store.new → S.is_sound store.old → result ≢ Err (faults.Store store_faults.Damaged) }
 {
     let kept = match store.scan(leaf) {
         Ok(parts) => parts,

@@ -1,8 +1,10 @@
 //! The subordinate's machine.
 
-ghost use Rattle.std.specs.Prelude.{◌≡◌, ◌≢◌, ◌<◌, [], None, Err, IfOk, OnErr, vec_len};
-ghost use Rattle.std.specs.Vec.{vec_capacity};
+ghost use Rattle.std.specs.Prelude.{◌≡◌, ◌≢◌, ◌<◌, [], None, Err, IfOk, IfErr, OnErr, vec_len, ◌⊎◌, false};
+ghost use Rattle.store.specs.Fault.{HasRefused};
+ghost use Rattle.store.specs.declared.fault.StoreFault.TheVariants as store_faults;
 ghost use Rattle.site.specs.declared.fault.SiteFault.TheVariants as faults;
+ghost use Rattle.std.specs.Vec.{vec_capacity};
 ghost use Rattle.protocol.specs.Site.{on_letter, on_give_up};
 ghost use Rattle.store.specs.SiteContent.{IsUnchanged};
 ghost use Rattle.site.specs.Letters.{name_of, order_body, txn_name, kept_by, letters_of};
@@ -39,6 +41,8 @@ impl<S: SiteStore> Site<S> {
             → IfOk result (λ letters. Takes (S.kept self.old.store) (table_of self.old.present) (S.kept self.new.store) (table_of self.new.present) letter letters.items) }
         ensures err { OnErr result (table_of self.new.present ≡ table_of self.old.present) }
         ensures same { S.is_clean self.new.store → S.is_sound self.old.store → OnErr result (IsUnchanged (S.kept self.old.store) (S.kept self.new.store)) }
+        ensures refusal { result ≡ Err (faults.Store store_faults.Refused) → HasRefused (S.refused self.old.store) (S.refused self.new.store) }
+        ensures intact { S.is_clean self.new.store → S.is_sound self.old.store → result ≢ Err (faults.Store store_faults.Damaged) }
         ensures stranger { letter.site ≢ self.old.present.name → result ≡ Err faults.Stranger }
     {
         self.take_kept(letter, true)
@@ -52,6 +56,8 @@ impl<S: SiteStore> Site<S> {
             → IfOk result (λ letters. Takes (S.kept self.old.store) (table_of self.old.present) (S.kept self.new.store) (table_of self.new.present) letter letters.items) }
         ensures err { OnErr result (table_of self.new.present ≡ table_of self.old.present) }
         ensures same { S.is_clean self.new.store → S.is_sound self.old.store → OnErr result (IsUnchanged (S.kept self.old.store) (S.kept self.new.store)) }
+        ensures refusal { result ≡ Err (faults.Store store_faults.Refused) → (kept ≡ false) ⊎ HasRefused (S.refused self.old.store) (S.refused self.new.store) }
+        ensures intact { S.is_clean self.new.store → S.is_sound self.old.store → result ≢ Err (faults.Store store_faults.Damaged) }
         ensures stranger { letter.site ≢ self.old.present.name → result ≡ Err faults.Stranger }
     {
         if !letter.site.same(&self.present.name) {
@@ -90,6 +96,7 @@ impl<S: SiteStore> Site<S> {
 fn room(alloc: Global) -> Result<Vec<Letter>, SiteFault>
     ensures empty { IfOk result (λ letters. letters.items ≡ []) }
     ensures room { IfOk result (λ letters. vec_len letters < vec_capacity letters) }
+    ensures fault { IfErr result (λ fault. fault ≡ faults.Memory) }
 {
     match Vec::with_capacity(alloc, 1) {
         Ok(letters) => Ok(letters),
@@ -128,6 +135,8 @@ fn obey<S: SiteStore>(
         (on_letter (state_of (S.kept store.old) (table_of present.old)) (txn_name txn) (kept_by reply) (order_body order)) reply) }
     ensures err { OnErr result (table_of present.new ≡ table_of present.old) }
     ensures same { S.is_clean store.new → S.is_sound store.old → OnErr result (IsUnchanged (S.kept store.old) (S.kept store.new)) }
+    ensures refusal { result ≡ Err (faults.Store store_faults.Refused) → (kept ≡ false) ⊎ HasRefused (S.refused store.old) (S.refused store.new) }
+    ensures intact { S.is_clean store.new → S.is_sound store.old → result ≢ Err (faults.Store store_faults.Damaged) }
 {
     match order {
         Order::Open => open(present),

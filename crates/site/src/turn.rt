@@ -1,6 +1,7 @@
 //! What becomes of an operation of a visit.
 
-ghost use Rattle.std.specs.Prelude.{◌≡◌, ◌<◌, ◌==◌, suc, Some, None, Err, IfOk, length};
+ghost use Rattle.store.specs.declared.fault.StoreFault.{StoreFault as StoreFaultName};
+ghost use Rattle.std.specs.Prelude.{◌≡◌, ◌≢◌, ◌<◌, ◌==◌, suc, Some, None, Err, IfOk, length};
 ghost use Rattle.site.specs.declared.fault.SiteFault.TheVariants as faults;
 ghost use Rattle.site.specs.Locks.{place_in};
 ghost use Rattle.site.specs.State.{table_of};
@@ -146,6 +147,7 @@ pub(crate) fn turn_to_read(
     ensures turn { IfOk result (λ found. found.1 ≡ read_turn ticket.now op ((table_of present.now).locks leaf.now) ((table_of present.now).standing ticket.now)) }
     ensures stranger { place_in leaf.now present.now.locks.items ≡ None → result ≡ Err faults.Stranger }
     ensures own { result ≡ Err faults.Stranger → place_in leaf.now present.now.locks.items ≡ None }
+    ensures store { (fault : StoreFaultName) → result ≢ Err (faults.Store fault) }
 {
     let Some(place) = place_of(present.locks.as_slice(), leaf) else {
         return Err(SiteFault::Stranger);
@@ -166,6 +168,7 @@ pub(crate) fn turn_to_write(
     ensures turn { IfOk result (λ found. found.1 ≡ write_turn ticket.now op (leaf_of write.now) (at_key write.now) ((table_of present.now).locks (leaf_of write.now)) ((table_of present.now).standing ticket.now)) }
     ensures stranger { place_in (leaf_of write.now) present.now.locks.items ≡ None → result ≡ Err faults.Stranger }
     ensures own { result ≡ Err faults.Stranger → place_in (leaf_of write.now) present.now.locks.items ≡ None }
+    ensures store { (fault : StoreFaultName) → result ≢ Err (faults.Store fault) }
 {
     let Some(place) = place_of(present.locks.as_slice(), leaf_of(write)) else {
         return Err(SiteFault::Stranger);

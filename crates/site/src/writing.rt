@@ -1,6 +1,7 @@
 //! Visits begin, and intend writes.
 
-ghost use Rattle.std.specs.Prelude.{◌≡◌, Err, None, Some, IfOk, OnErr, ◌↔◌};
+ghost use Rattle.store.specs.declared.fault.StoreFault.{StoreFault as StoreFaultName};
+ghost use Rattle.std.specs.Prelude.{◌≡◌, ◌≢◌, Err, None, Some, IfOk, OnErr, ◌↔◌};
 ghost use Rattle.store.specs.SiteContent.{SiteContent};
 ghost use Rattle.store.specs.declared.reply.Reply.TheVariants as replies;
 ghost use Rattle.protocol.specs.Site.{Opens, on_write};
@@ -20,6 +21,7 @@ use store::reply::{Reason, Refusal, Reply};
 pub(crate) fn open(present: &mut Present) -> Result<Option<Reply>, SiteFault>
     ensures ok { (kept : SiteContent) → Fits kept (table_of present.old) → IfOk result (λ reply. Steps kept (table_of present.old) kept (table_of present.new) Opens reply) }
     ensures err { OnErr result (table_of present.new ≡ table_of present.old) }
+    ensures store { (fault : StoreFaultName) → result ≢ Err (faults.Store fault) }
 {
     let ticket = present.open()?;
     Ok(Some(Reply::Ticket(ticket)))
@@ -43,6 +45,7 @@ pub(crate) fn intend(
     ensures ok { (kept : SiteContent) → Fits kept (table_of present.old) → IfOk result (λ reply. Steps kept (table_of present.old) kept (table_of present.new)
         (on_write (name_of intention.ticket) intention.op (leaf_of intention.write) (at_key intention.write) ((state_of kept (table_of present.old)).status (name_of intention.ticket))) reply) }
     ensures err { OnErr result (table_of present.new ≡ table_of present.old) }
+    ensures store { (fault : StoreFaultName) → result ≢ Err (faults.Store fault) }
 {
     let Intention { ticket, op, write } = intention;
     let (place, turn) = turn_to_write(present, &ticket, op, &write)?;
