@@ -1,0 +1,205 @@
+-- The memory still fits the store after each move.
+use Rattle.std.proofs.Common.{◌≡◌, refl, sym, ap, ◌∙◌, subst, ℕ, suc, ◌≤◌, ◌<◌, ◌+◌, ◌||◌, ◌⊎◌, Bool, true, false, not, List, [], ◌∷◌, ◌++◌, map, Option, Some, None, is_some, filter, cond, if◌then◌else◌, inl, inr, ⊎_elim, arith}
+use Rattle.std.specs.FinMap as fin
+use Rattle.std.specs.Option.{option_map}
+use Rattle.std.specs.Ordering.{is_eq}
+use Rattle.terms.specs.declared.leaf.Leaf.{Leaf}
+use Rattle.terms.specs.Leaf.{leaf_cmp}
+use Rattle.store.specs.declared.name.Ticket.{Ticket}
+use Rattle.store.specs.declared.name.Txn.{Txn}
+use Rattle.store.specs.declared.prepared.Prepared.{Prepared as Row}
+use Rattle.store.specs.Content.{Changes, touches}
+use Rattle.store.specs.SiteContent.{SiteContent, is_ticket}
+use Rattle.store.proofs.Changing.{touches_none}
+use Rattle.protocol.specs.Parts.{In}
+use Rattle.protocol.specs.Site.{Status, Dead, Alive, Prepared, has_exclusive}
+use Rattle.protocol.proofs.Basics.{if_true, if_false, clash, in_left, in_right, in_append, in_filter, either_if}
+use Rattle.protocol.proofs.Locks.{from_filter}
+use Rattle.site.specs.declared.locks.Locks as locks
+use Rattle.site.specs.declared.standing.Standing as standings
+use Rattle.site.specs.declared.standing.Visit as visits
+use Rattle.site.specs.declared.standing.Standing.TheVariants as standing
+use Rattle.site.specs.Local.{local}
+use Rattle.site.specs.Locks.{reads, writes, stops, stops_reading, stops_writing}
+use Rattle.site.specs.State.{Table, Fits, IsDrawn, stands, visiting, is_visit, txn_in}
+use Rattle.site.specs.Moves.{next_of, stood, locked, opened, gone, prepared}
+use Rattle.site.proofs.LockLaws.{others-stops_reading, writes-stops_reading, reads-stops_reading, reads-stops_writing, writes-stops_writing, others-stops_writing, released-stops_reading, released-stops_writing}
+use Rattle.site.proofs.Listed.{row_none}
+use Rattle.site.proofs.Steps.{stood_all, nothing_next}
+use Rattle.site.proofs.Tickets.{ticket_is, ticket_self, ticket_sym, ticket_same}
+
+-- who has what exclusively is told by what stands there and by the row
+has_by : (new old : Table) (j : Ticket) (row : Option Row) (leaf : Leaf) → new.standing j ≡ old.standing j → has_exclusive leaf (stands new j row) ≡ has_exclusive leaf (stands old j row)
+has_by new old j (Some row) leaf e = refl
+has_by new old j None leaf e = ap (λ o. has_exclusive leaf (visiting new.locks j o)) e ∙ go (old.standing j)
+  where
+    go : (o : Option standings.Standing) → has_exclusive leaf (visiting new.locks j o) ≡ has_exclusive leaf (visiting old.locks j o)
+    go None = refl
+    go (Some (standing.Alive v)) = refl
+    go (Some (standing.Prepared t)) = refl
+
+-- what was drawn before is drawn still
+drawn_still : (life number : ℕ) (j : Ticket) → (j.life < life) ⊎ ((j.life ≡ life) × (j.visit ≤ number)) → (j.life < life) ⊎ ((j.life ≡ life) × (j.visit ≤ suc number))
+drawn_still life number j (inl below) = inl below
+drawn_still life number j (inr here) = inr (here.0, (let h : j.visit ≤ number = here.1 in omega arith))
+
+module _ (kept : SiteContent) (table : Table) (fits : Fits kept table) where
+  abbrev next : Ticket
+  next = next_of table
+
+  pub fits_opened : Fits kept (opened table)
+  fits_opened =
+      let new = Some (standing.Alive (record { done = 0; changes = fin.empty })) in
+      let none = row_none kept table fits next (ap txn_in (nothing_next kept table fits)) in
+      record {
+        prepared = stood_all next new table.standing (λ j o. txn_in o ≡ option_map (λ row. row.txn) (kept.prepared j)) (sym (ap (option_map (λ row. row.txn)) none)) (λ j apart. fits.prepared j);
+        life = fits.life;
+        listed = stood_all next new table.standing (λ j o. is_some o ≡ true → In j (table.tickets ++ next ∷ [])) (λ e. in_right next table.tickets (next ∷ []) (inl refl)) (λ j apart e. in_left j table.tickets (next ∷ []) (fits.listed j e));
+        lives = stood_all next new table.standing (λ j o. In j (table.tickets ++ next ∷ []) → is_some o ≡ true) (λ here. refl)
+            (λ j apart here. ⊎_elim (fits.lives j) (λ last. ⊎_elim (λ e. clash (ticket_same next j (sym e)) apart) (λ no_one. absurd no_one) last) (in_append j table.tickets (next ∷ []) here));
+        readers = λ leaf. stood_all next new table.standing (λ j o. reads j (table.locks leaf) ≡ true → is_visit o ≡ true) (λ e. refl) (λ j apart. fits.readers leaf j);
+        writers = λ leaf j. fits.writers leaf j ∙ go leaf j (is_ticket next j) refl;
+        drawn = stood_all next new table.standing (λ j o. is_some o ≡ true → IsDrawn (opened table) j) (λ e. inr (refl, omega arith)) (λ j apart e. drawn_still table.life table.number j (fits.drawn j e));
+        fresh = stood_all next new table.standing (λ j o. is_visit o ≡ true → (j.life ≡ table.life) × (j.visit ≤ suc table.number)) (λ e. (refl, omega arith)) (λ j apart e. let f = fits.fresh j e in (f.0, (let h : j.visit ≤ table.number = f.1 in omega arith)));
+        released = λ leaf. let r : (table.locks leaf).released ≤ table.number = fits.released leaf in omega arith;
+      }
+    where
+      go : (leaf : Leaf) (j : Ticket) (b : Bool) → is_ticket next j ≡ b → has_exclusive leaf (stands table j (kept.prepared j)) ≡ has_exclusive leaf (stands (opened table) j (kept.prepared j))
+      go leaf j true e = subst (λ i. has_exclusive leaf (stands table i (kept.prepared i)) ≡ has_exclusive leaf (stands (opened table) i (kept.prepared i))) (ticket_is next j e)
+          (let none = row_none kept table fits next (ap txn_in (nothing_next kept table fits)) in
+          ap (λ row. has_exclusive leaf (stands table next row)) none ∙ ap (λ o. has_exclusive leaf (visiting table.locks next o)) (nothing_next kept table fits)
+          ∙ sym (touches_none leaf)
+          ∙ sym (ap (λ row. has_exclusive leaf (stands (opened table) next row)) none ∙ ap (λ o. has_exclusive leaf (visiting table.locks next o)) (if_true (is_ticket next next) _ (table.standing next) (ticket_self next))))
+      go leaf j false e = sym (has_by (opened table) table j (kept.prepared j) leaf (if_false (is_ticket next j) _ (table.standing j) e))
+
+  -- a visit has done an operation, by which it has a lock more
+  module _ (k : Ticket) (op : ℕ) (before after : Changes) (done : ℕ) (leaf : Leaf) (step : locks.Locks → locks.Locks)
+      (visit : table.standing k ≡ Some (standing.Alive (record { done = done; changes = before }))) where
+    abbrev new : Option standings.Standing
+    new = Some (standing.Alive (record { done = op; changes = after }))
+
+    abbrev operated : Table
+    operated = record table { standing = stood k new table.standing; locks = locked leaf step table.locks }
+
+    no_row : kept.prepared k ≡ None
+    no_row = row_none kept table fits k (ap txn_in visit)
+
+    module _ (reads_step : (j : Ticket) (l : locks.Locks) → is_ticket k j ≡ false → reads j (step l) ≡ reads j l)
+        (released_step : (l : locks.Locks) → (step l).released ≡ l.released)
+        (writes_step : (g : Leaf) (j : Ticket) → is_ticket k j ≡ false → writes j (locked leaf step table.locks g) ≡ writes j (table.locks g))
+        (own_writes : (g : Leaf) → writes k (locked leaf step table.locks g) ≡ touches g after) where
+      read_before : (g : Leaf) (j : Ticket) → is_ticket k j ≡ false → reads j (locked leaf step table.locks g) ≡ reads j (table.locks g)
+      read_before g j apart = go (is_eq (leaf_cmp g leaf))
+        where
+          go : (b : Bool) → reads j (if b then step (table.locks g) else table.locks g) ≡ reads j (table.locks g)
+          go true = reads_step j (table.locks g) apart
+          go false = refl
+
+      released_before : (g : Leaf) → (locked leaf step table.locks g).released ≡ (table.locks g).released
+      released_before g = go (is_eq (leaf_cmp g leaf))
+        where
+          go : (b : Bool) → (if b then step (table.locks g) else table.locks g).released ≡ (table.locks g).released
+          go true = released_step (table.locks g)
+          go false = refl
+
+      pub fits_operated : Fits kept operated
+      fits_operated = record {
+        prepared = stood_all k new table.standing (λ j o. txn_in o ≡ option_map (λ row. row.txn) (kept.prepared j)) (sym (ap (option_map (λ row. row.txn)) no_row)) (λ j apart. fits.prepared j);
+        life = fits.life;
+        listed = stood_all k new table.standing (λ j o. is_some o ≡ true → In j table.tickets) (λ e. fits.listed k (ap is_some visit)) (λ j apart. fits.listed j);
+        lives = stood_all k new table.standing (λ j o. In j table.tickets → is_some o ≡ true) (λ here. refl) (λ j apart. fits.lives j);
+        readers = λ g. stood_all k new table.standing (λ j o. reads j (locked leaf step table.locks g) ≡ true → is_visit o ≡ true) (λ e. refl) (λ j apart e. fits.readers g j (sym (read_before g j apart) ∙ e));
+        writers = λ g j. go g j (is_ticket k j) refl;
+        drawn = stood_all k new table.standing (λ j o. is_some o ≡ true → IsDrawn table j) (λ e. fits.drawn k (ap is_some visit)) (λ j apart. fits.drawn j);
+        fresh = stood_all k new table.standing (λ j o. is_visit o ≡ true → (j.life ≡ table.life) × (j.visit ≤ table.number)) (λ e. fits.fresh k (ap is_visit visit)) (λ j apart. fits.fresh j);
+        released = λ g. subst (λ n. n ≤ table.number) (sym (released_before g)) (fits.released g);
+      }
+        where
+          go : (g : Leaf) (j : Ticket) (b : Bool) → is_ticket k j ≡ b → writes j (locked leaf step table.locks g) ≡ has_exclusive g (stands operated j (kept.prepared j))
+          go g j true e = subst (λ i. writes i (locked leaf step table.locks g) ≡ has_exclusive g (stands operated i (kept.prepared i))) (ticket_is k j e)
+              (own_writes g
+              ∙ sym (ap (λ row. has_exclusive g (stands operated k row)) no_row ∙ ap (λ o. has_exclusive g (visiting (locked leaf step table.locks) k o)) (if_true (is_ticket k k) new (table.standing k) (ticket_self k))))
+          go g j false e = writes_step g j e ∙ fits.writers g j ∙ sym (has_by operated table j (kept.prepared j) g (if_false (is_ticket k j) new (table.standing j) e))
+
+  -- a ticket lets go of locks
+  module _ (k : Ticket) (o : Option standings.Standing) (row : Option Row) (after : SiteContent) (alive : ℕ)
+      (rows : (j : Ticket) → after.prepared j ≡ (if is_ticket k j then row else kept.prepared j)) (life : after.life ≡ kept.life) where
+    at_rows : (Q : Ticket → Option Row → Type 0) → Q k row → ((j : Ticket) → is_ticket k j ≡ false → Q j (kept.prepared j)) → (j : Ticket) → Q j (after.prepared j)
+    at_rows Q here there j = subst (Q j) (sym (rows j)) (go (is_ticket k j) refl)
+      where
+        go : (b : Bool) → is_ticket k j ≡ b → Q j (if b then row else kept.prepared j)
+        go true e = subst (λ i. Q i row) (ticket_is k j e) here
+        go false e = there j e
+
+    others_row : (j : Ticket) → is_ticket k j ≡ false → after.prepared j ≡ kept.prepared j
+    others_row j apart = rows j ∙ if_false (is_ticket k j) row (kept.prepared j) apart
+
+    own_row : after.prepared k ≡ row
+    own_row = rows k ∙ if_true (is_ticket k k) row (kept.prepared k) (ticket_self k)
+
+    matches : txn_in o ≡ option_map (λ r. r.txn) row → (j : Ticket) → txn_in (stood k o table.standing j) ≡ option_map (λ r. r.txn) (after.prepared j)
+    matches same = stood_all k o table.standing (λ j p. txn_in p ≡ option_map (λ r. r.txn) (after.prepared j)) (same ∙ sym (ap (option_map (λ r. r.txn)) own_row)) (λ j apart. fits.prepared j ∙ sym (ap (option_map (λ r. r.txn)) (others_row j apart)))
+
+    has_still : (new : Table) (g : Leaf) (j : Ticket) → is_ticket k j ≡ false → new.standing ≡ stood k o table.standing → has_exclusive g (stands table j (kept.prepared j)) ≡ has_exclusive g (stands new j (after.prepared j))
+    has_still new g j apart is =
+        sym (ap (λ r. has_exclusive g (stands new j r)) (others_row j apart)
+        ∙ has_by new table j (kept.prepared j) g (ap (λ f. f j) is ∙ if_false (is_ticket k j) o (table.standing j) apart))
+
+    reads_apart : (g : Leaf) (j : Ticket) → is_ticket k j ≡ false → reads j (stops k table.number (table.locks g)) ≡ reads j (table.locks g)
+    reads_apart g j apart = reads-stops_writing j k table.number (stops_reading k table.number (table.locks g)) ∙ others-stops_reading j k table.number (table.locks g) (ticket_sym j k ∙ apart)
+
+    writes_apart : (g : Leaf) (j : Ticket) → is_ticket k j ≡ false → writes j (stops k table.number (table.locks g)) ≡ writes j (table.locks g)
+    writes_apart g j apart = others-stops_writing j k table.number (stops_reading k table.number (table.locks g)) (ticket_sym j k ∙ apart) ∙ writes-stops_reading j k table.number (table.locks g)
+
+  -- nothing stands behind a ticket any more, nor has the store a row
+  pub fits_gone : (k : Ticket) (after : SiteContent) (alive : ℕ) → ((j : Ticket) → after.prepared j ≡ (if is_ticket k j then None else kept.prepared j)) → after.life ≡ kept.life → Fits after (gone k alive table)
+  fits_gone k after alive rows life =
+      let left : List Ticket = filter (λ j. not (is_ticket k j)) table.tickets in
+      record {
+        prepared = matches k None None after alive rows life refl;
+        life = fits.life ∙ sym life;
+        listed = stood_all k None table.standing (λ j o. is_some o ≡ true → In j left) (λ e. cc) (λ j apart e. in_filter (λ x. not (is_ticket k x)) j table.tickets (fits.listed j e) (ap not apart));
+        lives = stood_all k None table.standing (λ j o. In j left → is_some o ≡ true)
+            (λ here. clash (from_filter (λ x. not (is_ticket k x)) k table.tickets here).1 (ap not (ticket_self k)))
+            (λ j apart here. fits.lives j (from_filter (λ x. not (is_ticket k x)) j table.tickets here).0);
+        readers = λ g. stood_all k None table.standing (λ j o. reads j (stops k table.number (table.locks g)) ≡ true → is_visit o ≡ true)
+            (λ e. clash e (reads-stops_writing k k table.number (stops_reading k table.number (table.locks g)) ∙ reads-stops_reading k table.number (table.locks g)))
+            (λ j apart e. fits.readers g j (sym (reads_apart k None None after alive rows life g j apart) ∙ e));
+        writers = λ g j. go g j (is_ticket k j) refl;
+        drawn = stood_all k None table.standing (λ j o. is_some o ≡ true → IsDrawn table j) (λ e. cc) (λ j apart. fits.drawn j);
+        fresh = stood_all k None table.standing (λ j o. is_visit o ≡ true → (j.life ≡ table.life) × (j.visit ≤ table.number)) (λ e. cc) (λ j apart. fits.fresh j);
+        released = λ g. released-stops_writing k table.number (stops_reading k table.number (table.locks g)) (released-stops_reading k table.number (table.locks g) (fits.released g));
+      }
+    where
+      go : (g : Leaf) (j : Ticket) (b : Bool) → is_ticket k j ≡ b → writes j (stops k table.number (table.locks g)) ≡ has_exclusive g (stands (gone k alive table) j (after.prepared j))
+      go g j true e = subst (λ i. writes i (stops k table.number (table.locks g)) ≡ has_exclusive g (stands (gone k alive table) i (after.prepared i))) (ticket_is k j e)
+          (writes-stops_writing k table.number (stops_reading k table.number (table.locks g))
+          ∙ sym (ap (λ r. has_exclusive g (stands (gone k alive table) k r)) (own_row k None None after alive rows life) ∙ ap (λ o. has_exclusive g (visiting (λ h. stops k table.number (table.locks h)) k o)) (if_true (is_ticket k k) None (table.standing k) (ticket_self k))))
+      go g j false e = writes_apart k None None after alive rows life g j e ∙ fits.writers g j ∙ has_still k None None after alive rows life (gone k alive table) g j e refl
+
+  -- a visit is prepared
+  pub fits_prepared : (k : Ticket) (txn : Txn) (visit : visits.Visit) → table.standing k ≡ Some (standing.Alive visit) → (after : SiteContent) →
+      ((j : Ticket) → after.prepared j ≡ (if is_ticket k j then Some (record { txn = txn; changes = visit.changes }) else kept.prepared j)) → after.life ≡ kept.life → Fits after (prepared k txn table)
+  fits_prepared k txn visit is after rows life =
+      let new = Some (standing.Prepared txn) in
+      let row = Some (record { txn = txn; changes = visit.changes }) in
+      record {
+        prepared = matches k new row after 0 rows life refl;
+        life = fits.life ∙ sym life;
+        listed = stood_all k new table.standing (λ j o. is_some o ≡ true → In j table.tickets) (λ e. fits.listed k (ap is_some is)) (λ j apart. fits.listed j);
+        lives = stood_all k new table.standing (λ j o. In j table.tickets → is_some o ≡ true) (λ here. refl) (λ j apart. fits.lives j);
+        readers = λ g. stood_all k new table.standing (λ j o. reads j (stops_reading k table.number (table.locks g)) ≡ true → is_visit o ≡ true)
+            (λ e. clash e (reads-stops_reading k table.number (table.locks g)))
+            (λ j apart e. fits.readers g j (sym (others-stops_reading j k table.number (table.locks g) (ticket_sym j k ∙ apart)) ∙ e));
+        writers = λ g j. go g j (is_ticket k j) refl;
+        drawn = stood_all k new table.standing (λ j o. is_some o ≡ true → IsDrawn table j) (λ e. fits.drawn k (ap is_some is)) (λ j apart. fits.drawn j);
+        fresh = stood_all k new table.standing (λ j o. is_visit o ≡ true → (j.life ≡ table.life) × (j.visit ≤ table.number)) (λ e. cc) (λ j apart. fits.fresh j);
+        released = λ g. released-stops_reading k table.number (table.locks g) (fits.released g);
+      }
+    where
+      go : (g : Leaf) (j : Ticket) (b : Bool) → is_ticket k j ≡ b → writes j (stops_reading k table.number (table.locks g)) ≡ has_exclusive g (stands (prepared k txn table) j (after.prepared j))
+      go g j true e = subst (λ i. writes i (stops_reading k table.number (table.locks g)) ≡ has_exclusive g (stands (prepared k txn table) i (after.prepared i))) (ticket_is k j e)
+          (writes-stops_reading k k table.number (table.locks g) ∙ fits.writers g k
+          ∙ ap (λ r. has_exclusive g (stands table k r)) (row_none kept table fits k (ap txn_in is)) ∙ ap (λ o. has_exclusive g (visiting table.locks k o)) is
+          ∙ sym (ap (λ r. has_exclusive g (stands (prepared k txn table) k r)) (own_row k (Some (standing.Prepared txn)) (Some (record { txn = txn; changes = visit.changes })) after 0 rows life)))
+      go g j false e = writes-stops_reading j k table.number (table.locks g) ∙ fits.writers g j ∙ has_still k (Some (standing.Prepared txn)) (Some (record { txn = txn; changes = visit.changes })) after 0 rows life (prepared k txn table) g j e refl

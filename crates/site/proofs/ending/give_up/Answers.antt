@@ -1,0 +1,15 @@
+-- Why `give_up` meets its contract.
+use Rattle.std.proofs.Common.{◌≡◌, None, refl, sym, ◌∙◌}
+use Rattle.site.specs.State.{table_of}
+use Rattle.site.proofs.Acts.{steps_at}
+use Rattle.site.proofs.Finals.{visit_ends, given_up}
+use Rattle.site.proofs.ending.give_up.Goals as goal
+
+pub returns-then-is_visit : goal.returns-then-is_visit
+returns-then-is_visit c = λ kept fits.
+    let p = c.args.present.now in
+    let k = c.args.ticket.now in
+    let visit = sym c.is_visit.ensures ∙ c.if-is_visit.true in
+    steps_at kept kept (table_of p) (table_of c.end.new.self) _ _ None c.end.ensures.ended
+    (visit_ends kept p.standings.entries p.locks.items p.alive p.life p.number fits k kept _ c.end.ensures.ordered visit (record { content = λ leaf. refl; prepared = λ ticket. refl; life = refl }) _ None
+    (given_up kept p.standings.entries p.locks.items p.alive p.life p.number fits k visit))

@@ -1,0 +1,30 @@
+-- Why `prepare` meets its contract.
+use Rattle.std.proofs.Common.{◌≡◌, Option, refl, sym, ap, ◌∙◌, subst, IfOk}
+use Rattle.store.specs.declared.reply.Reply.{Reply}
+use Rattle.protocol.specs.Site.{Act, Ends}
+use Rattle.site.specs.Letters.{kept_by, name_of, said_by}
+use Rattle.site.specs.Local.{local}
+use Rattle.site.specs.State.{Steps, table_of}
+use Rattle.site.proofs.Acts.{steps_at}
+use Rattle.site.proofs.Finals.{visit_ends, prepare_ends, prepare_keeps, act_kept}
+use Rattle.site.proofs.ending.prepare.Goals as goal
+
+pub returns-in-Ends-clause-ok : goal.returns-in-Ends-clause-ok
+returns-in-Ends-clause-ok g c = λ clean sound fits.
+    let p = c.args.present.now in
+    let k = c.args.prepare.ticket in
+    let kept = g.S.SiteStore.kept c.args.store.now in
+    let answer = c.voted-in-Ends.result in
+    let r = prepare_ends kept p.standings.entries p.locks.items p.alive p.life p.number fits k (kept_by answer) c.args.txn c.args.prepare.count ((table_of p).standing k) c.in-Ends.vote refl (sym c.ballot_at.ensures ∙ c.in-Ends.is) in
+    let ends : Option Reply → Act local = λ a. Ends (name_of k) (said_by a) in
+    steps_at kept kept (table_of p) (table_of c.end.new.self) _ _ answer c.end.ensures.ended
+    (visit_ends kept p.standings.entries p.locks.items p.alive p.life p.number fits k kept _ c.end.ensures.ordered r.1 (record { content = λ leaf. refl; prepared = λ ticket. refl; life = refl }) _ answer
+    (r.0 ∙ ap ends (sym c.voted-in-Ends.ensures)))
+
+pub returns-in-Keeps-clause-ok : goal.returns-in-Keeps-clause-ok
+returns-in-Keeps-clause-ok g c = λ clean sound fits.
+    let p = c.args.present.now in
+    let k = c.args.prepare.ticket in
+    let kept = g.S.SiteStore.kept c.args.store.now in
+    act_kept kept (g.S.SiteStore.kept c.keep.new.store) p.standings.entries p.locks.items p.alive p.life p.number fits k (table_of c.keep.new.present) c.args.txn c.args.prepare.count (sym c.ballot_at.ensures ∙ c.in-Keeps.is) c.keep.result
+    (λ visit is. c.keep.ensures.ok clean sound fits visit is)

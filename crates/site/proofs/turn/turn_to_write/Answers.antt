@@ -1,0 +1,26 @@
+-- Why `turn_to_write` meets its contract.
+use Rattle.std.proofs.Common.{◌≡◌, ◌<◌, length, Some, refl, ap, ◌∙◌, arith}
+use Rattle.std.specs.Option.{option_copied}
+use Rattle.site.specs.Letters.{leaf_of, at_key}
+use Rattle.site.specs.Locks.{locks_in}
+use Rattle.site.specs.Turn.{write_turn}
+use Rattle.site.proofs.Tables.{IsPlace, placed, got}
+use Rattle.site.proofs.turn.turn_to_write.Goals as goal
+
+pub index-requires : goal.index-requires
+index-requires c =
+    let below : c.in-Some.place < length c.args.present.now.locks.items = (placed (leaf_of c.args.write.now) c.leaf_of.result.now c.args.present.now.locks.items c.as_slice.result.now c.in-Some.place c.in-Some.ensures c.leaf_of.ensures c.as_slice.ensures.value).below in
+    omega (arith, c.args.present.now.locks.ok.0)
+
+pub returns-in-Ok-clause-below : goal.returns-in-Ok-clause-below
+returns-in-Ok-clause-below c = (placed (leaf_of c.args.write.now) c.leaf_of.result.now c.args.present.now.locks.items c.as_slice.result.now c.in-Some.place c.in-Some.ensures c.leaf_of.ensures c.as_slice.ensures.value).below
+
+pub returns-in-Ok-clause-turn : goal.returns-in-Ok-clause-turn
+returns-in-Ok-clause-turn c =
+    let k = c.args.ticket.now in
+    let w = c.args.write.now in
+    let ls = c.args.present.now.locks.items in
+    let at : IsPlace (leaf_of w) c.in-Some.place ls = placed (leaf_of w) c.leaf_of.result.now ls c.as_slice.result.now c.in-Some.place c.in-Some.ensures c.leaf_of.ensures c.as_slice.ensures.value in
+    c.in-Ok.ensures
+    ∙ ap (λ l. write_turn k c.args.op (leaf_of w) (at_key w) l (option_copied c.standing.result)) (c.index.ensures ∙ got ls c.in-Some.place (locks_in (leaf_of w) ls) c.index.result.now at.here)
+    ∙ ap (write_turn k c.args.op (leaf_of w) (at_key w) (locks_in (leaf_of w) ls)) c.standing.ensures

@@ -1,0 +1,16 @@
+-- Why `open` meets its contract.
+use Rattle.std.proofs.Common.{Option, Some, ap}
+use Rattle.store.specs.declared.name.Ticket.{Ticket}
+use Rattle.store.specs.declared.reply.Reply.{Reply}
+use Rattle.store.specs.declared.reply.Reply.TheVariants as replies
+use Rattle.protocol.specs.Site.{Opens}
+use Rattle.site.specs.State.{table_of}
+use Rattle.site.proofs.Acts.{opens_steps, steps_at}
+use Rattle.site.proofs.writing.open.Goals as goal
+
+pub returns-clause-ok : goal.returns-clause-ok
+returns-clause-ok c = λ kept fits.
+    let p = c.args.present.now in
+    let answer : Ticket → Option Reply = λ ticket. Some (replies.Ticket ticket) in
+    steps_at kept kept (table_of p) (table_of c.open.new.self) _ Opens (answer c.in_ok-ticket.ticket) c.in_ok-ticket.ensures.ok
+    (opens_steps kept p.standings.entries p.locks.items p.alive p.life p.number fits (answer c.in_ok-ticket.ticket) (ap answer c.in_ok-ticket.ensures.ticket))

@@ -1,0 +1,10 @@
+-- A site's machine over its store, in reading order.
+pub mod Fault
+pub mod Local
+pub mod Locks
+pub mod Letters
+pub mod Standing
+pub mod Turn
+pub mod Rows
+pub mod State
+pub mod Moves

@@ -1,0 +1,179 @@
+//! What a site has in memory, and a restart loses.
+
+ghost use Rattle.std.specs.Prelude.{◌≡◌, ◌+◌, ◌-◌, ◌^◌, ◌<◌, ◌≤◌, ◌⊎◌, Some, IfOk, IfErr, OnOk, OnErr, length, map, slice_get, slice_set, unwrap_or};
+ghost use Rattle.std.specs.BTreeMap.{insert_entry, is_at, IsOrdered};
+ghost use Rattle.std.specs.FinMap as fin;
+ghost use Rattle.std.specs.Map.{set_value, remove_entry};
+ghost use Rattle.std.specs.Option.{option_copied};
+ghost use Rattle.store.specs.Name.{ticket_cmp};
+ghost use Rattle.site.specs.declared.fault.SiteFault.TheVariants as faults;
+ghost use Rattle.site.specs.declared.locks.Locks.{Locks as LocksNow};
+ghost use Rattle.site.specs.declared.standing.Standing.{Standing as StandingNow};
+ghost use Rattle.site.specs.declared.standing.Standing.TheVariants as standing;
+ghost use Rattle.site.specs.Locks.{with_reader, with_writer, stops, stops_reading};
+ghost use Rattle.site.specs.Standing.{with_done, intends};
+ghost use Rattle.site.specs.State.{table_of, table_from, is_visit, is_row, changes_at};
+ghost use Rattle.site.specs.Moves.{next_of};
+
+use crate::fault::SiteFault;
+use crate::locks::{Locks, stop, stop_reading};
+use crate::standing::{Standing, Standings, Visit, set_change, set_done, set_prepared};
+use std::alloc::Global;
+use store::changes::Changes;
+use store::name::{Ticket, Txn};
+use terms::memory::Memory;
+use terms::text::Text;
+use terms::write::Write;
+
+/// How many visits there may be.
+const VISITS: u64 = 1024;
+
+/// The greatest number of a ticket, or of a visit's operation.
+pub(crate) const LAST: u64 = 0x7fff_ffff_ffff_ffff;
+
+/// What a site has in memory.
+#[derive(Drop)]
+pub(crate) struct Present {
+    pub(crate) alloc: Global,
+    /// The site's own name.
+    pub(crate) name: Text,
+    /// The locks on each of its leaves.
+    pub(crate) locks: Vec<Locks>,
+    pub(crate) standings: Standings,
+    /// How many visits there are.
+    pub(crate) alive: u64,
+    pub(crate) life: u64,
+    /// The number of the last ticket drawn in this life.
+    pub(crate) number: u64,
+}
+
+impl Present {
+    /// What stands behind a ticket.
+    pub(crate) fn standing(&self, ticket: &Ticket) -> Option<&Standing>
+        ensures { option_copied result ≡ (table_of self.now).standing ticket.now }
+    {
+        self.standings.get(ticket)
+    }
+
+    /// Whether a visit stands behind a ticket.
+    pub(crate) fn is_visit(&self, ticket: &Ticket) -> bool
+        ensures { result ≡ is_visit ((table_of self.now).standing ticket.now) }
+    {
+        match self.standing(ticket) {
+            Some(standing) => standing.is_visit(),
+            None => false,
+        }
+    }
+
+    /// Whether a prepared row does.
+    pub(crate) fn is_prepared(&self, ticket: &Ticket) -> bool
+        ensures { result ≡ is_row ((table_of self.now).standing ticket.now) }
+    {
+        match self.standing(ticket) {
+            Some(standing) => !standing.is_visit(),
+            None => false,
+        }
+    }
+
+    /// What a visit intends.
+    pub(crate) fn changes(&self, ticket: &Ticket) -> Option<&Changes>
+        ensures { unwrap_or (option_copied result) fin.empty ≡ changes_at (table_of self.now) ticket.now }
+    {
+        match self.standing(ticket) {
+            Some(standing) => standing.changes(),
+            None => None,
+        }
+    }
+
+    /// Begins a visit, and draws its ticket.
+    pub(crate) fn open(&mut self) -> Result<Ticket, SiteFault>
+        ensures ticket { IfOk result (λ ticket. ticket ≡ next_of (table_of self.old)) }
+        ensures ok { OnOk result (table_of self.new ≡ table_from (insert_entry ticket_cmp self.old.standings.entries (next_of (table_of self.old)) (standing.Alive (record { done = 0; changes = fin.empty })))
+            self.old.locks.items (self.old.alive + 1) self.old.life (self.old.number + 1)) }
+        ensures err { OnErr result (table_of self.new ≡ table_of self.old) }
+        ensures ordered { IsOrdered ticket_cmp self.old.standings }
+        ensures fault { IfErr result (λ fault. (fault ≡ faults.Memory) ⊎ ((fault ≡ faults.Full) × ((1024 ≤ self.old.alive) ⊎ (2 ^ 63 ≤ self.old.number + 1)))) }
+    {
+        let _count = self.standings.len();
+        if self.alive >= VISITS || self.number >= LAST {
+            return Err(SiteFault::Full);
+        }
+        let ticket = Ticket {
+            life: self.life,
+            visit: self.number + 1,
+        };
+        let visit = Visit {
+            done: 0,
+            changes: Changes::new(self.alloc),
+        };
+        let _old = self.standings.insert(ticket, Standing::Alive(visit))?;
+        self.alive += 1;
+        self.number += 1;
+        Ok(ticket)
+    }
+
+    /// A visit has done an operation that reads the leaf at this place.
+    pub(crate) fn read(&mut self, ticket: &Ticket, op: u64, place: usize) -> Result<(), Memory>
+        requires { place < length self.old.locks.items }
+        ensures ok { (now : StandingNow) (at : LocksNow) → (table_of self.old).standing ticket.now ≡ Some now → slice_get self.old.locks.items place ≡ Some at
+            → OnOk result (table_of self.new ≡ table_from (set_value (is_at (ticket_cmp ticket.now)) self.old.standings.entries (with_done op now))
+            (slice_set self.old.locks.items place (with_reader ticket.now at)) self.old.alive self.old.life self.old.number) }
+        ensures err { OnErr result (table_of self.new ≡ table_of self.old) }
+    {
+        self.locks[place].share(*ticket)?;
+        set_done(&mut self.standings, ticket, op);
+        Ok(())
+    }
+
+    /// A visit has done an operation that writes the leaf at this place.
+    pub(crate) fn write(
+        &mut self,
+        ticket: &Ticket,
+        op: u64,
+        place: usize,
+        write: Write,
+    ) -> Result<(), Memory>
+        requires { place < length self.old.locks.items }
+        ensures ok { (now : StandingNow) (at : LocksNow) → (table_of self.old).standing ticket.now ≡ Some now → slice_get self.old.locks.items place ≡ Some at
+            → OnOk result (table_of self.new ≡ table_from (set_value (is_at (ticket_cmp ticket.now)) self.old.standings.entries (with_done op (intends write now)))
+            (slice_set self.old.locks.items place (with_writer ticket.now at)) self.old.alive self.old.life self.old.number) }
+        ensures err { OnErr result (table_of self.new ≡ table_of self.old) }
+    {
+        set_change(&mut self.standings, ticket, op, write)?;
+        self.locks[place].grant(*ticket);
+        Ok(())
+    }
+
+    /// A visit is prepared: its shared locks go.
+    pub(crate) fn prepare(&mut self, ticket: &Ticket, txn: Txn)
+        ensures { (now : StandingNow) → (table_of self.old).standing ticket.now ≡ Some now
+            → table_of self.new ≡ table_from (set_value (is_at (ticket_cmp ticket.now)) self.old.standings.entries (standing.Prepared txn))
+            (map (stops_reading ticket.now self.old.number) self.old.locks.items) (self.old.alive - 1) self.old.life self.old.number }
+    {
+        set_prepared(&mut self.standings, ticket, txn);
+        stop_reading(&mut self.locks, ticket, self.number);
+        self.alive = self.alive.saturating_sub(1);
+    }
+
+    /// A visit ends: its locks go.
+    pub(crate) fn end(&mut self, ticket: &Ticket)
+        ensures ended { table_of self.new ≡ table_from (remove_entry (is_at (ticket_cmp ticket.now)) self.old.standings.entries)
+            (map (stops ticket.now self.old.number) self.old.locks.items) (self.old.alive - 1) self.old.life self.old.number }
+        ensures ordered { IsOrdered ticket_cmp self.old.standings }
+    {
+        self.forget(ticket);
+        self.alive = self.alive.saturating_sub(1);
+    }
+
+    /// Nothing stands behind a ticket any more: its locks go.
+    pub(crate) fn forget(&mut self, ticket: &Ticket)
+        ensures gone { table_of self.new ≡ table_from (remove_entry (is_at (ticket_cmp ticket.now)) self.old.standings.entries)
+            (map (stops ticket.now self.old.number) self.old.locks.items) self.old.alive self.old.life self.old.number }
+        ensures alive { self.new.alive ≡ self.old.alive }
+        ensures ordered { IsOrdered ticket_cmp self.old.standings }
+    {
+        let _count = self.standings.len();
+        let _gone = self.standings.remove(ticket);
+        stop(&mut self.locks, ticket, self.number);
+    }
+}

@@ -1,0 +1,69 @@
+//! Visits read.
+
+ghost use Rattle.std.specs.Prelude.{◌≡◌, true, IfOk, OnErr, ◌≢◌, Err, ◌⊎◌, false};
+ghost use Rattle.store.specs.Fault.{HasRefused};
+ghost use Rattle.store.specs.declared.fault.StoreFault.TheVariants as store_faults;
+ghost use Rattle.site.specs.declared.fault.SiteFault.TheVariants as faults;
+ghost use Rattle.store.specs.SiteContent.{IsUnchanged};
+ghost use Rattle.protocol.specs.Site.{on_fetch};
+ghost use Rattle.site.specs.Letters.{name_of};
+ghost use Rattle.site.specs.State.{Fits, Steps, state_of, table_of};
+
+use crate::fault::SiteFault;
+use crate::present::{LAST, Present};
+use crate::rows::rows;
+use crate::turn::{Turn, turn_to_read};
+use crate::writing::refused;
+use store::fault::StoreFault;
+use store::order::Fetch;
+use store::reply::{Reason, Reply, Rows};
+use store::site_store::SiteStore;
+use terms::seq::Seq;
+
+/// A visit reads the parts of a leaf that meet conditions.
+pub(crate) fn fetch<S: SiteStore>(
+    store: &mut S,
+    present: &mut Present,
+    fetch: Fetch,
+    kept: bool,
+) -> Result<Option<Reply>, SiteFault>
+    ensures clean { S.is_clean store.new → S.is_clean store.old }
+    ensures sound { S.is_clean store.new → S.is_sound store.old → S.is_sound store.new }
+    ensures ok { S.is_clean store.new → S.is_sound store.old → Fits (S.kept store.old) (table_of present.old) → IfOk result (λ reply. Steps (S.kept store.old) (table_of present.old) (S.kept store.new) (table_of present.new)
+        (on_fetch (state_of (S.kept store.old) (table_of present.old)) true (name_of fetch.ticket) fetch.op fetch.leaf fetch.conds ((state_of (S.kept store.old) (table_of present.old)).status (name_of fetch.ticket))) reply) }
+    ensures err { OnErr result (table_of present.new ≡ table_of present.old) }
+    ensures same { S.is_clean store.new → S.is_sound store.old → IsUnchanged (S.kept store.old) (S.kept store.new) }
+    ensures refusal { result ≡ Err (faults.Store store_faults.Refused) → (kept ≡ false) ⊎ HasRefused (S.refused store.old) (S.refused store.new) }
+    ensures intact { S.is_clean store.new → S.is_sound store.old → result ≢ Err (faults.Store store_faults.Damaged) }
+{
+    let Fetch {
+        ticket,
+        op,
+        leaf,
+        conds,
+    } = fetch;
+    let (place, turn) = turn_to_read(present, &ticket, op, &leaf)?;
+    match turn {
+        Turn::Pass => Ok(None),
+        Turn::Gone => Ok(refused(&ticket, Reason::Gone)),
+        Turn::Refuse(reason) => {
+            present.end(&ticket);
+            Ok(refused(&ticket, reason))
+        }
+        Turn::Go => {
+            if op > LAST {
+                return Err(SiteFault::Full);
+            }
+            if !kept {
+                return Err(SiteFault::Store(StoreFault::Refused));
+            }
+            let parts = rows(store, present, &ticket, &leaf, &conds)?;
+            present.read(&ticket, op, place)?;
+            Ok(Some(Reply::Rows(Rows {
+                ticket,
+                op,
+                parts: Seq::new(parts),
+            })))
+        }
+    }
+}

@@ -1,0 +1,90 @@
+//! The rows that a fetch answers.
+
+ghost use Rattle.std.specs.Prelude.{◌≡◌, [], IfOk, ◌≢◌, Err};
+ghost use Rattle.store.specs.Fault.{HasRefused};
+ghost use Rattle.store.specs.declared.fault.StoreFault.TheVariants as store_faults;
+ghost use Rattle.site.specs.declared.fault.SiteFault.TheVariants as faults;
+ghost use Rattle.std.specs.FinMap as map;
+ghost use Rattle.std.specs.List.{filter};
+ghost use Rattle.terms.specs.Cond.{conds_hold};
+ghost use Rattle.store.specs.Content.{Content, IsKeyed, changed, parts};
+ghost use Rattle.store.specs.SiteContent.{IsUnchanged};
+ghost use Rattle.site.specs.Rows.{stored};
+ghost use Rattle.site.specs.State.{table_of, changes_at};
+
+use crate::fault::{SiteFault, site_fault};
+use crate::present::Present;
+use std::alloc::Global;
+use store::changes::Changes;
+use store::name::Ticket;
+use store::site_store::SiteStore;
+use terms::cond::Conds;
+use terms::copy::TryCopy;
+use terms::leaf::Leaf;
+use terms::memory::Memory;
+use terms::part::Part;
+
+/// The parts of a leaf that meet conditions, after a visit's own changes.
+pub(crate) fn rows<S: SiteStore>(
+    store: &mut S,
+    present: &Present,
+    ticket: &Ticket,
+    leaf: &Leaf,
+    conds: &Conds,
+) -> Result<Vec<Part>, SiteFault>
+    ensures clean { S.is_clean store.new → S.is_clean store.old }
+    ensures sound { S.is_clean store.new → S.is_sound store.old → S.is_sound store.new }
+    ensures rows { S.is_clean store.new → S.is_sound store.old → IfOk result (λ rows. rows.items ≡ parts conds.now (changed leaf.now (changes_at (table_of present.now) ticket.now) ((S.kept store.old).content leaf.now))) }
+    ensures same { S.is_clean store.new → S.is_sound store.old → IsUnchanged (S.kept store.old) (S.kept store.new) }
+    ensures refusal { result ≡ Err (faults.Store store_faults.Refused) → HasRefused (S.refused store.old) (S.refused store.new) }
+    ensures intact { S.is_clean store.new → S.is_sound store.old → result ≢ Err (faults.Store store_faults.Damaged) }
+{
+    let kept = match store.scan(leaf) {
+        Ok(parts) => parts,
+        Err(fault) => return Err(site_fault(fault)),
+    };
+    match present.changes(ticket) {
+        Some(changes) => Ok(overlaid(present.alloc, kept, changes, leaf, conds)?),
+        None => Ok(meeting(kept, conds)),
+    }
+}
+
+/// The parts that meet conditions, after changes. Each part stands under its own key.
+fn overlaid(
+    alloc: Global,
+    kept: Vec<Part>,
+    changes: &Changes,
+    leaf: &Leaf,
+    conds: &Conds,
+) -> Result<Vec<Part>, Memory>
+    ensures { (content : Content) → IsKeyed content → kept.items ≡ map.values content → IfOk result (λ rows. rows.items ≡ parts conds.now (changed leaf.now changes.now content)) }
+{
+    if !changes.touches(leaf) {
+        return Ok(meeting(kept, conds));
+    }
+    let mut all = stored(alloc, kept.as_slice(), leaf)?;
+    all.make_rooms(changes)?;
+    all.make(changes.copy()?);
+    let parts = all.list(leaf)?;
+    Ok(meeting(parts, conds))
+}
+
+/// The parts as changes that put them into the leaf.
+fn stored(alloc: Global, parts: &[Part], leaf: &Leaf) -> Result<Changes, Memory>
+    ensures { IfOk result (λ all. all ≡ stored leaf.now parts.now map.empty) }
+{
+    let mut all = Changes::new(alloc);
+    for part in parts {
+        all.put(leaf.copy()?, part.copy()?)?;
+    }
+    Ok(all)
+}
+
+/// The parts that meet conditions.
+fn meeting(parts: Vec<Part>, conds: &Conds) -> Vec<Part>
+    ensures { result.items ≡ filter (conds_hold conds.now) parts.items }
+{
+    let mut parts = parts;
+    parts.retain(|part| part.meets(conds.as_slice()));
+    parts
+}

@@ -1,0 +1,149 @@
+//! The subordinate's machine.
+
+ghost use Rattle.std.specs.Prelude.{◌≡◌, ◌≢◌, ◌<◌, [], None, Err, IfOk, IfErr, OnErr, vec_len, ◌⊎◌, false};
+ghost use Rattle.store.specs.Fault.{HasRefused};
+ghost use Rattle.store.specs.declared.fault.StoreFault.TheVariants as store_faults;
+ghost use Rattle.site.specs.declared.fault.SiteFault.TheVariants as faults;
+ghost use Rattle.std.specs.Vec.{vec_capacity};
+ghost use Rattle.protocol.specs.Site.{on_letter, on_give_up};
+ghost use Rattle.store.specs.SiteContent.{IsUnchanged};
+ghost use Rattle.site.specs.Letters.{name_of, order_body, txn_name, kept_by, letters_of};
+ghost use Rattle.site.specs.State.{Fits, Steps, Takes, state_of, table_of};
+
+use crate::ending::{abort, commit, give_up, prepare};
+use crate::fault::SiteFault;
+use crate::present::Present;
+use crate::reading::fetch;
+use crate::writing::{intend, open};
+use std::alloc::Global;
+use store::letter::{Body, Letter};
+use store::name::{Ticket, Txn};
+use store::order::Order;
+use store::reply::Reply;
+use store::site_store::SiteStore;
+use terms::same::Same;
+use terms::text::Text;
+
+/// A site: its store, and what it has in memory. What its clauses say holds where the store is clean as
+/// the call ends, and was sound, and where what is in memory fitted it as the call began.
+#[derive(Drop)]
+pub struct Site<S: SiteStore> {
+    store: S,
+    present: Present,
+}
+
+impl<S: SiteStore> Site<S> {
+    /// Takes a letter, and answers the letters that the site puts out. On a fault nothing has changed.
+    pub fn take(&mut self, letter: Letter) -> Result<Vec<Letter>, SiteFault>
+        ensures clean { S.is_clean self.new.store → S.is_clean self.old.store }
+        ensures sound { S.is_clean self.new.store → S.is_sound self.old.store → S.is_sound self.new.store }
+        ensures ok { S.is_clean self.new.store → S.is_sound self.old.store → Fits (S.kept self.old.store) (table_of self.old.present)
+            → IfOk result (λ letters. Takes (S.kept self.old.store) (table_of self.old.present) (S.kept self.new.store) (table_of self.new.present) letter letters.items) }
+        ensures err { OnErr result (table_of self.new.present ≡ table_of self.old.present) }
+        ensures same { S.is_clean self.new.store → S.is_sound self.old.store → OnErr result (IsUnchanged (S.kept self.old.store) (S.kept self.new.store)) }
+        ensures refusal { result ≡ Err (faults.Store store_faults.Refused) → HasRefused (S.refused self.old.store) (S.refused self.new.store) }
+        ensures intact { S.is_clean self.new.store → S.is_sound self.old.store → result ≢ Err (faults.Store store_faults.Damaged) }
+        ensures stranger { letter.site ≢ self.old.present.name → result ≡ Err faults.Stranger }
+    {
+        self.take_kept(letter, true)
+    }
+
+    /// So, but where `kept` is false the store isn't called, and counts as having refused.
+    pub fn take_kept(&mut self, letter: Letter, kept: bool) -> Result<Vec<Letter>, SiteFault>
+        ensures clean { S.is_clean self.new.store → S.is_clean self.old.store }
+        ensures sound { S.is_clean self.new.store → S.is_sound self.old.store → S.is_sound self.new.store }
+        ensures ok { S.is_clean self.new.store → S.is_sound self.old.store → Fits (S.kept self.old.store) (table_of self.old.present)
+            → IfOk result (λ letters. Takes (S.kept self.old.store) (table_of self.old.present) (S.kept self.new.store) (table_of self.new.present) letter letters.items) }
+        ensures err { OnErr result (table_of self.new.present ≡ table_of self.old.present) }
+        ensures same { S.is_clean self.new.store → S.is_sound self.old.store → OnErr result (IsUnchanged (S.kept self.old.store) (S.kept self.new.store)) }
+        ensures refusal { result ≡ Err (faults.Store store_faults.Refused) → (kept ≡ false) ⊎ HasRefused (S.refused self.old.store) (S.refused self.new.store) }
+        ensures intact { S.is_clean self.new.store → S.is_sound self.old.store → result ≢ Err (faults.Store store_faults.Damaged) }
+        ensures stranger { letter.site ≢ self.old.present.name → result ≡ Err faults.Stranger }
+    {
+        if !letter.site.same(&self.present.name) {
+            return Err(SiteFault::Stranger);
+        }
+        let letters = room(self.present.alloc)?;
+        let Letter { site, txn, body } = letter;
+        let order = match body {
+            Body::Order(order) => order,
+            Body::Reply(_) => return Ok(letters),
+        };
+        let reply = obey(&mut self.store, &mut self.present, txn, order, kept)?;
+        Ok(addressed(letters, site, txn, reply))
+    }
+
+    /// Ends a visit that isn't prepared, and does nothing else.
+    pub fn give_up(&mut self, ticket: &Ticket)
+        ensures ok { Fits (S.kept self.old.store) (table_of self.old.present) → Steps (S.kept self.old.store) (table_of self.old.present) (S.kept self.new.store) (table_of self.new.present)
+            (on_give_up (name_of ticket.now) ((state_of (S.kept self.old.store) (table_of self.old.present)).status (name_of ticket.now))) None }
+        ensures store { self.new.store ≡ self.old.store }
+    {
+        give_up(&mut self.present, ticket);
+    }
+
+    /// The store.
+    pub fn into_store(self) -> S
+    where
+        S: Drop,
+        ensures { result ≡ self.store }
+    {
+        self.store
+    }
+}
+
+/// Room for one letter.
+fn room(alloc: Global) -> Result<Vec<Letter>, SiteFault>
+    ensures empty { IfOk result (λ letters. letters.items ≡ []) }
+    ensures room { IfOk result (λ letters. vec_len letters < vec_capacity letters) }
+    ensures fault { IfErr result (λ fault. fault ≡ faults.Memory) }
+{
+    match Vec::with_capacity(alloc, 1) {
+        Ok(letters) => Ok(letters),
+        Err(_) => Err(SiteFault::Memory),
+    }
+}
+
+/// The letter of a reply, if there is one. There is room for it.
+fn addressed(letters: Vec<Letter>, site: Text, txn: Txn, reply: Option<Reply>) -> Vec<Letter>
+    requires { vec_len letters < vec_capacity letters }
+    ensures { letters.items ≡ [] → result.items ≡ letters_of site txn reply }
+{
+    let mut letters = letters;
+    if let Some(reply) = reply {
+        letters.push_reserved(Letter {
+            site,
+            txn,
+            body: Body::Reply(reply),
+        });
+    }
+    letters
+}
+
+/// What a site does with an order about a transaction, and what it answers. Where `kept` is false, the
+/// store isn't called, and counts as having refused.
+fn obey<S: SiteStore>(
+    store: &mut S,
+    present: &mut Present,
+    txn: Txn,
+    order: Order,
+    kept: bool,
+) -> Result<Option<Reply>, SiteFault>
+    ensures clean { S.is_clean store.new → S.is_clean store.old }
+    ensures sound { S.is_clean store.new → S.is_sound store.old → S.is_sound store.new }
+    ensures ok { S.is_clean store.new → S.is_sound store.old → Fits (S.kept store.old) (table_of present.old) → IfOk result (λ reply. Steps (S.kept store.old) (table_of present.old) (S.kept store.new) (table_of present.new)
+        (on_letter (state_of (S.kept store.old) (table_of present.old)) (txn_name txn) (kept_by reply) (order_body order)) reply) }
+    ensures err { OnErr result (table_of present.new ≡ table_of present.old) }
+    ensures same { S.is_clean store.new → S.is_sound store.old → OnErr result (IsUnchanged (S.kept store.old) (S.kept store.new)) }
+    ensures refusal { result ≡ Err (faults.Store store_faults.Refused) → (kept ≡ false) ⊎ HasRefused (S.refused store.old) (S.refused store.new) }
+    ensures intact { S.is_clean store.new → S.is_sound store.old → result ≢ Err (faults.Store store_faults.Damaged) }
+{
+    match order {
+        Order::Open => open(present),
+        Order::Fetch(order) => fetch(store, present, order, kept),
+        Order::Intend(intention) => intend(present, intention),
+        Order::Prepare(order) => prepare(store, present, txn, order, kept),
+        Order::Commit(ticket) => commit(store, present, ticket, kept),
+        Order::Abort(ticket) => abort(store, present, ticket, kept),
+    }
+}

@@ -1,0 +1,224 @@
+//! What becomes of an operation of a visit.
+
+ghost use Rattle.store.specs.declared.fault.StoreFault.{StoreFault as StoreFaultName};
+ghost use Rattle.std.specs.Prelude.{◌≡◌, ◌≢◌, ◌<◌, ◌==◌, suc, Some, None, Err, IfOk, length};
+ghost use Rattle.site.specs.declared.fault.SiteFault.TheVariants as faults;
+ghost use Rattle.site.specs.Locks.{place_in};
+ghost use Rattle.site.specs.State.{table_of};
+ghost use Rattle.std.specs.Option.{option_copied};
+ghost use Rattle.store.specs.Slot.{slot_of};
+ghost use Rattle.site.specs.Letters.{leaf_of, at_key};
+ghost use Rattle.site.specs.Local.{is_full};
+ghost use Rattle.site.specs.Turn.{ballot, read_turn, write_turn};
+
+use crate::fault::SiteFault;
+use crate::locks::{Locks, place_of};
+use crate::present::Present;
+use crate::standing::{Standing, Visit};
+use store::changes::Changes;
+use store::name::Ticket;
+use store::reply::{Reason, Vote};
+use store::slot::Slot;
+use terms::copy::TryCopy;
+use terms::leaf::Leaf;
+use terms::memory::Memory;
+use terms::write::Write;
+
+/// What becomes of an operation.
+#[derive(Clone, Copy)]
+pub(crate) enum Turn {
+    /// Nothing: its turn hasn't come, or has gone.
+    Pass,
+    /// There is no such visit.
+    Gone,
+    /// It is refused.
+    Refuse(Reason),
+    /// It is done.
+    Go,
+}
+
+/// What becomes of an operation that reads the leaf of these locks.
+fn read_turn(ticket: &Ticket, op: u64, locks: &Locks, standing: Option<&Standing>) -> Turn
+    ensures { result ≡ read_turn ticket.now op locks.now (option_copied standing.entry) }
+{
+    let Some(standing) = standing else {
+        return Turn::Gone;
+    };
+    match standing {
+        Standing::Prepared(_) => Turn::Pass,
+        Standing::Alive(visit) => {
+            if !is_next(visit, op) {
+                Turn::Pass
+            } else if locks.others_write(ticket) {
+                Turn::Refuse(Reason::Lock)
+            } else {
+                Turn::Go
+            }
+        }
+    }
+}
+
+/// What becomes of an operation that writes the leaf of these locks.
+fn write_turn(
+    ticket: &Ticket,
+    op: u64,
+    write: &Write,
+    locks: &Locks,
+    standing: Option<&Standing>,
+) -> Result<Turn, Memory>
+    ensures { IfOk result (λ turn. turn ≡ write_turn ticket.now op (leaf_of write.now) (at_key write.now) locks.now (option_copied standing.entry)) }
+{
+    let Some(standing) = standing else {
+        return Ok(Turn::Pass);
+    };
+    match standing {
+        Standing::Prepared(_) => Ok(Turn::Pass),
+        Standing::Alive(visit) => {
+            if !is_next(visit, op) {
+                return Ok(Turn::Pass);
+            }
+            if locks.is_foreign(ticket) {
+                return Ok(Turn::Refuse(Reason::Lock));
+            }
+            if is_full(&visit.changes, write)? {
+                return Ok(Turn::Refuse(Reason::Full));
+            }
+            Ok(Turn::Go)
+        }
+    }
+}
+
+/// Whether this is the visit's next operation.
+fn is_next(visit: &Visit, op: u64) -> bool
+    ensures { result ≡ (op == suc visit.now.done) }
+{
+    op > 0 && op - 1 == visit.done
+}
+
+/// How many intentions a visit may have.
+const INTENTIONS: usize = 65_536;
+
+/// Whether the write would be one intention too many.
+fn is_full(changes: &Changes, write: &Write) -> Result<bool, Memory>
+    ensures { IfOk result (λ full. full ≡ is_full (leaf_of write.now) (at_key write.now) changes.now) }
+{
+    if changes.len() < INTENTIONS {
+        return Ok(false);
+    }
+    let slot = slot_of(write)?;
+    Ok(changes.get(&slot).is_none())
+}
+
+/// The slot of a write.
+fn slot_of(write: &Write) -> Result<Slot, Memory>
+    ensures { IfOk result (λ slot. slot ≡ slot_of (leaf_of write.now) (at_key write.now).0) }
+{
+    match write {
+        Write::Put(leaf, part) => Ok(Slot {
+            leaf: leaf.copy()?,
+            key: part.key(),
+        }),
+        Write::Del(leaf, key) => Ok(Slot {
+            leaf: leaf.copy()?,
+            key: *key,
+        }),
+    }
+}
+
+/// The leaf of a write.
+fn leaf_of(write: &Write) -> &Leaf
+    ensures { result.now ≡ leaf_of write.now }
+{
+    match write {
+        Write::Put(leaf, _) => leaf,
+        Write::Del(leaf, _) => leaf,
+    }
+}
+
+/// The place of the leaf that an operation reads, and what becomes of the operation.
+pub(crate) fn turn_to_read(
+    present: &Present,
+    ticket: &Ticket,
+    op: u64,
+    leaf: &Leaf,
+) -> Result<(usize, Turn), SiteFault>
+    ensures place { IfOk result (λ found. place_in leaf.now present.now.locks.items ≡ Some found.0) }
+    ensures below { IfOk result (λ found. found.0 < length present.now.locks.items) }
+    ensures turn { IfOk result (λ found. found.1 ≡ read_turn ticket.now op ((table_of present.now).locks leaf.now) ((table_of present.now).standing ticket.now)) }
+    ensures stranger { place_in leaf.now present.now.locks.items ≡ None → result ≡ Err faults.Stranger }
+    ensures own { result ≡ Err faults.Stranger → place_in leaf.now present.now.locks.items ≡ None }
+    ensures store { (fault : StoreFaultName) → result ≢ Err (faults.Store fault) }
+{
+    let Some(place) = place_of(present.locks.as_slice(), leaf) else {
+        return Err(SiteFault::Stranger);
+    };
+    let turn = read_turn(ticket, op, &present.locks[place], present.standing(ticket));
+    Ok((place, turn))
+}
+
+/// The place of the leaf that an operation writes, and what becomes of the operation.
+pub(crate) fn turn_to_write(
+    present: &Present,
+    ticket: &Ticket,
+    op: u64,
+    write: &Write,
+) -> Result<(usize, Turn), SiteFault>
+    ensures place { IfOk result (λ found. place_in (leaf_of write.now) present.now.locks.items ≡ Some found.0) }
+    ensures below { IfOk result (λ found. found.0 < length present.now.locks.items) }
+    ensures turn { IfOk result (λ found. found.1 ≡ write_turn ticket.now op (leaf_of write.now) (at_key write.now) ((table_of present.now).locks (leaf_of write.now)) ((table_of present.now).standing ticket.now)) }
+    ensures stranger { place_in (leaf_of write.now) present.now.locks.items ≡ None → result ≡ Err faults.Stranger }
+    ensures own { result ≡ Err faults.Stranger → place_in (leaf_of write.now) present.now.locks.items ≡ None }
+    ensures store { (fault : StoreFaultName) → result ≢ Err (faults.Store fault) }
+{
+    let Some(place) = place_of(present.locks.as_slice(), leaf_of(write)) else {
+        return Err(SiteFault::Stranger);
+    };
+    match write_turn(
+        ticket,
+        op,
+        write,
+        &present.locks[place],
+        present.standing(ticket),
+    ) {
+        Ok(turn) => Ok((place, turn)),
+        Err(_) => Err(SiteFault::Memory),
+    }
+}
+
+/// What becomes of a prepare.
+#[derive(Clone, Copy)]
+pub(crate) enum Ballot {
+    /// The vote, and nothing else.
+    Stands(Vote),
+    /// The vote, and the visit ends.
+    Ends(Vote),
+    /// The store is to keep what the visit intends.
+    Keeps,
+}
+
+/// What becomes of a prepare that counts so many operations.
+pub(crate) fn ballot_at(present: &Present, ticket: &Ticket, count: u64) -> Ballot
+    ensures { result ≡ ballot count ((table_of present.now).standing ticket.now) }
+{
+    match present.standing(ticket) {
+        Some(standing) => ballot_of(standing, count),
+        None => Ballot::Stands(Vote::No),
+    }
+}
+
+fn ballot_of(standing: &Standing, count: u64) -> Ballot
+    ensures { result ≡ ballot count (Some standing.now) }
+{
+    match standing {
+        Standing::Prepared(_) => Ballot::Stands(Vote::Yes),
+        Standing::Alive(visit) => {
+            if visit.done != count {
+                Ballot::Ends(Vote::No)
+            } else if visit.changes.len() == 0 {
+                Ballot::Ends(Vote::Read)
+            } else {
+                Ballot::Keeps
+            }
+        }
+    }
+}
