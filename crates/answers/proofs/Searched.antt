@@ -1,0 +1,29 @@
+-- Rows with ascending keys, searched for a key.
+use Rattle.std.proofs.Common.{◌≡◌, ℕ, zero, suc, ◌<◌, ℤ, ◌<ℤ◌, Bool, true, false, cond, ◌||◌, List, [], ◌∷◌, length, get_or, Option, Some, None, Result, Ok, Err, refl, ap, sym, ◌∙◌, arith}
+use Rattle.std.specs.List.{AllByRecursion}
+use Rattle.std.specs.Ordering.{int_eq, is_eq}
+use Rattle.std.specs.declared.cmp.Ordering.TheVariants.{Equal}
+use Rattle.std.proofs.lemmas.Int.{ints}
+use Rattle.terms.specs.declared.value.Value.{Value}
+use Rattle.terms.specs.Row.{key_of}
+use Rattle.meaning.specs.Relation.{Ascends, has_key}
+use Rattle.meaning.proofs.Places.{each_at}
+use Rattle.meaning.proofs.Rows.{or_false}
+use Rattle.catalog.specs.Keyed.{row_at}
+
+apart : (a b key : ℤ) → a <ℤ b → int_eq b key ≡ true → int_eq a key ≡ false
+apart a b key below same = grind (arith, ints)
+
+-- a row at a place is the one that its key finds
+pub found_at : (key : ℤ) (rows : List (List Value)) (i : ℕ) (d : List Value) → Ascends rows → i < length rows → int_eq (key_of (get_or rows i d)) key ≡ true → row_at key rows ≡ Some (get_or rows i d)
+found_at key [] i d order within is = absurd (omega arith)
+found_at key (row ∷ rows) zero d order within is = rw is refl
+found_at key (row ∷ rows) (suc i) d order within is =
+    rw (apart (key_of row) (key_of (get_or rows i d)) key (each_at (λ later. key_of row <ℤ key_of later) rows i d order.0 (omega arith)) is) (found_at key rows i d order.1 (omega arith) is)
+
+-- a key that is not there finds none
+pub none_found : (key : ℤ) (rows : List (List Value)) → has_key key rows ≡ false → row_at key rows ≡ None
+none_found key [] absent = refl
+none_found key (row ∷ rows) absent =
+    let parts = or_false (int_eq (key_of row) key) (has_key key rows) absent in
+    rw parts.0 (none_found key rows parts.1)
