@@ -1,5 +1,5 @@
 pub mod Mapped
 pub mod Picked
 pub mod Merged
-pub mod Made
 pub mod Searched
+pub mod Made

@@ -1,10 +1,10 @@
 -- Rows of two lists with ascending keys, merged by their keys.
-use Rattle.std.proofs.Common.{◌≡◌, ℕ, zero, suc, ◌+◌, ◌<◌, ◌≤◌, ℤ, ◌<ℤ◌, int_lt, Bool, true, false, cond, not, List, [], ◌∷◌, ◌++◌, length, get_or, take, drop, filter, Option, Some, None, option_map, option_and_then, refl, ap, ap₂, sym, ◌∙◌, subst, arith}
+use Rattle.std.proofs.Common.{◌≡◌, ℕ, zero, suc, ◌+◌, ◌<◌, ◌≤◌, ℤ, ◌<ℤ◌, int_lt, Bool, true, false, cond, not, List, [], ◌∷◌, ◌++◌, length, get_or, take, drop, filter, Option, Some, None, option_map, option_and_then, refl, ap, ap₂, sym, ◌∙◌, subst, append_assoc, arith}
 use Rattle.std.specs.List.{AllByRecursion, cons_option, filter_map}
 use Rattle.std.specs.Option.{option_or}
 use Rattle.std.specs.Ordering.{int_eq}
 use Rattle.std.proofs.lemmas.Int.{ints}
-use Rattle.std.proofs.lemmas.List.{append-nil}
+use Rattle.std.proofs.lemmas.List.{append-nil, at_drop_more}
 use Rattle.terms.specs.declared.value.Value.{Value}
 use Rattle.terms.specs.Row.{key_of}
 use Rattle.meaning.specs.Relation.{Ascends}
@@ -244,3 +244,29 @@ ascends_drop [] zero order = tt
 ascends_drop [] (suc place) order = tt
 ascends_drop (row ∷ rows) zero order = order
 ascends_drop (row ∷ rows) (suc place) order = ascends_drop rows place order.1
+
+pub get_at_drop : (rows above : List (List Value)) (place : ℕ) (d first : List Value) → drop place rows ≡ first ∷ above → get_or rows place d ≡ first
+get_at_drop [] above zero d first is = absurd (cc)
+get_at_drop [] above (suc place) d first is = absurd (cc)
+get_at_drop (row ∷ rows) above zero d first is = cc
+get_at_drop (row ∷ rows) above (suc place) d first is = get_at_drop rows above place d first is
+
+-- the row at a place, and those behind it
+pub drop_row : (rows : List (List Value)) (i : ℕ) (row : List Value) → i < length rows → row ≡ get_or rows i row → drop i rows ≡ row ∷ drop (i + 1) rows
+drop_row rows i row within is = at_drop_more (λ (all : List (List Value)). all) rows i row within ∙ ap (λ (first : List Value). first ∷ drop (i + 1) rows) (sym is)
+
+-- one row more is paired
+pub pairs_more : (columns columns_other : List ℕ) (row : List Value) (rows rest above found all : List (List Value)) (same : Option (List Value)) → Ascends (row ∷ rows) → same ≡ row_at (key_of row) rest → above ≡ rows_above row rest →
+    found ++ key_pairs columns columns_other (row ∷ rows) rest ≡ all → found ++ cons_option (option_map (pair columns columns_other row) same) (key_pairs columns columns_other rows above) ≡ all
+pairs_more columns columns_other row rows rest above found all same order is above_is so_far =
+    ap₂ (λ (o : Option (List Value)) (more : List (List Value)). found ++ cons_option (option_map (pair columns columns_other row) o) (key_pairs columns columns_other rows more)) is above_is
+    ∙ ap (λ (more : List (List Value)). found ++ cons_option (option_map (pair columns columns_other row) (row_at (key_of row) rest)) more) (key_pairs_above columns columns_other row rows rest order.0) ∙ so_far
+
+pub pushed : (found more : List (List Value)) (row : List Value) → (found ++ row ∷ []) ++ more ≡ found ++ row ∷ more
+pushed found more row = append_assoc found (row ∷ []) more
+
+pub nothing_dropped : (rows above : List (List Value)) (place : ℕ) (first : List Value) → length rows ≤ place → drop place rows ≡ first ∷ above → ⊥
+nothing_dropped [] above zero first past is = cc
+nothing_dropped [] above (suc place) first past is = cc
+nothing_dropped (row ∷ rows) above zero first past is = omega arith
+nothing_dropped (row ∷ rows) above (suc place) first past is = nothing_dropped rows above place first (omega arith) is

@@ -4,6 +4,7 @@ use Rattle.std.specs.List.{slice_get}
 use Rattle.std.specs.Option.{option_or}
 use Rattle.std.proofs.Math.Path.{fun_ext}
 use Rattle.std.proofs.lemmas.Bool.Decides.{nat_tests}
+use Rattle.std.proofs.lemmas.List.{append-nil}
 use Rattle.terms.specs.declared.value.Value.{Value}
 use Rattle.terms.specs.declared.value.Value.TheVariants.{Int, Text}
 use Rattle.terms.specs.Row.{key_of}
@@ -25,13 +26,13 @@ seen_step first columns value values col =
       | false ↦ later (place_in col columns) value values
     ]
 
-nothing_at : (place : Option ℕ) → option_and_then (slice_get {A = Value} []) place ≡ None
-nothing_at None = refl
-nothing_at (Some place) = refl
+nothing_at : (values : List Value) (place : Option ℕ) → values ≡ [] → option_and_then (slice_get values) place ≡ None
+nothing_at values None none = refl
+nothing_at values (Some place) none = ap (λ (all : List Value). slice_get all place) none
 
 -- no value shows nothing
 pub nothing_seen : (columns : List ℕ) (col : ℕ) → seen_part columns [] col ≡ None
-nothing_seen columns col = nothing_at (place_in col columns)
+nothing_seen columns col = nothing_at [] (place_in col columns) refl
 
 pub never : {A : Type 0} (t : Bool) → ◌≡◌ {A = Option A} None (cond t None None)
 never true = refl
@@ -187,3 +188,16 @@ pair_key (col ∷ columns) others (value ∷ row) other first wide = key_first v
 pub beside_first : (columns others : List ℕ) → slice_get columns 0 ≡ Some 0 → slice_get (beside columns others) 0 ≡ Some 0
 beside_first [] others first = absurd (cc)
 beside_first (col ∷ columns) others first = first
+
+-- what is picked of no values, behind others
+pub picked_done : (passes : ℕ → Bool) (columns : List ℕ) (front rest all : List Value) → rest ≡ [] → front ++ picked passes columns rest ≡ all → front ≡ all
+picked_done passes columns front rest all none is =
+    sym (append-nil front) ∙ ap (λ (more : List Value). front ++ more) (sym (ap (picked passes columns) none ∙ nothing_picked columns)) ∙ is
+  where
+    nothing_picked : (cs : List ℕ) → picked passes cs [] ≡ []
+    nothing_picked [] = refl
+    nothing_picked (c ∷ cs) = refl
+
+pub no_length : {A : Type 0} (items : List A) → length items ≡ 0 → items ≡ []
+no_length [] none = refl
+no_length (item ∷ items) none = absurd (omega (arith, none))

@@ -7,7 +7,8 @@ use Rattle.std.proofs.lemmas.Int.{ints}
 use Rattle.terms.specs.declared.value.Value.{Value}
 use Rattle.terms.specs.Row.{key_of}
 use Rattle.meaning.specs.Relation.{Ascends, has_key}
-use Rattle.meaning.proofs.Places.{each_at}
+use Rattle.std.specs.List.Sorted.{IsBinarySearchResult, IsSearchInRange}
+use Rattle.meaning.proofs.Places.{each_at, ranked, searched_absent}
 use Rattle.meaning.proofs.Rows.{or_false}
 use Rattle.catalog.specs.Keyed.{row_at}
 
@@ -27,3 +28,14 @@ none_found key [] absent = refl
 none_found key (row ∷ rows) absent =
     let parts = or_false (int_eq (key_of row) key) (has_key key rows) absent in
     rw parts.0 (none_found key rows parts.1)
+
+-- what a binary search finds
+pub searched_found : (rows : List (List Value)) (key : ℤ) (result : Result ℕ ℕ) (i : ℕ) (d : List Value) → Ascends rows → IsSearchInRange result (length rows) → IsBinarySearchResult (ranked key) rows result → result ≡ Ok i → row_at key rows ≡ Some (get_or rows i d)
+searched_found rows key (Ok j) i d order within alike is =
+    let same : j ≡ i = cc in
+    found_at key rows j d order within (ap is_eq (alike d)) ∙ ap (λ (k : ℕ). Some (get_or rows k d)) same
+searched_found rows key (Err j) i d order within alike is = absurd (cc)
+
+pub searched_none : (rows : List (List Value)) (key : ℤ) (result : Result ℕ ℕ) (i : ℕ) → Ascends rows → IsSearchInRange result (length rows) → IsBinarySearchResult (ranked key) rows result → result ≡ Err i → row_at key rows ≡ None
+searched_none rows key (Ok j) i order within alike is = absurd (cc)
+searched_none rows key (Err j) i order within parted is = none_found key rows (searched_absent rows key (Err j) order within parted)

@@ -87,13 +87,15 @@ pub(crate) fn row_cut(
     let mut values = Vec::new(alloc);
     let mut rest = row.values();
     for col in columns {
-        let Some((value, later)) = rest.split_first() else {
-            return Ok(Row::new(values));
-        };
-        if is_seen(wanted, *col) {
-            values.push(value.copy()?)?;
+        match rest.split_first() {
+            Some((value, later)) => {
+                if is_seen(wanted, *col) {
+                    values.push(value.copy()?)?;
+                }
+                rest = later;
+            }
+            None => return Ok(Row::new(values)),
         }
-        rest = later;
     }
     Ok(Row::new(values))
 }
@@ -144,13 +146,15 @@ pub(crate) fn pair(
     let mut values = copy_all(alloc, row.values())?;
     let mut rest = other.values();
     for col in others {
-        let Some((value, later)) = rest.split_first() else {
-            return Ok(Row::new(values));
-        };
-        if !has(columns, *col) {
-            values.push(value.copy()?)?;
+        match rest.split_first() {
+            Some((value, later)) => {
+                if !has(columns, *col) {
+                    values.push(value.copy()?)?;
+                }
+                rest = later;
+            }
+            None => return Ok(Row::new(values)),
         }
-        rest = later;
     }
     Ok(Row::new(values))
 }
