@@ -21,7 +21,8 @@ use Rattle.plan.specs.Shape.{Shape, Empty, Fetch, Filter, Project, Union, KeyJoi
 use Rattle.plan.specs.Uniform.{Agree, beside, both_columns, columns_had, past, StayWithin}
 use Rattle.plan.proofs.OneSide.{all_at}
 use Rattle.answers.specs.declared.table.Table.{Table}
-use Rattle.answers.specs.Evaluated.{IsMade, cut, filtered, keyed, key_pairs, meeting, merged_rows, pair, partner_pairs, partnered, partnered_with, picked, united, united_with}
+use Rattle.answers.specs.Evaluated.{IsMade, cut, filtered, keyed, key_pairs, meeting, pair, partner_pairs, partnered, partnered_with, picked, united, united_with}
+use Rattle.answers.specs.Merged.{merged_rows}
 use Rattle.answers.specs.Table.{AreParts, HasRows, seen_rows}
 use Rattle.answers.proofs.Mapped.{KeepsKeyOf, ascends_kept, each, each_from, filter_is, found_key, map_is, passing, passing_keys, seen_mapped}
 use Rattle.answers.proofs.Merged.{merged_all, merged_ascends, merged_at}

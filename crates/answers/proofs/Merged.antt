@@ -11,7 +11,8 @@ use Rattle.meaning.specs.Relation.{Ascends}
 use Rattle.meaning.proofs.Keys.{below_trans, eq_above, eq_below, lt_below, lt_false, lt_true}
 use Rattle.meaning.proofs.Rows.{All-passed, Ascends-passed, below_all}
 use Rattle.catalog.specs.Keyed.{row_at}
-use Rattle.answers.specs.Evaluated.{key_pairs, merged_rows, pair, rows_above, rows_below}
+use Rattle.answers.specs.Evaluated.{key_pairs, pair}
+use Rattle.answers.specs.Merged.{merged_rows, rows_above, rows_below}
 use Rattle.answers.proofs.Picked.{never, or_none, passed_by, taken}
 
 -- a filter by the key, at a key

@@ -1,5 +1,5 @@
 -- A reader may skip this: what each node of a plan makes of the tables below it.
-use Rattle.std.specs.Prelude.{◌≡◌, ◌⊎◌, ℕ, Bool, not, if◌then◌else◌, List, [], ◌∷◌, ◌++◌, Option, Some, filter, int_lt, length, map, option_map}
+use Rattle.std.specs.Prelude.{◌≡◌, ◌⊎◌, ℕ, Bool, not, if◌then◌else◌, List, [], ◌∷◌, ◌++◌, Option, Some, filter, length, map, option_map}
 use Rattle.std.specs.List.{AllByRecursion, filter_map, slice_get}
 use Rattle.terms.specs.declared.cond.Cond.{Cond}
 use Rattle.terms.specs.declared.leaf.Leaf.{Leaf}
@@ -13,6 +13,7 @@ use Rattle.plan.specs.Rows.{is_seen, seen_meets, seen_part}
 use Rattle.plan.specs.Shape.{Shape}
 use Rattle.plan.specs.Uniform.{beside, columns_had, past}
 use Rattle.answers.specs.declared.table.Table.{Table}
+use Rattle.answers.specs.Merged.{merged_rows}
 use Rattle.answers.specs.Table.{HasRows}
 
 -- the values in those columns that pass a test
@@ -28,22 +29,6 @@ pair columns others row other = row ++ picked (λ col. not (has columns col)) ot
 -- the rows that meet conditions on columns
 abbrev pub meeting : List Cond → List ℕ → List (List Value) → List (List Value)
 meeting conds columns rows = filter (λ row. seen_meets conds (seen_part columns row)) rows
-
--- the rows with keys below one, and above it
-abbrev pub rows_below : List Value → List (List Value) → List (List Value)
-rows_below row rows = filter (λ other. int_lt (key_of other) (key_of row)) rows
-
-abbrev pub rows_above : List Value → List (List Value) → List (List Value)
-rows_above row rows = filter (λ other. int_lt (key_of row) (key_of other)) rows
-
--- those from a key on
-abbrev pub rows_from : List Value → List (List Value) → List (List Value)
-rows_from row rows = filter (λ other. not (int_lt (key_of other) (key_of row))) rows
-
--- the rows of both, by their keys; of two with one key the first
-abbrev pub merged_rows : List (List Value) → List (List Value) → List (List Value)
-merged_rows [] others = others
-merged_rows (row ∷ rows) others = rows_below row others ++ row ∷ merged_rows rows (rows_above row others)
 
 -- the rows that have one of the same key among the others, each put together with it
 abbrev pub key_pairs : List ℕ → List ℕ → List (List Value) → List (List Value) → List (List Value)

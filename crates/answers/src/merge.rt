@@ -5,7 +5,8 @@ ghost use Rattle.std.specs.Option.{option_copied};
 ghost use Rattle.terms.specs.Row.{key_of};
 ghost use Rattle.meaning.specs.Relation.{Ascends};
 ghost use Rattle.catalog.specs.Keyed.{row_at};
-ghost use Rattle.answers.specs.Evaluated.{key_pairs, merged_rows, pair, rows_above, rows_below};
+ghost use Rattle.answers.specs.Evaluated.{key_pairs};
+ghost use Rattle.answers.specs.Merged.{merged_rows, rows_above, rows_below};
 
 use crate::pick::pair;
 use std::alloc::Global;

@@ -1,7 +1,7 @@
 -- What each round of `merge::merged` keeps.
 use Rattle.std.proofs.Common.{◌≡◌, ◌++◌, drop}
 use Rattle.meaning.specs.Relation.{Ascends}
-use Rattle.answers.specs.Evaluated.{merged_rows}
+use Rattle.answers.specs.Merged.{merged_rows}
 use Rattle.answers.proofs.merge.merged.Given as goal
 
 abbrev pub invariant-loop-row : goal.invariant-loop-row
