@@ -3,3 +3,4 @@ pub mod Picked
 pub mod Merged
 pub mod Searched
 pub mod Made
+pub mod Listing
