@@ -4,3 +4,4 @@ pub mod Merged
 pub mod Searched
 pub mod Made
 pub mod Listing
+pub mod WritesLaw
