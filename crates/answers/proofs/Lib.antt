@@ -5,3 +5,5 @@ pub mod Searched
 pub mod Made
 pub mod Listing
 pub mod WritesLaw
+pub mod LeafByLeaf
+pub mod Statements

@@ -34,7 +34,7 @@ same_itself : (values : List Value) → same_part values values ≡ true
 same_itself [] = refl
 same_itself (value ∷ values) = rw (same_value value) (same_itself values)
 
-none_between : (leaf : Leaf) (key : ℤ) (o : Option (List Value)) → write_between leaf key o o ≡ None
+pub none_between : (leaf : Leaf) (key : ℤ) (o : Option (List Value)) → write_between leaf key o o ≡ None
 none_between leaf key None = refl
 none_between leaf key (Some values) = rw (same_itself values) refl
 

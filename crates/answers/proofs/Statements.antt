@@ -1,0 +1,138 @@
+-- What the code makes of the table of a SELECT, a DELETE or an UPDATE is the statement's meaning.
+use Rattle.std.proofs.Common.{◌≡◌, ℕ, ◌<◌, Bool, true, false, cond, not, ◌||◌, ◌==◌, List, [], ◌∷◌, ◌++◌, length, filter, map, Option, Some, None, option_map, option_and_then, refl, ap, ap₂, sym, ◌∙◌, subst, arith}
+use Rattle.std.specs.List.{AllByRecursion, filter_map, range_with_len}
+use Rattle.std.proofs.lemmas.List.{length-map}
+use Rattle.std.proofs.lemmas.List.Sums.{length-filter}
+use Rattle.terms.specs.declared.value.Kind.{Kind}
+use Rattle.terms.specs.declared.value.Value.{Value}
+use Rattle.terms.specs.Cond.{conds_hold}
+use Rattle.terms.specs.Row.{FitsKinds, key_of}
+use Rattle.meaning.specs.declared.answer.Answer.{Answer}
+use Rattle.meaning.specs.declared.answer.Answer.TheVariants as answer
+use Rattle.meaning.specs.declared.schema.RelationSchema.{RelationSchema}
+use Rattle.meaning.specs.declared.statement.Assignment.{Assignment}
+use Rattle.meaning.specs.declared.statement.Delete.{Delete}
+use Rattle.meaning.specs.declared.statement.Join.{Join}
+use Rattle.meaning.specs.declared.statement.Select.{Select}
+use Rattle.meaning.specs.declared.statement.Source.{Source}
+use Rattle.meaning.specs.declared.statement.Statement.TheVariants as statement
+use Rattle.meaning.specs.declared.statement.Update.{Update}
+use Rattle.meaning.specs.Listed.{listed}
+use Rattle.meaning.specs.Matched.{matched, unmatched}
+use Rattle.meaning.specs.Meaning.{after_delete, after_update, select_answer, with_changed}
+use Rattle.meaning.specs.Relation.{Ascends, IsRelation}
+use Rattle.meaning.specs.Schema.{kinds_of, names_of, relation_named}
+use Rattle.meaning.specs.Selected.{names_read, rows_read, selected}
+use Rattle.meaning.specs.Statement.{IsDeleteOf, IsSelectOf, IsUpdateOf}
+use Rattle.meaning.specs.Updated.{assign, updated, updated_row}
+use Rattle.meaning.specs.Whole.{FitsSchema, Relations, rows_of}
+use Rattle.meaning.proofs.Changed.{Ascends-updated, updated_keeps_keys, updated_parts}
+use Rattle.meaning.proofs.ListedLemmas.{listed_all}
+use Rattle.meaning.proofs.Rows.{All-passed, Ascends-passed}
+use Rattle.catalog.specs.Catalogue.{Catalogue}
+use Rattle.catalog.specs.Counts.{has}
+use Rattle.catalog.specs.FragmentLeaf.{catalogue_leaves, schemas_of}
+use Rattle.catalog.specs.Keyed.{row_at}
+use Rattle.plan.specs.Found.{columns_joined}
+use Rattle.plan.specs.Need.{columns_of, places_to}
+use Rattle.plan.specs.Rows.{is_seen}
+use Rattle.plan.proofs.Covered.{or_second}
+use Rattle.plan.proofs.JoinFound.{fits_long}
+use Rattle.answers.specs.declared.change.Change.{Change}
+use Rattle.answers.specs.declared.finish.Outcome.{Outcome}
+use Rattle.answers.specs.declared.table.Table.{Table}
+use Rattle.answers.specs.Outcome as spec
+use Rattle.answers.specs.Outcome.{changes_of, delete_outcome, removed, rows_changed, select_outcome, update_outcome, with_changes}
+use Rattle.answers.specs.Table.{IsTableOf}
+use Rattle.answers.specs.Writes.{writes_between}
+use Rattle.answers.proofs.LeafByLeaf.{IsChange, nothing_between, replaced_change, writes_are}
+use Rattle.answers.proofs.Listing.{all_seen, joined_ascends, shown_found}
+use Rattle.answers.proofs.Mapped.{KeepsKeyOf, each, filter_is, passing, passing_keys}
+use Rattle.answers.proofs.WritesLaw.{Lead, lead_mapped}
+
+-- an outcome is that of a meaning
+pub record IsRight (catalogue : Catalogue) (whole : Relations) (meant : Answer × Relations) (outcome : Outcome) : Type 0 where
+  pub answered : outcome.answer ≡ meant.0
+  pub wrote : outcome.writes ≡ writes_between catalogue whole meant.1
+
+-- SELECT
+
+has_front : (front more : List ℕ) (col : ℕ) → has front col ≡ true → has (front ++ more) col ≡ true
+has_front [] more col h = absurd (cc)
+has_front (first ∷ front) more col h = step (first == col) (has front col) (has (front ++ more) col) (has_front front more col) h
+  where
+    step : (t rest longer : Bool) → (rest ≡ true → longer ≡ true) → (t || rest) ≡ true → (t || longer) ≡ true
+    step true rest longer more h = refl
+    step false rest longer more h = more h
+
+seen_joined : (select : Select) (join : Option Join) (col : ℕ) → has select.columns col ≡ true → is_seen (columns_joined select join) col ≡ true
+seen_joined select None col h = or_second (col == 0) (has (select.columns ++ columns_of select.conds) col) (has_front select.columns (columns_of select.conds) col h)
+seen_joined select (Some join) col h =
+    let read = select.columns ++ columns_of select.conds in
+    let width = length select.from.columns in
+    or_second (col == 0) (has (join.col ∷ width ∷ read) col) (or_second (join.col == col) (has (width ∷ read) col) (or_second (width == col) (has read col) (has_front select.columns (columns_of select.conds) col h)))
+
+read_ascends : (from : Source) (join : Option Join) (whole : Relations) → Ascends (rows_of whole from.name) → Ascends (rows_read from join whole)
+read_ascends from None whole order = order
+read_ascends from (Some join) whole order = joined_ascends join.col (rows_of whole join.relation.name) (rows_of whole from.name) order
+
+pub select_right : (catalogue : Catalogue) (select : Select) (whole : Relations) (table : Table) → IsSelectOf (schemas_of catalogue) select → FitsSchema (schemas_of catalogue) whole → IsTableOf (statement.Select select) whole table →
+    IsRight catalogue whole (select_answer select whole, whole) (select_outcome select table)
+select_right catalogue select whole table of fit is =
+    let asked = columns_joined select select.join in
+    let order = (fit.fit select.from.name of.relation of.there).ascends in
+    record {
+      answered =
+        ap (answer.Rows (listed select.columns (names_read select.from select.join)))
+        (shown_found select.conds asked select.columns table.columns table.rows (rows_read select.from select.join whole) is.order (read_ascends select.from select.join whole order) (all_seen asked select.columns (seen_joined select select.join)) is.seen);
+      wrote = sym (nothing_between catalogue whole);
+    }
+
+-- the rows that a DELETE or an UPDATE changes are those that meet its conditions
+
+whole_rows : (width : ℕ) (rows : List (List Value)) → AllByRecursion (λ row. length row ≡ width) rows → map (listed (places_to width)) rows ≡ rows
+whole_rows width [] wide = refl
+whole_rows width (row ∷ rows) wide =
+    let one : listed (places_to width) row ≡ row = ap (λ (n : ℕ). listed (range_with_len 0 n) row) (sym wide.0) ∙ listed_all row in
+    ap₂ (λ (first : List Value) (rest : List (List Value)). first ∷ rest) one (whole_rows width rows wide.1)
+
+all_wide : (types : List Kind) (width : ℕ) (rows : List (List Value)) → length types ≡ width → AllByRecursion (FitsKinds types) rows → AllByRecursion (λ row. length row ≡ width) rows
+all_wide types width [] same fit = tt
+all_wide types width (row ∷ rows) same fit = (fits_long types row fit.0 ∙ same, all_wide types width rows same fit.1)
+
+named_wide : (source : Source) (relation : RelationSchema) → source.columns ≡ names_of relation → length (kinds_of relation) ≡ length source.columns
+named_wide source relation names = length-map relation.columns (λ c. c.kind) ∙ sym (length-map relation.columns (λ c. c.name)) ∙ sym (ap length names)
+
+-- DELETE
+
+passes_not : (test : List Value → Bool) (row : List Value) (t : Bool) → test row ≡ t → passing (λ r. not (test r)) row ≡ cond t None (Some row)
+passes_not test row true is = rw is refl
+passes_not test row false is = rw is refl
+
+delete_leads : (test : List Value → Bool) (rows : List (List Value)) → Ascends rows → Lead removed (filter test rows) rows (filter (λ row. not (test row)) rows)
+delete_leads test rows order =
+    let P : List (List Value) → Type 0 = Lead removed (filter test rows) rows in
+    subst P (sym (filter_is (λ row. not (test row)) rows))
+    (lead_mapped test (passing (λ row. not (test row))) removed rows order (each (KeepsKeyOf (passing (λ row. not (test row)))) rows (passing_keys (λ row. not (test row))))
+    (λ row is. passes_not test row false is) (λ row is. (refl, refl, sym (passes_not test row true is))))
+
+pub delete_right : (catalogue : Catalogue) (delete : Delete) (whole : Relations) (table : Table) → IsDeleteOf (schemas_of catalogue) delete → FitsSchema (schemas_of catalogue) whole → IsTableOf (statement.Delete delete) whole table →
+    IsRight catalogue whole (after_delete delete whole) (delete_outcome (catalogue_leaves catalogue) delete (rows_changed (length delete.relation.columns) table))
+delete_right catalogue delete whole table of fit is =
+    let name = delete.relation.name in
+    let width = length delete.relation.columns in
+    let before = rows_of whole name in
+    let test : List Value → Bool = conds_hold delete.conds in
+    let changed = filter test before in
+    let relation = fit.fit name of.relation of.there in
+    let wide = all_wide (kinds_of of.relation) width before (named_wide delete.relation of.relation of.names) relation.fit in
+    let rows : rows_changed width table ≡ changed =
+    shown_found delete.conds (places_to width) (places_to width) table.columns table.rows before is.order relation.ascends (all_seen (places_to width) (places_to width) (λ col h. or_second (col == 0) (has (places_to width) col) h)) is.seen
+    ∙ whole_rows width changed (All-passed (λ row. length row ≡ width) test before wide) in
+    let P : List (List Value) → Type 0 = λ all. IsRight catalogue whole (after_delete delete whole) (delete_outcome (catalogue_leaves catalogue) delete all) in
+    subst P (sym rows) (record {
+      answered = ap answer.Changed (length-filter test before);
+      wrote =
+        writes_are catalogue name whole (after_delete delete whole).1 removed changed before (unmatched delete.conds before) (replaced_change whole name (unmatched delete.conds before) (fit.there name of.relation of.there))
+        (Ascends-passed test before relation.ascends) relation.ascends (Ascends-passed (λ row. not (test row)) before relation.ascends) (delete_leads test before relation.ascends);
+    })
