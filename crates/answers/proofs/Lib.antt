@@ -7,3 +7,4 @@ pub mod Listing
 pub mod WritesLaw
 pub mod LeafByLeaf
 pub mod Statements
+pub mod Inserted

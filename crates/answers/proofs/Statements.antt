@@ -1,6 +1,6 @@
 -- What the code makes of the table of a SELECT, a DELETE or an UPDATE is the statement's meaning.
 use Rattle.std.proofs.Common.{◌≡◌, ℕ, ◌<◌, Bool, true, false, cond, not, ◌||◌, ◌==◌, List, [], ◌∷◌, ◌++◌, length, filter, map, Option, Some, None, option_map, option_and_then, refl, ap, ap₂, sym, ◌∙◌, subst, arith}
-use Rattle.std.specs.List.{AllByRecursion, filter_map, range_with_len}
+use Rattle.std.specs.List.{AllByRecursion, cons_option, filter_map, range_with_len}
 use Rattle.std.proofs.lemmas.List.{length-map}
 use Rattle.std.proofs.lemmas.List.Sums.{length-filter}
 use Rattle.terms.specs.declared.value.Kind.{Kind}
@@ -136,3 +136,100 @@ delete_right catalogue delete whole table of fit is =
         writes_are catalogue name whole (after_delete delete whole).1 removed changed before (unmatched delete.conds before) (replaced_change whole name (unmatched delete.conds before) (fit.there name of.relation of.there))
         (Ascends-passed test before relation.ascends) relation.ascends (Ascends-passed (λ row. not (test row)) before relation.ascends) (delete_leads test before relation.ascends);
     })
+
+-- UPDATE
+
+row_keeps : (update : Update) (row : List Value) → KeepsKeyOf (updated_row update) row
+row_keeps update row made is =
+    let one : updated update (row ∷ []) ≡ Some (made ∷ []) = ap (option_and_then (λ first. option_map (λ others. first ∷ others) (Some []))) is in
+    let keys = updated_keeps_keys update (row ∷ []) (made ∷ []) one in cc
+
+-- the rows after an UPDATE, row by row
+updated_mapped : (update : Update) (rows new : List (List Value)) → updated update rows ≡ Some new → new ≡ filter_map (updated_row update) rows
+updated_mapped update [] new is = cc
+updated_mapped update (row ∷ rows) new is =
+    let parts = updated_parts update row rows new is in
+    parts.4 ∙ ap₂ (λ (o : Option (List Value)) (rest : List (List Value)). cons_option o rest) (sym parts.2) (updated_mapped update rows parts.1 parts.3)
+
+-- a change of a matched row
+abbrev assigned : Update → List Value → Change
+assigned update row = record { key = key_of row; before = Some row; after = assign row update.sets row }
+
+no_change : (update : Update) (row : List Value) (rest : List Change) (o : Option (List (List Value))) (changes : Option (List Change)) (more : List (List Value) → List (List Value)) → changes ≡ option_map (λ new. rest) o → changes ≡ option_map (λ new. rest) (option_map more o)
+no_change update row rest None changes more is = is
+no_change update row rest (Some new) changes more is = is
+
+one_change : (update : Update) (row : List Value) (rest : List Change) (made : Option (List Value)) (o : Option (List (List Value))) → assign row update.sets row ≡ made →
+    option_and_then (λ new. option_map (λ more. spec.replaced row new ∷ more) (option_map (λ new. rest) o)) made ≡ option_map (λ new. assigned update row ∷ rest) (option_and_then (λ first. option_map (λ others. first ∷ others) o) made)
+one_change update row rest None o is = refl
+one_change update row rest (Some made) None is = refl
+one_change update row rest (Some made) (Some new) is =
+    let change = λ (after : Option (List Value)). let c : Change = record { key = key_of row; before = Some row; after = after } in c in
+    ap (λ (after : Option (List Value)). Some (change after ∷ rest)) (sym is)
+
+-- the changes of the matched rows, or none where a row has none
+pub changes_are : (update : Update) (rows : List (List Value)) →
+    changes_of update.sets (filter (conds_hold update.conds) rows) ≡ option_map (λ new. map (assigned update) (filter (conds_hold update.conds) rows)) (updated update rows)
+changes_are update [] = refl
+changes_are update (row ∷ rows) =
+    let test : List Value → Bool = conds_hold update.conds in
+    let rest = map (assigned update) (filter test rows) in
+    let so_far = changes_are update rows in
+    elim (test row) as (λ t.
+    changes_of update.sets (cond t (row ∷ filter test rows) (filter test rows))
+    ≡ option_map (λ new. map (assigned update) (cond t (row ∷ filter test rows) (filter test rows))) (option_and_then (λ first. option_map (λ others. first ∷ others) (updated update rows)) (cond t (assign row update.sets row) (Some row)))) [
+      | true ↦
+          ap (λ (changes : Option (List Change)). option_and_then (λ new. option_map (λ more. spec.replaced row new ∷ more) changes) (assign row update.sets row)) so_far
+          ∙ one_change update row rest (assign row update.sets row) (updated update rows) refl
+      | false ↦ no_change update row rest (updated update rows) (changes_of update.sets (filter test rows)) (λ others. row ∷ others) so_far
+    ]
+
+row_stays : (update : Update) (row : List Value) → conds_hold update.conds row ≡ false → updated_row update row ≡ Some row
+row_stays update row is = rw is refl
+
+row_assigned : (update : Update) (row : List Value) → conds_hold update.conds row ≡ true → assign row update.sets row ≡ updated_row update row
+row_assigned update row is = rw is refl
+
+update_leads : (update : Update) (rows new : List (List Value)) → updated update rows ≡ Some new → Ascends rows → Lead (assigned update) (filter (conds_hold update.conds) rows) rows new
+update_leads update rows new is order =
+    let P : List (List Value) → Type 0 = Lead (assigned update) (filter (conds_hold update.conds) rows) rows in
+    subst P (sym (updated_mapped update rows new is))
+    (lead_mapped (conds_hold update.conds) (updated_row update) (assigned update) rows order (each (KeepsKeyOf (updated_row update)) rows (row_keeps update)) (row_stays update)
+    (λ row holds. (refl, refl, row_assigned update row holds)))
+
+pub update_right : (catalogue : Catalogue) (update : Update) (whole : Relations) (table : Table) → IsUpdateOf (schemas_of catalogue) update → FitsSchema (schemas_of catalogue) whole → IsTableOf (statement.Update update) whole table →
+    IsRight catalogue whole (after_update update whole) (update_outcome (catalogue_leaves catalogue) update (rows_changed (length update.relation.columns) table))
+update_right catalogue update whole table of fit is =
+    let P : List (List Value) → Type 0 = λ all. IsRight catalogue whole (after_update update whole) (update_outcome (catalogue_leaves catalogue) update all) in
+    let Q : Option (List Change) → Type 0 = λ changes. IsRight catalogue whole (after_update update whole) (with_changes (catalogue_leaves catalogue) name (length changed) changes) in
+    subst P (sym rows) (subst Q (sym (changes_are update before)) (at (updated update before) refl))
+  where
+    name : List ℕ
+    name = update.relation.name
+
+    width : ℕ
+    width = length update.relation.columns
+
+    before : List (List Value)
+    before = rows_of whole name
+
+    changed : List (List Value)
+    changed = filter (conds_hold update.conds) before
+
+    relation : IsRelation (kinds_of of.relation) before
+    relation = fit.fit name of.relation of.there
+
+    rows : rows_changed width table ≡ changed
+    rows =
+        shown_found update.conds (places_to width) (places_to width) table.columns table.rows before is.order relation.ascends (all_seen (places_to width) (places_to width) (λ col h. or_second (col == 0) (has (places_to width) col) h)) is.seen
+        ∙ whole_rows width changed (All-passed (λ row. length row ≡ width) (conds_hold update.conds) before (all_wide (kinds_of of.relation) width before (named_wide update.relation of.relation of.names) relation.fit))
+
+    at : (made : Option (List (List Value))) → updated update before ≡ made →
+        IsRight catalogue whole (with_changed update whole made) (with_changes (catalogue_leaves catalogue) name (length changed) (option_map (λ new. map (assigned update) changed) made))
+    at None none = record { answered = refl; wrote = sym (nothing_between catalogue whole) }
+    at (Some new) made = record {
+      answered = ap answer.Changed (length-filter (conds_hold update.conds) before);
+      wrote =
+        writes_are catalogue name whole (with_changed update whole (Some new)).1 (assigned update) changed before new (replaced_change whole name new (fit.there name of.relation of.there))
+        (Ascends-passed (conds_hold update.conds) before relation.ascends) relation.ascends (Ascends-updated update before new made relation.ascends) (update_leads update before new made relation.ascends);
+    }
