@@ -8,3 +8,4 @@ pub mod WritesLaw
 pub mod LeafByLeaf
 pub mod Statements
 pub mod Inserted
+pub mod Finished

@@ -39,6 +39,25 @@ pub struct Outcome {
     pub writes: Seq<Write>,
 }
 
+/// What a statement of the catalogue's schema answers and writes, by its table.
+///
+/// Over each whole database of which the table has what the statement is to find there, it is the
+/// statement's meaning: the answer, and the writes that lead to the whole database after it.
+pub fn finish(
+    alloc: Global,
+    catalog: &Catalog,
+    statement: &Statement,
+    table: &Table,
+) -> Result<Outcome, Memory>
+    requires { IsStatementOf (schemas_of (catalogue_of catalog.now)) statement.now }
+    ensures answer { IfOk result (λ outcome. (whole : Relations) → FitsSchema (schemas_of (catalogue_of catalog.now)) whole → IsTableOf statement.now whole table.now → outcome.answer ≡ (meaning statement.now whole).0) }
+    ensures writes { IfOk result (λ outcome. (whole : Relations) → FitsSchema (schemas_of (catalogue_of catalog.now)) whole → IsTableOf statement.now whole table.now →
+        outcome.writes ≡ writes_between (catalogue_of catalog.now) whole (meaning statement.now whole).1) }
+{
+    let _relations = catalog.relations();
+    outcome_by(alloc, catalog.leaves(), statement, table)
+}
+
 /// What a statement makes of its table.
 pub(crate) fn outcome_by(
     alloc: Global,
