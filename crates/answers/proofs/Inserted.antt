@@ -1,19 +1,17 @@
 -- What the code makes of the table of an INSERT is the statement's meaning.
-use Rattle.std.proofs.Common.{◌≡◌, ℕ, ℤ, Bool, true, false, cond, ◌&&◌, ◌||◌, int_lt, List, [], ◌∷◌, length, Option, Some, None, option_map, option_and_then, refl, ap, ap₂, sym, ◌∙◌, subst, arith}
-use Rattle.std.specs.List.{AllByRecursion, slice_get}
-use Rattle.std.specs.Ordering.{int_cmp, int_eq, is_eq}
+use Rattle.std.proofs.Common.{◌≡◌, ℕ, ℤ, Bool, true, false, cond, ◌&&◌, ◌||◌, int_lt, List, [], ◌∷◌, Option, Some, None, option_map, option_and_then, refl, ap, sym, ◌∙◌, subst, arith}
+use Rattle.std.specs.List.{slice_get}
+use Rattle.std.specs.Ordering.{int_eq}
 use Rattle.std.proofs.lemmas.Int.{ints}
-use Rattle.terms.specs.declared.value.Kind.{Kind}
 use Rattle.terms.specs.declared.value.Kind.TheVariants as kinds
 use Rattle.terms.specs.declared.value.Value.{Value}
 use Rattle.terms.specs.declared.value.Value.TheVariants.{Int}
 use Rattle.terms.specs.Cond.{conds_hold, holds_of}
 use Rattle.terms.specs.Row.{key_of}
-use Rattle.meaning.specs.declared.answer.Answer.TheVariants as answer
 use Rattle.meaning.specs.declared.statement.Insert.{Insert}
 use Rattle.meaning.specs.declared.statement.Statement.TheVariants as statement
 use Rattle.meaning.specs.Meaning.{after_insert}
-use Rattle.meaning.specs.Relation.{Ascends, IsRelation, has_key, insert_row}
+use Rattle.meaning.specs.Relation.{IsRelation, has_key, insert_row}
 use Rattle.meaning.specs.Schema.{kinds_of}
 use Rattle.meaning.specs.Statement.{IsInsertOf}
 use Rattle.meaning.specs.Whole.{FitsSchema, Relations, rows_of}
@@ -28,7 +26,6 @@ use Rattle.plan.specs.Rows.{Seen, seen_of, seen_part}
 use Rattle.plan.proofs.CarriedConds.{both}
 use Rattle.plan.proofs.InCatalogue.{IsIn, is_in}
 use Rattle.plan.proofs.JoinRows.{key_there}
-use Rattle.answers.specs.declared.change.Change.{Change}
 use Rattle.answers.specs.declared.table.Table.{Table}
 use Rattle.answers.specs.Outcome.{added, insert_outcome}
 use Rattle.answers.specs.Table.{IsTableOf, seen_rows}
@@ -147,10 +144,10 @@ insert_right catalogue insert whole table formed valid of fit is = at table.rows
         let gone : row_at key rows ≡ None = absent (row_at key rows) refl (ap (λ (all : List (List Value)). seen_rows table.columns all key) (sym none) ∙ is.seen key) in
         let without : has_key key rows ≡ false = no_key key rows gone in
         rw without (record {
-        answered = refl;
-        wrote =
-        writes_are catalogue name whole _ added (insert.row ∷ []) rows (insert_row insert.row rows) (put_change whole name (insert_row insert.row rows)) (tt, tt) relation.ascends
-        (Ascends-insert_row insert.row rows without relation.ascends) (insert_leads insert.row rows gone);
+          answered = refl;
+          wrote =
+              writes_are catalogue name whole _ added (insert.row ∷ []) rows (insert_row insert.row rows) (put_change whole name (insert_row insert.row rows)) (tt, tt) relation.ascends
+              (Ascends-insert_row insert.row rows without relation.ascends) (insert_leads insert.row rows gone);
         })
     at (row ∷ rest) some =
         let here : seen_rows table.columns table.rows (key_of row) ≡ Some (seen_part table.columns row) =

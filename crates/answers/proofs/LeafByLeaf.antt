@@ -1,5 +1,5 @@
 -- The writes of the changes of one relation are those between two whole databases.
-use Rattle.std.proofs.Common.{◌≡◌, ◌≢◌, ℕ, suc, ℤ, Bool, true, false, cond, List, [], ◌∷◌, ◌++◌, Option, Some, None, flat_map, map, nat_eq, unwrap_or, is_some, refl, ap, ap₂, sym, ◌∙◌, subst}
+use Rattle.std.proofs.Common.{◌≡◌, ◌≢◌, ℕ, suc, ℤ, Bool, true, false, cond, List, [], ◌∷◌, ◌++◌, Option, Some, None, flat_map, map, nat_eq, unwrap_or, refl, ap, ap₂, sym, ◌∙◌, subst}
 use Rattle.std.specs.Cmp.{eq_by_cmp_equiv}
 use Rattle.std.specs.Cmp.Lexicographic.{nat_list_cmp_total, other_text, pointwise, same_text}
 use Rattle.std.specs.FinMap as finite
@@ -14,7 +14,7 @@ use Rattle.meaning.proofs.Kept.{put_keeps}
 use Rattle.catalog.specs.declared.fragment_leaf.FragmentLeaf.{FragmentLeaf}
 use Rattle.catalog.specs.declared.path.Path.{Path}
 use Rattle.catalog.specs.Catalogue.{Catalogue, SplitRelation}
-use Rattle.catalog.specs.Fragment.{Fragment, content}
+use Rattle.catalog.specs.Fragment.{content}
 use Rattle.catalog.specs.FragmentLeaf.{catalogue_leaves, leaves_from, leaves_of, unnamed}
 use Rattle.catalog.specs.Keyed.{row_at}
 use Rattle.catalog.specs.Path.{columns_beside_key, paths}

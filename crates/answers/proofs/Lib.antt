@@ -9,3 +9,4 @@ pub mod LeafByLeaf
 pub mod Statements
 pub mod Inserted
 pub mod Finished
+pub mod LeavesWritten

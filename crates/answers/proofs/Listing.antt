@@ -1,5 +1,5 @@
 -- Rows that show at each key what the rows of a whole database show there are, shown, the same list.
-use Rattle.std.proofs.Common.{◌≡◌, ℕ, ℤ, ◌<ℤ◌, Bool, true, false, cond, ◌||◌, ◌==◌, List, [], ◌∷◌, ◌++◌, filter, map, Option, Some, None, option_map, option_and_then, refl, ap, ap₂, sym, ◌∙◌, arith}
+use Rattle.std.proofs.Common.{◌≡◌, ℕ, ℤ, ◌<ℤ◌, Bool, true, false, cond, ◌==◌, List, [], ◌∷◌, filter, map, Option, Some, None, option_map, option_and_then, refl, ap, ap₂, sym, ◌∙◌, arith}
 use Rattle.std.specs.List.{AllByRecursion, cons_option, filter_map, slice_get}
 use Rattle.std.specs.Ordering.{int_cmp, int_eq}
 use Rattle.std.specs.declared.cmp.Ordering.TheVariants.{Less, Equal, Greater}
@@ -17,7 +17,7 @@ use Rattle.meaning.proofs.Rows.{Ascends-passed, below_all}
 use Rattle.catalog.specs.Counts.{has}
 use Rattle.catalog.specs.Keyed.{row_at}
 use Rattle.plan.specs.Found.{found_of}
-use Rattle.plan.specs.Rows.{Seen, is_seen, seen_of, seen_part}
+use Rattle.plan.specs.Rows.{is_seen, seen_of, seen_part}
 use Rattle.plan.proofs.AtKey.{none_after}
 use Rattle.plan.proofs.Covered.{or_second}
 use Rattle.plan.proofs.JoinFound.{pair_keeps}

@@ -1,5 +1,5 @@
 -- Each node of a plan makes of the tables below it what the plan's rows are.
-use Rattle.std.proofs.Common.{◌≡◌, ◌⊎◌, inl, inr, ℕ, ◌+◌, ◌<◌, ℤ, Bool, true, false, cond, not, List, [], ◌∷◌, ◌++◌, length, filter, map, Option, Some, None, option_map, option_and_then, Result, Ok, Err, IfOk, refl, ap, ap₂, sym, ◌∙◌, subst, arith}
+use Rattle.std.proofs.Common.{◌≡◌, ◌⊎◌, inl, inr, ℕ, ◌+◌, ◌<◌, ℤ, Bool, true, false, cond, not, List, [], ◌∷◌, length, filter, map, Option, Some, None, option_map, option_and_then, Result, Ok, Err, IfOk, refl, ap, ap₂, sym, ◌∙◌, subst, arith}
 use Rattle.std.specs.List.{AllByRecursion, cons_option, filter_map, slice_get}
 use Rattle.std.specs.Option.{option_or}
 use Rattle.std.proofs.lemmas.List.{length-append, length-map}
@@ -22,8 +22,7 @@ use Rattle.plan.specs.Uniform.{Agree, beside, both_columns, columns_had, past, S
 use Rattle.plan.proofs.OneSide.{all_at}
 use Rattle.answers.specs.declared.table.Table.{Table}
 use Rattle.answers.specs.Evaluated.{IsMade, cut, filtered, keyed, key_pairs, meeting, pair, partner_pairs, partnered, partnered_with, picked, united, united_with}
-use Rattle.answers.specs.Merged.{merged_rows}
-use Rattle.answers.specs.Table.{AreParts, HasRows, seen_rows}
+use Rattle.answers.specs.Table.{AreParts, seen_rows}
 use Rattle.answers.proofs.Mapped.{KeepsKeyOf, ascends_kept, each, each_from, filter_is, found_key, map_is, passing, passing_keys, seen_mapped}
 use Rattle.answers.proofs.Merged.{merged_all, merged_ascends, merged_at}
 use Rattle.answers.proofs.Picked.{beside_first, cut_first, cut_key, cut_seen, or_none, pair_key, pair_seen, past_seen, picked_wide}
@@ -79,10 +78,10 @@ filter_made conds below contents table made =
       has_rows = record {
         order = Ascends-passed test table.rows made.has_rows.order;
         seen = λ k.
-          ap (λ (all : List (List Value)). seen_rows table.columns all k) (filter_is test table.rows)
-          ∙ seen_mapped (passing test) (λ seen. kept conds (Some seen)) table.columns table.columns table.rows k (each (KeepsKeyOf (passing test)) table.rows (passing_keys test)) made.has_rows.order
-          (λ row is. kept_seen (test row) conds table.columns row refl)
-          ∙ and_then_kept conds (seen_rows table.columns table.rows k) ∙ ap (kept conds) (made.has_rows.seen k);
+            ap (λ (all : List (List Value)). seen_rows table.columns all k) (filter_is test table.rows)
+            ∙ seen_mapped (passing test) (λ seen. kept conds (Some seen)) table.columns table.columns table.rows k (each (KeepsKeyOf (passing test)) table.rows (passing_keys test)) made.has_rows.order
+            (λ row is. kept_seen (test row) conds table.columns row refl)
+            ∙ and_then_kept conds (seen_rows table.columns table.rows k) ∙ ap (kept conds) (made.has_rows.seen k);
       };
       key = made.key;
       wide = All-passed (λ row. length row ≡ length table.columns) test table.rows made.wide;
@@ -115,10 +114,10 @@ cut_made wanted below contents table made =
       has_rows = record {
         order = let P : List (List Value) → Type 0 = Ascends in subst P (sym (map_is make table.rows)) (ascends_kept (λ r. Some (make r)) table.rows keeps made.has_rows.order);
         seen = λ k.
-          ap (λ (all : List (List Value)). seen_rows columns all k) (map_is make table.rows)
-          ∙ seen_mapped (λ r. Some (make r)) (λ seen. Some (restricted wanted seen)) table.columns columns table.rows k keeps made.has_rows.order
-          (λ row is. ap (λ (s : Seen). Some s) (cut_seen wanted table.columns row))
-          ∙ map_restricted wanted (seen_rows table.columns table.rows k) ∙ ap (option_map (restricted wanted)) (made.has_rows.seen k);
+            ap (λ (all : List (List Value)). seen_rows columns all k) (map_is make table.rows)
+            ∙ seen_mapped (λ r. Some (make r)) (λ seen. Some (restricted wanted seen)) table.columns columns table.rows k keeps made.has_rows.order
+            (λ row is. ap (λ (s : Seen). Some s) (cut_seen wanted table.columns row))
+            ∙ map_restricted wanted (seen_rows table.columns table.rows k) ∙ ap (option_map (restricted wanted)) (made.has_rows.seen k);
       };
       key = cut_first wanted table.columns made.key;
       wide = All-made (λ row. length row ≡ length table.columns) (λ row. length row ≡ length columns) make table.rows (λ row wide. picked_wide (is_seen wanted) table.columns row wide) made.wide;
@@ -184,9 +183,9 @@ union_made one other contents table others made made_other agree = at table.rows
           has_rows = record {
             order = merged_ascends table.rows others.rows made.has_rows.order made_other.has_rows.order;
             seen = λ k.
-              ap (option_map (seen_part table.columns)) (merged_at k table.rows others.rows made.has_rows.order)
-              ∙ map_or (seen_part table.columns) (row_at k table.rows) (row_at k others.rows)
-              ∙ ap₂ (λ (o p : Option Seen). option_or o p) (made.has_rows.seen k) (ap (λ (columns : List ℕ). seen_rows columns others.rows k) same ∙ made_other.has_rows.seen k);
+                ap (option_map (seen_part table.columns)) (merged_at k table.rows others.rows made.has_rows.order)
+                ∙ map_or (seen_part table.columns) (row_at k table.rows) (row_at k others.rows)
+                ∙ ap₂ (λ (o p : Option Seen). option_or o p) (made.has_rows.seen k) (ap (λ (columns : List ℕ). seen_rows columns others.rows k) same ∙ made_other.has_rows.seen k);
           };
           key = made.key;
           wide = merged_all (λ row. length row ≡ length table.columns) table.rows others.rows made.wide (subst P (sym same) made_other.wide);
@@ -250,22 +249,22 @@ key_join_made one other contents table others made made_other =
       has_rows = record {
         order = ascends_kept f table.rows keeps made.has_rows.order;
         seen = λ k.
-          seen_mapped f (λ seen. option_map (merged seen) (rows other contents k)) table.columns (beside table.columns others.columns) table.rows k keeps made.has_rows.order
-          (λ row is.
-          ap (λ (j : ℤ). option_map (seen_part (beside table.columns others.columns)) (option_map (pair table.columns others.columns row) (row_at j others.rows))) (found_key k table.rows row is)
-          ∙ pairs_seen table.columns others.columns row (seen_part others.columns) (row_at k others.rows) (all_at (λ r. length r ≡ length table.columns) k table.rows row made.wide is) (λ other_row. refl)
-          ∙ map_twice (seen_part others.columns) (merged (seen_part table.columns row)) (row_at k others.rows)
-          ∙ ap (option_map (merged (seen_part table.columns row))) (made_other.has_rows.seen k))
-          ∙ ap (option_and_then (λ seen. option_map (merged seen) (rows other contents k))) (made.has_rows.seen k);
+            seen_mapped f (λ seen. option_map (merged seen) (rows other contents k)) table.columns (beside table.columns others.columns) table.rows k keeps made.has_rows.order
+            (λ row is.
+            ap (λ (j : ℤ). option_map (seen_part (beside table.columns others.columns)) (option_map (pair table.columns others.columns row) (row_at j others.rows))) (found_key k table.rows row is)
+            ∙ pairs_seen table.columns others.columns row (seen_part others.columns) (row_at k others.rows) (all_at (λ r. length r ≡ length table.columns) k table.rows row made.wide is) (λ other_row. refl)
+            ∙ map_twice (seen_part others.columns) (merged (seen_part table.columns row)) (row_at k others.rows)
+            ∙ ap (option_map (merged (seen_part table.columns row))) (made_other.has_rows.seen k))
+            ∙ ap (option_and_then (λ seen. option_map (merged seen) (rows other contents k))) (made.has_rows.seen k);
       };
       key = beside_first table.columns others.columns made.key;
       wide =
-        All-kept (λ row. length row ≡ length table.columns) (λ row. length row ≡ length (beside table.columns others.columns)) f table.rows
-        (λ row made_row wide is. pair_fits table.columns others.columns row (row_at (key_of row) others.rows) made_row wide
-        (λ other_row found. all_at (λ r. length r ≡ length others.columns) (key_of row) others.rows other_row made_other.wide found) is) made.wide;
+          All-kept (λ row. length row ≡ length table.columns) (λ row. length row ≡ length (beside table.columns others.columns)) f table.rows
+          (λ row made_row wide is. pair_fits table.columns others.columns row (row_at (key_of row) others.rows) made_row wide
+          (λ other_row found. all_at (λ r. length r ≡ length others.columns) (key_of row) others.rows other_row made_other.wide found) is) made.wide;
       had =
-        had_both table.rows others.rows (key_pairs table.columns others.columns table.rows others.rows) (columns_had one) (columns_had other) table.columns others.columns
-        (λ none. ap (λ (all : List (List Value)). key_pairs table.columns others.columns all others.rows) none) (no_pairs table.columns others.columns table.rows others.rows) made.had made_other.had;
+          had_both table.rows others.rows (key_pairs table.columns others.columns table.rows others.rows) (columns_had one) (columns_had other) table.columns others.columns
+          (λ none. ap (λ (all : List (List Value)). key_pairs table.columns others.columns all others.rows) none) (no_pairs table.columns others.columns table.rows others.rows) made.had made_other.had;
     }
 
 -- a look-up
@@ -321,21 +320,21 @@ lookup_made col width left right contents table others made made_other = at othe
       has_rows = record {
         order = ascends_kept f table.rows keeps made.has_rows.order;
         seen = λ k.
-          seen_mapped f looked table.columns (beside table.columns (past width others.columns)) table.rows k keeps made.has_rows.order
-          (λ row found. partner_seen width table.columns others.columns row others.rows (λ j. rows right contents j) (seen_part table.columns row col)
-          (all_at (λ r. length r ≡ length table.columns) k table.rows row made.wide found) made_other.has_rows.seen)
-          ∙ ap (option_and_then looked) (made.has_rows.seen k);
+            seen_mapped f looked table.columns (beside table.columns (past width others.columns)) table.rows k keeps made.has_rows.order
+            (λ row found. partner_seen width table.columns others.columns row others.rows (λ j. rows right contents j) (seen_part table.columns row col)
+            (all_at (λ r. length r ≡ length table.columns) k table.rows row made.wide found) made_other.has_rows.seen)
+            ∙ ap (option_and_then looked) (made.has_rows.seen k);
       };
       key = beside_first table.columns (past width others.columns) made.key;
       wide =
-        All-kept (λ row. length row ≡ length table.columns) (λ row. length row ≡ length (beside table.columns (past width others.columns))) f table.rows
-        (λ row made_row wide found_row. pair_fits table.columns (past width others.columns) row (partner others.rows (seen_part table.columns row col)) made_row wide
-        (λ other_row found. past_wide width others.columns other_row (partner_fits others.rows (seen_part table.columns row col) other_row (λ r. length r ≡ length others.columns) made_other.wide found)) found_row) made.wide;
+          All-kept (λ row. length row ≡ length table.columns) (λ row. length row ≡ length (beside table.columns (past width others.columns))) f table.rows
+          (λ row made_row wide found_row. pair_fits table.columns (past width others.columns) row (partner others.rows (seen_part table.columns row col)) made_row wide
+          (λ other_row found. past_wide width others.columns other_row (partner_fits others.rows (seen_part table.columns row col) other_row (λ r. length r ≡ length others.columns) made_other.wide found)) found_row) made.wide;
       had =
-        had_both table.rows others.rows (partner_pairs col table.columns (past width others.columns) table.rows others.rows) (columns_had left) (option_map (past width) (columns_had right)) table.columns (past width others.columns)
-        (λ none. ap (λ (all : List (List Value)). partner_pairs col table.columns (past width others.columns) all others.rows) none)
-        (λ none. absurd (let e : first ∷ theirs ≡ [] = sym is ∙ none in cc)) made.had
-        (inr (ap (option_map (past width)) (had_there others.rows theirs first (columns_had right) others.columns is made_other.had)));
+          had_both table.rows others.rows (partner_pairs col table.columns (past width others.columns) table.rows others.rows) (columns_had left) (option_map (past width) (columns_had right)) table.columns (past width others.columns)
+          (λ none. ap (λ (all : List (List Value)). partner_pairs col table.columns (past width others.columns) all others.rows) none)
+          (λ none. absurd (let e : first ∷ theirs ≡ [] = sym is ∙ none in cc)) made.had
+          (inr (ap (option_map (past width)) (had_there others.rows theirs first (columns_had right) others.columns is made_other.had)));
     }
 
 -- the columns of a table on the right stay numbers of 64 bits

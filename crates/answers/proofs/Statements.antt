@@ -1,5 +1,5 @@
 -- What the code makes of the table of a SELECT, a DELETE or an UPDATE is the statement's meaning.
-use Rattle.std.proofs.Common.{◌≡◌, ℕ, ◌<◌, Bool, true, false, cond, not, ◌||◌, ◌==◌, List, [], ◌∷◌, ◌++◌, length, filter, map, Option, Some, None, option_map, option_and_then, refl, ap, ap₂, sym, ◌∙◌, subst, arith}
+use Rattle.std.proofs.Common.{◌≡◌, ℕ, Bool, true, false, cond, not, ◌||◌, ◌==◌, List, [], ◌∷◌, ◌++◌, length, filter, map, Option, Some, None, option_map, option_and_then, refl, ap, ap₂, sym, ◌∙◌, subst}
 use Rattle.std.specs.List.{AllByRecursion, cons_option, filter_map, range_with_len}
 use Rattle.std.proofs.lemmas.List.{length-map}
 use Rattle.std.proofs.lemmas.List.Sums.{length-filter}
@@ -10,7 +10,6 @@ use Rattle.terms.specs.Row.{FitsKinds, key_of}
 use Rattle.meaning.specs.declared.answer.Answer.{Answer}
 use Rattle.meaning.specs.declared.answer.Answer.TheVariants as answer
 use Rattle.meaning.specs.declared.schema.RelationSchema.{RelationSchema}
-use Rattle.meaning.specs.declared.statement.Assignment.{Assignment}
 use Rattle.meaning.specs.declared.statement.Delete.{Delete}
 use Rattle.meaning.specs.declared.statement.Join.{Join}
 use Rattle.meaning.specs.declared.statement.Select.{Select}
@@ -18,11 +17,11 @@ use Rattle.meaning.specs.declared.statement.Source.{Source}
 use Rattle.meaning.specs.declared.statement.Statement.TheVariants as statement
 use Rattle.meaning.specs.declared.statement.Update.{Update}
 use Rattle.meaning.specs.Listed.{listed}
-use Rattle.meaning.specs.Matched.{matched, unmatched}
+use Rattle.meaning.specs.Matched.{unmatched}
 use Rattle.meaning.specs.Meaning.{after_delete, after_update, select_answer, with_changed}
 use Rattle.meaning.specs.Relation.{Ascends, IsRelation}
-use Rattle.meaning.specs.Schema.{kinds_of, names_of, relation_named}
-use Rattle.meaning.specs.Selected.{names_read, rows_read, selected}
+use Rattle.meaning.specs.Schema.{kinds_of, names_of}
+use Rattle.meaning.specs.Selected.{names_read, rows_read}
 use Rattle.meaning.specs.Statement.{IsDeleteOf, IsSelectOf, IsUpdateOf}
 use Rattle.meaning.specs.Updated.{assign, updated, updated_row}
 use Rattle.meaning.specs.Whole.{FitsSchema, Relations, rows_of}
@@ -32,7 +31,6 @@ use Rattle.meaning.proofs.Rows.{All-passed, Ascends-passed}
 use Rattle.catalog.specs.Catalogue.{Catalogue}
 use Rattle.catalog.specs.Counts.{has}
 use Rattle.catalog.specs.FragmentLeaf.{catalogue_leaves, schemas_of}
-use Rattle.catalog.specs.Keyed.{row_at}
 use Rattle.plan.specs.Found.{columns_joined}
 use Rattle.plan.specs.Need.{columns_of, places_to}
 use Rattle.plan.specs.Rows.{is_seen}
@@ -45,7 +43,7 @@ use Rattle.answers.specs.Outcome as spec
 use Rattle.answers.specs.Outcome.{changes_of, delete_outcome, removed, rows_changed, select_outcome, update_outcome, with_changes}
 use Rattle.answers.specs.Table.{IsTableOf}
 use Rattle.answers.specs.Writes.{writes_between}
-use Rattle.answers.proofs.LeafByLeaf.{IsChange, nothing_between, replaced_change, writes_are}
+use Rattle.answers.proofs.LeafByLeaf.{nothing_between, replaced_change, writes_are}
 use Rattle.answers.proofs.Listing.{all_seen, joined_ascends, shown_found}
 use Rattle.answers.proofs.Mapped.{KeepsKeyOf, each, filter_is, passing, passing_keys}
 use Rattle.answers.proofs.WritesLaw.{Lead, lead_mapped}
@@ -83,8 +81,8 @@ select_right catalogue select whole table of fit is =
     let order = (fit.fit select.from.name of.relation of.there).ascends in
     record {
       answered =
-        ap (answer.Rows (listed select.columns (names_read select.from select.join)))
-        (shown_found select.conds asked select.columns table.columns table.rows (rows_read select.from select.join whole) is.order (read_ascends select.from select.join whole order) (all_seen asked select.columns (seen_joined select select.join)) is.seen);
+          ap (answer.Rows (listed select.columns (names_read select.from select.join)))
+          (shown_found select.conds asked select.columns table.columns table.rows (rows_read select.from select.join whole) is.order (read_ascends select.from select.join whole order) (all_seen asked select.columns (seen_joined select select.join)) is.seen);
       wrote = sym (nothing_between catalogue whole);
     }
 
@@ -133,8 +131,8 @@ delete_right catalogue delete whole table of fit is =
     subst P (sym rows) (record {
       answered = ap answer.Changed (length-filter test before);
       wrote =
-        writes_are catalogue name whole (after_delete delete whole).1 removed changed before (unmatched delete.conds before) (replaced_change whole name (unmatched delete.conds before) (fit.there name of.relation of.there))
-        (Ascends-passed test before relation.ascends) relation.ascends (Ascends-passed (λ row. not (test row)) before relation.ascends) (delete_leads test before relation.ascends);
+          writes_are catalogue name whole (after_delete delete whole).1 removed changed before (unmatched delete.conds before) (replaced_change whole name (unmatched delete.conds before) (fit.there name of.relation of.there))
+          (Ascends-passed test before relation.ascends) relation.ascends (Ascends-passed (λ row. not (test row)) before relation.ascends) (delete_leads test before relation.ascends);
     })
 
 -- UPDATE
@@ -230,6 +228,6 @@ update_right catalogue update whole table of fit is =
     at (Some new) made = record {
       answered = ap answer.Changed (length-filter (conds_hold update.conds) before);
       wrote =
-        writes_are catalogue name whole (with_changed update whole (Some new)).1 (assigned update) changed before new (replaced_change whole name new (fit.there name of.relation of.there))
-        (Ascends-passed (conds_hold update.conds) before relation.ascends) relation.ascends (Ascends-updated update before new made relation.ascends) (update_leads update before new made relation.ascends);
+          writes_are catalogue name whole (with_changed update whole (Some new)).1 (assigned update) changed before new (replaced_change whole name new (fit.there name of.relation of.there))
+          (Ascends-passed (conds_hold update.conds) before relation.ascends) relation.ascends (Ascends-updated update before new made relation.ascends) (update_leads update before new made relation.ascends);
     }

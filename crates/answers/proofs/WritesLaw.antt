@@ -1,5 +1,5 @@
 -- The writes to a leaf between two contents are those of the changed rows.
-use Rattle.std.proofs.Common.{◌≡◌, ℕ, ℤ, ◌<ℤ◌, Bool, true, false, cond, not, ◌&&◌, List, [], ◌∷◌, filter, map, Option, Some, None, option_map, option_and_then, is_some, refl, ap, ap₂, sym, ◌∙◌, subst, arith}
+use Rattle.std.proofs.Common.{◌≡◌, ℕ, ℤ, Bool, true, false, cond, List, [], ◌∷◌, filter, map, Option, Some, None, option_map, option_and_then, is_some, refl, ap, ap₂, sym, ◌∙◌, subst}
 use Rattle.std.specs.List.{AllByRecursion, cons_option, filter_map}
 use Rattle.std.specs.Cmp.{eq_by_cmp_equiv}
 use Rattle.std.specs.Option.{option_or}

@@ -1,6 +1,6 @@
 -- Writes: what leads from the contents before a change to those after it.
-use Rattle.std.specs.Prelude.{◌==◌, ◌&&◌, ℤ, Bool, true, false, if◌then◌else◌, List, [], ◌∷◌, Option, Some, None, flat_map, map, option_map}
-use Rattle.std.specs.List.{filter_map}
+use Rattle.std.specs.Prelude.{◌&&◌, ℤ, Bool, true, false, if◌then◌else◌, List, [], ◌∷◌, Option, Some, None, flat_map, map, option_map}
+use Rattle.std.specs.List.{filter_map, list_any}
 use Rattle.std.specs.Ordering.{int_eq, is_eq}
 use Rattle.terms.specs.declared.leaf.Leaf.{Leaf}
 use Rattle.terms.specs.declared.value.Value.{Value}
@@ -9,6 +9,7 @@ use Rattle.terms.specs.declared.write.Write.TheVariants.{Put, Del}
 use Rattle.terms.specs.Row.{key_of}
 use Rattle.terms.specs.Value.{value_cmp}
 use Rattle.meaning.specs.Whole.{Relations, rows_of}
+use Rattle.catalog.specs.declared.fragment_leaf.FragmentLeaf.{FragmentLeaf}
 use Rattle.catalog.specs.Catalogue.{Catalogue}
 use Rattle.catalog.specs.Fragment.{content}
 use Rattle.catalog.specs.FragmentLeaf.{catalogue_leaves, unnamed}
@@ -46,6 +47,10 @@ leaf_of (Del leaf key) = leaf
 abbrev pub key_written : Write → ℤ
 key_written (Put leaf part) = key_of part
 key_written (Del leaf key) = key
+
+-- whether some leaf has this name
+abbrev pub is_leaf_in : List FragmentLeaf → Leaf → Bool
+is_leaf_in leaves name = list_any (λ leaf. same_leaf leaf.name name) leaves
 
 -- the part that a write leaves at its key
 abbrev pub part_written : Write → Option (List Value)

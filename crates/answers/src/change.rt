@@ -94,11 +94,7 @@ fn put_unless_same(
 }
 
 /// A row's part in a leaf; none where there is no row, or the leaf's conditions don't hold of it.
-fn part_of(
-    alloc: Global,
-    leaf: &FragmentLeaf,
-    row: &Option<Row>,
-) -> Result<Option<Row>, Memory>
+fn part_of(alloc: Global, leaf: &FragmentLeaf, row: &Option<Row>) -> Result<Option<Row>, Memory>
     ensures { IfOk result (λ found. found ≡ part_of leaf.now row.now) }
 {
     match row {
@@ -111,7 +107,10 @@ fn part_of(
 fn same_part(values: &[Value], others: &[Value]) -> bool
     ensures { result ≡ same_part values.now others.now }
 {
-    let (Some((value, values)), Some((other, others))) = (values.split_first(), others.split_first()) else {
+    let (Some((value, values)), Some((other, others))) = (
+        values.split_first(),
+        others.split_first(),
+    ) else {
         return values.is_empty() && others.is_empty();
     };
     value.cmp(other).is_eq() && same_part(values, others)

@@ -1,7 +1,7 @@
 //! What a statement answers and writes, by its table.
 
-ghost use Rattle.std.specs.Prelude.{◌≡◌, IfOk, length, map};
-ghost use Rattle.std.specs.List.{AllByRecursion, Contains, filter_map};
+ghost use Rattle.std.specs.Prelude.{◌≡◌, true, IfOk, length, map};
+ghost use Rattle.std.specs.List.{AllByRecursion, filter_map};
 ghost use Rattle.std.specs.Option.{option_map};
 ghost use Rattle.meaning.specs.Meaning.{meaning};
 ghost use Rattle.meaning.specs.Statement.{IsStatementOf};
@@ -13,7 +13,7 @@ ghost use Rattle.plan.specs.Rows.{seen_part};
 ghost use Rattle.answers.specs.Outcome as spec;
 ghost use Rattle.answers.specs.Outcome.{changes_of, delete_outcome, insert_outcome, outcome_of, removed, rows_changed, select_outcome, shown, update_outcome};
 ghost use Rattle.answers.specs.Table.{IsTableOf};
-ghost use Rattle.answers.specs.Writes.{writes_between};
+ghost use Rattle.answers.specs.Writes.{is_leaf_in, leaf_of, writes_between};
 
 use crate::change::{Change, writes_of};
 use crate::pick::value_in;
@@ -53,6 +53,8 @@ pub fn finish(
     ensures answer { IfOk result (λ outcome. (whole : Relations) → FitsSchema (schemas_of (catalogue_of catalog.now)) whole → IsTableOf statement.now whole table.now → outcome.answer ≡ (meaning statement.now whole).0) }
     ensures writes { IfOk result (λ outcome. (whole : Relations) → FitsSchema (schemas_of (catalogue_of catalog.now)) whole → IsTableOf statement.now whole table.now →
         outcome.writes ≡ writes_between (catalogue_of catalog.now) whole (meaning statement.now whole).1) }
+    // And whatever the table has, each write is to a leaf of the catalogue.
+    ensures leaves { IfOk result (λ outcome. AllByRecursion (λ write. is_leaf_in (catalogue_leaves (catalogue_of catalog.now)) (leaf_of write) ≡ true) outcome.writes) }
 {
     let _relations = catalog.relations();
     outcome_by(alloc, catalog.leaves(), statement, table)
@@ -86,7 +88,12 @@ fn selected(alloc: Global, select: &Select, table: &Table) -> Result<Outcome, Me
 {
     let names = header(alloc, select)?;
     let places = select.columns.as_slice();
-    let rows = shown(alloc, places, table.columns.as_slice(), table.rows.as_slice())?;
+    let rows = shown(
+        alloc,
+        places,
+        table.columns.as_slice(),
+        table.rows.as_slice(),
+    )?;
     Ok(Outcome {
         answer: Answer::Rows(Seq::new(names), Seq::new(rows)),
         writes: Seq::new(Vec::new(alloc)),
@@ -229,12 +236,7 @@ fn shown(
     Ok(found)
 }
 
-fn row_shown(
-    alloc: Global,
-    places: &[usize],
-    columns: &[usize],
-    row: &Row,
-) -> Result<Row, Memory>
+fn row_shown(alloc: Global, places: &[usize], columns: &[usize], row: &Row) -> Result<Row, Memory>
     ensures { IfOk result (λ found. found ≡ filter_map (seen_part columns.now row.now) places.now) }
 {
     let mut values = Vec::new(alloc);

@@ -39,7 +39,12 @@ pub(crate) fn met(alloc: Global, conds: &[Cond], parts: &[Part]) -> Result<Vec<R
 pub(crate) fn filtered(alloc: Global, conds: &[Cond], table: Table) -> Result<Table, Memory>
     ensures { IfOk result (λ made. made ≡ filtered conds.now table) }
 {
-    let found = meeting(alloc, conds, table.columns.as_slice(), table.rows.as_slice())?;
+    let found = meeting(
+        alloc,
+        conds,
+        table.columns.as_slice(),
+        table.rows.as_slice(),
+    )?;
     Ok(Table {
         columns: table.columns,
         rows: Seq::new(found),
@@ -68,7 +73,12 @@ pub(crate) fn cut(alloc: Global, wanted: &[usize], table: &Table) -> Result<Tabl
     ensures { IfOk result (λ made. made ≡ cut wanted.now table.now) }
 {
     let columns = columns_cut(alloc, wanted, table.columns.as_slice())?;
-    let rows = rows_cut(alloc, wanted, table.columns.as_slice(), table.rows.as_slice())?;
+    let rows = rows_cut(
+        alloc,
+        wanted,
+        table.columns.as_slice(),
+        table.rows.as_slice(),
+    )?;
     Ok(Table {
         columns: Seq::new(columns),
         rows: Seq::new(rows),
@@ -115,7 +125,13 @@ pub(crate) fn keyed(alloc: Global, one: &Table, other: &Table) -> Result<Table, 
     ensures { IfOk result (λ made. made ≡ keyed one.now other.now) }
 {
     let (columns, others) = (one.columns.as_slice(), other.columns.as_slice());
-    let rows = key_pairs(alloc, columns, others, one.rows.as_slice(), other.rows.as_slice())?;
+    let rows = key_pairs(
+        alloc,
+        columns,
+        others,
+        one.rows.as_slice(),
+        other.rows.as_slice(),
+    )?;
     Ok(Table {
         columns: Seq::new(columns_beside(alloc, columns, others)?),
         rows: Seq::new(rows),

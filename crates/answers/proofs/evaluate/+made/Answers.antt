@@ -10,8 +10,6 @@ use Rattle.answers.specs.Table.{AreParts, given}
 use Rattle.answers.proofs.Made.{cut_made, fetch_made, filter_made, given_as, key_join_made, lookup_made, stays_within, union_made}
 use Rattle.answers.proofs.evaluate.+made.Goals as goal
 
-
-
 pub returns-in_ok-table-in-Filter : goal.returns-in_ok-table-in-Filter
 returns-in_ok-table-in-Filter t c =
     let contents = given c.args.fetched.now in

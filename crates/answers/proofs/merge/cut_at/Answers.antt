@@ -1,8 +1,8 @@
 -- Why `merge::cut_at` meets its contract.
-use Rattle.std.proofs.Common.{◌≡◌, ℤ, ◌<ℤ◌, ◌∷◌, drop, length, get_or, ap, sym, ◌∙◌, arith}
+use Rattle.std.proofs.Common.{◌≡◌, ◌<ℤ◌, ◌∷◌, drop, ap, sym, ◌∙◌, arith}
 use Rattle.std.proofs.lemmas.Int.{ints}
 use Rattle.terms.specs.Row.{key_of}
-use Rattle.answers.proofs.Merged.{IsCut, cut_end, cut_past, cut_same, get_at_drop, nothing_dropped}
+use Rattle.answers.proofs.Merged.{cut_end, cut_past, cut_same, get_at_drop, nothing_dropped}
 use Rattle.answers.proofs.Picked.{no_length}
 use Rattle.answers.proofs.merge.cut_at.Goals as goal
 use Rattle.answers.proofs.merge.cut_at.Goals.{then-loop-place-test+else-key, else-loop-place-test}

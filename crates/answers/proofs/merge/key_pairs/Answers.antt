@@ -1,8 +1,7 @@
 -- Why `merge::key_pairs` meets its contract.
-use Rattle.std.proofs.Common.{◌≡◌, ◌+◌, ◌++◌, ◌∷◌, [], List, Option, Some, None, drop, ap, sym, ◌∙◌, subst}
+use Rattle.std.proofs.Common.{◌≡◌, ◌+◌, ◌++◌, ◌∷◌, [], List, Some, None, drop, ap, sym, ◌∙◌, subst}
 use Rattle.std.specs.Option.{option_copied}
 use Rattle.terms.specs.declared.value.Value.{Value}
-use Rattle.terms.specs.Row.{key_of}
 use Rattle.meaning.specs.Relation.{Ascends}
 use Rattle.answers.specs.Evaluated.{key_pairs, pair}
 use Rattle.answers.proofs.Merged.{drop_row, pairs_more, pushed}
@@ -26,14 +25,14 @@ loop-row-preserved c =
     elim c.match-cut.branch [
       | in-Some+in_ok-pair+in_ok-push w ↦ (
         ap (λ (v : List (List Value)). v ++ key_pairs columns others later above) (ap (λ v. v.items) w.found-is ∙ w.in_ok-push.ensures.items ∙ ap (λ (p : List Value). found ++ p ∷ []) w.in_ok-pair.ensures)
-        ∙ pushed found (key_pairs columns others later above) (pair columns others row w.in-Some.other.now)
-        ∙ pairs_more columns others row later c.loop-row.rest.now above found whole (Some w.in-Some.other.now) order (sym (ap option_copied w.in-Some.is) ∙ c.cut_at-cut.ensures.same) c.cut_at-cut.ensures.above so_far,
+            ∙ pushed found (key_pairs columns others later above) (pair columns others row w.in-Some.other.now)
+            ∙ pairs_more columns others row later c.loop-row.rest.now above found whole (Some w.in-Some.other.now) order (sym (ap option_copied w.in-Some.is) ∙ c.cut_at-cut.ensures.same) c.cut_at-cut.ensures.above so_far,
         c.cut_at-cut.ensures.order,
         order.1,
       )
       | in_default w ↦ (
         ap (λ (v : List (List Value)). v ++ key_pairs columns others later above) (ap (λ v. v.items) w.found-is)
-        ∙ pairs_more columns others row later c.loop-row.rest.now above found whole None order (sym (ap option_copied w.in_default.is) ∙ c.cut_at-cut.ensures.same) c.cut_at-cut.ensures.above so_far,
+            ∙ pairs_more columns others row later c.loop-row.rest.now above found whole None order (sym (ap option_copied w.in_default.is) ∙ c.cut_at-cut.ensures.same) c.cut_at-cut.ensures.above so_far,
         c.cut_at-cut.ensures.order,
         order.1,
       )
