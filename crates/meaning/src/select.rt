@@ -8,7 +8,7 @@ ghost use Rattle.terms.specs.Row.{key_of};
 ghost use Rattle.meaning.specs.declared.answer.Answer.TheVariants.{Rows};
 ghost use Rattle.meaning.specs.Listed.{listed};
 ghost use Rattle.meaning.specs.Meaning.{select_answer};
-ghost use Rattle.meaning.specs.Selected.{qualified, partner, paired, joined, selected};
+ghost use Rattle.meaning.specs.Selected.{names_read, qualified, partner, paired, joined, selected};
 
 use crate::answer::Answer;
 use crate::listed::listed;
@@ -59,6 +59,23 @@ pub fn selected(alloc: Global, select: &Select, rows: &[Row]) -> Result<Vec<Row>
         }
     }
     Ok(found)
+}
+
+/// The names of the columns that a SELECT lists.
+pub fn header(alloc: Global, select: &Select) -> Result<Vec<Text>, Memory>
+    ensures { IfOk result (λ names. names.items ≡ listed select.now.columns (names_read select.now.from select.now.join)) }
+{
+    match &select.join {
+        None => listed(
+            alloc,
+            select.columns.as_slice(),
+            select.from.columns.as_slice(),
+        ),
+        Some(join) => {
+            let names = joined_names(alloc, &select.from, &join.relation)?;
+            listed(alloc, select.columns.as_slice(), names.as_slice())
+        }
+    }
 }
 
 /// The names of the columns of two relations, qualified.

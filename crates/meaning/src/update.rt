@@ -57,8 +57,9 @@ fn updated_row(alloc: Global, update: &Update, row: &Row) -> Result<Option<Row>,
     }
 }
 
-/// A row with all assignments made, each right side taken from the row before.
-fn assign(alloc: Global, sets: &[Assignment], row: &Row) -> Result<Option<Row>, Memory>
+/// A row with all assignments made, each right side taken from the row before; none where a sum leaves
+/// 64 bits.
+pub fn assign(alloc: Global, sets: &[Assignment], row: &Row) -> Result<Option<Row>, Memory>
     ensures { IfOk result (λ found. found ≡ assign row.now sets.now row.now) }
 {
     let mut values = copy_all(alloc, row.values())?;

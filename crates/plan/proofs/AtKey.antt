@@ -14,7 +14,7 @@ apart : (a b key : ℤ) → a <ℤ b → int_eq a key ≡ true → int_eq b key 
 apart a b key below same = grind (arith, ints)
 
 -- after a row of a key no row has it
-none_after : (key : ℤ) (row : List Value) (rows : List (List Value)) → int_eq (key_of row) key ≡ true → AllByRecursion (λ later. key_of row <ℤ key_of later) rows → row_at key rows ≡ None
+pub none_after : (key : ℤ) (row : List Value) (rows : List (List Value)) → int_eq (key_of row) key ≡ true → AllByRecursion (λ later. key_of row <ℤ key_of later) rows → row_at key rows ≡ None
 none_after key row [] same later = refl
 none_after key row (other ∷ rows) same later = rw (apart (key_of row) (key_of other) key later.0 same) (none_after key row rows same later.1)
 
@@ -23,7 +23,7 @@ abbrev pub KeepsKeys : (List Value → Option (List Value)) → Type 0
 KeepsKeys f = (row made : List Value) → f row ≡ Some made → key_of made ≡ key_of row
 
 -- one row of such a map
-one_at : (f : List Value → Option (List Value)) (key : ℤ) (row : List Value) (rest : List (List Value)) (after : Option (List Value)) (made : Option (List Value)) (t : Bool) → f row ≡ made → int_eq (key_of row) key ≡ t →
+pub one_at : (f : List Value → Option (List Value)) (key : ℤ) (row : List Value) (rest : List (List Value)) (after : Option (List Value)) (made : Option (List Value)) (t : Bool) → f row ≡ made → int_eq (key_of row) key ≡ t →
     ((other : List Value) → made ≡ Some other → key_of other ≡ key_of row) → row_at key rest ≡ option_and_then f after → (t ≡ true → after ≡ None) →
     row_at key (cons_option made rest) ≡ option_and_then f (cond t (Some row) after)
 one_at f key row rest after None true is same keeps more none = more ∙ ap (option_and_then f) (none refl) ∙ sym is

@@ -49,7 +49,7 @@ same_key : (one key : ℤ) → int_eq one key ≡ true → one ≡ key
 same_key one key h = grind (arith, ints)
 
 -- the key of a row that is found stands in its first column
-key_there : (others : List Kind) (n : ℤ) (all : List (List Value)) (other : List Value) → slice_get others 0 ≡ Some kinds.Int → AllByRecursion (FitsKinds others) all → row_at n all ≡ Some other → slice_get other 0 ≡ Some (Int n)
+pub key_there : (others : List Kind) (n : ℤ) (all : List (List Value)) (other : List Value) → slice_get others 0 ≡ Some kinds.Int → AllByRecursion (FitsKinds others) all → row_at n all ≡ Some other → slice_get other 0 ≡ Some (Int n)
 key_there others n all other key fit is =
     let found = integer other 0 (fits_at others other 0 kinds.Int (all_at (FitsKinds others) n all other fit is) key) in
     let split : other ≡ Int found.0 ∷ rest_of other = first_of other (Int found.0) found.1 in

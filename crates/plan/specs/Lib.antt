@@ -9,3 +9,4 @@ pub mod Located
 pub mod Found
 pub mod Reduced
 pub mod Given
+pub mod Uniform

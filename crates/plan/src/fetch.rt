@@ -56,7 +56,7 @@ fn placed(alloc: Global, columns: &[usize], conds: &[Cond]) -> Result<Vec<Cond>,
 }
 
 /// The place of a column among these.
-fn place_in(col: usize, columns: &[usize]) -> Option<usize>
+pub fn place_in(col: usize, columns: &[usize]) -> Option<usize>
     ensures found { result ≡ spec.place_in col columns.now }
     ensures within { IfSome result (λ place. place < length columns.now) }
 {

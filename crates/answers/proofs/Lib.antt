@@ -1,0 +1,12 @@
+pub mod Mapped
+pub mod Picked
+pub mod Merged
+pub mod Searched
+pub mod Made
+pub mod Listing
+pub mod WritesLaw
+pub mod LeafByLeaf
+pub mod Statements
+pub mod Inserted
+pub mod Finished
+pub mod LeavesWritten

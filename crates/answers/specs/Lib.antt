@@ -1,0 +1,7 @@
+-- Tables, answers and writes, in reading order.
+pub mod Table
+pub mod Merged
+pub mod Writes
+-- The words of the code's own steps, which a reader may skip.
+pub mod Evaluated
+pub mod Outcome

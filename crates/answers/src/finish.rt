@@ -1,0 +1,249 @@
+//! What a statement answers and writes, by its table.
+
+ghost use Rattle.std.specs.Prelude.{◌≡◌, true, IfOk, length, map};
+ghost use Rattle.std.specs.List.{AllByRecursion, filter_map};
+ghost use Rattle.std.specs.Option.{option_map};
+ghost use Rattle.meaning.specs.Meaning.{meaning};
+ghost use Rattle.meaning.specs.Statement.{IsStatementOf};
+ghost use Rattle.meaning.specs.Whole.{FitsSchema, Relations};
+ghost use Rattle.catalog.specs.FragmentLeaf.{catalogue_leaves, schemas_of};
+ghost use Rattle.catalog.specs.Relation.{catalogue_of};
+ghost use Rattle.plan.specs.Need.{places_to};
+ghost use Rattle.plan.specs.Rows.{seen_part};
+ghost use Rattle.answers.specs.Outcome as spec;
+ghost use Rattle.answers.specs.Outcome.{changes_of, delete_outcome, insert_outcome, outcome_of, removed, rows_changed, select_outcome, shown, update_outcome};
+ghost use Rattle.answers.specs.Table.{IsTableOf};
+ghost use Rattle.answers.specs.Writes.{is_leaf_in, leaf_of, writes_between};
+
+use crate::change::{Change, writes_of};
+use crate::pick::value_in;
+use crate::table::Table;
+use catalog::catalogue::Catalog;
+use catalog::fragment_leaf::FragmentLeaf;
+use meaning::answer::Answer;
+use meaning::select::header;
+use meaning::statement::{Assignment, Delete, Insert, Select, Statement, Update};
+use meaning::update::assign;
+use std::alloc::Global;
+use terms::copy::TryCopy;
+use terms::memory::Memory;
+use terms::row::Row;
+use terms::seq::Seq;
+use terms::text::Text;
+use terms::write::Write;
+
+/// What a statement answers, and the writes that it makes, by leaf and then by key.
+#[derive(Debug, Drop)]
+pub struct Outcome {
+    pub answer: Answer,
+    pub writes: Seq<Write>,
+}
+
+/// What a statement of the catalogue's schema answers and writes, by its table.
+///
+/// Over each whole database of which the table has what the statement is to find there, it is the
+/// statement's meaning: the answer, and the writes that lead to the whole database after it.
+pub fn finish(
+    alloc: Global,
+    catalog: &Catalog,
+    statement: &Statement,
+    table: &Table,
+) -> Result<Outcome, Memory>
+    requires { IsStatementOf (schemas_of (catalogue_of catalog.now)) statement.now }
+    ensures answer { IfOk result (λ outcome. (whole : Relations) → FitsSchema (schemas_of (catalogue_of catalog.now)) whole → IsTableOf statement.now whole table.now → outcome.answer ≡ (meaning statement.now whole).0) }
+    ensures writes { IfOk result (λ outcome. (whole : Relations) → FitsSchema (schemas_of (catalogue_of catalog.now)) whole → IsTableOf statement.now whole table.now →
+        outcome.writes ≡ writes_between (catalogue_of catalog.now) whole (meaning statement.now whole).1) }
+    // And whatever the table has, each write is to a leaf of the catalogue.
+    ensures leaves { IfOk result (λ outcome. AllByRecursion (λ write. is_leaf_in (catalogue_leaves (catalogue_of catalog.now)) (leaf_of write) ≡ true) outcome.writes) }
+{
+    let _relations = catalog.relations();
+    outcome_by(alloc, catalog.leaves(), statement, table)
+}
+
+/// What a statement makes of its table.
+pub(crate) fn outcome_by(
+    alloc: Global,
+    leaves: &[FragmentLeaf],
+    statement: &Statement,
+    table: &Table,
+) -> Result<Outcome, Memory>
+    ensures { IfOk result (λ made. made ≡ outcome_of leaves.now statement.now table.now) }
+{
+    match statement {
+        Statement::Select(select) => selected(alloc, select, table),
+        Statement::Insert(insert) => inserted(alloc, leaves, insert, table),
+        Statement::Update(update) => {
+            let width = update.relation.columns.as_slice().len();
+            updated(alloc, leaves, update, rows_changed(alloc, width, table)?)
+        }
+        Statement::Delete(delete) => {
+            let width = delete.relation.columns.as_slice().len();
+            deleted(alloc, leaves, delete, rows_changed(alloc, width, table)?)
+        }
+    }
+}
+
+fn selected(alloc: Global, select: &Select, table: &Table) -> Result<Outcome, Memory>
+    ensures { IfOk result (λ made. made ≡ select_outcome select.now table.now) }
+{
+    let names = header(alloc, select)?;
+    let places = select.columns.as_slice();
+    let rows = shown(
+        alloc,
+        places,
+        table.columns.as_slice(),
+        table.rows.as_slice(),
+    )?;
+    Ok(Outcome {
+        answer: Answer::Rows(Seq::new(names), Seq::new(rows)),
+        writes: Seq::new(Vec::new(alloc)),
+    })
+}
+
+fn inserted(
+    alloc: Global,
+    leaves: &[FragmentLeaf],
+    insert: &Insert,
+    table: &Table,
+) -> Result<Outcome, Memory>
+    ensures { IfOk result (λ made. made ≡ insert_outcome leaves.now insert.now table.now.rows) }
+{
+    if !table.rows.as_slice().is_empty() {
+        return Ok(Outcome {
+            answer: Answer::Exists,
+            writes: Seq::new(Vec::new(alloc)),
+        });
+    }
+    let mut changes = Vec::new(alloc);
+    changes.push(Change {
+        key: insert.row.key(),
+        before: None,
+        after: Some(insert.row.copy()?),
+    })?;
+    let writes = writes_of(alloc, &insert.into, changes.as_slice(), leaves)?;
+    Ok(Outcome {
+        answer: Answer::Changed(1),
+        writes: Seq::new(writes),
+    })
+}
+
+fn updated(
+    alloc: Global,
+    leaves: &[FragmentLeaf],
+    update: &Update,
+    rows: Vec<Row>,
+) -> Result<Outcome, Memory>
+    ensures { IfOk result (λ made. made ≡ update_outcome leaves.now update.now rows.items) }
+{
+    let count = rows.len() as u64;
+    match changes_of(alloc, update.sets.as_slice(), rows.as_slice())? {
+        Some(changes) => {
+            let writes = writes_of(alloc, &update.relation.name, changes.as_slice(), leaves)?;
+            Ok(Outcome {
+                answer: Answer::Changed(count),
+                writes: Seq::new(writes),
+            })
+        }
+        None => Ok(Outcome {
+            answer: Answer::Overflow,
+            writes: Seq::new(Vec::new(alloc)),
+        }),
+    }
+}
+
+/// The changes that assignments make of rows; none where a sum leaves 64 bits.
+fn changes_of(
+    alloc: Global,
+    sets: &[Assignment],
+    rows: &[Row],
+) -> Result<Option<Vec<Change>>, Memory>
+    ensures { IfOk result (λ found. option_map (λ changes. changes.items) found ≡ changes_of sets.now rows.now) }
+{
+    let mut changes = Vec::new(alloc);
+    for row in rows {
+        match assign(alloc, sets, row)? {
+            Some(new) => changes.push(Change {
+                key: row.key(),
+                before: Some(row.copy()?),
+                after: Some(new),
+            })?,
+            None => return Ok(None),
+        }
+    }
+    Ok(Some(changes))
+}
+
+fn deleted(
+    alloc: Global,
+    leaves: &[FragmentLeaf],
+    delete: &Delete,
+    rows: Vec<Row>,
+) -> Result<Outcome, Memory>
+    ensures { IfOk result (λ made. made ≡ delete_outcome leaves.now delete.now rows.items) }
+{
+    let count = rows.len() as u64;
+    let changes = removals(alloc, rows.as_slice())?;
+    let writes = writes_of(alloc, &delete.relation.name, changes.as_slice(), leaves)?;
+    Ok(Outcome {
+        answer: Answer::Changed(count),
+        writes: Seq::new(writes),
+    })
+}
+
+fn removals(alloc: Global, rows: &[Row]) -> Result<Vec<Change>, Memory>
+    ensures { IfOk result (λ changes. changes.items ≡ map removed rows.now) }
+{
+    let mut changes = Vec::new(alloc);
+    for row in rows {
+        changes.push(Change {
+            key: row.key(),
+            before: Some(row.copy()?),
+            after: None,
+        })?;
+    }
+    Ok(changes)
+}
+
+/// The whole rows of a table of a relation with so many columns.
+fn rows_changed(alloc: Global, width: usize, table: &Table) -> Result<Vec<Row>, Memory>
+    ensures { IfOk result (λ rows. rows.items ≡ rows_changed width table.now) }
+{
+    let mut places = Vec::new(alloc);
+    for place in 0..width {
+        places.push(place)?;
+    }
+    shown(
+        alloc,
+        places.as_slice(),
+        table.columns.as_slice(),
+        table.rows.as_slice(),
+    )
+}
+
+/// The values that rows over these columns have in the listed ones.
+fn shown(
+    alloc: Global,
+    places: &[usize],
+    columns: &[usize],
+    rows: &[Row],
+) -> Result<Vec<Row>, Memory>
+    ensures { IfOk result (λ found. found.items ≡ shown places.now columns.now rows.now) }
+{
+    let mut found = Vec::new(alloc);
+    for row in rows {
+        found.push(row_shown(alloc, places, columns, row)?)?;
+    }
+    Ok(found)
+}
+
+fn row_shown(alloc: Global, places: &[usize], columns: &[usize], row: &Row) -> Result<Row, Memory>
+    ensures { IfOk result (λ found. found ≡ filter_map (seen_part columns.now row.now) places.now) }
+{
+    let mut values = Vec::new(alloc);
+    for place in places {
+        if let Some(value) = value_in(columns, row, *place) {
+            values.push(value.copy()?)?;
+        }
+    }
+    Ok(Row::new(values))
+}

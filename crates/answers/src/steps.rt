@@ -1,0 +1,216 @@
+//! What each node of a plan makes of the tables below it.
+
+ghost use Rattle.std.specs.Prelude.{◌≡◌, ◌⊎◌, ◌+◌, ◌<◌, [], IfOk, filter, map};
+ghost use Rattle.std.specs.List.{AllByRecursion};
+ghost use Rattle.std.specs.Option.{option_copied};
+ghost use Rattle.meaning.specs.Relation.{Ascends};
+ghost use Rattle.meaning.specs.Selected.{partner};
+ghost use Rattle.catalog.specs.Keyed.{row_at};
+ghost use Rattle.plan.specs.Rows.{is_seen, met, seen_part};
+ghost use Rattle.answers.specs.Evaluated as spec;
+ghost use Rattle.answers.specs.Evaluated.{cut, filtered, keyed, meeting, partner_pairs, partnered, picked, united};
+
+use crate::merge::{key_pairs, merged};
+use crate::pick::{columns_beside, columns_cut, columns_past, meets, pair, row_cut, value_in};
+use crate::table::Table;
+use std::alloc::Global;
+use terms::cond::{Cond, Conds};
+use terms::copy::{TryCopy, copy_all};
+use terms::memory::Memory;
+use terms::part::Part;
+use terms::row::Row;
+use terms::seq::Seq;
+use terms::value::Value;
+
+/// The parts that meet conditions on their places, as rows.
+pub(crate) fn met(alloc: Global, conds: &[Cond], parts: &[Part]) -> Result<Vec<Row>, Memory>
+    ensures { IfOk result (λ found. found.items ≡ met conds.now parts.now) }
+{
+    let mut found = Vec::new(alloc);
+    for part in parts {
+        if part.meets(conds) {
+            found.push(Row::new(copy_all(alloc, part.values())?))?;
+        }
+    }
+    Ok(found)
+}
+
+/// The rows that meet conditions on columns.
+pub(crate) fn filtered(alloc: Global, conds: &[Cond], table: Table) -> Result<Table, Memory>
+    ensures { IfOk result (λ made. made ≡ filtered conds.now table) }
+{
+    let found = meeting(
+        alloc,
+        conds,
+        table.columns.as_slice(),
+        table.rows.as_slice(),
+    )?;
+    Ok(Table {
+        columns: table.columns,
+        rows: Seq::new(found),
+    })
+}
+
+fn meeting(
+    alloc: Global,
+    conds: &[Cond],
+    columns: &[usize],
+    rows: &[Row],
+) -> Result<Vec<Row>, Memory>
+    ensures { IfOk result (λ found. found.items ≡ meeting conds.now columns.now rows.now) }
+{
+    let mut found = Vec::new(alloc);
+    for row in rows {
+        if meets(conds, columns, row) {
+            found.push(row.copy()?)?;
+        }
+    }
+    Ok(found)
+}
+
+/// The rows cut to the key and the wanted columns.
+pub(crate) fn cut(alloc: Global, wanted: &[usize], table: &Table) -> Result<Table, Memory>
+    ensures { IfOk result (λ made. made ≡ cut wanted.now table.now) }
+{
+    let columns = columns_cut(alloc, wanted, table.columns.as_slice())?;
+    let rows = rows_cut(
+        alloc,
+        wanted,
+        table.columns.as_slice(),
+        table.rows.as_slice(),
+    )?;
+    Ok(Table {
+        columns: Seq::new(columns),
+        rows: Seq::new(rows),
+    })
+}
+
+fn rows_cut(
+    alloc: Global,
+    wanted: &[usize],
+    columns: &[usize],
+    rows: &[Row],
+) -> Result<Vec<Row>, Memory>
+    ensures { IfOk result (λ found. found.items ≡ map (picked (is_seen wanted.now) columns.now) rows.now) }
+{
+    let mut found = Vec::new(alloc);
+    for row in rows {
+        found.push(row_cut(alloc, wanted, columns, row)?)?;
+    }
+    Ok(found)
+}
+
+/// The rows of both tables, which have one list of columns unless one of them has no row.
+pub(crate) fn united(alloc: Global, one: Table, other: Table) -> Result<Table, Memory>
+    requires { Ascends other.rows }
+    ensures { IfOk result (λ made. made ≡ united one other) }
+{
+    if one.rows.as_slice().is_empty() {
+        return Ok(other);
+    }
+    if other.rows.as_slice().is_empty() {
+        return Ok(one);
+    }
+    let rows = merged(alloc, one.rows.as_slice(), other.rows.as_slice())?;
+    Ok(Table {
+        columns: one.columns,
+        rows: Seq::new(rows),
+    })
+}
+
+/// The rows of both tables that have one key, put together.
+pub(crate) fn keyed(alloc: Global, one: &Table, other: &Table) -> Result<Table, Memory>
+    requires one { Ascends one.now.rows }
+    requires other { Ascends other.now.rows }
+    ensures { IfOk result (λ made. made ≡ keyed one.now other.now) }
+{
+    let (columns, others) = (one.columns.as_slice(), other.columns.as_slice());
+    let rows = key_pairs(
+        alloc,
+        columns,
+        others,
+        one.rows.as_slice(),
+        other.rows.as_slice(),
+    )?;
+    Ok(Table {
+        columns: Seq::new(columns_beside(alloc, columns, others)?),
+        rows: Seq::new(rows),
+    })
+}
+
+/// The rows of the left table that have a partner in the right one by the value in a column, each put
+/// together with it; the columns of the right one are counted on from a width.
+pub(crate) fn partnered(
+    alloc: Global,
+    col: usize,
+    width: usize,
+    left: Table,
+    right: &Table,
+) -> Result<Table, Memory>
+    requires order { Ascends right.now.rows }
+    requires within { (right.now.rows ≡ []) ⊎ AllByRecursion (λ col. width + col < 18446744073709551616) right.now.columns }
+    ensures { IfOk result (λ made. made ≡ partnered col width left right.now) }
+{
+    if right.rows.as_slice().is_empty() {
+        return Ok(Table {
+            columns: left.columns,
+            rows: Seq::new(Vec::new(alloc)),
+        });
+    }
+    let others = columns_past(alloc, width, right.columns.as_slice())?;
+    let columns = columns_beside(alloc, left.columns.as_slice(), others.as_slice())?;
+    let rows = partner_pairs(
+        alloc,
+        col,
+        left.columns.as_slice(),
+        others.as_slice(),
+        left.rows.as_slice(),
+        right.rows.as_slice(),
+    )?;
+    Ok(Table {
+        columns: Seq::new(columns),
+        rows: Seq::new(rows),
+    })
+}
+
+/// The rows that have a partner among the others by the value in a column, each put together with it.
+fn partner_pairs(
+    alloc: Global,
+    col: usize,
+    columns: &[usize],
+    others_columns: &[usize],
+    rows: &[Row],
+    others: &[Row],
+) -> Result<Vec<Row>, Memory>
+    requires { Ascends others.now }
+    ensures { IfOk result (λ found. found.items ≡ partner_pairs col columns.now others_columns.now rows.now others.now) }
+{
+    let mut found = Vec::new(alloc);
+    for row in rows {
+        if let Some(other) = partner(others, value_in(columns, row, col)) {
+            found.push(pair(alloc, columns, others_columns, row, other)?)?;
+        }
+    }
+    Ok(found)
+}
+
+/// The row whose key is a value, found by binary search; none for a text.
+fn partner<'a>(rows: &'a [Row], value: Option<&Value>) -> Option<&'a Row>
+    requires { Ascends rows.now }
+    ensures { option_copied result ≡ partner rows.now (option_copied value.entry) }
+{
+    match value {
+        Some(Value::Int(key)) => with_key(rows, key),
+        _ => None,
+    }
+}
+
+fn with_key<'a>(rows: &'a [Row], key: &i64) -> Option<&'a Row>
+    requires { Ascends rows.now }
+    ensures { option_copied result ≡ row_at key.now rows.now }
+{
+    match rows.binary_search_by(|row| row.key().cmp(key)) {
+        Ok(place) => Some(&rows[place]),
+        Err(_) => None,
+    }
+}
