@@ -11,3 +11,4 @@ pub mod Acts
 pub mod Turns
 pub mod Finals
 pub mod Fetched
+pub mod Lawful
