@@ -21,7 +21,7 @@ use Rattle.plan.specs.declared.need.Need.{Need}
 use Rattle.plan.specs.declared.need.Needs.{Needs}
 use Rattle.plan.specs.declared.need.Needs.TheVariants.{One, Joined}
 use Rattle.plan.specs.Fetch.{fetch_of, placed}
-use Rattle.plan.specs.Given.{AreBrought, AreRead, AreReads, BroughtIsRead, brought}
+use Rattle.plan.specs.Given.{AreBrought, AreReads, BroughtIsRead, brought}
 use Rattle.plan.specs.Need.{key_is, need_from, need_joined, need_of_select, needs, needs_of_select, places_to}
 use Rattle.plan.specs.Reduced.{is_fetched, same_leaf}
 use Rattle.plan.specs.Rows.{met}

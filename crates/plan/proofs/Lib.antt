@@ -25,3 +25,5 @@ pub mod PlanFound
 pub mod GivenContents
 pub mod Fetched
 pub mod Among
+pub mod CutColumns
+pub mod UniformPlan
