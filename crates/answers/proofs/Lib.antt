@@ -10,3 +10,4 @@ pub mod Statements
 pub mod Inserted
 pub mod Finished
 pub mod LeavesWritten
+pub mod Worked

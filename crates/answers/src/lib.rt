@@ -19,3 +19,4 @@ pub mod merge;
 pub mod pick;
 pub mod steps;
 pub mod table;
+pub mod work;

@@ -1,5 +1,6 @@
 -- What holds of the relations of a catalogue that a statement names.
-use Rattle.std.proofs.Common.{◌≡◌, ℕ, Bool, true, false, cond, List, [], ◌∷◌, Option, Some, None, find, map, nat_eq, refl, ap, sym, ◌∙◌, subst}
+use Rattle.std.proofs.Common.{◌≡◌, ◌≤◌, ℕ, Bool, true, false, cond, List, [], ◌∷◌, Option, Some, None, find, length, map, nat_eq, refl, ap, sym, ◌∙◌, subst, arith}
+use Rattle.std.proofs.lemmas.List.{length-map}
 use Rattle.std.specs.List.{AllByRecursion}
 use Rattle.std.specs.Cmp.Lexicographic.{pointwise}
 use Rattle.terms.specs.declared.value.Kind.{Kind}
@@ -81,3 +82,15 @@ pub leaves_fit_at : (catalogue : Catalogue) (name : List ℕ) (types : List Kind
 leaves_fit_at catalogue name types leaves formed kinds_is leaves_is =
     let P : List Kind → List FragmentLeaf → Type 0 = λ all ls. AllByRecursion (λ leaf. AllByRecursion (IsCondOf all) leaf.conds) ls in
     subst (λ ls. P types ls) (sym leaves_is) (subst (λ all. P all (leaves_of catalogue name)) (sym kinds_is) (leaves_fit catalogue name formed))
+
+-- the leaves of a name are formed over the columns of that name, which are few
+pub leaves_over : (catalogue : Catalogue) (name : List ℕ) → IsFormed catalogue → AllByRecursion (IsLeafOver catalogue.sites (kinds_in catalogue name)) (leaves_of catalogue name) × (length (kinds_in catalogue name) ≤ 16)
+leaves_over catalogue name formed = at (relation_named name catalogue.relations) (found_all (IsFormedRelation catalogue.sites) (λ relation. pointwise nat_eq relation.schema.name name) catalogue.relations)
+  where
+    at : (found : Option SplitRelation) → ((relation : SplitRelation) → AllByRecursion (IsFormedRelation catalogue.sites) catalogue.relations → found ≡ Some relation → IsFormedRelation catalogue.sites relation) →
+        AllByRecursion (IsLeafOver catalogue.sites (kinds_found found)) (leaves_in found) × (length (kinds_found found) ≤ 16)
+    at None each = (tt, omega arith)
+    at (Some relation) each =
+        let is = each relation formed.relations refl in
+        let same = length-map relation.schema.columns (λ c. c.kind) in
+        let few = is.few in (is.leaves, omega (arith, same, few))

@@ -23,3 +23,7 @@ pub mod PlacesFit
 pub mod JoinOf
 pub mod PlanFound
 pub mod GivenContents
+pub mod Fetched
+pub mod Among
+pub mod CutColumns
+pub mod UniformPlan

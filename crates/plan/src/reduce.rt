@@ -1,6 +1,7 @@
 //! Plans without the reads of leaves that a statement can't need.
 
 ghost use Rattle.std.specs.Prelude.{◌≡◌, ℤ, List, IfOk};
+ghost use Rattle.std.specs.List.{Contains};
 ghost use Rattle.terms.specs.declared.value.Value.{Value};
 ghost use Rattle.meaning.specs.Statement.{IsStatementOf};
 ghost use Rattle.catalog.specs.FragmentLeaf.{schemas_of};
@@ -9,12 +10,13 @@ ghost use Rattle.plan.specs.Located.{located};
 ghost use Rattle.plan.specs.Reduced.{FindsAll, is_fetched, reduced};
 ghost use Rattle.plan.specs.Shape.{shape};
 ghost use Rattle.plan.specs.Stated.{AreFetchesOf};
+ghost use Rattle.plan.specs.Uniform.{EachRead, IsUniform};
 
 use crate::fetch::Fetch;
 use crate::fetches::statement_fetches;
 use crate::plan::Plan;
 use catalog::catalogue::Catalog;
-use catalog::laws::{one_leaf_serves, some_leaf_serves};
+use catalog::laws::{leaf_names_are_unique, one_leaf_serves, some_leaf_serves};
 use meaning::statement::Statement;
 use std::alloc::Global;
 use terms::leaf::Leaf;
@@ -43,9 +45,14 @@ pub fn reduce(
     ensures rows { IfOk result (λ less. FindsAll (catalogue_of catalog.now) statement.now less.fetches.items (shape less.plan)) }
     // The plan reads their leaves alone.
     ensures reads { IfOk result (λ less. shape less.plan ≡ reduced (is_fetched less.fetches.items) (located (catalogue_of catalog.now) statement.now)) }
+    // Each of its reads is one of the fetches.
+    ensures fetched { IfOk result (λ less. EachRead (λ read. Contains less.fetches.items read) (shape less.plan)) }
+    // Both sides of each union have the same columns.
+    ensures uniform { IfOk result (λ less. IsUniform (shape less.plan)) }
 {
     some_leaf_serves();
     one_leaf_serves();
+    leaf_names_are_unique();
     let _relations = catalog.relations();
     let fetches = statement_fetches(alloc, catalog, statement)?;
     let plan = pruned(alloc, plan, fetches.as_slice())?;

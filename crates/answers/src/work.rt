@@ -1,0 +1,60 @@
+//! What a statement answers and writes, by what its fetches brought.
+
+ghost use Rattle.std.specs.Prelude.{◌≡◌, true, IfOk};
+ghost use Rattle.std.specs.List.{AllByRecursion, Contains};
+ghost use Rattle.meaning.specs.Meaning.{meaning};
+ghost use Rattle.meaning.specs.Statement.{IsStatementOf};
+ghost use Rattle.meaning.specs.Whole.{FitsSchema, Relations};
+ghost use Rattle.catalog.specs.FragmentLeaf.{catalogue_leaves, schemas_of};
+ghost use Rattle.catalog.specs.Relation.{catalogue_of};
+ghost use Rattle.plan.specs.Given.{AreBrought};
+ghost use Rattle.plan.specs.Reduced.{FindsAll};
+ghost use Rattle.plan.specs.Shape.{shape};
+ghost use Rattle.plan.specs.Stated.{AreFetchesOf};
+ghost use Rattle.plan.specs.Uniform.{EachRead, IsUniform};
+ghost use Rattle.answers.specs.Table.{AreParts, given};
+ghost use Rattle.answers.specs.Writes.{is_leaf_in, leaf_of, writes_between};
+
+use crate::evaluate::evaluate;
+use crate::finish::{Outcome, finish};
+use crate::table::FetchRows;
+use catalog::catalogue::Catalog;
+use meaning::statement::Statement;
+use plan::laws::{brought_is_read, contents_give};
+use plan::reduce::Reduced;
+use std::alloc::Global;
+use terms::memory::Memory;
+
+/// What a statement of the catalogue's schema answers and writes, by its reduced plan and by what the
+/// plan's fetches brought.
+///
+/// Over each whole database of which the fetches bring these parts, it is the statement's meaning: the
+/// answer, and the writes that lead to the whole database after it.
+pub fn work(
+    alloc: Global,
+    catalog: &Catalog,
+    statement: &Statement,
+    reduced: &Reduced,
+    fetched: &[FetchRows],
+) -> Result<Outcome, Memory>
+    requires statement { IsStatementOf (schemas_of (catalogue_of catalog.now)) statement.now }
+    // What holds of each reduced plan.
+    requires fetches { AreFetchesOf (catalogue_of catalog.now) statement.now reduced.now.fetches.items }
+    requires rows { FindsAll (catalogue_of catalog.now) statement.now reduced.now.fetches.items (shape reduced.now.plan) }
+    requires fetched { EachRead (λ read. Contains reduced.now.fetches.items read) (shape reduced.now.plan) }
+    requires uniform { IsUniform (shape reduced.now.plan) }
+    // The parts of each fetch have its columns, and their keys ascend.
+    requires parts { AllByRecursion (λ read. AreParts read.columns (given fetched.now read.leaf)) reduced.now.fetches.items }
+    ensures answer { IfOk result (λ outcome. (whole : Relations) → FitsSchema (schemas_of (catalogue_of catalog.now)) whole →
+        AreBrought (catalogue_of catalog.now) whole reduced.now.fetches.items (given fetched.now) → outcome.answer ≡ (meaning statement.now whole).0) }
+    ensures writes { IfOk result (λ outcome. (whole : Relations) → FitsSchema (schemas_of (catalogue_of catalog.now)) whole →
+        AreBrought (catalogue_of catalog.now) whole reduced.now.fetches.items (given fetched.now) → outcome.writes ≡ writes_between (catalogue_of catalog.now) whole (meaning statement.now whole).1) }
+    // And whatever the fetches brought, each write is to a leaf of the catalogue.
+    ensures leaves { IfOk result (λ outcome. AllByRecursion (λ write. is_leaf_in (catalogue_leaves (catalogue_of catalog.now)) (leaf_of write) ≡ true) outcome.writes) }
+{
+    brought_is_read();
+    contents_give();
+    let _relations = catalog.relations();
+    let table = evaluate(alloc, &reduced.plan, fetched)?;
+    finish(alloc, catalog, statement, &table)
+}
