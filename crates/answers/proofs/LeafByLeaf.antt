@@ -27,7 +27,7 @@ use Rattle.answers.proofs.WritesLaw.{Lead, leaf_law, none_between, written}
 
 -- each leaf has the key first
 
-abbrev HasKey : FragmentLeaf → Type 0
+abbrev pub HasKey : FragmentLeaf → Type 0
 HasKey leaf = slice_get leaf.columns 0 ≡ Some 0
 
 numbered_key : (relation columns : List ℕ) (number : ℕ) (all : List Path) → AllByRecursion HasKey (leaves_from relation columns number all)
@@ -38,7 +38,7 @@ both_keys : (leaves others : List FragmentLeaf) → AllByRecursion HasKey leaves
 both_keys [] others all more = more
 both_keys (leaf ∷ leaves) others all more = (all.0, both_keys leaves others all.1 more)
 
-relations_key : (relations : List SplitRelation) → AllByRecursion HasKey (flat_map leaves_of relations)
+pub relations_key : (relations : List SplitRelation) → AllByRecursion HasKey (flat_map leaves_of relations)
 relations_key [] = tt
 relations_key (relation ∷ relations) =
     both_keys (leaves_of relation) (flat_map leaves_of relations) (numbered_key relation.schema.name (columns_beside_key (kinds_of relation.schema)) 1 (paths relation.tree)) (relations_key relations)

@@ -52,7 +52,7 @@ each_write Q name changes (leaf ∷ leaves) all =
     own true = each_change Q leaf changes all.0
     own false = tt
 
-same_itself : (leaf : Leaf) → same_leaf leaf leaf ≡ true
+pub same_itself : (leaf : Leaf) → same_leaf leaf leaf ≡ true
 same_itself leaf = rw (nat_list_eq_equiv.refl leaf.relation) (number leaf.number)
   where
     number : (n : ℕ) → (n == n) ≡ true

@@ -11,3 +11,5 @@ pub mod Inserted
 pub mod Finished
 pub mod LeavesWritten
 pub mod Worked
+pub mod Applied
+pub mod WritesLead

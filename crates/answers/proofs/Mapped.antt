@@ -90,7 +90,7 @@ found_test : (key : ℤ) (rows : List (List Value)) (row : List Value) → row_a
 found_test key [] row is = absurd (cc)
 found_test key (first ∷ rows) row is = found_step key (int_eq (key_of first) key) first (row_at key rows) row refl (found_test key rows row) is
 
-one_key : (one key : ℤ) → int_eq one key ≡ true → one ≡ key
+pub one_key : (one key : ℤ) → int_eq one key ≡ true → one ≡ key
 one_key one key h = grind (arith, ints)
 
 pub found_key : (key : ℤ) (rows : List (List Value)) (row : List Value) → row_at key rows ≡ Some row → key_of row ≡ key

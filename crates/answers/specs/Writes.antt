@@ -1,6 +1,6 @@
 -- Writes: what leads from the contents before a change to those after it.
-use Rattle.std.specs.Prelude.{◌&&◌, ℤ, Bool, true, false, if◌then◌else◌, List, [], ◌∷◌, Option, Some, None, flat_map, map, option_map}
-use Rattle.std.specs.List.{filter_map, list_any}
+use Rattle.std.specs.Prelude.{◌≡◌, ◌&&◌, ℤ, Bool, true, false, if◌then◌else◌, List, [], ◌∷◌, Option, Some, None, flat_map, map, option_map}
+use Rattle.std.specs.List.{AllByRecursion, filter_map, list_any}
 use Rattle.std.specs.Ordering.{int_eq, is_eq}
 use Rattle.terms.specs.declared.leaf.Leaf.{Leaf}
 use Rattle.terms.specs.declared.value.Value.{Value}
@@ -8,11 +8,12 @@ use Rattle.terms.specs.declared.write.Write.{Write}
 use Rattle.terms.specs.declared.write.Write.TheVariants.{Put, Del}
 use Rattle.terms.specs.Row.{key_of}
 use Rattle.terms.specs.Value.{value_cmp}
-use Rattle.meaning.specs.Whole.{Relations, rows_of}
+use Rattle.meaning.specs.Whole.{FitsSchema, Relations, rows_of}
 use Rattle.catalog.specs.declared.fragment_leaf.FragmentLeaf.{FragmentLeaf}
 use Rattle.catalog.specs.Catalogue.{Catalogue}
+use Rattle.catalog.specs.Formed.{IsFormed}
 use Rattle.catalog.specs.Fragment.{content}
-use Rattle.catalog.specs.FragmentLeaf.{catalogue_leaves, unnamed}
+use Rattle.catalog.specs.FragmentLeaf.{catalogue_leaves, schemas_of, unnamed}
 use Rattle.catalog.specs.Keyed.{row_at}
 use Rattle.plan.specs.Reduced.{same_leaf}
 use Rattle.answers.specs.Merged.{merged_rows}
@@ -62,3 +63,12 @@ abbrev pub applied : Leaf → List Write → (ℤ → Option (List Value)) → �
 applied leaf [] content key = content key
 applied leaf (write ∷ writes) content key =
     applied leaf writes (λ at. if same_leaf (leaf_of write) leaf && int_eq (key_written write) at then part_written write else content at) key
+
+-- the part that a whole database has in a leaf at a key
+abbrev pub part_in : Relations → FragmentLeaf → ℤ → Option (List Value)
+part_in whole leaf key = row_at key (content (unnamed leaf) (rows_of whole leaf.name.relation))
+
+-- the writes between two whole databases lead in each leaf, at each key, from the part of the one to the part of the other
+abbrev pub WritesLead : Type 0
+WritesLead = (catalogue : Catalogue) (before after : Relations) (key : ℤ) → IsFormed catalogue → FitsSchema (schemas_of catalogue) before →
+    AllByRecursion (λ leaf. applied leaf.name (writes_between catalogue before after) (part_in before leaf) key ≡ part_in after leaf key) (catalogue_leaves catalogue)

@@ -15,6 +15,7 @@
 pub mod change;
 pub mod evaluate;
 pub mod finish;
+pub mod laws;
 pub mod merge;
 pub mod pick;
 pub mod steps;

@@ -105,7 +105,7 @@ abbrev pub IsAmong : Need → List Fetch → FragmentLeaf → Type 0
 IsAmong need fetches leaf = is_fetched fetches leaf.name ≡ true → Contains fetches (fetch_of need leaf)
 
 -- of two leaves of one name there is one
-one_leaf : (all : List FragmentLeaf) (one other : FragmentLeaf) → leaf_named one.name all ≡ Some one → leaf_named other.name all ≡ Some other → one.name ≡ other.name → one ≡ other
+pub one_leaf : (all : List FragmentLeaf) (one other : FragmentLeaf) → leaf_named one.name all ≡ Some one → leaf_named other.name all ≡ Some other → one.name ≡ other.name → one ≡ other
 one_leaf all one other is is_other same =
     let found : leaf_named one.name all ≡ leaf_named other.name all = ap (λ (name : Leaf). leaf_named name all) same in
     let both_some : Some one ≡ Some other = sym is ∙ found ∙ is_other in cc
