@@ -11,3 +11,5 @@ pub mod Acts
 pub mod Turns
 pub mod Finals
 pub mod Fetched
+pub mod PreparedRows
+pub mod Beginning

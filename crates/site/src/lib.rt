@@ -18,5 +18,6 @@ mod reading;
 mod rows;
 pub mod site;
 mod standing;
+mod starting;
 mod turn;
 mod writing;
