@@ -21,7 +21,7 @@ use Rattle.site.specs.declared.fault.SiteFault.TheVariants as faults
 use Rattle.site.specs.declared.locks.Locks.{Locks}
 use Rattle.site.specs.declared.standing.Standing as standings
 use Rattle.site.specs.declared.standing.Standing.TheVariants as standing
-use Rattle.site.specs.Letters.{name_of}
+use Rattle.site.specs.Letters.{name_of, ticket_of}
 use Rattle.site.specs.Local.{local}
 use Rattle.site.specs.Locks.{free, locks_in, reads, writes}
 use Rattle.site.specs.Starting.{Begins, granted, stood_by, all_may_stand, resting}
@@ -88,10 +88,9 @@ module _ (leaves : List Leaf) (all : SiteKept) (kept after : SiteContent) (lists
       fresh = λ j e. clash e (ap is_visit (there j) ∙ no_visit (after.prepared j));
       released = λ g. let r : (table.locks g).released ≡ 0 = none_released g leaves all.prepared in omega arith;
     };
-    rests = λ j. rests_at j;
+    state = λ i. record { kept = after.content; status = λ name. rests_at (ticket_of name) i; known = map name_of table.tickets; life = after.life; number = 0 };
     ascend = sorted;
     alive = refl;
-    number = refl;
   }
 
 pub begins_from : (leaves : List Leaf) (all : SiteKept) (kept after : SiteContent) → Lists kept all → BeginsLife kept after → (rows : List PreparedRow) → rows ≡ all.prepared → (es : Entries) (locks : List Locks) (life : ℕ) →
@@ -110,3 +109,8 @@ begins_from leaves all kept after lists begun rows rows_are es locks life stand 
 pub not_memory : {A Q : Type 0} (result : Result A SiteFault) (fault : SiteFault) (of : StoreFault) → IsErrAnd result (λ e. e ≡ fault) → result ≡ Err (faults.Store of) → fault ≡ faults.Memory → Q
 not_memory (Ok a) fault of e f m = absurd (let h : (Ok a) ≡ Err (faults.Store of) = f in cc)
 not_memory (Err x) fault of e f m = absurd (let h : faults.Store of ≡ faults.Memory = cc in cc)
+
+-- the fault that was handed on
+pub fault_is : {A : Type 0} (result : Result A SiteFault) (fault other : SiteFault) → IsErrAnd result (λ e. e ≡ fault) → result ≡ Err other → fault ≡ other
+fault_is (Ok a) fault other e f = absurd (let h : (Ok a) ≡ Err other = f in cc)
+fault_is (Err x) fault other e f = sym e ∙ (let h : x ≡ other = cc in h)

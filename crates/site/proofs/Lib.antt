@@ -13,3 +13,5 @@ pub mod Finals
 pub mod Fetched
 pub mod PreparedRows
 pub mod Beginning
+pub mod Restarting
+pub mod Inquired

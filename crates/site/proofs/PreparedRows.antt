@@ -183,6 +183,13 @@ free_leaves : (leaves : List Leaf) → leaves_of (map free leaves) ≡ leaves
 free_leaves [] = refl
 free_leaves (leaf ∷ leaves) = ap (λ ls. leaf ∷ ls) (free_leaves leaves)
 
+pub granted_leaves : (leaves : List Leaf) (rows : List PreparedRow) (ls : List Locks) → leaves_of ls ≡ leaves → leaves_of (granted rows ls) ≡ leaves
+granted_leaves leaves [] ls are = are
+granted_leaves leaves (row ∷ rows) ls are = granted_leaves leaves rows (map (grants row.ticket row.prepared.changes) ls) (kept_leaves row.ticket row.prepared.changes ls ∙ are)
+
+pub all_leaves : (leaves : List Leaf) (rows : List PreparedRow) → leaves_of (granted rows (map free leaves)) ≡ leaves
+all_leaves leaves rows = granted_leaves leaves rows (map free leaves) (free_leaves leaves)
+
 -- the locks on a leaf are granted as all are, where the changes stay within the leaves
 granted_in : (k : Ticket) (changes : Changes) (g : Leaf) (ls : List Locks) → (touches g changes ≡ true → list_any (λ leaf. is_eq (leaf_cmp leaf g)) (leaves_of ls) ≡ true) → locks_in g (map (grants k changes) ls) ≡ grants k changes (locks_in g ls)
 granted_in k changes g [] own = sym (go (touches g changes) refl)

@@ -9,3 +9,4 @@ pub mod Rows
 pub mod State
 pub mod Moves
 pub mod Starting
+pub mod Inquiries

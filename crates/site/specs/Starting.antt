@@ -11,11 +11,11 @@ use Rattle.store.specs.declared.prepared.SiteKept.{SiteKept}
 use Rattle.store.specs.Content.{Changes, touches, are_within}
 use Rattle.store.specs.Name.{ticket_cmp}
 use Rattle.store.specs.SiteContent.{SiteContent, Lists}
-use Rattle.protocol.specs.Site.{Status, Dead, Prepared}
+use Rattle.protocol.specs.Site.{SiteState, Status, Dead, Prepared, site_restarted}
 use Rattle.site.specs.declared.locks.Locks.{Locks}
 use Rattle.site.specs.declared.standing.Standing as standings
 use Rattle.site.specs.declared.standing.Standing.TheVariants as standing
-use Rattle.site.specs.Letters.{ticket_of, txn_name}
+use Rattle.site.specs.Letters.{name_of, ticket_of, txn_name}
 use Rattle.site.specs.Local.{local}
 use Rattle.site.specs.Locks.{free, with_writer}
 use Rattle.site.specs.State.{Table, Fits, state_of}
@@ -57,10 +57,28 @@ abbrev pub resting : Option Row → Status local
 resting None = Dead
 resting (Some row) = Prepared (txn_name row.txn) row.changes
 
+-- the state of a site without visits that has drawn no ticket in this life; the rows' tickets are these
+abbrev pub at_rest : SiteContent → List Ticket → SiteState local
+at_rest kept tickets = record {
+  kept = kept.content;
+  status = λ name. resting (kept.prepared (ticket_of name));
+  known = map name_of tickets;
+  life = kept.life;
+  number = 0;
+}
+
 -- a life begins: the rows stand, by ticket, and nothing else
 pub record Begins (kept : SiteContent) (table : Table) : Type 0 where
   pub fits : Fits kept table
-  pub rests : (ticket : Ticket) → (state_of kept table).status (record { life = ticket.life; number = ticket.visit }) ≡ resting (kept.prepared ticket)
+  pub state : state_of kept table ≡ at_rest kept table.tickets
   pub ascend : IsStrictlySortedBy ticket_cmp table.tickets
   pub alive : table.alive ≡ 0
-  pub number : table.number ≡ 0
+
+-- a restart: the state is the protocol's
+pub record Restarts (old : SiteContent) (before : Table) (new : SiteContent) (after : Table) : Type 0 where
+  pub fits : Fits new after
+  pub state : state_of new after ≡ site_restarted (state_of old before)
+
+-- the leaves of locks
+abbrev pub leaves_in : List Locks → List Leaf
+leaves_in locks = map (λ l. l.leaf) locks

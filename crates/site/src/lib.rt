@@ -12,6 +12,7 @@
 
 mod ending;
 pub mod fault;
+mod inquiring;
 mod locks;
 mod present;
 mod reading;

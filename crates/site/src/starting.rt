@@ -8,7 +8,7 @@ ghost use Rattle.store.specs.SiteContent.{IsUnchanged, BeginsLife};
 ghost use Rattle.store.specs.declared.fault.StoreFault.TheVariants as store_faults;
 ghost use Rattle.site.specs.declared.fault.SiteFault.TheVariants as faults;
 ghost use Rattle.site.specs.Locks.{free};
-ghost use Rattle.site.specs.Starting.{Begins, IsStrange, granted, stood_by, may_stand, all_may_stand};
+ghost use Rattle.site.specs.Starting.{Begins, IsStrange, granted, stood_by, may_stand, all_may_stand, leaves_in};
 ghost use Rattle.site.specs.State.{table_from};
 
 use crate::fault::{SiteFault, site_fault};
@@ -48,6 +48,7 @@ pub(crate) fn begin<S: SiteStore>(
     ensures sound { S.is_clean store.new → OnOk result (S.is_sound store.new) }
     ensures keeps { S.is_clean store.new → S.is_sound store.old → S.is_sound store.new }
     ensures ok { S.is_clean store.new → IfOk result (λ begun. Begins (S.kept store.new) (table_from begun.resting.standings.entries begun.resting.locks.items 0 begun.life 0)) }
+    ensures leaves { IfOk result (λ begun. leaves_in begun.resting.locks.items ≡ leaves.now) }
     ensures life { S.is_clean store.new → S.is_sound store.old → OnOk result (BeginsLife (S.kept store.old) (S.kept store.new)) }
     ensures same { S.is_clean store.new → S.is_sound store.old → OnErr result (IsUnchanged (S.kept store.old) (S.kept store.new)) }
     ensures refusal { result ≡ Err (faults.Store store_faults.Refused) → HasRefused (S.refused store.old) (S.refused store.new) }
@@ -104,6 +105,17 @@ fn free_locks(alloc: Global, leaves: &[Leaf]) -> Result<Vec<Locks>, Memory>
         locks.push(Locks::new(alloc, leaf.copy()?))?;
     }
     Ok(locks)
+}
+
+/// The leaves of locks.
+pub(crate) fn leaves_of(alloc: Global, locks: &[Locks]) -> Result<Vec<Leaf>, Memory>
+    ensures { IfOk result (λ leaves. leaves.items ≡ leaves_in locks.now) }
+{
+    let mut leaves = Vec::new(alloc);
+    for locks in locks {
+        leaves.push(locks.leaf.copy()?)?;
+    }
+    Ok(leaves)
 }
 
 /// Whether a row can be a site's that has these leaves, beside the rows that have these locks.

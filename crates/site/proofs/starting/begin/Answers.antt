@@ -3,7 +3,8 @@ use Rattle.std.proofs.Common.{◌≡◌, refl, sym, ap, ◌∙◌, subst, ◌+�
 use Rattle.store.specs.declared.fault.StoreFault.TheVariants as store_faults
 use Rattle.site.specs.declared.fault.SiteFault.TheVariants as faults
 use Rattle.site.specs.Locks.{free}
-use Rattle.site.specs.Starting.{IsStrange, all_may_stand}
+use Rattle.site.specs.Starting.{IsStrange, all_may_stand, leaves_in}
+use Rattle.site.proofs.PreparedRows.{all_leaves}
 use Rattle.site.proofs.Beginning.{begins_from, not_memory}
 use Rattle.site.proofs.starting.begin.Goals as goal
 
@@ -26,3 +27,6 @@ returns-in-Ok-next_incarnation-clause-ok g c = λ clean.
     begins_from c.args.leaves.now c.in-Ok.all kept after lists (c.in-Ok-next_incarnation.ensures.ok clean sound below) c.as_slice.result.now c.as_slice.ensures
     c.in_ok-resting.resting.standings.entries c.in_ok-resting.resting.locks.items c.in-Ok-next_incarnation.life
     c.in_ok-resting.ensures.standings c.in_ok-resting.ensures.locks c.in_ok-resting.ensures.right c.in_ok-resting.ensures.ordered (c.in-Ok-next_incarnation.ensures.life clean sound)
+
+pub returns-in-Ok-next_incarnation-clause-leaves : goal.returns-in-Ok-next_incarnation-clause-leaves
+returns-in-Ok-next_incarnation-clause-leaves g c = ap leaves_in c.in_ok-resting.ensures.locks ∙ all_leaves c.args.leaves.now c.as_slice.result.now
