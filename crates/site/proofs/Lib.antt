@@ -12,3 +12,7 @@ pub mod Turns
 pub mod Finals
 pub mod Fetched
 pub mod Lawful
+pub mod PreparedRows
+pub mod Beginning
+pub mod Restarting
+pub mod Inquired

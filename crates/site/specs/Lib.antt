@@ -8,3 +8,5 @@ pub mod Turn
 pub mod Rows
 pub mod State
 pub mod Moves
+pub mod Starting
+pub mod Inquiries

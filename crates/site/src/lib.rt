@@ -12,11 +12,13 @@
 
 mod ending;
 pub mod fault;
+mod inquiring;
 mod locks;
 mod present;
 mod reading;
 mod rows;
 pub mod site;
 mod standing;
+mod starting;
 mod turn;
 mod writing;

@@ -1,12 +1,14 @@
 //! The locks on the leaves of a site.
 
 ghost use Rattle.std.specs.Prelude.{◌≡◌, OnOk, OnErr, map, not};
-ghost use Rattle.std.specs.List.{list_any};
+ghost use Rattle.std.specs.List.{list_all, list_any};
 ghost use Rattle.store.specs.SiteContent.{is_ticket};
 ghost use Rattle.site.specs.Locks.{free, others_write, is_foreign, with_reader, with_writer, stops, stops_reading, stops_writing, place_in};
+ghost use Rattle.site.specs.Starting.{grants, is_open};
 
 use std::alloc::Global;
 use std::collections::BTreeSet;
+use store::changes::Changes;
 use store::name::Ticket;
 use terms::leaf::Leaf;
 use terms::memory::Memory;
@@ -75,6 +77,22 @@ impl Locks {
         self.writer = Some(ticket);
     }
 
+    /// Grants the exclusive lock on a leaf that changes touch.
+    fn grant_touched(&mut self, ticket: Ticket, changes: &Changes)
+        ensures { self.new ≡ grants ticket changes.now self.old }
+    {
+        if changes.touches(&self.leaf) {
+            self.grant(ticket);
+        }
+    }
+
+    /// Whether changes touch nothing here that another writes.
+    fn is_open(&self, changes: &Changes) -> bool
+        ensures { result ≡ is_open changes.now self.now }
+    {
+        self.writer.is_none() || !changes.touches(&self.leaf)
+    }
+
     /// Lets a shared lock go, after so many tickets were drawn.
     fn stop_reading(&mut self, ticket: &Ticket, drawn: u64)
         ensures { self.new ≡ stops_reading ticket.now drawn self.old }
@@ -111,6 +129,22 @@ pub(crate) fn place_of(locks: &[Locks], leaf: &Leaf) -> Option<usize>
     ensures { result ≡ place_in leaf.now locks.now }
 {
     locks.iter().position(|other| leaf.cmp(&other.leaf).is_eq())
+}
+
+/// Whether changes touch no leaf that another writes.
+pub(crate) fn is_open(locks: &[Locks], changes: &Changes) -> bool
+    ensures { result ≡ list_all (is_open changes.now) locks.now }
+{
+    locks.iter().all(|locks| locks.is_open(changes))
+}
+
+/// A ticket has the exclusive lock on each leaf that its changes touch.
+pub(crate) fn grant(locks: &mut [Locks], ticket: Ticket, changes: &Changes)
+    ensures { locks.new ≡ map (grants ticket changes.now) locks.old }
+{
+    for place in 0..locks.len() {
+        locks[place].grant_touched(ticket, changes);
+    }
 }
 
 /// A ticket lets go of its shared locks, after so many tickets were drawn.

@@ -18,6 +18,7 @@ ghost use Rattle.site.specs.Moves.{next_of};
 use crate::fault::SiteFault;
 use crate::locks::{Locks, stop, stop_reading};
 use crate::standing::{Standing, Standings, Visit, set_change, set_done, set_prepared};
+use crate::starting::Beginning;
 use std::alloc::Global;
 use store::changes::Changes;
 use store::name::{Ticket, Txn};
@@ -175,5 +176,20 @@ impl Present {
         let _count = self.standings.len();
         let _gone = self.standings.remove(ticket);
         stop(&mut self.locks, ticket, self.number);
+    }
+
+    /// What was in memory is lost, and another life has begun.
+    pub(crate) fn restart(&mut self, begun: Beginning)
+        ensures begun { table_of self.new ≡ table_from begun.resting.standings.entries begun.resting.locks.items 0 begun.life 0 }
+        ensures name { self.new.name ≡ self.old.name }
+        ensures locks { self.new.locks.items ≡ begun.resting.locks.items }
+        ensures ordered { IsOrdered ticket_cmp self.old.standings }
+    {
+        let _count = self.standings.len();
+        self.standings = begun.resting.standings;
+        self.locks = begun.resting.locks;
+        self.alive = 0;
+        self.life = begun.life;
+        self.number = 0;
     }
 }

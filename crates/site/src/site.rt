@@ -1,26 +1,33 @@
 //! The subordinate's machine.
 
-ghost use Rattle.std.specs.Prelude.{◌≡◌, ◌≢◌, ◌<◌, [], None, Err, IfOk, IfErr, OnErr, vec_len, ◌⊎◌, false};
+ghost use Rattle.std.specs.Prelude.{◌≡◌, ◌≢◌, ◌<◌, ◌≤◌, ◌+◌, ◌^◌, [], None, Err, IfOk, IfErr, OnOk, OnErr, map, vec_len, ◌⊎◌, false};
 ghost use Rattle.store.specs.Fault.{HasRefused};
 ghost use Rattle.store.specs.declared.fault.StoreFault.TheVariants as store_faults;
 ghost use Rattle.site.specs.declared.fault.SiteFault.TheVariants as faults;
 ghost use Rattle.std.specs.Vec.{vec_capacity};
-ghost use Rattle.protocol.specs.Site.{on_letter, on_give_up};
-ghost use Rattle.store.specs.SiteContent.{IsUnchanged};
-ghost use Rattle.site.specs.Letters.{name_of, order_body, txn_name, kept_by, letters_of};
+ghost use Rattle.protocol.specs.Site.{on_letter, on_give_up, inquiries};
+ghost use Rattle.store.specs.SiteContent.{IsUnchanged, BeginsLife, Lists};
+ghost use Rattle.site.specs.Letters.{name_of, letter_of, order_body, txn_name, kept_by, letters_of};
+ghost use Rattle.site.specs.Starting.{Begins, Restarts, IsStrange, leaves_in};
 ghost use Rattle.site.specs.State.{Fits, Steps, Takes, state_of, table_of};
 
 use crate::ending::{abort, commit, give_up, prepare};
-use crate::fault::SiteFault;
+use crate::fault::{SiteFault, site_fault};
+use crate::inquiring::inquire;
 use crate::present::Present;
 use crate::reading::fetch;
+use crate::starting::{begin, leaves_of};
 use crate::writing::{intend, open};
 use std::alloc::Global;
+use store::fault::StoreFault;
 use store::letter::{Body, Letter};
 use store::name::{Ticket, Txn};
 use store::order::Order;
+use store::prepared::SiteKept;
 use store::reply::Reply;
 use store::site_store::SiteStore;
+use terms::leaf::Leaf;
+use terms::memory::Memory;
 use terms::same::Same;
 use terms::text::Text;
 
@@ -32,7 +39,126 @@ pub struct Site<S: SiteStore> {
     present: Present,
 }
 
+/// A store whose site didn't start, and why.
+#[derive(Drop)]
+pub struct Unstarted<S> {
+    pub fault: SiteFault,
+    pub store: S,
+}
+
 impl<S: SiteStore> Site<S> {
+    /// Starts the site of this name that has these leaves: the next life begins. On a fault the store is
+    /// as it was.
+    pub fn start(
+        alloc: Global,
+        name: Text,
+        store: S,
+        leaves: &[Leaf],
+    ) -> Result<Site<S>, Unstarted<S>>
+        ensures sound { IfOk result (λ site. S.is_clean site.store → S.is_sound site.store) }
+        ensures ok { IfOk result (λ site. S.is_clean site.store → Begins (S.kept site.store) (table_of site.present)) }
+        ensures life { IfOk result (λ site. S.is_clean site.store → S.is_sound store → BeginsLife (S.kept store) (S.kept site.store)) }
+        ensures name { IfOk result (λ site. site.present.name ≡ name) }
+        ensures leaves { IfOk result (λ site. leaves_in site.present.locks.items ≡ leaves.now) }
+        ensures clean { IfOk result (λ site. S.is_clean site.store → S.is_clean store) }
+        ensures clean_still { IfErr result (λ unstarted. S.is_clean unstarted.store → S.is_clean store) }
+        ensures same { IfErr result (λ unstarted. S.is_clean unstarted.store → S.is_sound store → IsUnchanged (S.kept store) (S.kept unstarted.store)) }
+        ensures refusal { IfErr result (λ unstarted. unstarted.fault ≡ faults.Store store_faults.Refused → HasRefused (S.refused store) (S.refused unstarted.store)) }
+        ensures full { IfErr result (λ unstarted. S.is_clean unstarted.store → unstarted.fault ≡ faults.Full → 2 ^ 63 ≤ (S.kept unstarted.store).life + 1) }
+        ensures damaged { IfErr result (λ unstarted. S.is_clean unstarted.store → S.is_sound store → unstarted.fault ≡ faults.Store store_faults.Damaged → IsStrange leaves.now (S.kept unstarted.store)) }
+        ensures own { IfErr result (λ unstarted. unstarted.fault ≢ faults.Stranger) }
+    {
+        let mut store = store;
+        match begin(&mut store, alloc, leaves) {
+            Ok(begun) => Ok(Site {
+                store,
+                present: Present {
+                    alloc,
+                    name,
+                    locks: begun.resting.locks,
+                    standings: begun.resting.standings,
+                    alive: 0,
+                    life: begun.life,
+                    number: 0,
+                },
+            }),
+            Err(fault) => Err(Unstarted { fault, store }),
+        }
+    }
+
+    /// Restarts: visits and their locks are lost, and the next life begins. On a fault nothing has changed.
+    pub fn restart(&mut self) -> Result<(), SiteFault>
+        ensures clean { S.is_clean self.new.store → S.is_clean self.old.store }
+        ensures sound { S.is_clean self.new.store → OnOk result (S.is_sound self.new.store) }
+        ensures keeps { S.is_clean self.new.store → S.is_sound self.old.store → S.is_sound self.new.store }
+        ensures ok { S.is_clean self.new.store → S.is_sound self.old.store → Fits (S.kept self.old.store) (table_of self.old.present)
+            → OnOk result (Restarts (S.kept self.old.store) (table_of self.old.present) (S.kept self.new.store) (table_of self.new.present)) }
+        ensures begins { S.is_clean self.new.store → OnOk result (Begins (S.kept self.new.store) (table_of self.new.present)) }
+        ensures life { S.is_clean self.new.store → S.is_sound self.old.store → OnOk result (BeginsLife (S.kept self.old.store) (S.kept self.new.store)) }
+        ensures name { self.new.present.name ≡ self.old.present.name }
+        ensures leaves { leaves_in self.new.present.locks.items ≡ leaves_in self.old.present.locks.items }
+        ensures err { OnErr result (table_of self.new.present ≡ table_of self.old.present) }
+        ensures same { S.is_clean self.new.store → S.is_sound self.old.store → OnErr result (IsUnchanged (S.kept self.old.store) (S.kept self.new.store)) }
+        ensures refusal { result ≡ Err (faults.Store store_faults.Refused) → HasRefused (S.refused self.old.store) (S.refused self.new.store) }
+        ensures full { S.is_clean self.new.store → result ≡ Err faults.Full → 2 ^ 63 ≤ (S.kept self.new.store).life + 1 }
+        ensures damaged { S.is_clean self.new.store → S.is_sound self.old.store → result ≡ Err (faults.Store store_faults.Damaged) → IsStrange (leaves_in self.old.present.locks.items) (S.kept self.new.store) }
+        ensures own { result ≢ Err faults.Stranger }
+    {
+        self.restart_kept(true)
+    }
+
+    /// So, but where `kept` is false the store isn't called, and counts as having refused.
+    pub fn restart_kept(&mut self, kept: bool) -> Result<(), SiteFault>
+        ensures clean { S.is_clean self.new.store → S.is_clean self.old.store }
+        ensures sound { S.is_clean self.new.store → OnOk result (S.is_sound self.new.store) }
+        ensures keeps { S.is_clean self.new.store → S.is_sound self.old.store → S.is_sound self.new.store }
+        ensures ok { S.is_clean self.new.store → S.is_sound self.old.store → Fits (S.kept self.old.store) (table_of self.old.present)
+            → OnOk result (Restarts (S.kept self.old.store) (table_of self.old.present) (S.kept self.new.store) (table_of self.new.present)) }
+        ensures begins { S.is_clean self.new.store → OnOk result (Begins (S.kept self.new.store) (table_of self.new.present)) }
+        ensures life { S.is_clean self.new.store → S.is_sound self.old.store → OnOk result (BeginsLife (S.kept self.old.store) (S.kept self.new.store)) }
+        ensures name { self.new.present.name ≡ self.old.present.name }
+        ensures leaves { leaves_in self.new.present.locks.items ≡ leaves_in self.old.present.locks.items }
+        ensures err { OnErr result (table_of self.new.present ≡ table_of self.old.present) }
+        ensures same { S.is_clean self.new.store → S.is_sound self.old.store → OnErr result (IsUnchanged (S.kept self.old.store) (S.kept self.new.store)) }
+        ensures refusal { result ≡ Err (faults.Store store_faults.Refused) → (kept ≡ false) ⊎ HasRefused (S.refused self.old.store) (S.refused self.new.store) }
+        ensures full { S.is_clean self.new.store → result ≡ Err faults.Full → 2 ^ 63 ≤ (S.kept self.new.store).life + 1 }
+        ensures damaged { S.is_clean self.new.store → S.is_sound self.old.store → result ≡ Err (faults.Store store_faults.Damaged) → IsStrange (leaves_in self.old.present.locks.items) (S.kept self.new.store) }
+        ensures own { result ≢ Err faults.Stranger }
+    {
+        if !kept {
+            return Err(SiteFault::Store(StoreFault::Refused));
+        }
+        let alloc = self.present.alloc;
+        let leaves = leaves_of(alloc, self.present.locks.as_slice())?;
+        let begun = begin(&mut self.store, alloc, leaves.as_slice())?;
+        self.present.restart(begun);
+        Ok(())
+    }
+
+    /// The site's inquiries, one about each prepared row, by ticket.
+    pub fn inquire(&self) -> Result<Vec<Letter>, Memory>
+        ensures { Fits (S.kept self.now.store) (table_of self.now.present)
+            → IfOk result (λ letters. map letter_of letters.items ≡ inquiries self.now.present.name (state_of (S.kept self.now.store) (table_of self.now.present))) }
+    {
+        inquire(&self.present)
+    }
+
+    /// All that the store keeps.
+    pub fn kept(&mut self) -> Result<SiteKept, SiteFault>
+        ensures clean { S.is_clean self.new.store → S.is_clean self.old.store }
+        ensures keeps { S.is_clean self.new.store → S.is_sound self.old.store → S.is_sound self.new.store }
+        ensures all { S.is_clean self.new.store → IfOk result (Lists (S.kept self.new.store)) }
+        ensures same { S.is_clean self.new.store → S.is_sound self.old.store → IsUnchanged (S.kept self.old.store) (S.kept self.new.store) }
+        ensures memory { self.new.present ≡ self.old.present }
+        ensures refusal { result ≡ Err (faults.Store store_faults.Refused) → HasRefused (S.refused self.old.store) (S.refused self.new.store) }
+        ensures intact { S.is_clean self.new.store → S.is_sound self.old.store → result ≢ Err (faults.Store store_faults.Damaged) }
+    {
+        match self.store.load() {
+            Ok(all) => Ok(all),
+            Err(fault) => Err(site_fault(fault)),
+        }
+    }
+
     /// Takes a letter, and answers the letters that the site puts out. On a fault nothing has changed.
     pub fn take(&mut self, letter: Letter) -> Result<Vec<Letter>, SiteFault>
         ensures clean { S.is_clean self.new.store → S.is_clean self.old.store }

@@ -2,7 +2,7 @@
 use Rattle.std.specs.Prelude.{◌≡◌, ℤ, List, [], ◌∷◌, Bool, Option, Some, None, IfSome, IsSome, unwrap_or, if◌then◌else◌}
 use Rattle.std.specs.Coded.{Coded, coded_list, coded_option}
 use Rattle.std.specs.FinMap as map
-use Rattle.std.specs.List.{filter, list_any}
+use Rattle.std.specs.List.{filter, list_all, list_any}
 use Rattle.std.specs.Ordering.{int_cmp, is_eq}
 use Rattle.terms.specs.declared.cond.Cond.{Cond}
 use Rattle.terms.specs.declared.leaf.Leaf.{Leaf}
@@ -66,6 +66,10 @@ HasRoomFor changes kept = (slot : Slot) (part : List Value) → map.get changes 
 -- whether changes say something of a leaf
 abbrev pub touches : Leaf → Changes → Bool
 touches leaf changes = list_any (is_of leaf) (map.keys changes)
+
+-- whether changes say nothing of other leaves than these
+abbrev pub are_within : List Leaf → Changes → Bool
+are_within leaves changes = list_all (λ slot. list_any (λ leaf. is_of leaf slot) leaves) (map.keys changes)
 
 -- a leaf's parts that meet conditions, in the order of their keys
 abbrev pub parts : List Cond → Content → List (List Value)

@@ -6,10 +6,10 @@ ghost use Rattle.std.specs.Option.{option_copied};
 ghost use Rattle.terms.specs.Row.{key_of};
 ghost use Rattle.store.specs.declared.slot.Slot.{Slot as Place};
 ghost use Rattle.store.specs.Slot.{slot_of};
-ghost use Rattle.store.specs.Content.{AreKeyed, HasRoomFor, made_by, put_at, touches};
+ghost use Rattle.store.specs.Content.{AreKeyed, HasRoomFor, made_by, put_at, touches, are_within};
 
 use crate::slot::Slot;
-use crate::slots::{copy_slots, fill, list_parts, make_rooms, touch};
+use crate::slots::{copy_slots, fill, list_parts, make_rooms, stay_within, touch};
 use std::alloc::Global;
 use std::collections::BTreeMap;
 use std::marker::Model;
@@ -106,6 +106,13 @@ impl Changes {
         ensures { result ≡ touches leaf.now self.now }
     {
         touch(&self.slots, leaf)
+    }
+
+    /// Whether the changes say nothing of other leaves than these.
+    pub fn is_within(&self, leaves: &[Leaf]) -> bool
+        ensures { result ≡ are_within leaves.now self.now }
+    {
+        stay_within(&self.slots, leaves)
     }
 
     /// The parts that the changes make of nothing in a leaf, in the order of their keys.

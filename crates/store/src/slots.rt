@@ -3,7 +3,7 @@
 ghost use Rattle.std.specs.Prelude.{◌≡◌, ◌<◌, ◌+◌, ◌^◌, ◌++◌, [], IfOk, OnOk, IsSome, false, if◌then◌else◌, unwrap_or, option_to_list};
 ghost use Rattle.store.specs.declared.slot.Slot.{Slot as Place};
 ghost use Rattle.std.specs.BTreeMap.{is_at, keys, IsOrdered};
-ghost use Rattle.std.specs.List.{list_any};
+ghost use Rattle.std.specs.List.{list_all, list_any};
 ghost use Rattle.store.specs.Slot.{slot_cmp};
 ghost use Rattle.store.specs.Entries.{entry_at, part_at, parts_of, HasRooms};
 ghost use Rattle.store.specs.Content.{is_of};
@@ -181,4 +181,20 @@ pub(crate) fn touch(slots: &Slots, leaf: &Leaf) -> bool
 {
     let _count = slots.len();
     slots.keys().any(|slot| leaf.cmp(&slot.leaf).is_eq())
+}
+
+/// Whether a slot is of one of these leaves.
+fn is_of_one(slot: &Slot, leaves: &[Leaf]) -> bool
+    ensures { result ≡ list_any (λ leaf. is_of leaf slot.now) leaves.now }
+{
+    leaves.iter().any(|leaf| leaf.cmp(&slot.leaf).is_eq())
+}
+
+/// Whether each slot is of one of these leaves.
+pub(crate) fn stay_within(slots: &Slots, leaves: &[Leaf]) -> bool
+    ensures answer { result ≡ list_all (λ slot. list_any (λ leaf. is_of leaf slot) leaves.now) (keys slots.now) }
+    ensures ordered { IsOrdered slot_cmp slots.now }
+{
+    let _count = slots.len();
+    slots.keys().all(|slot| is_of_one(slot, leaves))
 }

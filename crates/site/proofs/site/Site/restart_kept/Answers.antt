@@ -1,0 +1,22 @@
+-- Why `Site::restart_kept` meets its contract.
+use Rattle.std.proofs.Common.{◌≡◌, sym, ap, ◌∙◌, subst, Err}
+use Rattle.store.specs.declared.fault.StoreFault.TheVariants as store_faults
+use Rattle.site.specs.declared.fault.SiteFault.TheVariants as faults
+use Rattle.site.specs.Starting.{Begins, Restarts, IsStrange, leaves_in}
+use Rattle.site.specs.State.{table_of}
+use Rattle.site.proofs.Beginning.{fault_is}
+use Rattle.site.proofs.Restarting.{restarts}
+use Rattle.site.proofs.site.Site.restart_kept.Goals as goal
+
+pub returns-in_err-begun-clause-damaged : goal.returns-in_err-begun-clause-damaged
+returns-in_err-begun-clause-damaged g c = λ clean sound e.
+    let fault = fault_is c.from_residual-in_err-begun.result c.in_err-begun.field-0.0 (faults.Store store_faults.Damaged) c.from_residual-in_err-begun.ensures.1 e in
+    subst (λ leaves. IsStrange leaves (g.S.SiteStore.kept c.begin.new.store)) (c.as_slice-2.ensures.value ∙ c.in_ok-leaves.ensures ∙ ap leaves_in c.as_slice.ensures.value)
+    (c.begin.ensures.damaged clean sound (c.in_err-begun.was ∙ ap Err fault))
+
+pub returns-clause-ok : goal.returns-clause-ok
+returns-clause-ok g c = λ clean sound fits.
+    let old = g.S.SiteStore.kept c.args.self.now.store in
+    let new = g.S.SiteStore.kept c.begin.new.store in
+    let begun = subst (Begins new) (sym c.restart.ensures.begun) (c.in_ok-begun.ensures.ok clean) in
+    restarts old (table_of c.args.self.now.present) fits c.restart.ensures.ordered new (table_of c.restart.new.self) begun (c.in_ok-begun.ensures.life clean sound)

@@ -1,0 +1,32 @@
+-- Why `begin` meets its contract.
+use Rattle.std.proofs.Common.{◌≡◌, refl, sym, ap, ◌∙◌, subst, ◌+◌, ◌<◌, ◌^◌, [], map, true, false, Err, ⊎_elim, arith}
+use Rattle.store.specs.declared.fault.StoreFault.TheVariants as store_faults
+use Rattle.site.specs.declared.fault.SiteFault.TheVariants as faults
+use Rattle.site.specs.Locks.{free}
+use Rattle.site.specs.Starting.{IsStrange, all_may_stand, leaves_in}
+use Rattle.site.proofs.PreparedRows.{all_leaves}
+use Rattle.site.proofs.Beginning.{begins_from, not_memory}
+use Rattle.site.proofs.starting.begin.Goals as goal
+
+pub returns-in_err-resting-clause-damaged : goal.returns-in_err-resting-clause-damaged
+returns-in_err-resting-clause-damaged g c = λ clean sound e. ⊎_elim
+    (λ m. not_memory c.from_residual.result c.in_err-resting.field-0.0 store_faults.Damaged c.from_residual.ensures.1 e m)
+    (λ d. record { all = c.in-Ok.all; lists = c.in-Ok.ensures.all clean; strange = subst (λ rows. all_may_stand c.args.leaves.now c.in-Ok.all.life rows (map free c.args.leaves.now) ≡ false) c.as_slice.ensures d.1 })
+    c.in_err-resting.ensures.fault
+
+pub returns-in-Ok-next_incarnation-clause-ok : goal.returns-in-Ok-next_incarnation-clause-ok
+returns-in-Ok-next_incarnation-clause-ok g c = λ clean.
+    let before = c.next_incarnation.ensures.clean clean in
+    let sound = c.in-Ok.ensures.sound before in
+    let kept = g.S.SiteStore.kept c.load.new.self in
+    let after = g.S.SiteStore.kept c.next_incarnation.new.self in
+    let lists = c.in-Ok.ensures.all before in
+    let i = lists.incarnation in
+    let f = c.if-all-ge-LAST.false in
+    let below : kept.life + 1 < 2 ^ 63 = grind (arith) in
+    begins_from c.args.leaves.now c.in-Ok.all kept after lists (c.in-Ok-next_incarnation.ensures.ok clean sound below) c.as_slice.result.now c.as_slice.ensures
+    c.in_ok-resting.resting.standings.entries c.in_ok-resting.resting.locks.items c.in-Ok-next_incarnation.life
+    c.in_ok-resting.ensures.standings c.in_ok-resting.ensures.locks c.in_ok-resting.ensures.right c.in_ok-resting.ensures.ordered (c.in-Ok-next_incarnation.ensures.life clean sound)
+
+pub returns-in-Ok-next_incarnation-clause-leaves : goal.returns-in-Ok-next_incarnation-clause-leaves
+returns-in-Ok-next_incarnation-clause-leaves g c = ap leaves_in c.in_ok-resting.ensures.locks ∙ all_leaves c.args.leaves.now c.as_slice.result.now
