@@ -2,12 +2,13 @@
 //! what a statement answers and writes by these rows.
 //!
 //! It stands on `terms`, `meaning`, `catalog` and `plan`. The contract that the layers above use is that
-//! of `finish`: over every whole database of which the table has what the statement is to find there, the
-//! answer and the writes are those of the serial meaning. `evaluate` gives the table of a plan.
+//! of `work`: over every whole database of which the fetches bring what they brought, the answer and the
+//! writes are those of the serial meaning. `evaluate` gives the table of a plan, and `finish` what a
+//! statement makes of it; `laws::writes_lead` says what the writes do to the leaves.
 //!
 //! ```text
-//! let table = evaluate(alloc, &reduced.plan, fetched)?;      // DELETE FROM item WHERE zone = 3
-//! let outcome = finish(alloc, &catalog, &statement, &table)?;
+//! let less = reduce(alloc, &catalog, &statement, plan)?;     // DELETE FROM item WHERE zone = 3
+//! let outcome = work(alloc, &catalog, &statement, &less, fetched)?;
 //! // outcome.answer: Answer::Changed(1); outcome.writes: Write::Del(item.1, 1)
 //! ```
 #![tactic(auto)]

@@ -2,7 +2,8 @@
 //! rows are put together from their parts.
 //!
 //! It stands on `terms`, `meaning` and `catalog`. The contract that the layers above use is that of
-//! `reduce`: the fetches are exactly those that the statement may need.
+//! `reduce`: the fetches are exactly those that the statement may need, and over what they bring the
+//! plan has the rows that the statement is to find.
 #![tactic(auto)]
 
 pub mod fetch;
