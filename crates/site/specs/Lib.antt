@@ -10,3 +10,4 @@ pub mod State
 pub mod Moves
 pub mod Starting
 pub mod Inquiries
+pub mod Refusals

@@ -39,6 +39,9 @@ pub(crate) fn prepare<S: SiteStore>(
     prepare: Prepare,
     kept: bool,
 ) -> Result<Option<Reply>, SiteFault>
+    ensures name { present.new.name ≡ present.old.name }
+    ensures own { result ≢ Err faults.Stranger }
+    ensures within { result ≢ Err faults.Full }
     ensures clean { S.is_clean store.new → S.is_clean store.old }
     ensures sound { S.is_clean store.new → S.is_sound store.old → S.is_sound store.new }
     ensures ok { S.is_clean store.new → S.is_sound store.old → Fits (S.kept store.old) (table_of present.old) → IfOk result (λ reply. Steps (S.kept store.old) (table_of present.old) (S.kept store.new) (table_of present.new)
@@ -67,6 +70,9 @@ fn keep<S: SiteStore>(
     ticket: Ticket,
     kept: bool,
 ) -> Result<Option<Reply>, SiteFault>
+    ensures name { present.new.name ≡ present.old.name }
+    ensures own { result ≢ Err faults.Stranger }
+    ensures within { result ≢ Err faults.Full }
     ensures clean { S.is_clean store.new → S.is_clean store.old }
     ensures sound { S.is_clean store.new → S.is_sound store.old → S.is_sound store.new }
     ensures ok { S.is_clean store.new → S.is_sound store.old → Fits (S.kept store.old) (table_of present.old) → (visit : Visited) → (table_of present.old).standing ticket ≡ Some (standing.Alive visit)
@@ -106,6 +112,9 @@ pub(crate) fn commit<S: SiteStore>(
     ticket: Ticket,
     kept: bool,
 ) -> Result<Option<Reply>, SiteFault>
+    ensures name { present.new.name ≡ present.old.name }
+    ensures own { result ≢ Err faults.Stranger }
+    ensures within { result ≢ Err faults.Full }
     ensures clean { S.is_clean store.new → S.is_clean store.old }
     ensures sound { S.is_clean store.new → S.is_sound store.old → S.is_sound store.new }
     ensures ok { S.is_clean store.new → S.is_sound store.old → Fits (S.kept store.old) (table_of present.old) → IfOk result (λ reply. Steps (S.kept store.old) (table_of present.old) (S.kept store.new) (table_of present.new)
@@ -137,6 +146,9 @@ pub(crate) fn abort<S: SiteStore>(
     ticket: Ticket,
     kept: bool,
 ) -> Result<Option<Reply>, SiteFault>
+    ensures name { present.new.name ≡ present.old.name }
+    ensures own { result ≢ Err faults.Stranger }
+    ensures within { result ≢ Err faults.Full }
     ensures clean { S.is_clean store.new → S.is_clean store.old }
     ensures sound { S.is_clean store.new → S.is_sound store.old → S.is_sound store.new }
     ensures ok { S.is_clean store.new → S.is_sound store.old → Fits (S.kept store.old) (table_of present.old) → IfOk result (λ reply. Steps (S.kept store.old) (table_of present.old) (S.kept store.new) (table_of present.new)
@@ -164,7 +176,8 @@ pub(crate) fn abort<S: SiteStore>(
 
 /// Ends a visit that isn't prepared.
 pub(crate) fn give_up(present: &mut Present, ticket: &Ticket)
-    ensures { (kept : SiteContent) → Fits kept (table_of present.old) → Steps kept (table_of present.old) kept (table_of present.new)
+    ensures name { present.new.name ≡ present.old.name }
+    ensures gone { (kept : SiteContent) → Fits kept (table_of present.old) → Steps kept (table_of present.old) kept (table_of present.new)
         (on_give_up (name_of ticket.now) ((state_of kept (table_of present.old)).status (name_of ticket.now))) None }
 {
     if present.is_visit(ticket) {

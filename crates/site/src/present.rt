@@ -88,6 +88,7 @@ impl Present {
 
     /// Begins a visit, and draws its ticket.
     pub(crate) fn open(&mut self) -> Result<Ticket, SiteFault>
+        ensures name { self.new.name ≡ self.old.name }
         ensures ticket { IfOk result (λ ticket. ticket ≡ next_of (table_of self.old)) }
         ensures ok { OnOk result (table_of self.new ≡ table_from (insert_entry ticket_cmp self.old.standings.entries (next_of (table_of self.old)) (standing.Alive (record { done = 0; changes = fin.empty })))
             self.old.locks.items (self.old.alive + 1) self.old.life (self.old.number + 1)) }
@@ -116,6 +117,7 @@ impl Present {
     /// A visit has done an operation that reads the leaf at this place.
     pub(crate) fn read(&mut self, ticket: &Ticket, op: u64, place: usize) -> Result<(), Memory>
         requires { place < length self.old.locks.items }
+        ensures name { self.new.name ≡ self.old.name }
         ensures ok { (now : StandingNow) (at : LocksNow) → (table_of self.old).standing ticket.now ≡ Some now → slice_get self.old.locks.items place ≡ Some at
             → OnOk result (table_of self.new ≡ table_from (set_value (is_at (ticket_cmp ticket.now)) self.old.standings.entries (with_done op now))
             (slice_set self.old.locks.items place (with_reader ticket.now at)) self.old.alive self.old.life self.old.number) }
@@ -135,6 +137,7 @@ impl Present {
         write: Write,
     ) -> Result<(), Memory>
         requires { place < length self.old.locks.items }
+        ensures name { self.new.name ≡ self.old.name }
         ensures ok { (now : StandingNow) (at : LocksNow) → (table_of self.old).standing ticket.now ≡ Some now → slice_get self.old.locks.items place ≡ Some at
             → OnOk result (table_of self.new ≡ table_from (set_value (is_at (ticket_cmp ticket.now)) self.old.standings.entries (with_done op (intends write now)))
             (slice_set self.old.locks.items place (with_writer ticket.now at)) self.old.alive self.old.life self.old.number) }
@@ -147,7 +150,8 @@ impl Present {
 
     /// A visit is prepared: its shared locks go.
     pub(crate) fn prepare(&mut self, ticket: &Ticket, txn: Txn)
-        ensures { (now : StandingNow) → (table_of self.old).standing ticket.now ≡ Some now
+        ensures name { self.new.name ≡ self.old.name }
+        ensures prepared { (now : StandingNow) → (table_of self.old).standing ticket.now ≡ Some now
             → table_of self.new ≡ table_from (set_value (is_at (ticket_cmp ticket.now)) self.old.standings.entries (standing.Prepared txn))
             (map (stops_reading ticket.now self.old.number) self.old.locks.items) (self.old.alive - 1) self.old.life self.old.number }
     {
@@ -158,6 +162,7 @@ impl Present {
 
     /// A visit ends: its locks go.
     pub(crate) fn end(&mut self, ticket: &Ticket)
+        ensures name { self.new.name ≡ self.old.name }
         ensures ended { table_of self.new ≡ table_from (remove_entry (is_at (ticket_cmp ticket.now)) self.old.standings.entries)
             (map (stops ticket.now self.old.number) self.old.locks.items) (self.old.alive - 1) self.old.life self.old.number }
         ensures ordered { IsOrdered ticket_cmp self.old.standings }
@@ -168,6 +173,7 @@ impl Present {
 
     /// Nothing stands behind a ticket any more: its locks go.
     pub(crate) fn forget(&mut self, ticket: &Ticket)
+        ensures name { self.new.name ≡ self.old.name }
         ensures gone { table_of self.new ≡ table_from (remove_entry (is_at (ticket_cmp ticket.now)) self.old.standings.entries)
             (map (stops ticket.now self.old.number) self.old.locks.items) self.old.alive self.old.life self.old.number }
         ensures alive { self.new.alive ≡ self.old.alive }

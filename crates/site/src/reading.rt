@@ -1,12 +1,13 @@
 //! Visits read.
 
-ghost use Rattle.std.specs.Prelude.{◌≡◌, true, IfOk, OnErr, ◌≢◌, Err, ◌⊎◌, false};
+ghost use Rattle.std.specs.Prelude.{◌≡◌, true, IfOk, OnErr, ◌≢◌, Err, ◌⊎◌, false, None, ◌≤◌, ◌^◌};
 ghost use Rattle.store.specs.Fault.{HasRefused};
 ghost use Rattle.store.specs.declared.fault.StoreFault.TheVariants as store_faults;
 ghost use Rattle.site.specs.declared.fault.SiteFault.TheVariants as faults;
 ghost use Rattle.store.specs.SiteContent.{IsUnchanged};
 ghost use Rattle.protocol.specs.Site.{on_fetch};
 ghost use Rattle.site.specs.Letters.{name_of};
+ghost use Rattle.site.specs.Locks.{place_in};
 ghost use Rattle.site.specs.State.{Fits, Steps, state_of, table_of};
 
 use crate::fault::SiteFault;
@@ -27,6 +28,9 @@ pub(crate) fn fetch<S: SiteStore>(
     fetch: Fetch,
     kept: bool,
 ) -> Result<Option<Reply>, SiteFault>
+    ensures name { present.new.name ≡ present.old.name }
+    ensures stranger { result ≡ Err faults.Stranger → place_in fetch.leaf present.old.locks.items ≡ None }
+    ensures full { result ≡ Err faults.Full → 2 ^ 63 ≤ fetch.op }
     ensures clean { S.is_clean store.new → S.is_clean store.old }
     ensures sound { S.is_clean store.new → S.is_sound store.old → S.is_sound store.new }
     ensures ok { S.is_clean store.new → S.is_sound store.old → Fits (S.kept store.old) (table_of present.old) → IfOk result (λ reply. Steps (S.kept store.old) (table_of present.old) (S.kept store.new) (table_of present.new)

@@ -32,6 +32,8 @@ pub(crate) fn rows<S: SiteStore>(
     leaf: &Leaf,
     conds: &Conds,
 ) -> Result<Vec<Part>, SiteFault>
+    ensures own { result ≢ Err faults.Stranger }
+    ensures within { result ≢ Err faults.Full }
     ensures clean { S.is_clean store.new → S.is_clean store.old }
     ensures sound { S.is_clean store.new → S.is_sound store.old → S.is_sound store.new }
     ensures rows { S.is_clean store.new → S.is_sound store.old → IfOk result (λ rows. rows.items ≡ parts conds.now (changed leaf.now (changes_at (table_of present.now) ticket.now) ((S.kept store.old).content leaf.now))) }

@@ -8,6 +8,7 @@ ghost use Rattle.std.specs.Vec.{vec_capacity};
 ghost use Rattle.protocol.specs.Site.{on_letter, on_give_up, inquiries};
 ghost use Rattle.store.specs.SiteContent.{IsUnchanged, BeginsLife, Lists};
 ghost use Rattle.site.specs.Letters.{name_of, letter_of, order_body, txn_name, kept_by, letters_of};
+ghost use Rattle.site.specs.Refusals.{IsElsewhere, IsTooMuch, AsksElsewhere, AsksTooMuch};
 ghost use Rattle.site.specs.Starting.{Begins, Restarts, IsStrange, leaves_in};
 ghost use Rattle.site.specs.State.{Fits, Steps, Takes, state_of, table_of};
 
@@ -161,6 +162,9 @@ impl<S: SiteStore> Site<S> {
 
     /// Takes a letter, and answers the letters that the site puts out. On a fault nothing has changed.
     pub fn take(&mut self, letter: Letter) -> Result<Vec<Letter>, SiteFault>
+        ensures name { self.new.present.name ≡ self.old.present.name }
+        ensures elsewhere { result ≡ Err faults.Stranger → (letter.site ≢ self.old.present.name) ⊎ AsksElsewhere self.old.present.locks.items letter.body }
+        ensures full { result ≡ Err faults.Full → AsksTooMuch self.old.present.alive self.old.present.number letter.body }
         ensures clean { S.is_clean self.new.store → S.is_clean self.old.store }
         ensures sound { S.is_clean self.new.store → S.is_sound self.old.store → S.is_sound self.new.store }
         ensures ok { S.is_clean self.new.store → S.is_sound self.old.store → Fits (S.kept self.old.store) (table_of self.old.present)
@@ -176,6 +180,9 @@ impl<S: SiteStore> Site<S> {
 
     /// So, but where `kept` is false the store isn't called, and counts as having refused.
     pub fn take_kept(&mut self, letter: Letter, kept: bool) -> Result<Vec<Letter>, SiteFault>
+        ensures name { self.new.present.name ≡ self.old.present.name }
+        ensures elsewhere { result ≡ Err faults.Stranger → (letter.site ≢ self.old.present.name) ⊎ AsksElsewhere self.old.present.locks.items letter.body }
+        ensures full { result ≡ Err faults.Full → AsksTooMuch self.old.present.alive self.old.present.number letter.body }
         ensures clean { S.is_clean self.new.store → S.is_clean self.old.store }
         ensures sound { S.is_clean self.new.store → S.is_sound self.old.store → S.is_sound self.new.store }
         ensures ok { S.is_clean self.new.store → S.is_sound self.old.store → Fits (S.kept self.old.store) (table_of self.old.present)
@@ -201,6 +208,7 @@ impl<S: SiteStore> Site<S> {
 
     /// Ends a visit that isn't prepared, and does nothing else.
     pub fn give_up(&mut self, ticket: &Ticket)
+        ensures name { self.new.present.name ≡ self.old.present.name }
         ensures ok { Fits (S.kept self.old.store) (table_of self.old.present) → Steps (S.kept self.old.store) (table_of self.old.present) (S.kept self.new.store) (table_of self.new.present)
             (on_give_up (name_of ticket.now) ((state_of (S.kept self.old.store) (table_of self.old.present)).status (name_of ticket.now))) None }
         ensures store { self.new.store ≡ self.old.store }
@@ -255,6 +263,9 @@ fn obey<S: SiteStore>(
     order: Order,
     kept: bool,
 ) -> Result<Option<Reply>, SiteFault>
+    ensures name { present.new.name ≡ present.old.name }
+    ensures stranger { result ≡ Err faults.Stranger → IsElsewhere present.old.locks.items order }
+    ensures full { result ≡ Err faults.Full → IsTooMuch present.old.alive present.old.number order }
     ensures clean { S.is_clean store.new → S.is_clean store.old }
     ensures sound { S.is_clean store.new → S.is_sound store.old → S.is_sound store.new }
     ensures ok { S.is_clean store.new → S.is_sound store.old → Fits (S.kept store.old) (table_of present.old) → IfOk result (λ reply. Steps (S.kept store.old) (table_of present.old) (S.kept store.new) (table_of present.new)

@@ -142,6 +142,7 @@ pub(crate) fn turn_to_read(
     op: u64,
     leaf: &Leaf,
 ) -> Result<(usize, Turn), SiteFault>
+    ensures within { result ≢ Err faults.Full }
     ensures place { IfOk result (λ found. place_in leaf.now present.now.locks.items ≡ Some found.0) }
     ensures below { IfOk result (λ found. found.0 < length present.now.locks.items) }
     ensures turn { IfOk result (λ found. found.1 ≡ read_turn ticket.now op ((table_of present.now).locks leaf.now) ((table_of present.now).standing ticket.now)) }
@@ -163,6 +164,7 @@ pub(crate) fn turn_to_write(
     op: u64,
     write: &Write,
 ) -> Result<(usize, Turn), SiteFault>
+    ensures within { result ≢ Err faults.Full }
     ensures place { IfOk result (λ found. place_in (leaf_of write.now) present.now.locks.items ≡ Some found.0) }
     ensures below { IfOk result (λ found. found.0 < length present.now.locks.items) }
     ensures turn { IfOk result (λ found. found.1 ≡ write_turn ticket.now op (leaf_of write.now) (at_key write.now) ((table_of present.now).locks (leaf_of write.now)) ((table_of present.now).standing ticket.now)) }

@@ -1,7 +1,7 @@
 //! Visits begin, and intend writes.
 
 ghost use Rattle.store.specs.declared.fault.StoreFault.{StoreFault as StoreFaultName};
-ghost use Rattle.std.specs.Prelude.{◌≡◌, ◌≢◌, Err, None, Some, IfOk, OnErr, ◌↔◌};
+ghost use Rattle.std.specs.Prelude.{◌≡◌, ◌≢◌, Err, None, Some, IfOk, OnErr, ◌↔◌, ◌≤◌, ◌^◌, ◌⊎◌, ◌+◌};
 ghost use Rattle.store.specs.SiteContent.{SiteContent};
 ghost use Rattle.store.specs.declared.reply.Reply.TheVariants as replies;
 ghost use Rattle.protocol.specs.Site.{Opens, on_write};
@@ -19,6 +19,9 @@ use store::reply::{Reason, Refusal, Reply};
 
 /// Begins a visit.
 pub(crate) fn open(present: &mut Present) -> Result<Option<Reply>, SiteFault>
+    ensures name { present.new.name ≡ present.old.name }
+    ensures own { result ≢ Err faults.Stranger }
+    ensures full { result ≡ Err faults.Full → (1024 ≤ present.old.alive) ⊎ (2 ^ 63 ≤ present.old.number + 1) }
     ensures ok { (kept : SiteContent) → Fits kept (table_of present.old) → IfOk result (λ reply. Steps kept (table_of present.old) kept (table_of present.new) Opens reply) }
     ensures err { OnErr result (table_of present.new ≡ table_of present.old) }
     ensures store { (fault : StoreFaultName) → result ≢ Err (faults.Store fault) }
@@ -42,6 +45,9 @@ pub(crate) fn intend(
     present: &mut Present,
     intention: Intention,
 ) -> Result<Option<Reply>, SiteFault>
+    ensures name { present.new.name ≡ present.old.name }
+    ensures stranger { result ≡ Err faults.Stranger → place_in (leaf_of intention.write) present.old.locks.items ≡ None }
+    ensures full { result ≡ Err faults.Full → 2 ^ 63 ≤ intention.op }
     ensures ok { (kept : SiteContent) → Fits kept (table_of present.old) → IfOk result (λ reply. Steps kept (table_of present.old) kept (table_of present.new)
         (on_write (name_of intention.ticket) intention.op (leaf_of intention.write) (at_key intention.write) ((state_of kept (table_of present.old)).status (name_of intention.ticket))) reply) }
     ensures err { OnErr result (table_of present.new ≡ table_of present.old) }

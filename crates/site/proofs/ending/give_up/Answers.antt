@@ -5,8 +5,8 @@ use Rattle.site.proofs.Acts.{steps_at}
 use Rattle.site.proofs.Finals.{visit_ends, given_up}
 use Rattle.site.proofs.ending.give_up.Goals as goal
 
-pub returns-then-is_visit : goal.returns-then-is_visit
-returns-then-is_visit c = λ kept fits.
+pub returns-then-is_visit-clause-gone : goal.returns-then-is_visit-clause-gone
+returns-then-is_visit-clause-gone c = λ kept fits.
     let p = c.args.present.now in
     let k = c.args.ticket.now in
     let visit = sym c.is_visit.ensures ∙ c.if-is_visit.true in

@@ -49,7 +49,7 @@ returns-in-Ok-clause-ok g c = λ clean sound fits visit is.
     let none = row_none kept (table_of p) fits k (ap txn_in is) in
     let keeps = subst (λ changes. Prepares k (record { txn = c.args.txn; changes = changes }) kept after) (c.swap_changes-changes.ensures.old (standing.Alive visit) is) (c.in-Ok.ensures.ok clean sound none) in
     let rest : Entries → Table = λ es. table_from es (map (stops_reading k p.number) p.locks.items) (p.alive - 1) p.life p.number in
-    let ends = c.prepare.ensures empty (set_here p.standings.entries c.swap_changes-changes.new.standings.entries k (standing.Alive visit) empty is once)
+    let ends = c.prepare.ensures.prepared empty (set_here p.standings.entries c.swap_changes-changes.new.standings.entries k (standing.Alive visit) empty is once)
     ∙ ap (λ es. rest (set_value (is_at (ticket_cmp k)) es (standing.Prepared c.args.txn))) once ∙ ap rest (set_twice k p.standings.entries empty (standing.Prepared c.args.txn)) in
     steps_at kept after (table_of p) (table_of c.prepare.new.self) _ _ c.voted-in-Ok.result ends
     (prepares_steps kept p.standings.entries p.locks.items p.alive p.life p.number fits k after c.args.txn visit is keeps _ c.voted-in-Ok.result (yes_act k c.voted-in-Ok.result _ _ c.voted-in-Ok.ensures) c.voted-in-Ok.ensures)

@@ -1,0 +1,37 @@
+-- When a site refuses a letter.
+use Rattle.std.specs.Prelude.{◌≡◌, ◌⊎◌, ◌≤◌, ◌+◌, ◌^◌, ℕ, List, None}
+use Rattle.store.specs.declared.letter.Body as bodies
+use Rattle.store.specs.declared.letter.Body.TheVariants as body
+use Rattle.store.specs.declared.order.Order as orders
+use Rattle.store.specs.declared.order.Order.TheVariants.{Open, Fetch, Intend, Prepare, Commit, Abort}
+use Rattle.site.specs.declared.locks.Locks.{Locks}
+use Rattle.site.specs.declared.present.Present.{Present}
+use Rattle.site.specs.Letters.{leaf_of}
+use Rattle.site.specs.Locks.{place_in}
+
+-- an operation on a leaf that isn't one of these
+abbrev pub IsElsewhere : List Locks → orders.Order → Type 0
+IsElsewhere locks Open = ⊥
+IsElsewhere locks (Fetch fetch) = place_in fetch.leaf locks ≡ None
+IsElsewhere locks (Intend intention) = place_in (leaf_of intention.write) locks ≡ None
+IsElsewhere locks (Prepare prepare) = ⊥
+IsElsewhere locks (Commit ticket) = ⊥
+IsElsewhere locks (Abort ticket) = ⊥
+
+-- a visit more than 1,024, or a number of 64 bits that has 2^63 in it
+abbrev pub IsTooMuch : ℕ → ℕ → orders.Order → Type 0
+IsTooMuch alive number Open = (1024 ≤ alive) ⊎ (2 ^ 63 ≤ number + 1)
+IsTooMuch alive number (Fetch fetch) = 2 ^ 63 ≤ fetch.op
+IsTooMuch alive number (Intend intention) = 2 ^ 63 ≤ intention.op
+IsTooMuch alive number (Prepare prepare) = ⊥
+IsTooMuch alive number (Commit ticket) = ⊥
+IsTooMuch alive number (Abort ticket) = ⊥
+
+-- the same of a letter's body
+abbrev pub AsksElsewhere : List Locks → bodies.Body → Type 0
+AsksElsewhere locks (body.Order order) = IsElsewhere locks order
+AsksElsewhere locks (body.Reply reply) = ⊥
+
+abbrev pub AsksTooMuch : ℕ → ℕ → bodies.Body → Type 0
+AsksTooMuch alive number (body.Order order) = IsTooMuch alive number order
+AsksTooMuch alive number (body.Reply reply) = ⊥
