@@ -1,47 +1,46 @@
 -- Steps of the machine, from what the code makes of entries and locks.
-use Rattle.std.proofs.Common.{◌≡◌, refl, sym, ap, ◌∙◌, subst, ℕ, suc, ◌+◌, ◌-◌, ◌<◌, ◌≤◌, ◌⊎◌, ◌||◌, add-one, ◌==◌, Bool, true, false, not, List, [], ◌∷◌, ◌++◌, map, Option, Some, None, is_some, if◌then◌else◌, slice_set, inl, inr, ⊎_elim, arith}
+use Rattle.std.proofs.Common.{◌≡◌, refl, sym, ap, ◌∙◌, subst, ℕ, ◌+◌, ◌<◌, ◌≤◌, ◌||◌, add-one, Bool, true, false, not, List, [], ◌∷◌, map, Option, Some, None, if◌then◌else◌, slice_set, ⊎_elim, arith}
 use Rattle.std.specs.BTreeMap.{is_at, insert_entry}
 use Rattle.std.specs.FinMap as fin
 use Rattle.std.specs.List.{AllByRecursion}
 use Rattle.std.specs.List.Sorted.{IsStrictlySortedBy}
-use Rattle.std.specs.Map.{lookup, keys_of, set_value, remove_entry}
-use Rattle.std.specs.Ordering.{is_eq, nat_cmp, ordering_then}
-use Rattle.std.specs.declared.cmp.Ordering.TheVariants.{Less, Equal, Greater}
+use Rattle.std.specs.Map.{keys_of, set_value, remove_entry}
+use Rattle.std.specs.Ordering.{is_eq, nat_cmp}
+use Rattle.std.specs.declared.cmp.Ordering.TheVariants.{Greater}
 use Rattle.terms.specs.declared.leaf.Leaf.{Leaf}
 use Rattle.terms.specs.Leaf.{leaf_cmp}
 use Rattle.store.specs.declared.name.Ticket.{Ticket}
-use Rattle.store.specs.declared.name.Txn.{Txn}
 use Rattle.store.specs.declared.reply.Reply.{Reply}
 use Rattle.store.specs.declared.reply.Reply.TheVariants as reply
 use Rattle.store.specs.declared.reply.Reason.{Reason}
-use Rattle.store.specs.Content.{Content, Changes, changed, touches, is_of}
+use Rattle.store.specs.Content.{Changes, touches}
 use Rattle.store.specs.Name.{ticket_cmp}
 use Rattle.store.specs.SiteContent.{SiteContent, is_ticket}
 use Rattle.store.specs.Slot.{slot_of}
 use Rattle.store.proofs.Changing.{touches_more}
-use Rattle.protocol.specs.Language.{Name, put}
+use Rattle.protocol.specs.Language.{put}
 use Rattle.protocol.specs.Letter as protocol
 use Rattle.protocol.specs.Letter.{Body}
 use Rattle.protocol.specs.Parts.{In}
 use Rattle.protocol.specs.Site.{SiteState, Status, Dead, Alive, Prepared, Act, Says, Opens, Ends, site_after, said, on_fetch, on_write, others_exclusive}
 use Rattle.protocol.specs.Site as acts
-use Rattle.protocol.proofs.Basics.{if_true, if_false, clash, either_if, or_left, or_right, every_self}
+use Rattle.protocol.proofs.Basics.{clash, every_self}
 use Rattle.site.specs.declared.locks.Locks as locks
 use Rattle.site.specs.declared.standing.Standing as standings
 use Rattle.site.specs.declared.standing.Standing.TheVariants as standing
 use Rattle.site.specs.declared.standing.Visit as visits
 use Rattle.site.specs.Local.{local, AtKey}
-use Rattle.site.specs.Letters.{name_of, ticket_of, txn_name, said_by, reason_of}
-use Rattle.site.specs.Locks.{reads, writes, is_writer, is_other, others_write, is_foreign, locks_in, place_in, with_reader, with_writer, stops, stops_reading}
+use Rattle.site.specs.Letters.{name_of, said_by, reason_of}
+use Rattle.site.specs.Locks.{reads, writes, is_writer, is_other, is_foreign, locks_in, place_in, with_reader, with_writer, stops}
 use Rattle.site.specs.State.{Table, Fits, Steps, table_from, state_of, stands, visiting, is_visit, txn_in}
-use Rattle.site.specs.Moves.{next_of, stood, locked, opened, gone, prepared}
-use Rattle.site.proofs.Endings.{ended_state, prepared_state}
-use Rattle.site.proofs.Fitting.{fits_opened, fits_operated, fits_gone, fits_prepared}
-use Rattle.site.proofs.Listed.{row_none, exclusive_is}
+use Rattle.site.specs.Moves.{next_of, stood, locked, opened, gone}
+use Rattle.site.proofs.Endings.{ended_state}
+use Rattle.site.proofs.Fitting.{fits_opened, fits_operated, fits_gone}
+use Rattle.site.proofs.Listed.{row_none}
 use Rattle.site.proofs.LockLaws.{reads-with_reader, foreign-with_reader, foreign-with_reader-others, foreign-with_writer, foreign-with_writer-others}
-use Rattle.site.proofs.Steps.{opens_state, locks_state, nothing_next}
-use Rattle.site.proofs.Tables.{Entries, at_ticket, set_there, set_keys, removed_there, removed_keys, put_last, last_keys, last_there, all_stop_reading, all_stop, locked_there}
-use Rattle.site.proofs.Tickets.{ticket_is, ticket_self, ticket_sym, leaf_is, same_bool}
+use Rattle.site.proofs.Steps.{opens_state, locks_state}
+use Rattle.site.proofs.Tables.{Entries, at_ticket, set_there, set_keys, removed_there, removed_keys, put_last, last_keys, last_there, all_stop, locked_there}
+use Rattle.site.proofs.Tickets.{ticket_is, ticket_self, ticket_sym, leaf_is}
 
 -- ---- nothing happens but something is said
 pub says_steps : (kept : SiteContent) (table : Table) → Fits kept table → (act : Act local) (answer : Option Reply) → act ≡ Says (said_by answer) → Steps kept table kept table act answer

@@ -1,6 +1,5 @@
 -- A life begins: the memory fits the store, and the state is that of a restart.
-use Rattle.std.proofs.Common.{Result, Ok, Err, ◌≡◌, refl, sym, ap, ◌∙◌, subst, ℕ, suc, ◌+◌, ◌≤◌, ◌<◌, ◌⊎◌, nat_le, Bool, true, false, not, List, [], ◌∷◌, map, Option, Some, None, is_some, filter, cond, inl, inr, ⊎_elim, add-one, arith}
-use Rattle.std.specs.BTreeMap.{is_at, insert_entry}
+use Rattle.std.proofs.Common.{Result, Ok, Err, ◌≡◌, refl, sym, ap, ◌∙◌, subst, ℕ, ◌+◌, ◌<◌, nat_le, true, false, List, [], map, Option, Some, None, is_some, inl, arith}
 use Rattle.std.specs.List.Sorted.{IsStrictlySortedBy}
 use Rattle.std.specs.Map.{keys_of}
 use Rattle.std.specs.Option.{option_map}
@@ -11,23 +10,21 @@ use Rattle.store.specs.declared.prepared.Prepared.{Prepared as Row}
 use Rattle.store.specs.declared.prepared.PreparedRow.{PreparedRow}
 use Rattle.store.specs.declared.prepared.SiteKept.{SiteKept}
 use Rattle.store.specs.Name.{ticket_cmp}
-use Rattle.store.specs.SiteContent.{SiteContent, IsUnchanged, BeginsLife, Lists, row_of}
-use Rattle.protocol.specs.Parts.{In}
-use Rattle.protocol.specs.Site.{Status, Dead, Prepared, has_exclusive}
+use Rattle.store.specs.SiteContent.{SiteContent, BeginsLife, Lists, row_of}
+use Rattle.protocol.specs.Site.{has_exclusive}
 use Rattle.protocol.proofs.Basics.{clash}
 use Rattle.store.specs.declared.fault.StoreFault.{StoreFault}
 use Rattle.site.specs.declared.fault.SiteFault.{SiteFault}
 use Rattle.site.specs.declared.fault.SiteFault.TheVariants as faults
 use Rattle.site.specs.declared.locks.Locks.{Locks}
 use Rattle.site.specs.declared.standing.Standing as standings
-use Rattle.site.specs.declared.standing.Standing.TheVariants as standing
 use Rattle.site.specs.Letters.{name_of, ticket_of}
 use Rattle.site.specs.Local.{local}
-use Rattle.site.specs.Locks.{free, locks_in, reads, writes}
+use Rattle.site.specs.Locks.{free}
 use Rattle.site.specs.Starting.{Begins, granted, stood_by, all_may_stand, resting}
-use Rattle.site.specs.State.{Table, Fits, IsDrawn, table_from, state_of, stands, visiting, is_visit, txn_in}
+use Rattle.site.specs.State.{Table, table_from, stands, visiting, is_visit, txn_in}
 use Rattle.site.proofs.PreparedRows.{standing_of, holds, rows_there, rows_drawn, none_read, none_released, all_write, some_listed, listed_some}
-use Rattle.site.proofs.Tables.{Entries, at_ticket}
+use Rattle.site.proofs.Tables.{Entries}
 
 module _ (leaves : List Leaf) (all : SiteKept) (kept after : SiteContent) (lists : Lists kept all) (life : BeginsLife kept after)
     (right : all_may_stand leaves all.life all.prepared (map free leaves) ≡ true)

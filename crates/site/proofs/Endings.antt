@@ -1,5 +1,5 @@
 -- What becomes of the state where a visit is prepared, or ends.
-use Rattle.std.proofs.Common.{◌≡◌, refl, sym, ap, ◌∙◌, subst, ℕ, ◌≤◌, Bool, true, false, not, List, [], ◌∷◌, map, Option, Some, None, filter, if◌then◌else◌}
+use Rattle.std.proofs.Common.{◌≡◌, refl, sym, ap, ◌∙◌, ℕ, Bool, true, false, not, map, Option, Some, None, filter, if◌then◌else◌}
 use Rattle.terms.specs.declared.leaf.Leaf.{Leaf}
 use Rattle.store.specs.declared.name.Ticket.{Ticket}
 use Rattle.store.specs.declared.name.Txn.{Txn}
@@ -7,18 +7,16 @@ use Rattle.store.specs.declared.prepared.Prepared.{Prepared as Row}
 use Rattle.store.specs.Content.{Content, Changes}
 use Rattle.store.specs.SiteContent.{SiteContent, is_ticket}
 use Rattle.protocol.specs.Language.{Name, same, put}
-use Rattle.protocol.specs.Letter.{Body}
 use Rattle.protocol.specs.Parts.{In}
 use Rattle.protocol.specs.Site.{SiteState, Status, Dead, Alive, Prepared, Ends, is_dead, site_after, with_status}
 use Rattle.protocol.specs.Site as acts
 use Rattle.protocol.proofs.Basics.{if_true, if_false}
-use Rattle.site.specs.declared.standing.Standing as standings
 use Rattle.site.specs.declared.standing.Standing.TheVariants as standing
 use Rattle.site.specs.Local.{local}
 use Rattle.site.specs.Letters.{name_of, ticket_of, txn_name}
 use Rattle.site.specs.Locks.{stops, stops_reading}
 use Rattle.site.specs.State.{Table, Fits, state_of, stands, visiting}
-use Rattle.site.specs.Moves.{gone, prepared, stood}
+use Rattle.site.specs.Moves.{gone, prepared}
 use Rattle.site.proofs.Listed.{filter_names, lives_listed}
 use Rattle.site.proofs.LockLaws.{foreign-stops, foreign-stops_reading, others-stops_reading, reads-stops_writing}
 use Rattle.site.proofs.Steps.{let_go_at, known_all}

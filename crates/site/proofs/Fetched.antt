@@ -1,21 +1,18 @@
 -- What a fetch finds among the kept parts with a visit's own changes made.
-use Rattle.std.proofs.Common.{◌≡◌, ℕ, zero, suc, ◌+◌, ◌<◌, add-one, length, get_or, take, ℤ, List, [], ◌∷◌, true, false, Bool, cond, T, Option, Some, None, IfSome, unwrap_or, map, refl, ap, sym, ◌∙◌, subst, arith, filter, ◌||◌, not}
+use Rattle.std.proofs.Common.{◌≡◌, ℕ, zero, suc, ◌+◌, ◌<◌, add-one, length, get_or, take, ℤ, List, [], ◌∷◌, true, false, Bool, cond, T, Option, Some, None, IfSome, unwrap_or, map, refl, ap, sym, ◌∙◌, subst, arith}
 use Rattle.std.specs.Cmp.{int_cmp_total, tied_itself}
 use Rattle.std.specs.FinMap as fin
 use Rattle.std.specs.FinMap.Entries.{below_all}
 use Rattle.std.specs.List.{list_any}
 use Rattle.std.specs.Ordering.{int_cmp, is_eq, ordering_then}
-use Rattle.std.specs.declared.cmp.Ordering.{Ordering}
-use Rattle.std.specs.declared.cmp.Ordering.TheVariants.{Less, Equal, Greater}
 use Rattle.terms.specs.declared.leaf.Leaf.{Leaf}
 use Rattle.terms.specs.declared.value.Value.{Value}
-use Rattle.terms.specs.Leaf.{leaf_cmp}
 use Rattle.terms.specs.Row.{key_of}
 use Rattle.store.specs.declared.slot.Slot.{Slot}
 use Rattle.store.specs.Slot.{slot_of, slot_cmp}
 use Rattle.store.specs.Orders.{slot_cmp_total, leaf_cmp_total}
 use Rattle.store.specs.Content.{Content, Changes, IsKeyed, changed, made_by, put_at, touches, is_of, with_entries}
-use Rattle.store.specs.ContentLaws.{same_content, get-made_by, made_over}
+use Rattle.store.specs.ContentLaws.{same_content, get-made_by}
 use Rattle.store.specs.SiteContent.{SiteContent, IsUnchanged}
 use Rattle.store.proofs.Scans.{and_left, and_right, find_below}
 use Rattle.protocol.proofs.Basics.{or_none_left, or_none_right, if_false}

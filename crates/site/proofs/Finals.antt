@@ -1,5 +1,5 @@
 -- Steps by which a visit is prepared or ends, and what the table says of them.
-use Rattle.std.proofs.Common.{Result, Ok, Err, IfOk, ◌≡◌, refl, sym, ap, ◌∙◌, subst, ℕ, suc, ◌+◌, ◌-◌, ◌==◌, nat_eq, Bool, true, false, not, List, [], ◌∷◌, map, Option, Some, None, if◌then◌else◌, cond}
+use Rattle.std.proofs.Common.{Result, Ok, Err, IfOk, ◌≡◌, refl, sym, ap, ◌∙◌, subst, ℕ, ◌-◌, ◌==◌, nat_eq, Bool, true, false, List, [], ◌∷◌, map, Option, Some, None, if◌then◌else◌, cond}
 use Rattle.std.specs.BTreeMap.{is_at}
 use Rattle.std.specs.FinMap as fin
 use Rattle.std.specs.List.Sorted.{IsStrictlySortedBy}
@@ -12,11 +12,11 @@ use Rattle.store.specs.declared.reply.Reply.{Reply}
 use Rattle.store.specs.declared.reply.Reply.TheVariants as reply
 use Rattle.store.specs.declared.reply.Vote.{Vote}
 use Rattle.store.specs.declared.reply.Vote.TheVariants as votes
-use Rattle.store.specs.Content.{Content, Changes, changed}
+use Rattle.store.specs.Content.{Content, changed}
 use Rattle.store.specs.Name.{ticket_cmp}
 use Rattle.store.specs.SiteContent as content
 use Rattle.store.specs.SiteContent.{SiteContent, IsUnchanged, is_ticket}
-use Rattle.protocol.specs.Language.{Name, put, same}
+use Rattle.protocol.specs.Language.{put, same}
 use Rattle.protocol.specs.Letter as protocol
 use Rattle.protocol.specs.Site as acts
 use Rattle.protocol.specs.Site.{SiteState, Status, Dead, Alive, Act, Says, Ends, site_after, said, with_status, on_prepare, on_commit, on_abort, on_give_up}
@@ -25,21 +25,20 @@ use Rattle.site.specs.declared.locks.Locks as locks
 use Rattle.site.specs.declared.standing.Standing as standings
 use Rattle.site.specs.declared.standing.Standing.TheVariants as standing
 use Rattle.site.specs.declared.standing.Visit as visits
-use Rattle.site.specs.declared.turn.Ballot.{Ballot}
 use Rattle.site.specs.declared.turn.Ballot.TheVariants as ballots
-use Rattle.site.specs.Letters.{name_of, ticket_of, txn_name, said_by, vote_of, is_no, kept_by}
+use Rattle.site.specs.Letters.{name_of, txn_name, said_by, vote_of, kept_by}
 use Rattle.site.specs.Local.{local}
 use Rattle.site.specs.Locks.{stops, stops_reading}
 use Rattle.site.specs.Moves.{gone, prepared}
 use Rattle.site.specs.State.{Table, Fits, Steps, table_from, state_of, stands, is_visit, is_row, txn_in}
 use Rattle.site.specs.Turn.{ballot}
-use Rattle.site.proofs.Acts.{steps_at, gone_table, says_steps}
+use Rattle.site.proofs.Acts.{steps_at, gone_table}
 use Rattle.site.proofs.Endings.{ended_state, prepared_state}
 use Rattle.site.proofs.Fitting.{fits_gone, fits_prepared}
 use Rattle.site.proofs.Listed.{row_none}
 use Rattle.site.proofs.Tables.{Entries, at_ticket, set_there, set_keys, all_stop_reading}
 use Rattle.site.proofs.Tickets.{ticket_is, ticket_self}
-use Rattle.site.proofs.Turns.{stands_dead, stands_alive, stands_prepared, visit_of}
+use Rattle.site.proofs.Turns.{stands_alive, stands_prepared}
 
 -- one entry set twice, or set and then removed
 pub set_twice : (k : Ticket) (entries : Entries) (one other : standings.Standing) → set_value (is_at (ticket_cmp k)) (set_value (is_at (ticket_cmp k)) entries one) other ≡ set_value (is_at (ticket_cmp k)) entries other

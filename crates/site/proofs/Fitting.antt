@@ -1,5 +1,5 @@
 -- The memory still fits the store after each move.
-use Rattle.std.proofs.Common.{◌≡◌, refl, sym, ap, ◌∙◌, subst, ℕ, suc, ◌≤◌, ◌<◌, ◌+◌, ◌||◌, ◌⊎◌, Bool, true, false, not, List, [], ◌∷◌, ◌++◌, map, Option, Some, None, is_some, filter, cond, if◌then◌else◌, inl, inr, ⊎_elim, arith}
+use Rattle.std.proofs.Common.{◌≡◌, refl, sym, ap, ◌∙◌, subst, ℕ, suc, ◌≤◌, ◌<◌, ◌⊎◌, Bool, true, false, not, List, [], ◌∷◌, ◌++◌, Option, Some, None, is_some, filter, if◌then◌else◌, inl, inr, ⊎_elim, arith}
 use Rattle.std.specs.FinMap as fin
 use Rattle.std.specs.Option.{option_map}
 use Rattle.std.specs.Ordering.{is_eq}
@@ -12,15 +12,14 @@ use Rattle.store.specs.Content.{Changes, touches}
 use Rattle.store.specs.SiteContent.{SiteContent, is_ticket}
 use Rattle.store.proofs.Changing.{touches_none}
 use Rattle.protocol.specs.Parts.{In}
-use Rattle.protocol.specs.Site.{Status, Dead, Alive, Prepared, has_exclusive}
-use Rattle.protocol.proofs.Basics.{if_true, if_false, clash, in_left, in_right, in_append, in_filter, either_if}
+use Rattle.protocol.specs.Site.{has_exclusive}
+use Rattle.protocol.proofs.Basics.{if_true, if_false, clash, in_left, in_right, in_append, in_filter}
 use Rattle.protocol.proofs.Locks.{from_filter}
 use Rattle.site.specs.declared.locks.Locks as locks
 use Rattle.site.specs.declared.standing.Standing as standings
 use Rattle.site.specs.declared.standing.Visit as visits
 use Rattle.site.specs.declared.standing.Standing.TheVariants as standing
-use Rattle.site.specs.Local.{local}
-use Rattle.site.specs.Locks.{reads, writes, stops, stops_reading, stops_writing}
+use Rattle.site.specs.Locks.{reads, writes, stops, stops_reading}
 use Rattle.site.specs.State.{Table, Fits, IsDrawn, stands, visiting, is_visit, txn_in}
 use Rattle.site.specs.Moves.{next_of, stood, locked, opened, gone, prepared}
 use Rattle.site.proofs.LockLaws.{others-stops_reading, writes-stops_reading, reads-stops_reading, reads-stops_writing, writes-stops_writing, others-stops_writing, released-stops_reading, released-stops_writing}

@@ -1,5 +1,5 @@
 -- The inquiries are the protocol's.
-use Rattle.std.proofs.Common.{◌≡◌, refl, sym, ap, ◌∙◌, subst, ℕ, Bool, true, false, List, [], ◌∷◌, ◌++◌, map, Option, Some, None, inl, inr, Result, Ok, Err, IfOk}
+use Rattle.std.proofs.Common.{◌≡◌, refl, sym, ap, ◌∙◌, ℕ, false, List, [], ◌∷◌, ◌++◌, map, Some, inl, inr, Result, Ok, Err, IfOk}
 use Rattle.std.specs.List.{flat_map, AllByRecursion}
 use Rattle.std.specs.List.Sorted.{IsStrictlySortedBy}
 use Rattle.std.specs.Map.{keys_of}
@@ -9,7 +9,6 @@ use Rattle.std.proofs.lemmas.Map.Keys.{sorted_head, sorted_tail}
 use Rattle.store.specs.declared.letter.Letter as letters
 use Rattle.store.specs.declared.name.Ticket.{Ticket}
 use Rattle.store.specs.declared.name.Txn.{Txn}
-use Rattle.store.specs.declared.prepared.Prepared.{Prepared as Row}
 use Rattle.store.specs.Name.{ticket_cmp}
 use Rattle.store.specs.SiteContent.{SiteContent, is_ticket}
 use Rattle.protocol.specs.Language.{Name}

@@ -1,16 +1,15 @@
 -- Lists of tickets, and who has locks by them.
-use Rattle.std.proofs.Common.{◌≡◌, refl, sym, ap, ◌∙◌, subst, ℕ, ◌&&◌, ◌||◌, Bool, true, false, not, List, [], ◌∷◌, ◌++◌, map, Option, Some, None, is_some, filter, cond, if◌then◌else◌, inl, inr, ⊎_elim}
+use Rattle.std.proofs.Common.{◌≡◌, refl, sym, ap, ◌∙◌, subst, ◌&&◌, ◌||◌, Bool, true, false, not, List, [], ◌∷◌, map, Option, Some, None, is_some, filter, inl, inr, ⊎_elim}
 use Rattle.std.specs.List.{list_any}
 use Rattle.std.specs.Option.{option_map}
 use Rattle.terms.specs.declared.leaf.Leaf.{Leaf}
 use Rattle.store.specs.declared.name.Ticket.{Ticket}
 use Rattle.store.specs.declared.prepared.Prepared.{Prepared as Row}
-use Rattle.store.specs.Content.{touches}
 use Rattle.store.specs.SiteContent.{SiteContent, is_ticket}
 use Rattle.protocol.specs.Language.{Name, same}
 use Rattle.protocol.specs.Parts.{In}
 use Rattle.protocol.specs.Site.{Status, Dead, Alive, Prepared, is_dead, has_exclusive, has_lock, others_exclusive, others_lock}
-use Rattle.protocol.proofs.Basics.{any_in, found, or_cases, or_left, or_right, left_true, right_true, both_true, not_true, either, either_if, clash, if_true, if_false}
+use Rattle.protocol.proofs.Basics.{any_in, found, or_cases, or_left, or_right, left_true, right_true, both_true, not_true, clash, if_true, if_false}
 use Rattle.site.specs.declared.locks.Locks.{Locks}
 use Rattle.site.specs.declared.standing.Standing as standings
 use Rattle.site.specs.declared.standing.Standing.TheVariants as standing
@@ -18,7 +17,7 @@ use Rattle.site.specs.Local.{local}
 use Rattle.site.specs.Letters.{name_of, ticket_of}
 use Rattle.site.specs.Locks.{reads, writes, is_writer, is_other, others_write, others_have}
 use Rattle.site.specs.State.{Table, Fits, state_of, stands, visiting, is_visit, txn_in}
-use Rattle.site.proofs.Tickets.{same_bool, same_is, ticket_is, ticket_self, ticket_same, ticket_sym}
+use Rattle.site.proofs.Tickets.{same_bool, same_is, ticket_is, ticket_self, ticket_sym}
 
 -- all that pass are all
 pub filter_all : {A : Type 0} (p : A → Bool) (xs : List A) → ((x : A) → In x xs → p x ≡ true) → filter p xs ≡ xs

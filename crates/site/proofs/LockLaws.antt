@@ -1,18 +1,18 @@
 -- What granting and letting go make of the locks on one leaf.
-use Rattle.std.proofs.Common.{◌≡◌, refl, sym, ap, ◌∙◌, subst, ℕ, ◌≤◌, ◌<◌, nat_le, Bool, true, false, not, ◌||◌, cond, if◌then◌else◌, List, [], ◌∷◌, Option, Some, None, filter, arith}
+use Rattle.std.proofs.Common.{◌≡◌, refl, sym, ap, ◌∙◌, subst, ℕ, ◌≤◌, nat_le, Bool, true, false, not, ◌||◌, List, [], ◌∷◌, Option, Some, None, filter, arith}
 use Rattle.std.specs.List.{list_any}
 use Rattle.std.specs.BTreeSet.{insert_key}
-use Rattle.std.specs.Ordering.{is_eq, match_ordering}
+use Rattle.std.specs.Ordering.{match_ordering}
 use Rattle.std.specs.declared.cmp.Ordering.{Ordering}
 use Rattle.std.specs.declared.cmp.Ordering.TheVariants.{Less, Equal, Greater}
 use Rattle.store.specs.declared.name.Ticket.{Ticket}
 use Rattle.store.specs.Name.{ticket_cmp}
 use Rattle.store.specs.SiteContent.{is_ticket}
 use Rattle.store.specs.Orders.{ticket_cmp-IsAntisymmetric}
-use Rattle.protocol.proofs.Basics.{either, either_if, or_left, or_right, or_cases, clash, by_test, if_true, if_false}
+use Rattle.protocol.proofs.Basics.{either, either_if, or_left, or_right, clash}
 use Rattle.site.specs.declared.locks.Locks.{Locks}
 use Rattle.site.specs.Locks.{free, reads, writes, is_writer, is_other, others_write, others_have, is_foreign, with_reader, with_writer, stops_reading, stops_writing, stops}
-use Rattle.site.proofs.Tickets.{same_bool, ticket_is, ticket_self, ticket_same, ticket_sym}
+use Rattle.site.proofs.Tickets.{ticket_is, ticket_self, ticket_sym}
 
 swap : (a b c : Bool) → (a || (b || c)) ≡ (b || (a || c))
 swap true true c = refl

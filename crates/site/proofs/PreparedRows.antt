@@ -1,12 +1,10 @@
 -- The memory that a store's rows make fits the store.
-use Rattle.std.proofs.Common.{◌≡◌, refl, sym, ap, ◌∙◌, subst, ℕ, suc, ◌+◌, ◌≤◌, ◌<◌, ◌&&◌, ◌||◌, ◌⊎◌, nat_le, Bool, true, false, not, List, [], ◌∷◌, map, Option, Some, None, is_some, is_none, cond, if◌then◌else◌, inl, inr, ⊎_elim, arith}
-use Rattle.std.specs.BTreeMap.{is_at, insert_entry}
-use Rattle.std.specs.Cmp.{tied_itself}
+use Rattle.std.proofs.Common.{◌≡◌, refl, sym, ap, ◌∙◌, subst, ℕ, ◌&&◌, ◌||◌, ◌⊎◌, nat_le, Bool, true, false, not, List, [], ◌∷◌, map, Option, Some, None, is_some, is_none, cond, if◌then◌else◌, inl, inr}
+use Rattle.std.specs.BTreeMap.{insert_entry}
 use Rattle.std.specs.FinMap as fin
 use Rattle.std.specs.List.{list_all, list_any, AllByRecursion}
 use Rattle.std.specs.List.Sorted.{IsStrictlySortedBy}
-use Rattle.std.specs.Map.{lookup, keys_of}
-use Rattle.std.specs.Option.{option_map}
+use Rattle.std.specs.Map.{keys_of}
 use Rattle.std.specs.Ordering.{is_eq, match_ordering}
 use Rattle.std.specs.declared.cmp.Ordering.{Ordering}
 use Rattle.std.specs.declared.cmp.Ordering.TheVariants.{Less, Equal, Greater}
@@ -18,17 +16,17 @@ use Rattle.store.specs.declared.prepared.Prepared.{Prepared as Row}
 use Rattle.store.specs.declared.prepared.PreparedRow.{PreparedRow}
 use Rattle.store.specs.Content.{Changes, touches, are_within, is_of}
 use Rattle.store.specs.Name.{ticket_cmp}
-use Rattle.store.specs.Orders.{ticket_cmp_total, ticket_cmp-IsAntisymmetric}
-use Rattle.store.specs.SiteContent.{SiteContent, is_ticket, row_of}
+use Rattle.store.specs.Orders.{ticket_cmp-IsAntisymmetric}
+use Rattle.store.specs.SiteContent.{is_ticket, row_of}
 use Rattle.protocol.specs.Parts.{In}
-use Rattle.protocol.proofs.Basics.{if_true, if_false, clash, left_true, right_true, all_in, any_in, found}
+use Rattle.protocol.proofs.Basics.{if_true, if_false, clash, left_true, right_true, all_in, found}
 use Rattle.site.specs.declared.locks.Locks.{Locks}
 use Rattle.site.specs.declared.standing.Standing as standings
 use Rattle.site.specs.declared.standing.Standing.TheVariants as standing
 use Rattle.site.specs.Locks.{free, locks_in, reads, writes, is_writer}
 use Rattle.site.specs.Starting.{grants, granted, stood_by, is_open, may_stand, all_may_stand}
 use Rattle.site.proofs.Tables.{Entries, at_ticket}
-use Rattle.site.proofs.Tickets.{is_equal, ticket_is, ticket_self, ticket_same, ticket_sym, leaf_is, leaf_self, leaf_sym}
+use Rattle.site.proofs.Tickets.{ticket_is, ticket_same, leaf_is, leaf_sym}
 
 -- ---- entries
 pub inserted_there : (entries : Entries) (k : Ticket) (v : standings.Standing) (j : Ticket) → at_ticket (insert_entry ticket_cmp entries k v) j ≡ (if is_ticket j k then Some v else at_ticket entries j)

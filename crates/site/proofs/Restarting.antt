@@ -1,11 +1,9 @@
 -- The state of a life that begins is the restarted one.
-use Rattle.std.proofs.Common.{◌≡◌, refl, sym, ap, ◌∙◌, subst, ℕ, suc, ◌+◌, add-one, Bool, true, false, not, List, [], ◌∷◌, map, Option, Some, None, is_some, filter}
-use Rattle.std.specs.BTreeSet.{BTreeSet, contains}
+use Rattle.std.proofs.Common.{◌≡◌, refl, sym, ap, ◌∙◌, subst, suc, add-one, Bool, true, false, not, List, map, Option, Some, None, is_some, filter}
 use Rattle.std.specs.List.{list_any}
 use Rattle.std.specs.List.Sorted.{IsStrictlySortedBy}
 use Rattle.std.proofs.lemmas.List.Kept.{IsStrictlySortedBy-filter}
 use Rattle.std.proofs.lemmas.Map.Lookups.{btree_set_from_contains}
-use Rattle.terms.specs.declared.leaf.Leaf.{Leaf}
 use Rattle.store.specs.declared.name.Ticket.{Ticket}
 use Rattle.store.specs.declared.prepared.Prepared.{Prepared as Row}
 use Rattle.store.specs.Name.{ticket_cmp}
@@ -13,15 +11,14 @@ use Rattle.store.specs.Orders.{ticket_cmp_total, ticket_cmp-IsAntisymmetric}
 use Rattle.store.specs.SiteContent.{SiteContent, BeginsLife, is_ticket}
 use Rattle.protocol.specs.Language.{Name}
 use Rattle.protocol.specs.Parts.{In}
-use Rattle.protocol.specs.Site.{Status, Dead, Prepared, is_dead, restarted, site_restarted}
-use Rattle.protocol.proofs.Basics.{any_in, found, clash, in_filter}
+use Rattle.protocol.specs.Site.{Dead, is_dead, restarted}
+use Rattle.protocol.proofs.Basics.{any_in, found, in_filter}
 use Rattle.protocol.proofs.Locks.{from_filter}
 use Rattle.site.specs.declared.standing.Standing as standings
 use Rattle.site.specs.declared.standing.Standing.TheVariants as standing
 use Rattle.site.specs.Letters.{name_of, ticket_of}
-use Rattle.site.specs.Local.{local}
-use Rattle.site.specs.Starting.{Begins, Restarts, at_rest, resting}
-use Rattle.site.specs.State.{Table, Fits, state_of, stands, visiting}
+use Rattle.site.specs.Starting.{Begins, Restarts, resting}
+use Rattle.site.specs.State.{Table, Fits, stands, visiting}
 use Rattle.site.proofs.Listed.{filter_names, listed_alive, lives_listed}
 use Rattle.site.proofs.Tickets.{same_bool, ticket_is, ticket_self}
 

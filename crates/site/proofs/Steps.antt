@@ -1,32 +1,27 @@
 -- What the memory's moves make of the state.
-use Rattle.std.proofs.Common.{◌≡◌, refl, sym, ap, ◌∙◌, subst, ℕ, suc, ◌≤◌, ◌<◌, ◌+◌, ◌||◌, ◌⊎◌, nat_le, Bool, true, false, not, List, [], ◌∷◌, ◌++◌, map, Option, Some, None, is_some, filter, cond, if◌then◌else◌, inl, inr, ⊎_elim, arith}
+use Rattle.std.proofs.Common.{◌≡◌, refl, sym, ap, ◌∙◌, subst, ℕ, suc, ◌≤◌, ◌<◌, ◌||◌, nat_le, Bool, true, false, not, List, [], ◌∷◌, ◌++◌, map, Option, Some, None, is_some, filter, if◌then◌else◌, ⊎_elim, arith}
 use Rattle.std.specs.FinMap as fin
-use Rattle.std.specs.List.{list_any}
 use Rattle.std.specs.Ordering.{is_eq}
 use Rattle.terms.specs.declared.leaf.Leaf.{Leaf}
 use Rattle.terms.specs.Leaf.{leaf_cmp}
 use Rattle.store.specs.declared.name.Ticket.{Ticket}
-use Rattle.store.specs.declared.name.Txn.{Txn}
 use Rattle.store.specs.declared.prepared.Prepared.{Prepared as Row}
-use Rattle.store.specs.Content.{Changes, changed, touches}
+use Rattle.store.specs.Content.{Changes}
 use Rattle.store.specs.SiteContent.{SiteContent, is_ticket}
 use Rattle.protocol.specs.Language.{Name, same, put}
 use Rattle.protocol.specs.Letter.{Body}
-use Rattle.protocol.specs.Parts.{In}
-use Rattle.protocol.specs.Site.{SiteState, Status, Dead, Alive, Prepared, Visit, Opens, Locks, Prepares, Applies, Ends, is_dead, has_exclusive, sees, next_ticket, new_visit, others_lock, site_after}
-use Rattle.protocol.specs.Site as acts
-use Rattle.protocol.proofs.Basics.{if_true, if_false, clash, or_right, or_left}
+use Rattle.protocol.specs.Site.{SiteState, Status, Alive, Visit, Opens, Locks, is_dead, sees, new_visit, others_lock, site_after}
+use Rattle.protocol.proofs.Basics.{if_true, if_false, clash}
 use Rattle.site.specs.declared.locks.Locks as locks
 use Rattle.site.specs.declared.standing.Standing as standings
 use Rattle.site.specs.declared.standing.Standing.TheVariants as standing
 use Rattle.site.specs.Local.{local}
-use Rattle.site.specs.Letters.{name_of, ticket_of, txn_name}
-use Rattle.site.specs.Locks.{reads, writes, is_foreign, others_have, with_reader, with_writer, stops, stops_reading, stops_writing}
+use Rattle.site.specs.Letters.{name_of, ticket_of}
+use Rattle.site.specs.Locks.{reads, is_foreign, others_have}
 use Rattle.site.specs.State.{Table, Fits, state_of, stands, visiting, is_visit, txn_in}
-use Rattle.site.specs.Moves.{next_of, stood, locked, opened, read, wrote, prepared, gone}
-use Rattle.site.proofs.Tickets.{same_bool, same_is, ticket_is, ticket_self, ticket_same, ticket_sym, leaf_is}
-use Rattle.site.proofs.LockLaws.{foreign-stops, foreign-stops_reading, others-stops_reading, reads-stops_writing, foreign-with_reader, reads-with_reader, foreign-with_reader-others, foreign-with_writer, foreign-with_writer-others}
-use Rattle.site.proofs.Listed.{filter_all, filter_names, in_names, from_names, listed_alive, lives_listed, row_none, lock_is}
+use Rattle.site.specs.Moves.{next_of, stood, locked, opened}
+use Rattle.site.proofs.Tickets.{same_is, ticket_is, ticket_self, ticket_sym}
+use Rattle.site.proofs.Listed.{filter_all, from_names, lives_listed, row_none, lock_is}
 
 map_more : {A B : Type 0} (f : A → B) (xs ys : List A) → map f (xs ++ ys) ≡ map f xs ++ map f ys
 map_more f [] ys = refl

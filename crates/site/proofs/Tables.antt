@@ -1,5 +1,5 @@
 -- What changes of the entries and of the locks make of what is read from them.
-use Rattle.std.proofs.Common.{◌≡◌, refl, sym, ap, ◌∙◌, subst, ℕ, zero, suc, ◌+◌, ◌-◌, ◌<◌, add-one, Bool, true, false, not, List, [], ◌∷◌, ◌++◌, map, length, Option, Some, None, IsSome, filter, cond, if◌then◌else◌, slice_get, slice_set, get_or, arith}
+use Rattle.std.proofs.Common.{◌≡◌, refl, sym, ap, ◌∙◌, subst, ℕ, zero, suc, ◌+◌, ◌<◌, Bool, true, false, not, List, [], ◌∷◌, ◌++◌, map, length, Option, Some, None, IsSome, filter, cond, if◌then◌else◌, slice_get, slice_set, get_or, arith}
 use Rattle.std.specs.BTreeMap.{is_at, insert_entry}
 use Rattle.std.specs.Cmp.{eq_by_cmp_equiv}
 use Rattle.std.specs.List.{position_from, AllByRecursion}
@@ -7,8 +7,7 @@ use Rattle.std.specs.List.Sorted.{IsStrictlySortedBy}
 use Rattle.std.specs.Map.{lookup, keys_of, set_value, remove_entry}
 use Rattle.std.specs.Ordering.{is_eq, match_ordering}
 use Rattle.std.specs.Set.{remove_key}
-use Rattle.std.specs.declared.cmp.Ordering.{Ordering}
-use Rattle.std.specs.declared.cmp.Ordering.TheVariants.{Less, Equal, Greater}
+use Rattle.std.specs.declared.cmp.Ordering.TheVariants.{Greater}
 use Rattle.std.proofs.lemmas.Map.{lookup-set_value, lookup-remove_entry, keys-set_value}
 use Rattle.std.proofs.lemmas.Map.Keys.{IsDistinct-from_sorted}
 use Rattle.terms.specs.declared.leaf.Leaf.{Leaf}
@@ -17,13 +16,13 @@ use Rattle.store.specs.declared.name.Ticket.{Ticket}
 use Rattle.store.specs.Name.{ticket_cmp}
 use Rattle.store.specs.Orders.{ticket_cmp_total}
 use Rattle.store.specs.SiteContent.{is_ticket}
-use Rattle.protocol.proofs.Basics.{either, either_if, if_true, if_false, clash, some_is}
+use Rattle.protocol.proofs.Basics.{either, if_true, if_false, some_is}
 use Rattle.site.specs.declared.locks.Locks.{Locks}
 use Rattle.site.specs.declared.standing.Standing.{Standing}
-use Rattle.site.specs.Locks.{free, reads, writes, locks_in, place_in, with_reader, with_writer, stops, stops_reading, stops_writing}
+use Rattle.site.specs.Locks.{free, reads, writes, locks_in, place_in, stops, stops_reading, stops_writing}
 use Rattle.site.specs.Moves.{stood, locked}
 use Rattle.site.proofs.Leaves.{removed}
-use Rattle.site.proofs.Tickets.{same_bool, ticket_is, ticket_self, ticket_same, ticket_sym, leaf_is, leaf_self, leaf_sym}
+use Rattle.site.proofs.Tickets.{ticket_is, ticket_sym, leaf_is}
 
 abbrev pub Entries : Type 0
 Entries = List (Ticket × Standing)

@@ -1,6 +1,6 @@
 -- The locks on one leaf, and what granting one and letting go make of them.
-use Rattle.std.specs.Prelude.{ℕ, Bool, true, false, ◌||◌, not, nat_le, List, [], ◌∷◌, Option, Some, None, if◌then◌else◌}
-use Rattle.std.specs.BTreeSet.{BTreeSet, contains, insert_key}
+use Rattle.std.specs.Prelude.{ℕ, Bool, false, ◌||◌, not, nat_le, List, [], ◌∷◌, Option, Some, None, if◌then◌else◌}
+use Rattle.std.specs.BTreeSet.{contains, insert_key}
 use Rattle.std.specs.List.{filter, list_any, position_from}
 use Rattle.std.specs.Ordering.{is_eq}
 use Rattle.terms.specs.declared.leaf.Leaf.{Leaf}

@@ -1,5 +1,5 @@
 -- What becomes of a site's memory: a ticket is drawn, a visit does an operation, is prepared, or ends.
-use Rattle.std.specs.Prelude.{ℕ, ◌+◌, ◌-◌, suc, not, Bool, List, [], ◌∷◌, ◌++◌, Option, Some, None, if◌then◌else◌}
+use Rattle.std.specs.Prelude.{ℕ, ◌-◌, suc, not, [], ◌∷◌, ◌++◌, Option, Some, None, if◌then◌else◌}
 use Rattle.std.specs.FinMap as map
 use Rattle.std.specs.List.{filter}
 use Rattle.std.specs.Ordering.{is_eq}

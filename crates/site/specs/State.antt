@@ -1,5 +1,5 @@
 -- A site's state: what its store keeps, and what it has in memory.
-use Rattle.std.specs.Prelude.{◌≡◌, ℕ, ◌+◌, ◌<◌, ◌≤◌, ◌⊎◌, Bool, true, false, List, [], ◌∷◌, map, Option, Some, None, is_some, if◌then◌else◌}
+use Rattle.std.specs.Prelude.{◌≡◌, ℕ, ◌<◌, ◌≤◌, ◌⊎◌, Bool, true, false, List, map, Option, Some, None, is_some}
 use Rattle.std.specs.BTreeMap.{is_at}
 use Rattle.std.specs.FinMap as fin
 use Rattle.std.specs.Map.{lookup, keys_of}
@@ -11,7 +11,6 @@ use Rattle.store.specs.declared.prepared.Prepared.{Prepared as Row}
 use Rattle.store.specs.Content.{Changes}
 use Rattle.store.specs.Name.{ticket_cmp}
 use Rattle.store.specs.SiteContent.{SiteContent}
-use Rattle.protocol.specs.Language.{Name}
 use Rattle.protocol.specs.Parts.{In}
 use Rattle.store.specs.declared.reply.Reply.{Reply}
 use Rattle.protocol.specs.Site.{SiteState, Status, Dead, Alive, Prepared, Act, has_exclusive, site_after, said, on_letter}

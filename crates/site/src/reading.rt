@@ -28,6 +28,7 @@ pub(crate) fn fetch<S: SiteStore>(
     fetch: Fetch,
     kept: bool,
 ) -> Result<Option<Reply>, SiteFault>
+    ensures elsewhere { place_in fetch.leaf present.old.locks.items ≡ None → result ≡ Err faults.Stranger }
     ensures name { present.new.name ≡ present.old.name }
     ensures stranger { result ≡ Err faults.Stranger → place_in fetch.leaf present.old.locks.items ≡ None }
     ensures full { result ≡ Err faults.Full → 2 ^ 63 ≤ fetch.op }

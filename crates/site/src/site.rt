@@ -162,6 +162,7 @@ impl<S: SiteStore> Site<S> {
 
     /// Takes a letter, and answers the letters that the site puts out. On a fault nothing has changed.
     pub fn take(&mut self, letter: Letter) -> Result<Vec<Letter>, SiteFault>
+        ensures turned_away { AsksElsewhere self.old.present.locks.items letter.body → (result ≡ Err faults.Stranger) ⊎ (result ≡ Err faults.Memory) }
         ensures name { self.new.present.name ≡ self.old.present.name }
         ensures elsewhere { result ≡ Err faults.Stranger → (letter.site ≢ self.old.present.name) ⊎ AsksElsewhere self.old.present.locks.items letter.body }
         ensures full { result ≡ Err faults.Full → AsksTooMuch self.old.present.alive self.old.present.number letter.body }
@@ -180,6 +181,7 @@ impl<S: SiteStore> Site<S> {
 
     /// So, but where `kept` is false the store isn't called, and counts as having refused.
     pub fn take_kept(&mut self, letter: Letter, kept: bool) -> Result<Vec<Letter>, SiteFault>
+        ensures turned_away { AsksElsewhere self.old.present.locks.items letter.body → (result ≡ Err faults.Stranger) ⊎ (result ≡ Err faults.Memory) }
         ensures name { self.new.present.name ≡ self.old.present.name }
         ensures elsewhere { result ≡ Err faults.Stranger → (letter.site ≢ self.old.present.name) ⊎ AsksElsewhere self.old.present.locks.items letter.body }
         ensures full { result ≡ Err faults.Full → AsksTooMuch self.old.present.alive self.old.present.number letter.body }
@@ -263,6 +265,7 @@ fn obey<S: SiteStore>(
     order: Order,
     kept: bool,
 ) -> Result<Option<Reply>, SiteFault>
+    ensures elsewhere { IsElsewhere present.old.locks.items order → result ≡ Err faults.Stranger }
     ensures name { present.new.name ≡ present.old.name }
     ensures stranger { result ≡ Err faults.Stranger → IsElsewhere present.old.locks.items order }
     ensures full { result ≡ Err faults.Full → IsTooMuch present.old.alive present.old.number order }

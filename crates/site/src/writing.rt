@@ -45,6 +45,7 @@ pub(crate) fn intend(
     present: &mut Present,
     intention: Intention,
 ) -> Result<Option<Reply>, SiteFault>
+    ensures elsewhere { place_in (leaf_of intention.write) present.old.locks.items ≡ None → result ≡ Err faults.Stranger }
     ensures name { present.new.name ≡ present.old.name }
     ensures stranger { result ≡ Err faults.Stranger → place_in (leaf_of intention.write) present.old.locks.items ≡ None }
     ensures full { result ≡ Err faults.Full → 2 ^ 63 ≤ intention.op }

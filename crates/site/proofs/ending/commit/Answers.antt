@@ -1,5 +1,5 @@
 -- Why `commit` meets its contract.
-use Rattle.std.proofs.Common.{◌≡◌, refl, sym, ◌∙◌, true, false, Bool}
+use Rattle.std.proofs.Common.{sym, ◌∙◌}
 use Rattle.site.specs.State.{table_of}
 use Rattle.site.proofs.Acts.{steps_at}
 use Rattle.site.proofs.Finals.{row_of, commit_steps}

@@ -1,5 +1,5 @@
 -- Why `give_up` meets its contract.
-use Rattle.std.proofs.Common.{◌≡◌, None, refl, sym, ◌∙◌}
+use Rattle.std.proofs.Common.{None, refl, sym, ◌∙◌}
 use Rattle.site.specs.State.{table_of}
 use Rattle.site.proofs.Acts.{steps_at}
 use Rattle.site.proofs.Finals.{visit_ends, given_up}

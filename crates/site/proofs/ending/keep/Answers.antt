@@ -1,5 +1,5 @@
 -- Why `keep` meets its contract.
-use Rattle.std.proofs.Common.{◌≡◌, Some, refl, sym, ap, ◌∙◌, subst, ◌-◌, map}
+use Rattle.std.proofs.Common.{refl, ap, ◌∙◌, subst, ◌-◌, map}
 use Rattle.std.specs.BTreeMap.{is_at}
 use Rattle.std.specs.List.Sorted.{IsStrictlySortedBy}
 use Rattle.std.specs.Map.{set_value, remove_entry, keys_of}

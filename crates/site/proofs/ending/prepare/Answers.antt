@@ -1,12 +1,12 @@
 -- Why `prepare` meets its contract.
-use Rattle.std.proofs.Common.{◌≡◌, Option, refl, sym, ap, ◌∙◌, subst, IfOk}
+use Rattle.std.proofs.Common.{Option, refl, sym, ap, ◌∙◌}
 use Rattle.store.specs.declared.reply.Reply.{Reply}
 use Rattle.protocol.specs.Site.{Act, Ends}
 use Rattle.site.specs.Letters.{kept_by, name_of, said_by}
 use Rattle.site.specs.Local.{local}
-use Rattle.site.specs.State.{Steps, table_of}
+use Rattle.site.specs.State.{table_of}
 use Rattle.site.proofs.Acts.{steps_at}
-use Rattle.site.proofs.Finals.{visit_ends, prepare_ends, prepare_keeps, act_kept}
+use Rattle.site.proofs.Finals.{visit_ends, prepare_ends, act_kept}
 use Rattle.site.proofs.ending.prepare.Goals as goal
 
 pub returns-in-Ends-clause-ok : goal.returns-in-Ends-clause-ok

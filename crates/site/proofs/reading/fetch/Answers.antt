@@ -1,5 +1,5 @@
 -- Why `fetch` meets its contract.
-use Rattle.std.proofs.Common.{◌≡◌, true, [], ◌∷◌, List, refl, sym, ap, ◌∙◌}
+use Rattle.std.proofs.Common.{true, [], ◌∷◌, List, refl, sym, ap, ◌∙◌}
 use Rattle.std.specs.Ordering.{is_eq}
 use Rattle.terms.specs.declared.value.Value.{Value}
 use Rattle.terms.specs.Leaf.{leaf_cmp}

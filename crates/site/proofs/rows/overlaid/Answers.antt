@@ -2,9 +2,8 @@
 use Rattle.std.proofs.Common.{ap, sym, ◌∙◌, filter}
 use Rattle.std.specs.FinMap as fin
 use Rattle.terms.specs.Cond.{conds_hold}
-use Rattle.store.specs.Content.{Changes, Content, changed, made_by}
+use Rattle.store.specs.Content.{Changes, changed, made_by}
 use Rattle.store.specs.ContentLaws.{made_over}
-use Rattle.protocol.proofs.Basics.{not_true}
 use Rattle.store.specs.ContentLaws.{same_made}
 use Rattle.site.specs.Rows.{stored}
 use Rattle.site.proofs.Fetched.{made_stored, untouched_same}

@@ -1,8 +1,6 @@
 -- Why `stored` meets its contract.
-use Rattle.std.proofs.Common.{arith, ◌∙◌, sym, ap, Some}
+use Rattle.std.proofs.Common.{arith}
 use Rattle.std.specs.FinMap as fin
-use Rattle.store.specs.Slot.{slot_of}
-use Rattle.terms.specs.Row.{key_of}
 use Rattle.site.proofs.Fetched.{stored_more}
 use Rattle.site.proofs.rows.stored.Goals as goal
 

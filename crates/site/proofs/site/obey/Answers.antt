@@ -1,5 +1,4 @@
 -- Why `obey` meets its contract.
-use Rattle.std.proofs.Common.{◌≡◌}
 use Rattle.site.proofs.site.obey.Goals as goal
 
 pub returns-in-Open-clause-ok : goal.returns-in-Open-clause-ok

@@ -1,9 +1,8 @@
 -- Why `begin` meets its contract.
-use Rattle.std.proofs.Common.{◌≡◌, refl, sym, ap, ◌∙◌, subst, ◌+◌, ◌<◌, ◌^◌, [], map, true, false, Err, ⊎_elim, arith}
+use Rattle.std.proofs.Common.{◌≡◌, ap, ◌∙◌, subst, ◌+◌, ◌<◌, ◌^◌, map, false, ⊎_elim, arith}
 use Rattle.store.specs.declared.fault.StoreFault.TheVariants as store_faults
-use Rattle.site.specs.declared.fault.SiteFault.TheVariants as faults
 use Rattle.site.specs.Locks.{free}
-use Rattle.site.specs.Starting.{IsStrange, all_may_stand, leaves_in}
+use Rattle.site.specs.Starting.{all_may_stand, leaves_in}
 use Rattle.site.proofs.PreparedRows.{all_leaves}
 use Rattle.site.proofs.Beginning.{begins_from, not_memory}
 use Rattle.site.proofs.starting.begin.Goals as goal

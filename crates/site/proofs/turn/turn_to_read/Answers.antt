@@ -1,7 +1,6 @@
 -- Why `turn_to_read` meets its contract.
-use Rattle.std.proofs.Common.{◌≡◌, ◌<◌, length, Some, refl, ap, ◌∙◌, arith}
+use Rattle.std.proofs.Common.{◌<◌, length, refl, ap, ◌∙◌, arith}
 use Rattle.std.specs.Option.{option_copied}
-use Rattle.site.specs.Letters.{leaf_of, at_key}
 use Rattle.site.specs.Locks.{locks_in}
 use Rattle.site.specs.Turn.{read_turn}
 use Rattle.site.proofs.Tables.{IsPlace, placed, got}

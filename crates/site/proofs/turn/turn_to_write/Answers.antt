@@ -1,5 +1,5 @@
 -- Why `turn_to_write` meets its contract.
-use Rattle.std.proofs.Common.{◌≡◌, ◌<◌, length, Some, refl, ap, ◌∙◌, arith}
+use Rattle.std.proofs.Common.{◌<◌, length, ap, ◌∙◌, arith}
 use Rattle.std.specs.Option.{option_copied}
 use Rattle.site.specs.Letters.{leaf_of, at_key}
 use Rattle.site.specs.Locks.{locks_in}

@@ -1,11 +1,10 @@
 -- Why `intend` meets its contract.
-use Rattle.std.proofs.Common.{◌≡◌, Some, refl, sym, ◌∙◌}
-use Rattle.protocol.specs.Site.{on_write}
+use Rattle.std.proofs.Common.{refl, sym, ◌∙◌}
 use Rattle.site.specs.declared.standing.Standing.TheVariants as standing
-use Rattle.site.specs.Letters.{name_of, leaf_of, at_key}
+use Rattle.site.specs.Letters.{leaf_of, at_key}
 use Rattle.site.specs.Locks.{locks_in}
-use Rattle.site.specs.State.{state_of, table_of, stands}
-use Rattle.site.proofs.Acts.{steps_at, says_steps, refused_steps, writes_steps}
+use Rattle.site.specs.State.{table_of}
+use Rattle.site.proofs.Acts.{steps_at, refused_steps, writes_steps}
 use Rattle.site.proofs.Tables.{is_place}
 use Rattle.site.proofs.Turns.{write_refused, write_goes}
 use Rattle.site.proofs.writing.intend.Goals as goal

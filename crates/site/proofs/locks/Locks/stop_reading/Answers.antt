@@ -1,5 +1,5 @@
 -- Why `Locks::stop_reading` meets its contract.
-use Rattle.std.proofs.Common.{◌≡◌, List, sym, ◌∙◌, ap}
+use Rattle.std.proofs.Common.{List, sym, ◌∙◌, ap}
 use Rattle.store.specs.declared.name.Ticket.{Ticket}
 use Rattle.protocol.proofs.Basics.{if_true}
 use Rattle.site.specs.declared.locks.Locks.{Locks}

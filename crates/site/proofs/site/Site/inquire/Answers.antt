@@ -1,6 +1,4 @@
 -- Why `Site::inquire` meets its contract.
-use Rattle.std.proofs.Common.{◌≡◌}
-use Rattle.store.specs.declared.letter.Letter.{Letter}
 use Rattle.protocol.specs.Site.{inquiries}
 use Rattle.site.specs.Inquiries.{inquiries_of}
 use Rattle.site.specs.State.{state_of, table_of}

@@ -1,8 +1,8 @@
 -- Why `Site::restart_kept` meets its contract.
-use Rattle.std.proofs.Common.{◌≡◌, sym, ap, ◌∙◌, subst, Err}
+use Rattle.std.proofs.Common.{sym, ap, ◌∙◌, subst, Err}
 use Rattle.store.specs.declared.fault.StoreFault.TheVariants as store_faults
 use Rattle.site.specs.declared.fault.SiteFault.TheVariants as faults
-use Rattle.site.specs.Starting.{Begins, Restarts, IsStrange, leaves_in}
+use Rattle.site.specs.Starting.{Begins, IsStrange, leaves_in}
 use Rattle.site.specs.State.{table_of}
 use Rattle.site.proofs.Beginning.{fault_is}
 use Rattle.site.proofs.Restarting.{restarts}

@@ -1,5 +1,5 @@
 -- Why `Site::start` meets its contract.
-use Rattle.std.proofs.Common.{◌≡◌, ap, ◌∙◌, Err}
+use Rattle.std.proofs.Common.{ap, ◌∙◌, Err}
 use Rattle.site.proofs.site.Site.start.Goals as goal
 
 pub returns-in-Err-clause-damaged : goal.returns-in-Err-clause-damaged
