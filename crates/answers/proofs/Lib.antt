@@ -13,3 +13,4 @@ pub mod LeavesWritten
 pub mod Worked
 pub mod Applied
 pub mod WritesLead
+pub mod Climbing

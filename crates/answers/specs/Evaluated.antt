@@ -1,5 +1,5 @@
 -- A reader may skip this: what each node of a plan makes of the tables below it.
-use Rattle.std.specs.Prelude.{◌≡◌, ◌⊎◌, ℕ, Bool, not, if◌then◌else◌, List, [], ◌∷◌, ◌++◌, Some, filter, length, map, option_map}
+use Rattle.std.specs.Prelude.{◌≡◌, ◌⊎◌, ◌&&◌, ◌==◌, ℕ, ℤ, Bool, true, not, int_lt, if◌then◌else◌, List, [], ◌∷◌, ◌++◌, Option, Some, None, filter, length, map, option_map}
 use Rattle.std.specs.List.{AllByRecursion, filter_map, slice_get}
 use Rattle.terms.specs.declared.cond.Cond.{Cond}
 use Rattle.terms.specs.declared.leaf.Leaf.{Leaf}
@@ -70,3 +70,13 @@ pub record IsMade (plan : Shape) (contents : Leaf → List (List Value)) (table 
   pub key : slice_get table.columns 0 ≡ Some 0
   pub wide : AllByRecursion (λ row. length row ≡ length table.columns) table.rows
   pub had : (table.rows ≡ []) ⊎ (columns_had plan ≡ Some table.columns)
+
+-- a key above the last one, if there is one
+abbrev pub is_above : Option ℤ → ℤ → Bool
+is_above None key = true
+is_above (Some last) key = int_lt last key
+
+-- parts of so many values, whose keys climb on from the last one
+abbrev pub parts_climb : ℕ → Option ℤ → List (List Value) → Bool
+parts_climb width last [] = true
+parts_climb width last (part ∷ parts) = (length part == width) && (is_above last (key_of part) && parts_climb width (Some (key_of part)) parts)

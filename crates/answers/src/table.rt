@@ -1,7 +1,8 @@
 //! Tables, and the rows that fetches bring.
 
-ghost use Rattle.std.specs.Prelude.{◌≡◌};
-ghost use Rattle.answers.specs.Table.{given};
+ghost use Rattle.std.specs.Prelude.{◌≡◌, ◌↔◌, IsTrue, None, length};
+ghost use Rattle.answers.specs.Evaluated.{is_above, parts_climb};
+ghost use Rattle.answers.specs.Table.{AreParts, given};
 
 use terms::leaf::Leaf;
 use terms::part::Part;
@@ -34,4 +35,35 @@ pub fn given<'a>(fetched: &'a [FetchRows], leaf: &Leaf) -> &'a [Part]
         return first.parts.as_slice();
     }
     given(rest, leaf)
+}
+
+/// Whether these can be what a fetch of these columns brought: the keys ascend, and each part has a value
+/// for each column.
+pub fn are_parts(columns: &[usize], parts: &[Part]) -> bool
+    ensures { IsTrue result ↔ AreParts columns.now parts.now }
+{
+    parts_climb(columns.len(), parts)
+}
+
+fn parts_climb(width: usize, parts: &[Part]) -> bool
+    ensures { result ≡ parts_climb width None parts.now }
+{
+    let mut last: Option<i64> = None;
+    for part in parts {
+        if part.values().len() != width || !is_above(last, part.key()) {
+            return false;
+        }
+        last = Some(part.key());
+    }
+    true
+}
+
+/// Whether a key is above the last one, if there is one.
+fn is_above(last: Option<i64>, key: i64) -> bool
+    ensures { result ≡ is_above last key }
+{
+    match last {
+        Some(before) => before < key,
+        None => true,
+    }
 }
