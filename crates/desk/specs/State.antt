@@ -1,0 +1,1 @@
+-- The coordinator's state: what its store keeps, and what it has in memory.

@@ -1,0 +1,14 @@
+//! The coordinator's machine: transactions from their beginning to their end, over any store.
+//!
+//! Stands on `terms`, `meaning`, `store` and `protocol`.
+#![tactic(auto)]
+
+mod ask;
+mod ending;
+mod orders;
+pub mod reply;
+mod spot;
+mod standing;
+mod turn;
+mod undecided;
+mod voters;
