@@ -1,3 +1,4 @@
 -- What proves the contracts of the crate.
 pub mod Spots
 pub mod Endings
+pub mod Acknowledged

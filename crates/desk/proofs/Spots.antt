@@ -1,5 +1,5 @@
 -- What is read of spots site by site, and the letters to their sites.
-use Rattle.std.proofs.Common.{◌≡◌, refl, sym, ap, ◌∙◌, subst, ℕ, nat_eq, Bool, true, false, not, ◌&&◌, ◌||◌, List, [], ◌∷◌, map, Option, Some, None, if◌then◌else◌, absurd, inl, inr, ⊎_elim, unwrap_or, is_some}
+use Rattle.std.proofs.Common.{◌≡◌, refl, sym, ap, ◌∙◌, subst, ℕ, nat_eq, Bool, true, false, not, ◌&&◌, ◌||◌, List, [], ◌∷◌, map, Option, Some, None, if◌then◌else◌, inl, inr, ⊎_elim, unwrap_or, is_some}
 use Rattle.std.specs.Cmp.Lexicographic.{pointwise}
 use Rattle.std.specs.List.{AllByRecursion, cons_option, filter_map, find, list_all, list_any}
 use Rattle.std.specs.Option.{option_map}
@@ -34,15 +34,12 @@ pub at_home : (spots : List Spot) → AreDistinct (sites_of spots) → (spot : S
 at_home [] apart spot at = absurd at
 at_home (s ∷ spots) apart spot at = ⊎_elim
     (λ here. if_true (is_at spot.site s) s (spot_in spot.site spots) (subst (λ x. is_at spot.site x ≡ true) here (text_self spot.site)) ∙ sym here)
-    (λ further. go (is_at spot.site s) refl further)
+    (λ further. go (is_at spot.site s) refl further (at_home spots apart.1 spot further))
     at
   where
-    rest : In spot spots → spot_in spot.site spots ≡ spot
-    rest further = at_home spots apart.1 spot further
-
-    go : (b : Bool) → is_at spot.site s ≡ b → In spot spots → (if b then s else spot_in spot.site spots) ≡ spot
-    go true e further = absurd (no_site spot spots s.site apart.0 further (text_is s.site spot.site e))
-    go false e further = rest further
+    go : (b : Bool) → is_at spot.site s ≡ b → In spot spots → spot_in spot.site spots ≡ spot → (if b then s else spot_in spot.site spots) ≡ spot
+    go true e further rest = absurd (no_site spot spots s.site apart.0 further (text_is s.site spot.site e))
+    go false e further rest = rest
 
 -- ---- the letters to the sites
 -- what an order says

@@ -9,11 +9,12 @@ use Rattle.meaning.specs.Meaning.{meaning}
 use Rattle.meaning.specs.Whole.{Relations}
 use Rattle.store.specs.Content.{Content}
 use Rattle.store.specs.declared.letter.Letter as letters
+use Rattle.store.specs.declared.reply.Reply as replies
 use Rattle.protocol.specs.Language.{Lang}
-use Rattle.protocol.specs.Letter.{Letter}
-use Rattle.protocol.specs.Letters.{letter_of}
+use Rattle.protocol.specs.Letter.{Body, Letter}
+use Rattle.protocol.specs.Letters.{letter_of, reply_body}
 use Rattle.protocol.specs.Local.{local, AtKey}
-use Rattle.protocol.specs.Statements.{Statements, with_statements, letter_with}
+use Rattle.protocol.specs.Statements.{Statements, with_statements, body_with, letter_with}
 
 -- what the coordinator's machine knows of a database
 pub record Database : Type 0 where
@@ -50,3 +51,7 @@ language db = with_statements local (statements db)
 -- a letter in it
 abbrev pub sent : (db : Database) → letters.Letter → Letter (language db)
 sent db letter = letter_with (statements db) (letter_of letter)
+
+-- what a site's reply says in it
+abbrev pub replied : (db : Database) → replies.Reply → Body (language db)
+replied db reply = body_with (statements db) (reply_body reply)

@@ -1,5 +1,5 @@
 -- Who is to commit, and who has acknowledged.
-use Rattle.std.specs.Prelude.{◌≡◌, ℕ, nat_eq, Bool, true, false, ◌&&◌, not, List, map, Option, Some, None, if◌then◌else◌}
+use Rattle.std.specs.Prelude.{◌≡◌, ℕ, nat_eq, Bool, true, false, ◌&&◌, not, List, [], ◌∷◌, ◌++◌, map, Option, Some, None, if◌then◌else◌}
 use Rattle.std.specs.Cmp.Lexicographic.{pointwise}
 use Rattle.std.specs.List.{filter_map, list_all, list_any}
 use Rattle.std.specs.Option.{option_map}
@@ -14,6 +14,7 @@ use Rattle.store.specs.declared.reply.Vote.TheVariants.{Yes, No, Read}
 use Rattle.store.specs.DeskContent.{DeskContent, is_txn}
 use Rattle.store.specs.Name.{ticket_cmp}
 use Rattle.desk.specs.declared.spot.Spot.{Spot}
+use Rattle.desk.specs.declared.standing.Committed.{Committed}
 use Rattle.desk.specs.declared.standing.Standing.{Standing}
 use Rattle.desk.specs.declared.standing.Standing.TheVariants as standing
 use Rattle.desk.specs.Orders.{ordered}
@@ -53,6 +54,10 @@ is_voter site ticket voter = pointwise nat_eq voter.site site && is_ticket voter
 abbrev pub has_voter : List Voter → List ℕ → Ticket → Bool
 has_voter voters site ticket = list_any (is_voter site ticket) voters
 
+-- whether a voter has not acknowledged yet
+abbrev pub is_new_ack : List Voter → List Voter → List ℕ → Ticket → Bool
+is_new_ack voters acked site ticket = has_voter voters site ticket && not (has_voter acked site ticket)
+
 -- whether each voter has acknowledged
 abbrev pub are_acked : List Voter → List Voter → Bool
 are_acked voters acked = list_all (λ voter. has_voter acked voter.site voter.ticket) voters
@@ -68,3 +73,7 @@ pub record Keeps (txn : Txn) (voters : Option (List Voter)) (old new : DeskConte
   pub commits : (other : Txn) → new.commits other ≡ (if is_txn txn other then voters else old.commits other)
   pub life : new.life ≡ old.life
   pub version : new.version ≡ old.version
+
+-- a voter has acknowledged
+abbrev pub with_ack : Committed → List ℕ → Ticket → Committed
+with_ack committed site ticket = record committed { acked = committed.acked ++ voter_with site ticket ∷ [] }

@@ -3,12 +3,15 @@
 //! Stands on `terms`, `meaning`, `store` and `protocol`.
 #![tactic(auto)]
 
+mod acking;
 mod ask;
 mod ending;
 mod orders;
 pub mod reply;
 mod spot;
 mod standing;
+mod strange;
 mod turn;
 mod undecided;
 mod voters;
+mod voting;

@@ -1,5 +1,6 @@
 -- Why `ends` meets its contract.
-use Rattle.std.proofs.Common.{◌≡◌, refl, sym, ap, ◌∙◌, map, cons_option, []}
+use Rattle.std.proofs.Common.{◌≡◌, refl, sym, ap, ◌∙◌, map, []}
+use Rattle.std.specs.List.{cons_option}
 use Rattle.protocol.specs.Letters.{txn_name}
 use Rattle.desk.specs.Database.{sent}
 use Rattle.desk.specs.Orders.{ending_word, letters_from}
