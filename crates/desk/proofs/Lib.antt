@@ -2,3 +2,4 @@
 pub mod Spots
 pub mod Endings
 pub mod Acknowledged
+pub mod Decisions

@@ -15,6 +15,8 @@ use Rattle.desk.specs.declared.standing.Standing.{Standing}
 use Rattle.desk.specs.declared.turn.After as afters
 use Rattle.desk.specs.declared.turn.After.TheVariants.{Stays, Ends, Becomes}
 use Rattle.desk.specs.declared.turn.Turn.{Turn}
+use Rattle.desk.specs.declared.undecided.Stage.TheVariants as stage
+use Rattle.desk.specs.declared.undecided.Undecided.{Undecided}
 use Rattle.desk.specs.Database.{Database, language, sent}
 use Rattle.desk.specs.Spots.{sites_of}
 use Rattle.desk.specs.Standing.{txn_of}
@@ -57,3 +59,11 @@ pub record IsTurn (db : Database) (txn : Txn) (old : Option Standing) (turn : Tu
   pub stands : txn_of db (after_of old turn.after) ≡ wanted.txn
   pub letters : map (sent db) turn.letters.items ≡ wanted.letters
   pub replies : told_to (txn_name txn) turn.reply ≡ filter_map told wanted.deeds
+
+-- a transaction in its first phase
+abbrev pub voting : List Spot → Undecided
+voting spots = record { spots = spots; stage = stage.Voting }
+
+-- it is committed, and nobody is to be told
+abbrev pub commits_now : {db : Database} → Name → protocol.Turn (language db)
+commits_now t = record { txn = protocol.Unknown; letters = []; deeds = protocol.Committed t ∷ [] }

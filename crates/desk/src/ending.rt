@@ -5,6 +5,7 @@ ghost use Rattle.protocol.specs.Desk.{Deed, ends_by};
 ghost use Rattle.protocol.specs.Letters.{txn_name};
 ghost use Rattle.desk.specs.declared.standing.Standing.{Standing};
 ghost use Rattle.desk.specs.declared.turn.After.TheVariants.{Ends};
+ghost use Rattle.desk.specs.declared.undecided.Stage.{Stage as StageNow};
 ghost use Rattle.desk.specs.Database.{Database, language};
 ghost use Rattle.desk.specs.Orders.{ending_word};
 ghost use Rattle.desk.specs.Standing.{undecided_of};
@@ -12,14 +13,15 @@ ghost use Rattle.desk.specs.Turn.{AreSpots, IsTurn, told};
 
 use crate::orders::{Word, letters_from};
 use crate::reply::Reply;
+use crate::spot::Spot;
 use crate::turn::{After, Turn};
-use crate::undecided::{Stage, Undecided};
+use crate::undecided::Stage;
 use std::alloc::Global;
 use store::name::Txn;
 use terms::memory::Memory;
 
 /// The word to the sites of a transaction that ends without a commit.
-fn ending_word(stage: &Stage) -> Word
+pub(crate) fn ending_word(stage: &Stage) -> Word
     ensures { result ≡ ending_word stage.now }
 {
     match stage {
@@ -28,23 +30,23 @@ fn ending_word(stage: &Stage) -> Word
     }
 }
 
-/// A transaction ends without a commit, and whoever may hold locks hears Abort.
+/// A transaction ends without a commit, and whoever may hold locks hears Abort by this word.
 pub(crate) fn ends(
     alloc: Global,
     txn: Txn,
-    undecided: &Undecided,
+    spots: &[Spot],
+    word: Word,
     reply: Reply,
     kept: bool,
 ) -> Result<Turn, Memory>
-    ensures turn { (db : Database) (old : Option Standing) (deed : Deed (language db)) → AreSpots db undecided.now.spots → told deed ≡ Some (txn_name txn, reply)
-        → IfOk result (λ turn. IsTurn db txn old turn (ends_by (txn_name txn) (undecided_of db undecided.now) deed)) }
+    ensures turn { (db : Database) (old : Option Standing) (stage : StageNow) (deed : Deed (language db)) → AreSpots db spots.now → word ≡ ending_word stage → told deed ≡ Some (txn_name txn, reply)
+        → IfOk result (λ turn. IsTurn db txn old turn (ends_by (txn_name txn) (undecided_of db (record { spots = spots.now; stage = stage })) deed)) }
     ensures kept { IfOk result (λ turn. turn.kept ≡ kept) }
     ensures after { IfOk result (λ turn. turn.after ≡ Ends) }
 {
-    let word = ending_word(&undecided.stage);
     Ok(Turn {
         after: After::Ends,
-        letters: letters_from(alloc, txn, word, undecided.spots.as_slice())?,
+        letters: letters_from(alloc, txn, word, spots)?,
         reply: Some(reply),
         kept,
     })
