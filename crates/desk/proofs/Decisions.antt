@@ -9,7 +9,7 @@ use Rattle.store.specs.declared.name.Ticket.{Ticket}
 use Rattle.store.specs.declared.name.Txn.{Txn}
 use Rattle.store.specs.declared.reply.Vote.{Vote}
 use Rattle.store.specs.declared.reply.Vote.TheVariants.{Yes, No, Read}
-use Rattle.store.specs.DeskContent.{AreVoters, DeskContent, IsUnchanged, KeepsCommit}
+use Rattle.store.specs.DeskContent.{AreVoters, DeskContent, IsUnchanged, KeepsCommit, is_txn}
 use Rattle.protocol.specs.Desk as desk
 use Rattle.protocol.specs.Language.{Name}
 use Rattle.protocol.specs.Letter as protocol
@@ -147,3 +147,7 @@ voters_once (s ∷ spots) apart = go s.visited s.vote s.ticket (voters_once spot
 
 pub are_voters : (spots : List Spot) (voters : List Voter) → AreDistinct (sites_of spots) → voters ≡ voters_among spots → 0 < length voters → AreVoters voters
 are_voters spots voters apart same some = record { some = some; once = subst (λ vs. IsDistinct (pointwise nat_eq) (map (λ voter. voter.site) vs)) (sym same) (voters_once spots apart) }
+
+-- the store keeps the row
+pub keeps_row : (txn : Txn) (kept after : DeskContent) (voters same : List Voter) → voters ≡ same → KeepsCommit txn voters kept after → Keeps txn (Some same) kept after
+keeps_row txn kept after voters same is keeps = record { commits = λ other. keeps.commits other ∙ ap (λ vs. if is_txn txn other then Some vs else kept.commits other) is; life = keeps.life; version = keeps.version }
