@@ -1,5 +1,6 @@
 -- Votes and the decision, as the protocol has them.
-use Rattle.std.proofs.Common.{◌≡◌, refl, sym, ap, ◌∙◌, subst, ℕ, ◌<◌, nat_eq, Bool, true, false, not, ◌&&◌, ◌||◌, List, [], ◌∷◌, ◌++◌, map, length, Option, Some, None, is_some, if◌then◌else◌, inl, inr, Result, Ok, Err, IfOk, flat_map, arith}
+use Rattle.std.proofs.Common.{◌≡◌, refl, sym, ap, ◌∙◌, subst, ℕ, ◌<◌, ◌==◌, nat_eq, Bool, true, false, not, ◌&&◌, ◌||◌, List, [], ◌∷◌, ◌++◌, map, length, Option, Some, None, is_some, if◌then◌else◌, inl, inr, Result, Ok, Err, IfOk, flat_map, arith}
+use Rattle.std.proofs.lemmas.Bool.{eqb-true}
 use Rattle.std.specs.Cmp.Lexicographic.{pointwise}
 use Rattle.std.specs.List.{AllByRecursion, IsDistinct, cons_option, list_all}
 use Rattle.std.specs.Option.{option_map}
@@ -24,7 +25,7 @@ use Rattle.desk.specs.Spots.{is_in, sites_of, spot_in}
 use Rattle.desk.specs.Standing.{undecided_of, voter_of, votes_of}
 use Rattle.desk.specs.Turn.{AreSpots, IsTurn, after_of, voting}
 use Rattle.desk.specs.Voters.{Keeps, commit_letters, is_yes, kept_voters, voter_at, voter_with, voters_among}
-use Rattle.desk.proofs.Acknowledged.{keeps_same}
+use Rattle.desk.proofs.Acknowledged.{keeps_same, turn_as}
 use Rattle.desk.proofs.Spots.{at_home, text_is}
 
 -- ---- site by site
@@ -151,3 +152,21 @@ are_voters spots voters apart same some = record { some = some; once = subst (λ
 -- the store keeps the row
 pub keeps_row : (txn : Txn) (kept after : DeskContent) (voters same : List Voter) → voters ≡ same → KeepsCommit txn voters kept after → Keeps txn (Some same) kept after
 keeps_row txn kept after voters same is keeps = record { commits = λ other. keeps.commits other ∙ ap (λ vs. if is_txn txn other then Some vs else kept.commits other) is; life = keeps.life; version = keeps.version }
+
+-- ---- the code's branches
+-- nobody is to be told
+pub nobody : (voters : List Voter) → (length voters == 0) ≡ true → voters ≡ []
+nobody [] e = refl
+nobody (v ∷ voters) e = let f : length (v ∷ voters) ≡ 0 = eqb-true (length (v ∷ voters)) 0 e in absurd (omega arith)
+
+pub somebody : (voters : List Voter) → (length voters == 0) ≡ false → 0 < length voters
+somebody [] e = cc
+somebody (v ∷ voters) e = omega arith
+
+-- all votes are in, and it is decided
+pub decided_is : (db : Database) (txn : Txn) (old : Option Standing) (spots now : List Spot) → now ≡ spots → AreSpots db spots → (voters : List Voter) → list_all is_in spots ≡ true → voters ≡ voters_among spots → {E : Type 0} (result : Result Turn E) →
+    IfOk result (λ turn. IsTurn db txn old turn (desk.decides (txn_name txn) (undecided_of db (voting now)) turn.kept (map voter_of voters))) →
+    IfOk result (λ turn. IsTurn db txn old turn (desk.votes_go (txn_name txn) (undecided_of db (voting spots)) (votes_of spots) turn.kept))
+decided_is db txn old spots now same are voters all is (Ok turn) steps =
+    turn_as db txn old turn _ _ (votes_decide db spots are (txn_name txn) turn.kept voters all is ∙ ap (λ ss. desk.decides {L = language db} (txn_name txn) (undecided_of db (voting ss)) turn.kept (map voter_of voters)) (sym same)) steps
+decided_is db txn old spots now same are voters all is (Err e) steps = tt

@@ -3,3 +3,4 @@ pub mod Spots
 pub mod Endings
 pub mod Acknowledged
 pub mod Decisions
+pub mod Finishing

@@ -54,3 +54,10 @@ ordered txn site order = record { site = site; txn = txn; body = body.Order orde
 -- the letters to the sites, in their order
 abbrev pub letters_from : Txn → Word → List Spot → List Letter
 letters_from txn word spots = filter_map (λ spot. option_map (ordered txn spot.site) (order_at word spot)) spots
+
+-- whether the first phase has begun
+abbrev pub is_voting : Stage → Bool
+is_voting stage.Idle = false
+is_voting (stage.Reading reading) = false
+is_voting (stage.Writing writing) = false
+is_voting stage.Voting = true

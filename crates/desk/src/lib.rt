@@ -6,6 +6,7 @@
 mod acking;
 mod ask;
 mod ending;
+mod finishing;
 mod orders;
 pub mod reply;
 mod spot;

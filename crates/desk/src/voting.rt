@@ -1,6 +1,6 @@
 //! The first phase: votes, and the decision.
 
-ghost use Rattle.std.specs.Prelude.{◌≡◌, ◌<◌, length, map, false, None, Option, IfOk, OnErr};
+ghost use Rattle.std.specs.Prelude.{◌≡◌, ◌==◌, ◌<◌, length, map, false, None, Option, IfOk, OnErr};
 ghost use Rattle.protocol.specs.Desk.{By_store, decides, ends_by, votes_go};
 ghost use Rattle.protocol.specs.Desk as protocol;
 ghost use Rattle.protocol.specs.Letters.{txn_name};
@@ -50,10 +50,17 @@ pub(crate) fn votes_go<S: DeskStore>(
         return Ok(becomes(alloc, Standing::Undecided(voting(spots))));
     }
     let voters = voters_among(alloc, &spots)?;
-    if voters.is_empty() {
+    if are_none(&voters) {
         return Ok(commits_at_once(alloc));
     }
     decides(store, alloc, txn, &spots, voters, kept)
+}
+
+/// Whether nobody is to be told.
+fn are_none(voters: &[Voter]) -> bool
+    ensures { result ≡ (length voters.now == 0) }
+{
+    voters.is_empty()
 }
 
 /// A transaction in its first phase.
