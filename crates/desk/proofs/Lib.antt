@@ -3,4 +3,4 @@ pub mod Spots
 pub mod Endings
 pub mod Acknowledged
 pub mod Decisions
-pub mod Finishing
+pub mod Stages
