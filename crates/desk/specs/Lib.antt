@@ -5,4 +5,3 @@ pub mod Standing
 pub mod Orders
 pub mod Voters
 pub mod Turn
-pub mod State

@@ -1,6 +1,7 @@
 //! The coordinator's machine: transactions from their beginning to their end, over any store.
 //!
-//! Stands on `terms`, `meaning`, `store` and `protocol`.
+//! Stands on `terms`, `meaning`, `reader`, `store` and `protocol`. So far there is no public call: the steps of
+//! one transaction, each the protocol's turn (`IsTurn`), of which the machine is to be made.
 #![tactic(auto)]
 
 mod acking;

@@ -14,5 +14,5 @@ returns-then-is_voting c = λ db are.
 
 pub returns : goal.returns
 returns c = λ db are.
-    ends_as db c.args.txn (Some (standing.Undecided c.args.undecided.now)) c.args.undecided.now c.as_slice.result.now (Aborted (txn_name c.args.txn) By_refusal) _ c.ends.result c.as_slice.ensures are (early_refusal db (txn_name c.args.txn) (undecided_of db c.args.undecided.now) c.args.undecided.now.spots c.args.undecided.now.stage (sym c.is_voting.ensures ∙ c.if-is_voting.false))
+    ends_as db c.args.txn (Some (standing.Undecided c.args.undecided.now)) c.args.undecided.now c.as_slice-spots.result.now (Aborted (txn_name c.args.txn) By_refusal) _ c.ends.result c.as_slice-spots.ensures are (early_refusal db (txn_name c.args.txn) (undecided_of db c.args.undecided.now) c.args.undecided.now.spots c.args.undecided.now.stage (sym c.is_voting.ensures ∙ c.if-is_voting.false))
     (λ those. c.ends.ensures.turn db (Some (standing.Undecided c.args.undecided.now)) c.args.undecided.now.stage (Aborted (txn_name c.args.txn) By_refusal) those c.ending_word-word.ensures refl)

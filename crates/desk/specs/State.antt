@@ -1,1 +1,0 @@
--- The coordinator's state: what its store keeps, and what it has in memory.
