@@ -1,6 +1,6 @@
 -- Voters and acknowledgements, as the protocol has them.
-use Rattle.std.proofs.Common.{◌≡◌, refl, sym, ap, ◌∙◌, subst, ℕ, nat_eq, Bool, true, false, not, ◌&&◌, ◌||◌, List, [], ◌∷◌, ◌++◌, map, Option, Some, None, if◌then◌else◌}
-use Rattle.std.specs.List.{list_all, list_any}
+use Rattle.std.proofs.Common.{◌≡◌, refl, sym, ap, ◌∙◌, subst, ℕ, nat_eq, Bool, true, false, not, ◌&&◌, ◌||◌, List, [], ◌∷◌, ◌++◌, map, Option, Some, if◌then◌else◌}
+use Rattle.std.specs.List.{list_any}
 use Rattle.std.proofs.lemmas.List.{map-append}
 use Rattle.std.specs.Cmp.{tied_itself}
 use Rattle.std.specs.Cmp.Lexicographic.{pointwise}
@@ -11,8 +11,7 @@ use Rattle.store.specs.declared.commit.Voter.{Voter}
 use Rattle.store.specs.declared.name.Ticket.{Ticket}
 use Rattle.store.specs.declared.name.Txn.{Txn}
 use Rattle.store.specs.DeskContent.{DeskContent, is_txn, IsUnchanged}
-use Rattle.store.specs.Name.{ticket_cmp, txn_cmp}
-use Rattle.store.specs.Orders.{ticket_cmp_total, ticket_cmp-IsAntisymmetric, txn_cmp_total, txn_cmp-IsAntisymmetric}
+use Rattle.store.specs.Orders.{ticket_cmp_total, ticket_cmp-IsAntisymmetric, txn_cmp-IsAntisymmetric}
 use Rattle.protocol.specs.Desk as desk
 use Rattle.protocol.specs.Language.{Name, same}
 use Rattle.protocol.specs.Letters.{name_of, ticket_of}

@@ -13,7 +13,6 @@ use Rattle.store.specs.declared.reply.Vote.TheVariants.{Yes, No, Read}
 use Rattle.store.specs.DeskContent.{AreVoters, DeskContent, IsUnchanged, KeepsCommit, is_txn}
 use Rattle.protocol.specs.Desk as desk
 use Rattle.protocol.specs.Language.{Name}
-use Rattle.protocol.specs.Letter as protocol
 use Rattle.protocol.specs.Letters.{name_of, txn_name, vote_of}
 use Rattle.protocol.specs.Parts.{In}
 use Rattle.desk.specs.declared.spot.Spot.{Spot}
@@ -21,7 +20,7 @@ use Rattle.desk.specs.declared.standing.Standing.{Standing}
 use Rattle.desk.specs.declared.turn.After.TheVariants.{Ends}
 use Rattle.desk.specs.declared.turn.Turn.{Turn}
 use Rattle.desk.specs.Database.{Database, language, sent}
-use Rattle.desk.specs.Spots.{is_in, sites_of, spot_in}
+use Rattle.desk.specs.Spots.{is_in, sites_of}
 use Rattle.desk.specs.Standing.{undecided_of, voter_of, votes_of}
 use Rattle.desk.specs.Turn.{AreSpots, IsTurn, after_of, voting}
 use Rattle.desk.specs.Voters.{Keeps, commit_letters, is_yes, kept_voters, voter_at, voter_with, voters_among}

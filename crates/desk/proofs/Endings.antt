@@ -1,5 +1,5 @@
 -- A transaction ends without a commit: who hears Abort.
-use Rattle.std.proofs.Common.{◌≡◌, refl, sym, ap, ◌∙◌, subst, ℕ, Bool, true, false, ◌&&◌, List, [], ◌∷◌, map, Option, Some, None, if◌then◌else◌}
+use Rattle.std.proofs.Common.{◌≡◌, refl, sym, ap, ◌∙◌, ℕ, Bool, true, false, ◌&&◌, List, map, Option, Some, None, if◌then◌else◌}
 use Rattle.std.specs.Option.{option_map}
 use Rattle.store.specs.declared.name.Ticket.{Ticket}
 use Rattle.store.specs.declared.name.Txn.{Txn}
@@ -9,7 +9,6 @@ use Rattle.protocol.specs.Letter as protocol
 use Rattle.protocol.specs.Letters.{name_of, txn_name, vote_of}
 use Rattle.protocol.specs.Desk.{Deed, ends_by, when, to_abort, to_prepare, vote_at}
 use Rattle.protocol.specs.Desk as desk
-use Rattle.protocol.specs.Parts.{In}
 use Rattle.desk.specs.declared.orders.Word.{Word}
 use Rattle.desk.specs.declared.orders.Word.TheVariants as word
 use Rattle.desk.specs.declared.spot.Spot.{Spot}
@@ -18,7 +17,7 @@ use Rattle.desk.specs.declared.undecided.Stage.TheVariants as stage
 use Rattle.desk.specs.declared.undecided.Undecided.{Undecided}
 use Rattle.desk.specs.Database.{Database, language, sent}
 use Rattle.desk.specs.Orders.{ending_word, letters_from, may_hold, order_at, order_of}
-use Rattle.desk.specs.Spots.{sites_of, spot_in}
+use Rattle.desk.specs.Spots.{spot_in}
 use Rattle.desk.specs.Standing.{stage_of, undecided_of}
 use Rattle.desk.specs.Turn.{AreSpots}
 use Rattle.desk.proofs.Spots.{at_home, letters_all, said}

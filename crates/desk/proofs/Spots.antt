@@ -1,7 +1,7 @@
 -- What is read of spots site by site, and the letters to their sites.
-use Rattle.std.proofs.Common.{◌≡◌, refl, sym, ap, ◌∙◌, subst, ℕ, nat_eq, Bool, true, false, not, ◌&&◌, ◌||◌, List, [], ◌∷◌, map, Option, Some, None, if◌then◌else◌, inl, inr, ⊎_elim, unwrap_or, is_some}
+use Rattle.std.proofs.Common.{◌≡◌, refl, sym, ap, ◌∙◌, subst, ℕ, nat_eq, Bool, true, false, List, [], ◌∷◌, map, Option, Some, None, if◌then◌else◌, inl, inr, ⊎_elim}
 use Rattle.std.specs.Cmp.Lexicographic.{pointwise}
-use Rattle.std.specs.List.{AllByRecursion, cons_option, filter_map, find, list_all, list_any}
+use Rattle.std.specs.List.{AllByRecursion, cons_option}
 use Rattle.std.specs.Option.{option_map}
 use Rattle.std.proofs.lemmas.Slice.Eq.{bytes_eq-Decides}
 use Rattle.reader.specs.Printable.{AreDistinct}
@@ -12,12 +12,12 @@ use Rattle.protocol.specs.Letter as protocol
 use Rattle.protocol.specs.Letters.{order_body, txn_name}
 use Rattle.protocol.specs.Parts.{In}
 use Rattle.protocol.specs.Statements.{body_with}
-use Rattle.protocol.proofs.Basics.{if_true, if_false, clash, either, every_self}
+use Rattle.protocol.proofs.Basics.{if_true}
 use Rattle.desk.specs.declared.orders.Word.{Word}
 use Rattle.desk.specs.declared.spot.Spot.{Spot}
 use Rattle.desk.specs.Database.{Database, language, sent, statements}
 use Rattle.desk.specs.Orders.{letters_from, order_at, ordered}
-use Rattle.desk.specs.Spots.{changed_at, is_at, nowhere, sites_of, spot_in}
+use Rattle.desk.specs.Spots.{is_at, sites_of, spot_in}
 
 pub text_is : (a b : List ℕ) → pointwise nat_eq a b ≡ true → a ≡ b
 text_is a b e = (bytes_eq-Decides a b).0 e

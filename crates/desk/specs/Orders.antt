@@ -1,8 +1,7 @@
 -- What is said to each site.
-use Rattle.std.specs.Prelude.{ℕ, Bool, true, false, ◌&&◌, ◌||◌, not, List, Option, Some, None, if◌then◌else◌}
+use Rattle.std.specs.Prelude.{ℕ, Bool, true, false, ◌&&◌, List, Option, Some, None, if◌then◌else◌}
 use Rattle.std.specs.List.{filter_map}
 use Rattle.std.specs.Option.{option_map}
-use Rattle.store.specs.declared.commit.Voter.{Voter}
 use Rattle.store.specs.declared.letter.Body.TheVariants as body
 use Rattle.store.specs.declared.letter.Letter.{Letter}
 use Rattle.store.specs.declared.name.Ticket.{Ticket}

@@ -1,5 +1,5 @@
 -- What a transaction has to do with each site.
-use Rattle.std.specs.Prelude.{ℕ, nat_eq, Bool, true, false, ◌&&◌, ◌||◌, not, List, [], ◌∷◌, map, Option, Some, None, is_some, if◌then◌else◌}
+use Rattle.std.specs.Prelude.{ℕ, nat_eq, Bool, false, ◌||◌, not, List, [], ◌∷◌, map, Option, None, is_some, if◌then◌else◌}
 use Rattle.std.specs.Cmp.Lexicographic.{pointwise}
 use Rattle.store.specs.declared.reply.Vote.{Vote}
 use Rattle.store.specs.declared.name.Ticket.{Ticket}

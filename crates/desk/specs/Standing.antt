@@ -1,5 +1,5 @@
 -- What stands behind transactions, as the protocol has it.
-use Rattle.std.specs.Prelude.{ℕ, Bool, List, [], ◌∷◌, map, Option, Some, None}
+use Rattle.std.specs.Prelude.{ℕ, List, map, Option, Some, None}
 use Rattle.std.specs.Option.{option_map}
 use Rattle.terms.specs.declared.write.Write.{Write}
 use Rattle.store.specs.declared.commit.Voter.{Voter}

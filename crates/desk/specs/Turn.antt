@@ -1,5 +1,5 @@
 -- What a step makes of a transaction, as the protocol has it.
-use Rattle.std.specs.Prelude.{◌≡◌, ℕ, List, [], ◌∷◌, map, Option, Some, None}
+use Rattle.std.specs.Prelude.{◌≡◌, List, [], ◌∷◌, map, Option, Some, None}
 use Rattle.std.specs.List.{filter_map}
 use Rattle.reader.specs.Printable.{AreDistinct}
 use Rattle.store.specs.declared.name.Txn.{Txn}

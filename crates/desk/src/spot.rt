@@ -61,7 +61,9 @@ pub(crate) fn find_spot<'a>(spots: &'a [Spot], site: &Text) -> Option<&'a Spot>
 pub(crate) fn are_all_in(spots: &[Spot]) -> bool
     ensures { result ≡ list_all is_in spots.now }
 {
-    spots.iter().all(|spot| !spot.visited || spot.vote.is_some())
+    spots
+        .iter()
+        .all(|spot| !spot.visited || spot.vote.is_some())
 }
 
 /// A spot, with the vote counted if it is that of the site.

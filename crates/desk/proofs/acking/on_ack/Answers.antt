@@ -1,5 +1,5 @@
 -- Why `on_ack` meets its contract.
-use Rattle.std.proofs.Common.{◌≡◌, Some, map, refl, sym, ap, ◌∙◌}
+use Rattle.std.proofs.Common.{Some, map, refl, sym, ap, ◌∙◌}
 use Rattle.desk.specs.declared.standing.Standing.TheVariants as standing
 use Rattle.desk.specs.Database.{sent}
 use Rattle.desk.proofs.Acknowledged.{old_ack, one_ack, last_ack, lost_ack}

@@ -1,5 +1,5 @@
 -- Why `ends` meets its contract.
-use Rattle.std.proofs.Common.{◌≡◌, refl, sym, ap, ◌∙◌, map, []}
+use Rattle.std.proofs.Common.{refl, sym, ap, ◌∙◌, map, []}
 use Rattle.std.specs.List.{cons_option}
 use Rattle.desk.specs.Database.{sent}
 use Rattle.desk.specs.Orders.{letters_from}

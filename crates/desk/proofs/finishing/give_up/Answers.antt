@@ -1,5 +1,5 @@
 -- Why `give_up` meets its contract.
-use Rattle.std.proofs.Common.{◌≡◌, Some, refl}
+use Rattle.std.proofs.Common.{Some, refl}
 use Rattle.protocol.specs.Desk.{Aborted, Given_up}
 use Rattle.protocol.specs.Letters.{txn_name}
 use Rattle.desk.specs.declared.standing.Standing.TheVariants as standing

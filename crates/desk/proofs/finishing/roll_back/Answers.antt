@@ -1,5 +1,5 @@
 -- Why `roll_back` meets its contract.
-use Rattle.std.proofs.Common.{◌≡◌, Some, refl, sym, ◌∙◌}
+use Rattle.std.proofs.Common.{Some, refl, sym, ◌∙◌}
 use Rattle.protocol.specs.Desk.{Rolled_back}
 use Rattle.protocol.specs.Letters.{txn_name}
 use Rattle.desk.specs.declared.standing.Standing.TheVariants as standing

@@ -1,5 +1,5 @@
 -- What each round of `orders::letters_from` keeps.
-use Rattle.std.proofs.Common.{◌≡◌, ◌++◌, map, drop, Some, None}
+use Rattle.std.proofs.Common.{◌≡◌, ◌++◌, drop}
 use Rattle.desk.specs.Orders.{letters_from}
 use Rattle.desk.proofs.orders.letters_from.Given as goal
 

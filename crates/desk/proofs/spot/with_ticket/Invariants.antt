@@ -1,5 +1,5 @@
 -- What each round of `spot::with_ticket` keeps.
-use Rattle.std.proofs.Common.{◌≡◌, ◌++◌, map, drop, Some, None}
+use Rattle.std.proofs.Common.{◌≡◌, ◌++◌, map, drop, Some}
 use Rattle.desk.specs.Spots.{changed_at, with_ticket}
 use Rattle.desk.proofs.spot.with_ticket.Given as goal
 

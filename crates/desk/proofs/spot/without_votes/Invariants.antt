@@ -1,5 +1,5 @@
 -- What each round of `spot::without_votes` keeps.
-use Rattle.std.proofs.Common.{◌≡◌, ◌++◌, map, drop, Some, None}
+use Rattle.std.proofs.Common.{◌≡◌, ◌++◌, map, drop, None}
 use Rattle.desk.specs.Spots.{with_vote}
 use Rattle.desk.proofs.spot.without_votes.Given as goal
 

@@ -1,5 +1,5 @@
 -- Why `decides` meets its contract.
-use Rattle.std.proofs.Common.{◌≡◌, Some, map, refl, sym, ap, ◌∙◌, subst}
+use Rattle.std.proofs.Common.{map, refl, sym, ap, ◌∙◌, subst}
 use Rattle.store.specs.DeskContent.{AreVoters}
 use Rattle.protocol.specs.Desk.{Row}
 use Rattle.desk.specs.Database.{sent}

@@ -1,13 +1,12 @@
 -- Why `votes_go` meets its contract.
-use Rattle.std.proofs.Common.{◌≡◌, ◌==◌, ◌<◌, length, map, None, Some, [], refl, sym, ap, ◌∙◌, subst, true, false, arith}
+use Rattle.std.proofs.Common.{◌==◌, length, None, Some, [], sym, ap, ◌∙◌, subst}
 use Rattle.std.specs.List.{list_all}
-use Rattle.protocol.specs.Desk.{decides, stays}
+use Rattle.protocol.specs.Desk.{stays}
 use Rattle.protocol.specs.Letters.{txn_name}
 use Rattle.desk.specs.declared.standing.Standing.TheVariants as standing
-use Rattle.desk.specs.Database.{language}
 use Rattle.desk.specs.Spots.{is_in}
-use Rattle.desk.specs.Standing.{txn_of, undecided_of, voter_of}
-use Rattle.desk.specs.Turn.{AreSpots, after_of, voting}
+use Rattle.desk.specs.Standing.{txn_of}
+use Rattle.desk.specs.Turn.{AreSpots, after_of}
 use Rattle.desk.specs.Voters.{Keeps, kept_voters, voters_among}
 use Rattle.desk.proofs.Acknowledged.{keeps_same, turn_as, unchanged}
 use Rattle.desk.proofs.Decisions.{are_voters, decided_is, nobody, somebody, votes_decide, votes_wait}
