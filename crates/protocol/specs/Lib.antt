@@ -1,5 +1,7 @@
 pub mod Language
 pub mod Letter
+pub mod Local
+pub mod Letters
 pub mod Site
 pub mod Desk
 pub mod World

@@ -1,0 +1,56 @@
+-- What stands behind transactions, as the protocol has it.
+use Rattle.std.specs.Prelude.{ℕ, List, map, Option, Some, None}
+use Rattle.std.specs.Option.{option_map}
+use Rattle.terms.specs.declared.write.Write.{Write}
+use Rattle.store.specs.declared.commit.Voter.{Voter}
+use Rattle.protocol.specs.Desk as protocol
+use Rattle.protocol.specs.Language.{Name}
+use Rattle.protocol.specs.Letters.{name_of, vote_of, leaf_of, at_key}
+use Rattle.protocol.specs.Local.{AtKey}
+use Rattle.desk.specs.declared.ask.Ask.{Ask}
+use Rattle.desk.specs.declared.undecided.Stage.{Stage}
+use Rattle.desk.specs.declared.undecided.Stage.TheVariants as stage
+use Rattle.desk.specs.declared.undecided.Undecided.{Undecided}
+use Rattle.desk.specs.declared.spot.Spot.{Spot}
+use Rattle.desk.specs.declared.standing.Standing.{Standing}
+use Rattle.desk.specs.declared.standing.Standing.TheVariants as standing
+use Rattle.desk.specs.Database.{Database, language}
+use Rattle.desk.specs.Spots.{spot_in}
+
+-- a fetch
+abbrev pub ask_of : (db : Database) → Ask → protocol.Ask (language db)
+ask_of db ask = record { leaf = ask.leaf; query = ask.conds; number = ask.number; rows = ask.rows }
+
+-- a write with its leaf
+abbrev pub at_leaf : Write → Rattle.terms.specs.declared.leaf.Leaf.Leaf × AtKey
+at_leaf write = (leaf_of write, at_key write)
+
+-- the votes that were counted
+abbrev pub votes_of : List Spot → List ℕ → Option Rattle.protocol.specs.Letter.Vote
+votes_of spots site = option_map vote_of (spot_in site spots).vote
+
+-- where a transaction stands
+abbrev pub stage_of : (db : Database) → List Spot → Stage → protocol.Stage (language db)
+stage_of db spots stage.Idle = protocol.Idle
+stage_of db spots (stage.Reading reading) = protocol.Reading reading.statement (map (ask_of db) reading.asks)
+stage_of db spots (stage.Writing writing) = protocol.Writing writing.answer (map at_leaf writing.unsent)
+stage_of db spots stage.Voting = protocol.Voting (votes_of spots)
+
+-- an undecided transaction
+abbrev pub undecided_of : (db : Database) → Undecided → protocol.Undecided (language db)
+undecided_of db undecided = record {
+  visited = λ site. (spot_in site undecided.spots).visited;
+  ticket = λ site. option_map name_of (spot_in site undecided.spots).ticket;
+  sent = λ site. (spot_in site undecided.spots).sent;
+  stage = stage_of db undecided.spots undecided.stage;
+}
+
+-- a voter
+abbrev pub voter_of : Voter → List ℕ × Name
+voter_of voter = (voter.site, name_of voter.ticket)
+
+-- what stands behind a transaction
+abbrev pub txn_of : (db : Database) → Option Standing → protocol.Txn (language db)
+txn_of db None = protocol.Unknown
+txn_of db (Some (standing.Undecided undecided)) = protocol.Known (undecided_of db undecided)
+txn_of db (Some (standing.Committed committed)) = protocol.Row (map voter_of committed.voters) (map voter_of committed.acked)

@@ -1,0 +1,69 @@
+-- What a step makes of a transaction, as the protocol has it.
+use Rattle.std.specs.Prelude.{◌≡◌, List, [], ◌∷◌, map, Option, Some, None}
+use Rattle.std.specs.List.{filter_map}
+use Rattle.reader.specs.Printable.{AreDistinct}
+use Rattle.store.specs.declared.name.Txn.{Txn}
+use Rattle.protocol.specs.Desk as protocol
+use Rattle.protocol.specs.Language.{Name}
+use Rattle.protocol.specs.Letters.{txn_name}
+use Rattle.desk.specs.declared.reply.Reply.{Reply}
+use Rattle.desk.specs.declared.reply.Reply.TheVariants.{Begun, Answer, Committed, RolledBack, Aborted}
+use Rattle.desk.specs.declared.reply.Why as whys
+use Rattle.desk.specs.declared.reply.Why.TheVariants as why
+use Rattle.desk.specs.declared.spot.Spot.{Spot}
+use Rattle.desk.specs.declared.standing.Standing.{Standing}
+use Rattle.desk.specs.declared.turn.After as afters
+use Rattle.desk.specs.declared.turn.After.TheVariants.{Stays, Ends, Becomes}
+use Rattle.desk.specs.declared.turn.Turn.{Turn}
+use Rattle.desk.specs.declared.undecided.Stage.TheVariants as stage
+use Rattle.desk.specs.declared.undecided.Undecided.{Undecided}
+use Rattle.desk.specs.Database.{Database, language, sent}
+use Rattle.desk.specs.Spots.{sites_of}
+use Rattle.desk.specs.Standing.{txn_of}
+
+-- the spots of a transaction are the sites of the database, each once
+pub record AreSpots (db : Database) (spots : List Spot) : Type 0 where
+  pub sites : sites_of spots ≡ db.sites
+  pub distinct : AreDistinct (sites_of spots)
+
+-- why a transaction aborted
+abbrev pub why_of : protocol.Why → whys.Why
+why_of protocol.By_vote = why.Vote
+why_of protocol.By_refusal = why.Refused
+why_of protocol.Given_up = why.GivenUp
+why_of protocol.By_restart = why.Restart
+why_of protocol.By_store = why.Store
+
+-- what a client hears of a deed
+abbrev pub told : {db : Database} → protocol.Deed (language db) → Option (Name × Reply)
+told (protocol.Began t) = Some (t, Begun)
+told (protocol.Answered t answer) = Some (t, Answer answer)
+told (protocol.Committed t) = Some (t, Committed)
+told (protocol.Aborted t reason) = Some (t, Aborted (why_of reason))
+told (protocol.Rolled_back t) = Some (t, RolledBack)
+told deed = None
+
+-- a reply to a transaction's client, if there is one
+abbrev pub told_to : Name → Option Reply → List (Name × Reply)
+told_to t None = []
+told_to t (Some reply) = (t, reply) ∷ []
+
+-- what stands behind a transaction after a step
+abbrev pub after_of : Option Standing → afters.After → Option Standing
+after_of old Stays = old
+after_of old Ends = None
+after_of old (Becomes standing) = Some standing
+
+-- the step is the protocol's
+pub record IsTurn (db : Database) (txn : Txn) (old : Option Standing) (turn : Turn) (wanted : protocol.Turn (language db)) : Type 0 where
+  pub stands : txn_of db (after_of old turn.after) ≡ wanted.txn
+  pub letters : map (sent db) turn.letters.items ≡ wanted.letters
+  pub replies : told_to (txn_name txn) turn.reply ≡ filter_map told wanted.deeds
+
+-- a transaction in its first phase
+abbrev pub voting : List Spot → Undecided
+voting spots = record { spots = spots; stage = stage.Voting }
+
+-- it is committed, and nobody is to be told
+abbrev pub commits_now : {db : Database} → Name → protocol.Turn (language db)
+commits_now t = record { txn = protocol.Unknown; letters = []; deeds = protocol.Committed t ∷ [] }

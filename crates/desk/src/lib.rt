@@ -1,0 +1,19 @@
+//! The coordinator's machine: transactions from their beginning to their end, over any store.
+//!
+//! Stands on `terms`, `meaning`, `reader`, `store` and `protocol`. So far there is no public call: the steps of
+//! one transaction, each the protocol's turn (`IsTurn`), of which the machine is to be made.
+#![tactic(auto)]
+
+mod acking;
+mod ask;
+mod ending;
+mod finishing;
+mod orders;
+pub mod reply;
+mod spot;
+mod standing;
+mod strange;
+mod turn;
+mod undecided;
+mod voters;
+mod voting;

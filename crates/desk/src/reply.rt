@@ -1,0 +1,29 @@
+//! What the coordinator tells its clients.
+
+use meaning::answer::Answer;
+
+/// Why a transaction aborted.
+#[derive(Clone, Copy, Debug, PartialEq, Eq)]
+pub enum Why {
+    /// A site voted NO.
+    Vote,
+    /// A site refused an operation.
+    Refused,
+    /// It was given up.
+    GivenUp,
+    /// The coordinator restarted before it was decided.
+    Restart,
+    /// The commit row could not be kept.
+    Store,
+}
+
+/// What a client hears of its transaction.
+#[derive(Debug, Drop)]
+pub enum Reply {
+    Begun,
+    /// What its statement answers.
+    Answer(Answer),
+    Committed,
+    RolledBack,
+    Aborted(Why),
+}
