@@ -1,6 +1,5 @@
 -- Letters and names as the protocol has them.
-use Rattle.std.specs.Prelude.{ℕ, ℤ, List, [], ◌∷◌, map, Option, Some, None, Bool, true, false, not}
-use Rattle.std.specs.List.{list_any}
+use Rattle.std.specs.Prelude.{ℕ, List, [], ◌∷◌, Option, Some, None, Bool, true, false, not}
 use Rattle.terms.specs.declared.leaf.Leaf.{Leaf}
 use Rattle.terms.specs.declared.write.Write.{Write}
 use Rattle.terms.specs.declared.write.Write.TheVariants as writes

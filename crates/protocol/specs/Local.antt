@@ -1,5 +1,5 @@
 -- The language of one site's machine: leaves, parts, conditions and changes as stores have them. It has no statements: a site knows of none.
-use Rattle.std.specs.Prelude.{ℕ, ℤ, Bool, true, List, [], Option, Some, None, is_none, ◌&&◌, nat_le, nat_eq}
+use Rattle.std.specs.Prelude.{ℕ, ℤ, Bool, true, List, [], Option, is_none, ◌&&◌, nat_le, nat_eq}
 use Rattle.std.specs.Cmp.Lexicographic.{pointwise}
 use Rattle.std.specs.FinMap as map
 use Rattle.std.specs.Ordering.{is_eq}

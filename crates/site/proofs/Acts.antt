@@ -29,8 +29,8 @@ use Rattle.site.specs.declared.locks.Locks as locks
 use Rattle.site.specs.declared.standing.Standing as standings
 use Rattle.site.specs.declared.standing.Standing.TheVariants as standing
 use Rattle.site.specs.declared.standing.Visit as visits
-use Rattle.site.specs.Local.{local, AtKey}
-use Rattle.site.specs.Letters.{name_of, said_by, reason_of}
+use Rattle.protocol.specs.Local.{local, AtKey}
+use Rattle.protocol.specs.Letters.{name_of, said_by, reason_of}
 use Rattle.site.specs.Locks.{reads, writes, is_writer, is_other, is_foreign, locks_in, place_in, with_reader, with_writer, stops}
 use Rattle.site.specs.State.{Table, Fits, Steps, table_from, state_of, stands, visiting, is_visit, txn_in}
 use Rattle.site.specs.Moves.{next_of, stood, locked, opened, gone}

@@ -18,8 +18,8 @@ use Rattle.site.specs.declared.fault.SiteFault.{SiteFault}
 use Rattle.site.specs.declared.fault.SiteFault.TheVariants as faults
 use Rattle.site.specs.declared.locks.Locks.{Locks}
 use Rattle.site.specs.declared.standing.Standing as standings
-use Rattle.site.specs.Letters.{name_of, ticket_of}
-use Rattle.site.specs.Local.{local}
+use Rattle.protocol.specs.Letters.{name_of, ticket_of}
+use Rattle.protocol.specs.Local.{local}
 use Rattle.site.specs.Locks.{free}
 use Rattle.site.specs.Starting.{Begins, granted, stood_by, all_may_stand, resting}
 use Rattle.site.specs.State.{Table, table_from, stands, visiting, is_visit, txn_in}

@@ -12,8 +12,8 @@ use Rattle.protocol.specs.Site.{SiteState, Status, Dead, Alive, Prepared, Ends, 
 use Rattle.protocol.specs.Site as acts
 use Rattle.protocol.proofs.Basics.{if_true, if_false}
 use Rattle.site.specs.declared.standing.Standing.TheVariants as standing
-use Rattle.site.specs.Local.{local}
-use Rattle.site.specs.Letters.{name_of, ticket_of, txn_name}
+use Rattle.protocol.specs.Local.{local}
+use Rattle.protocol.specs.Letters.{name_of, ticket_of, txn_name}
 use Rattle.site.specs.Locks.{stops, stops_reading}
 use Rattle.site.specs.State.{Table, Fits, state_of, stands, visiting}
 use Rattle.site.specs.Moves.{gone, prepared}

@@ -18,7 +18,7 @@ use Rattle.store.proofs.Scans.{and_left, and_right, find_below}
 use Rattle.protocol.proofs.Basics.{or_none_left, or_none_right, if_false}
 use Rattle.store.specs.declared.reply.Reply.{Reply}
 use Rattle.protocol.specs.Site.{Act}
-use Rattle.site.specs.Local.{local}
+use Rattle.protocol.specs.Local.{local}
 use Rattle.site.specs.Rows.{stored}
 use Rattle.site.specs.State.{Table, Steps}
 use Rattle.site.proofs.Tickets.{is_equal}

@@ -26,8 +26,8 @@ use Rattle.site.specs.declared.standing.Standing as standings
 use Rattle.site.specs.declared.standing.Standing.TheVariants as standing
 use Rattle.site.specs.declared.standing.Visit as visits
 use Rattle.site.specs.declared.turn.Ballot.TheVariants as ballots
-use Rattle.site.specs.Letters.{name_of, txn_name, said_by, vote_of, kept_by}
-use Rattle.site.specs.Local.{local}
+use Rattle.protocol.specs.Letters.{name_of, txn_name, said_by, vote_of, kept_by}
+use Rattle.protocol.specs.Local.{local}
 use Rattle.site.specs.Locks.{stops, stops_reading}
 use Rattle.site.specs.Moves.{gone, prepared}
 use Rattle.site.specs.State.{Table, Fits, Steps, table_from, state_of, stands, is_visit, is_row, txn_in}

@@ -21,8 +21,8 @@ use Rattle.site.specs.declared.locks.Locks.{Locks}
 use Rattle.site.specs.declared.standing.Standing as standings
 use Rattle.site.specs.declared.standing.Standing.TheVariants as standing
 use Rattle.site.specs.Inquiries.{inquiries_of, with_inquiry}
-use Rattle.site.specs.Letters.{letter_of, name_of, txn_name}
-use Rattle.site.specs.Local.{local}
+use Rattle.protocol.specs.Letters.{letter_of, name_of, txn_name}
+use Rattle.protocol.specs.Local.{local}
 use Rattle.site.specs.State.{Table, Fits, state_of, stands, visiting, table_from, txn_in}
 use Rattle.site.proofs.Listed.{row_none}
 use Rattle.site.proofs.Tables.{Entries, at_ticket}

@@ -16,7 +16,7 @@ use Rattle.store.specs.Content.{Content, Changes, changed, is_of, set_at, touche
 use Rattle.store.specs.Laws.{NothingChanges, OneChangeMore, OneTouchMore}
 use Rattle.protocol.specs.Language.{IsLawful, written}
 use Rattle.protocol.specs.Statements.{Statements, with_statements}
-use Rattle.site.specs.Local.{local, AtKey}
+use Rattle.protocol.specs.Local.{local, AtKey}
 use Rattle.site.proofs.Tickets.{leaf_is, leaf_self, leaf_sym}
 
 bytes_same : (a b : List ℕ) → (pointwise nat_eq a b ≡ true) ↔ (a ≡ b)

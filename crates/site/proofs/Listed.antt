@@ -13,8 +13,8 @@ use Rattle.protocol.proofs.Basics.{any_in, found, or_cases, or_left, or_right, l
 use Rattle.site.specs.declared.locks.Locks.{Locks}
 use Rattle.site.specs.declared.standing.Standing as standings
 use Rattle.site.specs.declared.standing.Standing.TheVariants as standing
-use Rattle.site.specs.Local.{local}
-use Rattle.site.specs.Letters.{name_of, ticket_of}
+use Rattle.protocol.specs.Local.{local}
+use Rattle.protocol.specs.Letters.{name_of, ticket_of}
 use Rattle.site.specs.Locks.{reads, writes, is_writer, is_other, others_write, others_have}
 use Rattle.site.specs.State.{Table, Fits, state_of, stands, visiting, is_visit, txn_in}
 use Rattle.site.proofs.Tickets.{same_bool, same_is, ticket_is, ticket_self, ticket_sym}

@@ -16,7 +16,7 @@ use Rattle.protocol.proofs.Basics.{any_in, found, in_filter}
 use Rattle.protocol.proofs.Locks.{from_filter}
 use Rattle.site.specs.declared.standing.Standing as standings
 use Rattle.site.specs.declared.standing.Standing.TheVariants as standing
-use Rattle.site.specs.Letters.{name_of, ticket_of}
+use Rattle.protocol.specs.Letters.{name_of, ticket_of}
 use Rattle.site.specs.Starting.{Begins, Restarts, resting}
 use Rattle.site.specs.State.{Table, Fits, stands, visiting}
 use Rattle.site.proofs.Listed.{filter_names, listed_alive, lives_listed}

@@ -15,8 +15,8 @@ use Rattle.protocol.proofs.Basics.{if_true, if_false, clash}
 use Rattle.site.specs.declared.locks.Locks as locks
 use Rattle.site.specs.declared.standing.Standing as standings
 use Rattle.site.specs.declared.standing.Standing.TheVariants as standing
-use Rattle.site.specs.Local.{local}
-use Rattle.site.specs.Letters.{name_of, ticket_of}
+use Rattle.protocol.specs.Local.{local}
+use Rattle.protocol.specs.Letters.{name_of, ticket_of}
 use Rattle.site.specs.Locks.{reads, is_foreign, others_have}
 use Rattle.site.specs.State.{Table, Fits, state_of, stands, visiting, is_visit, txn_in}
 use Rattle.site.specs.Moves.{next_of, stood, locked, opened}

@@ -11,7 +11,7 @@ use Rattle.store.specs.SiteContent.{is_ticket}
 use Rattle.store.specs.Orders.{ticket_cmp_total, ticket_cmp-IsAntisymmetric, leaf_cmp_total, leaf_cmp-IsAntisymmetric}
 use Rattle.protocol.specs.Language.{same}
 use Rattle.protocol.proofs.Basics.{same_law}
-use Rattle.site.specs.Letters.{name_of, ticket_of}
+use Rattle.protocol.specs.Letters.{name_of, ticket_of}
 
 -- tests that follow from each other are the same
 pub same_bool : (a b : Bool) → (a ≡ true → b ≡ true) → (b ≡ true → a ≡ true) → a ≡ b

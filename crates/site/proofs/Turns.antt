@@ -22,8 +22,8 @@ use Rattle.site.specs.declared.standing.Standing.TheVariants as standing
 use Rattle.site.specs.declared.standing.Visit as visits
 use Rattle.site.specs.declared.turn.Turn.TheVariants.{Pass, Gone, Refuse, Go}
 use Rattle.site.specs.declared.turn.Turn.{Turn}
-use Rattle.site.specs.Letters.{name_of, reason_of}
-use Rattle.site.specs.Local.{local, AtKey, is_full}
+use Rattle.protocol.specs.Letters.{name_of, reason_of}
+use Rattle.protocol.specs.Local.{local, AtKey, is_full}
 use Rattle.site.specs.Locks.{reads, is_foreign, others_write}
 use Rattle.site.specs.State.{Table, Fits, state_of, stands, visiting, is_visit, txn_in}
 use Rattle.site.specs.Turn.{read_turn, write_turn}

@@ -1,8 +1,6 @@
 -- A site's machine over its store, in reading order.
 pub mod Fault
-pub mod Local
 pub mod Locks
-pub mod Letters
 pub mod Standing
 pub mod Turn
 pub mod Rows

@@ -5,7 +5,7 @@ use Rattle.store.specs.declared.letter.Body.TheVariants as body
 use Rattle.store.specs.declared.order.Order as orders
 use Rattle.store.specs.declared.order.Order.TheVariants.{Open, Fetch, Intend, Prepare, Commit, Abort}
 use Rattle.site.specs.declared.locks.Locks.{Locks}
-use Rattle.site.specs.Letters.{leaf_of}
+use Rattle.protocol.specs.Letters.{leaf_of}
 use Rattle.site.specs.Locks.{place_in}
 
 -- an operation on a leaf that isn't one of these

@@ -6,7 +6,7 @@ use Rattle.store.specs.Slot.{slot_of}
 use Rattle.store.specs.Content.{Changes}
 use Rattle.site.specs.declared.standing.Standing.{Standing}
 use Rattle.site.specs.declared.standing.Standing.TheVariants.{Alive, Prepared}
-use Rattle.site.specs.Letters.{leaf_of, at_key}
+use Rattle.protocol.specs.Letters.{leaf_of, at_key}
 
 -- one intention more, the last
 abbrev pub with_change : Write → Changes → Changes

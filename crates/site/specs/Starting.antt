@@ -15,8 +15,8 @@ use Rattle.protocol.specs.Site.{SiteState, Status, Dead, Prepared, site_restarte
 use Rattle.site.specs.declared.locks.Locks.{Locks}
 use Rattle.site.specs.declared.standing.Standing as standings
 use Rattle.site.specs.declared.standing.Standing.TheVariants as standing
-use Rattle.site.specs.Letters.{name_of, ticket_of, txn_name}
-use Rattle.site.specs.Local.{local}
+use Rattle.protocol.specs.Letters.{name_of, ticket_of, txn_name}
+use Rattle.protocol.specs.Local.{local}
 use Rattle.site.specs.Locks.{free, with_writer}
 use Rattle.site.specs.State.{Table, Fits, state_of}
 

@@ -20,8 +20,8 @@ use Rattle.site.specs.declared.locks.Locks.{Locks}
 use Rattle.site.specs.declared.present.Present.{Present}
 use Rattle.site.specs.declared.standing.Standing as standings
 use Rattle.site.specs.declared.standing.Standing.TheVariants as standing
-use Rattle.site.specs.Local.{local}
-use Rattle.site.specs.Letters.{name_of, ticket_of, txn_name, said_by, body_of, letter_of, kept_in}
+use Rattle.protocol.specs.Local.{local}
+use Rattle.protocol.specs.Letters.{name_of, ticket_of, txn_name, said_by, body_of, letter_of, kept_in}
 use Rattle.site.specs.Locks.{reads, writes, is_foreign, locks_in}
 
 -- what is in memory, read ticket by ticket and leaf by leaf

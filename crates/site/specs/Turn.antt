@@ -12,7 +12,7 @@ use Rattle.site.specs.declared.standing.Standing.{Standing}
 use Rattle.site.specs.declared.standing.Standing.TheVariants.{Alive, Prepared}
 use Rattle.site.specs.declared.turn.Turn.{Turn}
 use Rattle.site.specs.declared.turn.Turn.TheVariants.{Pass, Gone, Refuse, Go}
-use Rattle.site.specs.Local.{AtKey, is_full}
+use Rattle.protocol.specs.Local.{AtKey, is_full}
 use Rattle.site.specs.Locks.{others_write, is_foreign}
 
 -- one that reads the leaf of these locks

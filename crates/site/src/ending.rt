@@ -10,7 +10,7 @@ ghost use Rattle.protocol.specs.Letter as protocol;
 ghost use Rattle.protocol.specs.Site.{Prepares, Ends, on_prepare, on_commit, on_abort, on_give_up};
 ghost use Rattle.site.specs.declared.standing.Standing.TheVariants as standing;
 ghost use Rattle.site.specs.declared.standing.Visit.{Visit as Visited};
-ghost use Rattle.site.specs.Letters.{name_of, txn_name, kept_by};
+ghost use Rattle.protocol.specs.Letters.{name_of, txn_name, kept_by};
 ghost use Rattle.site.specs.State.{Fits, Steps, state_of, table_of};
 
 use crate::fault::{SiteFault, site_fault};

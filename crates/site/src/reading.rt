@@ -6,7 +6,7 @@ ghost use Rattle.store.specs.declared.fault.StoreFault.TheVariants as store_faul
 ghost use Rattle.site.specs.declared.fault.SiteFault.TheVariants as faults;
 ghost use Rattle.store.specs.SiteContent.{IsUnchanged};
 ghost use Rattle.protocol.specs.Site.{on_fetch};
-ghost use Rattle.site.specs.Letters.{name_of};
+ghost use Rattle.protocol.specs.Letters.{name_of};
 ghost use Rattle.site.specs.Locks.{place_in};
 ghost use Rattle.site.specs.State.{Fits, Steps, state_of, table_of};
 

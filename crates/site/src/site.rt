@@ -7,7 +7,7 @@ ghost use Rattle.site.specs.declared.fault.SiteFault.TheVariants as faults;
 ghost use Rattle.std.specs.Vec.{vec_capacity};
 ghost use Rattle.protocol.specs.Site.{on_letter, on_give_up, inquiries};
 ghost use Rattle.store.specs.SiteContent.{IsUnchanged, BeginsLife, Lists};
-ghost use Rattle.site.specs.Letters.{name_of, letter_of, order_body, txn_name, kept_by, letters_of};
+ghost use Rattle.protocol.specs.Letters.{name_of, letter_of, order_body, txn_name, kept_by, letters_of};
 ghost use Rattle.site.specs.Refusals.{IsElsewhere, IsTooMuch, AsksElsewhere, AsksTooMuch};
 ghost use Rattle.site.specs.Starting.{Begins, Restarts, IsStrange, leaves_in};
 ghost use Rattle.site.specs.State.{Fits, Steps, Takes, state_of, table_of};

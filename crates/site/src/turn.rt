@@ -7,8 +7,8 @@ ghost use Rattle.site.specs.Locks.{place_in};
 ghost use Rattle.site.specs.State.{table_of};
 ghost use Rattle.std.specs.Option.{option_copied};
 ghost use Rattle.store.specs.Slot.{slot_of};
-ghost use Rattle.site.specs.Letters.{leaf_of, at_key};
-ghost use Rattle.site.specs.Local.{is_full};
+ghost use Rattle.protocol.specs.Letters.{leaf_of, at_key};
+ghost use Rattle.protocol.specs.Local.{is_full};
 ghost use Rattle.site.specs.Turn.{ballot, read_turn, write_turn};
 
 use crate::fault::SiteFault;

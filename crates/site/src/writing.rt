@@ -6,7 +6,7 @@ ghost use Rattle.store.specs.SiteContent.{SiteContent};
 ghost use Rattle.store.specs.declared.reply.Reply.TheVariants as replies;
 ghost use Rattle.protocol.specs.Site.{Opens, on_write};
 ghost use Rattle.site.specs.declared.fault.SiteFault.TheVariants as faults;
-ghost use Rattle.site.specs.Letters.{name_of, leaf_of, at_key};
+ghost use Rattle.protocol.specs.Letters.{name_of, leaf_of, at_key};
 ghost use Rattle.site.specs.Locks.{place_in};
 ghost use Rattle.site.specs.State.{Fits, Steps, state_of, table_of};
 

@@ -2,8 +2,8 @@
 use Rattle.std.proofs.Common.{Option, refl, sym, ap, ◌∙◌}
 use Rattle.store.specs.declared.reply.Reply.{Reply}
 use Rattle.protocol.specs.Site.{Act, Ends}
-use Rattle.site.specs.Letters.{kept_by, name_of, said_by}
-use Rattle.site.specs.Local.{local}
+use Rattle.protocol.specs.Letters.{kept_by, name_of, said_by}
+use Rattle.protocol.specs.Local.{local}
 use Rattle.site.specs.State.{table_of}
 use Rattle.site.proofs.Acts.{steps_at}
 use Rattle.site.proofs.Finals.{visit_ends, prepare_ends, act_kept}

@@ -8,8 +8,8 @@ use Rattle.protocol.specs.Language.{put}
 use Rattle.protocol.specs.Letter as protocol
 use Rattle.protocol.specs.Site.{Act, Locks}
 use Rattle.site.specs.declared.standing.Standing.TheVariants as standing
-use Rattle.site.specs.Letters.{name_of}
-use Rattle.site.specs.Local.{local}
+use Rattle.protocol.specs.Letters.{name_of}
+use Rattle.protocol.specs.Local.{local}
 use Rattle.site.specs.Locks.{locks_in}
 use Rattle.site.specs.State.{table_of, changes_of}
 use Rattle.site.proofs.Acts.{steps_at, refused_steps, reads_steps}

@@ -1,7 +1,7 @@
 -- Why `turn_to_write` meets its contract.
 use Rattle.std.proofs.Common.{◌<◌, length, ap, ◌∙◌, arith}
 use Rattle.std.specs.Option.{option_copied}
-use Rattle.site.specs.Letters.{leaf_of, at_key}
+use Rattle.protocol.specs.Letters.{leaf_of, at_key}
 use Rattle.site.specs.Locks.{locks_in}
 use Rattle.site.specs.Turn.{write_turn}
 use Rattle.site.proofs.Tables.{IsPlace, placed, got}

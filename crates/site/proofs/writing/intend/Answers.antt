@@ -1,7 +1,7 @@
 -- Why `intend` meets its contract.
 use Rattle.std.proofs.Common.{refl, sym, ◌∙◌}
 use Rattle.site.specs.declared.standing.Standing.TheVariants as standing
-use Rattle.site.specs.Letters.{leaf_of, at_key}
+use Rattle.protocol.specs.Letters.{leaf_of, at_key}
 use Rattle.site.specs.Locks.{locks_in}
 use Rattle.site.specs.State.{table_of}
 use Rattle.site.proofs.Acts.{steps_at, refused_steps, writes_steps}
