@@ -2,7 +2,8 @@
 //! proof of the serial law over every run (`proofs/`), for every language of statements over leaves. For one
 //! client alone it is followed letter by letter to its end.
 //!
-//! Stands on nothing but `std`. The crates above state their machines by these definitions and cite the
+//! Stands on `terms` and `store`, for the language of stores (`Local`) and the letters in it (`Letters`); the
+//! theory itself needs neither. The crates above state their machines by these definitions and cite the
 //! theorems at a language of their own; here each stands at a toy language, since a clause can't range
 //! over languages.
 //!
