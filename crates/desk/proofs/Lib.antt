@@ -7,3 +7,6 @@ pub mod Decisions
 pub mod Stages
 pub mod Counted
 pub mod Phases
+pub mod Txns
+pub mod Counts
+pub mod Settled
