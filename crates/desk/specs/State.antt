@@ -18,9 +18,8 @@ use Rattle.desk.specs.declared.standing.Standing.TheVariants as standing
 use Rattle.desk.specs.declared.turn.After.{After}
 use Rattle.desk.specs.declared.turn.After.TheVariants.{Stays, Ends, Becomes}
 use Rattle.desk.specs.Database.{Database, language, sent}
-use Rattle.desk.specs.Spots.{sites_of}
 use Rattle.desk.specs.Standing.{txn_of}
-use Rattle.desk.specs.Turn.{told}
+use Rattle.desk.specs.Turn.{HasSites, told}
 use Rattle.desk.specs.Voters.{kept_voters}
 
 -- what is in memory, read transaction by transaction
@@ -63,12 +62,6 @@ closes Ends = true
 closes (Becomes (standing.Undecided undecided)) = false
 closes (Becomes (standing.Committed committed)) = true
 
--- an undecided transaction has to do with these sites
-abbrev pub HasSites : List (List ℕ) → Option Standing → Type 0
-HasSites sites None = Unit
-HasSites sites (Some (standing.Undecided undecided)) = sites_of undecided.spots ≡ sites
-HasSites sites (Some (standing.Committed committed)) = Unit
-
 -- a transaction was begun in an earlier life, or in this one
 abbrev pub IsBegun : Table → Txn → Type 0
 IsBegun table txn = (txn.life < table.life) ⊎ ((txn.life ≡ table.life) × (txn.number ≤ table.number))
@@ -88,7 +81,7 @@ pub record Fits (db : Database) (kept : DeskContent) (table : Table) : Type 0 wh
   -- they were begun
   pub begun : (txn : Txn) → is_some (table.standing txn) ≡ true → IsBegun table txn
   -- each has to do with the sites of the database
-  pub sites : (txn : Txn) → HasSites db.sites (table.standing txn)
+  pub sites : (txn : Txn) (standing : Standing) → table.standing txn ≡ Some standing → HasSites db.sites standing
   -- so many are undecided
   pub counted : table.undecided ≡ open_among table.standing table.txns
   -- the limits are kept
