@@ -10,3 +10,5 @@ pub mod Phases
 pub mod Txns
 pub mod Counts
 pub mod Settled
+pub mod Limits
+pub mod Making

@@ -9,3 +9,4 @@ pub mod Turn
 pub mod Ballots
 pub mod State
 pub mod Begun
+pub mod Calls

@@ -7,9 +7,11 @@
 mod acking;
 mod ask;
 mod ballots;
+mod calls;
 mod committing;
 mod ending;
 mod finishing;
+mod made;
 mod orders;
 mod present;
 pub mod refusal;

@@ -1,0 +1,56 @@
+//! What clients ask of their transactions, statements aside.
+
+ghost use Rattle.std.specs.Prelude.{◌≡◌, ◌⊎◌, None, Some, true, is_some, IfOk, IfErr, OnOk, OnErr};
+ghost use Rattle.std.specs.Option.{option_copied, option_map};
+ghost use Rattle.reader.specs.Printable.{AreDistinct};
+ghost use Rattle.protocol.specs.Desk.{Choice, Commit_call, Give_up, Rollback, on_request, refusal};
+ghost use Rattle.protocol.specs.Letters.{txn_name};
+ghost use Rattle.store.specs.DeskContent.{DeskContent};
+ghost use Rattle.desk.specs.declared.refusal.Refusal.TheVariants as refusals;
+ghost use Rattle.desk.specs.Calls.{IsAt, open_in, refused_as, txn_in};
+ghost use Rattle.desk.specs.Database.{Database, language};
+ghost use Rattle.desk.specs.State.{Fits, Steps, table_of};
+ghost use Rattle.desk.specs.Turn.{AtSites, IsTurn, after_of};
+ghost use Rattle.desk.specs.Voters.{kept_voters};
+
+use crate::committing::{commit, is_idle};
+use crate::finishing::{give_up, is_voting, roll_back};
+use crate::made::{make, room};
+use crate::present::Present;
+use crate::refusal::Refusal;
+use crate::reply::Out;
+use crate::standing::Standing;
+use crate::turn::{Turn, stays};
+use crate::undecided::{Stage, Undecided};
+use store::name::Txn;
+use terms::memory::Memory;
+
+/// An undecided transaction.
+pub(crate) fn open<'a>(present: &'a Present, txn: &Txn) -> Option<&'a Undecided>
+    ensures { option_copied result ≡ open_in ((table_of present.now).standing txn.now) }
+{
+    match present.standing(txn) {
+        Some(Standing::Undecided(undecided)) => Some(undecided),
+        _ => None,
+    }
+}
+
+/// The step of a transaction whose commit is asked for.
+fn committing(present: &Present, txn: Txn) -> Result<Turn, Refusal>
+    ensures turn { (db : Database) (choice : Choice (language db)) → IsAt db ((table_of present.now).standing txn)
+        → IfOk result (λ turn. IsTurn db txn ((table_of present.now).standing txn) turn (on_request (txn_name txn) choice Commit_call (txn_in db (table_of present.now) txn))) }
+    ensures sites { (db : Database) → IsAt db ((table_of present.now).standing txn) → IfOk result (λ turn. AtSites db.sites turn.after) }
+    ensures keeps { IfOk result (λ turn. kept_voters (after_of ((table_of present.now).standing txn) turn.after) ≡ kept_voters ((table_of present.now).standing txn)) }
+    ensures stands { OnOk result (is_some ((table_of present.now).standing txn) ≡ true) }
+    ensures accepted { (db : Database) → OnOk result (refusal Commit_call (txn_in db (table_of present.now) txn) ≡ None) }
+    ensures told { (db : Database) → IfErr result (λ told. (told ≡ refusals.Memory) ⊎ (option_map refused_as (refusal Commit_call (txn_in db (table_of present.now) txn)) ≡ Some told)) }
+{
+    let Some(undecided) = open(present, &txn) else {
+        return Err(Refusal::NoTransaction);
+    };
+    match &undecided.stage {
+        Stage::Idle => Ok(commit(present.alloc, txn, undecided)?),
+        Stage::Voting => Err(Refusal::Ended),
+        _ => Err(Refusal::Busy),
+    }
+}
