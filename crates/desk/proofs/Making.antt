@@ -18,13 +18,16 @@ use Rattle.desk.specs.declared.standing.Standing.{Standing}
 use Rattle.desk.specs.declared.standing.Standing.TheVariants as standing
 use Rattle.desk.specs.declared.turn.After.TheVariants.{Stays}
 use Rattle.desk.specs.declared.turn.Turn.{Turn}
-use Rattle.desk.specs.Calls.{IsAt, notices}
+use Rattle.desk.specs.declared.undecided.Undecided.{Undecided}
+use Rattle.protocol.proofs.Basics.{some_is}
+use Rattle.desk.specs.Calls.{IsAt, notices, open_in}
 use Rattle.desk.specs.Database.{Database, language, sent}
 use Rattle.desk.specs.Standing.{txn_of}
 use Rattle.desk.specs.State.{Fits, Steps, Table, closes, desk_of, is_open, notice_of, settled, table_from, table_of, txn_at}
 use Rattle.desk.specs.Turn.{AreSpots, AtSites, HasSites, IsTurn, after_of, told_to}
 use Rattle.desk.specs.Voters.{Keeps, kept_voters}
-use Rattle.desk.proofs.Acknowledged.{txn_is}
+use Rattle.desk.proofs.Acknowledged.{keeps_same, txn_is, unchanged}
+use Rattle.desk.proofs.Limits.{shut_request}
 use Rattle.desk.proofs.Settled.{fits_after, is_within, open_is, state_is, unknown_is}
 use Rattle.desk.proofs.Txns.{Entries, at_txn, filter_all, filter_names, same_txn, txn_sym}
 
@@ -127,3 +130,32 @@ module _ (db : Database) (kept new : DeskContent) (present : Present) (sorted : 
       letters = ap (map (sent db)) letters ∙ is.letters;
       replies = ap (map notice_of) replies ∙ told_is k turn.reply ∙ is.replies;
     }
+
+-- ---- requests of clients, statements aside
+module _ (db : Database) (kept : DeskContent) (present : Present) (sorted : IsStrictlySortedBy txn_cmp (keys_of present.standings.entries)) (fits : Fits db kept (table_of present)) (distinct : AreDistinct db.sites)
+    (k : Txn) (choice : desk.Choice (language db)) (request : desk.Request (language db)) (turn : Turn) where
+  abbrev o : Option Standing
+  o = (table_of present).standing k
+
+  abbrev wanted : desk.Turn (language db)
+  wanted = desk.on_request (txn_name k) choice request (txn_of db o)
+
+  pub asks : (IsAt db o → IsTurn db k o turn wanted) → (IsAt db o → AtSites db.sites turn.after) → kept_voters (after_of o turn.after) ≡ kept_voters o → (desk.is_short_txn (txn_of db o) ≡ true → desk.is_short_txn wanted.txn ≡ true) →
+      (is_some o ≡ true) ⊎ (turn.after ≡ Stays) → (table : Table) → IsSettled db kept kept present sorted fits k turn table → (written : List Letter) (heard : List Notice) → written ≡ turn.letters.items → heard ≡ notices k turn.reply →
+      Steps db (table_of present) kept table k wanted written heard
+  asks is sites keeps short some table made written heard letters replies =
+      let at = is_at db kept (table_of present) distinct fits k in
+      makes db kept kept present sorted fits k turn wanted (is at) (sites at)
+      (keeps_same k (kept_voters (after_of o turn.after)) kept kept (sym (fits.rows k) ∙ sym keeps) (unchanged kept))
+      (short (fits.short k)) (shut_request (txn_name k) choice request (txn_of db o)) some table made written heard letters replies
+
+-- what isn't undecided isn't given up
+pub open_some : (o : Option Standing) (u : Undecided) → open_in o ≡ Some u → o ≡ Some (standing.Undecided u)
+open_some None u e = cc
+open_some (Some (standing.Undecided v)) u e = ap (λ x. Some (standing.Undecided x)) (some_is e)
+open_some (Some (standing.Committed c)) u e = cc
+
+pub not_given_up : (db : Database) (t : Name) (choice : desk.Choice (language db)) (o : Option Standing) → open_in o ≡ None → desk.on_request t choice desk.Give_up (txn_of db o) ≡ desk.stays (txn_of db o)
+not_given_up db t choice None e = refl
+not_given_up db t choice (Some (standing.Undecided u)) e = cc
+not_given_up db t choice (Some (standing.Committed c)) e = refl

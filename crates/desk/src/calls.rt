@@ -7,13 +7,14 @@ ghost use Rattle.protocol.specs.Desk.{Choice, Commit_call, Give_up, Rollback, on
 ghost use Rattle.protocol.specs.Letters.{txn_name};
 ghost use Rattle.store.specs.DeskContent.{DeskContent};
 ghost use Rattle.desk.specs.declared.refusal.Refusal.TheVariants as refusals;
+ghost use Rattle.desk.specs.declared.turn.After.TheVariants as after;
 ghost use Rattle.desk.specs.Calls.{IsAt, open_in, refused_as, txn_in};
 ghost use Rattle.desk.specs.Database.{Database, language};
 ghost use Rattle.desk.specs.State.{Fits, Steps, table_of};
 ghost use Rattle.desk.specs.Turn.{AtSites, IsTurn, after_of};
 ghost use Rattle.desk.specs.Voters.{kept_voters};
 
-use crate::committing::{commit, is_idle};
+use crate::committing::commit;
 use crate::finishing::{give_up, is_voting, roll_back};
 use crate::made::{make, room};
 use crate::present::Present;
@@ -23,7 +24,6 @@ use crate::standing::Standing;
 use crate::turn::{Turn, stays};
 use crate::undecided::{Stage, Undecided};
 use store::name::Txn;
-use terms::memory::Memory;
 
 /// An undecided transaction.
 pub(crate) fn open<'a>(present: &'a Present, txn: &Txn) -> Option<&'a Undecided>
@@ -41,7 +41,8 @@ fn committing(present: &Present, txn: Txn) -> Result<Turn, Refusal>
         → IfOk result (λ turn. IsTurn db txn ((table_of present.now).standing txn) turn (on_request (txn_name txn) choice Commit_call (txn_in db (table_of present.now) txn))) }
     ensures sites { (db : Database) → IsAt db ((table_of present.now).standing txn) → IfOk result (λ turn. AtSites db.sites turn.after) }
     ensures keeps { IfOk result (λ turn. kept_voters (after_of ((table_of present.now).standing txn) turn.after) ≡ kept_voters ((table_of present.now).standing txn)) }
-    ensures stands { OnOk result (is_some ((table_of present.now).standing txn) ≡ true) }
+    ensures kept { IfOk result (λ turn. turn.kept ≡ true) }
+    ensures stands { IfOk result (λ turn. (is_some ((table_of present.now).standing txn) ≡ true) ⊎ (turn.after ≡ after.Stays)) }
     ensures accepted { (db : Database) → OnOk result (refusal Commit_call (txn_in db (table_of present.now) txn) ≡ None) }
     ensures told { (db : Database) → IfErr result (λ told. (told ≡ refusals.Memory) ⊎ (option_map refused_as (refusal Commit_call (txn_in db (table_of present.now) txn)) ≡ Some told)) }
 {
@@ -53,4 +54,83 @@ fn committing(present: &Present, txn: Txn) -> Result<Turn, Refusal>
         Stage::Voting => Err(Refusal::Ended),
         _ => Err(Refusal::Busy),
     }
+}
+
+/// The step of a transaction that is rolled back.
+fn rolling_back(present: &Present, txn: Txn) -> Result<Turn, Refusal>
+    ensures turn { (db : Database) (choice : Choice (language db)) → IsAt db ((table_of present.now).standing txn)
+        → IfOk result (λ turn. IsTurn db txn ((table_of present.now).standing txn) turn (on_request (txn_name txn) choice Rollback (txn_in db (table_of present.now) txn))) }
+    ensures sites { (db : Database) → IsAt db ((table_of present.now).standing txn) → IfOk result (λ turn. AtSites db.sites turn.after) }
+    ensures keeps { IfOk result (λ turn. kept_voters (after_of ((table_of present.now).standing txn) turn.after) ≡ kept_voters ((table_of present.now).standing txn)) }
+    ensures kept { IfOk result (λ turn. turn.kept ≡ true) }
+    ensures stands { IfOk result (λ turn. (is_some ((table_of present.now).standing txn) ≡ true) ⊎ (turn.after ≡ after.Stays)) }
+    ensures accepted { (db : Database) → OnOk result (refusal Rollback (txn_in db (table_of present.now) txn) ≡ None) }
+    ensures told { (db : Database) → IfErr result (λ told. (told ≡ refusals.Memory) ⊎ (option_map refused_as (refusal Rollback (txn_in db (table_of present.now) txn)) ≡ Some told)) }
+{
+    let Some(undecided) = open(present, &txn) else {
+        return Err(Refusal::NoTransaction);
+    };
+    if is_voting(&undecided.stage) {
+        return Err(Refusal::Ended);
+    }
+    Ok(roll_back(present.alloc, txn, undecided)?)
+}
+
+/// The step of a transaction that is given up. One that isn't undecided stays as it is.
+fn giving_up(present: &Present, txn: Txn) -> Result<Turn, Refusal>
+    ensures turn { (db : Database) (choice : Choice (language db)) → IsAt db ((table_of present.now).standing txn)
+        → IfOk result (λ turn. IsTurn db txn ((table_of present.now).standing txn) turn (on_request (txn_name txn) choice Give_up (txn_in db (table_of present.now) txn))) }
+    ensures sites { (db : Database) → IsAt db ((table_of present.now).standing txn) → IfOk result (λ turn. AtSites db.sites turn.after) }
+    ensures keeps { IfOk result (λ turn. kept_voters (after_of ((table_of present.now).standing txn) turn.after) ≡ kept_voters ((table_of present.now).standing txn)) }
+    ensures kept { IfOk result (λ turn. turn.kept ≡ true) }
+    ensures stands { IfOk result (λ turn. (is_some ((table_of present.now).standing txn) ≡ true) ⊎ (turn.after ≡ after.Stays)) }
+    ensures accepted { (db : Database) → OnOk result (refusal Give_up (txn_in db (table_of present.now) txn) ≡ None) }
+    ensures told { (db : Database) → IfErr result (λ told. (told ≡ refusals.Memory) ⊎ (option_map refused_as (refusal Give_up (txn_in db (table_of present.now) txn)) ≡ Some told)) }
+{
+    match open(present, &txn) {
+        Some(undecided) => Ok(give_up(present.alloc, txn, undecided)?),
+        None => Ok(stays(present.alloc, true)),
+    }
+}
+
+/// The commit of a transaction is asked for.
+pub(crate) fn call_commit(present: &mut Present, txn: Txn) -> Result<Out, Refusal>
+    ensures ok { (db : Database) (choice : Choice (language db)) (kept : DeskContent) → AreDistinct db.sites → Fits db kept (table_of present.old)
+        → IfOk result (λ out. Steps db (table_of present.old) kept (table_of present.new) txn (on_request (txn_name txn) choice Commit_call (txn_in db (table_of present.old) txn)) out.letters out.replies) }
+    ensures kept { IfOk result (λ out. out.kept ≡ true) }
+    ensures err { OnErr result (table_of present.new ≡ table_of present.old) }
+    ensures accepted { (db : Database) → OnOk result (refusal Commit_call (txn_in db (table_of present.old) txn) ≡ None) }
+    ensures told { (db : Database) → IfErr result (λ told. (told ≡ refusals.Memory) ⊎ (option_map refused_as (refusal Commit_call (txn_in db (table_of present.old) txn)) ≡ Some told)) }
+{
+    let room = room(present.alloc)?;
+    let turn = committing(present, txn)?;
+    Ok(make(present, txn, turn, room))
+}
+
+/// A transaction is to be rolled back.
+pub(crate) fn call_rollback(present: &mut Present, txn: Txn) -> Result<Out, Refusal>
+    ensures ok { (db : Database) (choice : Choice (language db)) (kept : DeskContent) → AreDistinct db.sites → Fits db kept (table_of present.old)
+        → IfOk result (λ out. Steps db (table_of present.old) kept (table_of present.new) txn (on_request (txn_name txn) choice Rollback (txn_in db (table_of present.old) txn)) out.letters out.replies) }
+    ensures kept { IfOk result (λ out. out.kept ≡ true) }
+    ensures err { OnErr result (table_of present.new ≡ table_of present.old) }
+    ensures accepted { (db : Database) → OnOk result (refusal Rollback (txn_in db (table_of present.old) txn) ≡ None) }
+    ensures told { (db : Database) → IfErr result (λ told. (told ≡ refusals.Memory) ⊎ (option_map refused_as (refusal Rollback (txn_in db (table_of present.old) txn)) ≡ Some told)) }
+{
+    let room = room(present.alloc)?;
+    let turn = rolling_back(present, txn)?;
+    Ok(make(present, txn, turn, room))
+}
+
+/// A transaction is to be given up.
+pub(crate) fn call_give_up(present: &mut Present, txn: Txn) -> Result<Out, Refusal>
+    ensures ok { (db : Database) (choice : Choice (language db)) (kept : DeskContent) → AreDistinct db.sites → Fits db kept (table_of present.old)
+        → IfOk result (λ out. Steps db (table_of present.old) kept (table_of present.new) txn (on_request (txn_name txn) choice Give_up (txn_in db (table_of present.old) txn)) out.letters out.replies) }
+    ensures kept { IfOk result (λ out. out.kept ≡ true) }
+    ensures err { OnErr result (table_of present.new ≡ table_of present.old) }
+    ensures accepted { (db : Database) → OnOk result (refusal Give_up (txn_in db (table_of present.old) txn) ≡ None) }
+    ensures told { (db : Database) → IfErr result (λ told. (told ≡ refusals.Memory) ⊎ (option_map refused_as (refusal Give_up (txn_in db (table_of present.old) txn)) ≡ Some told)) }
+{
+    let room = room(present.alloc)?;
+    let turn = giving_up(present, txn)?;
+    Ok(make(present, txn, turn, room))
 }
