@@ -12,3 +12,4 @@ pub mod Counts
 pub mod Settled
 pub mod Limits
 pub mod Making
+pub mod Beginning

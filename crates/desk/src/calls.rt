@@ -1,29 +1,86 @@
 //! What clients ask of their transactions, statements aside.
 
-ghost use Rattle.std.specs.Prelude.{◌≡◌, ◌⊎◌, None, Some, true, is_some, IfOk, IfErr, OnOk, OnErr};
+ghost use Rattle.std.specs.Prelude.{◌≡◌, ◌<◌, ◌⊎◌, [], vec_len, false, None, Some, true, is_some, IfOk, IfErr, OnOk, OnErr};
+ghost use Rattle.std.specs.Vec.{vec_capacity};
 ghost use Rattle.std.specs.Option.{option_copied, option_map};
 ghost use Rattle.reader.specs.Printable.{AreDistinct};
-ghost use Rattle.protocol.specs.Desk.{Choice, Commit_call, Give_up, Rollback, on_request, refusal};
+ghost use Rattle.protocol.specs.Desk.{Choice, Commit_call, Give_up, Rollback, desk_began, is_desk_within, on_request, refusal};
 ghost use Rattle.protocol.specs.Letters.{txn_name};
 ghost use Rattle.store.specs.DeskContent.{DeskContent};
 ghost use Rattle.desk.specs.declared.refusal.Refusal.TheVariants as refusals;
 ghost use Rattle.desk.specs.declared.turn.After.TheVariants as after;
-ghost use Rattle.desk.specs.Calls.{IsAt, open_in, refused_as, txn_in};
+ghost use Rattle.desk.specs.declared.reply.Reply.TheVariants as replies;
+ghost use Rattle.desk.specs.Begun.{nowhere_yet};
+ghost use Rattle.desk.specs.Calls.{IsAt, IsOver, notices, open_in, refused_as, txn_in};
 ghost use Rattle.desk.specs.Database.{Database, language};
-ghost use Rattle.desk.specs.State.{Fits, Steps, table_of};
+ghost use Rattle.desk.specs.State.{Begins, Fits, Steps, desk_of, table_of};
 ghost use Rattle.desk.specs.Turn.{AtSites, IsTurn, after_of};
 ghost use Rattle.desk.specs.Voters.{kept_voters};
 
 use crate::committing::commit;
 use crate::finishing::{give_up, is_voting, roll_back};
-use crate::made::{make, room};
+use crate::made::{make, noticed, room};
 use crate::present::Present;
 use crate::refusal::Refusal;
-use crate::reply::Out;
+use crate::reply::{Notice, Out, Reply};
+use crate::spot::Spot;
 use crate::standing::Standing;
 use crate::turn::{Turn, stays};
 use crate::undecided::{Stage, Undecided};
+use std::alloc::Global;
 use store::name::Txn;
+use terms::copy::TryCopy;
+use terms::memory::Memory;
+use terms::seq::Seq;
+use terms::text::Text;
+
+/// Spots of which none is visited.
+fn nowhere_yet(alloc: Global, sites: &[Text]) -> Result<Vec<Spot>, Memory>
+    ensures { IfOk result (λ spots. spots.items ≡ nowhere_yet sites.now) }
+{
+    let mut spots = Vec::new(alloc);
+    for site in sites {
+        spots.push(Spot {
+            site: site.copy()?,
+            visited: false,
+            ticket: None,
+            sent: 0,
+            vote: None,
+        })?;
+    }
+    Ok(spots)
+}
+
+/// A transaction begins at these sites.
+pub(crate) fn call_begin(present: &mut Present, sites: &[Text]) -> Result<Out, Refusal>
+    ensures ok { (db : Database) (kept : DeskContent) → IsOver db sites.now → Fits db kept (table_of present.old)
+        → IfOk result (λ out. Begins db (table_of present.old) kept (table_of present.new) out.letters out.replies) }
+    ensures kept { IfOk result (λ out. out.kept ≡ true) }
+    ensures err { OnErr result (table_of present.new ≡ table_of present.old) }
+    ensures full { (db : Database) (kept : DeskContent) → IsOver db sites.now → Fits db kept (table_of present.old)
+        → IfErr result (λ told. (told ≡ refusals.Memory) ⊎ ((told ≡ refusals.Full) × (is_desk_within (desk_began (desk_of db (table_of present.old))) ≡ false))) }
+{
+    let room = room(present.alloc)?;
+    let spots = nowhere_yet(present.alloc, sites)?;
+    match present.begin(spots) {
+        Ok(txn) => Ok(begun(present.alloc, room, txn)),
+        Err(refusal) => Err(refusal),
+    }
+}
+
+/// A transaction's client hears that it has begun. There is room for it.
+fn begun(alloc: Global, room: Vec<Notice>, txn: Txn) -> Out
+    requires { vec_len room < vec_capacity room }
+    ensures letters { result.letters ≡ [] }
+    ensures replies { room.items ≡ [] → result.replies ≡ notices txn (Some replies.Begun) }
+    ensures kept { result.kept ≡ true }
+{
+    Out {
+        letters: Seq::new(Vec::new(alloc)),
+        replies: Seq::new(noticed(room, txn, Some(Reply::Begun))),
+        kept: true,
+    }
+}
 
 /// An undecided transaction.
 pub(crate) fn open<'a>(present: &'a Present, txn: &Txn) -> Option<&'a Undecided>

@@ -26,7 +26,7 @@ pub(crate) fn room(alloc: Global) -> Result<Vec<Notice>, Memory>
 }
 
 /// A reply to a transaction's client, if there is one. There is room for it.
-fn noticed(room: Vec<Notice>, txn: Txn, reply: Option<Reply>) -> Vec<Notice>
+pub(crate) fn noticed(room: Vec<Notice>, txn: Txn, reply: Option<Reply>) -> Vec<Notice>
     requires { vec_len room < vec_capacity room }
     ensures { room.items ≡ [] → result.items ≡ notices txn reply }
 {
