@@ -10,3 +10,4 @@ pub mod Ballots
 pub mod State
 pub mod Begun
 pub mod Calls
+pub mod Starting

@@ -18,6 +18,7 @@ pub mod refusal;
 pub mod reply;
 mod spot;
 mod standing;
+mod starting;
 mod strange;
 mod turn;
 mod undecided;
