@@ -13,3 +13,5 @@ pub mod Settled
 pub mod Limits
 pub mod Making
 pub mod Beginning
+pub mod Rising
+pub mod Restarted

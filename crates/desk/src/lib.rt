@@ -9,6 +9,7 @@ mod ask;
 mod ballots;
 mod calls;
 mod committing;
+pub mod desk;
 mod ending;
 mod finishing;
 mod made;
