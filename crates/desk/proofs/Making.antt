@@ -5,6 +5,7 @@ use Rattle.std.specs.Map.{keys_of}
 use Rattle.reader.specs.Printable.{AreDistinct}
 use Rattle.store.specs.declared.letter.Letter.{Letter}
 use Rattle.store.specs.declared.name.Txn.{Txn}
+use Rattle.store.specs.declared.reply.Reply.{Reply as Said}
 use Rattle.store.specs.DeskContent.{DeskContent, is_txn}
 use Rattle.store.specs.Name.{txn_cmp}
 use Rattle.protocol.specs.Desk as desk
@@ -21,13 +22,14 @@ use Rattle.desk.specs.declared.turn.Turn.{Turn}
 use Rattle.desk.specs.declared.undecided.Undecided.{Undecided}
 use Rattle.protocol.proofs.Basics.{some_is}
 use Rattle.desk.specs.Calls.{IsAt, notices, open_in}
-use Rattle.desk.specs.Database.{Database, language, sent}
+use Rattle.desk.specs.Database.{Database, language, replied, sent}
 use Rattle.desk.specs.Standing.{txn_of}
 use Rattle.desk.specs.State.{Fits, Steps, Table, closes, desk_of, is_open, notice_of, settled, table_from, table_of, txn_at}
+use Rattle.desk.specs.Taking.{may_send}
 use Rattle.desk.specs.Turn.{AreSpots, AtSites, HasSites, IsTurn, after_of, told_to}
 use Rattle.desk.specs.Voters.{Keeps, kept_voters}
 use Rattle.desk.proofs.Acknowledged.{keeps_same, txn_is, unchanged}
-use Rattle.desk.proofs.Limits.{shut_request}
+use Rattle.desk.proofs.Limits.{short_came, shut_came, shut_request}
 use Rattle.desk.proofs.Settled.{fits_after, is_within, open_is, state_is, unknown_is}
 use Rattle.desk.proofs.Txns.{Entries, at_txn, filter_all, filter_names, same_txn, txn_sym}
 
@@ -150,6 +152,26 @@ module _ (db : Database) (kept : DeskContent) (present : Present) (sorted : IsSt
       makes db kept kept present sorted fits k turn wanted (is at) (sites at)
       (keeps_same k (kept_voters (after_of o turn.after)) kept kept (sym (fits.rows k) ∙ sym keeps) (unchanged kept))
       (short (fits.short k)) (shut_request (txn_name k) choice request (txn_of db o)) some table made written heard letters replies
+
+-- ---- letters of sites by which no statement goes on
+module _ (db : Database) (kept new : DeskContent) (present : Present) (sorted : IsStrictlySortedBy txn_cmp (keys_of present.standings.entries)) (fits : Fits db kept (table_of present)) (distinct : AreDistinct db.sites)
+    (k : Txn) (choice : desk.Choice (language db)) (a : List ℕ) (said : Said) (turn : Turn) where
+  abbrev stood : Option Standing
+  stood = (table_of present).standing k
+
+  abbrev coming : Bool → desk.Turn (language db)
+  coming was = desk.on_desk_letter {L = language db} (txn_name k) a was choice (replied db said) (txn_of db stood)
+
+  pub takes : may_send stood a said ≡ false → (IsAt db stood → IsTurn db k stood turn (coming turn.kept)) → (IsAt db stood → AtSites db.sites turn.after) →
+      (IsAt db stood → kept.commits k ≡ kept_voters stood → Keeps k (kept_voters (after_of stood turn.after)) kept new) → (is_some stood ≡ true) ⊎ (turn.after ≡ Stays) →
+      (table : Table) → IsSettled db kept new present sorted fits k turn table → (written : List Letter) (heard : List Notice) (was : Bool) → written ≡ turn.letters.items → heard ≡ notices k turn.reply → was ≡ turn.kept →
+      Steps db (table_of present) new table k (coming was) written heard
+  takes rests is sites keeps some table made written heard was letters replies was_is =
+      let at = is_at db kept (table_of present) distinct fits k in
+      subst (λ b. Steps db (table_of present) new table k (coming b) written heard) (sym was_is)
+      (makes db kept new present sorted fits k turn (coming turn.kept) (is at) (sites at) (keeps at (sym (fits.rows k)))
+      (short_came db (txn_name k) a turn.kept choice stood said rests (fits.short k)) (shut_came db (txn_name k) a turn.kept choice said (txn_of db stood))
+      some table made written heard letters replies)
 
 -- what isn't undecided isn't given up
 pub open_some : (o : Option Standing) (u : Undecided) → open_in o ≡ Some u → o ≡ Some (standing.Undecided u)

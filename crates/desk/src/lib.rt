@@ -21,6 +21,7 @@ mod spot;
 mod standing;
 mod starting;
 mod strange;
+mod taking;
 mod turn;
 mod undecided;
 mod voters;
