@@ -22,6 +22,7 @@ use catalog::catalogue::Catalog;
 use std::alloc::Global;
 use store::commit::DeskKept;
 use store::desk_store::DeskStore;
+use store::fault::StoreFault;
 use store::name::Txn;
 
 /// A coordinator: its store, its catalogue, and what it has in memory. What its clauses say holds where the
@@ -152,6 +153,31 @@ impl<S: DeskStore> Desk<S> {
         ensures own { IfErr result (λ told. (told ≡ refusals.Memory) ⊎ (told ≡ refusals.Full) ⊎ (told ≡ refusals.Store store_faults.Refused) ⊎ (told ≡ refusals.Store store_faults.Damaged)) }
         ensures catalog { self.new.catalog ≡ self.old.catalog }
     {
+        self.restart_kept(true)
+    }
+
+    /// So, but where `kept` is false the store isn't called, and counts as having refused.
+    pub fn restart_kept(&mut self, kept: bool) -> Result<Out, Refusal>
+        ensures clean { S.is_clean self.new.store → S.is_clean self.old.store }
+        ensures sound { S.is_clean self.new.store → OnOk result (S.is_sound self.new.store) }
+        ensures keeps { S.is_clean self.new.store → S.is_sound self.old.store → S.is_sound self.new.store }
+        ensures ok { (db : Database) → S.is_clean self.new.store → S.is_sound self.old.store → Fits db (S.kept self.old.store) (table_of self.old.present)
+            → IfOk result (λ out. Restarts db (table_of self.old.present) (S.kept self.new.store) (table_of self.new.present) out.letters out.replies) }
+        ensures rises { (db : Database) → S.is_clean self.new.store → OnOk result (Rises db (S.kept self.new.store) (table_of self.new.present)) }
+        ensures kept { IfOk result (λ out. out.kept ≡ true) }
+        ensures called { OnOk result (kept ≡ true) }
+        ensures life { S.is_clean self.new.store → S.is_sound self.old.store → OnOk result (BeginsLife (S.kept self.old.store) (S.kept self.new.store)) }
+        ensures err { OnErr result (table_of self.new.present ≡ table_of self.old.present) }
+        ensures same { S.is_clean self.new.store → S.is_sound self.old.store → OnErr result (IsUnchanged (S.kept self.old.store) (S.kept self.new.store)) }
+        ensures refusal { result ≡ Err (refusals.Store store_faults.Refused) → (kept ≡ false) ⊎ HasRefused (S.refused self.old.store) (S.refused self.new.store) }
+        ensures full { S.is_clean self.new.store → result ≡ Err refusals.Full → 2 ^ 63 ≤ (S.kept self.new.store).life + 1 }
+        ensures damaged { S.is_clean self.new.store → S.is_sound self.old.store → result ≡ Err (refusals.Store store_faults.Damaged) → IsStrange (S.kept self.new.store) }
+        ensures own { IfErr result (λ told. (told ≡ refusals.Memory) ⊎ (told ≡ refusals.Full) ⊎ (told ≡ refusals.Store store_faults.Refused) ⊎ (told ≡ refusals.Store store_faults.Damaged)) }
+        ensures catalog { self.new.catalog ≡ self.old.catalog }
+    {
+        if !kept {
+            return Err(Refusal::Store(StoreFault::Refused));
+        }
         restart(&mut self.store, &mut self.present)
     }
 
