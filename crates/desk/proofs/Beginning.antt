@@ -1,5 +1,5 @@
 -- A transaction begins: the state is the protocol's, and what is in memory fits the store.
-use Rattle.std.proofs.Common.{◌≡◌, refl, sym, ap, ◌∙◌, subst, ℕ, suc, add-one, ◌+◌, ◌^◌, ◌<◌, ◌≤◌, ◌⊎◌, nat_eq, nat_cmp, nat_lt, nat_le, Bool, true, false, not, ◌&&◌, List, [], ◌∷◌, ◌++◌, map, length, Option, Some, None, is_some, filter, cond, if◌then◌else◌, inl, inr, ⊎_elim, arith}
+use Rattle.std.proofs.Common.{◌≡◌, refl, sym, ap, ◌∙◌, subst, ℕ, add-one, ◌+◌, ◌^◌, ◌<◌, ◌≤◌, ◌⊎◌, nat_eq, nat_cmp, nat_lt, nat_le, Bool, true, false, not, ◌&&◌, List, [], ◌∷◌, ◌++◌, map, length, Option, Some, None, is_some, filter, cond, if◌then◌else◌, inl, inr, ⊎_elim, arith}
 use Rattle.std.specs.BTreeMap.{insert_entry}
 use Rattle.std.specs.Cmp.Lexicographic.{pointwise}
 use Rattle.std.specs.List.{AllByRecursion, list_all}
@@ -16,18 +16,17 @@ use Rattle.std.specs.Option.{option_map}
 use Rattle.std.specs.Ordering.{is_eq}
 use Rattle.protocol.specs.Letters.{name_of, txn_name}
 use Rattle.protocol.specs.Parts.{In}
-use Rattle.protocol.proofs.Basics.{both_true, clash, every_self, if_false, if_true, in_append, in_left, in_right, some_is}
+use Rattle.protocol.proofs.Basics.{clash, every_self, if_false, if_true, in_append, in_left, in_right, some_is}
 use Rattle.store.specs.declared.letter.Letter.{Letter}
 use Rattle.desk.specs.declared.reply.Notice.{Notice}
 use Rattle.desk.specs.declared.reply.Reply.TheVariants.{Begun}
 use Rattle.desk.specs.declared.spot.Spot.{Spot}
 use Rattle.desk.specs.declared.standing.Standing.{Standing}
-use Rattle.desk.specs.declared.standing.Standing.TheVariants as standing
 use Rattle.desk.specs.Begun.{first_of, next_of, nowhere_yet}
 use Rattle.desk.specs.Calls.{notices}
 use Rattle.desk.specs.Database.{Database, language}
 use Rattle.desk.specs.Spots.{is_at, nowhere, sites_of, spot_in}
-use Rattle.desk.specs.Standing.{txn_of, undecided_of}
+use Rattle.desk.specs.Standing.{txn_of}
 use Rattle.desk.specs.State.{Begins, Fits, IsBegun, Table, desk_of, is_open, notice_of, open_among, table_from, txn_at}
 use Rattle.desk.specs.Turn.{HasSites}
 use Rattle.desk.specs.Voters.{kept_voters}

@@ -1,12 +1,12 @@
 -- How many of a list pass a test, before and after a change at one.
-use Rattle.std.proofs.Common.{◌≡◌, refl, sym, ap, ◌∙◌, subst, ℕ, suc, Bool, true, false, List, [], ◌∷◌, length, filter, cond, inl, inr}
+use Rattle.std.proofs.Common.{◌≡◌, refl, sym, ap, ◌∙◌, subst, suc, Bool, true, false, List, [], ◌∷◌, length, filter, cond, inl, inr}
 use Rattle.std.specs.List.{AllByRecursion, IsDistinct}
 use Rattle.std.proofs.lemmas.Map.Keys.{IsDistinct-head, IsDistinct-tail}
 use Rattle.store.specs.declared.name.Txn.{Txn}
 use Rattle.store.specs.DeskContent.{is_txn}
 use Rattle.protocol.specs.Parts.{In}
 use Rattle.protocol.proofs.Basics.{clash, if_false}
-use Rattle.desk.proofs.Txns.{filter_same, txn_self, txn_sym}
+use Rattle.desk.proofs.Txns.{filter_same, txn_sym}
 
 each_of : {A : Type 0} (P : A → Type 0) (xs : List A) → AllByRecursion P xs → (x : A) → In x xs → P x
 each_of P [] all x here = absurd here

@@ -1,5 +1,5 @@
 -- A step is made: it is the protocol's step of the whole state.
-use Rattle.std.proofs.Common.{◌≡◌, refl, sym, ap, ◌∙◌, subst, ℕ, ◌-◌, ◌⊎◌, Bool, true, false, not, ◌&&◌, List, [], ◌∷◌, map, Option, Some, None, is_some, if◌then◌else◌, ⊎_elim, filter, inl, Vec, Global}
+use Rattle.std.proofs.Common.{◌≡◌, refl, sym, ap, ◌∙◌, subst, ℕ, ◌-◌, ◌⊎◌, Bool, true, false, not, ◌&&◌, List, map, Option, Some, None, is_some, if◌then◌else◌, ⊎_elim, filter, inl, Vec, Global}
 use Rattle.std.specs.List.Sorted.{IsStrictlySortedBy}
 use Rattle.std.specs.BTreeMap.{is_at as is_key}
 use Rattle.std.specs.List.{filter_map}
@@ -13,7 +13,6 @@ use Rattle.store.specs.Name.{txn_cmp}
 use Rattle.protocol.specs.Desk as desk
 use Rattle.protocol.specs.Language.{Name, put, same}
 use Rattle.protocol.specs.Letters.{txn_name}
-use Rattle.protocol.specs.Parts.{In}
 use Rattle.desk.specs.declared.present.Present.{Present}
 use Rattle.desk.specs.declared.reply.Notice.{Notice}
 use Rattle.desk.specs.declared.reply.Reply.{Reply}
@@ -28,12 +27,12 @@ use Rattle.desk.specs.Database.{Database, language, replied, sent}
 use Rattle.desk.specs.Standing.{txn_of, undecided_of}
 use Rattle.desk.specs.State.{Fits, Steps, Table, closes, desk_of, is_open, notice_of, settled, table_from, table_of, txn_at}
 use Rattle.desk.specs.Taking.{may_send}
-use Rattle.desk.specs.Turn.{AreSpots, AtSites, HasSites, IsTurn, after_of, told, told_to}
+use Rattle.desk.specs.Turn.{AtSites, HasSites, IsTurn, after_of, told, told_to}
 use Rattle.desk.specs.Voters.{Keeps, kept_voters}
 use Rattle.desk.proofs.Acknowledged.{keeps_same, txn_is, unchanged}
 use Rattle.desk.proofs.Limits.{short_came, shut_came, shut_request}
 use Rattle.desk.proofs.Settled.{fits_after, is_within, open_is, state_is, unknown_is}
-use Rattle.desk.proofs.Txns.{Entries, at_txn, filter_all, filter_names, same_txn, txn_sym}
+use Rattle.desk.proofs.Txns.{filter_all, filter_names, same_txn, txn_sym}
 
 -- who hears the reply
 pub told_is : (txn : Txn) (reply : Option Reply) → map notice_of (notices txn reply) ≡ told_to (txn_name txn) reply

@@ -2,9 +2,7 @@
 use Rattle.std.proofs.Common.{◌≡◌, refl, sym, ap, ◌∙◌, subst, ℕ, Bool, true, false, ◌&&◌, List, [], ◌∷◌, map, Option, Some, None, if◌then◌else◌, Vec, Global}
 use Rattle.std.specs.List.{cons_option, list_all}
 use Rattle.std.specs.Option.{option_map}
-use Rattle.store.specs.declared.commit.Voter.{Voter}
 use Rattle.store.specs.declared.letter.Letter.{Letter}
-use Rattle.store.specs.declared.name.Ticket.{Ticket}
 use Rattle.store.specs.declared.name.Txn.{Txn}
 use Rattle.protocol.specs.Desk as desk
 use Rattle.protocol.specs.Language.{Name}
@@ -23,9 +21,9 @@ use Rattle.desk.specs.Ballots.{is_idle}
 use Rattle.desk.specs.Database.{Database, language, sent}
 use Rattle.desk.specs.Orders.{letters_from, order_at, ordered}
 use Rattle.desk.specs.Spots.{is_in, with_vote}
-use Rattle.desk.specs.Standing.{stage_of, undecided_of, voter_of, votes_of}
+use Rattle.desk.specs.Standing.{stage_of, undecided_of, votes_of}
 use Rattle.desk.specs.Turn.{AreSpots, IsTurn, commits_now, voting}
-use Rattle.desk.specs.Voters.{voter_at, voter_with, voters_among}
+use Rattle.desk.specs.Voters.{voter_with, voters_among}
 use Rattle.desk.proofs.Acknowledged.{turn_as}
 use Rattle.desk.proofs.Changed.{are_still, spot_mapped, votes_gone}
 use Rattle.desk.proofs.Decisions.{votes_decide, votes_wait}

@@ -1,6 +1,6 @@
 -- A restart: the state is the protocol's, and so are the letters and the replies.
-use Rattle.std.proofs.Common.{◌≡◌, refl, sym, ap, ◌∙◌, subst, ℕ, suc, add-one, Bool, true, false, not, ◌||◌, ◌⊎◌, List, [], ◌∷◌, ◌++◌, map, Option, Some, None, is_some, filter, cond, if◌then◌else◌, inl, inr}
-use Rattle.std.specs.List.{AllByRecursion, cons_option, filter_map, flat_map, list_any}
+use Rattle.std.proofs.Common.{◌≡◌, refl, sym, ap, ◌∙◌, subst, ℕ, suc, add-one, Bool, true, false, not, ◌⊎◌, List, [], ◌∷◌, ◌++◌, map, Option, Some, None, is_some, filter, cond, if◌then◌else◌, inl, inr}
+use Rattle.std.specs.List.{AllByRecursion, filter_map, flat_map, list_any}
 use Rattle.std.specs.List.Sorted.{IsStrictlySortedBy}
 use Rattle.std.specs.Map.{keys_of}
 use Rattle.std.specs.Ordering.{is_eq}
@@ -28,16 +28,16 @@ use Rattle.desk.specs.declared.reply.Notice.{Notice}
 use Rattle.desk.specs.declared.standing.Standing.{Standing}
 use Rattle.desk.specs.declared.standing.Standing.TheVariants as standing
 use Rattle.desk.specs.Database.{Database, language, sent}
-use Rattle.desk.specs.Standing.{txn_of, voter_of}
+use Rattle.desk.specs.Standing.{txn_of}
 use Rattle.desk.specs.Starting.{Restarts, Rises, SendsAgain, commits_again, lost_among, resting, with_lost}
 use Rattle.desk.specs.State.{Fits, Table, desk_of, notice_of, table_from, txn_at}
 use Rattle.desk.specs.Turn.{told}
 use Rattle.desk.specs.Voters.{commit_letters, kept_voters}
 use Rattle.desk.proofs.Acknowledged.{same_bool, txn_is}
 use Rattle.desk.proofs.Decisions.{commits_is}
-use Rattle.desk.proofs.Rising.{listed_some, some_listed, txns_of}
+use Rattle.desk.proofs.Rising.{txns_of}
 use Rattle.desk.proofs.Settled.{unknown_is}
-use Rattle.desk.proofs.Txns.{Entries, at_txn, filter_names, filter_same, txn_self, txn_sym}
+use Rattle.desk.proofs.Txns.{Entries, at_txn, filter_names, txn_self, txn_sym}
 
 -- lists in order that have the same transactions are the same
 same_txns : (xs ys : List Txn) → IsStrictlySortedBy txn_cmp xs → IsStrictlySortedBy txn_cmp ys → ((j : Txn) → In j xs → In j ys) → ((j : Txn) → In j ys → In j xs) → xs ≡ ys

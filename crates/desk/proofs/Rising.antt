@@ -1,7 +1,7 @@
 -- The memory that a store's rows make fits the store.
-use Rattle.std.proofs.Common.{◌≡◌, refl, sym, ap, ◌∙◌, subst, ℕ, suc, ◌+◌, ◌<◌, ◌≤◌, ◌^◌, ◌⊎◌, nat_le, Bool, true, false, not, List, [], ◌∷◌, map, length, Option, Some, None, is_some, cond, if◌then◌else◌, filter, inl, inr, arith}
+use Rattle.std.proofs.Common.{◌≡◌, refl, sym, ap, ◌∙◌, subst, ℕ, ◌+◌, ◌<◌, ◌^◌, ◌⊎◌, nat_le, Bool, true, false, List, [], ◌∷◌, map, length, Option, Some, None, is_some, cond, if◌then◌else◌, filter, inl, inr, arith}
 use Rattle.std.specs.BTreeMap.{insert_entry}
-use Rattle.std.specs.List.{AllByRecursion, list_all}
+use Rattle.std.specs.List.{AllByRecursion}
 use Rattle.std.specs.List.Sorted.{IsStrictlySortedBy}
 use Rattle.std.specs.Map.{keys_of}
 use Rattle.std.specs.Ordering.{is_eq, match_ordering}

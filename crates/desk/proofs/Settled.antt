@@ -1,10 +1,9 @@
 -- A transaction has made a step: the state is the protocol's, and what is in memory fits the store.
-use Rattle.std.proofs.Common.{◌≡◌, refl, sym, ap, ◌∙◌, subst, ℕ, suc, ◌+◌, ◌-◌, ◌^◌, ◌<◌, ◌≤◌, nat_lt, nat_le, Bool, true, false, not, ◌&&◌, List, [], ◌∷◌, ◌++◌, map, length, Option, Some, None, is_some, filter, cond, if◌then◌else◌, inl, inr, ⊎_elim, arith}
-use Rattle.std.specs.List.{AllByRecursion, IsDistinct, list_all}
+use Rattle.std.proofs.Common.{◌≡◌, refl, sym, ap, ◌∙◌, subst, ℕ, suc, ◌-◌, ◌^◌, ◌<◌, ◌≤◌, nat_lt, nat_le, Bool, true, false, not, ◌&&◌, List, [], ◌∷◌, map, length, Option, Some, None, is_some, filter, if◌then◌else◌, arith}
+use Rattle.std.specs.List.{list_all}
 use Rattle.std.specs.List.Sorted.{IsStrictlySortedBy}
 use Rattle.std.specs.Map.{keys_of}
 use Rattle.std.proofs.lemmas.Map.Keys.{IsDistinct-from_sorted}
-use Rattle.store.specs.declared.letter.Letter.{Letter}
 use Rattle.store.specs.declared.name.Txn.{Txn}
 use Rattle.store.specs.DeskContent.{DeskContent, is_txn}
 use Rattle.store.specs.Name.{txn_cmp}
@@ -12,7 +11,7 @@ use Rattle.protocol.specs.Desk as desk
 use Rattle.protocol.specs.Language.{Name, put, same}
 use Rattle.protocol.specs.Letters.{txn_name}
 use Rattle.protocol.specs.Parts.{In}
-use Rattle.protocol.proofs.Basics.{both_true, clash, if_true, if_false, in_filter, some_is}
+use Rattle.protocol.proofs.Basics.{both_true, if_true, if_false, in_filter, some_is}
 use Rattle.protocol.proofs.Locks.{from_filter}
 use Rattle.desk.specs.declared.standing.Standing.{Standing}
 use Rattle.desk.specs.declared.standing.Standing.TheVariants as standing
@@ -20,7 +19,7 @@ use Rattle.desk.specs.declared.turn.After.{After}
 use Rattle.desk.specs.declared.turn.After.TheVariants.{Stays, Ends, Becomes}
 use Rattle.desk.specs.Database.{Database, language}
 use Rattle.desk.specs.Standing.{txn_of}
-use Rattle.desk.specs.State.{Fits, IsBegun, Table, closes, desk_of, is_open, open_among, settled, table_from, txn_at}
+use Rattle.desk.specs.State.{Fits, Table, closes, desk_of, is_open, open_among, settled, table_from, txn_at}
 use Rattle.desk.specs.Turn.{AtSites, HasSites, after_of}
 use Rattle.desk.specs.Voters.{Keeps, kept_voters}
 use Rattle.desk.proofs.Acknowledged.{txn_is}

@@ -1,5 +1,5 @@
 -- Transactions are the same by their order where they are the same by their names; what stands behind them after a change at one.
-use Rattle.std.proofs.Common.{◌≡◌, refl, sym, ap, ◌∙◌, subst, Bool, true, false, not, List, [], ◌∷◌, ◌++◌, map, Option, Some, None, is_some, IsSome, filter, cond, if◌then◌else◌, inl, inr}
+use Rattle.std.proofs.Common.{◌≡◌, refl, sym, ap, ◌∙◌, subst, Bool, true, false, not, List, [], ◌∷◌, ◌++◌, map, Option, Some, None, IsSome, filter, cond, if◌then◌else◌, inl, inr}
 use Rattle.std.specs.BTreeMap.{is_at, insert_entry}
 use Rattle.std.specs.Cmp.{eq_by_cmp_equiv, tied_itself}
 use Rattle.std.specs.List.{AllByRecursion, IsDistinct}

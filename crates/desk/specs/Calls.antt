@@ -1,5 +1,5 @@
 -- What clients ask for, and what is refused.
-use Rattle.std.specs.Prelude.{◌≡◌, ℕ, List, [], ◌∷◌, map, Option, Some, None}
+use Rattle.std.specs.Prelude.{◌≡◌, ℕ, List, [], ◌∷◌, Option, Some, None}
 use Rattle.reader.specs.Printable.{AreDistinct}
 use Rattle.store.specs.declared.name.Txn.{Txn}
 use Rattle.protocol.specs.Desk as protocol

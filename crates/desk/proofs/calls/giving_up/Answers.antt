@@ -1,5 +1,5 @@
 -- Why `giving_up` meets its contract.
-use Rattle.std.proofs.Common.{Some, sym, ap, ◌∙◌, subst}
+use Rattle.std.proofs.Common.{sym, ap, ◌∙◌, subst}
 use Rattle.std.specs.Option.{option_copied}
 use Rattle.protocol.specs.Desk.{Give_up, on_request}
 use Rattle.protocol.specs.Letters.{txn_name}

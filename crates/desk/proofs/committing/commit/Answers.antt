@@ -1,7 +1,6 @@
 -- Why `commit` meets its contract.
 use Rattle.std.proofs.Common.{Some, None, sym, ap, ◌∙◌, map, refl}
 use Rattle.std.specs.List.{list_all}
-use Rattle.protocol.specs.Letters.{txn_name}
 use Rattle.desk.specs.declared.orders.Word.TheVariants.{Prepare}
 use Rattle.desk.specs.declared.standing.Standing.TheVariants as standing
 use Rattle.desk.specs.Orders.{letters_from}

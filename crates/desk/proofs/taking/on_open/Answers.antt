@@ -1,5 +1,5 @@
 -- Why `on_open` meets its contract.
-use Rattle.std.proofs.Common.{◌≡◌, Some, false, subst, sym}
+use Rattle.std.proofs.Common.{◌≡◌, Some, false, subst}
 use Rattle.desk.specs.declared.standing.Standing.TheVariants as standing
 use Rattle.desk.specs.Spots.{spot_in}
 use Rattle.desk.specs.Taking.{goes_on}
