@@ -198,3 +198,7 @@ module _ (db : Database) (t : Name) (u : Undecided) (a : List ℕ) (k : Ticket) 
 pub some_first : (first : Option Ticket) → is_none first ≡ false → first ≢ None
 some_first None e = cc
 some_first (Some k) e = λ none. (let f : Some k ≡ None = none in cc)
+
+-- the spots with a vote, through the code's copies
+pub copied_vote : (a : List ℕ) (vote : Vote) (given copies slice spots : List Spot) → given ≡ copies → copies ≡ map (changed_at a (with_vote (Some vote))) slice → slice ≡ spots → given ≡ map (changed_at a (with_vote (Some vote))) spots
+copied_vote a vote given copies slice spots one two three = one ∙ two ∙ ap (map (changed_at a (with_vote (Some vote)))) three

@@ -1,14 +1,15 @@
 //! Letters of sites by which no statement goes on.
 
-ghost use Rattle.std.specs.Prelude.{◌≡◌, ◌≢◌, ◌⊎◌, ◌<◌, [], true, false, None, Some, is_some, vec_len, IfOk, IfErr, OnErr};
+ghost use Rattle.std.specs.Prelude.{◌≡◌, ◌≢◌, ◌⊎◌, ◌<◌, [], true, false, Option, None, Some, is_some, vec_len, IfOk, IfErr, OnErr};
 ghost use Rattle.std.specs.Option.{option_copied};
 ghost use Rattle.reader.specs.Printable.{AreDistinct};
-ghost use Rattle.protocol.specs.Desk.{Choice, on_desk_letter, on_known};
+ghost use Rattle.protocol.specs.Desk.{Choice, on_desk_letter, on_known, stays as unchanged};
 ghost use Rattle.protocol.specs.Letters.{txn_name};
 ghost use Rattle.store.specs.DeskContent.{IsUnchanged};
 ghost use Rattle.store.specs.Fault.{HasRefused};
 ghost use Rattle.store.specs.declared.reply.Reply.TheVariants as replies;
 ghost use Rattle.desk.specs.declared.refusal.Refusal.TheVariants as refusals;
+ghost use Rattle.desk.specs.declared.standing.Standing.{Standing as StandingNow};
 ghost use Rattle.desk.specs.declared.standing.Standing.TheVariants as standings;
 ghost use Rattle.desk.specs.declared.turn.After.TheVariants as after;
 ghost use Rattle.desk.specs.Calls.{IsAt, txn_in};
@@ -94,6 +95,15 @@ fn on_another(
     tells(alloc, txn, site, Order::Abort(ticket))
 }
 
+/// An undecided transaction may still go either way: who inquires after it hears nothing.
+fn unanswered(alloc: Global) -> Result<Turn, Memory>
+    ensures turn { (db : Database) (txn : Txn) (old : Option StandingNow) → IfOk result (λ turn. IsTurn db txn old turn (unchanged (txn_of db old))) }
+    ensures after { IfOk result (λ turn. turn.after ≡ after.Stays) }
+    ensures kept { IfOk result (λ turn. turn.kept ≡ true) }
+{
+    Ok(stays(alloc, true))
+}
+
 /// A letter of a site comes for an undecided transaction, by which no statement goes on.
 fn on_open<S: DeskStore>(
     store: &mut S,
@@ -122,7 +132,7 @@ fn on_open<S: DeskStore>(
         Reply::Ticket(ticket) => on_another(alloc, txn, undecided, site, *ticket),
         Reply::Rows(_) => Ok(stays(alloc, true)),
         Reply::Ack(_) => Ok(stays(alloc, true)),
-        Reply::Inquire(_) => Ok(stays(alloc, true)),
+        Reply::Inquire(_) => unanswered(alloc),
     }
 }
 

@@ -21,4 +21,4 @@ pub returns-in-Ack-clause-turn : goal.returns-in-Ack-clause-turn
 returns-in-Ack-clause-turn g c = λ db choice are. rw c.in-Ack.is (c.stays-in-Ack.ensures.turn db c.args.txn (Some (standing.Undecided c.args.undecided.now)))
 
 pub returns-in-Inquire-clause-turn : goal.returns-in-Inquire-clause-turn
-returns-in-Inquire-clause-turn g c = λ db choice are. rw c.in-Inquire.is (c.stays-in-Inquire.ensures.turn db c.args.txn (Some (standing.Undecided c.args.undecided.now)))
+returns-in-Inquire-clause-turn g c = λ db choice are. rw c.in-Inquire.is (c.unanswered.ensures.turn db c.args.txn (Some (standing.Undecided c.args.undecided.now)))
