@@ -5,3 +5,4 @@ pub mod Standing
 pub mod Orders
 pub mod Voters
 pub mod Turn
+pub mod Ballots

@@ -19,7 +19,7 @@ use store::name::Txn;
 use terms::memory::Memory;
 
 /// Whether the first phase has begun.
-fn is_voting(stage: &Stage) -> bool
+pub(crate) fn is_voting(stage: &Stage) -> bool
     ensures { result ≡ is_voting stage.now }
 {
     matches!(stage, Stage::Voting)

@@ -6,6 +6,8 @@
 
 mod acking;
 mod ask;
+mod ballots;
+mod committing;
 mod ending;
 mod finishing;
 mod orders;

@@ -64,7 +64,7 @@ fn are_none(voters: &[Voter]) -> bool
 }
 
 /// A transaction in its first phase.
-fn voting(spots: Vec<Spot>) -> Undecided
+pub(crate) fn voting(spots: Vec<Spot>) -> Undecided
     ensures { result ≡ voting spots.items }
 {
     Undecided {
@@ -74,7 +74,7 @@ fn voting(spots: Vec<Spot>) -> Undecided
 }
 
 /// Committed without a row.
-fn commits_at_once(alloc: Global) -> Turn
+pub(crate) fn commits_at_once(alloc: Global) -> Turn
     ensures turn { (db : Database) (txn : Txn) (old : Option StandingNow) → IsTurn db txn old result (commits_now (txn_name txn)) }
     ensures after { result.after ≡ Ends }
 {
