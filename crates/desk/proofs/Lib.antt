@@ -7,3 +7,4 @@ pub mod Decisions
 pub mod Stages
 pub mod Counted
 pub mod Phases
+pub mod Operations

@@ -5,4 +5,5 @@ pub mod Standing
 pub mod Orders
 pub mod Voters
 pub mod Turn
+pub mod Sending
 pub mod Ballots

@@ -12,6 +12,7 @@ mod ending;
 mod finishing;
 mod orders;
 pub mod reply;
+mod sending;
 mod spot;
 mod standing;
 mod strange;
