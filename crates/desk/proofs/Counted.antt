@@ -5,6 +5,7 @@ use Rattle.std.specs.List.{list_any}
 use Rattle.std.specs.Option.{option_map}
 use Rattle.store.specs.declared.name.Ticket.{Ticket}
 use Rattle.store.specs.declared.name.Txn.{Txn}
+use Rattle.store.specs.declared.reply.Refusal.{Refusal}
 use Rattle.store.specs.declared.reply.Reply.TheVariants as reply
 use Rattle.store.specs.declared.reply.Vote.{Vote}
 use Rattle.store.specs.declared.reply.Vote.TheVariants.{Yes, No, Read}
@@ -21,11 +22,11 @@ use Rattle.desk.specs.declared.undecided.Undecided.{Undecided}
 use Rattle.desk.specs.Ballots.{awaits_vote, counts_vote, is_first}
 use Rattle.desk.specs.Database.{Database, language, replied}
 use Rattle.desk.specs.Orders.{is_voting}
-use Rattle.desk.specs.Spots.{changed_at, is_at, nowhere, spot_in, with_vote}
+use Rattle.desk.specs.Spots.{changed_at, is_at, nowhere, sites_of, spot_in, with_vote}
 use Rattle.desk.specs.Standing.{stage_of, undecided_of, votes_of}
-use Rattle.desk.specs.Turn.{AreSpots, IsTurn, voting}
+use Rattle.desk.specs.Turn.{AreSpots, AtSites, IsTurn, voting}
 use Rattle.desk.proofs.Acknowledged.{ticket_same, turn_as}
-use Rattle.desk.proofs.Changed.{are_still, changed_site, vote_counted, votes_put}
+use Rattle.desk.proofs.Changed.{are_still, changed_site, same_sites, vote_counted, votes_put}
 
 -- ---- the spot that is found
 pub spot_found : (a : List ℕ) (spots : List Spot) (s : Spot) → find (is_at a) spots ≡ Some s → spot_in a spots ≡ s
@@ -153,3 +154,27 @@ module _ (db : Database) (txn : Txn) (u : Undecided) (a : List ℕ) (k : Ticket)
       turns_as db txn old wanted (λ turn. desk.votes_go (txn_name txn) (undecided_of db (voting given)) (votes_of given) turn.kept)
       (λ turn. vote_goes db (txn_name txn) u a k vote choice e turn.kept other ∙ ap (λ ss. desk.votes_go (txn_name txn) (undecided_of db (voting ss)) (votes_of ss) turn.kept) (sym same))
       result is
+
+-- ---- a refusal
+module _ (db : Database) (t : Name) (u : Undecided) (a : List ℕ) (refusal : Refusal) (choice : desk.Choice (language db)) where
+  abbrev refusing : Bool → desk.Turn (language db)
+  refusing kept = desk.on_known {L = language db} t (undecided_of db u) a kept choice (replied db (reply.Refused refusal))
+
+  abbrev refusing_if : Bool → desk.Turn (language db)
+  refusing_if b = if b then desk.on_refused {L = language db} t (undecided_of db u) (stage_of db u.spots u.stage) else desk.stays (desk.Known (undecided_of db u))
+
+  -- under another ticket than the first
+  pub refusal_lost : (kept : Bool) → is_first refusal.ticket (spot_in a u.spots).ticket ≡ false → refusing kept ≡ desk.stays (desk.Known (undecided_of db u))
+  refusal_lost kept e = ap refusing_if (named_is refusal.ticket (spot_in a u.spots).ticket ∙ e)
+
+  -- under the first
+  pub refusal_counts : (kept : Bool) → is_first refusal.ticket (spot_in a u.spots).ticket ≡ true → refusing kept ≡ desk.on_refused {L = language db} t (undecided_of db u) (stage_of db u.spots u.stage)
+  refusal_counts kept e = ap refusing_if (named_is refusal.ticket (spot_in a u.spots).ticket ∙ e)
+
+-- ---- the sites stay
+pub voted_sites : (a : List ℕ) (vote : Vote) (spots given : List Spot) → given ≡ map (changed_at a (with_vote (Some vote))) spots → sites_of given ≡ sites_of spots
+voted_sites a vote spots given same = ap sites_of same ∙ same_sites (changed_at a (with_vote (Some vote))) (changed_site (with_vote (Some vote)) (λ s. refl) a) spots
+
+-- a step is at the same sites
+pub at_same : {E : Type 0} (result : Result Turn E) (one other : List (List ℕ)) → one ≡ other → IfOk result (λ turn. AtSites one turn.after) → IfOk result (λ turn. AtSites other turn.after)
+at_same result one other same is = subst (λ sites. IfOk result (λ turn. AtSites sites turn.after)) same is

@@ -8,3 +8,6 @@ pub mod Stages
 pub mod Counted
 pub mod Phases
 pub mod Operations
+pub mod Txns
+pub mod Counts
+pub mod Settled

@@ -1,4 +1,5 @@
 -- The coordinator's machine over its store, in reading order.
+pub mod Refusal
 pub mod Database
 pub mod Spots
 pub mod Standing
@@ -7,3 +8,5 @@ pub mod Voters
 pub mod Turn
 pub mod Sending
 pub mod Ballots
+pub mod State
+pub mod Begun

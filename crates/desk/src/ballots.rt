@@ -8,9 +8,9 @@ ghost use Rattle.store.specs.declared.reply.Reply.TheVariants as reply;
 ghost use Rattle.desk.specs.declared.standing.Standing.TheVariants as standing;
 ghost use Rattle.desk.specs.Ballots.{awaits_vote, counts_vote, is_first};
 ghost use Rattle.desk.specs.Database.{Database, language, replied};
-ghost use Rattle.desk.specs.Spots.{spot_in};
+ghost use Rattle.desk.specs.Spots.{sites_of, spot_in};
 ghost use Rattle.desk.specs.Standing.{undecided_of};
-ghost use Rattle.desk.specs.Turn.{AreSpots, IsTurn, after_of};
+ghost use Rattle.desk.specs.Turn.{AreSpots, AtSites, IsTurn, after_of};
 ghost use Rattle.desk.specs.Voters.{Keeps, kept_voters};
 
 use crate::ending::ends;
@@ -34,6 +34,16 @@ pub(crate) fn is_first(first: Option<Ticket>, ticket: &Ticket) -> bool
 {
     match first {
         Some(first) => first.cmp(ticket).is_eq(),
+        None => false,
+    }
+}
+
+/// Whether this is the ticket that the site of this name gave first.
+pub(crate) fn gave_first(spots: &[Spot], site: &Text, ticket: &Ticket) -> bool
+    ensures { result ≡ is_first ticket.now (spot_in site.now spots.now).ticket }
+{
+    match find_spot(spots, site) {
+        Some(spot) => is_first(spot.ticket, ticket),
         None => false,
     }
 }
@@ -85,6 +95,7 @@ pub(crate) fn on_vote<S: DeskStore>(
     ensures turn { (db : Database) (choice : Choice (language db)) → AreSpots db undecided.now.spots
         → IfOk result (λ turn. IsTurn db txn (Some (standing.Undecided undecided.now)) turn
         (on_known (txn_name txn) (undecided_of db undecided.now) site.now turn.kept choice (replied db (reply.Voted voted)))) }
+    ensures sites { IfOk result (λ turn. AtSites (sites_of undecided.now.spots) turn.after) }
     ensures keeps { (db : Database) → AreSpots db undecided.now.spots → S.is_clean store.new → S.is_sound store.old → (S.kept store.old).commits txn ≡ None
         → IfOk result (λ turn. Keeps txn (kept_voters (after_of (Some (standing.Undecided undecided.now)) turn.after)) (S.kept store.old) (S.kept store.new)) }
     ensures same { S.is_clean store.new → S.is_sound store.old → OnErr result (IsUnchanged (S.kept store.old) (S.kept store.new)) }

@@ -6,8 +6,9 @@ ghost use Rattle.protocol.specs.Letters.{txn_name};
 ghost use Rattle.desk.specs.declared.standing.Standing.TheVariants as standing;
 ghost use Rattle.desk.specs.Ballots.{is_idle};
 ghost use Rattle.desk.specs.Database.{Database};
+ghost use Rattle.desk.specs.Spots.{sites_of};
 ghost use Rattle.desk.specs.Standing.{stage_of, undecided_of};
-ghost use Rattle.desk.specs.Turn.{AreSpots, IsTurn, after_of};
+ghost use Rattle.desk.specs.Turn.{AreSpots, AtSites, IsTurn, after_of};
 ghost use Rattle.desk.specs.Voters.{kept_voters};
 
 use crate::orders::{Word, letters_from};
@@ -32,6 +33,7 @@ pub(crate) fn is_idle(stage: &Stage) -> bool
 pub(crate) fn commit(alloc: Global, txn: Txn, undecided: &Undecided) -> Result<Turn, Memory>
     ensures turn { (db : Database) → AreSpots db undecided.now.spots
         → IfOk result (λ turn. IsTurn db txn (Some (standing.Undecided undecided.now)) turn (on_commit_call (txn_name txn) (undecided_of db undecided.now) (stage_of db undecided.now.spots undecided.now.stage))) }
+    ensures sites { IfOk result (λ turn. AtSites (sites_of undecided.now.spots) turn.after) }
     ensures keeps { IfOk result (λ turn. kept_voters (after_of (Some (standing.Undecided undecided.now)) turn.after) ≡ None) }
 {
     if !is_idle(&undecided.stage) {

@@ -11,6 +11,8 @@ mod committing;
 mod ending;
 mod finishing;
 mod orders;
+mod present;
+pub mod refusal;
 pub mod reply;
 mod sending;
 mod spot;

@@ -1,6 +1,7 @@
 //! What the coordinator tells its clients.
 
 use meaning::answer::Answer;
+use store::name::Txn;
 
 /// Why a transaction aborted.
 #[derive(Clone, Copy, Debug, PartialEq, Eq)]
@@ -26,4 +27,11 @@ pub enum Reply {
     Committed,
     RolledBack,
     Aborted(Why),
+}
+
+/// A reply, and the transaction whose client hears it.
+#[derive(Debug, Drop)]
+pub struct Notice {
+    pub txn: Txn,
+    pub reply: Reply,
 }

@@ -5,9 +5,9 @@ use Rattle.protocol.specs.Letters.{txn_name}
 use Rattle.desk.specs.declared.standing.Standing.TheVariants as standing
 use Rattle.desk.specs.declared.undecided.Stage.TheVariants.{Voting}
 use Rattle.desk.specs.Ballots.{counts_vote}
-use Rattle.desk.specs.Spots.{changed_at, with_vote}
+use Rattle.desk.specs.Spots.{changed_at, sites_of, with_vote}
 use Rattle.desk.proofs.Acknowledged.{turn_as, unchanged}
-use Rattle.desk.proofs.Counted.{no_turn, vote_lost, vote_turn, voted_are}
+use Rattle.desk.proofs.Counted.{at_same, no_turn, vote_lost, vote_turn, voted_are, voted_sites}
 use Rattle.desk.proofs.Decisions.{ended_keeps}
 use Rattle.desk.proofs.ballots.on_vote.Goals as goal
 
@@ -49,3 +49,9 @@ returns-clause-keeps g c = λ db are clean sound none.
     c.votes_go.ensures.keeps db (Some (standing.Undecided u))
     (voted_are db u.spots c.args.site.now c.args.voted.vote are c.in_ok-spots.spots.items same)
     refl clean sound none
+
+pub returns-clause-sites : goal.returns-clause-sites
+returns-clause-sites g c =
+    at_same c.votes_go.result (sites_of c.in_ok-spots.spots.items) (sites_of c.args.undecided.now.spots)
+    (voted_sites c.args.site.now c.args.voted.vote c.args.undecided.now.spots c.in_ok-spots.spots.items (c.in_ok-spots.ensures ∙ ap (map (changed_at c.args.site.now (with_vote (Some c.args.voted.vote)))) c.as_slice.ensures))
+    c.votes_go.ensures.sites
