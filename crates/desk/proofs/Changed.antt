@@ -1,5 +1,5 @@
 -- Spots that are changed: one of them, or all.
-use Rattle.std.proofs.Common.{◌≡◌, refl, sym, ap, ◌∙◌, subst, ℕ, nat_eq, Bool, true, false, List, [], ◌∷◌, map, Option, Some, None, if◌then◌else◌, ◌||◌}
+use Rattle.std.proofs.Common.{◌≡◌, refl, sym, ap, ◌∙◌, subst, ℕ, nat_eq, Bool, true, false, List, [], ◌∷◌, map, Some, None, if◌then◌else◌, ◌||◌}
 use Rattle.std.specs.Cmp.Lexicographic.{pointwise}
 use Rattle.std.specs.List.{list_any}
 use Rattle.std.specs.Option.{option_map}
@@ -9,15 +9,15 @@ use Rattle.reader.specs.Printable.{AreDistinct}
 use Rattle.protocol.specs.Desk as desk
 use Rattle.protocol.specs.Language.{put}
 use Rattle.protocol.specs.Letters.{name_of, vote_of}
-use Rattle.protocol.proofs.Basics.{either, if_true, if_false}
+use Rattle.protocol.proofs.Basics.{either, if_false}
 use Rattle.desk.specs.declared.spot.Spot.{Spot}
 use Rattle.desk.specs.declared.undecided.Stage.{Stage}
 use Rattle.desk.specs.declared.undecided.Stage.TheVariants as stage
-use Rattle.desk.specs.Database.{Database, language}
+use Rattle.desk.specs.Database.{Database}
 use Rattle.desk.specs.Spots.{changed_at, is_at, nowhere, sites_of, spot_in, with_ticket, with_vote}
 use Rattle.desk.specs.Standing.{stage_of, undecided_of, votes_of}
 use Rattle.desk.specs.Turn.{AreSpots, voting}
-use Rattle.desk.proofs.Spots.{text_is, text_self}
+use Rattle.desk.proofs.Spots.{text_is}
 
 -- ---- the sites stay
 pub same_sites : (f : Spot → Spot) → ((s : Spot) → (f s).site ≡ s.site) → (spots : List Spot) → sites_of (map f spots) ≡ sites_of spots

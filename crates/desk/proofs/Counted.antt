@@ -1,5 +1,5 @@
 -- Votes and tickets that come, as the protocol has them.
-use Rattle.std.proofs.Common.{◌≡◌, refl, sym, ap, ◌∙◌, subst, ℕ, nat_eq, Bool, true, false, not, ◌&&◌, ◌||◌, List, [], ◌∷◌, map, find, Option, Some, None, is_none, if◌then◌else◌, Result, Ok, Err, IfOk}
+use Rattle.std.proofs.Common.{◌≡◌, refl, sym, ap, ◌∙◌, subst, ℕ, nat_eq, Bool, true, false, ◌&&◌, ◌||◌, List, [], ◌∷◌, map, find, Option, Some, None, is_none, if◌then◌else◌, Result, Ok, Err, IfOk}
 use Rattle.std.specs.Cmp.Lexicographic.{pointwise}
 use Rattle.std.specs.List.{list_any}
 use Rattle.std.specs.Option.{option_map}
@@ -19,7 +19,7 @@ use Rattle.desk.specs.declared.turn.Turn.{Turn}
 use Rattle.desk.specs.declared.undecided.Stage.{Stage}
 use Rattle.desk.specs.declared.undecided.Stage.TheVariants as stage
 use Rattle.desk.specs.declared.undecided.Undecided.{Undecided}
-use Rattle.desk.specs.Ballots.{awaits_vote, counts_vote, is_first}
+use Rattle.desk.specs.Ballots.{counts_vote, is_first}
 use Rattle.desk.specs.Database.{Database, language, replied}
 use Rattle.desk.specs.Orders.{is_voting}
 use Rattle.desk.specs.Spots.{changed_at, is_at, nowhere, sites_of, spot_in, with_vote}

@@ -1,7 +1,6 @@
 -- The operations of a statement go out to the tickets that have come.
-use Rattle.std.specs.Prelude.{◌≡◌, ℕ, suc, List, [], ◌∷◌, map, Option, Some, None}
+use Rattle.std.specs.Prelude.{◌≡◌, ℕ, suc, Bool, List, [], ◌∷◌, map, Option, Some, None, is_none}
 use Rattle.std.specs.List.{AllByRecursion}
-use Rattle.terms.specs.declared.leaf.Leaf.{Leaf}
 use Rattle.store.specs.declared.letter.Letter.{Letter}
 use Rattle.store.specs.declared.name.Ticket.{Ticket}
 use Rattle.store.specs.declared.name.Txn.{Txn}
@@ -47,6 +46,12 @@ write_order unsent ticket number = order.Intend (record { ticket = ticket; op = 
 abbrev pub numbered : Ask → ℕ → Ask
 numbered ask number = record ask { number = Some number }
 
+-- fetches with these numbers
+abbrev pub with_numbers : List Ask → List (Option ℕ) → List Ask
+with_numbers [] numbers = []
+with_numbers (ask ∷ asks) [] = ask ∷ asks
+with_numbers (ask ∷ asks) (number ∷ numbers) = record ask { number = number } ∷ with_numbers asks numbers
+
 -- a fetch goes out where it hasn't yet and its site has given a ticket
 abbrev pub ask_goes : Txn → Ask → Option ℕ → Option Ticket → List Spot → (List Spot → Sent Ask) → Sent Ask
 ask_goes txn ask None (Some ticket) spots rest =
@@ -61,6 +66,10 @@ ask_goes txn ask number ticket spots rest =
 abbrev pub asks_go : Txn → List Ask → List Spot → Sent Ask
 asks_go txn [] spots = record { left = []; spots = spots; letters = [] }
 asks_go txn (ask ∷ asks) spots = ask_goes txn ask ask.number (spot_in ask.site spots).ticket spots (asks_go txn asks)
+
+-- whether a write waits for a ticket
+abbrev pub waits_in : List Spot → Unsent → Bool
+waits_in spots unsent = is_none (spot_in unsent.site spots).ticket
 
 -- a write goes out where its site has given a ticket
 abbrev pub write_goes : Txn → Unsent → Option Ticket → List Spot → (List Spot → Sent Unsent) → Sent Unsent

@@ -38,8 +38,8 @@ votes_of spots site = option_map vote_of (spot_in site spots).vote
 -- where a transaction stands
 abbrev pub stage_of : (db : Database) → List Spot → Stage → protocol.Stage (language db)
 stage_of db spots stage.Idle = protocol.Idle
-stage_of db spots (stage.Reading reading) = protocol.Reading reading.statement (map (ask_of db) reading.asks)
-stage_of db spots (stage.Writing writing) = protocol.Writing writing.answer (map write_of writing.unsent)
+stage_of db spots (stage.Reading reading) = protocol.Reading reading.statement (map (ask_of db) reading.asks.items)
+stage_of db spots (stage.Writing writing) = protocol.Writing writing.answer (map write_of writing.unsent.items)
 stage_of db spots stage.Voting = protocol.Voting (votes_of spots)
 
 -- an undecided transaction

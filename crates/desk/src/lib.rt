@@ -6,6 +6,7 @@
 
 mod acking;
 mod ask;
+mod asking;
 mod ballots;
 mod committing;
 mod ending;

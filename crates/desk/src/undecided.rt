@@ -12,7 +12,7 @@ use terms::write::Write;
 #[derive(Debug, Drop)]
 pub(crate) struct Reading {
     pub(crate) statement: Statement,
-    pub(crate) asks: Seq<Ask>,
+    pub(crate) asks: Vec<Ask>,
 }
 
 /// A write that waits for a ticket of its leaf's site.
@@ -26,7 +26,7 @@ pub(crate) struct Unsent {
 #[derive(Debug, Drop)]
 pub(crate) struct Writing {
     pub(crate) answer: Answer,
-    pub(crate) unsent: Seq<Unsent>,
+    pub(crate) unsent: Vec<Unsent>,
 }
 
 /// Where a transaction stands.
