@@ -11,3 +11,4 @@ pub mod Operations
 pub mod Txns
 pub mod Counts
 pub mod Settled
+pub mod Stepping

@@ -7,6 +7,7 @@ pub mod Orders
 pub mod Voters
 pub mod Turn
 pub mod Sending
+pub mod Stepped
 pub mod Ballots
 pub mod State
 pub mod Begun
