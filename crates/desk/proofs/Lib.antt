@@ -12,3 +12,6 @@ pub mod Txns
 pub mod Counts
 pub mod Settled
 pub mod Stepping
+pub mod Limits
+pub mod Making
+pub mod Beginning

@@ -191,19 +191,20 @@ module _ (db : Database) (kept new : DeskContent) (entries : Entries) (sorted : 
     }
 
 -- ---- the limits
+names_length : (xs : List Txn) → length (map txn_name xs) ≡ length xs
+names_length [] = refl
+names_length (x ∷ xs) = ap suc (names_length xs)
+
+-- so many are undecided
+pub few_names : (db : Database) (table : Table) → table.undecided ≡ open_among table.standing table.txns → length (filter (λ t. desk.is_undecided ((desk_of db table).txn t)) (map txn_name table.txns)) ≡ table.undecided
+few_names db table counted =
+    ap length (filter_names (λ t. desk.is_undecided ((desk_of db table).txn t)) (λ j. is_open (table.standing j)) table.txns (λ j listed. open_is db (table.standing j)))
+    ∙ names_length (filter (λ j. is_open (table.standing j)) table.txns) ∙ sym counted
+
 module _ (db : Database) (kept : DeskContent) (table : Table) (fits : Fits db kept table) where
   all_short : (xs : List Txn) → list_all (λ t. desk.is_short_txn ((desk_of db table).txn t)) (map txn_name xs) ≡ true
   all_short [] = refl
   all_short (x ∷ xs) = both_true _ _ (fits.short x) (all_short xs)
-
-  few_open : length (filter (λ t. desk.is_undecided ((desk_of db table).txn t)) (map txn_name table.txns)) ≡ table.undecided
-  few_open =
-      ap length (filter_names (λ t. desk.is_undecided ((desk_of db table).txn t)) (λ j. is_open (table.standing j)) table.txns (λ j listed. open_is db (table.standing j)))
-      ∙ names_length (filter (λ j. is_open (table.standing j)) table.txns) ∙ sym fits.counted
-    where
-      names_length : (xs : List Txn) → length (map txn_name xs) ≡ length xs
-      names_length [] = refl
-      names_length (x ∷ xs) = ap suc (names_length xs)
 
   below : (m n : ℕ) → m < n → nat_lt m n ≡ true
   below m n lt = grind (arith)
@@ -214,4 +215,4 @@ module _ (db : Database) (kept : DeskContent) (table : Table) (fits : Fits db ke
   pub is_within : desk.is_desk_within (desk_of db table) ≡ true
   is_within =
       both_true _ _ (both_true _ _ (both_true _ _ (below table.life (2 ^ 63) fits.low.0) (below table.number (2 ^ 63) fits.low.1)) (all_short table.txns))
-      (ap (λ n. nat_le n 256) few_open ∙ up_to table.undecided 256 fits.few)
+      (ap (λ n. nat_le n 256) (few_names db table fits.counted) ∙ up_to table.undecided 256 fits.few)

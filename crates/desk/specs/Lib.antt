@@ -11,3 +11,5 @@ pub mod Stepped
 pub mod Ballots
 pub mod State
 pub mod Begun
+pub mod Calls
+pub mod Starting

@@ -1,5 +1,5 @@
 -- The coordinator's state: what its store keeps, and what it has in memory.
-use Rattle.std.specs.Prelude.{◌≡◌, ℕ, ◌^◌, ◌<◌, ◌≤◌, ◌⊎◌, Bool, true, false, ◌&&◌, not, List, map, length, filter, Option, Some, None, is_some, if◌then◌else◌}
+use Rattle.std.specs.Prelude.{◌≡◌, ℕ, ◌^◌, ◌<◌, ◌≤◌, ◌⊎◌, Bool, true, false, ◌&&◌, not, List, [], ◌∷◌, map, length, filter, Option, Some, None, is_some, if◌then◌else◌}
 use Rattle.std.specs.BTreeMap.{is_at}
 use Rattle.std.specs.List.{filter_map}
 use Rattle.std.specs.Map.{lookup, keys_of, remove_entry, set_value}
@@ -106,3 +106,11 @@ pub record Steps (db : Database) (before : Table) (kept : DeskContent) (after : 
   pub state : desk_of db after ≡ protocol.desk_after (desk_of db before) (txn_name txn) wanted.txn
   pub letters : map (sent db) written ≡ wanted.letters
   pub replies : map notice_of notices ≡ filter_map told wanted.deeds
+
+-- a transaction begins: the state after it is the protocol's, and its client hears that it has begun
+pub record Begins (db : Database) (before : Table) (kept : DeskContent) (after : Table) (written : List Letter) (notices : List Notice) : Type 0 where
+  pub fits : Fits db kept after
+  pub within : protocol.is_desk_within (desk_of db after) ≡ true
+  pub state : desk_of db after ≡ protocol.desk_began (desk_of db before)
+  pub letters : written ≡ []
+  pub replies : map notice_of notices ≡ filter_map (told {db = db}) (protocol.Began (protocol.next_txn (desk_of db before)) ∷ [])

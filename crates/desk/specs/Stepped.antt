@@ -7,7 +7,7 @@ use Rattle.store.specs.declared.name.Txn.{Txn}
 use Rattle.protocol.specs.Desk as protocol
 use Rattle.protocol.specs.Language.{put}
 use Rattle.protocol.specs.Letters.{name_of, txn_name}
-use Rattle.desk.specs.declared.asking.Step.{Step}
+use Rattle.desk.specs.declared.stepping.Step.{Step}
 use Rattle.desk.specs.declared.undecided.Stage.{Stage}
 use Rattle.desk.specs.declared.undecided.Stage.TheVariants as stage
 use Rattle.desk.specs.declared.undecided.Undecided.{Undecided}

@@ -1,27 +1,17 @@
 //! What waited for a ticket goes out.
 
-ghost use Rattle.std.specs.Prelude.{◌≡◌, true, IfOk, OnErr};
-ghost use Rattle.std.specs.List.{list_any};
-ghost use Rattle.protocol.specs.Desk.{Choice, ticket_goes};
-ghost use Rattle.protocol.specs.Letters.{txn_name};
-ghost use Rattle.desk.specs.Database.{Database, language};
+ghost use Rattle.std.specs.Prelude.{◌≡◌, IfOk, OnErr};
 ghost use Rattle.desk.specs.Sending.{asks_go, writes_go};
-ghost use Rattle.desk.specs.Spots.{is_at};
-ghost use Rattle.desk.specs.Standing.{stage_of};
-ghost use Rattle.desk.specs.Stepped.{IsAtHome, IsStep, ticketed};
 
 use crate::ask::Ask;
 use crate::refusal::Refusal;
-use crate::reply::Reply;
 use crate::sending::{asks_out, number, ticket_of, writes_out};
-use crate::spot::{Spot, with_ticket};
-use crate::undecided::{Stage, Undecided, Unsent};
+use crate::spot::Spot;
+use crate::undecided::Unsent;
 use std::alloc::Global;
 use store::letter::Letter;
-use store::name::{Ticket, Txn};
-use terms::copy::{TryCopy, copy_all};
-use terms::seq::Seq;
-use terms::text::Text;
+use store::name::Txn;
+use terms::copy::copy_all;
 
 /// Letters that go out, and the spots after it.
 #[derive(Debug, Drop)]
@@ -70,62 +60,4 @@ pub(crate) fn writes_step(
         spots: counted,
         letters,
     })
-}
-
-/// What a step of a statement brings about.
-#[derive(Debug, Drop)]
-pub(crate) struct Step {
-    pub(crate) letters: Vec<Letter>,
-    pub(crate) reply: Option<Reply>,
-}
-
-/// A first ticket of a site comes: what waited for it goes out. With the last write the answer is given.
-pub(crate) fn ticket_goes(
-    alloc: Global,
-    txn: Txn,
-    undecided: &mut Undecided,
-    site: &Text,
-    ticket: Ticket,
-) -> Result<Step, Refusal>
-    ensures step { (db : Database) (choice : Choice (language db)) → list_any (is_at site.now) undecided.old.spots ≡ true → IsAtHome db undecided.old.stage
-        → IfOk result (λ step. IsStep db txn undecided.new step
-            (ticket_goes (txn_name txn) (ticketed db undecided.old site.now ticket) choice (stage_of db undecided.old.spots undecided.old.stage))) }
-    ensures home { (db : Database) → IsAtHome db undecided.old.stage → IsAtHome db undecided.new.stage }
-    ensures same { OnErr result (undecided.new ≡ undecided.old) }
-{
-    let spots = with_ticket(alloc, undecided.spots.as_slice(), site, ticket)?;
-    match &mut undecided.stage {
-        Stage::Idle | Stage::Voting => {
-            undecided.spots = Seq::new(spots);
-            Ok(Step {
-                letters: Vec::new(alloc),
-                reply: None,
-            })
-        }
-        Stage::Reading(reading) => {
-            let going = asks_step(alloc, txn, spots.as_slice(), &mut reading.asks)?;
-            undecided.spots = Seq::new(going.spots);
-            Ok(Step {
-                letters: going.letters,
-                reply: None,
-            })
-        }
-        Stage::Writing(writing) => {
-            let answer = writing.answer.copy()?;
-            let going = writes_step(alloc, txn, spots.as_slice(), &mut writing.unsent)?;
-            let done = writing.unsent.is_empty();
-            undecided.spots = Seq::new(going.spots);
-            if !done {
-                return Ok(Step {
-                    letters: going.letters,
-                    reply: None,
-                });
-            }
-            undecided.stage = Stage::Idle;
-            Ok(Step {
-                letters: going.letters,
-                reply: Some(Reply::Answer(answer)),
-            })
-        }
-    }
 }

@@ -1,6 +1,6 @@
 //! The commit of a transaction is asked for.
 
-ghost use Rattle.std.specs.Prelude.{◌≡◌, None, Some, IfOk};
+ghost use Rattle.std.specs.Prelude.{◌≡◌, None, Some, true, IfOk};
 ghost use Rattle.protocol.specs.Desk.{on_commit_call};
 ghost use Rattle.protocol.specs.Letters.{txn_name};
 ghost use Rattle.desk.specs.declared.standing.Standing.TheVariants as standing;
@@ -35,6 +35,7 @@ pub(crate) fn commit(alloc: Global, txn: Txn, undecided: &Undecided) -> Result<T
         → IfOk result (λ turn. IsTurn db txn (Some (standing.Undecided undecided.now)) turn (on_commit_call (txn_name txn) (undecided_of db undecided.now) (stage_of db undecided.now.spots undecided.now.stage))) }
     ensures sites { IfOk result (λ turn. AtSites (sites_of undecided.now.spots) turn.after) }
     ensures keeps { IfOk result (λ turn. kept_voters (after_of (Some (standing.Undecided undecided.now)) turn.after) ≡ None) }
+    ensures kept { IfOk result (λ turn. turn.kept ≡ true) }
 {
     if !is_idle(&undecided.stage) {
         return Ok(stays(alloc, true));

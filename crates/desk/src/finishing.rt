@@ -1,6 +1,6 @@
 //! The work of a transaction ends: its commit is asked for, or it is rolled back, refused or given up.
 
-ghost use Rattle.std.specs.Prelude.{◌≡◌, None, Some, IfOk};
+ghost use Rattle.std.specs.Prelude.{◌≡◌, None, Some, true, IfOk};
 ghost use Rattle.protocol.specs.Desk as protocol;
 ghost use Rattle.protocol.specs.Desk.{Choice, Given_up, ends_by, on_known, on_refused, on_rollback};
 ghost use Rattle.protocol.specs.Letters.{txn_name};
@@ -37,6 +37,7 @@ pub(crate) fn give_up(alloc: Global, txn: Txn, undecided: &Undecided) -> Result<
         → IfOk result (λ turn. IsTurn db txn (Some (standing.Undecided undecided.now)) turn (ends_by (txn_name txn) (undecided_of db undecided.now) (protocol.Aborted (txn_name txn) Given_up))) }
     ensures sites { IfOk result (λ turn. AtSites (sites_of undecided.now.spots) turn.after) }
     ensures keeps { IfOk result (λ turn. kept_voters (after_of (Some (standing.Undecided undecided.now)) turn.after) ≡ None) }
+    ensures kept { IfOk result (λ turn. turn.kept ≡ true) }
 {
     let word = ending_word(&undecided.stage);
     let spots = undecided.spots.as_slice();
@@ -49,6 +50,7 @@ pub(crate) fn roll_back(alloc: Global, txn: Txn, undecided: &Undecided) -> Resul
         → IfOk result (λ turn. IsTurn db txn (Some (standing.Undecided undecided.now)) turn (on_rollback (txn_name txn) (undecided_of db undecided.now) (stage_of db undecided.now.spots undecided.now.stage))) }
     ensures sites { IfOk result (λ turn. AtSites (sites_of undecided.now.spots) turn.after) }
     ensures keeps { IfOk result (λ turn. kept_voters (after_of (Some (standing.Undecided undecided.now)) turn.after) ≡ None) }
+    ensures kept { IfOk result (λ turn. turn.kept ≡ true) }
 {
     if is_voting(&undecided.stage) {
         return Ok(stays(alloc, true));
@@ -64,6 +66,7 @@ pub(crate) fn refused(alloc: Global, txn: Txn, undecided: &Undecided) -> Result<
         → IfOk result (λ turn. IsTurn db txn (Some (standing.Undecided undecided.now)) turn (on_refused (txn_name txn) (undecided_of db undecided.now) (stage_of db undecided.now.spots undecided.now.stage))) }
     ensures sites { IfOk result (λ turn. AtSites (sites_of undecided.now.spots) turn.after) }
     ensures keeps { IfOk result (λ turn. kept_voters (after_of (Some (standing.Undecided undecided.now)) turn.after) ≡ None) }
+    ensures kept { IfOk result (λ turn. turn.kept ≡ true) }
 {
     if is_voting(&undecided.stage) {
         return Ok(stays(alloc, true));
@@ -85,6 +88,7 @@ pub(crate) fn on_refusal(
         → IfOk result (λ turn. IsTurn db txn (Some (standing.Undecided undecided.now)) turn (on_known (txn_name txn) (undecided_of db undecided.now) site.now turn.kept choice (replied db (reply.Refused refusal)))) }
     ensures sites { IfOk result (λ turn. AtSites (sites_of undecided.now.spots) turn.after) }
     ensures keeps { IfOk result (λ turn. kept_voters (after_of (Some (standing.Undecided undecided.now)) turn.after) ≡ None) }
+    ensures kept { IfOk result (λ turn. turn.kept ≡ true) }
 {
     if gave_first(undecided.spots.as_slice(), site, &refusal.ticket) {
         refused(alloc, txn, undecided)

@@ -9,6 +9,7 @@ ghost use Rattle.store.specs.Name.{txn_cmp};
 ghost use Rattle.desk.specs.declared.refusal.Refusal.TheVariants as refusals;
 ghost use Rattle.desk.specs.declared.standing.Standing.{Standing as StandingNow};
 ghost use Rattle.desk.specs.declared.standing.Standing.TheVariants as standing;
+ghost use Rattle.desk.specs.declared.turn.After.TheVariants as afters;
 ghost use Rattle.desk.specs.State.{closes, is_open, settled, table_from, table_of};
 ghost use Rattle.desk.specs.Begun.{first_of, next_of};
 
@@ -138,6 +139,7 @@ impl Present {
     pub(crate) fn settle(&mut self, txn: &Txn, after: After)
         ensures settled { (now : StandingNow) → (table_of self.old).standing txn.now ≡ Some now
             → table_of self.new ≡ table_from (settled txn.now after self.old.standings.entries) (if is_open (Some now) && closes after then self.old.undecided - 1 else self.old.undecided) self.old.life self.old.number }
+        ensures still { after ≡ afters.Stays → table_of self.new ≡ table_of self.old }
         ensures ordered { IsOrdered txn_cmp self.old.standings }
     {
         let _count = self.standings.len();

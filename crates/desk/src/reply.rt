@@ -1,7 +1,9 @@
 //! What the coordinator tells its clients.
 
 use meaning::answer::Answer;
+use store::letter::Letter;
 use store::name::Txn;
+use terms::seq::Seq;
 
 /// Why a transaction aborted.
 #[derive(Clone, Copy, Debug, PartialEq, Eq)]
@@ -34,4 +36,13 @@ pub enum Reply {
 pub struct Notice {
     pub txn: Txn,
     pub reply: Reply,
+}
+
+/// What a call puts out.
+#[derive(Debug, Drop)]
+pub struct Out {
+    pub letters: Seq<Letter>,
+    pub replies: Seq<Notice>,
+    /// Whether the store did not refuse.
+    pub kept: bool,
 }

@@ -1,6 +1,6 @@
 //! Who is to commit, and who has acknowledged.
 
-ghost use Rattle.std.specs.Prelude.{◌≡◌, IfOk, map, ◌++◌, ◌∷◌, []};
+ghost use Rattle.std.specs.Prelude.{◌≡◌, IfOk, OnOk, map, ◌++◌, ◌∷◌, []};
 ghost use Rattle.desk.specs.Voters.{are_acked, commit_letters, has_voter, is_voter, is_yes, voter_at, voter_with, voters_among};
 
 use crate::spot::Spot;
@@ -55,6 +55,24 @@ pub(crate) fn voters_among(alloc: Global, spots: &[Spot]) -> Result<Vec<Voter>, 
     Ok(voters)
 }
 
+/// A Commit more to each voter.
+pub(crate) fn add_commits(
+    letters: &mut Vec<Letter>,
+    txn: Txn,
+    voters: &[Voter],
+) -> Result<(), Memory>
+    ensures { OnOk result (letters.new.items ≡ letters.old.items ++ commit_letters txn voters.now) }
+{
+    for voter in voters {
+        letters.push(Letter {
+            site: voter.site.copy()?,
+            txn,
+            body: Body::Order(Order::Commit(voter.ticket)),
+        })?;
+    }
+    Ok(())
+}
+
 /// A Commit to each voter.
 pub(crate) fn commit_letters(
     alloc: Global,
@@ -64,13 +82,7 @@ pub(crate) fn commit_letters(
     ensures { IfOk result (λ letters. letters.items ≡ commit_letters txn voters.now) }
 {
     let mut letters = Vec::new(alloc);
-    for voter in voters {
-        letters.push(Letter {
-            site: voter.site.copy()?,
-            txn,
-            body: Body::Order(Order::Commit(voter.ticket)),
-        })?;
-    }
+    add_commits(&mut letters, txn, voters)?;
     Ok(letters)
 }
 

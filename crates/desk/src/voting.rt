@@ -1,6 +1,6 @@
 //! The first phase: votes, and the decision.
 
-ghost use Rattle.std.specs.Prelude.{◌≡◌, ℕ, List, ◌==◌, ◌<◌, length, map, false, None, Option, IfOk, OnErr};
+ghost use Rattle.std.specs.Prelude.{◌≡◌, ℕ, List, ◌==◌, ◌<◌, length, map, false, true, None, Option, IfOk, OnErr};
 ghost use Rattle.protocol.specs.Desk.{By_store, decides, ends_by, votes_go};
 ghost use Rattle.protocol.specs.Desk as protocol;
 ghost use Rattle.protocol.specs.Letters.{txn_name};
@@ -79,6 +79,7 @@ pub(crate) fn voting(spots: Vec<Spot>) -> Undecided
 pub(crate) fn commits_at_once(alloc: Global) -> Turn
     ensures turn { (db : Database) (txn : Txn) (old : Option StandingNow) → IsTurn db txn old result (commits_now (txn_name txn)) }
     ensures after { result.after ≡ Ends }
+    ensures kept { result.kept ≡ true }
 {
     Turn {
         after: After::Ends,

@@ -1,0 +1,95 @@
+//! A life of the coordinator begins.
+
+ghost use Rattle.std.specs.Prelude.{◌≡◌, ◌⊎◌, ◌++◌, ◌+◌, ◌≤◌, ◌^◌, [], true, false, Err, IfOk, IfErr, OnOk, OnErr};
+ghost use Rattle.std.specs.BTreeMap.{IsOrdered};
+ghost use Rattle.store.specs.DeskContent.{BeginsLife, IsUnchanged, Lists};
+ghost use Rattle.store.specs.Fault.{HasRefused};
+ghost use Rattle.store.specs.Name.{txn_cmp};
+ghost use Rattle.store.specs.declared.fault.StoreFault.TheVariants as store_faults;
+ghost use Rattle.desk.specs.declared.refusal.Refusal.TheVariants as refusals;
+ghost use Rattle.desk.specs.Database.{Database};
+ghost use Rattle.desk.specs.Starting.{IsStrange, are_begun, commits_again, lost_among, row_standing, stood_by};
+
+use crate::present::{LAST, Present, add};
+use crate::refusal::{Refusal, store_refusal};
+use crate::reply::{Notice, Reply, Why};
+use crate::standing::{Committed, Standing, Standings};
+use crate::voters::add_commits;
+use std::alloc::Global;
+use std::collections::BTreeMap;
+use store::commit::CommitRow;
+use store::desk_store::DeskStore;
+use store::fault::StoreFault;
+use store::letter::Letter;
+use terms::copy::TryCopy;
+use terms::memory::Memory;
+use terms::seq::Seq;
+
+/// What stands as a life begins: the decided transactions of the store's rows. And a Commit to each of
+/// their voters.
+#[derive(Drop)]
+pub(crate) struct Beginning {
+    pub(crate) standings: Standings,
+    pub(crate) letters: Vec<Letter>,
+    pub(crate) life: u64,
+}
+
+/// A decided transaction of which no acknowledgement has come.
+fn row_standing(alloc: Global, row: &CommitRow) -> Result<Standing, Memory>
+    ensures { IfOk result (λ standing. standing ≡ row_standing row.now) }
+{
+    Ok(Standing::Committed(Committed {
+        voters: row.voters.copy()?,
+        acked: Seq::new(Vec::new(alloc)),
+    }))
+}
+
+/// Whether the transactions of these rows were begun, in this life or before.
+fn are_begun(life: u64, rows: &[CommitRow]) -> bool
+    ensures { result ≡ are_begun life rows.now }
+{
+    rows.iter().all(|row| row.txn.life <= life)
+}
+
+/// Each row stands.
+fn rest(alloc: Global, rows: &[CommitRow]) -> Result<Standings, Refusal>
+    ensures standings { IfOk result (λ standings. standings.entries ≡ stood_by rows.now []) }
+    ensures ordered { IfOk result (λ standings. IsOrdered txn_cmp standings) }
+    ensures refusal { IfErr result (λ refusal. refusal ≡ refusals.Memory) }
+{
+    let mut standings = BTreeMap::new(alloc);
+    for row in rows {
+        add(&mut standings, row.txn, row_standing(alloc, row)?)?;
+    }
+    let _count = standings.len();
+    Ok(standings)
+}
+
+/// A Commit to each voter of each row.
+fn commits_again(alloc: Global, rows: &[CommitRow]) -> Result<Vec<Letter>, Memory>
+    ensures { IfOk result (λ letters. letters.items ≡ commits_again rows.now) }
+{
+    let mut letters = Vec::new(alloc);
+    for row in rows {
+        add_commits(&mut letters, row.txn, row.voters.as_slice())?;
+    }
+    Ok(letters)
+}
+
+/// The clients of undecided transactions hear that a restart aborted them.
+pub(crate) fn lost(present: &Present) -> Result<Vec<Notice>, Memory>
+    ensures notices { IfOk result (λ notices. notices.items ≡ lost_among present.now.standings.entries) }
+    ensures ordered { IsOrdered txn_cmp present.now.standings }
+{
+    let _count = present.standings.len();
+    let mut notices = Vec::new(present.alloc);
+    for (txn, standing) in &present.standings {
+        if let Standing::Undecided(_) = standing {
+            notices.push(Notice {
+                txn: *txn,
+                reply: Reply::Aborted(Why::Restart),
+            })?;
+        }
+    }
+    Ok(notices)
+}
