@@ -11,7 +11,7 @@ pub mod Operations
 pub mod Txns
 pub mod Counts
 pub mod Settled
-pub mod Stepping
+pub mod Going
 pub mod Limits
 pub mod Making
 pub mod Beginning

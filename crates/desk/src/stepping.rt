@@ -4,9 +4,11 @@ ghost use Rattle.std.specs.Prelude.{◌≡◌, [], true, None, Some, nat_eq, len
 ghost use Rattle.std.specs.List.{list_any};
 ghost use Rattle.protocol.specs.Desk.{Choice, ticket_goes};
 ghost use Rattle.protocol.specs.Letters.{txn_name};
+ghost use Rattle.meaning.specs.declared.answer.Answer.{Answer as AnswerNow};
+ghost use Rattle.desk.specs.declared.reply.Reply.TheVariants.{Answer as Answers};
 ghost use Rattle.desk.specs.declared.undecided.Stage.TheVariants as stages;
 ghost use Rattle.desk.specs.Database.{Database, language};
-ghost use Rattle.desk.specs.Sending.{asks_go, writes_go};
+ghost use Rattle.desk.specs.Sending.{writes_go};
 ghost use Rattle.desk.specs.Spots.{is_at};
 ghost use Rattle.desk.specs.Standing.{stage_of};
 ghost use Rattle.desk.specs.Stepped.{IsAtHome, IsStep, ticketed};
@@ -15,7 +17,7 @@ use crate::asking::{Going, asks_step, writes_step};
 use crate::refusal::Refusal;
 use crate::reply::Reply;
 use crate::spot::{Spot, with_ticket};
-use crate::undecided::{Reading, Stage, Undecided, Writing};
+use crate::undecided::{Stage, Undecided, Writing};
 use meaning::answer::Answer;
 use std::alloc::Global;
 use store::letter::Letter;
@@ -87,4 +89,63 @@ fn writing_goes(
         None
     };
     Ok(Written { going, answer })
+}
+
+/// What became of writes that went out.
+fn wrote(undecided: &mut Undecided, written: Written) -> Step
+    ensures spots { undecided.new.spots ≡ written.going.spots.items }
+    ensures letters { result.letters ≡ written.going.letters }
+    ensures waits { written.answer ≡ None → (undecided.new.stage ≡ undecided.old.stage) × (result.reply ≡ None) }
+    ensures answered { (answer : AnswerNow) → written.answer ≡ Some answer → (undecided.new.stage ≡ stages.Idle) × (result.reply ≡ Some (Answers answer)) }
+{
+    let Written { going, answer } = written;
+    let Going { spots, letters } = going;
+    set_spots(undecided, spots);
+    match answer {
+        None => Step {
+            letters,
+            reply: None,
+        },
+        Some(answer) => {
+            idles(undecided);
+            Step {
+                letters,
+                reply: Some(Reply::Answer(answer)),
+            }
+        }
+    }
+}
+
+/// A first ticket of a site comes: what waited for it goes out. With the last write the answer is given.
+pub(crate) fn ticket_goes(
+    alloc: Global,
+    txn: Txn,
+    undecided: &mut Undecided,
+    site: &Text,
+    ticket: Ticket,
+) -> Result<Step, Refusal>
+    ensures step { (db : Database) (choice : Choice (language db)) → list_any (is_at site.now) undecided.old.spots ≡ true → IsAtHome db undecided.old.stage
+        → IfOk result (λ step. IsStep db txn undecided.new step
+            (ticket_goes (txn_name txn) (ticketed db undecided.old site.now ticket) choice (stage_of db undecided.old.spots undecided.old.stage))) }
+    ensures same { OnErr result (undecided.new ≡ undecided.old) }
+{
+    let spots = with_ticket(alloc, undecided.spots.as_slice(), site, ticket)?;
+    match &mut undecided.stage {
+        Stage::Idle | Stage::Voting => {
+            set_spots(undecided, spots);
+            Ok(nothing(alloc))
+        }
+        Stage::Reading(reading) => {
+            let going = asks_step(alloc, txn, spots.as_slice(), &mut reading.asks)?;
+            set_spots(undecided, going.spots);
+            Ok(Step {
+                letters: going.letters,
+                reply: None,
+            })
+        }
+        Stage::Writing(writing) => {
+            let written = writing_goes(alloc, txn, spots.as_slice(), writing)?;
+            Ok(wrote(undecided, written))
+        }
+    }
 }
