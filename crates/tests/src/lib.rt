@@ -8,4 +8,10 @@ mod calls;
 #[cfg(test)]
 mod catalogues;
 #[cfg(test)]
+mod letters;
+#[cfg(test)]
+mod refusing;
+#[cfg(test)]
+mod sites;
+#[cfg(test)]
 mod statements;
