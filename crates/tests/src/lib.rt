@@ -8,4 +8,6 @@ mod calls;
 #[cfg(test)]
 mod catalogues;
 #[cfg(test)]
+mod outcomes;
+#[cfg(test)]
 mod statements;
