@@ -14,4 +14,6 @@ mod refusing;
 #[cfg(test)]
 mod sites;
 #[cfg(test)]
+mod outcomes;
+#[cfg(test)]
 mod statements;
