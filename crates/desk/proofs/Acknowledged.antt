@@ -31,7 +31,7 @@ same_bool true b to from = sym (to refl)
 same_bool false true to from = from refl
 same_bool false false to from = refl
 
-is_equal : (r : Ordering) → is_eq r ≡ true → r ≡ Equal
+pub is_equal : (r : Ordering) → is_eq r ≡ true → r ≡ Equal
 is_equal Less e = cc
 is_equal Equal e = refl
 is_equal Greater e = cc
@@ -112,7 +112,7 @@ module _ (db : Database) where
     lost_ack txn turn m same new all kept is = last_ack txn turn m same new all (subst (λ b. IsTurn db txn here turn (if b then desk.stays desk.Unknown else row c.acked)) (sym kept) is)
 
 -- ---- what the store keeps
-txn_is : (a b : Txn) → is_txn a b ≡ true → a ≡ b
+pub txn_is : (a b : Txn) → is_txn a b ≡ true → a ≡ b
 txn_is a b e = txn_cmp-IsAntisymmetric a b (is_equal _ e)
 
 -- nothing has changed

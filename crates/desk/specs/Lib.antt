@@ -1,7 +1,12 @@
 -- The coordinator's machine over its store, in reading order.
+pub mod Refusal
 pub mod Database
 pub mod Spots
 pub mod Standing
 pub mod Orders
 pub mod Voters
 pub mod Turn
+pub mod Ballots
+pub mod State
+pub mod Begun
+pub mod Calls

@@ -1,5 +1,5 @@
 -- What a step makes of a transaction, as the protocol has it.
-use Rattle.std.specs.Prelude.{◌≡◌, List, [], ◌∷◌, map, Option, Some, None}
+use Rattle.std.specs.Prelude.{◌≡◌, ℕ, List, [], ◌∷◌, map, Option, Some, None}
 use Rattle.std.specs.List.{filter_map}
 use Rattle.reader.specs.Printable.{AreDistinct}
 use Rattle.store.specs.declared.name.Txn.{Txn}
@@ -12,6 +12,7 @@ use Rattle.desk.specs.declared.reply.Why as whys
 use Rattle.desk.specs.declared.reply.Why.TheVariants as why
 use Rattle.desk.specs.declared.spot.Spot.{Spot}
 use Rattle.desk.specs.declared.standing.Standing.{Standing}
+use Rattle.desk.specs.declared.standing.Standing.TheVariants as standing
 use Rattle.desk.specs.declared.turn.After as afters
 use Rattle.desk.specs.declared.turn.After.TheVariants.{Stays, Ends, Becomes}
 use Rattle.desk.specs.declared.turn.Turn.{Turn}
@@ -53,6 +54,16 @@ abbrev pub after_of : Option Standing → afters.After → Option Standing
 after_of old Stays = old
 after_of old Ends = None
 after_of old (Becomes standing) = Some standing
+
+-- an undecided transaction after a step has to do with these sites
+abbrev pub HasSites : List (List ℕ) → Standing → Type 0
+HasSites sites (standing.Undecided undecided) = sites_of undecided.spots ≡ sites
+HasSites sites (standing.Committed committed) = Unit
+
+abbrev pub AtSites : List (List ℕ) → afters.After → Type 0
+AtSites sites Stays = Unit
+AtSites sites Ends = Unit
+AtSites sites (Becomes standing) = HasSites sites standing
 
 -- the step is the protocol's
 pub record IsTurn (db : Database) (txn : Txn) (old : Option Standing) (turn : Turn) (wanted : protocol.Turn (language db)) : Type 0 where

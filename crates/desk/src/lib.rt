@@ -6,9 +6,15 @@
 
 mod acking;
 mod ask;
+mod ballots;
+mod calls;
+mod committing;
 mod ending;
 mod finishing;
+mod made;
 mod orders;
+mod present;
+pub mod refusal;
 pub mod reply;
 mod spot;
 mod standing;

@@ -1,6 +1,9 @@
 //! What the coordinator tells its clients.
 
 use meaning::answer::Answer;
+use store::letter::Letter;
+use store::name::Txn;
+use terms::seq::Seq;
 
 /// Why a transaction aborted.
 #[derive(Clone, Copy, Debug, PartialEq, Eq)]
@@ -26,4 +29,20 @@ pub enum Reply {
     Committed,
     RolledBack,
     Aborted(Why),
+}
+
+/// A reply, and the transaction whose client hears it.
+#[derive(Debug, Drop)]
+pub struct Notice {
+    pub txn: Txn,
+    pub reply: Reply,
+}
+
+/// What a call puts out.
+#[derive(Debug, Drop)]
+pub struct Out {
+    pub letters: Seq<Letter>,
+    pub replies: Seq<Notice>,
+    /// Whether the store did not refuse.
+    pub kept: bool,
 }

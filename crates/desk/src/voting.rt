@@ -1,6 +1,6 @@
 //! The first phase: votes, and the decision.
 
-ghost use Rattle.std.specs.Prelude.{◌≡◌, ◌==◌, ◌<◌, length, map, false, None, Option, IfOk, OnErr};
+ghost use Rattle.std.specs.Prelude.{◌≡◌, ℕ, List, ◌==◌, ◌<◌, length, map, false, true, None, Option, IfOk, OnErr};
 ghost use Rattle.protocol.specs.Desk.{By_store, decides, ends_by, votes_go};
 ghost use Rattle.protocol.specs.Desk as protocol;
 ghost use Rattle.protocol.specs.Letters.{txn_name};
@@ -8,8 +8,9 @@ ghost use Rattle.store.specs.DeskContent.{AreVoters, IsUnchanged};
 ghost use Rattle.desk.specs.declared.standing.Standing.{Standing as StandingNow};
 ghost use Rattle.desk.specs.declared.turn.After.TheVariants.{Ends};
 ghost use Rattle.desk.specs.Database.{Database};
+ghost use Rattle.desk.specs.Spots.{sites_of};
 ghost use Rattle.desk.specs.Standing.{undecided_of, voter_of, votes_of};
-ghost use Rattle.desk.specs.Turn.{AreSpots, IsTurn, after_of, commits_now, voting};
+ghost use Rattle.desk.specs.Turn.{AreSpots, AtSites, IsTurn, after_of, commits_now, voting};
 ghost use Rattle.desk.specs.Voters.{Keeps, kept_voters};
 
 use crate::ending::ends;
@@ -42,6 +43,7 @@ pub(crate) fn votes_go<S: DeskStore>(
     ensures sound { S.is_clean store.new → S.is_sound store.old → S.is_sound store.new }
     ensures turn { (db : Database) (old : Option StandingNow) → AreSpots db spots.items
         → IfOk result (λ turn. IsTurn db txn old turn (votes_go (txn_name txn) (undecided_of db (voting spots.items)) (votes_of spots.items) turn.kept)) }
+    ensures sites { IfOk result (λ turn. AtSites (sites_of spots.items) turn.after) }
     ensures keeps { (db : Database) (old : Option StandingNow) → AreSpots db spots.items → kept_voters old ≡ None → S.is_clean store.new → S.is_sound store.old → (S.kept store.old).commits txn ≡ None
         → IfOk result (λ turn. Keeps txn (kept_voters (after_of old turn.after)) (S.kept store.old) (S.kept store.new)) }
     ensures same { S.is_clean store.new → S.is_sound store.old → OnErr result (IsUnchanged (S.kept store.old) (S.kept store.new)) }
@@ -64,7 +66,7 @@ fn are_none(voters: &[Voter]) -> bool
 }
 
 /// A transaction in its first phase.
-fn voting(spots: Vec<Spot>) -> Undecided
+pub(crate) fn voting(spots: Vec<Spot>) -> Undecided
     ensures { result ≡ voting spots.items }
 {
     Undecided {
@@ -74,9 +76,10 @@ fn voting(spots: Vec<Spot>) -> Undecided
 }
 
 /// Committed without a row.
-fn commits_at_once(alloc: Global) -> Turn
+pub(crate) fn commits_at_once(alloc: Global) -> Turn
     ensures turn { (db : Database) (txn : Txn) (old : Option StandingNow) → IsTurn db txn old result (commits_now (txn_name txn)) }
     ensures after { result.after ≡ Ends }
+    ensures kept { result.kept ≡ true }
 {
     Turn {
         after: After::Ends,
@@ -99,6 +102,7 @@ fn decides<S: DeskStore>(
     ensures sound { S.is_clean store.new → S.is_sound store.old → S.is_sound store.new }
     ensures turn { (db : Database) (old : Option StandingNow) → AreSpots db spots.now → 0 < length voters.items
         → IfOk result (λ turn. IsTurn db txn old turn (decides (txn_name txn) (undecided_of db (voting spots.now)) turn.kept (map voter_of voters.items))) }
+    ensures sites { (sites : List (List ℕ)) → IfOk result (λ turn. AtSites sites turn.after) }
     ensures keeps { (old : Option StandingNow) → AreVoters voters.items → S.is_clean store.new → S.is_sound store.old → (S.kept store.old).commits txn ≡ None
         → IfOk result (λ turn. Keeps txn (kept_voters (after_of old turn.after)) (S.kept store.old) (S.kept store.new)) }
     ensures same { S.is_clean store.new → S.is_sound store.old → OnErr result (IsUnchanged (S.kept store.old) (S.kept store.new)) }

@@ -6,7 +6,7 @@ use Rattle.desk.specs.declared.standing.Standing.TheVariants as standing
 use Rattle.desk.proofs.Stages.{ends_as}
 use Rattle.desk.proofs.finishing.give_up.Goals as goal
 
-pub returns : goal.returns
-returns c = λ db are.
+pub returns-clause-turn : goal.returns-clause-turn
+returns-clause-turn c = λ db are.
     ends_as db c.args.txn (Some (standing.Undecided c.args.undecided.now)) c.args.undecided.now c.as_slice-spots.result.now (Aborted (txn_name c.args.txn) Given_up) _ c.ends.result c.as_slice-spots.ensures are refl
     (λ those. c.ends.ensures.turn db (Some (standing.Undecided c.args.undecided.now)) c.args.undecided.now.stage (Aborted (txn_name c.args.txn) Given_up) those c.ending_word-word.ensures refl)

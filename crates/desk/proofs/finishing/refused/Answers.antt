@@ -8,11 +8,11 @@ use Rattle.desk.proofs.Acknowledged.{turn_as}
 use Rattle.desk.proofs.Stages.{ends_as, late_refusal, early_refusal}
 use Rattle.desk.proofs.finishing.refused.Goals as goal
 
-pub returns-then-is_voting : goal.returns-then-is_voting
-returns-then-is_voting c = λ db are.
+pub returns-then-is_voting-clause-turn : goal.returns-then-is_voting-clause-turn
+returns-then-is_voting-clause-turn c = λ db are.
     turn_as db c.args.txn (Some (standing.Undecided c.args.undecided.now)) c.stays.result _ _ (late_refusal db (txn_name c.args.txn) (undecided_of db c.args.undecided.now) c.args.undecided.now.spots c.args.undecided.now.stage (sym c.is_voting.ensures ∙ c.if-is_voting.true)) (c.stays.ensures.turn db c.args.txn (Some (standing.Undecided c.args.undecided.now)))
 
-pub returns : goal.returns
-returns c = λ db are.
+pub returns-clause-turn : goal.returns-clause-turn
+returns-clause-turn c = λ db are.
     ends_as db c.args.txn (Some (standing.Undecided c.args.undecided.now)) c.args.undecided.now c.as_slice-spots.result.now (Aborted (txn_name c.args.txn) By_refusal) _ c.ends.result c.as_slice-spots.ensures are (early_refusal db (txn_name c.args.txn) (undecided_of db c.args.undecided.now) c.args.undecided.now.spots c.args.undecided.now.stage (sym c.is_voting.ensures ∙ c.if-is_voting.false))
     (λ those. c.ends.ensures.turn db (Some (standing.Undecided c.args.undecided.now)) c.args.undecided.now.stage (Aborted (txn_name c.args.txn) By_refusal) those c.ending_word-word.ensures refl)

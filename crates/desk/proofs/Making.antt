@@ -1,0 +1,161 @@
+-- A step is made: it is the protocol's step of the whole state.
+use Rattle.std.proofs.Common.{◌≡◌, refl, sym, ap, ◌∙◌, subst, ℕ, ◌-◌, ◌⊎◌, Bool, true, false, not, ◌&&◌, List, [], ◌∷◌, map, Option, Some, None, is_some, if◌then◌else◌, ⊎_elim, filter}
+use Rattle.std.specs.List.Sorted.{IsStrictlySortedBy}
+use Rattle.std.specs.Map.{keys_of}
+use Rattle.reader.specs.Printable.{AreDistinct}
+use Rattle.store.specs.declared.letter.Letter.{Letter}
+use Rattle.store.specs.declared.name.Txn.{Txn}
+use Rattle.store.specs.DeskContent.{DeskContent, is_txn}
+use Rattle.store.specs.Name.{txn_cmp}
+use Rattle.protocol.specs.Desk as desk
+use Rattle.protocol.specs.Language.{Name, put, same}
+use Rattle.protocol.specs.Letters.{txn_name}
+use Rattle.protocol.specs.Parts.{In}
+use Rattle.desk.specs.declared.present.Present.{Present}
+use Rattle.desk.specs.declared.reply.Notice.{Notice}
+use Rattle.desk.specs.declared.reply.Reply.{Reply}
+use Rattle.desk.specs.declared.standing.Standing.{Standing}
+use Rattle.desk.specs.declared.standing.Standing.TheVariants as standing
+use Rattle.desk.specs.declared.turn.After.TheVariants.{Stays}
+use Rattle.desk.specs.declared.turn.Turn.{Turn}
+use Rattle.desk.specs.declared.undecided.Undecided.{Undecided}
+use Rattle.protocol.proofs.Basics.{some_is}
+use Rattle.desk.specs.Calls.{IsAt, notices, open_in}
+use Rattle.desk.specs.Database.{Database, language, sent}
+use Rattle.desk.specs.Standing.{txn_of}
+use Rattle.desk.specs.State.{Fits, Steps, Table, closes, desk_of, is_open, notice_of, settled, table_from, table_of, txn_at}
+use Rattle.desk.specs.Turn.{AreSpots, AtSites, HasSites, IsTurn, after_of, told_to}
+use Rattle.desk.specs.Voters.{Keeps, kept_voters}
+use Rattle.desk.proofs.Acknowledged.{keeps_same, txn_is, unchanged}
+use Rattle.desk.proofs.Limits.{shut_request}
+use Rattle.desk.proofs.Settled.{fits_after, is_within, open_is, state_is, unknown_is}
+use Rattle.desk.proofs.Txns.{Entries, at_txn, filter_all, filter_names, same_txn, txn_sym}
+
+-- who hears the reply
+pub told_is : (txn : Txn) (reply : Option Reply) → map notice_of (notices txn reply) ≡ told_to (txn_name txn) reply
+told_is txn None = refl
+told_is txn (Some reply) = refl
+
+-- an undecided transaction has to do with the sites of the database
+pub is_at : (db : Database) (kept : DeskContent) (table : Table) → AreDistinct db.sites → Fits db kept table → (txn : Txn) → IsAt db (table.standing txn)
+is_at db kept table distinct fits txn = go (table.standing txn) refl
+  where
+    go : (o : Option Standing) → table.standing txn ≡ o → IsAt db o
+    go None e = tt
+    go (Some (standing.Undecided u)) e = let s : HasSites db.sites (standing.Undecided u) = fits.sites txn (standing.Undecided u) e in record { sites = s; distinct = subst AreDistinct (sym s) distinct }
+    go (Some (standing.Committed c)) e = tt
+
+-- ---- where nothing changes in memory
+module _ (db : Database) (kept new : DeskContent) (table : Table) (fits : Fits db kept table) (k : Txn) where
+  pub fits_still : Keeps k (kept_voters (table.standing k)) kept new → Fits db new table
+  fits_still keeps = record {
+    rows = λ j. go j (is_txn k j) refl ∙ sym (keeps.commits j);
+    life = fits.life ∙ sym keeps.life;
+    listed = fits.listed;
+    lives = fits.lives;
+    begun = fits.begun;
+    sites = fits.sites;
+    counted = fits.counted;
+    short = fits.short;
+    few = fits.few;
+    low = fits.low;
+  }
+    where
+      go : (j : Txn) (b : Bool) → is_txn k j ≡ b → kept_voters (table.standing j) ≡ (if b then kept_voters (table.standing k) else kept.commits j)
+      go j true e = ap (λ i. kept_voters (table.standing i)) (sym (txn_is k j e))
+      go j false e = fits.rows j
+
+  abbrev put_at : Txn → desk.Txn (language db) → Name → desk.Txn (language db)
+  put_at i x = put same (txn_name i) x (desk_of db table).txn
+
+  pub state_still : (x : desk.Txn (language db)) → txn_of db (table.standing k) ≡ x → desk_of db table ≡ desk.desk_after (desk_of db table) (txn_name k) x
+  state_still x is = λ i. record { txn = λ name. there (txn_at name) i; known = known i; life = table.life; number = table.number }
+    where
+      there : (j : Txn) → txn_of db (table.standing j) ≡ put_at k x (txn_name j)
+      there j = go (is_txn k j) refl ∙ ap (λ b. if b then x else txn_of db (table.standing j)) (sym (same_txn j k ∙ txn_sym j k))
+        where
+          go : (b : Bool) → is_txn k j ≡ b → txn_of db (table.standing j) ≡ (if b then x else txn_of db (table.standing j))
+          go true e = ap (λ i. txn_of db (table.standing i)) (sym (txn_is k j e)) ∙ is
+          go false e = refl
+
+      known : map txn_name table.txns ≡ filter (λ t. not (desk.is_unknown (put_at k x t))) (map txn_name table.txns)
+      known =
+          sym (filter_names (λ t. not (desk.is_unknown (put_at k x t))) (λ j. is_some (table.standing j)) table.txns (λ j listed. ap (λ y. not (desk.is_unknown y)) (sym (there j)) ∙ unknown_is db (table.standing j))
+          ∙ ap (map txn_name) (filter_all (λ j. is_some (table.standing j)) table.txns fits.lives))
+
+-- ---- a step
+module _ (db : Database) (kept new : DeskContent) (present : Present) (sorted : IsStrictlySortedBy txn_cmp (keys_of present.standings.entries)) (fits : Fits db kept (table_of present)) (k : Txn) where
+  abbrev before : Table
+  before = table_of present
+
+  -- what is known of the state after it
+  pub record IsSettled (turn : Turn) (table : Table) : Type 0 where
+    pub moved : (now : Standing) → before.standing k ≡ Some now → table ≡ table_from (settled k turn.after present.standings.entries) (if is_open (Some now) && closes turn.after then present.undecided - 1 else present.undecided) present.life present.number
+    pub still : turn.after ≡ Stays → table ≡ before
+
+  module _ (turn : Turn) (wanted : desk.Turn (language db)) (is : IsTurn db k (before.standing k) turn wanted) (sites : AtSites db.sites turn.after) (keeps : Keeps k (kept_voters (after_of (before.standing k) turn.after)) kept new)
+      (short : desk.is_short_txn wanted.txn ≡ true) (shut : desk.is_undecided (txn_of db (before.standing k)) ≡ false → desk.is_undecided wanted.txn ≡ false)
+      (some : (is_some (before.standing k) ≡ true) ⊎ (turn.after ≡ Stays)) (table : Table) (made : IsSettled turn table) where
+    abbrev FitsSo : Table → Type 0
+    FitsSo t = Fits db new t × (desk_of db t ≡ desk.desk_after (desk_of db before) (txn_name k) wanted.txn)
+
+    still_so : turn.after ≡ Stays → FitsSo table
+    still_so stays = subst FitsSo (sym (made.still stays))
+        (fits_still db kept new before fits k (subst (λ a. Keeps k (kept_voters (after_of (before.standing k) a)) kept new) stays keeps),
+        state_still db kept new before fits k wanted.txn (ap (λ a. txn_of db (after_of (before.standing k) a)) (sym stays) ∙ is.stands))
+
+    moved_so : (now : Standing) → before.standing k ≡ Some now → FitsSo table
+    moved_so now e = subst FitsSo (sym (made.moved now e))
+        (fits_after db kept new present.standings.entries sorted present.undecided present.life present.number fits k now e turn.after
+        (subst (λ o. Keeps k (kept_voters (after_of o turn.after)) kept new) e keeps) sites
+        (ap desk.is_short_txn stands ∙ short)
+        (λ was. sym (open_is db (after_of (Some now) turn.after)) ∙ ap desk.is_undecided stands ∙ shut (ap (λ o. desk.is_undecided (txn_of db o)) e ∙ open_is db (Some now) ∙ was)),
+        state_is db kept new present.standings.entries sorted present.undecided present.life present.number fits k now e turn.after wanted.txn stands)
+      where
+        stands : txn_of db (after_of (Some now) turn.after) ≡ wanted.txn
+        stands = ap (λ o. txn_of db (after_of o turn.after)) (sym e) ∙ is.stands
+
+    so : FitsSo table
+    so = ⊎_elim (λ s. go (before.standing k) refl s) still_so some
+      where
+        go : (o : Option Standing) → before.standing k ≡ o → is_some o ≡ true → FitsSo table
+        go None e s = cc
+        go (Some now) e s = moved_so now e
+
+    pub makes : (written : List Letter) (heard : List Notice) → written ≡ turn.letters.items → heard ≡ notices k turn.reply → Steps db before new table k wanted written heard
+    makes written heard letters replies = record {
+      fits = so.0;
+      within = is_within db new table so.0;
+      state = so.1;
+      letters = ap (map (sent db)) letters ∙ is.letters;
+      replies = ap (map notice_of) replies ∙ told_is k turn.reply ∙ is.replies;
+    }
+
+-- ---- requests of clients, statements aside
+module _ (db : Database) (kept : DeskContent) (present : Present) (sorted : IsStrictlySortedBy txn_cmp (keys_of present.standings.entries)) (fits : Fits db kept (table_of present)) (distinct : AreDistinct db.sites)
+    (k : Txn) (choice : desk.Choice (language db)) (request : desk.Request (language db)) (turn : Turn) where
+  abbrev o : Option Standing
+  o = (table_of present).standing k
+
+  abbrev wanted : desk.Turn (language db)
+  wanted = desk.on_request (txn_name k) choice request (txn_of db o)
+
+  pub asks : (IsAt db o → IsTurn db k o turn wanted) → (IsAt db o → AtSites db.sites turn.after) → kept_voters (after_of o turn.after) ≡ kept_voters o → (desk.is_short_txn (txn_of db o) ≡ true → desk.is_short_txn wanted.txn ≡ true) →
+      (is_some o ≡ true) ⊎ (turn.after ≡ Stays) → (table : Table) → IsSettled db kept kept present sorted fits k turn table → (written : List Letter) (heard : List Notice) → written ≡ turn.letters.items → heard ≡ notices k turn.reply →
+      Steps db (table_of present) kept table k wanted written heard
+  asks is sites keeps short some table made written heard letters replies =
+      let at = is_at db kept (table_of present) distinct fits k in
+      makes db kept kept present sorted fits k turn wanted (is at) (sites at)
+      (keeps_same k (kept_voters (after_of o turn.after)) kept kept (sym (fits.rows k) ∙ sym keeps) (unchanged kept))
+      (short (fits.short k)) (shut_request (txn_name k) choice request (txn_of db o)) some table made written heard letters replies
+
+-- what isn't undecided isn't given up
+pub open_some : (o : Option Standing) (u : Undecided) → open_in o ≡ Some u → o ≡ Some (standing.Undecided u)
+open_some None u e = cc
+open_some (Some (standing.Undecided v)) u e = ap (λ x. Some (standing.Undecided x)) (some_is e)
+open_some (Some (standing.Committed c)) u e = cc
+
+pub not_given_up : (db : Database) (t : Name) (choice : desk.Choice (language db)) (o : Option Standing) → open_in o ≡ None → desk.on_request t choice desk.Give_up (txn_of db o) ≡ desk.stays (txn_of db o)
+not_given_up db t choice None e = refl
+not_given_up db t choice (Some (standing.Undecided u)) e = cc
+not_given_up db t choice (Some (standing.Committed c)) e = refl

@@ -1,0 +1,16 @@
+-- Why `call_begin` meets its contract.
+use Rattle.std.proofs.Common.{⊎_elim, inl, inr}
+use Rattle.desk.specs.State.{table_of}
+use Rattle.desk.proofs.Beginning.{begins, past_limit}
+use Rattle.desk.proofs.calls.call_begin.Goals as goal
+
+pub returns-in-Err-clause-full : goal.returns-in-Err-clause-full
+returns-in-Err-clause-full c = λ db kept over fits.
+    let p = c.args.present.now in
+    ⊎_elim (λ memory. inl memory) (λ full. inr (full.0, past_limit db kept p.standings.entries p.undecided p.life p.number fits c.args.sites.now over.sites full.1)) c.in-Err.ensures.refusal
+
+pub returns-in-Ok-clause-ok : goal.returns-in-Ok-clause-ok
+returns-in-Ok-clause-ok c = λ db kept over fits.
+    let p = c.args.present.now in
+    begins db kept p.standings.entries p.undecided p.life p.number fits c.args.sites.now over.sites (table_of c.begin.new.self) c.in_ok-spots.spots.items c.in-Ok.txn c.begun.result.letters c.begun.result.replies
+    c.in_ok-spots.ensures c.in-Ok.ensures.ok c.in-Ok.ensures.limits c.in-Ok.ensures.last c.in-Ok.ensures.txn c.begun.ensures.letters (c.begun.ensures.replies c.in_ok-room.ensures.empty)

@@ -1,0 +1,17 @@
+-- Why `on_refusal` meets its contract.
+use Rattle.std.proofs.Common.{Some, sym, ap, ◌∙◌}
+use Rattle.protocol.specs.Letters.{txn_name}
+use Rattle.desk.specs.declared.standing.Standing.TheVariants as standing
+use Rattle.desk.specs.Ballots.{is_first}
+use Rattle.desk.specs.Spots.{spot_in}
+use Rattle.desk.proofs.Acknowledged.{turn_as}
+use Rattle.desk.proofs.Counted.{refusal_counts, refusal_lost, turns_as}
+use Rattle.desk.proofs.finishing.on_refusal.Goals as goal
+
+pub returns-else-gave_first-clause-turn : goal.returns-else-gave_first-clause-turn
+returns-else-gave_first-clause-turn c = λ db choice are.
+    let u = c.args.undecided.now in
+    turn_as db c.args.txn (Some (standing.Undecided u)) c.stays.result _ _
+    (refusal_lost db (txn_name c.args.txn) u c.args.site.now c.args.refusal choice c.stays.result.kept
+    (ap (λ ss. is_first c.args.refusal.ticket (spot_in c.args.site.now ss).ticket) (sym c.as_slice.ensures) ∙ sym c.gave_first.ensures ∙ c.if-gave_first.false))
+    (c.stays.ensures.turn db c.args.txn (Some (standing.Undecided u)))

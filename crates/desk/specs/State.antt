@@ -1,0 +1,116 @@
+-- The coordinator's state: what its store keeps, and what it has in memory.
+use Rattle.std.specs.Prelude.{◌≡◌, ℕ, ◌^◌, ◌<◌, ◌≤◌, ◌⊎◌, Bool, true, false, ◌&&◌, not, List, [], ◌∷◌, map, length, filter, Option, Some, None, is_some, if◌then◌else◌}
+use Rattle.std.specs.BTreeMap.{is_at}
+use Rattle.std.specs.List.{filter_map}
+use Rattle.std.specs.Map.{lookup, keys_of, remove_entry, set_value}
+use Rattle.store.specs.declared.letter.Letter.{Letter}
+use Rattle.store.specs.declared.name.Txn.{Txn}
+use Rattle.store.specs.DeskContent.{DeskContent}
+use Rattle.store.specs.Name.{txn_cmp}
+use Rattle.protocol.specs.Desk as protocol
+use Rattle.protocol.specs.Language.{Name}
+use Rattle.protocol.specs.Letters.{txn_name}
+use Rattle.protocol.specs.Parts.{In}
+use Rattle.desk.specs.declared.present.Present.{Present}
+use Rattle.desk.specs.declared.reply.Notice.{Notice}
+use Rattle.desk.specs.declared.standing.Standing.{Standing}
+use Rattle.desk.specs.declared.standing.Standing.TheVariants as standing
+use Rattle.desk.specs.declared.turn.After.{After}
+use Rattle.desk.specs.declared.turn.After.TheVariants.{Stays, Ends, Becomes}
+use Rattle.desk.specs.Database.{Database, language, sent}
+use Rattle.desk.specs.Standing.{txn_of}
+use Rattle.desk.specs.Turn.{HasSites, told}
+use Rattle.desk.specs.Voters.{kept_voters}
+
+-- what is in memory, read transaction by transaction
+pub record Table : Type 0 where
+  pub standing : Txn → Option Standing
+  pub txns : List Txn
+  pub undecided : ℕ
+  pub life : ℕ
+  pub number : ℕ
+
+abbrev pub table_from : List (Txn × Standing) → ℕ → ℕ → ℕ → Table
+table_from entries undecided life number = record { standing = λ txn. lookup (is_at (txn_cmp txn)) entries; txns = keys_of entries; undecided = undecided; life = life; number = number }
+
+abbrev pub table_of : Present → Table
+table_of present = table_from present.standings.entries present.undecided present.life present.number
+
+-- the transaction of a name
+abbrev pub txn_at : Name → Txn
+txn_at name = record { life = name.life; number = name.number }
+
+-- the state that the protocol sees
+abbrev pub desk_of : (db : Database) → Table → protocol.Desk (language db)
+desk_of db table = record {
+  txn = λ name. txn_of db (table.standing (txn_at name));
+  known = map txn_name table.txns;
+  life = table.life;
+  number = table.number;
+}
+
+-- whether an undecided transaction stands there
+abbrev pub is_open : Option Standing → Bool
+is_open None = false
+is_open (Some (standing.Undecided undecided)) = true
+is_open (Some (standing.Committed committed)) = false
+
+-- whether what stands there is undecided no longer
+abbrev pub closes : After → Bool
+closes Stays = false
+closes Ends = true
+closes (Becomes (standing.Undecided undecided)) = false
+closes (Becomes (standing.Committed committed)) = true
+
+-- a transaction was begun in an earlier life, or in this one
+abbrev pub IsBegun : Table → Txn → Type 0
+IsBegun table txn = (txn.life < table.life) ⊎ ((txn.life ≡ table.life) × (txn.number ≤ table.number))
+
+-- how many transactions are undecided
+abbrev pub open_among : (Txn → Option Standing) → List Txn → ℕ
+open_among standing txns = length (filter (λ txn. is_open (standing txn)) txns)
+
+-- what is in memory fits what the store keeps
+pub record Fits (db : Database) (kept : DeskContent) (table : Table) : Type 0 where
+  -- the voters of decided transactions are those of the store's rows
+  pub rows : (txn : Txn) → kept_voters (table.standing txn) ≡ kept.commits txn
+  pub life : table.life ≡ kept.life
+  -- the list has the transactions behind which something stands
+  pub listed : (txn : Txn) → is_some (table.standing txn) ≡ true → In txn table.txns
+  pub lives : (txn : Txn) → In txn table.txns → is_some (table.standing txn) ≡ true
+  -- they were begun
+  pub begun : (txn : Txn) → is_some (table.standing txn) ≡ true → IsBegun table txn
+  -- each has to do with the sites of the database
+  pub sites : (txn : Txn) (standing : Standing) → table.standing txn ≡ Some standing → HasSites db.sites standing
+  -- so many are undecided
+  pub counted : table.undecided ≡ open_among table.standing table.txns
+  -- the limits are kept
+  pub short : (txn : Txn) → protocol.is_short_txn (txn_of db (table.standing txn)) ≡ true
+  pub few : table.undecided ≤ 256
+  pub low : (table.life < 2 ^ 63) × (table.number < 2 ^ 63)
+
+-- what stands behind transactions after a step of one of them
+abbrev pub settled : Txn → After → List (Txn × Standing) → List (Txn × Standing)
+settled txn Stays entries = entries
+settled txn Ends entries = remove_entry (is_at (txn_cmp txn)) entries
+settled txn (Becomes standing) entries = set_value (is_at (txn_cmp txn)) entries standing
+
+-- whom a reply is for, and the reply
+abbrev pub notice_of : Notice → Name × Rattle.desk.specs.declared.reply.Reply.Reply
+notice_of notice = (txn_name notice.txn, notice.reply)
+
+-- a step of a transaction: the state after it is the protocol's, and so are the letters and the replies
+pub record Steps (db : Database) (before : Table) (kept : DeskContent) (after : Table) (txn : Txn) (wanted : protocol.Turn (language db)) (written : List Letter) (notices : List Notice) : Type 0 where
+  pub fits : Fits db kept after
+  pub within : protocol.is_desk_within (desk_of db after) ≡ true
+  pub state : desk_of db after ≡ protocol.desk_after (desk_of db before) (txn_name txn) wanted.txn
+  pub letters : map (sent db) written ≡ wanted.letters
+  pub replies : map notice_of notices ≡ filter_map told wanted.deeds
+
+-- a transaction begins: the state after it is the protocol's, and its client hears that it has begun
+pub record Begins (db : Database) (before : Table) (kept : DeskContent) (after : Table) (written : List Letter) (notices : List Notice) : Type 0 where
+  pub fits : Fits db kept after
+  pub within : protocol.is_desk_within (desk_of db after) ≡ true
+  pub state : desk_of db after ≡ protocol.desk_began (desk_of db before)
+  pub letters : written ≡ []
+  pub replies : map notice_of notices ≡ filter_map (told {db = db}) (protocol.Began (protocol.next_txn (desk_of db before)) ∷ [])

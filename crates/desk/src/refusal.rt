@@ -1,0 +1,101 @@
+//! Why a call of the coordinator was refused.
+
+ghost use Rattle.std.specs.Prelude.{◌≡◌, Some};
+ghost use Rattle.desk.specs.Refusal.{refusal_name, refusal_number, refusal_of};
+
+use crate::reply::Why;
+use reader::fault::ReadFault;
+use std::alloc::AllocFailed;
+use std::fmt;
+use store::fault::StoreFault;
+use terms::memory::Memory;
+
+/// Why a call of the coordinator was refused. After any of these the coordinator is as it was.
+#[derive(Clone, Copy, Debug, PartialEq, Eq)]
+pub enum Refusal {
+    /// The transaction isn't undecided.
+    NoTransaction,
+    /// A statement of the transaction is open.
+    Busy,
+    /// The transaction's first phase has begun.
+    Ended,
+    /// A limit is reached.
+    Full,
+    /// The text is no statement.
+    Read(ReadFault),
+    /// The transaction aborted. The coordinator tells this by a reply, and by no refusal of its own.
+    Aborted(Why),
+    /// Memory ran out.
+    Memory,
+    /// The store failed, for another reason than memory.
+    Store(StoreFault),
+}
+
+impl Refusal {
+    /// The refusal's number in messages.
+    pub fn number(self) -> u8
+        ensures { result ≡ refusal_number self }
+    {
+        match self {
+            Refusal::NoTransaction => 1,
+            Refusal::Busy => 2,
+            Refusal::Ended => 3,
+            Refusal::Full => 4,
+            Refusal::Read(_) => 5,
+            Refusal::Aborted(_) => 6,
+            Refusal::Memory => 7,
+            Refusal::Store(_) => 8,
+        }
+    }
+}
+
+impl fmt::Display for Refusal {
+    ghost output = { λ refusal. Some (refusal_name refusal) };
+
+    fn fmt<W: fmt::Write>(&self, f: &mut fmt::Formatter<W>) -> fmt::Result {
+        match self {
+            Refusal::NoTransaction => f.write_str("NoTransaction"),
+            Refusal::Busy => f.write_str("Busy"),
+            Refusal::Ended => f.write_str("Ended"),
+            Refusal::Full => f.write_str("Full"),
+            Refusal::Read(_) => f.write_str("Read"),
+            Refusal::Aborted(_) => f.write_str("Aborted"),
+            Refusal::Memory => f.write_str("Memory"),
+            Refusal::Store(_) => f.write_str("Store"),
+        }
+    }
+}
+
+impl std::error::Error for Refusal {}
+
+impl From<Memory> for Refusal {
+    ghost use Rattle.std.specs.Prelude.{◌≡◌};
+    ghost use Rattle.desk.specs.declared.refusal.Refusal.TheVariants as refusals;
+
+    ghost from_gives = { λ _ refusal. refusal ≡ refusals.Memory };
+
+    fn from(_error: Memory) -> Refusal {
+        Refusal::Memory
+    }
+}
+
+impl<T: Drop> From<AllocFailed<T>> for Refusal {
+    ghost use Rattle.std.specs.Prelude.{◌≡◌};
+    ghost use Rattle.desk.specs.declared.refusal.Refusal.TheVariants as refusals;
+
+    ghost from_gives = { λ _ refusal. refusal ≡ refusals.Memory };
+
+    fn from(_error: AllocFailed<T>) -> Refusal {
+        Refusal::Memory
+    }
+}
+
+/// A store's fault as the coordinator's.
+pub(crate) fn store_refusal(fault: StoreFault) -> Refusal
+    ensures { result ≡ refusal_of fault }
+{
+    match fault {
+        StoreFault::Memory => Refusal::Memory,
+        _ => Refusal::Store(fault),
+    }
+}
