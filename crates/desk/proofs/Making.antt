@@ -100,17 +100,19 @@ module _ (db : Database) (kept new : DeskContent) (present : Present) (sorted : 
     FitsSo t = Fits db new t × (desk_of db t ≡ desk.desk_after (desk_of db before) (txn_name k) wanted.txn)
 
     still_so : turn.after ≡ Stays → FitsSo table
-    still_so stays = subst FitsSo (sym (made.still stays))
-        (fits_still db kept new before fits k (subst (λ a. Keeps k (kept_voters (after_of (before.standing k) a)) kept new) stays keeps),
-        state_still db kept new before fits k wanted.txn (ap (λ a. txn_of db (after_of (before.standing k) a)) (sym stays) ∙ is.stands))
+    still_so stays = subst FitsSo (sym (made.still stays)) (
+      fits_still db kept new before fits k (subst (λ a. Keeps k (kept_voters (after_of (before.standing k) a)) kept new) stays keeps),
+      state_still db kept new before fits k wanted.txn (ap (λ a. txn_of db (after_of (before.standing k) a)) (sym stays) ∙ is.stands),
+    )
 
     moved_so : (now : Standing) → before.standing k ≡ Some now → FitsSo table
-    moved_so now e = subst FitsSo (sym (made.moved now e))
-        (fits_after db kept new present.standings.entries sorted present.undecided present.life present.number fits k now e turn.after
-        (subst (λ o. Keeps k (kept_voters (after_of o turn.after)) kept new) e keeps) sites
-        (ap desk.is_short_txn stands ∙ short)
-        (λ was. sym (open_is db (after_of (Some now) turn.after)) ∙ ap desk.is_undecided stands ∙ shut (ap (λ o. desk.is_undecided (txn_of db o)) e ∙ open_is db (Some now) ∙ was)),
-        state_is db kept new present.standings.entries sorted present.undecided present.life present.number fits k now e turn.after wanted.txn stands)
+    moved_so now e = subst FitsSo (sym (made.moved now e)) (
+      fits_after db kept new present.standings.entries sorted present.undecided present.life present.number fits k now e turn.after
+          (subst (λ o. Keeps k (kept_voters (after_of o turn.after)) kept new) e keeps) sites
+          (ap desk.is_short_txn stands ∙ short)
+          (λ was. sym (open_is db (after_of (Some now) turn.after)) ∙ ap desk.is_undecided stands ∙ shut (ap (λ o. desk.is_undecided (txn_of db o)) e ∙ open_is db (Some now) ∙ was)),
+      state_is db kept new present.standings.entries sorted present.undecided present.life present.number fits k now e turn.after wanted.txn stands,
+    )
       where
         stands : txn_of db (after_of (Some now) turn.after) ≡ wanted.txn
         stands = ap (λ o. txn_of db (after_of o turn.after)) (sym e) ∙ is.stands

@@ -1,5 +1,5 @@
 -- The language of stores is lawful, whatever statements are put over it, where their writes lead from the contents before to the contents after.
-use Rattle.std.proofs.Common.{◌≡◌, ◌↔◌, refl, sym, ap, ap₂, ◌∙◌, subst, ℕ, ℤ, zero, suc, Bool, true, false, ◌||◌, if◌then◌else◌, List, [], ◌∷◌, length, map, Option}
+use Rattle.std.proofs.Common.{◌≡◌, ◌↔◌, refl, sym, ap, ◌∙◌, subst, ℕ, Bool, true, false, ◌||◌, if◌then◌else◌, List, [], ◌∷◌, length, map, Option}
 use Rattle.std.specs.Cmp.Lexicographic.{pointwise}
 use Rattle.std.specs.FinMap as fin
 use Rattle.std.specs.List.{list_any}
@@ -12,11 +12,11 @@ use Rattle.terms.specs.Leaf.{leaf_cmp}
 use Rattle.terms.specs.declared.value.Value.{Value}
 use Rattle.store.specs.declared.slot.Slot.{Slot}
 use Rattle.store.specs.Slot.{slot_of}
-use Rattle.store.specs.Content.{Content, Changes, changed, is_of, set_at, touches}
+use Rattle.store.specs.Content.{Changes, changed, is_of, set_at, touches}
 use Rattle.store.specs.Laws.{NothingChanges, OneChangeMore, OneTouchMore}
 use Rattle.protocol.specs.Language.{IsLawful, written}
 use Rattle.protocol.specs.Statements.{Statements, with_statements}
-use Rattle.protocol.specs.Local.{local, AtKey}
+use Rattle.protocol.specs.Local.{local}
 use Rattle.site.proofs.Tickets.{leaf_is, leaf_self, leaf_sym}
 
 bytes_same : (a b : List ℕ) → (pointwise nat_eq a b ≡ true) ↔ (a ≡ b)
