@@ -1,5 +1,5 @@
 #!/usr/bin/env bash
-# Times what comes of the parts that a statement's fetches bring, by a small program of bench/answers over files that
+# Times what comes of the parts that a statement's fetches bring, by a small program, bench/answers/main.rt.in, over files that
 # this script makes: `evaluate` and `finish` at growing numbers of rows and of leaves, and a change of one row. Then it
 # refuses each allocation of that program, from the catalogue to the writes, on a join and on an update.
 # It builds the program in a copy of the repository with the work that earlier checks kept, so check the crates first.
@@ -13,7 +13,8 @@ program=${1:-}
 if [ -z "$program" ]; then
     cp -r "$top" "$room/it"
     rm -rf "$room/it/.git" && mkdir "$room/it/.git"
-    cp -r "$top/bench/answers" "$room/it/crates/bench_answers"
+    mkdir -p "$room/it/crates/bench_answers/src"
+    cp "$top/bench/answers/main.rt.in" "$room/it/crates/bench_answers/src/main.rt"
     echo "bench_answers: terms meaning catalog reader plan answers" >> "$room/it/crates.txt"
     (cd "$room/it/crates/bench_answers" && rt run --jobs 2 > "$room/log" 2>&1) || true
     program=$room/it/crates/bench_answers/out/bench_answers

@@ -2,7 +2,7 @@
 # Times a site over lists: a fetch by key, and preparing and applying one write, with 2,500 and with 20,000 parts in
 # the leaf, and with 10 and with 1,000 visits that have locks on another leaf. Fails where the larger number costs more
 # than 1.3 times the smaller. Works on a copy of the repository with the work that earlier checks kept, so check the
-# crate `site` first; the program that it times is bench/site/main.rt.
+# crate `site` first; the program that it times is bench/site/main.rt.in.
 #
 # usage: bench/site.sh
 set -eu
@@ -23,7 +23,7 @@ def built(room):
     shutil.copytree(TOP, it, symlinks=True, ignore=shutil.ignore_patterns(".git"))
     os.mkdir(f"{it}/.git")
     os.makedirs(f"{it}/crates/timed/src")
-    shutil.copy(f"{TOP}/bench/site/main.rt", f"{it}/crates/timed/src/main.rt")
+    shutil.copy(f"{TOP}/bench/site/main.rt.in", f"{it}/crates/timed/src/main.rt")
     with open(f"{it}/crates.txt", "a") as crates:
         crates.write("timed: terms store protocol site anyhow\n")
     ran = subprocess.run(["rt", "run", "--jobs", "1", "--", "10", "10"], cwd=f"{it}/crates/timed", stdout=subprocess.PIPE, stderr=subprocess.STDOUT, text=True)
