@@ -49,9 +49,10 @@ module _ (db : Database) (txn : Txn) (spots after : List Spot) (letters : List L
       (desk.Known (undecided_of db (record { spots = after; stage = stage.Reading new })) ≡ wanted.txn) × (map (sent db) letters ≡ wanted.letters)
   reading_is reading new home statement left spots_are letters_are =
       let out = asks_same db txn (λ j. option_map name_of (spot_in j spots).ticket) reading.asks.items spots (λ j. refl) home in
-      let is = subst (λ x. SameBut spots x) (sym spots_are) out.same in
-      (ap desk.Known (counts_are _ (stage.Reading reading) (stage.Reading new) is (ap (λ x. λ (j : List ℕ). (spot_in j x).sent) spots_are ∙ out.counts) _ (λ i. desk.Reading (statement i) ((ap (map (ask_of db)) left ∙ out.left) i))),
-      ap (map (sent db)) letters_are ∙ out.letters)
+      let is = subst (λ x. SameBut spots x) (sym spots_are) out.same in (
+        ap desk.Known (counts_are _ (stage.Reading reading) (stage.Reading new) is (ap (λ x. λ (j : List ℕ). (spot_in j x).sent) spots_are ∙ out.counts) _ (λ i. desk.Reading (statement i) ((ap (map (ask_of db)) left ∙ out.left) i))),
+        ap (map (sent db)) letters_are ∙ out.letters,
+      )
 
   -- writes went out, and some wait
   module _ (writing : Writing) (home : UnsentAtHome db writing.unsent.items) (spots_are : after ≡ (writes_go txn writing.unsent.items spots).spots) (letters_are : letters ≡ (writes_go txn writing.unsent.items spots).letters) where
@@ -64,10 +65,11 @@ module _ (db : Database) (txn : Txn) (spots after : List Spot) (letters : List L
         let out = writes_same db txn (λ j. option_map name_of (spot_in j spots).ticket) writing.unsent.items spots (λ j. refl) home in
         let is = subst (λ x. SameBut spots x) (sym spots_are) out.same in
         let waits = sym (sym (ap (map write_of) some) ∙ ap (map write_of) left ∙ out.left) in
-        let turn = ap (λ l. desk.writing {L = language db} (txn_name txn) (undecided_of db (record { spots = spots; stage = stage.Writing writing })) writing.answer (desk.writes_out {L = language db} (txn_name txn) (λ j. option_map name_of (spot_in j spots).ticket) (map write_of writing.unsent.items) (λ j. (spot_in j spots).sent)).sent l (desk.writes_out {L = language db} (txn_name txn) (λ j. option_map name_of (spot_in j spots).ticket) (map write_of writing.unsent.items) (λ j. (spot_in j spots).sent)).letters) waits in
-        (ap desk.Known (counts_are _ (stage.Writing writing) (stage.Writing new) is (ap (λ x. λ (j : List ℕ). (spot_in j x).sent) spots_are ∙ out.counts) _ (λ i. desk.Writing (answer i) (map write_of (some i)))) ∙ ap (λ turn. turn.txn) (sym turn),
-        ap (map (sent db)) letters_are ∙ out.letters ∙ ap (λ turn. turn.letters) (sym turn),
-        ap (λ turn. turn.deeds) turn)
+        let turn = ap (λ l. desk.writing {L = language db} (txn_name txn) (undecided_of db (record { spots = spots; stage = stage.Writing writing })) writing.answer (desk.writes_out {L = language db} (txn_name txn) (λ j. option_map name_of (spot_in j spots).ticket) (map write_of writing.unsent.items) (λ j. (spot_in j spots).sent)).sent l (desk.writes_out {L = language db} (txn_name txn) (λ j. option_map name_of (spot_in j spots).ticket) (map write_of writing.unsent.items) (λ j. (spot_in j spots).sent)).letters) waits in (
+          ap desk.Known (counts_are _ (stage.Writing writing) (stage.Writing new) is (ap (λ x. λ (j : List ℕ). (spot_in j x).sent) spots_are ∙ out.counts) _ (λ i. desk.Writing (answer i) (map write_of (some i)))) ∙ ap (λ turn. turn.txn) (sym turn),
+          ap (map (sent db)) letters_are ∙ out.letters ∙ ap (λ turn. turn.letters) (sym turn),
+          ap (λ turn. turn.deeds) turn,
+        )
 
     pub answered_is : [] ≡ (writes_go txn writing.unsent.items spots).left →
         (desk.Known (undecided_of db (record { spots = after; stage = stage.Idle })) ≡ wanted.txn) × (map (sent db) letters ≡ wanted.letters) × (wanted.deeds ≡ desk.Answered (txn_name txn) writing.answer ∷ [])
@@ -75,10 +77,11 @@ module _ (db : Database) (txn : Txn) (spots after : List Spot) (letters : List L
         let out = writes_same db txn (λ j. option_map name_of (spot_in j spots).ticket) writing.unsent.items spots (λ j. refl) home in
         let is = subst (λ x. SameBut spots x) (sym spots_are) out.same in
         let waits = sym (ap (map write_of) none ∙ out.left) in
-        let turn = ap (λ l. desk.writing {L = language db} (txn_name txn) (undecided_of db (record { spots = spots; stage = stage.Writing writing })) writing.answer (desk.writes_out {L = language db} (txn_name txn) (λ j. option_map name_of (spot_in j spots).ticket) (map write_of writing.unsent.items) (λ j. (spot_in j spots).sent)).sent l (desk.writes_out {L = language db} (txn_name txn) (λ j. option_map name_of (spot_in j spots).ticket) (map write_of writing.unsent.items) (λ j. (spot_in j spots).sent)).letters) waits in
-        (ap desk.Known (counts_are _ (stage.Writing writing) stage.Idle is (ap (λ x. λ (j : List ℕ). (spot_in j x).sent) spots_are ∙ out.counts) _ refl) ∙ ap (λ turn. turn.txn) (sym turn),
-        ap (map (sent db)) letters_are ∙ out.letters ∙ ap (λ turn. turn.letters) (sym turn),
-        ap (λ turn. turn.deeds) turn)
+        let turn = ap (λ l. desk.writing {L = language db} (txn_name txn) (undecided_of db (record { spots = spots; stage = stage.Writing writing })) writing.answer (desk.writes_out {L = language db} (txn_name txn) (λ j. option_map name_of (spot_in j spots).ticket) (map write_of writing.unsent.items) (λ j. (spot_in j spots).sent)).sent l (desk.writes_out {L = language db} (txn_name txn) (λ j. option_map name_of (spot_in j spots).ticket) (map write_of writing.unsent.items) (λ j. (spot_in j spots).sent)).letters) waits in (
+          ap desk.Known (counts_are _ (stage.Writing writing) stage.Idle is (ap (λ x. λ (j : List ℕ). (spot_in j x).sent) spots_are ∙ out.counts) _ refl) ∙ ap (λ turn. turn.txn) (sym turn),
+          ap (map (sent db)) letters_are ∙ out.letters ∙ ap (λ turn. turn.letters) (sym turn),
+          ap (λ turn. turn.deeds) turn,
+        )
 
 -- ---- a ticket comes
 module _ (db : Database) (txn : Txn) (choice : desk.Choice (language db)) (u new : Undecided) (site : List ℕ) (ticket : Ticket) (there : list_any (is_at site) u.spots ≡ true)

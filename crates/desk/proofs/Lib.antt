@@ -15,3 +15,5 @@ pub mod Going
 pub mod Limits
 pub mod Making
 pub mod Beginning
+pub mod Opened
+pub mod Stated

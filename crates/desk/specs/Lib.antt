@@ -6,7 +6,9 @@ pub mod Standing
 pub mod Orders
 pub mod Voters
 pub mod Turn
+pub mod Opening
 pub mod Sending
+pub mod Stating
 pub mod Stepped
 pub mod Ballots
 pub mod State

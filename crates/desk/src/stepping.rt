@@ -126,7 +126,7 @@ pub(crate) fn ticket_goes(
 ) -> Result<Step, Refusal>
     ensures step { (db : Database) (choice : Choice (language db)) → list_any (is_at site.now) undecided.old.spots ≡ true → IsAtHome db undecided.old.stage
         → IfOk result (λ step. IsStep db txn undecided.new step
-            (ticket_goes (txn_name txn) (ticketed db undecided.old site.now ticket) choice (stage_of db undecided.old.spots undecided.old.stage))) }
+        (ticket_goes (txn_name txn) (ticketed db undecided.old site.now ticket) choice (stage_of db undecided.old.spots undecided.old.stage))) }
     ensures same { OnErr result (undecided.new ≡ undecided.old) }
 {
     let spots = with_ticket(alloc, undecided.spots.as_slice(), site, ticket)?;
