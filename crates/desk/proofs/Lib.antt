@@ -17,3 +17,4 @@ pub mod Making
 pub mod Beginning
 pub mod Opened
 pub mod Stated
+pub mod Evaluated

@@ -29,3 +29,4 @@ mod turn;
 mod undecided;
 mod voters;
 mod voting;
+mod working;

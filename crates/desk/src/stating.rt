@@ -28,7 +28,7 @@ use terms::memory::Memory;
 use terms::seq::Seq;
 
 /// Letters, and others after them.
-fn joined(letters: Vec<Letter>, more: Vec<Letter>) -> Result<Vec<Letter>, Memory>
+pub(crate) fn joined(letters: Vec<Letter>, more: Vec<Letter>) -> Result<Vec<Letter>, Memory>
     ensures { IfOk result (λ all. all.items ≡ letters.items ++ more.items) }
 {
     let mut letters = letters;
