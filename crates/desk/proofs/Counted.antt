@@ -1,5 +1,5 @@
 -- Votes and tickets that come, as the protocol has them.
-use Rattle.std.proofs.Common.{◌≡◌, refl, sym, ap, ◌∙◌, subst, ℕ, nat_eq, Bool, true, false, ◌&&◌, ◌||◌, List, [], ◌∷◌, map, find, Option, Some, None, is_none, if◌then◌else◌, Result, Ok, Err, IfOk}
+use Rattle.std.proofs.Common.{◌≡◌, ◌≢◌, refl, sym, ap, ◌∙◌, subst, ℕ, nat_eq, Bool, true, false, not, ◌&&◌, ◌||◌, List, [], ◌∷◌, map, find, Option, Some, None, is_none, if◌then◌else◌, Result, Ok, Err, IfOk}
 use Rattle.std.specs.Cmp.Lexicographic.{pointwise}
 use Rattle.std.specs.List.{list_any}
 use Rattle.std.specs.Option.{option_map}
@@ -10,7 +10,8 @@ use Rattle.store.specs.declared.reply.Reply.TheVariants as reply
 use Rattle.store.specs.declared.reply.Vote.{Vote}
 use Rattle.store.specs.declared.reply.Vote.TheVariants.{Yes, No, Read}
 use Rattle.protocol.specs.Desk as desk
-use Rattle.protocol.specs.Language.{Name, put}
+use Rattle.protocol.specs.Language.{Name, put, same}
+use Rattle.protocol.specs.Letter as letter
 use Rattle.protocol.specs.Letters.{is_no, name_of, txn_name, vote_of}
 use Rattle.protocol.proofs.Basics.{if_true, if_false, left_true, right_true}
 use Rattle.desk.specs.declared.spot.Spot.{Spot}
@@ -19,7 +20,7 @@ use Rattle.desk.specs.declared.turn.Turn.{Turn}
 use Rattle.desk.specs.declared.undecided.Stage.{Stage}
 use Rattle.desk.specs.declared.undecided.Stage.TheVariants as stage
 use Rattle.desk.specs.declared.undecided.Undecided.{Undecided}
-use Rattle.desk.specs.Ballots.{counts_vote, is_first}
+use Rattle.desk.specs.Ballots.{awaits_vote, counts_vote, is_first}
 use Rattle.desk.specs.Database.{Database, language, replied}
 use Rattle.desk.specs.Orders.{is_voting}
 use Rattle.desk.specs.Spots.{changed_at, is_at, nowhere, sites_of, spot_in, with_vote}
@@ -178,3 +179,22 @@ voted_sites a vote spots given same = ap sites_of same ∙ same_sites (changed_a
 -- a step is at the same sites
 pub at_same : {E : Type 0} (result : Result Turn E) (one other : List (List ℕ)) → one ≡ other → IfOk result (λ turn. AtSites one turn.after) → IfOk result (λ turn. AtSites other turn.after)
 at_same result one other same is = subst (λ sites. IfOk result (λ turn. AtSites sites turn.after)) same is
+
+-- ---- a further ticket
+module _ (db : Database) (t : Name) (u : Undecided) (a : List ℕ) (k : Ticket) (choice : desk.Choice (language db)) where
+  abbrev given : Option Ticket → desk.Turn (language db)
+  given first = desk.on_ticket {L = language db} t (undecided_of db u) a (name_of k) choice (option_map name_of first)
+
+  -- it is the first one again
+  pub same_ticket : (first : Option Ticket) → is_first k first ≡ true → given first ≡ desk.stays (desk.Known (undecided_of db u))
+  same_ticket None e = cc
+  same_ticket (Some j) e = if_true (same (name_of j) (name_of k)) _ _ (ticket_same j k ∙ e)
+
+  -- it is another
+  pub other_ticket : (first : Option Ticket) → first ≢ None → is_first k first ≡ false → given first ≡ record { txn = desk.Known (undecided_of db u); letters = record { site = a; txn = t; body = letter.Abort (name_of k) } ∷ []; deeds = [] }
+  other_ticket None some e = absurd (some refl)
+  other_ticket (Some j) some e = if_false (same (name_of j) (name_of k)) _ _ (ticket_same j k ∙ e)
+
+pub some_first : (first : Option Ticket) → is_none first ≡ false → first ≢ None
+some_first None e = cc
+some_first (Some k) e = λ none. (let f : Some k ≡ None = none in cc)

@@ -18,3 +18,5 @@ pub mod Beginning
 pub mod Opened
 pub mod Stated
 pub mod Evaluated
+pub mod Rising
+pub mod Restarted

@@ -1,14 +1,21 @@
 -- What the protocol's steps keep: how many operations were sent, and that what is decided stays so.
-use Rattle.std.proofs.Common.{◌≡◌, refl, ℕ, Bool, true, false, not, ◌&&◌, List, [], ◌∷◌, ◌++◌, Option, Some, None, is_none, if◌then◌else◌}
+use Rattle.std.proofs.Common.{◌≡◌, refl, ℕ, Bool, true, false, not, ◌&&◌, List, [], ◌∷◌, ◌++◌, Option, Some, None, is_none, is_some, if◌then◌else◌}
+use Rattle.std.specs.List.{list_any}
+use Rattle.std.specs.Option.{option_map}
+use Rattle.store.specs.declared.name.Ticket.{Ticket}
 use Rattle.store.specs.declared.reply.Reply.{Reply}
 use Rattle.store.specs.declared.reply.Reply.TheVariants as reply
-use Rattle.store.specs.declared.reply.Vote.{Vote}
-use Rattle.store.specs.declared.reply.Vote.TheVariants as vote
 use Rattle.protocol.specs.Desk as desk
-use Rattle.protocol.specs.Language.{Lang, Name}
+use Rattle.protocol.specs.Language.{Lang, Name, same}
+use Rattle.protocol.specs.Letters.{name_of, vote_of}
 use Rattle.protocol.specs.Letter as letter
 use Rattle.protocol.proofs.Basics.{either}
+use Rattle.desk.specs.declared.standing.Standing.{Standing}
+use Rattle.desk.specs.declared.standing.Standing.TheVariants as standing
 use Rattle.desk.specs.Database.{Database, language, replied}
+use Rattle.desk.specs.Spots.{spot_in}
+use Rattle.desk.specs.Standing.{txn_of, undecided_of}
+use Rattle.desk.specs.Taking.{goes_on, may_send}
 
 module _ {L : Lang} where
   abbrev IsShort : desk.Txn L → Type 0
@@ -84,3 +91,69 @@ module _ {L : Lang} where
   shut_request t choice desk.Rollback (desk.Row voters acked) shut = refl
   shut_request t choice desk.Give_up (desk.Row voters acked) shut = refl
   shut_request t choice request (desk.Known u) shut = cc
+
+-- ---- letters of sites by which no statement goes on
+abbrev goes_on_not : Option Name → Reply → Bool
+goes_on_not first (reply.Ticket k) = is_some first
+goes_on_not first (reply.Rows rows) = false
+goes_on_not first (reply.Refused refusal) = true
+goes_on_not first (reply.Voted voted) = true
+goes_on_not first (reply.Ack k) = true
+goes_on_not first (reply.Inquire k) = true
+
+module _ (db : Database) (t : Name) (a : List ℕ) (kept : Bool) (choice : desk.Choice (language db)) where
+  abbrev came : Reply → desk.Txn (language db) → desk.Turn (language db)
+  came said x = desk.on_desk_letter {L = language db} t a kept choice (replied db said) x
+
+  shut_ack : (voters acked : List (List ℕ × Name)) (v : List ℕ × Name) → IsShut {L = language db} (desk.on_ack {L = language db} voters acked v kept).txn
+  shut_ack voters acked v =
+      either (λ (turn : desk.Turn (language db)). IsShut turn.txn) (list_any (desk.is_pair (language db) v.0 v.1) voters && not (list_any (desk.is_pair (language db) v.0 v.1) acked)) _ _
+      (either (λ (turn : desk.Turn (language db)). IsShut turn.txn) (desk.are_acked (language db) voters (acked ++ v ∷ [])) _ _ (either (λ (turn : desk.Turn (language db)). IsShut turn.txn) kept _ _ refl refl) refl)
+      refl
+
+  pub shut_came : (said : Reply) (x : desk.Txn (language db)) → IsShut x → IsShut (came said x).txn
+  shut_came said (desk.Known u) shut = cc
+  shut_came (reply.Ticket k) desk.Unknown shut = refl
+  shut_came (reply.Rows rows) desk.Unknown shut = refl
+  shut_came (reply.Refused refusal) desk.Unknown shut = refl
+  shut_came (reply.Voted voted) desk.Unknown shut = refl
+  shut_came (reply.Ack k) desk.Unknown shut = refl
+  shut_came (reply.Inquire k) desk.Unknown shut = refl
+  shut_came (reply.Ticket k) (desk.Row voters acked) shut = refl
+  shut_came (reply.Rows rows) (desk.Row voters acked) shut = refl
+  shut_came (reply.Refused refusal) (desk.Row voters acked) shut = refl
+  shut_came (reply.Voted voted) (desk.Row voters acked) shut = refl
+  shut_came (reply.Ack k) (desk.Row voters acked) shut = shut_ack voters acked (a, name_of k)
+  shut_came (reply.Inquire k) (desk.Row voters acked) shut = refl
+
+  -- what isn't undecided counts no operations
+  short_shut : (x : desk.Txn (language db)) → IsShut x → IsShort x
+  short_shut desk.Unknown shut = refl
+  short_shut (desk.Known u) shut = cc
+  short_shut (desk.Row voters acked) shut = refl
+
+  short_open : (u : desk.Undecided (language db)) → IsShort (desk.Known u) → (said : Reply) → goes_on_not (u.ticket a) said ≡ true → IsShort (came said (desk.Known u)).txn
+  short_open u short (reply.Ticket k) another = short_ticket (u.ticket a) another
+    where
+      short_ticket : (o : Option Name) → is_some o ≡ true → IsShort (desk.on_ticket {L = language db} t u a (name_of k) choice o).txn
+      short_ticket None e = cc
+      short_ticket (Some j) e = either (λ (turn : desk.Turn (language db)). IsShort turn.txn) (same j (name_of k)) _ _ short short
+  short_open u short (reply.Rows rows) another = cc
+  short_open u short (reply.Refused refusal) another = either (λ (turn : desk.Turn (language db)). IsShort turn.txn) (desk.is_named (u.ticket a) (name_of refusal.ticket)) _ _ (short_refusal t u short u.stage) short
+  short_open u short (reply.Voted voted) another = either (λ (turn : desk.Turn (language db)). IsShort turn.txn) (desk.is_named (u.ticket a) (name_of voted.ticket)) _ _ (short_vote t u a kept (vote_of voted.vote) short u.stage) short
+  short_open u short (reply.Ack k) another = short
+  short_open u short (reply.Inquire k) another = short
+
+  pub short_came : (o : Option Standing) (said : Reply) → may_send o a said ≡ false → IsShort (txn_of db o) → IsShort (came said (txn_of db o)).txn
+  short_came None said none short = short_shut (came said (txn_of db None)).txn (shut_came said (txn_of db None) refl)
+  short_came (Some (standing.Committed c)) said none short = short_shut (came said (txn_of db (Some (standing.Committed c)))).txn (shut_came said (txn_of db (Some (standing.Committed c))) refl)
+  short_came (Some (standing.Undecided u)) said none short = short_open (undecided_of db u) short said (rests (spot_in a u.spots).ticket said none)
+    where
+      rests : (first : Option Ticket) (r : Reply) → goes_on first r ≡ false → goes_on_not (option_map name_of first) r ≡ true
+      rests None (reply.Ticket k) e = cc
+      rests (Some j) (reply.Ticket k) e = refl
+      rests first (reply.Rows rows) e = cc
+      rests first (reply.Refused refusal) e = refl
+      rests first (reply.Voted voted) e = refl
+      rests first (reply.Ack k) e = refl
+      rests first (reply.Inquire k) e = refl

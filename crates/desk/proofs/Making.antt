@@ -1,10 +1,13 @@
 -- A step is made: it is the protocol's step of the whole state.
-use Rattle.std.proofs.Common.{◌≡◌, refl, sym, ap, ◌∙◌, subst, ℕ, ◌-◌, ◌⊎◌, Bool, true, false, not, ◌&&◌, List, [], ◌∷◌, map, Option, Some, None, is_some, if◌then◌else◌, ⊎_elim, filter}
+use Rattle.std.proofs.Common.{◌≡◌, refl, sym, ap, ◌∙◌, subst, ℕ, ◌-◌, ◌⊎◌, Bool, true, false, not, ◌&&◌, List, [], ◌∷◌, map, Option, Some, None, is_some, if◌then◌else◌, ⊎_elim, filter, inl, Vec, Global}
 use Rattle.std.specs.List.Sorted.{IsStrictlySortedBy}
-use Rattle.std.specs.Map.{keys_of}
+use Rattle.std.specs.BTreeMap.{is_at as is_key}
+use Rattle.std.specs.List.{filter_map}
+use Rattle.std.specs.Map.{keys_of, set_value}
 use Rattle.reader.specs.Printable.{AreDistinct}
 use Rattle.store.specs.declared.letter.Letter.{Letter}
 use Rattle.store.specs.declared.name.Txn.{Txn}
+use Rattle.store.specs.declared.reply.Reply.{Reply as Said}
 use Rattle.store.specs.DeskContent.{DeskContent, is_txn}
 use Rattle.store.specs.Name.{txn_cmp}
 use Rattle.protocol.specs.Desk as desk
@@ -16,18 +19,19 @@ use Rattle.desk.specs.declared.reply.Notice.{Notice}
 use Rattle.desk.specs.declared.reply.Reply.{Reply}
 use Rattle.desk.specs.declared.standing.Standing.{Standing}
 use Rattle.desk.specs.declared.standing.Standing.TheVariants as standing
-use Rattle.desk.specs.declared.turn.After.TheVariants.{Stays}
+use Rattle.desk.specs.declared.turn.After.TheVariants.{Becomes, Stays}
 use Rattle.desk.specs.declared.turn.Turn.{Turn}
 use Rattle.desk.specs.declared.undecided.Undecided.{Undecided}
-use Rattle.protocol.proofs.Basics.{some_is}
+use Rattle.protocol.proofs.Basics.{clash, if_false, some_is}
 use Rattle.desk.specs.Calls.{IsAt, notices, open_in}
-use Rattle.desk.specs.Database.{Database, language, sent}
-use Rattle.desk.specs.Standing.{txn_of}
+use Rattle.desk.specs.Database.{Database, language, replied, sent}
+use Rattle.desk.specs.Standing.{txn_of, undecided_of}
 use Rattle.desk.specs.State.{Fits, Steps, Table, closes, desk_of, is_open, notice_of, settled, table_from, table_of, txn_at}
-use Rattle.desk.specs.Turn.{AreSpots, AtSites, HasSites, IsTurn, after_of, told_to}
+use Rattle.desk.specs.Taking.{may_send}
+use Rattle.desk.specs.Turn.{AreSpots, AtSites, HasSites, IsTurn, after_of, told, told_to}
 use Rattle.desk.specs.Voters.{Keeps, kept_voters}
 use Rattle.desk.proofs.Acknowledged.{keeps_same, txn_is, unchanged}
-use Rattle.desk.proofs.Limits.{shut_request}
+use Rattle.desk.proofs.Limits.{short_came, shut_came, shut_request}
 use Rattle.desk.proofs.Settled.{fits_after, is_within, open_is, state_is, unknown_is}
 use Rattle.desk.proofs.Txns.{Entries, at_txn, filter_all, filter_names, same_txn, txn_sym}
 
@@ -150,6 +154,50 @@ module _ (db : Database) (kept : DeskContent) (present : Present) (sorted : IsSt
       makes db kept kept present sorted fits k turn wanted (is at) (sites at)
       (keeps_same k (kept_voters (after_of o turn.after)) kept kept (sym (fits.rows k) ∙ sym keeps) (unchanged kept))
       (short (fits.short k)) (shut_request (txn_name k) choice request (txn_of db o)) some table made written heard letters replies
+
+-- ---- letters of sites by which no statement goes on
+module _ (db : Database) (kept new : DeskContent) (present : Present) (sorted : IsStrictlySortedBy txn_cmp (keys_of present.standings.entries)) (fits : Fits db kept (table_of present)) (distinct : AreDistinct db.sites)
+    (k : Txn) (choice : desk.Choice (language db)) (a : List ℕ) (said : Said) (turn : Turn) where
+  abbrev stood : Option Standing
+  stood = (table_of present).standing k
+
+  abbrev coming : Bool → desk.Turn (language db)
+  coming was = desk.on_desk_letter {L = language db} (txn_name k) a was choice (replied db said) (txn_of db stood)
+
+  pub takes : may_send stood a said ≡ false → (IsAt db stood → IsTurn db k stood turn (coming turn.kept)) → (IsAt db stood → AtSites db.sites turn.after) →
+      (IsAt db stood → kept.commits k ≡ kept_voters stood → Keeps k (kept_voters (after_of stood turn.after)) kept new) → (is_some stood ≡ true) ⊎ (turn.after ≡ Stays) →
+      (table : Table) → IsSettled db kept new present sorted fits k turn table → (written : List Letter) (heard : List Notice) (was : Bool) → written ≡ turn.letters.items → heard ≡ notices k turn.reply → was ≡ turn.kept →
+      Steps db (table_of present) new table k (coming was) written heard
+  takes rests is sites keeps some table made written heard was letters replies was_is =
+      let at = is_at db kept (table_of present) distinct fits k in
+      subst (λ b. Steps db (table_of present) new table k (coming b) written heard) (sym was_is)
+      (makes db kept new present sorted fits k turn (coming turn.kept) (is at) (sites at) (keeps at (sym (fits.rows k)))
+      (short_came db (txn_name k) a turn.kept choice stood said rests (fits.short k)) (shut_came db (txn_name k) a turn.kept choice said (txn_of db stood))
+      some table made written heard letters replies)
+
+-- ---- a statement goes on: the transaction is undecided still
+module _ (db : Database) (kept : DeskContent) (present : Present) (sorted : IsStrictlySortedBy txn_cmp (keys_of present.standings.entries)) (fits : Fits db kept (table_of present)) (k : Txn)
+    (old new : Undecided) (here : (table_of present).standing k ≡ Some (standing.Undecided old)) where
+  -- what is in memory then
+  abbrev gone_on : Table
+  gone_on = table_from (set_value (is_key (txn_cmp k)) present.standings.entries (standing.Undecided new)) present.undecided present.life present.number
+
+  never : (b : Bool) → (b && false) ≡ false
+  never true = refl
+  never false = refl
+
+  pub goes_on : (wanted : desk.Turn (language db)) (out : Vec Letter Global) (reply : Option Reply) → desk.Known (undecided_of db new) ≡ wanted.txn → map (sent db) out.items ≡ wanted.letters → told_to (txn_name k) reply ≡ filter_map told wanted.deeds →
+      HasSites db.sites (standing.Undecided new) → desk.is_short_txn wanted.txn ≡ true → (table : Table) → table ≡ gone_on → (written : List Letter) (heard : List Notice) → written ≡ out.items → heard ≡ notices k reply →
+      Steps db (table_of present) kept table k wanted written heard
+  goes_on wanted out reply stands letters replies sites short table table_is written heard written_is heard_is =
+      let turn : Turn = record { after = Becomes (standing.Undecided new); letters = out; reply = reply; kept = true } in
+      makes db kept kept present sorted fits k turn wanted (record { stands = stands; letters = letters; replies = replies }) sites
+      (keeps_same k None kept kept (sym (fits.rows k) ∙ ap kept_voters here) (unchanged kept)) short
+      (λ shut. clash (ap (λ o. desk.is_undecided (txn_of db o)) here) shut) (inl (ap is_some here)) table
+      (record {
+        moved = λ now is. table_is ∙ ap (λ n. table_from (set_value (is_key (txn_cmp k)) present.standings.entries (standing.Undecided new)) n present.life present.number) (sym (if_false (is_open (Some now) && false) (present.undecided - 1) present.undecided (never (is_open (Some now)))));
+        still = λ stays. cc;
+      }) written heard written_is heard_is
 
 -- what isn't undecided isn't given up
 pub open_some : (o : Option Standing) (u : Undecided) → open_in o ≡ Some u → o ≡ Some (standing.Undecided u)

@@ -15,3 +15,4 @@ pub mod State
 pub mod Begun
 pub mod Calls
 pub mod Starting
+pub mod Taking

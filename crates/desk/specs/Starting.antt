@@ -1,13 +1,14 @@
 -- A life of the coordinator begins: what the rows that its store keeps make of its memory, and what a restart puts out.
-use Rattle.std.specs.Prelude.{◌≡◌, ℕ, Bool, true, false, nat_le, List, [], ◌∷◌, ◌++◌, map}
+use Rattle.std.specs.Prelude.{◌≡◌, ℕ, Bool, true, false, nat_le, List, [], ◌∷◌, ◌++◌, map, Option, Some, None}
 use Rattle.std.specs.BTreeMap.{insert_entry}
 use Rattle.std.specs.List.{filter_map, flat_map, list_all}
 use Rattle.std.specs.List.Sorted.{IsStrictlySortedBy}
 use Rattle.store.specs.declared.commit.CommitRow.{CommitRow}
 use Rattle.store.specs.declared.commit.DeskKept.{DeskKept}
+use Rattle.store.specs.declared.commit.Voter.{Voter}
 use Rattle.store.specs.declared.letter.Letter.{Letter}
 use Rattle.store.specs.declared.name.Txn.{Txn}
-use Rattle.store.specs.DeskContent.{DeskContent, Lists}
+use Rattle.store.specs.DeskContent.{DeskContent, Lists, voters_in}
 use Rattle.store.specs.Name.{txn_cmp}
 use Rattle.protocol.specs.Desk as protocol
 use Rattle.desk.specs.declared.reply.Notice.{Notice}
@@ -23,6 +24,11 @@ use Rattle.desk.specs.Voters.{commit_letters}
 -- a decided transaction of which no acknowledgement has come
 abbrev pub row_standing : CommitRow → Standing
 row_standing row = standing.Committed (record { voters = row.voters; acked = [] })
+
+-- what stands where the store keeps these voters, and nothing else is known
+abbrev pub resting : Option (List Voter) → Option Standing
+resting None = None
+resting (Some voters) = Some (standing.Committed (record { voters = voters; acked = [] }))
 
 -- each row stands
 abbrev pub stood_by : List CommitRow → List (Txn × Standing) → List (Txn × Standing)
@@ -53,10 +59,18 @@ pub record IsStrange (kept : DeskContent) : Type 0 where
   pub lists : Lists kept all
   pub strange : are_begun all.life all.commits ≡ false
 
+-- the letters are a Commit to each voter that the store keeps, by transaction
+pub record SendsAgain (kept : DeskContent) (written : List Letter) : Type 0 where
+  pub rows : List CommitRow
+  pub voters : (txn : Txn) → voters_in txn rows ≡ kept.commits txn
+  pub ascend : IsStrictlySortedBy txn_cmp (map (λ row. row.txn) rows)
+  pub letters : written ≡ commits_again rows
+
 -- a life begins: the rows stand, by transaction, and nothing else
 pub record Rises (db : Database) (kept : DeskContent) (table : Table) : Type 0 where
   pub fits : Fits db kept table
   pub within : protocol.is_desk_within (desk_of db table) ≡ true
+  pub stands : (txn : Txn) → table.standing txn ≡ resting (kept.commits txn)
   pub undecided : table.undecided ≡ 0
   pub number : table.number ≡ 0
 

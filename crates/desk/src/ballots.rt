@@ -1,9 +1,10 @@
 //! Votes come.
 
-ghost use Rattle.std.specs.Prelude.{◌≡◌, None, IfOk, OnErr};
+ghost use Rattle.std.specs.Prelude.{◌≡◌, ◌⊎◌, false, None, IfOk, OnErr};
 ghost use Rattle.protocol.specs.Desk.{Choice, on_known};
 ghost use Rattle.protocol.specs.Letters.{is_no, txn_name};
 ghost use Rattle.store.specs.DeskContent.{IsUnchanged};
+ghost use Rattle.store.specs.Fault.{HasRefused};
 ghost use Rattle.store.specs.declared.reply.Reply.TheVariants as reply;
 ghost use Rattle.desk.specs.declared.standing.Standing.TheVariants as standing;
 ghost use Rattle.desk.specs.Ballots.{awaits_vote, counts_vote, is_first};
@@ -98,6 +99,7 @@ pub(crate) fn on_vote<S: DeskStore>(
     ensures sites { IfOk result (λ turn. AtSites (sites_of undecided.now.spots) turn.after) }
     ensures keeps { (db : Database) → AreSpots db undecided.now.spots → S.is_clean store.new → S.is_sound store.old → (S.kept store.old).commits txn ≡ None
         → IfOk result (λ turn. Keeps txn (kept_voters (after_of (Some (standing.Undecided undecided.now)) turn.after)) (S.kept store.old) (S.kept store.new)) }
+    ensures refusal { IfOk result (λ turn. turn.kept ≡ false → (kept ≡ false) ⊎ HasRefused (S.refused store.old) (S.refused store.new)) }
     ensures same { S.is_clean store.new → S.is_sound store.old → OnErr result (IsUnchanged (S.kept store.old) (S.kept store.new)) }
 {
     if !counts(undecided, site, &voted.ticket) {

@@ -141,8 +141,7 @@ fn giving_up(present: &Present, txn: Txn) -> Result<Turn, Refusal>
     ensures keeps { IfOk result (λ turn. kept_voters (after_of ((table_of present.now).standing txn) turn.after) ≡ kept_voters ((table_of present.now).standing txn)) }
     ensures kept { IfOk result (λ turn. turn.kept ≡ true) }
     ensures stands { IfOk result (λ turn. (is_some ((table_of present.now).standing txn) ≡ true) ⊎ (turn.after ≡ after.Stays)) }
-    ensures accepted { (db : Database) → OnOk result (refusal Give_up (txn_in db (table_of present.now) txn) ≡ None) }
-    ensures told { (db : Database) → IfErr result (λ told. (told ≡ refusals.Memory) ⊎ (option_map refused_as (refusal Give_up (txn_in db (table_of present.now) txn)) ≡ Some told)) }
+    ensures own { IfErr result (λ told. told ≡ refusals.Memory) }
 {
     match open(present, &txn) {
         Some(undecided) => Ok(give_up(present.alloc, txn, undecided)?),
@@ -184,8 +183,7 @@ pub(crate) fn call_give_up(present: &mut Present, txn: Txn) -> Result<Out, Refus
         → IfOk result (λ out. Steps db (table_of present.old) kept (table_of present.new) txn (on_request (txn_name txn) choice Give_up (txn_in db (table_of present.old) txn)) out.letters out.replies) }
     ensures kept { IfOk result (λ out. out.kept ≡ true) }
     ensures err { OnErr result (table_of present.new ≡ table_of present.old) }
-    ensures accepted { (db : Database) → OnOk result (refusal Give_up (txn_in db (table_of present.old) txn) ≡ None) }
-    ensures told { (db : Database) → IfErr result (λ told. (told ≡ refusals.Memory) ⊎ (option_map refused_as (refusal Give_up (txn_in db (table_of present.old) txn)) ≡ Some told)) }
+    ensures own { IfErr result (λ told. told ≡ refusals.Memory) }
 {
     let room = room(present.alloc)?;
     let turn = giving_up(present, txn)?;

@@ -1,6 +1,6 @@
 //! Letters of transactions that are unknown.
 
-ghost use Rattle.std.specs.Prelude.{◌≡◌, Option, None, IfOk};
+ghost use Rattle.std.specs.Prelude.{◌≡◌, Option, None, true, IfOk};
 ghost use Rattle.protocol.specs.Desk.{on_unknown};
 ghost use Rattle.protocol.specs.Letters.{txn_name};
 ghost use Rattle.desk.specs.declared.turn.After.TheVariants.{Stays};
@@ -24,6 +24,7 @@ pub(crate) fn on_unknown(
 ) -> Result<Turn, Memory>
     ensures turn { (db : Database) → IfOk result (λ turn. IsTurn db txn None turn (on_unknown (txn_name txn) site.now (replied db reply.now))) }
     ensures after { IfOk result (λ turn. turn.after ≡ Stays) }
+    ensures kept { IfOk result (λ turn. turn.kept ≡ true) }
 {
     match reply {
         Reply::Ticket(ticket) => tells(alloc, txn, site, Order::Abort(*ticket)),

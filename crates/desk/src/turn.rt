@@ -1,6 +1,6 @@
 //! What becomes of a transaction.
 
-ghost use Rattle.std.specs.Prelude.{◌≡◌, [], ◌∷◌, Option, Some, IfOk};
+ghost use Rattle.std.specs.Prelude.{◌≡◌, [], ◌∷◌, Option, Some, true, IfOk};
 ghost use Rattle.protocol.specs.Desk.{stays};
 ghost use Rattle.desk.specs.declared.turn.After.TheVariants as after;
 ghost use Rattle.desk.specs.Database.{Database, sent};
@@ -57,6 +57,7 @@ pub(crate) fn stays(alloc: Global, kept: bool) -> Turn
 pub(crate) fn becomes(alloc: Global, standing: Standing) -> Turn
     ensures turn { (db : Database) (txn : Txn) (old : Option Standing) → IsTurn db txn old result (stays (txn_of db (Some standing))) }
     ensures after { result.after ≡ after.Becomes standing }
+    ensures kept { result.kept ≡ true }
 {
     Turn {
         after: After::Becomes(standing),
@@ -70,6 +71,7 @@ pub(crate) fn becomes(alloc: Global, standing: Standing) -> Turn
 pub(crate) fn tells(alloc: Global, txn: Txn, site: &Text, order: Order) -> Result<Turn, Memory>
     ensures turn { (db : Database) (old : Option Standing) → IfOk result (λ turn. IsTurn db txn old turn (record { txn = txn_of db old; letters = sent db (ordered txn site.now order) ∷ []; deeds = [] })) }
     ensures after { IfOk result (λ turn. turn.after ≡ after.Stays) }
+    ensures kept { IfOk result (λ turn. turn.kept ≡ true) }
 {
     let mut letters = Vec::new(alloc);
     letters.push(Letter {

@@ -1,10 +1,11 @@
 //! The first phase: votes, and the decision.
 
-ghost use Rattle.std.specs.Prelude.{◌≡◌, ℕ, List, ◌==◌, ◌<◌, length, map, false, true, None, Option, IfOk, OnErr};
+ghost use Rattle.std.specs.Prelude.{◌≡◌, ◌⊎◌, ℕ, List, ◌==◌, ◌<◌, length, map, false, true, None, Option, IfOk, OnErr};
 ghost use Rattle.protocol.specs.Desk.{By_store, decides, ends_by, votes_go};
 ghost use Rattle.protocol.specs.Desk as protocol;
 ghost use Rattle.protocol.specs.Letters.{txn_name};
 ghost use Rattle.store.specs.DeskContent.{AreVoters, IsUnchanged};
+ghost use Rattle.store.specs.Fault.{HasRefused};
 ghost use Rattle.desk.specs.declared.standing.Standing.{Standing as StandingNow};
 ghost use Rattle.desk.specs.declared.turn.After.TheVariants.{Ends};
 ghost use Rattle.desk.specs.Database.{Database};
@@ -46,6 +47,7 @@ pub(crate) fn votes_go<S: DeskStore>(
     ensures sites { IfOk result (λ turn. AtSites (sites_of spots.items) turn.after) }
     ensures keeps { (db : Database) (old : Option StandingNow) → AreSpots db spots.items → kept_voters old ≡ None → S.is_clean store.new → S.is_sound store.old → (S.kept store.old).commits txn ≡ None
         → IfOk result (λ turn. Keeps txn (kept_voters (after_of old turn.after)) (S.kept store.old) (S.kept store.new)) }
+    ensures refusal { IfOk result (λ turn. turn.kept ≡ false → (kept ≡ false) ⊎ HasRefused (S.refused store.old) (S.refused store.new)) }
     ensures same { S.is_clean store.new → S.is_sound store.old → OnErr result (IsUnchanged (S.kept store.old) (S.kept store.new)) }
 {
     if !are_all_in(&spots) {
@@ -105,6 +107,7 @@ fn decides<S: DeskStore>(
     ensures sites { (sites : List (List ℕ)) → IfOk result (λ turn. AtSites sites turn.after) }
     ensures keeps { (old : Option StandingNow) → AreVoters voters.items → S.is_clean store.new → S.is_sound store.old → (S.kept store.old).commits txn ≡ None
         → IfOk result (λ turn. Keeps txn (kept_voters (after_of old turn.after)) (S.kept store.old) (S.kept store.new)) }
+    ensures refusal { IfOk result (λ turn. turn.kept ≡ false → (kept ≡ false) ⊎ HasRefused (S.refused store.old) (S.refused store.new)) }
     ensures same { S.is_clean store.new → S.is_sound store.old → OnErr result (IsUnchanged (S.kept store.old) (S.kept store.new)) }
 {
     if !kept {

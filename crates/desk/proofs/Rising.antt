@@ -1,0 +1,171 @@
+-- The memory that a store's rows make fits the store.
+use Rattle.std.proofs.Common.{◌≡◌, refl, sym, ap, ◌∙◌, subst, ℕ, suc, ◌+◌, ◌<◌, ◌≤◌, ◌^◌, ◌⊎◌, nat_le, Bool, true, false, not, List, [], ◌∷◌, map, length, Option, Some, None, is_some, cond, if◌then◌else◌, filter, inl, inr, arith}
+use Rattle.std.specs.BTreeMap.{insert_entry}
+use Rattle.std.specs.List.{AllByRecursion, list_all}
+use Rattle.std.specs.List.Sorted.{IsStrictlySortedBy}
+use Rattle.std.specs.Map.{keys_of}
+use Rattle.std.specs.Ordering.{is_eq, match_ordering}
+use Rattle.std.specs.declared.cmp.Ordering.{Ordering}
+use Rattle.std.specs.declared.cmp.Ordering.TheVariants.{Less, Equal, Greater}
+use Rattle.std.proofs.lemmas.Map.Keys.{sorted_head, sorted_tail}
+use Rattle.store.specs.declared.commit.CommitRow.{CommitRow}
+use Rattle.store.specs.declared.commit.DeskKept.{DeskKept}
+use Rattle.store.specs.declared.commit.Voter.{Voter}
+use Rattle.store.specs.declared.name.Txn.{Txn}
+use Rattle.store.specs.DeskContent.{BeginsLife, DeskContent, Lists, is_txn, voters_in}
+use Rattle.store.specs.Name.{txn_cmp}
+use Rattle.store.specs.Orders.{txn_cmp-IsAntisymmetric}
+use Rattle.protocol.specs.Parts.{In}
+use Rattle.protocol.proofs.Basics.{clash, if_true, if_false, left_true, right_true, some_is}
+use Rattle.desk.specs.declared.standing.Standing.{Standing}
+use Rattle.desk.specs.declared.standing.Standing.TheVariants as standing
+use Rattle.desk.specs.Database.{Database}
+use Rattle.desk.specs.Starting.{Rises, are_begun, resting, row_standing, stood_by}
+use Rattle.desk.specs.State.{Fits, Table, is_open, open_among, table_from}
+use Rattle.desk.specs.Standing.{txn_of}
+use Rattle.desk.specs.Turn.{HasSites}
+use Rattle.protocol.specs.Desk.{is_short_txn}
+use Rattle.desk.specs.Voters.{kept_voters}
+use Rattle.desk.proofs.Acknowledged.{txn_is}
+use Rattle.desk.proofs.Settled.{is_within}
+use Rattle.desk.proofs.Txns.{Entries, at_txn, txn_same}
+
+-- ---- entries
+pub inserted_there : (entries : Entries) (k : Txn) (v : Standing) (j : Txn) → at_txn (insert_entry txn_cmp entries k v) j ≡ (if is_txn j k then Some v else at_txn entries j)
+inserted_there [] k v j = refl
+inserted_there (e ∷ entries) k v j = go (txn_cmp k e.0) refl (inserted_there entries k v j)
+  where
+    same_test : (b : Bool) → (k ≡ e.0) → is_txn j k ≡ b → cond (is_txn j e.0) (Some v) (at_txn entries j) ≡ (if b then Some v else cond (is_txn j e.0) (Some e.1) (at_txn entries j))
+    same_test true is t = if_true (is_txn j e.0) (Some v) (at_txn entries j) (ap (is_txn j) (sym is) ∙ t)
+    same_test false is t = if_false (is_txn j e.0) (Some v) (at_txn entries j) (ap (is_txn j) (sym is) ∙ t) ∙ sym (if_false (is_txn j e.0) (Some e.1) (at_txn entries j) (ap (is_txn j) (sym is) ∙ t))
+
+    apart : (a b : Bool) → txn_cmp k e.0 ≡ Greater → is_txn j e.0 ≡ a → is_txn j k ≡ b → cond a (Some e.1) (if b then Some v else at_txn entries j) ≡ (if b then Some v else cond a (Some e.1) (at_txn entries j))
+    apart true true above s t = clash (txn_same k e.0 (sym (txn_is j k t) ∙ txn_is j e.0 s)) (ap is_eq above)
+    apart true false above s t = refl
+    apart false true above s t = refl
+    apart false false above s t = refl
+
+    go : (r : Ordering) → txn_cmp k e.0 ≡ r → at_txn (insert_entry txn_cmp entries k v) j ≡ (if is_txn j k then Some v else at_txn entries j) →
+        at_txn (match_ordering r ((k, v) ∷ e ∷ entries) ((e.0, v) ∷ entries) (e ∷ insert_entry txn_cmp entries k v)) j ≡ (if is_txn j k then Some v else at_txn (e ∷ entries) j)
+    go Less is rest = refl
+    go Equal is rest = same_test (is_txn j k) (txn_cmp-IsAntisymmetric k e.0 is) refl
+    go Greater is rest = ap (cond (is_txn j e.0) (Some e.1)) rest ∙ apart (is_txn j e.0) (is_txn j k) is refl refl
+
+-- what stands is listed
+pub some_listed : (entries : Entries) (j : Txn) → is_some (at_txn entries j) ≡ true → In j (keys_of entries)
+some_listed [] j e = cc
+some_listed (x ∷ entries) j e = go (some_listed entries j) (is_txn j x.0) refl e
+  where
+    go : (is_some (at_txn entries j) ≡ true → In j (keys_of entries)) → (b : Bool) → is_txn j x.0 ≡ b → is_some (cond b (Some x.1) (at_txn entries j)) ≡ true → In j (keys_of (x ∷ entries))
+    go below true is f = inl (txn_is j x.0 is)
+    go below false is f = inr (below f)
+
+pub listed_some : (entries : Entries) (j : Txn) → In j (keys_of entries) → is_some (at_txn entries j) ≡ true
+listed_some [] j here = absurd here
+listed_some (x ∷ entries) j here = go (listed_some entries j) (is_txn j x.0) refl here
+  where
+    go : (In j (keys_of entries) → is_some (at_txn entries j) ≡ true) → (b : Bool) → is_txn j x.0 ≡ b → (j ≡ x.0) ⊎ In j (keys_of entries) → is_some (cond b (Some x.1) (at_txn entries j)) ≡ true
+    go below true is h = refl
+    go below false is (inl e) = clash (txn_same j x.0 e) is
+    go below false is (inr h) = below h
+
+-- ---- rows
+abbrev pub txns_of : List CommitRow → List Txn
+txns_of rows = map (λ row. row.txn) rows
+
+none_below : (k : Txn) (rows : List CommitRow) → AllByRecursion (λ j. txn_cmp k j ≡ Less) (txns_of rows) → voters_in k rows ≡ None
+none_below k [] below = refl
+none_below k (row ∷ rows) below = if_false (is_txn k row.txn) (Some row.voters) (voters_in k rows) (ap is_eq below.0) ∙ none_below k rows below.1
+
+none_after : (j : Txn) (row : CommitRow) (rows : List CommitRow) → IsStrictlySortedBy txn_cmp (txns_of (row ∷ rows)) → is_txn j row.txn ≡ true → voters_in j rows ≡ None
+none_after j row rows sorted is = ap (λ k. voters_in k rows) (txn_is j row.txn is) ∙ none_below row.txn rows (sorted_head txn_cmp row.txn (txns_of rows) sorted)
+
+-- a row as it stands, or else what stood before
+abbrev pub standing_of : Option (List Voter) → Option Standing → Option Standing
+standing_of None before = before
+standing_of (Some voters) before = Some (standing.Committed (record { voters = voters; acked = [] }))
+
+pub rows_there : (rows : List CommitRow) (entries : Entries) → IsStrictlySortedBy txn_cmp (txns_of rows) → (j : Txn) → at_txn (stood_by rows entries) j ≡ standing_of (voters_in j rows) (at_txn entries j)
+rows_there [] entries sorted j = refl
+rows_there (row ∷ rows) entries sorted j =
+    rows_there rows (insert_entry txn_cmp entries row.txn (row_standing row)) (sorted_tail txn_cmp row.txn (txns_of rows) sorted) j
+    ∙ ap (standing_of (voters_in j rows)) (inserted_there entries row.txn (row_standing row) j)
+    ∙ go (is_txn j row.txn) refl
+  where
+    go : (b : Bool) → is_txn j row.txn ≡ b → standing_of (voters_in j rows) (if b then Some (row_standing row) else at_txn entries j) ≡ standing_of (if b then Some row.voters else voters_in j rows) (at_txn entries j)
+    go true is = ap (λ r. standing_of r (Some (row_standing row))) (none_after j row rows sorted is)
+    go false is = refl
+
+rows_begun : (life : ℕ) (rows : List CommitRow) → are_begun life rows ≡ true → (j : Txn) → is_some (voters_in j rows) ≡ true → nat_le j.life life ≡ true
+rows_begun life [] right j e = cc
+rows_begun life (row ∷ rows) right j e = go (rows_begun life rows (right_true (nat_le row.txn.life life) _ right) j) (is_txn j row.txn) refl e
+  where
+    go : (is_some (voters_in j rows) ≡ true → nat_le j.life life ≡ true) → (b : Bool) → is_txn j row.txn ≡ b → is_some (if b then Some row.voters else voters_in j rows) ≡ true → nat_le j.life life ≡ true
+    go below true is f = subst (λ k. nat_le k.life life ≡ true) (sym (txn_is j row.txn is)) (left_true (nat_le row.txn.life life) _ right)
+    go below false is f = below f
+
+-- ---- the memory
+module _ (db : Database) (all : DeskKept) (kept after : DeskContent) (lists : Lists kept all) (life : BeginsLife kept after) (right : are_begun all.life all.commits ≡ true) (below : kept.life + 1 < 2 ^ 63) where
+  abbrev entries : Entries
+  entries = stood_by all.commits []
+
+  abbrev table : Table
+  table = table_from entries 0 after.life 0
+
+  row_is : (j : Txn) → voters_in j all.commits ≡ after.commits j
+  row_is j = lists.rows j ∙ sym (life.commits j)
+
+  there : (j : Txn) → table.standing j ≡ resting (after.commits j)
+  there j = rows_there all.commits [] lists.ascend j ∙ ap (λ r. standing_of r None) (row_is j) ∙ rests (after.commits j)
+    where
+      rests : (r : Option (List Voter)) → standing_of r None ≡ resting r
+      rests None = refl
+      rests (Some voters) = refl
+
+  voters_are : (r : Option (List Voter)) → kept_voters (resting r) ≡ r
+  voters_are None = refl
+  voters_are (Some voters) = refl
+
+  is_row : (r : Option (List Voter)) → is_some (resting r) ≡ is_some r
+  is_row None = refl
+  is_row (Some voters) = refl
+
+  shut : (r : Option (List Voter)) → is_open (resting r) ≡ false
+  shut None = refl
+  shut (Some voters) = refl
+
+  none_open : (js : List Txn) → open_among table.standing js ≡ 0
+  none_open [] = refl
+  none_open (j ∷ js) = ap (λ b. length (cond b (j ∷ filter (λ i. is_open (table.standing i)) js) (filter (λ i. is_open (table.standing i)) js))) (ap is_open (there j) ∙ shut (after.commits j)) ∙ none_open js
+
+  at_sites : (r : Option (List Voter)) (s : Standing) → resting r ≡ Some s → HasSites db.sites s
+  at_sites None s e = cc
+  at_sites (Some voters) s e = subst (HasSites db.sites) (some_is e) tt
+
+  short : (r : Option (List Voter)) → is_short_txn (txn_of db (resting r)) ≡ true
+  short None = refl
+  short (Some voters) = refl
+
+  fits : Fits db after table
+  fits = record {
+    rows = λ j. ap kept_voters (there j) ∙ voters_are (after.commits j);
+    life = refl;
+    listed = λ j e. some_listed entries j e;
+    lives = λ j here. listed_some entries j here;
+    begun = λ j e.
+        let old : nat_le j.life all.life ≡ true = rows_begun all.life all.commits right j (ap is_some (row_is j) ∙ sym (is_row (after.commits j)) ∙ sym (ap is_some (there j)) ∙ e) in
+        let a : after.life ≡ kept.life + 1 = life.life in
+        let b : all.life ≡ kept.life = lists.incarnation in
+        let h : j.life < after.life = grind (arith) in
+        inl h;
+    sites = λ j s e. at_sites (after.commits j) s (sym (there j) ∙ e);
+    counted = sym (none_open table.txns);
+    short = λ j. subst (λ o. is_short_txn (txn_of db o) ≡ true) (sym (there j)) (short (after.commits j));
+    few = omega arith;
+    low = ((let a : after.life ≡ kept.life + 1 = life.life in omega arith), omega arith);
+  }
+
+  pub rises : (es : Entries) (n : ℕ) → es ≡ entries → n ≡ after.life → Rises db after (table_from es 0 n 0)
+  rises es n es_are n_is =
+      subst (λ m. Rises db after (table_from es 0 m 0)) (sym n_is) (subst (λ x. Rises db after (table_from x 0 after.life 0)) (sym es_are)
+      (record { fits = fits; within = is_within db after table fits; stands = there; undecided = refl; number = refl }))

@@ -1,0 +1,7 @@
+-- Why `begin` meets its contract.
+use Rattle.std.proofs.Common.{sym, subst}
+use Rattle.desk.specs.Calls.{IsOver}
+use Rattle.desk.proofs.desk.Desk.begin.Goals as goal
+
+pub returns-clause-full : goal.returns-clause-full
+returns-clause-full g c = λ db over fits. c.call_begin.ensures.full db (g.S.DeskStore.kept c.args.self.now.store) (subst (IsOver db) (sym c.sites.ensures) over) fits

@@ -1,0 +1,23 @@
+-- Which letters of sites may have operations sent.
+use Rattle.std.specs.Prelude.{ℕ, Bool, true, false, List, Option, Some, None, is_none}
+use Rattle.store.specs.declared.name.Ticket.{Ticket}
+use Rattle.store.specs.declared.reply.Reply as replies
+use Rattle.store.specs.declared.reply.Reply.TheVariants as reply
+use Rattle.desk.specs.declared.standing.Standing as standings
+use Rattle.desk.specs.declared.standing.Standing.TheVariants as standing
+use Rattle.desk.specs.Spots.{spot_in}
+
+-- whether a statement goes on by what a site says that has given this ticket so far: by its first one, or by rows
+abbrev pub goes_on : Option Ticket → replies.Reply → Bool
+goes_on first (reply.Ticket ticket) = is_none first
+goes_on first (reply.Rows rows) = true
+goes_on first (reply.Refused refusal) = false
+goes_on first (reply.Voted voted) = false
+goes_on first (reply.Ack ticket) = false
+goes_on first (reply.Inquire ticket) = false
+
+-- only an undecided transaction has a statement
+abbrev pub may_send : Option standings.Standing → List ℕ → replies.Reply → Bool
+may_send None site said = false
+may_send (Some (standing.Undecided undecided)) site said = goes_on (spot_in site undecided.spots).ticket said
+may_send (Some (standing.Committed committed)) site said = false

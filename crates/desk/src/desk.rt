@@ -1,0 +1,214 @@
+//! The coordinator's machine.
+
+ghost use Rattle.std.specs.Prelude.{◌≡◌, ◌≢◌, ◌⊎◌, ◌+◌, ◌≤◌, ◌^◌, None, Some, true, false, Err, IfOk, IfErr, OnOk, OnErr};
+ghost use Rattle.std.specs.Option.{option_map};
+ghost use Rattle.protocol.specs.Desk.{Choice, Commit_call, Give_up, Rollback, desk_began, is_desk_within, on_request, refusal};
+ghost use Rattle.protocol.specs.Letters.{txn_name};
+ghost use Rattle.store.specs.DeskContent.{BeginsLife, IsUnchanged, Lists};
+ghost use Rattle.store.specs.Fault.{HasRefused};
+ghost use Rattle.store.specs.declared.fault.StoreFault.TheVariants as store_faults;
+ghost use Rattle.desk.specs.declared.refusal.Refusal.TheVariants as refusals;
+ghost use Rattle.desk.specs.Calls.{IsOver, refused_as, txn_in};
+ghost use Rattle.desk.specs.Database.{Database, language};
+ghost use Rattle.desk.specs.Starting.{IsStrange, Restarts, Rises};
+ghost use Rattle.desk.specs.State.{Begins, Fits, Steps, desk_of, table_of};
+
+use crate::calls::{call_begin, call_commit, call_give_up, call_rollback};
+use crate::present::Present;
+use crate::refusal::{Refusal, store_refusal};
+use crate::reply::Out;
+use crate::starting::{begin, restart};
+use catalog::catalogue::Catalog;
+use std::alloc::Global;
+use store::commit::DeskKept;
+use store::desk_store::DeskStore;
+use store::fault::StoreFault;
+use store::name::Txn;
+
+/// A coordinator: its store, its catalogue, and what it has in memory. What its clauses say holds where the
+/// store is clean as the call ends, and was sound, and where what is in memory fitted it as the call began.
+#[derive(Drop)]
+pub struct Desk<S: DeskStore> {
+    store: S,
+    catalog: Catalog,
+    present: Present,
+}
+
+/// A catalogue and a store whose coordinator didn't start, and why.
+#[derive(Drop)]
+pub struct Unstarted<S> {
+    pub refusal: Refusal,
+    pub catalog: Catalog,
+    pub store: S,
+}
+
+impl<S: DeskStore> Desk<S> {
+    /// Starts the coordinator of this catalogue: the next life begins. On a refusal the store is as it was.
+    pub fn start(alloc: Global, catalog: Catalog, store: S) -> Result<Desk<S>, Unstarted<S>>
+        ensures sound { IfOk result (λ desk. S.is_clean desk.store → S.is_sound desk.store) }
+        ensures ok { (db : Database) → IfOk result (λ desk. S.is_clean desk.store → Rises db (S.kept desk.store) (table_of desk.present)) }
+        ensures life { IfOk result (λ desk. S.is_clean desk.store → S.is_sound store → BeginsLife (S.kept store) (S.kept desk.store)) }
+        ensures catalog { IfOk result (λ desk. desk.catalog ≡ catalog) }
+        ensures clean { IfOk result (λ desk. S.is_clean desk.store → S.is_clean store) }
+        ensures given_back { IfErr result (λ unstarted. unstarted.catalog ≡ catalog) }
+        ensures clean_still { IfErr result (λ unstarted. S.is_clean unstarted.store → S.is_clean store) }
+        ensures same { IfErr result (λ unstarted. S.is_clean unstarted.store → S.is_sound store → IsUnchanged (S.kept store) (S.kept unstarted.store)) }
+        ensures refusal { IfErr result (λ unstarted. unstarted.refusal ≡ refusals.Store store_faults.Refused → HasRefused (S.refused store) (S.refused unstarted.store)) }
+        ensures full { IfErr result (λ unstarted. S.is_clean unstarted.store → unstarted.refusal ≡ refusals.Full → 2 ^ 63 ≤ (S.kept unstarted.store).life + 1) }
+        ensures damaged { IfErr result (λ unstarted. S.is_clean unstarted.store → S.is_sound store → unstarted.refusal ≡ refusals.Store store_faults.Damaged → IsStrange (S.kept unstarted.store)) }
+        ensures own { IfErr result (λ unstarted. (unstarted.refusal ≡ refusals.Memory) ⊎ (unstarted.refusal ≡ refusals.Full) ⊎ (unstarted.refusal ≡ refusals.Store store_faults.Refused) ⊎ (unstarted.refusal ≡ refusals.Store store_faults.Damaged)) }
+    {
+        let mut store = store;
+        match begin(&mut store, alloc) {
+            Ok(begun) => Ok(Desk {
+                store,
+                catalog,
+                present: Present {
+                    alloc,
+                    standings: begun.standings,
+                    undecided: 0,
+                    life: begun.life,
+                    number: 0,
+                },
+            }),
+            Err(refusal) => Err(Unstarted {
+                refusal,
+                catalog,
+                store,
+            }),
+        }
+    }
+
+    /// A transaction begins. The reply names it.
+    pub fn begin(&mut self) -> Result<Out, Refusal>
+        ensures ok { (db : Database) → IsOver db self.old.catalog.0 → Fits db (S.kept self.old.store) (table_of self.old.present)
+            → IfOk result (λ out. Begins db (table_of self.old.present) (S.kept self.new.store) (table_of self.new.present) out.letters out.replies) }
+        ensures kept { IfOk result (λ out. out.kept ≡ true) }
+        ensures full { (db : Database) → IsOver db self.old.catalog.0 → Fits db (S.kept self.old.store) (table_of self.old.present)
+            → IfErr result (λ told. (told ≡ refusals.Memory) ⊎ ((told ≡ refusals.Full) × (is_desk_within (desk_began (desk_of db (table_of self.old.present))) ≡ false))) }
+        ensures err { OnErr result (table_of self.new.present ≡ table_of self.old.present) }
+        ensures store { self.new.store ≡ self.old.store }
+        ensures catalog { self.new.catalog ≡ self.old.catalog }
+    {
+        call_begin(&mut self.present, self.catalog.sites())
+    }
+
+    /// The commit of a transaction is asked for: its first phase begins.
+    pub fn commit(&mut self, txn: Txn) -> Result<Out, Refusal>
+        ensures ok { (db : Database) (choice : Choice (language db)) → IsOver db self.old.catalog.0 → Fits db (S.kept self.old.store) (table_of self.old.present)
+            → IfOk result (λ out. Steps db (table_of self.old.present) (S.kept self.new.store) (table_of self.new.present) txn (on_request (txn_name txn) choice Commit_call (txn_in db (table_of self.old.present) txn)) out.letters out.replies) }
+        ensures kept { IfOk result (λ out. out.kept ≡ true) }
+        ensures accepted { (db : Database) → OnOk result (refusal Commit_call (txn_in db (table_of self.old.present) txn) ≡ None) }
+        ensures told { (db : Database) → IfErr result (λ told. (told ≡ refusals.Memory) ⊎ (option_map refused_as (refusal Commit_call (txn_in db (table_of self.old.present) txn)) ≡ Some told)) }
+        ensures err { OnErr result (table_of self.new.present ≡ table_of self.old.present) }
+        ensures store { self.new.store ≡ self.old.store }
+        ensures catalog { self.new.catalog ≡ self.old.catalog }
+    {
+        call_commit(&mut self.present, txn)
+    }
+
+    /// A transaction is rolled back.
+    pub fn rollback(&mut self, txn: Txn) -> Result<Out, Refusal>
+        ensures ok { (db : Database) (choice : Choice (language db)) → IsOver db self.old.catalog.0 → Fits db (S.kept self.old.store) (table_of self.old.present)
+            → IfOk result (λ out. Steps db (table_of self.old.present) (S.kept self.new.store) (table_of self.new.present) txn (on_request (txn_name txn) choice Rollback (txn_in db (table_of self.old.present) txn)) out.letters out.replies) }
+        ensures kept { IfOk result (λ out. out.kept ≡ true) }
+        ensures accepted { (db : Database) → OnOk result (refusal Rollback (txn_in db (table_of self.old.present) txn) ≡ None) }
+        ensures told { (db : Database) → IfErr result (λ told. (told ≡ refusals.Memory) ⊎ (option_map refused_as (refusal Rollback (txn_in db (table_of self.old.present) txn)) ≡ Some told)) }
+        ensures err { OnErr result (table_of self.new.present ≡ table_of self.old.present) }
+        ensures store { self.new.store ≡ self.old.store }
+        ensures catalog { self.new.catalog ≡ self.old.catalog }
+    {
+        call_rollback(&mut self.present, txn)
+    }
+
+    /// A transaction is given up. One that isn't undecided stays as it is.
+    pub fn give_up(&mut self, txn: Txn) -> Result<Out, Refusal>
+        ensures ok { (db : Database) (choice : Choice (language db)) → IsOver db self.old.catalog.0 → Fits db (S.kept self.old.store) (table_of self.old.present)
+            → IfOk result (λ out. Steps db (table_of self.old.present) (S.kept self.new.store) (table_of self.new.present) txn (on_request (txn_name txn) choice Give_up (txn_in db (table_of self.old.present) txn)) out.letters out.replies) }
+        ensures kept { IfOk result (λ out. out.kept ≡ true) }
+        ensures own { IfErr result (λ told. told ≡ refusals.Memory) }
+        ensures err { OnErr result (table_of self.new.present ≡ table_of self.old.present) }
+        ensures store { self.new.store ≡ self.old.store }
+        ensures catalog { self.new.catalog ≡ self.old.catalog }
+    {
+        call_give_up(&mut self.present, txn)
+    }
+
+    /// Restarts: undecided transactions abort and acknowledgements are lost, the next life begins, and who
+    /// voted YES of a decided transaction hears Commit again. On a refusal nothing has changed.
+    pub fn restart(&mut self) -> Result<Out, Refusal>
+        ensures clean { S.is_clean self.new.store → S.is_clean self.old.store }
+        ensures sound { S.is_clean self.new.store → OnOk result (S.is_sound self.new.store) }
+        ensures keeps { S.is_clean self.new.store → S.is_sound self.old.store → S.is_sound self.new.store }
+        ensures ok { (db : Database) → S.is_clean self.new.store → S.is_sound self.old.store → Fits db (S.kept self.old.store) (table_of self.old.present)
+            → IfOk result (λ out. Restarts db (table_of self.old.present) (S.kept self.new.store) (table_of self.new.present) out.letters out.replies) }
+        ensures rises { (db : Database) → S.is_clean self.new.store → OnOk result (Rises db (S.kept self.new.store) (table_of self.new.present)) }
+        ensures kept { IfOk result (λ out. out.kept ≡ true) }
+        ensures life { S.is_clean self.new.store → S.is_sound self.old.store → OnOk result (BeginsLife (S.kept self.old.store) (S.kept self.new.store)) }
+        ensures err { OnErr result (table_of self.new.present ≡ table_of self.old.present) }
+        ensures same { S.is_clean self.new.store → S.is_sound self.old.store → OnErr result (IsUnchanged (S.kept self.old.store) (S.kept self.new.store)) }
+        ensures refusal { result ≡ Err (refusals.Store store_faults.Refused) → HasRefused (S.refused self.old.store) (S.refused self.new.store) }
+        ensures full { S.is_clean self.new.store → result ≡ Err refusals.Full → 2 ^ 63 ≤ (S.kept self.new.store).life + 1 }
+        ensures damaged { S.is_clean self.new.store → S.is_sound self.old.store → result ≡ Err (refusals.Store store_faults.Damaged) → IsStrange (S.kept self.new.store) }
+        ensures own { IfErr result (λ told. (told ≡ refusals.Memory) ⊎ (told ≡ refusals.Full) ⊎ (told ≡ refusals.Store store_faults.Refused) ⊎ (told ≡ refusals.Store store_faults.Damaged)) }
+        ensures catalog { self.new.catalog ≡ self.old.catalog }
+    {
+        self.restart_kept(true)
+    }
+
+    /// So, but where `kept` is false the store isn't called, and counts as having refused.
+    pub fn restart_kept(&mut self, kept: bool) -> Result<Out, Refusal>
+        ensures clean { S.is_clean self.new.store → S.is_clean self.old.store }
+        ensures sound { S.is_clean self.new.store → OnOk result (S.is_sound self.new.store) }
+        ensures keeps { S.is_clean self.new.store → S.is_sound self.old.store → S.is_sound self.new.store }
+        ensures ok { (db : Database) → S.is_clean self.new.store → S.is_sound self.old.store → Fits db (S.kept self.old.store) (table_of self.old.present)
+            → IfOk result (λ out. Restarts db (table_of self.old.present) (S.kept self.new.store) (table_of self.new.present) out.letters out.replies) }
+        ensures rises { (db : Database) → S.is_clean self.new.store → OnOk result (Rises db (S.kept self.new.store) (table_of self.new.present)) }
+        ensures kept { IfOk result (λ out. out.kept ≡ true) }
+        ensures called { OnOk result (kept ≡ true) }
+        ensures life { S.is_clean self.new.store → S.is_sound self.old.store → OnOk result (BeginsLife (S.kept self.old.store) (S.kept self.new.store)) }
+        ensures err { OnErr result (table_of self.new.present ≡ table_of self.old.present) }
+        ensures same { S.is_clean self.new.store → S.is_sound self.old.store → OnErr result (IsUnchanged (S.kept self.old.store) (S.kept self.new.store)) }
+        ensures refusal { result ≡ Err (refusals.Store store_faults.Refused) → (kept ≡ false) ⊎ HasRefused (S.refused self.old.store) (S.refused self.new.store) }
+        ensures full { S.is_clean self.new.store → result ≡ Err refusals.Full → 2 ^ 63 ≤ (S.kept self.new.store).life + 1 }
+        ensures damaged { S.is_clean self.new.store → S.is_sound self.old.store → result ≡ Err (refusals.Store store_faults.Damaged) → IsStrange (S.kept self.new.store) }
+        ensures own { IfErr result (λ told. (told ≡ refusals.Memory) ⊎ (told ≡ refusals.Full) ⊎ (told ≡ refusals.Store store_faults.Refused) ⊎ (told ≡ refusals.Store store_faults.Damaged)) }
+        ensures catalog { self.new.catalog ≡ self.old.catalog }
+    {
+        if !kept {
+            return Err(Refusal::Store(StoreFault::Refused));
+        }
+        restart(&mut self.store, &mut self.present)
+    }
+
+    /// All that the store keeps.
+    pub fn kept(&mut self) -> Result<DeskKept, Refusal>
+        ensures clean { S.is_clean self.new.store → S.is_clean self.old.store }
+        ensures keeps { S.is_clean self.new.store → S.is_sound self.old.store → S.is_sound self.new.store }
+        ensures all { S.is_clean self.new.store → IfOk result (Lists (S.kept self.new.store)) }
+        ensures same { S.is_clean self.new.store → S.is_sound self.old.store → IsUnchanged (S.kept self.old.store) (S.kept self.new.store) }
+        ensures memory { self.new.present ≡ self.old.present }
+        ensures refusal { result ≡ Err (refusals.Store store_faults.Refused) → HasRefused (S.refused self.old.store) (S.refused self.new.store) }
+        ensures intact { S.is_clean self.new.store → S.is_sound self.old.store → result ≢ Err (refusals.Store store_faults.Damaged) }
+        ensures catalog { self.new.catalog ≡ self.old.catalog }
+    {
+        match self.store.load() {
+            Ok(all) => Ok(all),
+            Err(fault) => Err(store_refusal(fault)),
+        }
+    }
+
+    /// The catalogue.
+    pub fn catalog(&self) -> &Catalog
+        ensures { result.now ≡ self.now.catalog }
+    {
+        &self.catalog
+    }
+
+    /// The store, as it is.
+    pub fn into_store(self) -> S
+        ensures { result ≡ self.store }
+    {
+        self.store
+    }
+}
