@@ -3,6 +3,8 @@ pub mod Picked
 pub mod Merged
 pub mod Searched
 pub mod Made
+pub mod United
+pub mod Together
 pub mod Listing
 pub mod WritesLaw
 pub mod LeafByLeaf

@@ -5,10 +5,12 @@ use Rattle.terms.specs.declared.cond.Cond.{Cond}
 use Rattle.terms.specs.declared.leaf.Leaf.{Leaf}
 use Rattle.terms.specs.declared.value.Value.{Value}
 use Rattle.terms.specs.Row.{key_of}
+use Rattle.meaning.specs.Relation.{Ascends}
 use Rattle.meaning.specs.Selected.{partner}
 use Rattle.catalog.specs.Counts.{has}
 use Rattle.catalog.specs.Keyed.{row_at}
-use Rattle.plan.specs.Rows.{is_seen, seen_meets, seen_part}
+use Rattle.plan.specs.declared.fetch.Fetch as fetch
+use Rattle.plan.specs.Rows.{is_seen, met, seen_meets, seen_part}
 use Rattle.plan.specs.Shape.{Shape}
 use Rattle.plan.specs.Uniform.{beside, columns_had, past}
 use Rattle.answers.specs.declared.table.Table.{Table}
@@ -45,6 +47,9 @@ filtered conds table = record { columns = table.columns; rows = meeting conds ta
 abbrev pub cut : List ℕ → Table → Table
 cut wanted table = record { columns = filter (is_seen wanted) table.columns; rows = map (picked (is_seen wanted) table.columns) table.rows }
 
+abbrev pub table_read : fetch.Fetch → List (List Value) → Table
+table_read read parts = record { columns = read.columns; rows = met read.conds parts }
+
 abbrev pub united_with : List (List Value) → List (List Value) → Table → Table → Table
 united_with [] others one other = other
 united_with (row ∷ rows) [] one other = one
@@ -52,6 +57,14 @@ united_with (row ∷ rows) (first ∷ others) one other = record { columns = one
 
 abbrev pub united : Table → Table → Table
 united one other = united_with one.rows other.rows one other
+
+abbrev pub no_rows : Table
+no_rows = record { columns = 0 ∷ []; rows = [] }
+
+abbrev pub all_united : List Table → Table
+all_united [] = no_rows
+all_united (table ∷ []) = table
+all_united (table ∷ next ∷ rest) = united table (all_united (next ∷ rest))
 
 abbrev pub keyed : Table → Table → Table
 keyed one other = record { columns = beside one.columns other.columns; rows = key_pairs one.columns other.columns one.rows other.rows }
@@ -70,6 +83,12 @@ pub record IsMade (plan : Shape) (contents : Leaf → List (List Value)) (table 
   pub key : slice_get table.columns 0 ≡ Some 0
   pub wide : AllByRecursion (λ row. length row ≡ length table.columns) table.rows
   pub had : (table.rows ≡ []) ⊎ (columns_had plan ≡ Some table.columns)
+
+-- tables whose rows together are those of a plan
+pub record AreMade (plan : Shape) (contents : Leaf → List (List Value)) (tables : List Table) : Type 0 where
+  pub some : tables ≡ [] → ⊥
+  pub order : AllByRecursion (λ table. Ascends table.rows) tables
+  pub together : IsMade plan contents (all_united tables)
 
 -- a key above the last one, if there is one
 abbrev pub is_above : Option ℤ → ℤ → Bool

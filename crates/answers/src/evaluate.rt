@@ -3,16 +3,15 @@
 ghost use Rattle.std.specs.Prelude.{◌≡◌, IfOk};
 ghost use Rattle.plan.specs.Shape.{shape};
 ghost use Rattle.plan.specs.Uniform.{EachRead, IsUniform};
-ghost use Rattle.answers.specs.Evaluated.{IsMade};
+ghost use Rattle.answers.specs.Evaluated.{AreMade};
 ghost use Rattle.answers.specs.Table.{AreParts, HasRows, given};
 
-use crate::steps::{cut, filtered, keyed, met, partnered, united};
+use crate::steps::{cut, filtered, keyed, partnered, table_read};
 use crate::table::{FetchRows, Table, given};
+use crate::unite::{alone, no_rows, united_all};
 use plan::plan::Plan;
 use std::alloc::Global;
-use terms::copy::TryCopy;
 use terms::memory::Memory;
-use terms::seq::Seq;
 
 /// The rows of a plan, over what its fetches brought.
 pub fn evaluate(alloc: Global, plan: &Plan, fetched: &[FetchRows]) -> Result<Table, Memory>
@@ -22,48 +21,35 @@ pub fn evaluate(alloc: Global, plan: &Plan, fetched: &[FetchRows]) -> Result<Tab
     requires parts { EachRead (λ read. AreParts read.columns (given fetched.now read.leaf)) (shape plan.now) }
     ensures { IfOk result (λ table. HasRows (shape plan.now) (given fetched.now) table) }
 {
-    made(alloc, plan, fetched)
+    united_all(alloc, tables_of(alloc, plan, fetched)?)
 }
 
-#[cycle(made)]
-fn made(alloc: Global, plan: &Plan, fetched: &[FetchRows]) -> Result<Table, Memory>
+/// The tables whose rows are those of a plan: for a union those of both sides, for any other plan one.
+fn tables_of(alloc: Global, plan: &Plan, fetched: &[FetchRows]) -> Result<Vec<Table>, Memory>
     requires plan { IsUniform (shape plan.now) }
     requires parts { EachRead (λ read. AreParts read.columns (given fetched.now read.leaf)) (shape plan.now) }
-    ensures { IfOk result (λ table. IsMade (shape plan.now) (given fetched.now) table) }
+    ensures { IfOk result (λ tables. AreMade (shape plan.now) (given fetched.now) tables.items) }
 {
     match plan {
-        Plan::Empty => {
-            let mut columns = Vec::new(alloc);
-            columns.push(0)?;
-            Ok(Table {
-                columns: Seq::new(columns),
-                rows: Seq::new(Vec::new(alloc)),
-            })
-        }
-        Plan::Fetch(read) => {
-            let rows = met(alloc, read.conds.as_slice(), given(fetched, &read.leaf))?;
-            Ok(Table {
-                columns: read.columns.copy()?,
-                rows: Seq::new(rows),
-            })
-        }
+        Plan::Empty => alone(alloc, no_rows(alloc)?),
+        Plan::Fetch(read) => alone(alloc, table_read(alloc, read, given(fetched, &read.leaf))?),
         Plan::Filter(conds, below) => {
-            let table = made(alloc, below, fetched)?;
-            filtered(alloc, conds.as_slice(), table)
+            let table = united_all(alloc, tables_of(alloc, below, fetched)?)?;
+            alone(alloc, filtered(alloc, conds.as_slice(), table)?)
         }
         Plan::Project(columns, below) => {
-            let table = made(alloc, below, fetched)?;
-            cut(alloc, columns.as_slice(), &table)
+            let table = united_all(alloc, tables_of(alloc, below, fetched)?)?;
+            alone(alloc, cut(alloc, columns.as_slice(), &table)?)
         }
         Plan::Union(one, other) => {
-            let table = made(alloc, one, fetched)?;
-            let others = made(alloc, other, fetched)?;
-            united(alloc, table, others)
+            let mut tables = tables_of(alloc, one, fetched)?;
+            tables.append(&mut tables_of(alloc, other, fetched)?)?;
+            Ok(tables)
         }
         Plan::KeyJoin(one, other) => {
-            let table = made(alloc, one, fetched)?;
-            let others = made(alloc, other, fetched)?;
-            keyed(alloc, &table, &others)
+            let table = united_all(alloc, tables_of(alloc, one, fetched)?)?;
+            let others = united_all(alloc, tables_of(alloc, other, fetched)?)?;
+            alone(alloc, keyed(alloc, &table, &others)?)
         }
         Plan::Lookup {
             col,
@@ -71,9 +57,9 @@ fn made(alloc: Global, plan: &Plan, fetched: &[FetchRows]) -> Result<Table, Memo
             left,
             right,
         } => {
-            let table = made(alloc, left, fetched)?;
-            let others = made(alloc, right, fetched)?;
-            partnered(alloc, *col, *width, table, &others)
+            let table = united_all(alloc, tables_of(alloc, left, fetched)?)?;
+            let others = united_all(alloc, tables_of(alloc, right, fetched)?)?;
+            alone(alloc, partnered(alloc, *col, *width, table, &others)?)
         }
     }
 }

@@ -21,4 +21,5 @@ pub mod merge;
 pub mod pick;
 pub mod steps;
 pub mod table;
+pub mod unite;
 pub mod work;

@@ -8,11 +8,12 @@ ghost use Rattle.meaning.specs.Selected.{partner};
 ghost use Rattle.catalog.specs.Keyed.{row_at};
 ghost use Rattle.plan.specs.Rows.{is_seen, met, seen_part};
 ghost use Rattle.answers.specs.Evaluated as spec;
-ghost use Rattle.answers.specs.Evaluated.{cut, filtered, keyed, meeting, partner_pairs, partnered, picked, united};
+ghost use Rattle.answers.specs.Evaluated.{cut, filtered, keyed, meeting, partner_pairs, partnered, picked};
 
-use crate::merge::{key_pairs, merged};
+use crate::merge::key_pairs;
 use crate::pick::{columns_beside, columns_cut, columns_past, meets, pair, row_cut, value_in};
 use crate::table::Table;
+use plan::fetch::Fetch;
 use std::alloc::Global;
 use terms::cond::{Cond, Conds};
 use terms::copy::{TryCopy, copy_all};
@@ -22,8 +23,18 @@ use terms::row::Row;
 use terms::seq::Seq;
 use terms::value::Value;
 
+/// What a read leaves of the parts of its leaf.
+pub(crate) fn table_read(alloc: Global, read: &Fetch, parts: &[Part]) -> Result<Table, Memory>
+    ensures { IfOk result (λ table. table ≡ spec.table_read read.now parts.now) }
+{
+    Ok(Table {
+        columns: read.columns.copy()?,
+        rows: Seq::new(met(alloc, read.conds.as_slice(), parts)?),
+    })
+}
+
 /// The parts that meet conditions on their places, as rows.
-pub(crate) fn met(alloc: Global, conds: &[Cond], parts: &[Part]) -> Result<Vec<Row>, Memory>
+fn met(alloc: Global, conds: &[Cond], parts: &[Part]) -> Result<Vec<Row>, Memory>
     ensures { IfOk result (λ found. found.items ≡ met conds.now parts.now) }
 {
     let mut found = Vec::new(alloc);
@@ -98,24 +109,6 @@ fn rows_cut(
         found.push(row_cut(alloc, wanted, columns, row)?)?;
     }
     Ok(found)
-}
-
-/// The rows of both tables, which have one list of columns unless one of them has no row.
-pub(crate) fn united(alloc: Global, one: Table, other: Table) -> Result<Table, Memory>
-    requires { Ascends other.rows }
-    ensures { IfOk result (λ made. made ≡ united one other) }
-{
-    if one.rows.as_slice().is_empty() {
-        return Ok(other);
-    }
-    if other.rows.as_slice().is_empty() {
-        return Ok(one);
-    }
-    let rows = merged(alloc, one.rows.as_slice(), other.rows.as_slice())?;
-    Ok(Table {
-        columns: one.columns,
-        rows: Seq::new(rows),
-    })
 }
 
 /// The rows of both tables that have one key, put together.

@@ -1,9 +1,11 @@
 //! Tables, and the rows that fetches bring.
 
 ghost use Rattle.std.specs.Prelude.{◌≡◌, ◌↔◌, IsTrue, None, length};
+ghost use Rattle.std.specs.List.{AllByRecursion};
 ghost use Rattle.answers.specs.Evaluated.{is_above, parts_climb};
 ghost use Rattle.answers.specs.Table.{AreParts, given};
 
+use plan::fetch::Fetch;
 use terms::leaf::Leaf;
 use terms::part::Part;
 use terms::row::Row;
@@ -43,6 +45,16 @@ pub fn are_parts(columns: &[usize], parts: &[Part]) -> bool
     ensures { IsTrue result ↔ AreParts columns.now parts.now }
 {
     parts_climb(columns.len(), parts)
+}
+
+/// Whether each fetch brought parts of its columns, by ascending keys.
+pub fn are_all_parts(fetches: &[Fetch], fetched: &[FetchRows]) -> bool
+    ensures { IsTrue result ↔ AllByRecursion (λ read. AreParts read.columns (given fetched.now read.leaf)) fetches.now }
+{
+    let Some((read, rest)) = fetches.split_first() else {
+        return true;
+    };
+    are_parts(read.columns.as_slice(), given(fetched, &read.leaf)) && are_all_parts(rest, fetched)
 }
 
 fn parts_climb(width: usize, parts: &[Part]) -> bool

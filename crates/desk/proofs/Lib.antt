@@ -7,11 +7,16 @@ pub mod Decisions
 pub mod Stages
 pub mod Counted
 pub mod Phases
+pub mod Operations
 pub mod Txns
 pub mod Counts
 pub mod Settled
+pub mod Going
 pub mod Limits
 pub mod Making
 pub mod Beginning
+pub mod Opened
+pub mod Stated
+pub mod Evaluated
 pub mod Rising
 pub mod Restarted

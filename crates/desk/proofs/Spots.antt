@@ -1,7 +1,7 @@
 -- What is read of spots site by site, and the letters to their sites.
 use Rattle.std.proofs.Common.{◌≡◌, refl, sym, ap, ◌∙◌, subst, ℕ, nat_eq, Bool, true, false, List, [], ◌∷◌, map, Option, Some, None, if◌then◌else◌, inl, inr, ⊎_elim}
 use Rattle.std.specs.Cmp.Lexicographic.{pointwise}
-use Rattle.std.specs.List.{AllByRecursion, cons_option}
+use Rattle.std.specs.List.{AllByRecursion, cons_option, filter_map}
 use Rattle.std.specs.Option.{option_map}
 use Rattle.std.proofs.lemmas.Slice.Eq.{bytes_eq-Decides}
 use Rattle.reader.specs.Printable.{AreDistinct}
@@ -46,10 +46,10 @@ at_home (s ∷ spots) apart spot at = ⊎_elim
 abbrev pub said : (db : Database) → Order → protocol.Body (language db)
 said db order = body_with (statements db) (order_body order)
 
-pub letters_all : (db : Database) (txn : Txn) (word : Word) (says : List ℕ → Option (protocol.Body (language db))) (spots : List Spot) →
-    ((spot : Spot) → In spot spots → says spot.site ≡ option_map (said db) (order_at word spot)) → map (sent db) (letters_from txn word spots) ≡ protocol.letters_to {L = language db} (txn_name txn) says (sites_of spots)
-letters_all db txn word says [] each = refl
-letters_all db txn word says (spot ∷ spots) each = go (order_at word spot) (each spot (inl refl)) _ _ (letters_all db txn word says spots (λ s at. each s (inr at)))
+pub orders_all : (db : Database) (txn : Txn) (order : Spot → Option Order) (says : List ℕ → Option (protocol.Body (language db))) (spots : List Spot) →
+    ((spot : Spot) → In spot spots → says spot.site ≡ option_map (said db) (order spot)) → map (sent db) (filter_map (λ spot. option_map (ordered txn spot.site) (order spot)) spots) ≡ protocol.letters_to {L = language db} (txn_name txn) says (sites_of spots)
+orders_all db txn order says [] each = refl
+orders_all db txn order says (spot ∷ spots) each = go (order spot) (each spot (inl refl)) _ _ (orders_all db txn order says spots (λ s at. each s (inr at)))
   where
     letter : protocol.Body (language db) → protocol.Letter (language db)
     letter body = record { site = spot.site; txn = txn_name txn; body = body }
@@ -58,3 +58,7 @@ letters_all db txn word says (spot ∷ spots) each = go (order_at word spot) (ea
         map (sent db) (cons_option (option_map (ordered txn spot.site) o) left) ≡ cons_option (option_map letter (says spot.site)) right
     go None e left right rest = rest ∙ ap (λ o. cons_option (option_map letter o) right) (sym e)
     go (Some order) e left right rest = ap (λ l. letter (said db order) ∷ l) rest ∙ ap (λ o. cons_option (option_map letter o) right) (sym e)
+
+pub letters_all : (db : Database) (txn : Txn) (word : Word) (says : List ℕ → Option (protocol.Body (language db))) (spots : List Spot) →
+    ((spot : Spot) → In spot spots → says spot.site ≡ option_map (said db) (order_at word spot)) → map (sent db) (letters_from txn word spots) ≡ protocol.letters_to {L = language db} (txn_name txn) says (sites_of spots)
+letters_all db txn word says spots each = orders_all db txn (order_at word) says spots each

@@ -4,9 +4,11 @@ use Rattle.terms.specs.declared.cond.Cond.{Cond}
 use Rattle.terms.specs.declared.leaf.Leaf.{Leaf}
 use Rattle.terms.specs.declared.value.Value.{Value}
 use Rattle.meaning.specs.declared.answer.Answer.{Answer}
+use Rattle.meaning.specs.declared.schema.RelationSchema.{RelationSchema}
 use Rattle.meaning.specs.declared.statement.Statement.{Statement}
 use Rattle.meaning.specs.Meaning.{meaning}
-use Rattle.meaning.specs.Whole.{Relations}
+use Rattle.meaning.specs.Statement.{IsStatementOf}
+use Rattle.meaning.specs.Whole.{FitsSchema, Relations}
 use Rattle.store.specs.Content.{Content}
 use Rattle.store.specs.declared.letter.Letter as letters
 use Rattle.store.specs.declared.reply.Reply as replies
@@ -18,6 +20,8 @@ use Rattle.protocol.specs.Statements.{Statements, with_statements, body_with, le
 
 -- what the coordinator's machine knows of a database
 pub record Database : Type 0 where
+  -- its relations
+  pub schemas : List RelationSchema
   -- the sites in the catalogue's order, and the site of each leaf
   pub sites : List (List ℕ)
   pub home : Leaf → List ℕ
@@ -38,6 +42,8 @@ statements db = record {
   sites = db.sites;
   home = db.home;
   well_formed = db.well_formed;
+  IsStatement = IsStatementOf db.schemas;
+  IsWhole = FitsSchema db.schemas;
   meaning = meaning;
   content = db.content;
   fetches = db.fetches;

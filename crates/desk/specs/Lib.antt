@@ -6,6 +6,10 @@ pub mod Standing
 pub mod Orders
 pub mod Voters
 pub mod Turn
+pub mod Opening
+pub mod Sending
+pub mod Stating
+pub mod Stepped
 pub mod Ballots
 pub mod State
 pub mod Begun

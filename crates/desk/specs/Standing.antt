@@ -1,6 +1,7 @@
 -- What stands behind transactions, as the protocol has it.
 use Rattle.std.specs.Prelude.{ℕ, List, map, Option, Some, None}
 use Rattle.std.specs.Option.{option_map}
+use Rattle.terms.specs.declared.leaf.Leaf.{Leaf}
 use Rattle.terms.specs.declared.write.Write.{Write}
 use Rattle.store.specs.declared.commit.Voter.{Voter}
 use Rattle.protocol.specs.Desk as protocol
@@ -11,6 +12,7 @@ use Rattle.desk.specs.declared.ask.Ask.{Ask}
 use Rattle.desk.specs.declared.undecided.Stage.{Stage}
 use Rattle.desk.specs.declared.undecided.Stage.TheVariants as stage
 use Rattle.desk.specs.declared.undecided.Undecided.{Undecided}
+use Rattle.desk.specs.declared.undecided.Unsent.{Unsent}
 use Rattle.desk.specs.declared.spot.Spot.{Spot}
 use Rattle.desk.specs.declared.standing.Standing.{Standing}
 use Rattle.desk.specs.declared.standing.Standing.TheVariants as standing
@@ -22,8 +24,12 @@ abbrev pub ask_of : (db : Database) → Ask → protocol.Ask (language db)
 ask_of db ask = record { leaf = ask.leaf; query = ask.conds; number = ask.number; rows = ask.rows }
 
 -- a write with its leaf
-abbrev pub at_leaf : Write → Rattle.terms.specs.declared.leaf.Leaf.Leaf × AtKey
+abbrev pub at_leaf : Write → Leaf × AtKey
 at_leaf write = (leaf_of write, at_key write)
+
+-- a write that waits
+abbrev pub write_of : Unsent → Leaf × AtKey
+write_of unsent = at_leaf unsent.write
 
 -- the votes that were counted
 abbrev pub votes_of : List Spot → List ℕ → Option Rattle.protocol.specs.Letter.Vote
@@ -32,8 +38,8 @@ votes_of spots site = option_map vote_of (spot_in site spots).vote
 -- where a transaction stands
 abbrev pub stage_of : (db : Database) → List Spot → Stage → protocol.Stage (language db)
 stage_of db spots stage.Idle = protocol.Idle
-stage_of db spots (stage.Reading reading) = protocol.Reading reading.statement (map (ask_of db) reading.asks)
-stage_of db spots (stage.Writing writing) = protocol.Writing writing.answer (map at_leaf writing.unsent)
+stage_of db spots (stage.Reading reading) = protocol.Reading reading.statement (map (ask_of db) reading.asks.items)
+stage_of db spots (stage.Writing writing) = protocol.Writing writing.answer (map write_of writing.unsent.items)
 stage_of db spots stage.Voting = protocol.Voting (votes_of spots)
 
 -- an undecided transaction

@@ -39,7 +39,7 @@ impl TryCopy for Spot {
 }
 
 /// Whether it is the spot of a site.
-fn is_at(spot: &Spot, site: &Text) -> bool
+pub(crate) fn is_at(spot: &Spot, site: &Text) -> bool
     ensures { result ≡ is_at site.now spot.now }
 {
     spot.site == *site

@@ -5,20 +5,28 @@ use crate::spot::Spot;
 use meaning::answer::Answer;
 use meaning::statement::Statement;
 use terms::seq::Seq;
+use terms::text::Text;
 use terms::write::Write;
 
 /// A statement whose fetches were sent, or wait for a ticket.
 #[derive(Debug, Drop)]
 pub(crate) struct Reading {
     pub(crate) statement: Statement,
-    pub(crate) asks: Seq<Ask>,
+    pub(crate) asks: Vec<Ask>,
+}
+
+/// A write that waits for a ticket of its leaf's site.
+#[derive(Debug, Drop)]
+pub(crate) struct Unsent {
+    pub(crate) write: Write,
+    pub(crate) site: Text,
 }
 
 /// A statement's answer, and those of its writes that wait for a ticket.
 #[derive(Debug, Drop)]
 pub(crate) struct Writing {
     pub(crate) answer: Answer,
-    pub(crate) unsent: Seq<Write>,
+    pub(crate) unsent: Vec<Unsent>,
 }
 
 /// Where a transaction stands.

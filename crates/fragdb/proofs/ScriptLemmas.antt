@@ -10,7 +10,8 @@ use Rattle.std.proofs.lemmas.Str.{IsUtf8-from_is_utf8, is_utf8-from_IsUtf8}
 use Rattle.std.proofs.lemmas.Str.Pattern.{starts_text}
 use Rattle.fragdb.specs.declared.script.Item.{Item}
 use Rattle.fragdb.specs.declared.script.Item.TheVariants.{Statement, Show, Leaf}
-use Rattle.fragdb.specs.Transaction.{is_blank}
+use Rattle.reader.specs.declared.class.Class.TheVariants.{Blank}
+use Rattle.reader.specs.Class.{is_in}
 use Rattle.fragdb.specs.Script.{Reading, Nothing, Unreadable, argument_of, first_unreadable, first_unreadable_from, is_unreadable, is_word, reading_of, reading_of_command, reading_of_statement, reading_of_text, task_of, tasks_of, tasks_of_lines}
 
 -- a text's reading, by its first byte
@@ -90,7 +91,7 @@ first_unreadable_from-at n (line ∷ lines) (first ∷ past) here so_far within 
     rw readable_here (first_unreadable_from-at (n + 1) lines past here so_far_rest (omega arith) is_here go.1 unreadable)
 
 -- a text that is not empty
-pub is_word-some : (text : List ℕ) (blank : Bool) → false ≡ (length text == 0) → blank ≡ list_any is_blank text → not blank ≡ is_word text
+pub is_word-some : (text : List ℕ) (blank : Bool) → false ≡ (length text == 0) → blank ≡ list_any (is_in Blank) text → not blank ≡ is_word text
 is_word-some text blank h e = rw (e, ← h) refl
 
 -- ---- the lines that a loop has yielded, each with its index

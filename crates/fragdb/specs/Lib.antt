@@ -16,4 +16,3 @@ pub mod Fault
 pub mod Gather
 pub mod Input
 pub mod Merge
-pub mod Transaction

@@ -2,7 +2,11 @@
 use Rattle.std.specs.Prelude.{ℕ, ◌+◌, ◌==◌, ◌&&◌, Bool, true, false, not, if◌then◌else◌, List, [], ◌∷◌, length, drop, codes, flat_map, nat_eq, Option, Some, None}
 use Rattle.std.specs.List.{list_any, slice_split, starts_with}
 use Rattle.std.specs.Str.{is_utf8}
-use Rattle.fragdb.specs.Transaction.{is_blank, is_transaction}
+use Rattle.reader.specs.declared.class.Class.TheVariants.{Blank}
+use Rattle.reader.specs.declared.keyword.Keyword.{Keyword}
+use Rattle.reader.specs.declared.keyword.Keyword.TheVariants.{Begin, Commit, Rollback}
+use Rattle.reader.specs.Alone.{keyword_alone}
+use Rattle.reader.specs.Class.{is_in}
 use Rattle.fragdb.specs.declared.script.Item.{Item}
 use Rattle.fragdb.specs.declared.script.Item.TheVariants.{Statement, Show, Leaf}
 use Rattle.fragdb.specs.declared.script.Line.{Line}
@@ -22,7 +26,7 @@ lines_of script = slice_split (λ byte. byte == 10) script
 
 -- one or more bytes, none of them a blank
 abbrev pub is_word : List ℕ → Bool
-is_word word = not (length word == 0) && not (list_any is_blank word)
+is_word word = not (length word == 0) && not (list_any (is_in Blank) word)
 
 -- the word after a command and its one space, where the line is that command with a word
 abbrev pub argument_of : List ℕ → List ℕ → Option (List ℕ)
@@ -40,9 +44,16 @@ reading_of_command line =
     reading_of_argument (argument_of line (codes ".show ")) ShowsRelation
     (reading_of_argument (argument_of line (codes ".leaf ")) ShowsLeaf Unreadable)
 
+-- whether a keyword begins or ends a transaction
+abbrev pub is_transaction : Option Keyword → Bool
+is_transaction (Some Begin) = true
+is_transaction (Some Commit) = true
+is_transaction (Some Rollback) = true
+is_transaction _ = false
+
 -- a line of a statement; while there are no transactions of several statements, none can begin or end
 abbrev pub reading_of_statement : List ℕ → Reading
-reading_of_statement line = if is_transaction line then Unreadable else Runs line
+reading_of_statement line = if is_transaction (keyword_alone line) then Unreadable else Runs line
 
 -- a line of text: an empty one and a comment (35 is '#') say nothing, and 46 is the dot of a command
 abbrev pub reading_of_text : List ℕ → Reading

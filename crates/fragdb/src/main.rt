@@ -21,7 +21,6 @@ mod reply;
 mod script;
 mod small;
 mod solo;
-mod transaction;
 mod usage;
 
 use crate::fault::ProgramFault;

@@ -5,7 +5,8 @@ ghost use Rattle.fragdb.specs.Script as spec;
 ghost use Rattle.fragdb.specs.Script.{argument_of, first_unreadable, lines_of, reading_of, reading_of_command, reading_of_line, reading_of_statement, task_of, tasks_of_lines};
 ghost use Rattle.fragdb.specs.declared.script.ScriptFault.TheVariants.{Memory};
 
-use crate::transaction::is_transaction;
+use reader::alone::keyword_alone;
+use reader::keyword::Keyword;
 use std::alloc::{AllocFailed, Global};
 
 /// One thing that a script asks for.
@@ -78,10 +79,9 @@ fn read_line(line: &[u8]) -> Line<'_>
 fn read_statement(line: &str) -> Line<'_>
     ensures { reading_of_line result ≡ reading_of_statement line.now }
 {
-    if is_transaction(line.as_bytes()) {
-        Line::Malformed
-    } else {
-        Line::Asks(Item::Statement(line))
+    match keyword_alone(line.as_bytes()) {
+        Some(Keyword::Begin | Keyword::Commit | Keyword::Rollback) => Line::Malformed,
+        _ => Line::Asks(Item::Statement(line)),
     }
 }
 

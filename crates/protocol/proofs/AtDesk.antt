@@ -1,5 +1,5 @@
 -- One client's statement, letter by letter: each site stays at one of its places.
-use Rattle.std.proofs.Common.{◌≡◌, refl, sym, ap, ap₂, ◌∙◌, subst, ℕ, not, ◌||◌, Bool, true, false, List, [], ◌∷◌, ◌++◌, map, Option, Some, None, inl, inr, ⊎_elim, append_assoc, append-nil}
+use Rattle.std.proofs.Common.{◌≡◌, refl, sym, ap, ap₂, ◌∙◌, subst, ℕ, not, ◌||◌, Bool, true, false, List, [], ◌∷◌, ◌++◌, Option, Some, None, inl, inr, ⊎_elim, append_assoc, append-nil}
 use Rattle.std.specs.List.{list_any, cons_option}
 use Rattle.std.specs.Option.{option_map}
 use Rattle.protocol.specs.Language.{Lang, IsLawful, Name, same}
@@ -108,15 +108,27 @@ module _ {L : Lang} where
               not_is true e = cc
               not_is false e = refl
 
+    -- sites are visited, letters go first, and operations go out
+    pub record First (t : Name) (u : Undecided L) (visited : L.Site → Bool) (letters : List (Letter L)) : Type 0 where
+      pub goes : (counts : L.Site → ℕ) (stage : Stage L) (out : List (Letter L)) → Every (λ l. l.txn ≡ t) out → ((a : L.Site) → OutAt (u.ticket a) (u.sent a) (counts a) (at a out)) → Goes t u (record u { visited = visited; sent = counts; stage = stage }) (letters ++ out)
+
+    -- nobody new, and no letter
+    pub first_none : (t : Name) (u : Undecided L) → First t u u.visited []
+    first_none t u = record { goes = λ counts stage out own outs. record { own = own; among = λ old. old; spots = λ a f bs spot. spot_out f (u.visited a) (u.ticket a) (u.sent a) (counts a) bs (at a out) spot (outs a) } }
+
+    -- Opens to the new sites of these leaves
+    pub first_opens : Once L.sites → (t : Name) (u : Undecided L) (leaves : List L.Leaf) → ((g : L.Leaf) → In g leaves → In (L.home g) L.sites) → First t u (visits u leaves).visited (opens t u leaves)
+    first_opens once t u leaves homes = record { goes = goes_on once t u leaves homes }
+
     -- fetches go out
-    pub asks_goes : Once L.sites → (t : Name) (u : Undecided L) (asks : List (Ask L)) (stage : Stage L) → ((g : L.Leaf) → In g (map (λ q. q.leaf) asks) → In (L.home g) L.sites) →
-        Goes t u (record (visits u (map (λ q. q.leaf) asks)) { sent = (asks_out t u.ticket asks u.sent).sent; stage = stage }) (opens t u (map (λ q. q.leaf) asks) ++ (asks_out t u.ticket asks u.sent).letters)
-    asks_goes once t u asks stage homes = goes_on once t u (map (λ q. q.leaf) asks) homes _ stage _ (asks_each (λ l. l.txn ≡ t) t u.ticket (λ g q k n e. refl) asks u.sent) (λ a. asks_at law t u.ticket a asks u.sent)
+    pub asks_goes : (t : Name) (u : Undecided L) (visited : L.Site → Bool) (letters : List (Letter L)) → First t u visited letters → (asks : List (Ask L)) (stage : Stage L) →
+        Goes t u (record u { visited = visited; sent = (asks_out t u.ticket asks u.sent).sent; stage = stage }) (letters ++ (asks_out t u.ticket asks u.sent).letters)
+    asks_goes t u visited letters first asks stage = first.goes _ stage _ (asks_each (λ l. l.txn ≡ t) t u.ticket (λ g q k n e. refl) asks u.sent) (λ a. asks_at law t u.ticket a asks u.sent)
 
     -- writes go out
-    pub writes_goes : Once L.sites → (t : Name) (u : Undecided L) (ws : List (L.Leaf × L.Write)) (stage : Stage L) → ((g : L.Leaf) → In g (map (λ x. x.0) ws) → In (L.home g) L.sites) →
-        Goes t u (record (visits u (map (λ x. x.0) ws)) { sent = (writes_out {L = L} t u.ticket ws u.sent).sent; stage = stage }) (opens t u (map (λ x. x.0) ws) ++ (writes_out {L = L} t u.ticket ws u.sent).letters)
-    writes_goes once t u ws stage homes = goes_on once t u (map (λ x. x.0) ws) homes _ stage _ (writes_each (λ l. l.txn ≡ t) t u.ticket (λ g x k n e. refl) ws u.sent) (λ a. writes_at law t u.ticket a ws u.sent)
+    pub writes_goes : (t : Name) (u : Undecided L) (visited : L.Site → Bool) (letters : List (Letter L)) → First t u visited letters → (ws : List (L.Leaf × L.Write)) (stage : Stage L) →
+        Goes t u (record u { visited = visited; sent = (writes_out {L = L} t u.ticket ws u.sent).sent; stage = stage }) (letters ++ (writes_out {L = L} t u.ticket ws u.sent).letters)
+    writes_goes t u visited letters first ws stage = first.goes _ stage _ (writes_each (λ l. l.txn ≡ t) t u.ticket (λ g x k n e. refl) ws u.sent) (λ a. writes_at law t u.ticket a ws u.sent)
 
     -- a letter that waits in front comes to its site, and its store call is kept
     pub site_stands : (bare : (g : L.Leaf) → L.touches g L.none ≡ false) (t : Name) (u : Undecided L) (w : World L) (l : Letter L) (q : List (Letter L)) → w.letters ≡ l ∷ q → Stands t u w → is_for_desk l.body ≡ false → Room (w.sites l.site) l.body →

@@ -1,12 +1,12 @@
 -- What a letter of a statement does at its site, while nobody else has a lock there.
-use Rattle.std.proofs.Common.{◌≡◌, refl, sym, ap, ◌∙◌, subst, ℕ, suc, ◌==◌, not, ◌&&◌, ◌||◌, Bool, true, false, List, [], ◌∷◌, ◌++◌, if◌then◌else◌, Option, Some, append-nil}
+use Rattle.std.proofs.Common.{◌≡◌, refl, sym, ap, ◌∙◌, subst, ℕ, suc, ◌==◌, not, ◌&&◌, ◌||◌, Bool, true, false, List, [], ◌∷◌, ◌++◌, if◌then◌else◌, Option, Some, inl, inr, append-nil}
 use Rattle.std.proofs.lemmas.Bool.{eq-eqb}
 use Rattle.protocol.specs.Language.{Lang, Name, same, put}
 use Rattle.protocol.specs.Letter.{Body, Open, Fetch, Write, Prepare, Commit, Abort, Ticket, Rows, Refused, Voted, Ack, Inquire, Lock, Full, is_for_desk}
 use Rattle.protocol.specs.Site.{Visit, Status, Dead, Alive, Prepared, SiteState, Act, Says, Opens, Locks, Ends, has_lock, has_exclusive, others_exclusive, others_lock, next_ticket, new_visit, on_letter, on_fetch, on_write, sees, site_after, said}
 pub use Rattle.protocol.specs.Course.{Room}
-use Rattle.protocol.proofs.Basics.{put_here, put_all, same_law, if_true, if_false, clash}
-use Rattle.protocol.proofs.Ranks.{none_any}
+use Rattle.std.specs.List.{list_any}
+use Rattle.protocol.proofs.Basics.{In, put_here, put_all, same_law, if_true, if_false, clash}
 use Rattle.protocol.proofs.Queue.{Unlocked, unlocked_free, Flow, flow_append, Spot, Asked, Works, away, asked, offered, works}
 
 -- the heads of equal lists
@@ -16,6 +16,11 @@ head_is x y xs ys e = cc
 not_other : (b c : Bool) → (b ≡ false → c ≡ false) → (not b && c) ≡ false
 not_other true c free = refl
 not_other false c free = free refl
+
+-- nothing passes
+none_any : {A : Type 0} (p : A → Bool) (xs : List A) → ((x : A) → In x xs → p x ≡ false) → list_any p xs ≡ false
+none_any p [] none = refl
+none_any p (x ∷ xs) none = rw (none x (inl refl)) (none_any p xs (λ y here. none y (inr here)))
 
 module _ {L : Lang} where
   exclusive_locks : (g : L.Leaf) (st : Status L) → has_lock g st ≡ false → has_exclusive g st ≡ false

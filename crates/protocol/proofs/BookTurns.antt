@@ -4,7 +4,7 @@ use Rattle.std.specs.List.{list_any, list_all}
 use Rattle.protocol.specs.Parts.{op_of}
 use Rattle.protocol.specs.Language.{Lang, IsLawful, Name, same, put}
 use Rattle.protocol.specs.Letter.{Yes, No, Read, Vote, Body, Open, Fetch, Write, Prepare, Commit, Abort, Ticket, Rows, Refused, Voted, Ack, Inquire, Letter, is_for_desk}
-use Rattle.protocol.specs.Desk.{Ask, Stage, Idle, Reading, Writing, Voting, Undecided, Txn, Unknown, Known, Row, Choice, Deed, Stated, Worked, Phased, Committed, Aborted, Rolled_back, By_vote, By_refusal, By_store, Given_up, Why, Turn, Request, State, Commit_call, Rollback, Give_up, stays, is_named, ask_of, states, ends_by, phases, votes_go, decides, commits, voters_of, are_all_in, when, to_prepare, may_hold, vote_at, to_abort, on_state, on_commit_call, on_rollback, on_request, ticket_goes, on_ticket, with_rows, on_rows, on_refused, counts, on_vote, on_known, on_unknown, is_pair, are_acked, on_row, on_desk_letter}
+use Rattle.protocol.specs.Desk.{Ask, Stage, Idle, Reading, Writing, Voting, Undecided, Txn, Unknown, Known, Row, Choice, Deed, Stated, Worked, Phased, Committed, Aborted, Rolled_back, By_vote, By_refusal, By_store, Given_up, Why, Turn, Request, State, Commit_call, Rollback, Give_up, stays, is_named, ask_of, opens, visits, states, ends_by, phases, votes_go, decides, commits, voters_of, are_all_in, when, to_prepare, may_hold, vote_at, to_abort, on_state, on_commit_call, on_rollback, on_request, ticket_goes, on_ticket, with_rows, on_rows, on_refused, counts, on_vote, on_known, on_unknown, is_pair, are_acked, on_row, on_desk_letter}
 use Rattle.protocol.specs.World.{World}
 use Rattle.protocol.proofs.Basics.{Every, In, either, either_if, put_all, some_is}
 use Rattle.protocol.proofs.Fits.{Drawn, is_voting, FitsBody, Own, Fit}
@@ -17,7 +17,7 @@ use Rattle.protocol.proofs.Works.{works, own_of, view_plain}
 use Rattle.protocol.proofs.Book.{AskAt, Told, BookAt, pending, owed, unsent_of, asks_of}
 use Rattle.protocol.proofs.Booking.{book_stage, book_stated, book_worked}
 use Rattle.protocol.proofs.BookSteps.{book_ticket, rows_came}
-use Rattle.protocol.proofs.Booked.{Plain, Booked, goes_on, starts, gone_phase, still_phase, quiet_phase, told_idle, plain_booked, asks_booked, writes_booked}
+use Rattle.protocol.proofs.Booked.{Plain, Booked, goes_on, starts, gone_phase, still_phase, quiet_phase, told_idle, plain_booked, no_first, opens_first, asks_booked, writes_booked}
 
 module _ {L : Lang} (law : IsLawful L) (o : L.Site → Name → Name) (ops : L.Site → Name → List (Op L)) (w : World L) (t : Name) (fit : Fit o w) where
   mine_of : (u : Undecided L) → w.desk.txn t ≡ Known u → (a : L.Site) (k : Name) → u.ticket a ≡ Some k → Drawn (w.sites a) k × (o a k ≡ t)
@@ -91,9 +91,9 @@ module _ {L : Lang} (law : IsLawful L) (o : L.Site → Name → Name) (ops : L.S
     state_booked s choice idle [] =
         let stated = book_stated o w.sites t ops w.letters w.past u s [] idle book in
         let worked = book_worked o w.sites t ops w.letters (w.past ++ Stated t s ∷ []) (record u { stage = Reading s [] }) s [] choice refl refl stated in
-        writes_booked o ops w t law u e (ap is_voting idle) u (mine_of u e) choice.0 choice.1 (Stated t s ∷ Worked t s [] choice ∷ []) (refl, (refl, tt)) (λ ds n. n) (λ ds no_ done. no_ done)
+        let leaves = map (λ (x : L.Leaf × L.Write). x.0) choice.1 in writes_booked o ops w t law u e (ap is_voting idle) u (mine_of u e) (visits u leaves).visited (opens t u leaves) (opens_first o ops w t u leaves) choice.0 choice.1 (Stated t s ∷ Worked t s [] choice ∷ []) (refl, (refl, tt)) (λ ds n. n) (λ ds no_ done. no_ done)
         (subst (λ p. BookAt o ops w.sites w.letters p t (record u { stage = Writing choice.0 choice.1 })) (append_assoc w.past (Stated t s ∷ []) (Worked t s [] choice ∷ [])) worked)
-    state_booked s choice idle (f ∷ fs) = asks_booked o ops w t law u e (ap is_voting idle) u (mine_of u e) s (map ask_of (f ∷ fs)) (Stated t s ∷ []) (refl, tt) refl (λ done. cc) (book_stated o w.sites t ops w.letters w.past u s (f ∷ fs) idle book)
+    state_booked s choice idle (f ∷ fs) = let leaves = map (λ (q : Ask L). q.leaf) (map ask_of (f ∷ fs)) in asks_booked o ops w t law u e (ap is_voting idle) u (mine_of u e) (visits u leaves).visited (opens t u leaves) (opens_first o ops w t u leaves) s (map ask_of (f ∷ fs)) (Stated t s ∷ []) (refl, tt) refl (λ done. cc) (book_stated o w.sites t ops w.letters w.past u s (f ∷ fs) idle book)
 
     on_state_booked : (s : L.Statement) (choice : Choice L) (stage : Stage L) → u.stage ≡ stage → Booked o ops w t (on_state t u s choice stage)
     on_state_booked s choice Idle f = state_booked s choice f (L.fetches s)
@@ -137,8 +137,8 @@ module _ {L : Lang} (law : IsLawful L) (o : L.Site → Name → Name) (ops : L.S
           go : (stage : Stage L) → u.stage ≡ stage → (v : Undecided L) → BookAt o ops w.sites w.letters w.past t v → ((b : L.Site) (j : Name) → v.ticket b ≡ Some j → Drawn (w.sites b) j × (o b j ≡ t)) → v.stage ≡ u.stage → Booked o ops w t (ticket_goes t v choice stage)
           go Idle f v now mine same_ = stays_booked v same_ now mine
           go (Voting votes) f v now mine same_ = stays_booked v same_ now mine
-          go (Reading s asks) f v now mine same_ = asks_booked o ops w t law u e (ap is_voting f) v mine s asks [] tt refl (λ done. cc) (in_past (record v { stage = Reading s asks }) (subst (λ x. BookAt o ops w.sites w.letters w.past t (record v { stage = x })) (same_ ∙ f) now))
-          go (Writing answer ws) f v now mine same_ = writes_booked o ops w t law u e (ap is_voting f) v mine answer ws [] tt (λ ds n. n) (λ ds no_ done. no_ done) (in_past (record v { stage = Writing answer ws }) (subst (λ x. BookAt o ops w.sites w.letters w.past t (record v { stage = x })) (same_ ∙ f) now))
+          go (Reading s asks) f v now mine same_ = asks_booked o ops w t law u e (ap is_voting f) v mine v.visited [] (no_first o ops w t) s asks [] tt refl (λ done. cc) (in_past (record v { stage = Reading s asks }) (subst (λ x. BookAt o ops w.sites w.letters w.past t (record v { stage = x })) (same_ ∙ f) now))
+          go (Writing answer ws) f v now mine same_ = writes_booked o ops w t law u e (ap is_voting f) v mine v.visited [] (no_first o ops w t) answer ws [] tt (λ ds n. n) (λ ds no_ done. no_ done) (in_past (record v { stage = Writing answer ws }) (subst (λ x. BookAt o ops w.sites w.letters w.past t (record v { stage = x })) (same_ ∙ f) now))
 
       ticket_booked : (k : Name) (choice : Choice L) → FitsBody o w.desk w.past a (w.sites a) t (Ticket k) → (m : Option Name) → u.ticket a ≡ m → Booked o ops w t (on_ticket t u a k choice m)
       ticket_booked k choice here None f = ticket_goes_booked k choice f here.0 here.1 u.stage refl
@@ -156,7 +156,7 @@ module _ {L : Lang} (law : IsLawful L) (o : L.Site → Name → Name) (ops : L.S
           (rows_came law o w.sites t ops w.letters (own_of (works w.past t)) u.ticket a k n rows own here asks (subst (λ x. Every (AskAt t u.ticket ops w.letters (own_of (works w.past t))) (asks_of x)) f book.asks))
           (record { statements = told.statements; answers = told.answers }) book in
           either_if (Booked o ops w t) (list_all (λ (q : Ask L). is_some q.rows) more) _ _
-          (λ all. writes_booked o ops w t law u e (ap is_voting f) u (mine_of u e) choice.0 choice.1 (Worked t s more choice ∷ []) (refl, tt) (λ ds n. n) (λ ds no_ done. no_ done)
+          (λ all. let leaves = map (λ (x : L.Leaf × L.Write). x.0) choice.1 in writes_booked o ops w t law u e (ap is_voting f) u (mine_of u e) (visits u leaves).visited (opens t u leaves) (opens_first o ops w t u leaves) choice.0 choice.1 (Worked t s more choice ∷ []) (refl, tt) (λ ds n. n) (λ ds no_ done. no_ done)
           (book_worked o w.sites t ops w.letters w.past v s more choice refl all now))
           (λ waits. plain_booked o ops w t (stays (Known v)) refl refl refl tt (quiet_phase w t v [] [] refl refl)
           (λ x g. subst (λ z. BookAt o ops w.sites w.letters w.past t z × ((b : L.Site) (j : Name) → z.ticket b ≡ Some j → Drawn (w.sites b) j × (o b j ≡ t))) (known_is v x g) (now, mine_of u e)) (λ done. cc) tt)

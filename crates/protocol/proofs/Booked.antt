@@ -1,17 +1,17 @@
 -- What each turn does to the book, kind by kind.
-use Rattle.std.proofs.Common.{ap₂, ◌≡◌, refl, sym, ap, ◌∙◌, subst, ℕ, true, false, List, [], ◌∷◌, ◌++◌, map, ◌⊎◌, Option, Some, None, append_assoc, append-nil, flat_map}
+use Rattle.std.proofs.Common.{ap₂, ◌≡◌, refl, sym, ap, ◌∙◌, subst, ℕ, Bool, true, false, List, [], ◌∷◌, ◌++◌, map, ◌⊎◌, Option, Some, None, append_assoc, append-nil, flat_map}
 use Rattle.std.proofs.lemmas.Grind.{flat_map-append}
 use Rattle.protocol.specs.Parts.{op_of, operations}
 use Rattle.protocol.specs.Language.{Lang, IsLawful, Name}
 use Rattle.protocol.specs.Letter.{Letter, is_for_desk}
 use Rattle.protocol.specs.Site.{SiteState}
-use Rattle.protocol.specs.Desk.{Ask, Stage, Idle, Reading, Writing, Undecided, Txn, Known, Deed, Answered, Turn, asks_out, writes_out, opens, opening, is_new, visits, asks_go, writing, writes_go}
+use Rattle.protocol.specs.Desk.{Ask, Stage, Idle, Reading, Writing, Undecided, Txn, Known, Deed, Answered, Turn, asks_out, writes_out, opens, opening, is_new, asks_go, writing, writes_go, after_letters}
 use Rattle.protocol.specs.World.{World}
 use Rattle.protocol.specs.Serial.{statement_in, answer_in, answers_of, phases_of}
 use Rattle.protocol.proofs.Basics.{Every, every_more, every_append, clash}
 use Rattle.protocol.proofs.Fits.{Drawn, is_voting, IsCommitted}
 use Rattle.protocol.proofs.Turns.{known_is, every_letter}
-use Rattle.protocol.proofs.Going.{opening_is}
+use Rattle.protocol.proofs.Going.{opening_is, first_written}
 use Rattle.protocol.proofs.Ops.{Op}
 use Rattle.protocol.proofs.Data.{TellsBody}
 use Rattle.protocol.proofs.Works.{work_in, works, own_of, txn_of, SameView, view_plain}
@@ -100,9 +100,20 @@ module _ {L : Lang} where
     opens_tell new v leaves = every_letter (Tells new w.sites) t (λ a. opening (is_new v leaves a)) L.sites
         (λ a b here said. subst (λ y. TellsBody (new a) (w.sites a) y × (is_for_desk y ≡ false)) (sym (opening_is (is_new v leaves a) b said).1) (tt, refl))
 
-    opens_put : (v : Undecided L) (leaves : List L.Leaf) (letters : List (Letter L)) (a : L.Site) (k : Name) → operations (opens t v leaves ++ letters) a k ≡ operations letters a k
-    opens_put v leaves letters a k = flat_map-append (λ (l : Letter L). op_of a k l.site l.body) (opens t v leaves) letters
-        ∙ ap (λ x. x ++ operations letters a k) (none_put (opens t v leaves) (every_letter NoOps t (λ a. opening (is_new v leaves a)) L.sites (λ b y here said. subst (λ z. (c : L.Site) (j : Name) → op_of c j b z ≡ []) (sym (opening_is (is_new v leaves b) y said).1) (λ c j. refl))) a k)
+    -- letters that go first, and put no operation out
+    pub record FirstTell (letters : List (Letter L)) : Type 0 where
+      pub tell : (new : L.Site → Name → List (Op L)) → Every (Tells new w.sites) letters
+      pub put : (more : List (Letter L)) (a : L.Site) (k : Name) → operations (letters ++ more) a k ≡ operations more a k
+
+    pub no_first : FirstTell []
+    no_first = record { tell = λ new. tt; put = λ more a k. refl }
+
+    pub opens_first : (v : Undecided L) (leaves : List L.Leaf) → FirstTell (opens t v leaves)
+    opens_first v leaves = record {
+      tell = λ new. opens_tell new v leaves;
+      put = λ letters a k. flat_map-append (λ (l : Letter L). op_of a k l.site l.body) (opens t v leaves) letters
+          ∙ ap (λ x. x ++ operations letters a k) (none_put (opens t v leaves) (every_letter NoOps t (λ a. opening (is_new v leaves a)) L.sites (λ b y here said. subst (λ z. (c : L.Site) (j : Name) → op_of c j b z ≡ []) (sym (opening_is (is_new v leaves b) y said).1) (λ c j. refl))) a k);
+    }
 
     ops_tell : (new : L.Site → Name → List (Op L)) (letters : List (Letter L)) → Every (TellsOps new) letters → Every (Tells new w.sites) letters
     ops_tell new letters all = every_more (TellsOps new) (Tells new w.sites) letters (λ l is. (is.0 (w.sites l.site), is.1)) all
@@ -115,11 +126,10 @@ module _ {L : Lang} where
       no_view voting = clash (voting u e) quiet
 
       -- fetches go out
-      pub asks_booked : (s : L.Statement) (asks : List (Ask L)) (before : List (Deed L)) → Every (λ d. txn_of d ≡ t) before → phases_of before ≡ [] → (IsCommitted before t → ⊥) → BookAt o ops w.sites w.letters (w.past ++ before) t (record v { stage = Reading s asks }) →
-          Booked o ops w t (record { txn = (asks_go t v s asks).txn; letters = (asks_go t v s asks).letters; deeds = before })
-      asks_booked s asks before only unphased no_commit book =
+      pub asks_booked : (visited : L.Site → Bool) (letters : List (Letter L)) → FirstTell letters → (s : L.Statement) (asks : List (Ask L)) (before : List (Deed L)) → Every (λ d. txn_of d ≡ t) before → phases_of before ≡ [] → (IsCommitted before t → ⊥) → BookAt o ops w.sites w.letters (w.past ++ before) t (record v { stage = Reading s asks }) →
+          Booked o ops w t (record { txn = (asks_go t (record v { visited = visited }) s asks).txn; letters = letters ++ (asks_go t (record v { visited = visited }) s asks).letters; deeds = before })
+      asks_booked visited letters first s asks before only unphased no_commit book =
           let past = w.past ++ before in
-          let leaves = map (λ (q : Ask L). q.leaf) asks in
           let r = asks_sent law t v.ticket w.letters (own_of (works past t)) asks v.sent ops book.sent (reading_did law o w.sites t ops w.letters past (record v { stage = Reading s asks }) s asks refl book) book.asks in
           let out = asks_out t v.ticket asks v.sent in
           record {
@@ -127,22 +137,22 @@ module _ {L : Lang} where
             grow = v.ticket;
             ext = r.ext;
             open_ = open_of;
-            tells = every_append (Tells r.new w.sites) (opens t v leaves) out.letters (opens_tell r.new v leaves) (ops_tell r.new out.letters r.tells);
-            put_out = λ a k. r.put_out a k ∙ ap (λ l. ops a k ++ l) (sym (opens_put v leaves out.letters a k));
-            book = λ x f. subst (BookAt o r.new w.sites (w.letters ++ (opens t v leaves ++ out.letters)) past t) (known_is (record (visits v leaves) { sent = out.sent; stage = Reading s out.left }) x f)
-                (book_asks law o w.sites t ops w.letters (opens t v leaves ++ out.letters) past (record v { stage = Reading s asks }) s asks (visits v leaves).visited refl book r);
+            tells = every_append (Tells r.new w.sites) letters out.letters (first.tell r.new) (ops_tell r.new out.letters r.tells);
+            put_out = λ a k. r.put_out a k ∙ ap (λ l. ops a k ++ l) (sym (first.put out.letters a k));
+            book = λ x f. subst (BookAt o r.new w.sites (w.letters ++ (letters ++ out.letters)) past t) (known_is (record v { visited = visited; sent = out.sent; stage = Reading s out.left }) x f)
+                (book_asks law o w.sites t ops w.letters (letters ++ out.letters) past (record v { stage = Reading s asks }) s asks visited refl book r);
             only = only;
-            phase = quiet_phase w t (record (visits v leaves) { sent = out.sent; stage = Reading s out.left }) (opens t v leaves ++ out.letters) before unphased refl;
+            phase = quiet_phase w t (record v { visited = visited; sent = out.sent; stage = Reading s out.left }) (letters ++ out.letters) before unphased refl;
             told = λ done. absurd (no_commit done);
             votes = λ done. absurd (no_commit done);
             view = no_view;
           }
 
-      written_booked : (answer : L.Answer) (leaves : List L.Leaf) (letters : List (Letter L)) (sent : L.Site → ℕ) (before : List (Deed L)) (new : L.Site → Name → List (Op L)) → Ext v.ticket ops new → Every (λ d. txn_of d ≡ t) before → ((ds : List (Deed L)) → phases_of ds ≡ [] → phases_of (before ++ ds) ≡ []) → ((ds : List (Deed L)) → (IsCommitted ds t → ⊥) → IsCommitted (before ++ ds) t → ⊥) →
+      written_booked : (visited : L.Site → Bool) (answer : L.Answer) (letters : List (Letter L)) (sent : L.Site → ℕ) (before : List (Deed L)) (new : L.Site → Name → List (Op L)) → Ext v.ticket ops new → Every (λ d. txn_of d ≡ t) before → ((ds : List (Deed L)) → phases_of ds ≡ [] → phases_of (before ++ ds) ≡ []) → ((ds : List (Deed L)) → (IsCommitted ds t → ⊥) → IsCommitted (before ++ ds) t → ⊥) →
           Every (Tells new w.sites) letters → ((a : L.Site) (k : Name) → new a k ≡ ops a k ++ operations letters a k) → (left : List (L.Leaf × L.Write)) →
-          BookAt o new w.sites (w.letters ++ letters) (w.past ++ before) t (record (visits v leaves) { sent = sent; stage = Writing answer left }) →
-          Booked o ops w t (record { txn = (writing t (visits v leaves) answer sent left letters).txn; letters = (writing t (visits v leaves) answer sent left letters).letters; deeds = before ++ (writing t (visits v leaves) answer sent left letters).deeds })
-      written_booked answer leaves letters sent before new ext only unphased no_commit tells put [] book = record {
+          BookAt o new w.sites (w.letters ++ letters) (w.past ++ before) t (record v { visited = visited; sent = sent; stage = Writing answer left }) →
+          Booked o ops w t (record { txn = (writing t (record v { visited = visited }) answer sent left letters).txn; letters = (writing t (record v { visited = visited }) answer sent left letters).letters; deeds = before ++ (writing t (record v { visited = visited }) answer sent left letters).deeds })
+      written_booked visited answer letters sent before new ext only unphased no_commit tells put [] book = record {
         new = new;
         grow = v.ticket;
         ext = ext;
@@ -150,15 +160,15 @@ module _ {L : Lang} where
         tells = tells;
         put_out = put;
         book = λ x f. subst (λ p. BookAt o new w.sites (w.letters ++ letters) p t x) (append_assoc w.past before (Answered t answer ∷ []))
-            (subst (BookAt o new w.sites (w.letters ++ letters) ((w.past ++ before) ++ Answered t answer ∷ []) t) (known_is (record (visits v leaves) { sent = sent; stage = Idle }) x f)
-            (book_answered o w.sites t new (w.letters ++ letters) (w.past ++ before) (record (visits v leaves) { sent = sent; stage = Writing answer [] }) answer refl book));
+            (subst (BookAt o new w.sites (w.letters ++ letters) ((w.past ++ before) ++ Answered t answer ∷ []) t) (known_is (record v { visited = visited; sent = sent; stage = Idle }) x f)
+            (book_answered o w.sites t new (w.letters ++ letters) (w.past ++ before) (record v { visited = visited; sent = sent; stage = Writing answer [] }) answer refl book));
         only = every_append (λ d. txn_of d ≡ t) before (Answered t answer ∷ []) only (refl, tt);
-        phase = quiet_phase w t (record (visits v leaves) { sent = sent; stage = Idle }) letters (before ++ Answered t answer ∷ []) (unphased (Answered t answer ∷ []) refl) refl;
+        phase = quiet_phase w t (record v { visited = visited; sent = sent; stage = Idle }) letters (before ++ Answered t answer ∷ []) (unphased (Answered t answer ∷ []) refl) refl;
         told = λ done. absurd (no_commit (Answered t answer ∷ []) (λ c. cc) done);
         votes = λ done. absurd (no_commit (Answered t answer ∷ []) (λ c. cc) done);
         view = no_view;
       }
-      written_booked answer leaves letters sent before new ext only unphased no_commit tells put (y ∷ ys) book = record {
+      written_booked visited answer letters sent before new ext only unphased no_commit tells put (y ∷ ys) book = record {
         new = new;
         grow = v.ticket;
         ext = ext;
@@ -166,21 +176,22 @@ module _ {L : Lang} where
         tells = tells;
         put_out = put;
         book = λ x f. subst (λ p. BookAt o new w.sites (w.letters ++ letters) (w.past ++ p) t x) (sym (append-nil before))
-            (subst (BookAt o new w.sites (w.letters ++ letters) (w.past ++ before) t) (known_is (record (visits v leaves) { sent = sent; stage = Writing answer (y ∷ ys) }) x f) book);
+            (subst (BookAt o new w.sites (w.letters ++ letters) (w.past ++ before) t) (known_is (record v { visited = visited; sent = sent; stage = Writing answer (y ∷ ys) }) x f) book);
         only = every_append (λ d. txn_of d ≡ t) before [] only tt;
-        phase = quiet_phase w t (record (visits v leaves) { sent = sent; stage = Writing answer (y ∷ ys) }) letters (before ++ []) (unphased [] refl) refl;
+        phase = quiet_phase w t (record v { visited = visited; sent = sent; stage = Writing answer (y ∷ ys) }) letters (before ++ []) (unphased [] refl) refl;
         told = λ done. absurd (no_commit [] (λ c. cc) done);
         votes = λ done. absurd (no_commit [] (λ c. cc) done);
         view = no_view;
       }
 
       -- writes go out
-      pub writes_booked : (answer : L.Answer) (ws : List (L.Leaf × L.Write)) (before : List (Deed L)) → Every (λ d. txn_of d ≡ t) before → ((ds : List (Deed L)) → phases_of ds ≡ [] → phases_of (before ++ ds) ≡ []) → ((ds : List (Deed L)) → (IsCommitted ds t → ⊥) → IsCommitted (before ++ ds) t → ⊥) → BookAt o ops w.sites w.letters (w.past ++ before) t (record v { stage = Writing answer ws }) →
-          Booked o ops w t (record { txn = (writes_go t v answer ws).txn; letters = (writes_go t v answer ws).letters; deeds = before ++ (writes_go t v answer ws).deeds })
-      writes_booked answer ws before only unphased no_commit book =
-          let leaves = map (λ (x : L.Leaf × L.Write). x.0) ws in
+      pub writes_booked : (visited : L.Site → Bool) (letters : List (Letter L)) → FirstTell letters → (answer : L.Answer) (ws : List (L.Leaf × L.Write)) (before : List (Deed L)) → Every (λ d. txn_of d ≡ t) before → ((ds : List (Deed L)) → phases_of ds ≡ [] → phases_of (before ++ ds) ≡ []) → ((ds : List (Deed L)) → (IsCommitted ds t → ⊥) → IsCommitted (before ++ ds) t → ⊥) → BookAt o ops w.sites w.letters (w.past ++ before) t (record v { stage = Writing answer ws }) →
+          let turn : Turn L = after_letters letters (writes_go t (record v { visited = visited }) answer ws) in
+          Booked o ops w t (record { txn = turn.txn; letters = turn.letters; deeds = before ++ turn.deeds })
+      writes_booked visited letters first answer ws before only unphased no_commit book =
           let r = writes_sent law t v.ticket ws v.sent ops book.sent in
           let out = writes_out {L = L} t v.ticket ws v.sent in
-          written_booked answer leaves (opens t v leaves ++ out.letters) out.sent before r.new r.ext only unphased no_commit
-          (every_append (Tells r.new w.sites) (opens t v leaves) out.letters (opens_tell r.new v leaves) (ops_tell r.new out.letters r.tells)) (λ a k. r.put_out a k ∙ ap (λ l. ops a k ++ l) (sym (opens_put v leaves out.letters a k))) out.left
-          (book_writes law o w.sites t ops w.letters (opens t v leaves ++ out.letters) (w.past ++ before) (record v { stage = Writing answer ws }) answer ws (visits v leaves).visited refl book r)
+          subst (λ (turn : Turn L). Booked o ops w t (record { txn = turn.txn; letters = turn.letters; deeds = before ++ turn.deeds })) (sym (first_written t (record v { visited = visited }) answer letters out.sent out.left out.letters))
+          (written_booked visited answer (letters ++ out.letters) out.sent before r.new r.ext only unphased no_commit
+          (every_append (Tells r.new w.sites) letters out.letters (first.tell r.new) (ops_tell r.new out.letters r.tells)) (λ a k. r.put_out a k ∙ ap (λ l. ops a k ++ l) (sym (first.put out.letters a k))) out.left
+          (book_writes law o w.sites t ops w.letters (letters ++ out.letters) (w.past ++ before) (record v { stage = Writing answer ws }) answer ws visited refl book r))

@@ -13,7 +13,7 @@ use Rattle.protocol.proofs.SiteFits.{not_prepared}
 use Rattle.protocol.proofs.DeskFits.{Grows, grows_same, TurnFine, turn_later, letters_desk, split}
 use Rattle.protocol.proofs.Turns.{known_is, und_put, still_fine, goes_fine, ends_fine, not_yet, every_letter}
 use Rattle.protocol.proofs.Deciding.{voters_is, acked_is, ends_letters, votes_fine, votes_letters}
-use Rattle.protocol.proofs.Going.{Good, known_at, grows_to, asks_good, writes_good}
+use Rattle.protocol.proofs.Going.{Good, known_at, grows_to, first_none, first_opens, asks_good, writes_good}
 
 pub named_is : (m : Option Name) (k : Name) → is_named m k ≡ true → m ≡ Some k
 named_is None k e = cc
@@ -51,8 +51,8 @@ module _ {L : Lang} where
       same_good = still_good (Known u) [] e tt
 
       state_good : (s : L.Statement) (choice : Choice L) (asks : List (Ask L)) → is_voting u.stage ≡ false → Good o w t (record (states t u s asks choice) { deeds = Stated t s ∷ (states t u s asks choice).deeds })
-      state_good s choice [] quiet = writes_good law o w t fit u e quiet u (grows_same u) (fit.known t u e) choice.0 choice.1 (λ deeds. Stated t s ∷ Worked t s [] choice ∷ deeds) (λ j. refl) (λ j. refl)
-      state_good s choice (q ∷ qs) quiet = asks_good law o w t fit u e quiet u (grows_same u) (fit.known t u e) s (q ∷ qs) (Stated t s ∷ []) (λ j. refl)
+      state_good s choice [] quiet = let own = fit.known t u e in let leaves = map (λ (x : L.Leaf × L.Write). x.0) choice.1 in writes_good law o w t fit u e quiet u (grows_same u) own _ _ (first_opens law o w t fit u e quiet u (grows_same u) own leaves) choice.0 choice.1 (λ deeds. Stated t s ∷ Worked t s [] choice ∷ deeds) (λ j. refl) (λ j. refl)
+      state_good s choice (q ∷ qs) quiet = let own = fit.known t u e in let leaves = map (λ (q : Ask L). q.leaf) (q ∷ qs) in asks_good law o w t fit u e quiet u (grows_same u) own _ _ (first_opens law o w t fit u e quiet u (grows_same u) own leaves) s (q ∷ qs) (Stated t s ∷ []) (λ j. refl)
 
       on_state_good : (s : L.Statement) (choice : Choice L) (stage : Stage L) → u.stage ≡ stage → Good o w t (on_state t u s choice stage)
       on_state_good s choice Idle f = state_good s choice _ (ap is_voting f)
@@ -148,8 +148,8 @@ module _ {L : Lang} where
 
         ticket_goes_good : (v : Undecided L) (choice : Choice L) → Grows u v → KnownAt o w.sites w.letters t v → (stage : Stage L) → u.stage ≡ stage → Good o w t (ticket_goes t v choice stage)
         ticket_goes_good v choice grows known Idle f = record { fine = goes_fine o w t fit u v [] [] e grows known (λ j. refl); letters = tt }
-        ticket_goes_good v choice grows known (Reading s asks) f = asks_good law o w t fit u e (ap is_voting f) v grows known s asks [] (λ j. refl)
-        ticket_goes_good v choice grows known (Writing answer ws) f = writes_good law o w t fit u e (ap is_voting f) v grows known answer ws (λ deeds. deeds) (λ j. refl) (λ j. refl)
+        ticket_goes_good v choice grows known (Reading s asks) f = asks_good law o w t fit u e (ap is_voting f) v grows known v.visited [] (first_none law o w t fit u e (ap is_voting f) v grows known) s asks [] (λ j. refl)
+        ticket_goes_good v choice grows known (Writing answer ws) f = writes_good law o w t fit u e (ap is_voting f) v grows known v.visited [] (first_none law o w t fit u e (ap is_voting f) v grows known) answer ws (λ deeds. deeds) (λ j. refl) (λ j. refl)
         ticket_goes_good v choice grows known (Voting votes) f = record { fine = goes_fine o w t fit u v [] [] e grows known (λ j. refl); letters = tt }
 
         ticket_good : (k : Name) (choice : Choice L) → FitsBody o w.desk w.past a (w.sites a) t (Ticket k) → (m : Option Name) → u.ticket a ≡ m → Good o w t (on_ticket t u a k choice m)
@@ -165,7 +165,7 @@ module _ {L : Lang} where
         rows_good n rows choice (Reading s asks) f =
             let more = map (with_rows a n rows) asks in
             either (Good o w t) (list_all (λ (q : Ask L). is_some q.rows) more) _ _
-            (writes_good law o w t fit u e (ap is_voting f) u (grows_same u) (fit.known t u e) choice.0 choice.1 (λ deeds. Worked t s more choice ∷ deeds) (λ j. refl) (λ j. refl))
+            (let own = fit.known t u e in let leaves = map (λ (x : L.Leaf × L.Write). x.0) choice.1 in writes_good law o w t fit u e (ap is_voting f) u (grows_same u) own _ _ (first_opens law o w t fit u e (ap is_voting f) u (grows_same u) own leaves) choice.0 choice.1 (λ deeds. Worked t s more choice ∷ deeds) (λ j. refl) (λ j. refl))
             (record {
               fine = goes_fine o w t fit u (record u { stage = Reading s more }) [] [] e (grows_to law o w t fit u e (ap is_voting f) u (grows_same u) (fit.known t u e) u.visited u.sent (Reading s more) (λ b is. is))
                   (known_at law o w t fit u e (ap is_voting f) u (grows_same u) (fit.known t u e) u.visited u.sent (Reading s more) (λ b is. is) refl) (λ j. refl);

@@ -9,7 +9,7 @@ use Rattle.protocol.specs.Parts.{is_voting}
 use Rattle.protocol.specs.Client.{first, next, IsQuiet}
 use Rattle.protocol.specs.Spots.{at}
 use Rattle.protocol.specs.Course.{AtSites}
-use Rattle.protocol.specs.Leaving.{LeavingAt, Ending, EndKept, Within, Own, Fruitless, Since, leaves_of, Loose, Failing, doomed, has_ended}
+use Rattle.protocol.specs.Leaving.{LeavingAt, Ending, EndKept, Within, Own, Fruitless, Since, leaves_of, AreVisited, Loose, Failing, doomed, has_ended}
 use Rattle.protocol.proofs.Basics.{Every, In, every_append, every_map, either, either_if, put_all, put_there, same_refl, if_true, clash, by_test}
 use Rattle.protocol.proofs.Locks.{Once}
 use Rattle.protocol.proofs.Queue.{at_append, at_here, at_away}
@@ -32,19 +32,19 @@ module _ {L : Lang} where
     still : (loose : Loose t before w) → ((a : L.Site) (k : Name) → old a ≡ Some k → loose.u.ticket a ≡ Some k) → ((a : L.Site) (c : Body L) → In c (at a q) → In c (at a w.letters)) → LooseStep t before old q w
     over : (deeds : List (Deed L)) → Since t before deeds → Ending deeds w → LooseStep t before old q w
 
-  module _ (law : IsLawful L) (t : Name) (u : Undecided L) (calm : is_voting u.stage ≡ false) (homes : AtSites L (leaves_of u.stage)) (a : L.Site) (kept : Bool) (choice : Choice L) (written : AtSites L (map (λ x. x.0) choice.1)) where
+  module _ (law : IsLawful L) (t : Name) (u : Undecided L) (calm : is_voting u.stage ≡ false) (seen : AreVisited u (leaves_of u.stage)) (a : L.Site) (kept : Bool) (choice : Choice L) (written : AtSites L (map (λ x. x.0) choice.1)) where
     nothing : KnownTurn t u (stays (Known u))
-    nothing = goes (loose_stays t u calm homes)
+    nothing = goes (loose_stays t u calm seen)
 
     -- a first ticket
     first_ticket : (k : Name) → u.ticket a ≡ None → LooseTurn t u (ticket_goes t (with_ticket u a k) choice u.stage)
     first_ticket k none =
-        let to = goes_loose law t (with_ticket u a k) choice u.stage calm homes homes in
+        let to = goes_loose law t (with_ticket u a k) choice u.stage calm seen seen in
         record {
           new = to.new;
           is = to.is;
           calm = to.calm;
-          homes = to.homes;
+          seen = to.seen;
           own = to.own;
           among = to.among;
           visited = to.visited;
@@ -56,7 +56,7 @@ module _ {L : Lang} where
     ticket_turn : (k : Name) (tk : Option Name) → u.ticket a ≡ tk → KnownTurn t u (on_ticket t u a k choice tk)
     ticket_turn k None e = goes (first_ticket k e)
     ticket_turn k (Some j) e = either (KnownTurn t u) (same j k) _ _ nothing
-        (goes (record { new = u; is = refl; calm = calm; homes = homes; own = (refl, tt); among = λ old. old; visited = λ b is. is; ticket = λ b i is. is; sends = (tt, tt); deeds = tt }))
+        (goes (record { new = u; is = refl; calm = calm; seen = seen; own = (refl, tt); among = λ old. old; visited = λ b is. is; ticket = λ b i is. is; sends = (tt, tt); deeds = tt }))
 
     refused_turn : (stage : Stage L) → is_voting stage ≡ false → on_refused t u stage ≡ ends_by t u (Aborted t By_refusal)
     refused_turn Idle none = refl
@@ -72,7 +72,7 @@ module _ {L : Lang} where
 
     known_turn : (c : Body L) → KnownTurn t u (on_known t u a kept choice c)
     known_turn (Ticket k) = ticket_turn k (u.ticket a) refl
-    known_turn (Rows k n rows) = either (KnownTurn t u) (is_named (u.ticket a) k) _ _ (goes (rows_loose law t u a n rows choice u.stage calm homes homes written)) nothing
+    known_turn (Rows k n rows) = either (KnownTurn t u) (is_named (u.ticket a) k) _ _ (goes (rows_loose law t u a n rows choice u.stage calm seen seen written)) nothing
     known_turn (Refused k reason) = either (KnownTurn t u) (is_named (u.ticket a) k) _ _ (ends (Aborted t By_refusal) (refused_turn u.stage calm) refl) nothing
     known_turn (Voted k x) = either (KnownTurn t u) (is_named (u.ticket a) k) _ _ (vote_turn x u.stage calm) nothing
     known_turn (Inquire k) = nothing
@@ -105,7 +105,7 @@ module _ {L : Lang} where
           u = loose.u;
           known = loose.known;
           calm = loose.calm;
-          homes = loose.homes;
+          seen = loose.seen;
           alone = every_append (λ x. x.txn ≡ t) q out (subst (Every (λ x. x.txn ≡ t)) e loose.alone).1 (every_map (λ x. x.txn ≡ t) _ (said s act) (λ b. own_letter));
           others = loose.others;
           among = loose.among;
@@ -131,7 +131,7 @@ module _ {L : Lang} where
         at_desk to_desk = subst (λ j. Step (turns (record w { letters = q }) j (on_desk_letter j l.site kept choice l.body (w.desk.txn j)))) (sym own_letter)
             (subst (λ x. Step (turns (record w { letters = q }) t (on_desk_letter t l.site kept choice l.body x))) (sym loose.known)
             (either Step (is_desk_within (desk_after w.desk t (on_known t loose.u l.site kept choice l.body).txn)) _ _
-            (turn_step (desk_no_end l.body to_desk) (on_known t loose.u l.site kept choice l.body) (known_turn law t loose.u loose.calm loose.homes l.site kept choice written l.body))
+            (turn_step (desk_no_end l.body to_desk) (on_known t loose.u l.site kept choice l.body) (known_turn law t loose.u loose.calm loose.seen l.site kept choice written l.body))
             (lost_step (desk_no_end l.body to_desk))))
 
         go : (b : Bool) → is_for_desk l.body ≡ b → Step (comes_to b (record w { letters = q }) kept choice l)

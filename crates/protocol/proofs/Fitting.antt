@@ -4,7 +4,7 @@ use Rattle.std.specs.List.{list_all}
 use Rattle.protocol.specs.Language.{Lang, IsLawful, Name, same, put}
 use Rattle.protocol.specs.Letter.{Vote, Yes, No, Read, Body, Open, Fetch, Write, Prepare, Commit, Abort, Ticket, Rows, Refused, Voted, Ack, Inquire, Letter, is_for_desk}
 use Rattle.protocol.specs.Site.{on_letter, site_after, said, is_within}
-use Rattle.protocol.specs.Desk.{Ask, Choice, Stage, Idle, Reading, Writing, Voting, Undecided, is_undecided, Txn, Unknown, Known, Row, Deed, Request, State, Commit_call, Rollback, Give_up, Rolled_back, Aborted, Given_up, By_refusal, By_vote, By_store, Turn, fresh, stays, ask_of, write_out, writes_out, is_new, opening, opens, visits, asks_go, writing, writes_go, works, states, to_prepare, when, vote_at, to_abort, may_hold, ends_by, commits, decides, voters_of, are_all_in, votes_go, phases, on_commit_call, on_state, on_rollback, on_request, ticket_goes, on_ticket, with_rows, on_rows, on_refused, counts, on_vote, is_named, on_known, on_desk_letter, next_txn, desk_began, desk_after, is_desk_within}
+use Rattle.protocol.specs.Desk.{Ask, Choice, Stage, Idle, Reading, Writing, Voting, Undecided, is_undecided, Txn, Unknown, Known, Row, Deed, Request, State, Commit_call, Rollback, Give_up, Rolled_back, Aborted, Given_up, By_refusal, By_vote, By_store, Turn, fresh, stays, ask_of, write_out, writes_out, is_new, opening, opens, visits, asks_go, writing, writes_go, after_letters, works, states, to_prepare, when, vote_at, to_abort, may_hold, ends_by, commits, decides, voters_of, are_all_in, votes_go, phases, on_commit_call, on_state, on_rollback, on_request, ticket_goes, on_ticket, with_rows, on_rows, on_refused, counts, on_vote, is_named, on_known, on_desk_letter, next_txn, desk_began, desk_after, is_desk_within}
 use Rattle.protocol.specs.World.{World, begun, begins, turned, turns, with_site, site_steps, addressed, comes_to}
 use Rattle.protocol.specs.Serial.{IsOpening}
 use Rattle.protocol.specs.Client.{first, next, rest_of, loses}
@@ -57,20 +57,21 @@ module _ {L : Lang} (law : IsLawful L) (fits : L.Leaf → L.Content → Bool) wh
   writing_fit t u answer sent (x ∷ left) letters all out = (all, out)
 
   writes_go_fit : (t : Name) (u : Undecided L) (answer : L.Answer) (ws : List (L.Leaf × L.Write)) → Every (Suits L fits) ws → TurnFits (writes_go t u answer ws)
-  writes_go_fit t u answer ws all =
-      let out = writes_fit t u.ticket ws u.sent all in
-      writing_fit t (visits u (map (λ w. w.0) ws)) answer _ _ _ out.1 (every_append LetterFits (opens t u (map (λ w. w.0) ws)) _ (opens_fit t u (map (λ w. w.0) ws)) out.0)
+  writes_go_fit t u answer ws all = let out = writes_fit t u.ticket ws u.sent all in writing_fit t u answer _ _ _ out.1 out.0
 
   asks_go_fit : (t : Name) (u : Undecided L) (s : L.Statement) (asks : List (Ask L)) → TurnFits (asks_go t u s asks)
-  asks_go_fit t u s asks = (tt, every_append LetterFits (opens t u (map (λ q. q.leaf) asks)) _ (opens_fit t u (map (λ q. q.leaf) asks)) (asks_each LetterFits t u.ticket (λ g q k n e. tt) asks u.sent))
+  asks_go_fit t u s asks = (tt, asks_each LetterFits t u.ticket (λ g q k n e. tt) asks u.sent)
+
+  after_opens : (t : Name) (u : Undecided L) (leaves : List L.Leaf) (turn : Turn L) → TurnFits turn → TurnFits (after_letters (opens t u leaves) turn)
+  after_opens t u leaves turn fit = (fit.0, every_append LetterFits (opens t u leaves) turn.letters (opens_fit t u leaves) fit.1)
 
   module _ (t : Name) (choice : Choice L) (suits : Every (Suits L fits) choice.1) where
     works_fit : (u : Undecided L) (s : L.Statement) (asks : List (Ask L)) → TurnFits (works t u s asks choice)
-    works_fit u s asks = writes_go_fit t u choice.0 choice.1 suits
+    works_fit u s asks = let leaves = map (λ (x : L.Leaf × L.Write). x.0) choice.1 in after_opens t u leaves (writes_go t (visits u leaves) choice.0 choice.1) (writes_go_fit t (visits u leaves) choice.0 choice.1 suits)
 
     states_fit : (u : Undecided L) (s : L.Statement) (asks : List (Ask L)) → TurnFits (states t u s asks choice)
     states_fit u s [] = works_fit u s []
-    states_fit u s (q ∷ qs) = asks_go_fit t u s (q ∷ qs)
+    states_fit u s (q ∷ qs) = let leaves = map (λ (q : Ask L). q.leaf) (q ∷ qs) in after_opens t u leaves (asks_go t (visits u leaves) s (q ∷ qs)) (asks_go_fit t (visits u leaves) s (q ∷ qs))
 
     commits_fit : (voters : List (L.Site × Name)) → Every LetterFits (commits {L = L} t voters)
     commits_fit [] = tt

@@ -7,8 +7,8 @@ use Rattle.protocol.specs.Desk.{Ask, Choice, Stage, Idle, Reading, Writing, Voti
 use Rattle.protocol.specs.World.{World, turned, turns, called}
 use Rattle.protocol.specs.Parts.{is_voting}
 use Rattle.protocol.specs.Spots.{at, Spot, away, asked, offered, works, Flow}
-use Rattle.protocol.specs.Course.{AtSites, Stands, AskStands, WriteWaits, Far, reads, writes, is_answered, InStatement, Steady}
-use Rattle.protocol.specs.Leaving.{Closed, Leaves, is_free, is_own, hears_abort, hears_commit, LeavingAt, Ending, Within, Own, Since, Loose, leaves_of}
+use Rattle.protocol.specs.Course.{Stands, AskStands, WriteWaits, Far, reads, writes, is_answered, InStatement, Steady}
+use Rattle.protocol.specs.Leaving.{Closed, Leaves, is_free, is_own, hears_abort, hears_commit, LeavingAt, Ending, Within, Own, Since, Loose, AreVisited, leaves_of}
 use Rattle.protocol.proofs.Basics.{Every, In, in_left, in_right, put_all, same_law, if_true, by_test, some_is}
 use Rattle.protocol.proofs.Locks.{Once}
 use Rattle.protocol.proofs.Turns.{every_letter}
@@ -132,12 +132,12 @@ module _ {L : Lang} where
           go (Voting votes) none = let e : true ≡ false = none in cc
 
   -- ---- where it comes from
-  stands_loose : (t : Name) (before : List (Deed L)) (u : Undecided L) (w : World L) → w.desk.txn t ≡ Known u → is_voting u.stage ≡ false → AtSites L (leaves_of u.stage) → Stands t u w → Since t before w.past → Loose t before w
-  stands_loose t before u w known calm homes stands since = record {
+  stands_loose : (t : Name) (before : List (Deed L)) (u : Undecided L) (w : World L) → w.desk.txn t ≡ Known u → is_voting u.stage ≡ false → AreVisited u (leaves_of u.stage) → Stands t u w → Since t before w.past → Loose t before w
+  stands_loose t before u w known calm seen stands since = record {
     u = u;
     known = known;
     calm = calm;
-    homes = homes;
+    seen = seen;
     alone = stands.alone;
     others = stands.others;
     among = stands.among;
@@ -151,19 +151,19 @@ module _ {L : Lang} where
   pub statement_loose : (t : Name) (s : L.Statement) (before : List (Deed L)) (w : World L) → InStatement t s before w → Loose t before w
   statement_loose t s before w at_ = go at_.far
     where
-      read_homes : (asks : List (Ask L)) → Every (AskStands at_.u w.letters) asks → AtSites L (map (λ q. q.leaf) asks)
-      read_homes [] all g here = absurd here
-      read_homes (x ∷ asks) all g (inl e) = subst (λ h. In (L.home h) L.sites) (sym e) all.0.home
-      read_homes (x ∷ asks) all g (inr below) = read_homes asks all.1 g below
+      read_seen : (asks : List (Ask L)) → Every (AskStands at_.u w.letters) asks → AreVisited at_.u (map (λ q. q.leaf) asks)
+      read_seen [] all g here = absurd here
+      read_seen (x ∷ asks) all g (inl e) = subst (λ h. at_.u.visited (L.home h) ≡ true) (sym e) all.0.visited
+      read_seen (x ∷ asks) all g (inr below) = read_seen asks all.1 g below
 
-      write_homes : (ws : List (L.Leaf × L.Write)) → Every (WriteWaits at_.u) ws → AtSites L (map (λ x. x.0) ws)
-      write_homes [] all g here = absurd here
-      write_homes (x ∷ ws) all g (inl e) = subst (λ h. In (L.home h) L.sites) (sym e) all.0.home
-      write_homes (x ∷ ws) all g (inr below) = write_homes ws all.1 g below
+      write_seen : (ws : List (L.Leaf × L.Write)) → Every (WriteWaits at_.u) ws → AreVisited at_.u (map (λ x. x.0) ws)
+      write_seen [] all g here = absurd here
+      write_seen (x ∷ ws) all g (inl e) = subst (λ h. at_.u.visited (L.home h) ≡ true) (sym e) all.0.visited
+      write_seen (x ∷ ws) all g (inr below) = write_seen ws all.1 g below
 
       go : Far t s before at_.u w.letters w.past → Loose t before w
-      go (reads asks is missing all deeds) = stands_loose t before at_.u w at_.known (ap is_voting is) (λ g here. read_homes asks all g (subst (λ st. In g (leaves_of st)) is here)) at_.stands (record { more = Stated t s ∷ []; is = deeds; fruitless = (refl, tt) })
-      go (writes asks choice x ws is all deeds) = stands_loose t before at_.u w at_.known (ap is_voting is) (λ g here. write_homes (x ∷ ws) all g (subst (λ st. In g (leaves_of st)) is here)) at_.stands (record { more = Stated t s ∷ Worked t s asks choice ∷ []; is = deeds; fruitless = (refl, (refl, tt)) })
+      go (reads asks is missing all deeds) = stands_loose t before at_.u w at_.known (ap is_voting is) (λ g here. read_seen asks all g (subst (λ st. In g (leaves_of st)) is here)) at_.stands (record { more = Stated t s ∷ []; is = deeds; fruitless = (refl, tt) })
+      go (writes asks choice x ws is all deeds) = stands_loose t before at_.u w at_.known (ap is_voting is) (λ g here. write_seen (x ∷ ws) all g (subst (λ st. In g (leaves_of st)) is here)) at_.stands (record { more = Stated t s ∷ Worked t s asks choice ∷ []; is = deeds; fruitless = (refl, (refl, tt)) })
       go (is_answered asks choice is deeds) = stands_loose t before at_.u w at_.known (ap is_voting is) (λ g here. absurd (subst (λ st. In g (leaves_of st)) is here)) at_.stands (record { more = Stated t s ∷ Worked t s asks choice ∷ Answered t choice.0 ∷ []; is = deeds; fruitless = (refl, (refl, (refl, tt))) })
 
   -- a letter that says nothing of an end is let go
@@ -172,7 +172,7 @@ module _ {L : Lang} where
     u = loose.u;
     known = loose.known;
     calm = loose.calm;
-    homes = loose.homes;
+    seen = loose.seen;
     alone = (subst (Every (λ x. x.txn ≡ t)) e loose.alone).1;
     others = loose.others;
     among = loose.among;

@@ -3,25 +3,25 @@ use Rattle.std.proofs.Common.{◌≡◌, refl, sym, ap, ◌∙◌, subst, ℕ, s
 use Rattle.std.specs.List.{list_all}
 use Rattle.protocol.specs.Language.{Lang, IsLawful, Name, same, put}
 use Rattle.protocol.specs.Letter.{Body, Open, Fetch, Write, Prepare, Commit, Abort, Ticket, Rows, Refused, Voted, Ack, Inquire, Letter}
-use Rattle.protocol.specs.Desk.{Ask, Choice, Stage, Idle, Reading, Writing, Voting, Undecided, Known, Deed, Turn, stays, is_undecided, ask_out, asks_out, write_out, writes_out, is_new, opening, opens, visits, asks_go, writing, writes_go, works, ticket_goes, awaits, with_rows, on_rows}
+use Rattle.protocol.specs.Desk.{Ask, Choice, Stage, Idle, Reading, Writing, Voting, Undecided, Known, Deed, Turn, stays, is_undecided, ask_out, asks_out, write_out, writes_out, is_new, opening, opens, visits, asks_go, writing, writes_go, after_letters, works, ticket_goes, awaits, with_rows, on_rows}
 use Rattle.protocol.specs.World.{World, turned}
 use Rattle.protocol.specs.Parts.{is_voting}
 use Rattle.protocol.specs.Spots.{at}
 use Rattle.protocol.specs.Course.{AtSites}
-use Rattle.protocol.specs.Leaving.{Closed, LeavingAt, Own, Fruitless, Since, leaves_of, Loose}
+use Rattle.protocol.specs.Leaving.{Closed, LeavingAt, Own, Fruitless, Since, AreVisited, leaves_of, Loose}
 use Rattle.protocol.proofs.Basics.{Every, In, every_append, every_more, every_self, either, either_if, put_all, put_here, same_law, same_refl, clash, or_left, or_cases, right_true, found, not_false}
 use Rattle.protocol.proofs.Turns.{every_letter}
-use Rattle.protocol.proofs.Going.{opening_is}
+use Rattle.protocol.proofs.Going.{opening_is, first_written}
 use Rattle.protocol.proofs.Ranks.{all_visited, in_map}
 use Rattle.protocol.proofs.Queue.{at_append}
 use Rattle.protocol.proofs.Leaving.{closed_append, left}
 use Rattle.protocol.proofs.Loose.{leaving_to}
 
 -- what is said of each leaf
-at_leaves : (L : Lang) {A : Type 0} (leaf : A → L.Leaf) (xs : List A) → Every (λ x. In (L.home (leaf x)) L.sites) xs → AtSites L (map leaf xs)
-at_leaves L leaf [] all g here = absurd here
-at_leaves L leaf (x ∷ xs) all g (inl e) = subst (λ h. In (L.home h) L.sites) (sym e) all.0
-at_leaves L leaf (x ∷ xs) all g (inr below) = at_leaves L leaf xs all.1 g below
+at_leaves : (L : Lang) {A : Type 0} (leaf : A → L.Leaf) (visited : L.Site → Bool) (xs : List A) → Every (λ x. visited (L.home (leaf x)) ≡ true) xs → (g : L.Leaf) → In g (map leaf xs) → visited (L.home g) ≡ true
+at_leaves L leaf visited [] all g here = absurd here
+at_leaves L leaf visited (x ∷ xs) all g (inl e) = subst (λ h. visited (L.home h) ≡ true) (sym e) all.0
+at_leaves L leaf visited (x ∷ xs) all g (inr below) = at_leaves L leaf visited xs all.1 g below
 
 module _ {L : Lang} where
   -- an operation goes to an own ticket
@@ -57,7 +57,7 @@ module _ {L : Lang} where
     pub new : Undecided L
     pub is : turn.txn ≡ Known new
     pub calm : is_voting new.stage ≡ false
-    pub homes : AtSites L (leaves_of new.stage)
+    pub seen : AreVisited new (leaves_of new.stage)
     pub own : Every (λ l. l.txn ≡ t) turn.letters
     pub among : ((a : L.Site) → u.visited a ≡ true → In a L.sites) → (a : L.Site) → new.visited a ≡ true → In a L.sites
     pub visited : (a : L.Site) → u.visited a ≡ true → new.visited a ≡ true
@@ -77,7 +77,7 @@ module _ {L : Lang} where
     u = to.new;
     known = put_here same same_law t turn.txn w.desk.txn ∙ to.is;
     calm = to.calm;
-    homes = to.homes;
+    seen = to.seen;
     alone = every_append (λ l. l.txn ≡ t) w.letters turn.letters loose.alone to.own;
     others = put_all same same_law t turn.txn w.desk.txn (λ j x. same j t ≡ false → is_undecided x ≡ false) (λ other. clash (same_refl t) other) (λ j away other. loose.others j other);
     among = to.among loose.among;
@@ -86,8 +86,8 @@ module _ {L : Lang} where
     since = since_more t before w.past turn.deeds loose.since to.deeds;
   }
 
-  pub loose_stays : (t : Name) (u : Undecided L) → is_voting u.stage ≡ false → AtSites L (leaves_of u.stage) → LooseTurn t u (stays (Known u))
-  loose_stays t u calm homes = record { new = u; is = refl; calm = calm; homes = homes; own = tt; among = λ old. old; visited = λ a is. is; ticket = λ a k is. is; sends = tt; deeds = tt }
+  pub loose_stays : (t : Name) (u : Undecided L) → is_voting u.stage ≡ false → AreVisited u (leaves_of u.stage) → LooseTurn t u (stays (Known u))
+  loose_stays t u calm seen = record { new = u; is = refl; calm = calm; seen = seen; own = tt; among = λ old. old; visited = λ a is. is; ticket = λ a k is. is; sends = tt; deeds = tt }
 
   -- ---- operations go to own tickets
   asks_seen : (P : Letter L → Type 0) (V : L.Leaf → Type 0) (t : Name) (ticket : L.Site → Option Name) → ((g : L.Leaf) (q : L.Query) (k : Name) (n : ℕ) → V g → ticket (L.home g) ≡ Some k → P (record { site = L.home g; txn = t; body = Fetch k n g q })) →
@@ -111,109 +111,112 @@ module _ {L : Lang} where
       go (Some k) e rest = let r = rest (put L.same_site (L.home x.0) (suc (counts (L.home x.0))) counts) in ((each x.0 x.1 k (suc (counts (L.home x.0))) all.0 e, r.0), r.1)
 
   module _ (law : IsLawful L) (t : Name) (u : Undecided L) where
-    opens_own : (v : Undecided L) (leaves : List L.Leaf) → Every (OwnLetter v) (opens t u leaves) × Every (λ l. l.txn ≡ t) (opens t u leaves)
-    opens_own v leaves = (
-      every_letter (OwnLetter v) t (λ a. opening (is_new u leaves a)) L.sites (λ a b here e. subst (λ c. Closed (Own v a) (c ∷ [])) (sym (opening_is (is_new u leaves a) b e).1) tt),
-      every_letter (λ l. l.txn ≡ t) t (λ a. opening (is_new u leaves a)) L.sites (λ a b here e. refl),
-    )
-
     -- new sites are those of leaves
     new_among : (leaves : List L.Leaf) → AtSites L leaves → ((a : L.Site) → u.visited a ≡ true → In a L.sites) → (a : L.Site) → (u.visited a || is_new u leaves a) ≡ true → In a L.sites
     new_among leaves homes old a is = ⊎_elim (old a) (λ new. (let g = found (λ g. L.same_site (L.home g) a) leaves (right_true (not (u.visited a)) _ new) in subst (λ b. In b L.sites) ((law.sites (L.home g.0) a).0 g.2) (homes g.0 g.1))) (or_cases (u.visited a) (is_new u leaves a) is)
 
-    -- a leaf of a visited site among the sites
-    abbrev Seen : List L.Leaf → L.Leaf → Type 0
-    Seen leaves g = In (L.home g) L.sites × ((visits u leaves).visited (L.home g) ≡ true)
+    -- sites are visited, and letters that ask for nothing go first
+    record First (visited : L.Site → Bool) (letters : List (Letter L)) : Type 0 where
+      pub more : (a : L.Site) → u.visited a ≡ true → visited a ≡ true
+      pub among : ((a : L.Site) → u.visited a ≡ true → In a L.sites) → (a : L.Site) → visited a ≡ true → In a L.sites
+      pub letters_own : (v : Undecided L) → Every (λ l. OwnLetter v l × (l.txn ≡ t)) letters
 
-    all_seen : {A : Type 0} (leaf : A → L.Leaf) (xs : List A) → AtSites L (map leaf xs) → Every (λ x. Seen (map leaf xs) (leaf x)) xs
-    all_seen leaf xs homes = every_self (λ x. Seen (map leaf xs) (leaf x)) xs (λ x here. let there = in_map leaf x xs here in (homes (leaf x) there, not_false ((visits u (map leaf xs)).visited (L.home (leaf x))) (all_visited law u (map leaf xs) (leaf x) there)))
+    first_none : First u.visited []
+    first_none = record { more = λ a is. is; among = λ old. old; letters_own = λ v. tt }
 
-    asks_loose : (s : L.Statement) (asks : List (Ask L)) → AtSites L (map (λ q. q.leaf) asks) → LooseTurn t u (asks_go t u s asks)
-    asks_loose s asks homes =
-        let leaves = map (λ (q : Ask L). q.leaf) asks in
+    first_opens : (leaves : List L.Leaf) → AtSites L leaves → First (visits u leaves).visited (opens t u leaves)
+    first_opens leaves homes = record {
+      more = λ a is. or_left (u.visited a) (is_new u leaves a) is;
+      among = new_among leaves homes;
+      letters_own = λ v. every_letter (λ l. OwnLetter v l × (l.txn ≡ t)) t (λ a. opening (is_new u leaves a)) L.sites (λ a b here e. (subst (λ c. Closed (Own v a) (c ∷ [])) (sym (opening_is (is_new u leaves a) b e).1) tt, refl));
+    }
+
+    -- each of them is at a visited site
+    all_seen : {A : Type 0} (leaf : A → L.Leaf) (visited : L.Site → Bool) (xs : List A) → ((g : L.Leaf) → In g (map leaf xs) → visited (L.home g) ≡ true) → Every (λ x. visited (L.home (leaf x)) ≡ true) xs
+    all_seen leaf visited xs seen = every_self (λ x. visited (L.home (leaf x)) ≡ true) xs (λ x here. seen (leaf x) (in_map leaf x xs here))
+
+    asks_loose : (visited : L.Site → Bool) (letters : List (Letter L)) → First visited letters → (s : L.Statement) (asks : List (Ask L)) → ((g : L.Leaf) → In g (map (λ q. q.leaf) asks) → visited (L.home g) ≡ true) → LooseTurn t u (after_letters letters (asks_go t (record u { visited = visited }) s asks))
+    asks_loose visited letters first s asks seen =
         let out = asks_out t u.ticket asks u.sent in
-        let v : Undecided L = record (visits u leaves) { sent = out.sent; stage = Reading s out.left } in
-        let seen = asks_seen (λ l. OwnLetter v l × (l.txn ≡ t)) (Seen leaves) t u.ticket (λ g q k n seen e. ((inl (seen.1, e), tt), refl)) asks u.sent (all_seen (λ (q : Ask L). q.leaf) asks homes) in
-        let first = opens_own v leaves in
+        let v : Undecided L = record u { visited = visited; sent = out.sent; stage = Reading s out.left } in
+        let sent = asks_seen (λ l. OwnLetter v l × (l.txn ≡ t)) (λ g. visited (L.home g) ≡ true) t u.ticket (λ g q k n is e. ((inl (is, e), tt), refl)) asks u.sent (all_seen (λ (q : Ask L). q.leaf) visited asks seen) in
+        let all = every_append (λ l. OwnLetter v l × (l.txn ≡ t)) letters out.letters (first.letters_own v) sent.0 in
         record {
           new = v;
           is = refl;
           calm = refl;
-          homes = at_leaves L (λ (q : Ask L). q.leaf) out.left (every_more (λ (q : Ask L). Seen leaves q.leaf) (λ q. In (L.home q.leaf) L.sites) out.left (λ q r. r.0) seen.1);
-          own = every_append (λ l. l.txn ≡ t) (opens t u leaves) out.letters first.1 (every_more (λ l. OwnLetter v l × (l.txn ≡ t)) (λ l. l.txn ≡ t) out.letters (λ l r. r.1) seen.0);
-          among = new_among leaves homes;
-          visited = λ a is. or_left (u.visited a) (is_new u leaves a) is;
+          seen = at_leaves L (λ (q : Ask L). q.leaf) visited out.left sent.1;
+          own = every_more (λ l. OwnLetter v l × (l.txn ≡ t)) (λ l. l.txn ≡ t) (letters ++ out.letters) (λ l r. r.1) all;
+          among = first.among;
+          visited = first.more;
           ticket = λ a k is. is;
-          sends = every_append (OwnLetter v) (opens t u leaves) out.letters first.0 (every_more (λ l. OwnLetter v l × (l.txn ≡ t)) (OwnLetter v) out.letters (λ l r. r.0) seen.0);
+          sends = every_more (λ l. OwnLetter v l × (l.txn ≡ t)) (OwnLetter v) (letters ++ out.letters) (λ l r. r.0) all;
           deeds = tt;
         }
 
-    writes_loose : (answer : L.Answer) (ws : List (L.Leaf × L.Write)) → AtSites L (map (λ x. x.0) ws) → LooseTurn t u (writes_go t u answer ws)
-    writes_loose answer ws homes =
-        let leaves = map (λ (x : L.Leaf × L.Write). x.0) ws in
+    written_loose : (visited : L.Site → Bool) → ((a : L.Site) → u.visited a ≡ true → visited a ≡ true) → (((a : L.Site) → u.visited a ≡ true → In a L.sites) → (a : L.Site) → visited a ≡ true → In a L.sites) → (answer : L.Answer) (counts : L.Site → ℕ) (left : List (L.Leaf × L.Write)) (letters : List (Letter L)) →
+        ((g : L.Leaf) → In g (map (λ x. x.0) left) → visited (L.home g) ≡ true) → Every (λ l. OwnLetter (record u { visited = visited }) l × (l.txn ≡ t)) letters → LooseTurn t u (writing t (record u { visited = visited }) answer counts left letters)
+    written_loose visited more among answer counts [] letters seen all = record {
+      new = record u { visited = visited; sent = counts; stage = Idle };
+      is = refl;
+      calm = refl;
+      seen = λ g here. absurd here;
+      own = every_more (λ l. OwnLetter (record u { visited = visited }) l × (l.txn ≡ t)) (λ l. l.txn ≡ t) letters (λ l r. r.1) all;
+      among = among;
+      visited = more;
+      ticket = λ a k is. is;
+      sends = every_more (λ l. OwnLetter (record u { visited = visited }) l × (l.txn ≡ t)) (OwnLetter (record u { visited = visited; sent = counts; stage = Idle })) letters (λ l r. own_still (record u { visited = visited }) counts Idle l r.0) all;
+      deeds = (refl, tt);
+    }
+    written_loose visited more among answer counts (x ∷ left) letters seen all = record {
+      new = record u { visited = visited; sent = counts; stage = Writing answer (x ∷ left) };
+      is = refl;
+      calm = refl;
+      seen = seen;
+      own = every_more (λ l. OwnLetter (record u { visited = visited }) l × (l.txn ≡ t)) (λ l. l.txn ≡ t) letters (λ l r. r.1) all;
+      among = among;
+      visited = more;
+      ticket = λ a k is. is;
+      sends = every_more (λ l. OwnLetter (record u { visited = visited }) l × (l.txn ≡ t)) (OwnLetter (record u { visited = visited; sent = counts; stage = Writing answer (x ∷ left) })) letters (λ l r. own_still (record u { visited = visited }) counts (Writing answer (x ∷ left)) l r.0) all;
+      deeds = tt;
+    }
+
+    writes_loose : (visited : L.Site → Bool) (letters : List (Letter L)) → First visited letters → (answer : L.Answer) (ws : List (L.Leaf × L.Write)) → ((g : L.Leaf) → In g (map (λ x. x.0) ws) → visited (L.home g) ≡ true) → LooseTurn t u (after_letters letters (writes_go t (record u { visited = visited }) answer ws))
+    writes_loose visited letters first answer ws seen =
+        let v : Undecided L = record u { visited = visited } in
         let out = writes_out {L = L} t u.ticket ws u.sent in
-        let seen = writes_seen (λ l. OwnLetter (visits u leaves) l × (l.txn ≡ t)) (Seen leaves) t u.ticket (λ g x k n seen e. ((inl (seen.1, e), tt), refl)) ws u.sent (all_seen (λ (x : L.Leaf × L.Write). x.0) ws homes) in
-        let first = opens_own (visits u leaves) leaves in
-        go leaves homes out.sent out.left (opens t u leaves ++ out.letters)
-        (at_leaves L (λ (x : L.Leaf × L.Write). x.0) out.left (every_more (λ (x : L.Leaf × L.Write). Seen leaves x.0) (λ x. In (L.home x.0) L.sites) out.left (λ x r. r.0) seen.1))
-        (every_append (λ l. OwnLetter (visits u leaves) l × (l.txn ≡ t)) (opens t u leaves) out.letters (two (opens t u leaves) first.0 first.1) seen.0)
-      where
-        two : (letters : List (Letter L)) → Every (OwnLetter (visits u (map (λ x. x.0) ws))) letters → Every (λ l. l.txn ≡ t) letters → Every (λ l. OwnLetter (visits u (map (λ x. x.0) ws)) l × (l.txn ≡ t)) letters
-        two [] p q = tt
-        two (l ∷ letters) p q = ((p.0, q.0), two letters p.1 q.1)
-
-        go : (leaves : List L.Leaf) → AtSites L leaves → (counts : L.Site → ℕ) (left : List (L.Leaf × L.Write)) (letters : List (Letter L)) → AtSites L (map (λ x. x.0) left) → Every (λ l. OwnLetter (visits u leaves) l × (l.txn ≡ t)) letters → LooseTurn t u (writing t (visits u leaves) answer counts left letters)
-        go leaves homes counts [] letters left all = record {
-          new = record (visits u leaves) { sent = counts; stage = Idle };
-          is = refl;
-          calm = refl;
-          homes = λ g here. absurd here;
-          own = every_more (λ l. OwnLetter (visits u leaves) l × (l.txn ≡ t)) (λ l. l.txn ≡ t) letters (λ l r. r.1) all;
-          among = new_among leaves homes;
-          visited = λ a is. or_left (u.visited a) (is_new u leaves a) is;
-          ticket = λ a k is. is;
-          sends = every_more (λ l. OwnLetter (visits u leaves) l × (l.txn ≡ t)) (OwnLetter (record (visits u leaves) { sent = counts; stage = Idle })) letters (λ l r. own_still (visits u leaves) counts Idle l r.0) all;
-          deeds = (refl, tt);
-        }
-        go leaves homes counts (x ∷ left) letters there all = record {
-          new = record (visits u leaves) { sent = counts; stage = Writing answer (x ∷ left) };
-          is = refl;
-          calm = refl;
-          homes = there;
-          own = every_more (λ l. OwnLetter (visits u leaves) l × (l.txn ≡ t)) (λ l. l.txn ≡ t) letters (λ l r. r.1) all;
-          among = new_among leaves homes;
-          visited = λ a is. or_left (u.visited a) (is_new u leaves a) is;
-          ticket = λ a k is. is;
-          sends = every_more (λ l. OwnLetter (visits u leaves) l × (l.txn ≡ t)) (OwnLetter (record (visits u leaves) { sent = counts; stage = Writing answer (x ∷ left) })) letters (λ l r. own_still (visits u leaves) counts (Writing answer (x ∷ left)) l r.0) all;
-          deeds = tt;
-        }
+        let sent = writes_seen (λ l. OwnLetter v l × (l.txn ≡ t)) (λ g. visited (L.home g) ≡ true) t u.ticket (λ g x k n is e. ((inl (is, e), tt), refl)) ws u.sent (all_seen (λ (x : L.Leaf × L.Write). x.0) visited ws seen) in
+        subst (LooseTurn t u) (sym (first_written t v answer letters out.sent out.left out.letters))
+        (written_loose visited first.more first.among answer out.sent out.left (letters ++ out.letters) (at_leaves L (λ (x : L.Leaf × L.Write). x.0) visited out.left sent.1)
+        (every_append (λ l. OwnLetter v l × (l.txn ≡ t)) letters out.letters (first.letters_own v) sent.0))
 
     works_loose : (s : L.Statement) (asks : List (Ask L)) (choice : Choice L) → AtSites L (map (λ x. x.0) choice.1) → LooseTurn t u (works t u s asks choice)
     works_loose s asks choice homes =
-        let to = writes_loose choice.0 choice.1 homes in
-        record { new = to.new; is = to.is; calm = to.calm; homes = to.homes; own = to.own; among = to.among; visited = to.visited; ticket = to.ticket; sends = to.sends; deeds = (refl, to.deeds) }
+        let leaves = map (λ (x : L.Leaf × L.Write). x.0) choice.1 in
+        let to = writes_loose (visits u leaves).visited (opens t u leaves) (first_opens leaves homes) choice.0 choice.1 (λ g here. not_false ((visits u leaves).visited (L.home g)) (all_visited law u leaves g here)) in
+        record { new = to.new; is = to.is; calm = to.calm; seen = to.seen; own = to.own; among = to.among; visited = to.visited; ticket = to.ticket; sends = to.sends; deeds = (refl, to.deeds) }
 
     -- the statement goes on
-    pub goes_loose : (choice : Choice L) (stage : Stage L) → is_voting u.stage ≡ false → AtSites L (leaves_of u.stage) → AtSites L (leaves_of stage) → LooseTurn t u (ticket_goes t u choice stage)
-    goes_loose choice Idle calm now homes = loose_stays t u calm now
-    goes_loose choice (Reading s asks) calm now homes = asks_loose s asks homes
-    goes_loose choice (Writing answer ws) calm now homes = writes_loose answer ws homes
-    goes_loose choice (Voting votes) calm now homes = loose_stays t u calm now
+    pub goes_loose : (choice : Choice L) (stage : Stage L) → is_voting u.stage ≡ false → AreVisited u (leaves_of u.stage) → AreVisited u (leaves_of stage) → LooseTurn t u (ticket_goes t u choice stage)
+    goes_loose choice Idle calm now seen = loose_stays t u calm now
+    goes_loose choice (Reading s asks) calm now seen = asks_loose u.visited [] first_none s asks seen
+    goes_loose choice (Writing answer ws) calm now seen = writes_loose u.visited [] first_none answer ws seen
+    goes_loose choice (Voting votes) calm now seen = loose_stays t u calm now
 
-    rows_homes : (a : L.Site) (n : ℕ) (rows : L.Rows) (asks : List (Ask L)) → AtSites L (map (λ q. q.leaf) asks) → AtSites L (map (λ q. q.leaf) (map (with_rows a n rows) asks))
-    rows_homes a n rows [] homes g here = absurd here
-    rows_homes a n rows (q ∷ asks) homes g (inl e) = subst (λ h. In (L.home h) L.sites) (sym (e ∙ same_place (awaits a n rows q))) (homes q.leaf (inl refl))
+    rows_seen : (a : L.Site) (n : ℕ) (rows : L.Rows) (asks : List (Ask L)) → AreVisited u (map (λ q. q.leaf) asks) → AreVisited u (map (λ q. q.leaf) (map (with_rows a n rows) asks))
+    rows_seen a n rows [] homes g here = absurd here
+    rows_seen a n rows (q ∷ asks) homes g (inl e) = subst (λ h. u.visited (L.home h) ≡ true) (sym (e ∙ same_place (awaits a n rows q))) (homes q.leaf (inl refl))
       where
         same_place : (b : Bool) → (if b then record q { rows = Some rows } else q).leaf ≡ q.leaf
         same_place true = refl
         same_place false = refl
-    rows_homes a n rows (q ∷ asks) homes g (inr below) = rows_homes a n rows asks (λ h there. homes h (inr there)) g below
+    rows_seen a n rows (q ∷ asks) homes g (inr below) = rows_seen a n rows asks (λ h there. homes h (inr there)) g below
 
-    pub rows_loose : (a : L.Site) (n : ℕ) (rows : L.Rows) (choice : Choice L) (stage : Stage L) → is_voting u.stage ≡ false → AtSites L (leaves_of u.stage) → AtSites L (leaves_of stage) → AtSites L (map (λ x. x.0) choice.1) → LooseTurn t u (on_rows t u a n rows choice stage)
+    pub rows_loose : (a : L.Site) (n : ℕ) (rows : L.Rows) (choice : Choice L) (stage : Stage L) → is_voting u.stage ≡ false → AreVisited u (leaves_of u.stage) → AreVisited u (leaves_of stage) → AtSites L (map (λ x. x.0) choice.1) → LooseTurn t u (on_rows t u a n rows choice stage)
     rows_loose a n rows choice Idle calm now homes written = loose_stays t u calm now
     rows_loose a n rows choice (Writing answer ws) calm now homes written = loose_stays t u calm now
     rows_loose a n rows choice (Voting votes) calm now homes written = loose_stays t u calm now
     rows_loose a n rows choice (Reading s asks) calm now homes written =
         let new = map (with_rows a n rows) asks in
         either (LooseTurn t u) (list_all (λ (q : Ask L). is_some q.rows) new) (works t u s new choice) (stays (Known (record u { stage = Reading s new }))) (works_loose s new choice written)
-        (record { new = record u { stage = Reading s new }; is = refl; calm = refl; homes = rows_homes a n rows asks homes; own = tt; among = λ old. old; visited = λ b is. is; ticket = λ b k is. is; sends = tt; deeds = tt })
+        (record { new = record u { stage = Reading s new }; is = refl; calm = refl; seen = rows_seen a n rows asks homes; own = tt; among = λ old. old; visited = λ b is. is; ticket = λ b k is. is; sends = tt; deeds = tt })

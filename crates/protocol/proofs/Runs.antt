@@ -179,7 +179,7 @@ applied_once = refl
 
 -- the law's premise can be met: what the moved row was answered and wrote is explained, and so the law speaks of this run
 moved_explained : AllExplained (run decided start).past
-moved_explained = (tt, (tt, ((λ whole gives. (refl, wrote whole.north whole.south (some_is gives.0) (some_is gives.1.0))), (tt, (tt, (tt, tt))))))
+moved_explained = (tt, (tt, ((tt, λ whole fits gives. (refl, wrote whole.north whole.south (some_is gives.0) (some_is gives.1.0))), (tt, (tt, (tt, tt))))))
   where
     between : ℕ → ℕ → List (Bool × ℕ)
     between north south = toy.writes (record { north = north; south = south }) (record { north = south; south = north })
@@ -194,7 +194,7 @@ moved_serially = serial_law toy_lawful (record { north = 7; south = 0 }) start d
     at g = refl
 
     opened : IsOpening (record { north = 7; south = 0 }) start
-    opened = record { letters = refl; past = refl; visits = λ a k. refl; tickets = λ a. refl; undecided = λ t. refl; names = refl; rebuilt = at }
+    opened = record { is_whole = tt; letters = refl; past = refl; visits = λ a k. refl; tickets = λ a. refl; undecided = λ t. refl; names = refl; rebuilt = at }
 
 -- a prepare that its store refuses is a vote No
 refused_prepare : new_letters (moved ++ all_of (8 ∷ 9 ∷ [])) (Deliver 10 false (0, []) ∷ []) ≡ Voted one No ∷ []

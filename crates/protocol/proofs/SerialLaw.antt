@@ -17,7 +17,7 @@ use Rattle.protocol.proofs.DeepEvents.{run_deep, opening_deep}
 module _ {L : Lang} where
   -- an evaluated statement answers and writes as its meaning over every whole database that gives its rows
   abbrev pub IsExplained : Work L → Type 0
-  IsExplained x = (whole : L.Whole) → Gives whole x.asks → (x.choice.0 ≡ (L.meaning x.statement whole).0) × (x.choice.1 ≡ L.writes whole (L.meaning x.statement whole).1)
+  IsExplained x = L.IsStatement x.statement × ((whole : L.Whole) → L.IsWhole whole → Gives whole x.asks → (x.choice.0 ≡ (L.meaning x.statement whole).0) × (x.choice.1 ≡ L.writes whole (L.meaning x.statement whole).1))
 
   explained_in : (t : Name) (d : Deed L) → Explained d → Every IsExplained (work_in t d)
   explained_in t (Began u) e = tt
@@ -35,48 +35,48 @@ module _ {L : Lang} where
 
   module _ (law : IsLawful L) where
     -- the works of one transaction, over contents of a whole database
-    serial_works : (xs : List (Work L)) (whole : L.Whole) (c : L.Leaf → L.Content) → ((g : L.Leaf) → c g ≡ L.content g whole) → RightFrom c xs → Every IsExplained xs →
-        (map (λ x. x.choice.0) xs ≡ answers_in_turn L (map (λ x. x.statement) xs) whole) × ((g : L.Leaf) → written L g (own_of xs) (c g) ≡ L.content g (whole_after L (map (λ x. x.statement) xs) whole))
-    serial_works [] whole c base right explained = (refl, base)
-    serial_works (x ∷ xs) whole c base right explained =
+    serial_works : (xs : List (Work L)) (whole : L.Whole) (c : L.Leaf → L.Content) → L.IsWhole whole → ((g : L.Leaf) → c g ≡ L.content g whole) → RightFrom c xs → Every IsExplained xs →
+        L.IsWhole (whole_after L (map (λ x. x.statement) xs) whole) × (map (λ x. x.choice.0) xs ≡ answers_in_turn L (map (λ x. x.statement) xs) whole) × ((g : L.Leaf) → written L g (own_of xs) (c g) ≡ L.content g (whole_after L (map (λ x. x.statement) xs) whole))
+    serial_works [] whole c fits base right explained = (fits, refl, base)
+    serial_works (x ∷ xs) whole c fits base right explained =
         let gives : Gives whole x.asks = every_here (λ q. q.rows ≡ Some (L.parts q.query (c q.leaf))) (λ q. q.rows ≡ Some (L.parts q.query (L.content q.leaf whole))) x.asks (λ q here is. is ∙ ap (λ d. Some (L.parts q.query d)) (base q.leaf)) right.0 in
-        let is = explained.0 whole gives in
-        let next : (g : L.Leaf) → written L g x.choice.1 (c g) ≡ L.content g (L.meaning x.statement whole).1 = λ g. ap₂ (λ ws d. written L g ws d) is.1 (base g) ∙ law.writes_right x.statement whole g in
-        let rest = serial_works xs (L.meaning x.statement whole).1 (λ g. written L g x.choice.1 (c g)) next right.1 explained.1 in
-        (ap₂ (λ a l. a ∷ l) is.0 rest.0, λ g. written_append L g x.choice.1 (own_of xs) (c g) ∙ rest.1 g)
+        let is = explained.0.1 whole fits gives in
+        let next : (g : L.Leaf) → written L g x.choice.1 (c g) ≡ L.content g (L.meaning x.statement whole).1 = λ g. ap₂ (λ ws d. written L g ws d) is.1 (base g) ∙ law.writes_right x.statement whole g explained.0.0 fits in
+        let rest = serial_works xs (L.meaning x.statement whole).1 (λ g. written L g x.choice.1 (c g)) (law.keeps_whole x.statement whole explained.0.0 fits) next right.1 explained.1 in
+        (rest.0, ap₂ (λ a l. a ∷ l) is.0 rest.1, λ g. written_append L g x.choice.1 (own_of xs) (c g) ∙ rest.2 g)
 
     -- the line of one world
     serial_line : (past : List (Deed L)) (V : Name → Type 0) (last : L.Leaf → L.Content) → AllExplained past → ((t : Name) → IsCommitted past t → Told past t Idle) → ((t : Name) → IsCommitted past t → V t) →
-        (ts : List Name) (whole : L.Whole) (c : L.Leaf → L.Content) → ((g : L.Leaf) → c g ≡ L.content g whole) → Line (works past) (is_committed past) V last c ts →
+        (ts : List Name) (whole : L.Whole) (c : L.Leaf → L.Content) → L.IsWhole whole → ((g : L.Leaf) → c g ≡ L.content g whole) → Line (works past) (is_committed past) V last c ts →
         (map (answers_of past) (filter (is_committed past) ts) ≡ serial_answers L (map (statements_of past) (filter (is_committed past) ts)) whole)
         × ((g : L.Leaf) → last g ≡ L.content g (serial_whole L (map (statements_of past) (filter (is_committed past) ts)) whole))
-    serial_line past V last explained told counts [] whole c base line = (refl, λ g. line g ∙ base g)
-    serial_line past V last explained told counts (t ∷ ts) whole c base line = ⊎_elim
+    serial_line past V last explained told counts [] whole c fits base line = (refl, λ g. line g ∙ base g)
+    serial_line past V last explained told counts (t ∷ ts) whole c fits base line = ⊎_elim
         (λ done.
         let its = told t done in
         let statements : statements_of past t ≡ map (λ (x : Work L). x.statement) (works past t) = its.statements ∙ append-nil (map (λ (x : Work L). x.statement) (works past t)) in
         let answers : answers_of past t ≡ map (λ (x : Work L). x.choice.0) (works past t) = sym (append-nil (answers_of past t)) ∙ its.answers in
-        let one = serial_works (works past t) whole c base (line.0 (counts t done)) (explained_works t past explained) in
+        let one = serial_works (works past t) whole c fits base (line.0 (counts t done)) (explained_works t past explained) in
         let after_it = whole_after L (map (λ (x : Work L). x.statement) (works past t)) whole in
-        let rest = serial_line past V last explained told counts ts after_it (after (is_committed past t) (works past t) c)
-        (λ g. if_true (is_committed past t) (written L g (own_of (works past t)) (c g)) (c g) done ∙ one.1 g) line.1 in
+        let rest = serial_line past V last explained told counts ts after_it (after (is_committed past t) (works past t) c) one.0
+        (λ g. if_true (is_committed past t) (written L g (own_of (works past t)) (c g)) (c g) done ∙ one.2 g) line.1 in
         subst (λ l. (map (answers_of past) l ≡ serial_answers L (map (statements_of past) l) whole) × ((g : L.Leaf) → last g ≡ L.content g (serial_whole L (map (statements_of past) l) whole)))
         (sym (if_true (is_committed past t) (t ∷ filter (is_committed past) ts) (filter (is_committed past) ts) done)) (
-          ap₂ (λ a l. a ∷ l) (answers ∙ one.0 ∙ ap (λ ss. answers_in_turn L ss whole) (sym statements)) (rest.0 ∙ ap (λ ss. serial_answers L (map (statements_of past) (filter (is_committed past) ts)) (whole_after L ss whole)) (sym statements)),
+          ap₂ (λ a l. a ∷ l) (answers ∙ one.1 ∙ ap (λ ss. answers_in_turn L ss whole) (sym statements)) (rest.0 ∙ ap (λ ss. serial_answers L (map (statements_of past) (filter (is_committed past) ts)) (whole_after L ss whole)) (sym statements)),
           λ g. rest.1 g ∙ ap (λ ss. L.content g (serial_whole L (map (statements_of past) (filter (is_committed past) ts)) (whole_after L ss whole))) (sym statements),
         ))
         (λ not_.
-        let rest = serial_line past V last explained told counts ts whole (after (is_committed past t) (works past t) c) (λ g. if_false (is_committed past t) (written L g (own_of (works past t)) (c g)) (c g) not_ ∙ base g) line.1 in
+        let rest = serial_line past V last explained told counts ts whole (after (is_committed past t) (works past t) c) fits (λ g. if_false (is_committed past t) (written L g (own_of (works past t)) (c g)) (c g) not_ ∙ base g) line.1 in
         subst (λ l. (map (answers_of past) l ≡ serial_answers L (map (statements_of past) l) whole) × ((g : L.Leaf) → last g ≡ L.content g (serial_whole L (map (statements_of past) l) whole)))
         (sym (if_false (is_committed past t) (t ∷ filter (is_committed past) ts) (filter (is_committed past) ts) not_)) rest)
         (by_test (is_committed past t))
 
-    pub serial_of_deep : (whole : L.Whole) (w : World L) → IsDeep law whole w → AllExplained w.past → IsSerial whole w
-    serial_of_deep whole w deep explained =
+    pub serial_of_deep : (whole : L.Whole) (w : World L) → L.IsWhole whole → IsDeep law whole w → AllExplained w.past → IsSerial whole w
+    serial_of_deep whole w fits deep explained =
         let d = deep.2 in
-        let both = serial_line w.past (Counts deep.1 w) (settled w) explained d.base.told (λ t done. inl done) (phases_of w.past) whole (λ g. L.content g whole) (λ g. refl) d.line in
+        let both = serial_line w.past (Counts deep.1 w) (settled w) explained d.base.told (λ t done. inl done) (phases_of w.past) whole (λ g. L.content g whole) fits (λ g. refl) d.line in
         record { answers = both.0; rebuilt = both.1 }
 
     -- the serial law, for every lawful language
     pub serial_law : SerialLaw L
-    serial_law whole w events opening explained = serial_of_deep whole (run events w) (run_deep law whole events w (opening_deep law whole w opening)) explained
+    serial_law whole w events opening explained = serial_of_deep whole (run events w) opening.is_whole (run_deep law whole events w (opening_deep law whole w opening)) explained

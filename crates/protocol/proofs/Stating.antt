@@ -4,14 +4,15 @@ use Rattle.std.proofs.lemmas.Bool.{eq-eqb}
 use Rattle.std.specs.List.{list_all}
 use Rattle.protocol.specs.Language.{Lang, IsLawful, Name, same, put}
 use Rattle.protocol.specs.Letter.{Body, Fetch, Ticket, Rows, Letter}
-use Rattle.protocol.specs.Desk.{Ask, Choice, Stage, Idle, Reading, Writing, Undecided, Known, Deed, Stated, Worked, Answered, Turn, ask_of, ask_out, asks_out, write_out, writes_out, opens, visits, asks_go, writing, writes_go, works, states, stays, ticket_goes, is_numbered, awaits, with_rows, on_rows, after_deed}
+use Rattle.protocol.specs.Desk.{Ask, Choice, Stage, Idle, Reading, Writing, Undecided, Known, Deed, Stated, Worked, Answered, Turn, ask_of, ask_out, asks_out, write_out, writes_out, opens, visits, asks_go, writing, writes_go, after_letters, works, states, stays, ticket_goes, is_numbered, awaits, with_rows, on_rows, after_deed}
 use Rattle.protocol.specs.World.{World, turned}
 use Rattle.protocol.specs.Course.{AtSites, Stands, AskWaits, came, unsent, sent, told, AskStands, WriteWaits, Far, reads, writes, is_answered, InStatement}
-use Rattle.protocol.proofs.Basics.{Every, In, every_more, every_self, put_here, same_law, clash, not_false, or_left, both_true}
+use Rattle.protocol.proofs.Basics.{Every, In, every_more, every_self, put_here, same_law, clash, not_false, both_true}
 use Rattle.protocol.proofs.Locks.{Once}
 use Rattle.protocol.proofs.Ranks.{all_visited, in_map}
 use Rattle.protocol.proofs.Queue.{at}
-use Rattle.protocol.proofs.AtDesk.{Goes, asks_goes, writes_goes}
+use Rattle.protocol.proofs.AtDesk.{Goes, First, first_none, first_opens, asks_goes, writes_goes}
+use Rattle.protocol.proofs.Going.{first_written}
 use Rattle.protocol.proofs.Working.{GoesTo, turned_stands, stays_goes, stage_goes, with_ticket}
 use Rattle.protocol.proofs.Waiting.{AskReady, new_ask, old_ask, asks_wait, in_at}
 
@@ -66,50 +67,41 @@ module _ {L : Lang} where
   -- ---- turns
   module _ (law : IsLawful L) (once : Once L.sites) (t : Name) (s : L.Statement) (before : List (Deed L)) (u : Undecided L) (q : List (Letter L)) where
     -- fetches go out
-    pub asks_on : (asks : List (Ask L)) (past : List (Deed L)) → Every (λ x. In (L.home x.leaf) L.sites) asks → Every (AskReady (visits u (map (λ x. x.leaf) asks)) q) asks → list_all (λ x. is_some x.rows) asks ≡ false → past ≡ before ++ Stated t s ∷ [] → GoesOn t s before u q past (asks_go t u s asks)
-    asks_on asks past homes ready missing deeds =
-        let leaves = map (λ (x : Ask L). x.leaf) asks in
+    pub asks_on : (visited : L.Site → Bool) (letters : List (Letter L)) → First law t u visited letters → (asks : List (Ask L)) (past : List (Deed L)) → Every (λ x. In (L.home x.leaf) L.sites × (visited (L.home x.leaf) ≡ true)) asks → Every (AskReady (record u { visited = visited }) q) asks → list_all (λ x. is_some x.rows) asks ≡ false → past ≡ before ++ Stated t s ∷ [] →
+        GoesOn t s before u q past (after_letters letters (asks_go t (record u { visited = visited }) s asks))
+    asks_on visited letters first asks past homes ready missing deeds =
         let out = asks_out t u.ticket asks u.sent in
-        let v : Undecided L = record (visits u leaves) { sent = out.sent; stage = Reading s out.left } in
-        let seen : Every (λ (x : Ask L). In (L.home x.leaf) L.sites × (v.visited (L.home x.leaf) ≡ true)) out.left =
-        left_leaves (λ g. In (L.home g) L.sites × (v.visited (L.home g) ≡ true)) t u.ticket asks u.sent
-        (two_facts (λ (x : Ask L). In (L.home x.leaf) L.sites) (λ (x : Ask L). v.visited (L.home x.leaf) ≡ true) (λ (x : Ask L). In (L.home x.leaf) L.sites × (v.visited (L.home x.leaf) ≡ true)) asks (λ x p r. (p, r)) homes
-        (every_self (λ (x : Ask L). v.visited (L.home x.leaf) ≡ true) asks (λ x here. not_false (v.visited (L.home x.leaf)) (all_visited law u leaves x.leaf (in_map (λ (y : Ask L). y.leaf) x asks here))))) in
-        let waits : Every (AskWaits v (q ++ (opens t u leaves ++ out.letters))) out.left =
-        subst (λ x. Every (AskWaits v x) out.left) (append_assoc q (opens t u leaves) out.letters) (asks_wait law t v (q ++ opens t u leaves) asks u.sent (every_more (AskReady (visits u leaves) q) (AskReady v (q ++ opens t u leaves)) asks (λ x r. ready_more leaves out.sent (Reading s out.left) x r) ready)) in
+        let v : Undecided L = record u { visited = visited; sent = out.sent; stage = Reading s out.left } in
+        let seen : Every (λ (x : Ask L). In (L.home x.leaf) L.sites × (v.visited (L.home x.leaf) ≡ true)) out.left = left_leaves (λ g. In (L.home g) L.sites × (visited (L.home g) ≡ true)) t u.ticket asks u.sent homes in
+        let waits : Every (AskWaits v (q ++ (letters ++ out.letters))) out.left =
+        subst (λ x. Every (AskWaits v x) out.left) (append_assoc q letters out.letters) (asks_wait law t v (q ++ letters) asks u.sent (every_more (AskReady (record u { visited = visited }) q) (AskReady v (q ++ letters)) asks (λ x r. ready_more out.sent (Reading s out.left) x r) ready)) in
         record {
-          to = record { new = v; is = refl; goes = asks_goes law once t u asks (Reading s out.left) (home_of asks homes) };
+          to = record { new = v; is = refl; goes = asks_goes law t u visited letters first asks (Reading s out.left) };
           far = reads out.left refl (left_came t u.ticket asks u.sent ∙ missing)
-              (two_facts (λ (x : Ask L). In (L.home x.leaf) L.sites × (v.visited (L.home x.leaf) ≡ true)) (AskWaits v (q ++ (opens t u leaves ++ out.letters))) (AskStands v (q ++ (opens t u leaves ++ out.letters))) out.left (λ x p r. record { home = p.0; visited = p.1; waits = r }) seen waits)
+              (two_facts (λ (x : Ask L). In (L.home x.leaf) L.sites × (v.visited (L.home x.leaf) ≡ true)) (AskWaits v (q ++ (letters ++ out.letters))) (AskStands v (q ++ (letters ++ out.letters))) out.left (λ x p r. record { home = p.0; visited = p.1; waits = r }) seen waits)
               (append-nil past ∙ deeds);
         }
       where
-        home_of : (asks : List (Ask L)) → Every (λ x. In (L.home x.leaf) L.sites) asks → AtSites L (map (λ x. x.leaf) asks)
-        home_of [] homes g here = absurd here
-        home_of (x ∷ asks) homes g (inl e) = subst (λ h. In (L.home h) L.sites) (sym e) homes.0
-        home_of (x ∷ asks) homes g (inr below) = home_of asks homes.1 g below
+        waits_still : (counts : L.Site → ℕ) (stage : Stage L) (x : Ask L) → AskWaits (record u { visited = visited }) q x → AskWaits (record u { visited = visited; sent = counts; stage = stage }) (q ++ letters) x
+        waits_still counts stage x (came is) = came is
+        waits_still counts stage x (unsent number visited none) = unsent number visited none
+        waits_still counts stage x (sent k n number here) = sent k n number (in_at (L.home x.leaf) (Fetch k n x.leaf x.query) q letters here)
+        waits_still counts stage x (told k n rows number fits here) = told k n rows number fits (in_at (L.home x.leaf) (Rows k n rows) q letters here)
 
-        waits_still : (leaves : List L.Leaf) (counts : L.Site → ℕ) (stage : Stage L) (x : Ask L) → AskWaits (visits u leaves) q x → AskWaits (record (visits u leaves) { sent = counts; stage = stage }) (q ++ opens t u leaves) x
-        waits_still leaves counts stage x (came is) = came is
-        waits_still leaves counts stage x (unsent number visited none) = unsent number visited none
-        waits_still leaves counts stage x (sent k n number here) = sent k n number (in_at (L.home x.leaf) (Fetch k n x.leaf x.query) q (opens t u leaves) here)
-        waits_still leaves counts stage x (told k n rows number fits here) = told k n rows number fits (in_at (L.home x.leaf) (Rows k n rows) q (opens t u leaves) here)
-
-        ready_more : (leaves : List L.Leaf) (counts : L.Site → ℕ) (stage : Stage L) (x : Ask L) → AskReady (visits u leaves) q x → AskReady (record (visits u leaves) { sent = counts; stage = stage }) (q ++ opens t u leaves) x
-        ready_more leaves counts stage x (new_ask number visited) = new_ask number visited
-        ready_more leaves counts stage x (old_ask m number waits) = old_ask m number (waits_still leaves counts stage x waits)
+        ready_more : (counts : L.Site → ℕ) (stage : Stage L) (x : Ask L) → AskReady (record u { visited = visited }) q x → AskReady (record u { visited = visited; sent = counts; stage = stage }) (q ++ letters) x
+        ready_more counts stage x (new_ask number visited) = new_ask number visited
+        ready_more counts stage x (old_ask m number waits) = old_ask m number (waits_still counts stage x waits)
 
     -- writes go out
-    pub writes_on : (asks : List (Ask L)) (choice : Choice L) (ws : List (L.Leaf × L.Write)) (past : List (Deed L)) → AtSites L (map (λ x. x.0) ws) → past ≡ before ++ Stated t s ∷ Worked t s asks choice ∷ [] → GoesOn t s before u q past (writes_go t u choice.0 ws)
-    writes_on asks choice ws past homes deeds =
-        let leaves = map (λ (x : L.Leaf × L.Write). x.0) ws in
+    pub writes_on : (visited : L.Site → Bool) (letters : List (Letter L)) → First law t u visited letters → (asks : List (Ask L)) (choice : Choice L) (ws : List (L.Leaf × L.Write)) (past : List (Deed L)) → Every (λ x. In (L.home x.0) L.sites × (visited (L.home x.0) ≡ true)) ws → past ≡ before ++ Stated t s ∷ Worked t s asks choice ∷ [] →
+        GoesOn t s before u q past (after_letters letters (writes_go t (record u { visited = visited }) choice.0 ws))
+    writes_on visited letters first asks choice ws past homes deeds =
         let out = writes_out {L = L} t u.ticket ws u.sent in
-        go out.sent out.left (opens t u leaves ++ out.letters) (λ stage. writes_goes law once t u ws stage homes)
-        (λ stage. left_waits (record (visits u leaves) { sent = out.sent; stage = stage }) t ws u.sent (every_self (λ x. In (L.home x.0) L.sites × ((visits u leaves).visited (L.home x.0) ≡ true)) ws (λ x here.
-        let there = in_map (λ (y : L.Leaf × L.Write). y.0) x ws here in (homes x.0 there, not_false ((visits u leaves).visited (L.home x.0)) (all_visited law u leaves x.0 there)))))
+        subst (GoesOn t s before u q past) (sym (first_written t (record u { visited = visited }) choice.0 letters out.sent out.left out.letters))
+        (go out.sent out.left (letters ++ out.letters) (λ stage. writes_goes law t u visited letters first ws stage) (λ stage. left_waits (record u { visited = visited; sent = out.sent; stage = stage }) t ws u.sent homes))
       where
         v : Undecided L
-        v = visits u (map (λ (x : L.Leaf × L.Write). x.0) ws)
+        v = record u { visited = visited }
 
         go : (counts : L.Site → ℕ) (left : List (L.Leaf × L.Write)) (letters : List (Letter L)) → ((stage : Stage L) → Goes t u (record v { sent = counts; stage = stage }) letters) → ((stage : Stage L) → Every (WriteWaits (record v { sent = counts; stage = stage })) left) → GoesOn t s before u q past (writing t v choice.0 counts left letters)
         go counts [] letters goes waits = record {
@@ -124,8 +116,11 @@ module _ {L : Lang} where
     -- the rows are in
     pub works_on : (asks : List (Ask L)) (choice : Choice L) (past : List (Deed L)) → AtSites L (map (λ x. x.0) choice.1) → past ≡ before ++ Stated t s ∷ [] → GoesOn t s before u q past (works t u s asks choice)
     works_on asks choice past homes deeds =
-        let turn = writes_go t u choice.0 choice.1 in
-        let on = writes_on asks choice choice.1 (past ++ Worked t s asks choice ∷ []) homes (ap (λ x. x ++ Worked t s asks choice ∷ []) deeds ∙ append_assoc before (Stated t s ∷ []) (Worked t s asks choice ∷ [])) in
+        let leaves = map (λ (x : L.Leaf × L.Write). x.0) choice.1 in
+        let turn = after_letters (opens t u leaves) (writes_go t (visits u leaves) choice.0 choice.1) in
+        let on = writes_on (visits u leaves).visited (opens t u leaves) (first_opens law once t u leaves homes) asks choice choice.1 (past ++ Worked t s asks choice ∷ [])
+        (every_self (λ x. In (L.home x.0) L.sites × ((visits u leaves).visited (L.home x.0) ≡ true)) choice.1 (λ x here. let there = in_map (λ (y : L.Leaf × L.Write). y.0) x choice.1 here in (homes x.0 there, not_false ((visits u leaves).visited (L.home x.0)) (all_visited law u leaves x.0 there))))
+        (ap (λ x. x ++ Worked t s asks choice ∷ []) deeds ∙ append_assoc before (Stated t s ∷ []) (Worked t s asks choice ∷ [])) in
         record {
           to = record { new = on.to.new; is = on.to.is; goes = on.to.goes };
           far = subst (Far t s before on.to.new (q ++ turn.letters)) (append_assoc past (Worked t s asks choice ∷ []) turn.deeds) on.far;
@@ -148,31 +143,27 @@ module _ {L : Lang} where
       abbrev pub new : Undecided L
       new = with_ticket u a k
 
-      waits_on : (leaves : List L.Leaf) (x : Ask L) (m : ℕ) → x.number ≡ Some m → AskWaits u (record { site = a; txn = t; body = Ticket k } ∷ q) x → AskWaits (visits new leaves) q x
-      waits_on leaves x m e (came rows) = came rows
-      waits_on leaves x m e (unsent number visited none) = let f : Some m ≡ None = sym e ∙ number in cc
-      waits_on leaves x m e (sent j n number here) = sent j n number (behind (L.home x.leaf) (Fetch j n x.leaf x.query) (Ticket k) (λ f. cc) here)
-      waits_on leaves x m e (told j n rows number fits here) = told j n rows number fits (behind (L.home x.leaf) (Rows j n rows) (Ticket k) (λ f. cc) here)
+      waits_on : (x : Ask L) (m : ℕ) → x.number ≡ Some m → AskWaits u (record { site = a; txn = t; body = Ticket k } ∷ q) x → AskWaits new q x
+      waits_on x m e (came rows) = came rows
+      waits_on x m e (unsent number visited none) = let f : Some m ≡ None = sym e ∙ number in cc
+      waits_on x m e (sent j n number here) = sent j n number (behind (L.home x.leaf) (Fetch j n x.leaf x.query) (Ticket k) (λ f. cc) here)
+      waits_on x m e (told j n rows number fits here) = told j n rows number fits (behind (L.home x.leaf) (Rows j n rows) (Ticket k) (λ f. cc) here)
 
-      ready : (leaves : List L.Leaf) (x : Ask L) → AskStands u (record { site = a; txn = t; body = Ticket k } ∷ q) x → AskReady (visits new leaves) q x
-      ready leaves x stands = go x.number refl
+      ready : (x : Ask L) → AskStands u (record { site = a; txn = t; body = Ticket k } ∷ q) x → AskReady new q x
+      ready x stands = go x.number refl
         where
-          go : (m : Option ℕ) → x.number ≡ m → AskReady (visits new leaves) q x
-          go None e = new_ask e (or_left (u.visited (L.home x.leaf)) _ stands.visited)
-          go (Some m) e = old_ask m e (waits_on leaves x m e stands.waits)
-
-      home_of : (ws : List (L.Leaf × L.Write)) → Every (WriteWaits u) ws → AtSites L (map (λ x. x.0) ws)
-      home_of [] all g here = absurd here
-      home_of (x ∷ ws) all g (inl e) = subst (λ h. In (L.home h) L.sites) (sym e) all.0.home
-      home_of (x ∷ ws) all g (inr below) = home_of ws all.1 g below
+          go : (m : Option ℕ) → x.number ≡ m → AskReady new q x
+          go None e = new_ask e stands.visited
+          go (Some m) e = old_ask m e (waits_on x m e stands.waits)
 
       -- a ticket comes
       pub ticket_on : Far t s before u (record { site = a; txn = t; body = Ticket k } ∷ q) past → GoesOn t s before new q past (ticket_goes t new choice u.stage)
       ticket_on (reads asks e missing all deeds) = subst (λ st. GoesOn t s before new q past (ticket_goes t new choice st)) (sym e)
-          (asks_on law once t s before new q asks past
-          (every_more (AskStands u (record { site = a; txn = t; body = Ticket k } ∷ q)) (λ x. In (L.home x.leaf) L.sites) asks (λ x stands. stands.home) all)
-          (every_more (AskStands u (record { site = a; txn = t; body = Ticket k } ∷ q)) (AskReady (visits new (map (λ x. x.leaf) asks)) q) asks (ready (map (λ x. x.leaf) asks)) all) missing deeds)
-      ticket_on (writes asks done x ws e all deeds) = subst (λ st. GoesOn t s before new q past (ticket_goes t new choice st)) (sym e) (writes_on law once t s before new q asks done (x ∷ ws) past (home_of (x ∷ ws) all) deeds)
+          (asks_on law once t s before new q new.visited [] (first_none law t new) asks past
+          (every_more (AskStands u (record { site = a; txn = t; body = Ticket k } ∷ q)) (λ x. In (L.home x.leaf) L.sites × (new.visited (L.home x.leaf) ≡ true)) asks (λ x stands. (stands.home, stands.visited)) all)
+          (every_more (AskStands u (record { site = a; txn = t; body = Ticket k } ∷ q)) (AskReady new q) asks ready all) missing deeds)
+      ticket_on (writes asks done x ws e all deeds) = subst (λ st. GoesOn t s before new q past (ticket_goes t new choice st)) (sym e)
+          (writes_on law once t s before new q new.visited [] (first_none law t new) asks done (x ∷ ws) past (every_more (WriteWaits u) (λ y. In (L.home y.0) L.sites × (new.visited (L.home y.0) ≡ true)) (x ∷ ws) (λ y waits. (waits.home, waits.visited)) all) deeds)
       ticket_on (is_answered asks done e deeds) = subst (λ st. GoesOn t s before new q past (ticket_goes t new choice st)) (sym e)
           (record { to = stays_goes t new; far = is_answered asks done e (append-nil past ∙ deeds) })
 
@@ -239,12 +230,23 @@ module _ {L : Lang} where
     new_homes [] homes = tt
     new_homes (f ∷ fs) homes = (homes f.0 (inl refl), new_homes fs (λ g here. homes g (inr here)))
 
+    home_of : (asks : List (Ask L)) → Every (λ x. In (L.home x.leaf) L.sites) asks → AtSites L (map (λ x. x.leaf) asks)
+    home_of [] homes g here = absurd here
+    home_of (x ∷ asks) homes g (inl e) = subst (λ h. In (L.home h) L.sites) (sym e) homes.0
+    home_of (x ∷ asks) homes g (inr below) = home_of asks homes.1 g below
+
     pub states_on : (past : List (Deed L)) (fs : List (L.Leaf × L.Query)) → AtSites L (map (λ x. x.0) fs) → AtSites L (map (λ x. x.0) choice.1) → GoesOn t s past u [] past (after_deed (Stated t s) (states t u s (map (ask_of {L = L}) fs) choice))
     states_on past fs homes written = later (states t u s (map (ask_of {L = L}) fs) choice) (go fs homes)
       where
         go : (fs : List (L.Leaf × L.Query)) → AtSites L (map (λ x. x.0) fs) → GoesOn t s past u [] (past ++ Stated t s ∷ []) (states t u s (map (ask_of {L = L}) fs) choice)
         go [] homes = works_on law once t s past u [] [] choice (past ++ Stated t s ∷ []) written refl
-        go (f ∷ fs) homes = asks_on law once t s past u [] (map (ask_of {L = L}) (f ∷ fs)) (past ++ Stated t s ∷ []) (new_homes (f ∷ fs) homes) (new_asks (map (λ x. x.leaf) (map (ask_of {L = L}) (f ∷ fs))) (f ∷ fs) (λ g here. here)) refl refl
+        go (f ∷ fs) homes =
+            let asks = map (ask_of {L = L}) (f ∷ fs) in
+            let leaves = map (λ (x : Ask L). x.leaf) asks in
+            let seen = new_homes (f ∷ fs) homes in
+            asks_on law once t s past u [] (visits u leaves).visited (opens t u leaves) (first_opens law once t u leaves (home_of asks seen)) asks (past ++ Stated t s ∷ [])
+            (every_self (λ x. In (L.home x.leaf) L.sites × ((visits u leaves).visited (L.home x.leaf) ≡ true)) asks (λ x here. let there = in_map (λ (y : Ask L). y.leaf) x asks here in (home_of asks seen x.leaf there, not_false ((visits u leaves).visited (L.home x.leaf)) (all_visited law u leaves x.leaf there))))
+            (new_asks leaves (f ∷ fs) (λ g here. here)) refl refl
 
         later : (turn : Turn L) → GoesOn t s past u [] (past ++ Stated t s ∷ []) turn → GoesOn t s past u [] past (after_deed (Stated t s) turn)
         later turn on = record {

@@ -64,7 +64,8 @@ toy_lawful = record {
   touches_none = touch_none;
   touches_add = touch_add;
   empty_touches = empty_touch;
-  writes_right = λ s before g. wrote g before (toy_meaning s before).1;
+  keeps_whole = λ s before is fits. tt;
+  writes_right = λ s before g is fits. wrote g before (toy_meaning s before).1;
 }
 
 pub toy_once : Once toy.sites

@@ -1,9 +1,8 @@
 -- One client alone: a world whose letters are those that wait, each delivered once in the order in which they wait.
-use Rattle.std.specs.Prelude.{◌≡◌, ⊤, ℕ, zero, suc, not, Bool, false, List, [], ◌∷◌, ◌++◌, length}
-use Rattle.std.specs.List.{list_any}
+use Rattle.std.specs.Prelude.{◌≡◌, ℕ, zero, suc, Bool, false, List, [], ◌∷◌, ◌++◌, length}
 use Rattle.protocol.specs.Language.{Lang, Name}
 use Rattle.protocol.specs.Letter.{Letter}
-use Rattle.protocol.specs.Desk.{Choice, Request, Commit_call, Rollback, Give_up, Stage, Idle, Reading, Writing, Voting, Undecided, Txn, Known, is_undecided}
+use Rattle.protocol.specs.Desk.{Choice, Request, Commit_call, Rollback, Give_up, is_undecided}
 use Rattle.protocol.specs.Spots.{Unlocked}
 use Rattle.protocol.specs.World.{World, Event, begins, called, comes, run}
 use Rattle.protocol.specs.Serial.{AllExplained, IsOpening, IsSerial}
@@ -50,22 +49,6 @@ module _ {L : Lang} where
     pub is : run events opening ≡ record w { letters = gone ++ w.letters }
     pub explained : AllExplained w.past
 
-  -- whether fetches or writes wait whose site isn't visited
-  abbrev pub waits_unvisited : Undecided L → Stage L → Bool
-  waits_unvisited u Idle = false
-  waits_unvisited u (Reading s asks) = list_any (λ q. not (u.visited (L.home q.leaf))) asks
-  waits_unvisited u (Writing answer ws) = list_any (λ x. not (u.visited (L.home x.0))) ws
-  waits_unvisited u (Voting votes) = false
-
-  -- so of an undecided transaction
-  abbrev pub IsVisited : Txn L → Type 0
-  IsVisited (Known u) = waits_unvisited u u.stage ≡ false
-  IsVisited txn = ⊤
-
-  -- what waits for a ticket waits for that of a visited site
-  abbrev pub AllVisited : World L → Type 0
-  AllVisited w = (t : Name) → IsVisited (w.desk.txn t)
-
   -- nothing waits, no ticket has a lock or is prepared, nobody is undecided
   pub record IsQuiet (w : World L) : Type 0 where
     pub silent : w.letters ≡ []
@@ -80,14 +63,9 @@ pub record ReachedLaw (L : Lang) : Type 0 where
   pub lost : (whole : L.Whole) (w : World L) → IsReached whole w → IsReached whole (loses w)
   pub serial : (whole : L.Whole) (w : World L) → IsReached whole w → IsSerial whole w
 
--- how many rounds are enough until no letter waits: nine, four after a commit is asked for, one after a rollback or where a transaction is given up
+-- how many rounds are enough until no letter waits, from any world: nine, four after a commit is asked for, one after a rollback or where a transaction is given up
 pub record RoundsLaw (L : Lang) : Type 0 where
-  pub nine : (pick : World L → Bool × Choice L) (w : World L) → AllVisited w → (rounds pick 9 w).letters ≡ []
-  pub four : (pick : World L → Bool × Choice L) (w : World L) (t : Name) (choice : Choice L) → AllVisited w → w.letters ≡ [] → (rounds pick 4 (called w t choice Commit_call)).letters ≡ []
-  pub rolled_back : (pick : World L → Bool × Choice L) (w : World L) (t : Name) (choice : Choice L) → AllVisited w → w.letters ≡ [] → (rounds pick 1 (called w t choice Rollback)).letters ≡ []
-  pub given_up : (pick : World L → Bool × Choice L) (w : World L) (t : Name) (choice : Choice L) → AllVisited w → w.letters ≡ [] → (rounds pick 1 (called w t choice Give_up)).letters ≡ []
-  -- the premise holds of an opening, and each step keeps it
-  pub opened : (whole : L.Whole) (w : World L) → IsOpening whole w → AllVisited w
-  pub begun : (w : World L) → AllVisited w → AllVisited (begins w)
-  pub asked : (w : World L) (t : Name) (choice : Choice L) (request : Request L) → AllVisited w → AllVisited (called w t choice request)
-  pub came : (w : World L) (kept : Bool) (choice : Choice L) → AllVisited w → AllVisited (next w kept choice)
+  pub nine : (pick : World L → Bool × Choice L) (w : World L) → (rounds pick 9 w).letters ≡ []
+  pub four : (pick : World L → Bool × Choice L) (w : World L) (t : Name) (choice : Choice L) → w.letters ≡ [] → (rounds pick 4 (called w t choice Commit_call)).letters ≡ []
+  pub rolled_back : (pick : World L → Bool × Choice L) (w : World L) (t : Name) (choice : Choice L) → w.letters ≡ [] → (rounds pick 1 (called w t choice Rollback)).letters ≡ []
+  pub given_up : (pick : World L → Bool × Choice L) (w : World L) (t : Name) (choice : Choice L) → w.letters ≡ [] → (rounds pick 1 (called w t choice Give_up)).letters ≡ []

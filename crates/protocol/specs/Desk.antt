@@ -169,37 +169,43 @@ module _ {L : Lang} where
   abbrev pub visits : Undecided L → List L.Leaf → Undecided L
   visits u leaves = record u { visited = λ a. u.visited a || is_new u leaves a }
 
-  -- the statement goes on with its fetches
+  -- the fetches whose sites have given a ticket go out
   abbrev pub asks_go : Name → Undecided L → L.Statement → List (Ask L) → Turn L
   asks_go t u s asks =
-      let leaves = map (λ q. q.leaf) asks in
       let out = asks_out t u.ticket asks u.sent in
-      record { txn = Known (record (visits u leaves) { sent = out.sent; stage = Reading s out.left }); letters = opens t u leaves ++ out.letters; deeds = [] }
+      record { txn = Known (record u { sent = out.sent; stage = Reading s out.left }); letters = out.letters; deeds = [] }
 
   -- the answer is given when every write was sent
   abbrev pub writing : Name → Undecided L → L.Answer → (L.Site → ℕ) → List (L.Leaf × L.Write) → List (Letter L) → Turn L
   writing t u answer sent [] letters = record { txn = Known (record u { sent = sent; stage = Idle }); letters = letters; deeds = Answered t answer ∷ [] }
   writing t u answer sent (w ∷ ws) letters = record { txn = Known (record u { sent = sent; stage = Writing answer (w ∷ ws) }); letters = letters; deeds = [] }
 
-  -- the statement goes on with its writes
+  -- the writes whose sites have given a ticket go out
   abbrev pub writes_go : Name → Undecided L → L.Answer → List (L.Leaf × L.Write) → Turn L
   writes_go t u answer ws =
-      let leaves = map (λ w. w.0) ws in
       let out = writes_out t u.ticket ws u.sent in
-      writing t (visits u leaves) answer out.sent out.left (opens t u leaves ++ out.letters)
+      writing t u answer out.sent out.left out.letters
+
+  -- letters before the others
+  abbrev pub after_letters : List (Letter L) → Turn L → Turn L
+  after_letters letters turn = record turn { letters = letters ++ turn.letters }
 
   -- a deed before the others
   abbrev pub after_deed : Deed L → Turn L → Turn L
   after_deed d turn = record turn { deeds = d ∷ turn.deeds }
 
-  -- the rows are in: the statement is evaluated, and its writes go out
+  -- the rows are in: the statement is evaluated, new sites of its writes are opened, and its writes go out
   abbrev pub works : Name → Undecided L → L.Statement → List (Ask L) → Choice L → Turn L
-  works t u s asks choice = after_deed (Worked t s asks choice) (writes_go t u choice.0 choice.1)
+  works t u s asks choice =
+      let leaves = map (λ w. w.0) choice.1 in
+      after_deed (Worked t s asks choice) (after_letters (opens t u leaves) (writes_go t (visits u leaves) choice.0 choice.1))
 
-  -- a statement without fetches is evaluated at once
+  -- a statement without fetches is evaluated at once, for any other new sites of its fetches are opened
   abbrev pub states : Name → Undecided L → L.Statement → List (Ask L) → Choice L → Turn L
   states t u s [] choice = works t u s [] choice
-  states t u s (q ∷ qs) choice = asks_go t u s (q ∷ qs)
+  states t u s (q ∷ qs) choice =
+      let leaves = map (λ q. q.leaf) (q ∷ qs) in
+      after_letters (opens t u leaves) (asks_go t (visits u leaves) s (q ∷ qs))
 
   -- a site that has given a ticket is asked to prepare as many operations as were sent to it
   abbrev pub to_prepare : Undecided L → L.Site → Option Name → Option (Body L)

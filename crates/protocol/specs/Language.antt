@@ -44,6 +44,9 @@ pub record Lang : Type 1 where
   pub changed : Leaf → Intentions → Content → Content
   -- whether one more write would go past the limit of intentions
   pub is_full : Leaf → Write → Intentions → Bool
+  -- what a statement over these relations is, and what a whole database of them is
+  pub IsStatement : Statement → Type 0
+  pub IsWhole : Whole → Type 0
   -- the serial meaning of a statement, the content of a leaf, what a statement reads, the writes that lead from one whole database to another
   pub meaning : Statement → Whole → Answer × Whole
   pub content : Leaf → Whole → Content
@@ -65,5 +68,6 @@ pub record IsLawful (L : Lang) : Type 0 where
   pub touches_none : (g : L.Leaf) → L.touches g L.none ≡ false
   pub touches_add : (g h : L.Leaf) (x : L.Write) (i : L.Intentions) → L.touches g (L.add h x i) ≡ (if L.same_leaf h g then true else L.touches g i)
   pub empty_touches : (g : L.Leaf) (i : L.Intentions) → L.is_empty i ≡ true → L.touches g i ≡ false
-  -- the writes of a statement lead from the contents before to the contents after
-  pub writes_right : (s : L.Statement) (whole : L.Whole) (g : L.Leaf) → written L g (L.writes whole (L.meaning s whole).1) (L.content g whole) ≡ L.content g (L.meaning s whole).1
+  -- a statement makes a whole database of a whole database, and its writes lead from the contents before to the contents after
+  pub keeps_whole : (s : L.Statement) (whole : L.Whole) → L.IsStatement s → L.IsWhole whole → L.IsWhole (L.meaning s whole).1
+  pub writes_right : (s : L.Statement) (whole : L.Whole) (g : L.Leaf) → L.IsStatement s → L.IsWhole whole → written L g (L.writes whole (L.meaning s whole).1) (L.content g whole) ≡ L.content g (L.meaning s whole).1

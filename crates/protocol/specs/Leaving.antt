@@ -8,7 +8,7 @@ use Rattle.protocol.specs.Desk.{Stage, Idle, Reading, Writing, Voting, Undecided
 use Rattle.protocol.specs.World.{World}
 use Rattle.protocol.specs.Parts.{In, is_voting}
 use Rattle.protocol.specs.Spots.{at, Unlocked}
-use Rattle.protocol.specs.Course.{AtSites, InStatement}
+use Rattle.protocol.specs.Course.{InStatement}
 
 module _ {L : Lang} where
   -- whoever is to do something for its ticket hears Abort after it, or the ticket is still its transaction's own (O)
@@ -76,12 +76,16 @@ module _ {L : Lang} where
   leaves_of (Writing answer ws) = map (λ x. x.0) ws
   leaves_of (Voting votes) = []
 
+  -- each of these leaves is at a site that is visited
+  abbrev pub AreVisited : Undecided L → List L.Leaf → Type 0
+  AreVisited u leaves = (g : L.Leaf) → In g leaves → u.visited (L.home g) ≡ true
+
   -- the world while a transaction may still be given up: before its first phase, whatever letters were let go
   pub record Loose (t : Name) (before : List (Deed L)) (w : World L) : Type 0 where
     pub u : Undecided L
     pub known : w.desk.txn t ≡ Known u
     pub calm : is_voting u.stage ≡ false
-    pub homes : AtSites L (leaves_of u.stage)
+    pub seen : AreVisited u (leaves_of u.stage)
     pub alone : AllByRecursion (λ l. l.txn ≡ t) w.letters
     pub others : (j : Name) → same j t ≡ false → is_undecided (w.desk.txn j) ≡ false
     pub among : (a : L.Site) → u.visited a ≡ true → In a L.sites

@@ -1,5 +1,5 @@
 -- The language of one site's machine: leaves, parts, conditions and changes as stores have them. It has no statements: a site knows of none.
-use Rattle.std.specs.Prelude.{ℕ, ℤ, Bool, true, List, [], Option, is_none, ◌&&◌, nat_le, nat_eq}
+use Rattle.std.specs.Prelude.{⊤, ℕ, ℤ, Bool, true, List, [], Option, is_none, ◌&&◌, nat_le, nat_eq}
 use Rattle.std.specs.Cmp.Lexicographic.{pointwise}
 use Rattle.std.specs.FinMap as map
 use Rattle.std.specs.Ordering.{is_eq}
@@ -45,6 +45,8 @@ local = record {
   touches = touches;
   changed = changed;
   is_full = is_full;
+  IsStatement = λ statement. ⊤;
+  IsWhole = λ whole. ⊤;
   meaning = λ statement whole. (tt, tt);
   content = λ leaf whole. map.empty;
   fetches = λ statement. [];

@@ -5,7 +5,7 @@ use Rattle.protocol.specs.Language.{Lang, Name}
 use Rattle.protocol.specs.Letter.{Body, Open, Fetch, Write, Prepare, Commit, Abort, Ticket, Rows, Refused, Voted, Ack, Inquire, Letter}
 use Rattle.protocol.specs.Desk.{Choice, Stage, Reading, Txn, Known, Commit_call, Rollback, Give_up}
 use Rattle.protocol.specs.World.{World, called}
-use Rattle.protocol.specs.Client.{next, AllVisited}
+use Rattle.protocol.specs.Client.{next}
 
 module _ {L : Lang} where
   -- whether a statement waits for its rows
@@ -52,12 +52,12 @@ module _ {L : Lang} where
 -- a round of deliveries, letter by letter; n: what the letters rank after it, i: how many of those that waited as it began still do
 pub record RoundByLetter (L : Lang) : Type 0 where
   pub nine : (w : World L) → RanksUnder 9 w
-  pub four : (w : World L) (t : Name) (choice : Choice L) → AllVisited w → w.letters ≡ [] → RanksUnder 4 (called w t choice Commit_call)
-  pub one : (w : World L) (t : Name) (choice : Choice L) → AllVisited w → w.letters ≡ [] → RanksUnder 1 (called w t choice Rollback)
+  pub four : (w : World L) (t : Name) (choice : Choice L) → w.letters ≡ [] → RanksUnder 4 (called w t choice Commit_call)
+  pub one : (w : World L) (t : Name) (choice : Choice L) → w.letters ≡ [] → RanksUnder 1 (called w t choice Rollback)
   -- a round begins with all letters that wait, and each delivery leaves one of them less
   pub starts : (w : World L) (n : ℕ) → RanksUnder (suc n) w → InRound w.desk.txn n (length w.letters) w.letters
-  pub goes_on : (w : World L) (n i : ℕ) (kept : Bool) (choice : Choice L) → AllVisited w → InRound w.desk.txn n (suc i) w.letters → InRound (next w kept choice).desk.txn n i (next w kept choice).letters × AllVisited (next w kept choice)
+  pub goes_on : (w : World L) (n i : ℕ) (kept : Bool) (choice : Choice L) → InRound w.desk.txn n (suc i) w.letters → InRound (next w kept choice).desk.txn n i (next w kept choice).letters
   -- also where the transaction is given up, but in the last round
-  pub given_up : (w : World L) (n i : ℕ) (t : Name) (choice : Choice L) → 1 ≤ n → AllVisited w → InRound w.desk.txn n i w.letters → InRound (called w t choice Give_up).desk.txn n i (called w t choice Give_up).letters × AllVisited (called w t choice Give_up)
+  pub given_up : (w : World L) (n i : ℕ) (t : Name) (choice : Choice L) → 1 ≤ n → InRound w.desk.txn n i w.letters → InRound (called w t choice Give_up).desk.txn n i (called w t choice Give_up).letters
   -- after the last round no letter waits
   pub over : (w : World L) → RanksUnder 0 w → w.letters ≡ []

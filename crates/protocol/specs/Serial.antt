@@ -72,9 +72,9 @@ module _ {L : Lang} where
   abbrev pub Gives : L.Whole → List (Ask L) → Type 0
   Gives whole asks = AllByRecursion (λ q. q.rows ≡ Some (L.parts q.query (L.content q.leaf whole))) asks
 
-  -- whatever the whole database was that gave these rows, the statement's meaning over it has this answer and makes these writes
+  -- it is a statement over these relations, and whatever the whole database was that gave these rows, its meaning over it has this answer and makes these writes
   abbrev pub Explained : Deed L → Type 0
-  Explained (Worked t s asks choice) = (whole : L.Whole) → Gives whole asks → (choice.0 ≡ (L.meaning s whole).0) × (choice.1 ≡ L.writes whole (L.meaning s whole).1)
+  Explained (Worked t s asks choice) = L.IsStatement s × ((whole : L.Whole) → L.IsWhole whole → Gives whole asks → (choice.0 ≡ (L.meaning s whole).0) × (choice.1 ≡ L.writes whole (L.meaning s whole).1))
   Explained deed = ⊤
 
   -- each evaluated statement was explained
@@ -103,6 +103,7 @@ serial_answers L (ss ∷ rest) whole = answers_in_turn L ss whole ∷ serial_ans
 
 -- a world before anything happened, whose fragments rebuild a whole database
 pub record IsOpening {L : Lang} (whole : L.Whole) (w : World L) : Type 0 where
+  pub is_whole : L.IsWhole whole
   pub letters : w.letters ≡ []
   pub past : w.past ≡ []
   pub visits : (a : L.Site) (k : Name) → (w.sites a).status k ≡ Dead

@@ -12,6 +12,8 @@ pub record Statements (L : Lang) : Type 1 where
   pub sites : List L.Site
   pub home : L.Leaf → L.Site
   pub well_formed : L.Leaf → L.Rows → Bool
+  pub IsStatement : Statement → Type 0
+  pub IsWhole : Whole → Type 0
   pub meaning : Statement → Whole → Answer × Whole
   pub content : L.Leaf → Whole → L.Content
   pub fetches : Statement → List (L.Leaf × L.Query)
@@ -43,6 +45,8 @@ with_statements L S = record {
   touches = L.touches;
   changed = L.changed;
   is_full = L.is_full;
+  IsStatement = S.IsStatement;
+  IsWhole = S.IsWhole;
   meaning = S.meaning;
   content = S.content;
   fetches = S.fetches;

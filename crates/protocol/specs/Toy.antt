@@ -1,5 +1,5 @@
 -- A toy language: two leaves at two sites, a row that moves from one to the other, and a look at a leaf.
-use Rattle.std.specs.Prelude.{ℕ, ◌==◌, Bool, true, false, List, [], ◌∷◌, ◌++◌, if◌then◌else◌, Option, Some, None, is_none, ◌&&◌}
+use Rattle.std.specs.Prelude.{⊤, ℕ, ◌==◌, Bool, true, false, List, [], ◌∷◌, ◌++◌, if◌then◌else◌, Option, Some, None, is_none, ◌&&◌}
 use Rattle.protocol.specs.Language.{Lang}
 
 -- one part a leaf at most; 0 is none
@@ -84,6 +84,8 @@ toy = record {
   touches = λ g i. is_intended (intended g i);
   changed = λ g i content. applied (intended g i) content;
   is_full = λ g x i. false;
+  IsStatement = λ s. ⊤;
+  IsWhole = λ p. ⊤;
   meaning = toy_meaning;
   content = part_of;
   fetches = toy_fetches;

@@ -23,5 +23,6 @@ pub mod Refusal
 pub mod Breaks
 -- The reader's own words, which one may skip.
 pub mod Reading
+pub mod Alone
 pub mod Parsing
 pub mod Resolving

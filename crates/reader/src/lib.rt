@@ -9,6 +9,7 @@
 //! ```
 #![tactic(auto)]
 
+pub mod alone;
 mod assignments;
 pub mod class;
 pub mod command;

@@ -1,5 +1,5 @@
 -- The language of stores is lawful, whatever statements are put over it, where their writes lead from the contents before to the contents after.
-use Rattle.std.proofs.Common.{◌≡◌, ◌↔◌, refl, sym, ap, ap₂, ◌∙◌, subst, ℕ, ℤ, zero, suc, Bool, true, false, ◌||◌, if◌then◌else◌, List, [], ◌∷◌, length, map, Option}
+use Rattle.std.proofs.Common.{◌≡◌, ◌↔◌, refl, sym, ap, ◌∙◌, subst, ℕ, Bool, true, false, ◌||◌, if◌then◌else◌, List, [], ◌∷◌, length, map, Option}
 use Rattle.std.specs.Cmp.Lexicographic.{pointwise}
 use Rattle.std.specs.FinMap as fin
 use Rattle.std.specs.List.{list_any}
@@ -12,11 +12,11 @@ use Rattle.terms.specs.Leaf.{leaf_cmp}
 use Rattle.terms.specs.declared.value.Value.{Value}
 use Rattle.store.specs.declared.slot.Slot.{Slot}
 use Rattle.store.specs.Slot.{slot_of}
-use Rattle.store.specs.Content.{Content, Changes, changed, is_of, set_at, touches}
+use Rattle.store.specs.Content.{Changes, changed, is_of, set_at, touches}
 use Rattle.store.specs.Laws.{NothingChanges, OneChangeMore, OneTouchMore}
 use Rattle.protocol.specs.Language.{IsLawful, written}
 use Rattle.protocol.specs.Statements.{Statements, with_statements}
-use Rattle.protocol.specs.Local.{local, AtKey}
+use Rattle.protocol.specs.Local.{local}
 use Rattle.site.proofs.Tickets.{leaf_is, leaf_self, leaf_sym}
 
 bytes_same : (a b : List ℕ) → (pointwise nat_eq a b ≡ true) ↔ (a ≡ b)
@@ -36,8 +36,9 @@ or_if true b = refl
 or_if false b = refl
 
 pub lawful : NothingChanges → OneChangeMore → OneTouchMore → (S : Statements local) →
-    ((s : S.Statement) (whole : S.Whole) (leaf : Leaf) → written (with_statements local S) leaf (S.writes whole (S.meaning s whole).1) (S.content leaf whole) ≡ S.content leaf (S.meaning s whole).1) → IsLawful (with_statements local S)
-lawful nothing more touched S right = record {
+    ((s : S.Statement) (whole : S.Whole) → S.IsStatement s → S.IsWhole whole → S.IsWhole (S.meaning s whole).1) →
+    ((s : S.Statement) (whole : S.Whole) (leaf : Leaf) → S.IsStatement s → S.IsWhole whole → written (with_statements local S) leaf (S.writes whole (S.meaning s whole).1) (S.content leaf whole) ≡ S.content leaf (S.meaning s whole).1) → IsLawful (with_statements local S)
+lawful nothing more touched S keeps right = record {
   leaves = λ a b. (leaf_is a b, λ same. subst (λ (c : Leaf). is_eq (leaf_cmp a c) ≡ true) same (leaf_self a));
   sites = bytes_same;
   changed_none = λ leaf content. (nothing leaf content).0;
@@ -45,5 +46,6 @@ lawful nothing more touched S right = record {
   touches_none = λ leaf. (nothing leaf fin.empty).1;
   touches_add = λ g h x i. touched g (slot_of h x.0) x.1 i ∙ or_if (is_of g (slot_of h x.0)) (touches g i) ∙ ap (λ (b : Bool). if b then true else touches g i) (leaf_sym g h);
   empty_touches = none_touched;
+  keeps_whole = keeps;
   writes_right = right;
 }

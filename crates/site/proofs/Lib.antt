@@ -11,6 +11,7 @@ pub mod Acts
 pub mod Turns
 pub mod Finals
 pub mod Fetched
+pub mod LeavesKept
 pub mod Lawful
 pub mod PreparedRows
 pub mod Beginning

@@ -4,6 +4,7 @@ pub mod Locks
 pub mod Standing
 pub mod Turn
 pub mod Rows
+pub mod Asked
 pub mod State
 pub mod Moves
 pub mod Starting

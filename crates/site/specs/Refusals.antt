@@ -7,6 +7,9 @@ use Rattle.store.specs.declared.order.Order.TheVariants.{Open, Fetch, Intend, Pr
 use Rattle.site.specs.declared.locks.Locks.{Locks}
 use Rattle.protocol.specs.Letters.{leaf_of}
 use Rattle.site.specs.Locks.{place_in}
+use Rattle.site.specs.State.{Table}
+use Rattle.site.specs.Turn.{ballot}
+use Rattle.site.specs.declared.turn.Ballot.TheVariants.{Keeps}
 
 -- an operation on a leaf that isn't one of these
 abbrev pub IsElsewhere : List Locks → orders.Order → Type 0
@@ -26,6 +29,15 @@ IsTooMuch alive number (Prepare prepare) = ⊥
 IsTooMuch alive number (Commit ticket) = ⊥
 IsTooMuch alive number (Abort ticket) = ⊥
 
+-- a visit is to be prepared that has done what was sent, and intends something: the store is to keep that
+abbrev pub IsToKeep : Table → orders.Order → Type 0
+IsToKeep table Open = ⊥
+IsToKeep table (Fetch fetch) = ⊥
+IsToKeep table (Intend intention) = ⊥
+IsToKeep table (Prepare prepare) = ballot prepare.count (table.standing prepare.ticket) ≡ Keeps
+IsToKeep table (Commit ticket) = ⊥
+IsToKeep table (Abort ticket) = ⊥
+
 -- the same of a letter's body
 abbrev pub AsksElsewhere : List Locks → bodies.Body → Type 0
 AsksElsewhere locks (body.Order order) = IsElsewhere locks order
@@ -34,3 +46,7 @@ AsksElsewhere locks (body.Reply reply) = ⊥
 abbrev pub AsksTooMuch : ℕ → ℕ → bodies.Body → Type 0
 AsksTooMuch alive number (body.Order order) = IsTooMuch alive number order
 AsksTooMuch alive number (body.Reply reply) = ⊥
+
+abbrev pub AsksToKeep : Table → bodies.Body → Type 0
+AsksToKeep table (body.Order order) = IsToKeep table order
+AsksToKeep table (body.Reply reply) = ⊥

@@ -11,7 +11,10 @@ ghost use Rattle.protocol.specs.Site.{Prepares, Ends, on_prepare, on_commit, on_
 ghost use Rattle.site.specs.declared.standing.Standing.TheVariants as standing;
 ghost use Rattle.site.specs.declared.standing.Visit.{Visit as Visited};
 ghost use Rattle.protocol.specs.Letters.{name_of, txn_name, kept_by};
+ghost use Rattle.site.specs.Starting.{leaves_in};
 ghost use Rattle.site.specs.State.{Fits, Steps, state_of, table_of};
+ghost use Rattle.site.specs.Turn.{ballot};
+ghost use Rattle.site.specs.declared.turn.Ballot.TheVariants.{Keeps};
 
 use crate::fault::{SiteFault, site_fault};
 use crate::present::Present;
@@ -40,6 +43,7 @@ pub(crate) fn prepare<S: SiteStore>(
     kept: bool,
 ) -> Result<Option<Reply>, SiteFault>
     ensures name { present.new.name ≡ present.old.name }
+    ensures leaves { leaves_in present.new.locks.items ≡ leaves_in present.old.locks.items }
     ensures own { result ≢ Err faults.Stranger }
     ensures within { result ≢ Err faults.Full }
     ensures clean { S.is_clean store.new → S.is_clean store.old }
@@ -49,6 +53,7 @@ pub(crate) fn prepare<S: SiteStore>(
     ensures err { OnErr result (table_of present.new ≡ table_of present.old) }
     ensures same { S.is_clean store.new → S.is_sound store.old → OnErr result (IsUnchanged (S.kept store.old) (S.kept store.new)) }
     ensures refusal { result ≡ Err (faults.Store store_faults.Refused) → (kept ≡ false) ⊎ HasRefused (S.refused store.old) (S.refused store.new) }
+    ensures vote { ballot prepare.count ((table_of present.old).standing prepare.ticket) ≡ Keeps → IfOk result (λ reply. kept_by reply ≡ false → (kept ≡ false) ⊎ HasRefused (S.refused store.old) (S.refused store.new)) }
     ensures intact { S.is_clean store.new → S.is_sound store.old → result ≢ Err (faults.Store store_faults.Damaged) }
 {
     let Prepare { ticket, count } = prepare;
@@ -71,6 +76,7 @@ fn keep<S: SiteStore>(
     kept: bool,
 ) -> Result<Option<Reply>, SiteFault>
     ensures name { present.new.name ≡ present.old.name }
+    ensures leaves { leaves_in present.new.locks.items ≡ leaves_in present.old.locks.items }
     ensures own { result ≢ Err faults.Stranger }
     ensures within { result ≢ Err faults.Full }
     ensures clean { S.is_clean store.new → S.is_clean store.old }
@@ -81,6 +87,7 @@ fn keep<S: SiteStore>(
     ensures err { (visit : Visited) → (table_of present.old).standing ticket ≡ Some (standing.Alive visit) → OnErr result (table_of present.new ≡ table_of present.old) }
     ensures same { S.is_clean store.new → S.is_sound store.old → OnErr result (IsUnchanged (S.kept store.old) (S.kept store.new)) }
     ensures refusal { result ≡ Err (faults.Store store_faults.Refused) → (kept ≡ false) ⊎ HasRefused (S.refused store.old) (S.refused store.new) }
+    ensures vote { IfOk result (λ reply. kept_by reply ≡ false → (kept ≡ false) ⊎ HasRefused (S.refused store.old) (S.refused store.new)) }
     ensures intact { S.is_clean store.new → S.is_sound store.old → result ≢ Err (faults.Store store_faults.Damaged) }
 {
     if !kept {
@@ -113,6 +120,7 @@ pub(crate) fn commit<S: SiteStore>(
     kept: bool,
 ) -> Result<Option<Reply>, SiteFault>
     ensures name { present.new.name ≡ present.old.name }
+    ensures leaves { leaves_in present.new.locks.items ≡ leaves_in present.old.locks.items }
     ensures own { result ≢ Err faults.Stranger }
     ensures within { result ≢ Err faults.Full }
     ensures clean { S.is_clean store.new → S.is_clean store.old }
@@ -147,6 +155,7 @@ pub(crate) fn abort<S: SiteStore>(
     kept: bool,
 ) -> Result<Option<Reply>, SiteFault>
     ensures name { present.new.name ≡ present.old.name }
+    ensures leaves { leaves_in present.new.locks.items ≡ leaves_in present.old.locks.items }
     ensures own { result ≢ Err faults.Stranger }
     ensures within { result ≢ Err faults.Full }
     ensures clean { S.is_clean store.new → S.is_clean store.old }
@@ -177,6 +186,7 @@ pub(crate) fn abort<S: SiteStore>(
 /// Ends a visit that isn't prepared.
 pub(crate) fn give_up(present: &mut Present, ticket: &Ticket)
     ensures name { present.new.name ≡ present.old.name }
+    ensures leaves { leaves_in present.new.locks.items ≡ leaves_in present.old.locks.items }
     ensures gone { (kept : SiteContent) → Fits kept (table_of present.old) → Steps kept (table_of present.old) kept (table_of present.new)
         (on_give_up (name_of ticket.now) ((state_of kept (table_of present.old)).status (name_of ticket.now))) None }
 {

@@ -14,6 +14,7 @@
 //! ```
 #![tactic(auto)]
 
+mod asked;
 mod ending;
 pub mod fault;
 mod inquiring;

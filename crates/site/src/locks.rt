@@ -1,10 +1,11 @@
 //! The locks on the leaves of a site.
 
-ghost use Rattle.std.specs.Prelude.{◌≡◌, OnOk, OnErr, map, not};
+ghost use Rattle.std.specs.Prelude.{◌≡◌, ◌<◌, Some, OnOk, OnErr, length, map, not, slice_get, slice_set};
 ghost use Rattle.std.specs.List.{list_all, list_any};
 ghost use Rattle.store.specs.SiteContent.{is_ticket};
 ghost use Rattle.site.specs.Locks.{free, others_write, is_foreign, with_reader, with_writer, stops, stops_reading, stops_writing, place_in};
-ghost use Rattle.site.specs.Starting.{grants, is_open};
+ghost use Rattle.site.specs.Starting.{grants, is_open, leaves_in};
+ghost use Rattle.site.specs.declared.locks.Locks.{Locks as LocksNow};
 
 use std::alloc::Global;
 use std::collections::BTreeSet;
@@ -65,6 +66,7 @@ impl Locks {
     pub(crate) fn share(&mut self, ticket: Ticket) -> Result<(), Memory>
         ensures ok { OnOk result (self.new ≡ with_reader ticket self.old) }
         ensures err { OnErr result (self.new ≡ self.old) }
+        ensures leaf { self.new.leaf ≡ self.old.leaf }
     {
         let _new = self.readers.insert(ticket)?;
         Ok(())
@@ -145,6 +147,27 @@ pub(crate) fn grant(locks: &mut [Locks], ticket: Ticket, changes: &Changes)
     for place in 0..locks.len() {
         locks[place].grant_touched(ticket, changes);
     }
+}
+
+/// A ticket gets the shared lock on the leaf at a place.
+pub(crate) fn share_at(locks: &mut Vec<Locks>, place: usize, ticket: Ticket) -> Result<(), Memory>
+    requires { place < length locks.old.items }
+
+    ensures ok { (at : LocksNow) → slice_get locks.old.items place ≡ Some at → OnOk result (locks.new.items ≡ slice_set locks.old.items place (with_reader ticket at)) }
+    ensures err { OnErr result (locks.new.items ≡ locks.old.items) }
+    ensures leaves { leaves_in locks.new.items ≡ leaves_in locks.old.items }
+{
+    locks[place].share(ticket)
+}
+
+/// A ticket gets the exclusive lock on the leaf at a place.
+pub(crate) fn grant_at(locks: &mut Vec<Locks>, place: usize, ticket: Ticket)
+    requires { place < length locks.old.items }
+
+    ensures granted { (at : LocksNow) → slice_get locks.old.items place ≡ Some at → locks.new.items ≡ slice_set locks.old.items place (with_writer ticket at) }
+    ensures leaves { leaves_in locks.new.items ≡ leaves_in locks.old.items }
+{
+    locks[place].grant(ticket);
 }
 
 /// A ticket lets go of its shared locks, after so many tickets were drawn.

@@ -12,11 +12,12 @@ ghost use Rattle.site.specs.declared.standing.Standing.{Standing as StandingNow}
 ghost use Rattle.site.specs.declared.standing.Standing.TheVariants as standing;
 ghost use Rattle.site.specs.Locks.{with_reader, with_writer, stops, stops_reading};
 ghost use Rattle.site.specs.Standing.{with_done, intends};
+ghost use Rattle.site.specs.Starting.{leaves_in};
 ghost use Rattle.site.specs.State.{table_of, table_from, is_visit, is_row, changes_at};
 ghost use Rattle.site.specs.Moves.{next_of};
 
 use crate::fault::SiteFault;
-use crate::locks::{Locks, stop, stop_reading};
+use crate::locks::{Locks, grant_at, share_at, stop, stop_reading};
 use crate::standing::{Standing, Standings, Visit, set_change, set_done, set_prepared};
 use crate::starting::Beginning;
 use std::alloc::Global;
@@ -89,6 +90,7 @@ impl Present {
     /// Begins a visit, and draws its ticket.
     pub(crate) fn open(&mut self) -> Result<Ticket, SiteFault>
         ensures name { self.new.name ≡ self.old.name }
+        ensures leaves { leaves_in self.new.locks.items ≡ leaves_in self.old.locks.items }
         ensures ticket { IfOk result (λ ticket. ticket ≡ next_of (table_of self.old)) }
         ensures ok { OnOk result (table_of self.new ≡ table_from (insert_entry ticket_cmp self.old.standings.entries (next_of (table_of self.old)) (standing.Alive (record { done = 0; changes = fin.empty })))
             self.old.locks.items (self.old.alive + 1) self.old.life (self.old.number + 1)) }
@@ -118,12 +120,13 @@ impl Present {
     pub(crate) fn read(&mut self, ticket: &Ticket, op: u64, place: usize) -> Result<(), Memory>
         requires { place < length self.old.locks.items }
         ensures name { self.new.name ≡ self.old.name }
+        ensures leaves { leaves_in self.new.locks.items ≡ leaves_in self.old.locks.items }
         ensures ok { (now : StandingNow) (at : LocksNow) → (table_of self.old).standing ticket.now ≡ Some now → slice_get self.old.locks.items place ≡ Some at
             → OnOk result (table_of self.new ≡ table_from (set_value (is_at (ticket_cmp ticket.now)) self.old.standings.entries (with_done op now))
             (slice_set self.old.locks.items place (with_reader ticket.now at)) self.old.alive self.old.life self.old.number) }
         ensures err { OnErr result (table_of self.new ≡ table_of self.old) }
     {
-        self.locks[place].share(*ticket)?;
+        share_at(&mut self.locks, place, *ticket)?;
         set_done(&mut self.standings, ticket, op);
         Ok(())
     }
@@ -138,19 +141,21 @@ impl Present {
     ) -> Result<(), Memory>
         requires { place < length self.old.locks.items }
         ensures name { self.new.name ≡ self.old.name }
+        ensures leaves { leaves_in self.new.locks.items ≡ leaves_in self.old.locks.items }
         ensures ok { (now : StandingNow) (at : LocksNow) → (table_of self.old).standing ticket.now ≡ Some now → slice_get self.old.locks.items place ≡ Some at
             → OnOk result (table_of self.new ≡ table_from (set_value (is_at (ticket_cmp ticket.now)) self.old.standings.entries (with_done op (intends write now)))
             (slice_set self.old.locks.items place (with_writer ticket.now at)) self.old.alive self.old.life self.old.number) }
         ensures err { OnErr result (table_of self.new ≡ table_of self.old) }
     {
         set_change(&mut self.standings, ticket, op, write)?;
-        self.locks[place].grant(*ticket);
+        grant_at(&mut self.locks, place, *ticket);
         Ok(())
     }
 
     /// A visit is prepared: its shared locks go.
     pub(crate) fn prepare(&mut self, ticket: &Ticket, txn: Txn)
         ensures name { self.new.name ≡ self.old.name }
+        ensures leaves { leaves_in self.new.locks.items ≡ leaves_in self.old.locks.items }
         ensures prepared { (now : StandingNow) → (table_of self.old).standing ticket.now ≡ Some now
             → table_of self.new ≡ table_from (set_value (is_at (ticket_cmp ticket.now)) self.old.standings.entries (standing.Prepared txn))
             (map (stops_reading ticket.now self.old.number) self.old.locks.items) (self.old.alive - 1) self.old.life self.old.number }
@@ -163,6 +168,7 @@ impl Present {
     /// A visit ends: its locks go.
     pub(crate) fn end(&mut self, ticket: &Ticket)
         ensures name { self.new.name ≡ self.old.name }
+        ensures leaves { leaves_in self.new.locks.items ≡ leaves_in self.old.locks.items }
         ensures ended { table_of self.new ≡ table_from (remove_entry (is_at (ticket_cmp ticket.now)) self.old.standings.entries)
             (map (stops ticket.now self.old.number) self.old.locks.items) (self.old.alive - 1) self.old.life self.old.number }
         ensures ordered { IsOrdered ticket_cmp self.old.standings }
@@ -174,6 +180,7 @@ impl Present {
     /// Nothing stands behind a ticket any more: its locks go.
     pub(crate) fn forget(&mut self, ticket: &Ticket)
         ensures name { self.new.name ≡ self.old.name }
+        ensures leaves { leaves_in self.new.locks.items ≡ leaves_in self.old.locks.items }
         ensures gone { table_of self.new ≡ table_from (remove_entry (is_at (ticket_cmp ticket.now)) self.old.standings.entries)
             (map (stops ticket.now self.old.number) self.old.locks.items) self.old.alive self.old.life self.old.number }
         ensures alive { self.new.alive ≡ self.old.alive }

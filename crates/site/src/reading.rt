@@ -8,6 +8,7 @@ ghost use Rattle.store.specs.SiteContent.{IsUnchanged};
 ghost use Rattle.protocol.specs.Site.{on_fetch};
 ghost use Rattle.protocol.specs.Letters.{name_of};
 ghost use Rattle.site.specs.Locks.{place_in};
+ghost use Rattle.site.specs.Starting.{leaves_in};
 ghost use Rattle.site.specs.State.{Fits, Steps, state_of, table_of};
 
 use crate::fault::SiteFault;
@@ -30,6 +31,7 @@ pub(crate) fn fetch<S: SiteStore>(
 ) -> Result<Option<Reply>, SiteFault>
     ensures elsewhere { place_in fetch.leaf present.old.locks.items ≡ None → result ≡ Err faults.Stranger }
     ensures name { present.new.name ≡ present.old.name }
+    ensures leaves { leaves_in present.new.locks.items ≡ leaves_in present.old.locks.items }
     ensures stranger { result ≡ Err faults.Stranger → place_in fetch.leaf present.old.locks.items ≡ None }
     ensures full { result ≡ Err faults.Full → 2 ^ 63 ≤ fetch.op }
     ensures clean { S.is_clean store.new → S.is_clean store.old }

@@ -12,6 +12,7 @@ ghost use Rattle.store.specs.SiteContent.{IsUnchanged};
 ghost use Rattle.site.specs.Rows.{stored};
 ghost use Rattle.site.specs.State.{table_of, changes_at};
 
+use crate::asked::{asked_key, row_at};
 use crate::fault::{SiteFault, site_fault};
 use crate::present::Present;
 use std::alloc::Global;
@@ -24,7 +25,8 @@ use terms::leaf::Leaf;
 use terms::memory::Memory;
 use terms::part::Part;
 
-/// The parts of a leaf that meet conditions, after a visit's own changes.
+/// The parts of a leaf that meet conditions, after a visit's own changes. Conditions that ask for one key
+/// cost one part, and not the leaf.
 pub(crate) fn rows<S: SiteStore>(
     store: &mut S,
     present: &Present,
@@ -41,6 +43,9 @@ pub(crate) fn rows<S: SiteStore>(
     ensures refusal { result ≡ Err (faults.Store store_faults.Refused) → HasRefused (S.refused store.old) (S.refused store.new) }
     ensures intact { S.is_clean store.new → S.is_sound store.old → result ≢ Err (faults.Store store_faults.Damaged) }
 {
+    if let Some(key) = asked_key(conds.as_slice()) {
+        return row_at(store, present, ticket, leaf, key, conds);
+    }
     let kept = match store.scan(leaf) {
         Ok(parts) => parts,
         Err(fault) => return Err(site_fault(fault)),

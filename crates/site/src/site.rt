@@ -7,8 +7,8 @@ ghost use Rattle.site.specs.declared.fault.SiteFault.TheVariants as faults;
 ghost use Rattle.std.specs.Vec.{vec_capacity};
 ghost use Rattle.protocol.specs.Site.{on_letter, on_give_up, inquiries};
 ghost use Rattle.store.specs.SiteContent.{IsUnchanged, BeginsLife, Lists};
-ghost use Rattle.protocol.specs.Letters.{name_of, letter_of, order_body, txn_name, kept_by, letters_of};
-ghost use Rattle.site.specs.Refusals.{IsElsewhere, IsTooMuch, AsksElsewhere, AsksTooMuch};
+ghost use Rattle.protocol.specs.Letters.{name_of, letter_of, order_body, txn_name, kept_by, kept_in, letters_of};
+ghost use Rattle.site.specs.Refusals.{IsElsewhere, IsTooMuch, IsToKeep, AsksElsewhere, AsksTooMuch, AsksToKeep};
 ghost use Rattle.site.specs.Starting.{Begins, Restarts, IsStrange, leaves_in};
 ghost use Rattle.site.specs.State.{Fits, Steps, Takes, state_of, table_of};
 
@@ -164,6 +164,7 @@ impl<S: SiteStore> Site<S> {
     pub fn take(&mut self, letter: Letter) -> Result<Vec<Letter>, SiteFault>
         ensures turned_away { AsksElsewhere self.old.present.locks.items letter.body → (result ≡ Err faults.Stranger) ⊎ (result ≡ Err faults.Memory) }
         ensures name { self.new.present.name ≡ self.old.present.name }
+        ensures leaves { leaves_in self.new.present.locks.items ≡ leaves_in self.old.present.locks.items }
         ensures elsewhere { result ≡ Err faults.Stranger → (letter.site ≢ self.old.present.name) ⊎ AsksElsewhere self.old.present.locks.items letter.body }
         ensures full { result ≡ Err faults.Full → AsksTooMuch self.old.present.alive self.old.present.number letter.body }
         ensures clean { S.is_clean self.new.store → S.is_clean self.old.store }
@@ -174,6 +175,7 @@ impl<S: SiteStore> Site<S> {
         ensures same { S.is_clean self.new.store → S.is_sound self.old.store → OnErr result (IsUnchanged (S.kept self.old.store) (S.kept self.new.store)) }
         ensures refusal { result ≡ Err (faults.Store store_faults.Refused) → HasRefused (S.refused self.old.store) (S.refused self.new.store) }
         ensures intact { S.is_clean self.new.store → S.is_sound self.old.store → result ≢ Err (faults.Store store_faults.Damaged) }
+        ensures vote { AsksToKeep (table_of self.old.present) letter.body → IfOk result (λ letters. kept_in letters.items ≡ false → HasRefused (S.refused self.old.store) (S.refused self.new.store)) }
         ensures stranger { letter.site ≢ self.old.present.name → result ≡ Err faults.Stranger }
     {
         self.take_kept(letter, true)
@@ -183,6 +185,7 @@ impl<S: SiteStore> Site<S> {
     pub fn take_kept(&mut self, letter: Letter, kept: bool) -> Result<Vec<Letter>, SiteFault>
         ensures turned_away { AsksElsewhere self.old.present.locks.items letter.body → (result ≡ Err faults.Stranger) ⊎ (result ≡ Err faults.Memory) }
         ensures name { self.new.present.name ≡ self.old.present.name }
+        ensures leaves { leaves_in self.new.present.locks.items ≡ leaves_in self.old.present.locks.items }
         ensures elsewhere { result ≡ Err faults.Stranger → (letter.site ≢ self.old.present.name) ⊎ AsksElsewhere self.old.present.locks.items letter.body }
         ensures full { result ≡ Err faults.Full → AsksTooMuch self.old.present.alive self.old.present.number letter.body }
         ensures clean { S.is_clean self.new.store → S.is_clean self.old.store }
@@ -193,6 +196,7 @@ impl<S: SiteStore> Site<S> {
         ensures same { S.is_clean self.new.store → S.is_sound self.old.store → OnErr result (IsUnchanged (S.kept self.old.store) (S.kept self.new.store)) }
         ensures refusal { result ≡ Err (faults.Store store_faults.Refused) → (kept ≡ false) ⊎ HasRefused (S.refused self.old.store) (S.refused self.new.store) }
         ensures intact { S.is_clean self.new.store → S.is_sound self.old.store → result ≢ Err (faults.Store store_faults.Damaged) }
+        ensures vote { AsksToKeep (table_of self.old.present) letter.body → IfOk result (λ letters. kept_in letters.items ≡ false → (kept ≡ false) ⊎ HasRefused (S.refused self.old.store) (S.refused self.new.store)) }
         ensures stranger { letter.site ≢ self.old.present.name → result ≡ Err faults.Stranger }
     {
         if !letter.site.same(&self.present.name) {
@@ -211,6 +215,7 @@ impl<S: SiteStore> Site<S> {
     /// Ends a visit that isn't prepared, and does nothing else.
     pub fn give_up(&mut self, ticket: &Ticket)
         ensures name { self.new.present.name ≡ self.old.present.name }
+        ensures leaves { leaves_in self.new.present.locks.items ≡ leaves_in self.old.present.locks.items }
         ensures ok { Fits (S.kept self.old.store) (table_of self.old.present) → Steps (S.kept self.old.store) (table_of self.old.present) (S.kept self.new.store) (table_of self.new.present)
             (on_give_up (name_of ticket.now) ((state_of (S.kept self.old.store) (table_of self.old.present)).status (name_of ticket.now))) None }
         ensures store { self.new.store ≡ self.old.store }
@@ -267,6 +272,8 @@ fn obey<S: SiteStore>(
 ) -> Result<Option<Reply>, SiteFault>
     ensures elsewhere { IsElsewhere present.old.locks.items order → result ≡ Err faults.Stranger }
     ensures name { present.new.name ≡ present.old.name }
+    ensures leaves { leaves_in present.new.locks.items ≡ leaves_in present.old.locks.items }
+    ensures vote { IsToKeep (table_of present.old) order → IfOk result (λ reply. kept_by reply ≡ false → (kept ≡ false) ⊎ HasRefused (S.refused store.old) (S.refused store.new)) }
     ensures stranger { result ≡ Err faults.Stranger → IsElsewhere present.old.locks.items order }
     ensures full { result ≡ Err faults.Full → IsTooMuch present.old.alive present.old.number order }
     ensures clean { S.is_clean store.new → S.is_clean store.old }

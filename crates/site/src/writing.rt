@@ -8,6 +8,7 @@ ghost use Rattle.protocol.specs.Site.{Opens, on_write};
 ghost use Rattle.site.specs.declared.fault.SiteFault.TheVariants as faults;
 ghost use Rattle.protocol.specs.Letters.{name_of, leaf_of, at_key};
 ghost use Rattle.site.specs.Locks.{place_in};
+ghost use Rattle.site.specs.Starting.{leaves_in};
 ghost use Rattle.site.specs.State.{Fits, Steps, state_of, table_of};
 
 use crate::fault::SiteFault;
@@ -20,6 +21,7 @@ use store::reply::{Reason, Refusal, Reply};
 /// Begins a visit.
 pub(crate) fn open(present: &mut Present) -> Result<Option<Reply>, SiteFault>
     ensures name { present.new.name ≡ present.old.name }
+    ensures leaves { leaves_in present.new.locks.items ≡ leaves_in present.old.locks.items }
     ensures own { result ≢ Err faults.Stranger }
     ensures full { result ≡ Err faults.Full → (1024 ≤ present.old.alive) ⊎ (2 ^ 63 ≤ present.old.number + 1) }
     ensures ok { (kept : SiteContent) → Fits kept (table_of present.old) → IfOk result (λ reply. Steps kept (table_of present.old) kept (table_of present.new) Opens reply) }
@@ -47,6 +49,7 @@ pub(crate) fn intend(
 ) -> Result<Option<Reply>, SiteFault>
     ensures elsewhere { place_in (leaf_of intention.write) present.old.locks.items ≡ None → result ≡ Err faults.Stranger }
     ensures name { present.new.name ≡ present.old.name }
+    ensures leaves { leaves_in present.new.locks.items ≡ leaves_in present.old.locks.items }
     ensures stranger { result ≡ Err faults.Stranger → place_in (leaf_of intention.write) present.old.locks.items ≡ None }
     ensures full { result ≡ Err faults.Full → 2 ^ 63 ≤ intention.op }
     ensures ok { (kept : SiteContent) → Fits kept (table_of present.old) → IfOk result (λ reply. Steps kept (table_of present.old) kept (table_of present.new)

@@ -26,3 +26,16 @@ site = \"north\"
 where = \"no >= 10\"
 site = \"south\"
 ";
+
+/// One relation, split by rows.
+pub const ITEM: &str = "sites = [\"north\", \"south\"]
+
+[relations.item]
+columns = [\"id int\", \"zone int\", \"label text\"]
+[[relations.item.rows]]
+where = \"zone < 10\"
+site = \"north\"
+[[relations.item.rows]]
+where = \"zone >= 10\"
+site = \"south\"
+";

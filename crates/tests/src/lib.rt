@@ -8,4 +8,12 @@ mod calls;
 #[cfg(test)]
 mod catalogues;
 #[cfg(test)]
+mod letters;
+#[cfg(test)]
+mod refusing;
+#[cfg(test)]
+mod sites;
+#[cfg(test)]
+mod outcomes;
+#[cfg(test)]
 mod statements;

@@ -1,6 +1,5 @@
 use Rattle.protocol.proofs.Rounds.{rounds_law}
-use Rattle.protocol.proofs.ToyLaws.{toy_lawful}
 use Rattle.protocol.proofs.laws.nine_rounds_are_enough.Goals as goal
 
 pub returns : goal.returns
-returns c = rounds_law toy_lawful
+returns c = rounds_law

@@ -1,6 +1,5 @@
 use Rattle.protocol.proofs.Rounds.{round_law}
-use Rattle.protocol.proofs.ToyLaws.{toy_lawful}
 use Rattle.protocol.proofs.laws.rounds_letter_by_letter.Goals as goal
 
 pub returns : goal.returns
-returns c = round_law toy_lawful
+returns c = round_law

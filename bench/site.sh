@@ -1,0 +1,54 @@
+#!/usr/bin/env bash
+# Times a site over lists: a fetch by key, and preparing and applying one write, with 2,500 and with 20,000 parts in
+# the leaf, and with 10 and with 1,000 visits that have locks on another leaf. Fails where the larger number costs more
+# than 1.3 times the smaller. Works on a copy of the repository with the work that earlier checks kept, so check the
+# crate `site` first; the program that it times is bench/site/main.rt.in.
+#
+# usage: bench/site.sh
+set -eu
+top=$(cd "$(dirname "$0")/.." && pwd)
+exec python3 - "$top" <<'PYTHON'
+import os
+import shutil
+import subprocess
+import sys
+import tempfile
+
+TOP, MOST, ROUNDS = sys.argv[1], 1.3, 5
+
+
+def built(room):
+    """The program, built in a copy of the repository in which it is one crate more."""
+    it = f"{room}/it"
+    shutil.copytree(TOP, it, symlinks=True, ignore=shutil.ignore_patterns(".git"))
+    os.mkdir(f"{it}/.git")
+    os.makedirs(f"{it}/crates/timed/src")
+    shutil.copy(f"{TOP}/bench/site/main.rt.in", f"{it}/crates/timed/src/main.rt")
+    with open(f"{it}/crates.txt", "a") as crates:
+        crates.write("timed: terms store protocol site anyhow\n")
+    ran = subprocess.run(["rt", "run", "--jobs", "1", "--", "10", "10"], cwd=f"{it}/crates/timed", stdout=subprocess.PIPE, stderr=subprocess.STDOUT, text=True)
+    if ran.returncode:
+        sys.exit(f"rt run: status {ran.returncode}:\n{ran.stdout[-3000:]}")
+    return f"{it}/crates/timed/out/timed"
+
+
+def nanoseconds(program, parts, visits):
+    """A fetch and a write, each the least of several runs, so that other work on the machine counts little."""
+    runs = [[int(word) for word in subprocess.check_output([program, str(parts), str(visits)], text=True).split()] for _ in range(ROUNDS)]
+    return [min(column) for column in zip(*runs)]
+
+
+failed = False
+room = tempfile.mkdtemp(prefix="site-")
+try:
+    program = built(room)
+    few = nanoseconds(program, 2500, 10)
+    for name, many in (("20,000 parts for 2,500", nanoseconds(program, 20000, 10)), ("1,000 visits for 10", nanoseconds(program, 2500, 1000))):
+        for what, before, after in zip(("a fetch by key", "a write prepared and applied"), few, many):
+            wrong = after > MOST * before
+            failed = failed or wrong
+            print(f"{name}: {what}: {after} ns after {before} ns, ratio {after / before:.2f}{' TOO MUCH' if wrong else ''}")
+finally:
+    shutil.rmtree(room, ignore_errors=True)
+sys.exit(1 if failed else 0)
+PYTHON

@@ -1,0 +1,17 @@
+-- Why `asks_begin` meets its contract.
+use Rattle.std.proofs.Common.{rules, ◌≡◌, ◌++◌, ◌∙◌}
+use Rattle.desk.specs.Opening.{opens, visits}
+use Rattle.desk.specs.Sending.{asks_go}
+use Rattle.desk.specs.Stating.{ask_sites}
+use Rattle.desk.proofs.stating.asks_begin.Goals as goal
+
+pub returns-clause-letters : goal.returns-clause-letters
+returns-clause-letters c =
+    let txn = c.args.txn in
+    let asks = c.args.asks.now.items in
+    let spots = c.args.spots.now in
+    let sites : c.in_ok-sites.sites.items ≡ ask_sites asks = search rules in
+    let first : c.in_ok-letters.letters.items ≡ opens txn c.in_ok-sites.sites.items spots = search rules in
+    let out : c.in_ok-going.going.letters.items ≡ (asks_go txn asks (visits c.in_ok-sites.sites.items spots)).letters = search rules in
+    let all : c.in_ok-joined.field-0.items ≡ c.in_ok-letters.letters.items ++ c.in_ok-going.going.letters.items = search rules in
+    all ∙ (λ i. first i ++ out i) ∙ (λ i. opens txn (sites i) spots ++ (asks_go txn asks (visits (sites i) spots)).letters)

@@ -1,0 +1,93 @@
+-- The operations of a statement go out to the tickets that have come.
+use Rattle.std.specs.Prelude.{◌≡◌, ℕ, suc, Bool, List, [], ◌∷◌, map, Option, Some, None, is_none}
+use Rattle.std.specs.List.{AllByRecursion}
+use Rattle.store.specs.declared.letter.Letter.{Letter}
+use Rattle.store.specs.declared.name.Ticket.{Ticket}
+use Rattle.store.specs.declared.name.Txn.{Txn}
+use Rattle.store.specs.declared.order.Order.{Order}
+use Rattle.store.specs.declared.order.Order.TheVariants as order
+use Rattle.protocol.specs.Letters.{leaf_of}
+use Rattle.desk.specs.declared.ask.Ask.{Ask}
+use Rattle.desk.specs.declared.spot.Spot.{Spot}
+use Rattle.desk.specs.declared.undecided.Unsent.{Unsent}
+use Rattle.desk.specs.Database.{Database}
+use Rattle.desk.specs.Orders.{ordered}
+use Rattle.desk.specs.Spots.{changed_at, spot_in}
+
+-- what is left to send or to wait for, the spots after it, and the letters
+pub record Sent (A : Type 0) : Type 0 where
+  pub left : List A
+  pub spots : List Spot
+  pub letters : List Letter
+
+-- so many operations were sent to a site
+abbrev pub with_count : ℕ → Spot → Spot
+with_count count spot = record spot { sent = count }
+
+abbrev pub counted : List ℕ → ℕ → List Spot → List Spot
+counted site count spots = map (changed_at site (with_count count)) spots
+
+-- the number of the next operation to a site
+abbrev pub next_number : List ℕ → List Spot → ℕ
+next_number site spots = suc (spot_in site spots).sent
+
+-- one more was sent there
+abbrev pub one_more : List ℕ → List Spot → List Spot
+one_more site spots = counted site (next_number site spots) spots
+
+-- the orders of operations
+abbrev pub fetch_order : Ask → Ticket → ℕ → Order
+fetch_order ask ticket number = order.Fetch (record { ticket = ticket; op = number; leaf = ask.leaf; conds = ask.conds })
+
+abbrev pub write_order : Unsent → Ticket → ℕ → Order
+write_order unsent ticket number = order.Intend (record { ticket = ticket; op = number; write = unsent.write })
+
+-- a fetch that was sent
+abbrev pub numbered : Ask → ℕ → Ask
+numbered ask number = record ask { number = Some number }
+
+-- fetches with these numbers
+abbrev pub with_numbers : List Ask → List (Option ℕ) → List Ask
+with_numbers [] numbers = []
+with_numbers (ask ∷ asks) [] = ask ∷ asks
+with_numbers (ask ∷ asks) (number ∷ numbers) = record ask { number = number } ∷ with_numbers asks numbers
+
+-- a fetch goes out where it hasn't yet and its site has given a ticket
+abbrev pub ask_goes : Txn → Ask → Option ℕ → Option Ticket → List Spot → (List Spot → Sent Ask) → Sent Ask
+ask_goes txn ask None (Some ticket) spots rest =
+    let number = next_number ask.site spots in
+    let after = rest (one_more ask.site spots) in
+    record { left = numbered ask number ∷ after.left; spots = after.spots; letters = ordered txn ask.site (fetch_order ask ticket number) ∷ after.letters }
+ask_goes txn ask number ticket spots rest =
+    let after = rest spots in
+    record { left = ask ∷ after.left; spots = after.spots; letters = after.letters }
+
+-- fetches go out in order
+abbrev pub asks_go : Txn → List Ask → List Spot → Sent Ask
+asks_go txn [] spots = record { left = []; spots = spots; letters = [] }
+asks_go txn (ask ∷ asks) spots = ask_goes txn ask ask.number (spot_in ask.site spots).ticket spots (asks_go txn asks)
+
+-- whether a write waits for a ticket
+abbrev pub waits_in : List Spot → Unsent → Bool
+waits_in spots unsent = is_none (spot_in unsent.site spots).ticket
+
+-- a write goes out where its site has given a ticket
+abbrev pub write_goes : Txn → Unsent → Option Ticket → List Spot → (List Spot → Sent Unsent) → Sent Unsent
+write_goes txn unsent (Some ticket) spots rest =
+    let after = rest (one_more unsent.site spots) in
+    record { left = after.left; spots = after.spots; letters = ordered txn unsent.site (write_order unsent ticket (next_number unsent.site spots)) ∷ after.letters }
+write_goes txn unsent None spots rest =
+    let after = rest spots in
+    record { left = unsent ∷ after.left; spots = after.spots; letters = after.letters }
+
+-- writes go out in order
+abbrev pub writes_go : Txn → List Unsent → List Spot → Sent Unsent
+writes_go txn [] spots = record { left = []; spots = spots; letters = [] }
+writes_go txn (unsent ∷ rest) spots = write_goes txn unsent (spot_in unsent.site spots).ticket spots (writes_go txn rest)
+
+-- each fetch, and each write, has the site of its leaf
+abbrev pub AsksAtHome : Database → List Ask → Type 0
+AsksAtHome db asks = AllByRecursion (λ ask. ask.site ≡ db.home ask.leaf) asks
+
+abbrev pub UnsentAtHome : Database → List Unsent → Type 0
+UnsentAtHome db writes = AllByRecursion (λ unsent. unsent.site ≡ db.home (leaf_of unsent.write)) writes

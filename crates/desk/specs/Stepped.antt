@@ -1,0 +1,36 @@
+-- What a step of a statement makes of a transaction, as the protocol has it.
+use Rattle.std.specs.Prelude.{◌≡◌, ⊤, ℕ, nat_eq, List, map, Some}
+use Rattle.std.specs.Cmp.Lexicographic.{pointwise}
+use Rattle.std.specs.List.{filter_map}
+use Rattle.store.specs.declared.name.Ticket.{Ticket}
+use Rattle.store.specs.declared.name.Txn.{Txn}
+use Rattle.protocol.specs.Desk as protocol
+use Rattle.protocol.specs.Language.{put}
+use Rattle.protocol.specs.Letters.{name_of, txn_name}
+use Rattle.desk.specs.declared.stepping.Step.{Step}
+use Rattle.desk.specs.declared.undecided.Stage.{Stage}
+use Rattle.desk.specs.declared.undecided.Stage.TheVariants as stage
+use Rattle.desk.specs.declared.undecided.Undecided.{Undecided}
+use Rattle.desk.specs.Database.{Database, language, sent}
+use Rattle.desk.specs.Sending.{AsksAtHome, UnsentAtHome}
+use Rattle.desk.specs.Standing.{undecided_of}
+use Rattle.desk.specs.Turn.{told, told_to}
+
+-- the operations that a stage still sends have the sites of their leaves
+abbrev pub IsAtHome : Database → Stage → Type 0
+IsAtHome db stage.Idle = ⊤
+IsAtHome db (stage.Reading reading) = AsksAtHome db reading.asks.items
+IsAtHome db (stage.Writing writing) = UnsentAtHome db writing.unsent.items
+IsAtHome db stage.Voting = ⊤
+
+-- a transaction to which a site has given a ticket
+abbrev pub ticketed : (db : Database) → Undecided → List ℕ → Ticket → protocol.Undecided (language db)
+ticketed db undecided site ticket =
+    let old = undecided_of db undecided in
+    record old { ticket = put (pointwise nat_eq) site (Some (name_of ticket)) old.ticket }
+
+-- the step is the protocol's, and the transaction is still undecided
+pub record IsStep (db : Database) (txn : Txn) (new : Undecided) (step : Step) (wanted : protocol.Turn (language db)) : Type 0 where
+  pub stands : protocol.Known (undecided_of db new) ≡ wanted.txn
+  pub letters : map (sent db) step.letters.items ≡ wanted.letters
+  pub replies : told_to (txn_name txn) step.reply ≡ filter_map told wanted.deeds

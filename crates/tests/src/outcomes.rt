@@ -1,0 +1,187 @@
+//! What statements over fragments answer and write, from parts that are given by hand.
+
+use crate::catalogues::{EMP_AND_DEPT, ITEM};
+use answers::evaluate::evaluate;
+use answers::finish::{Outcome, finish};
+use answers::table::{FetchRows, are_all_parts};
+use answers::work::work;
+use catalog::catalogue::Catalog;
+use plan::fetch::Fetch;
+use plan::localize::localize;
+use plan::reduce::{fetches, reduce};
+use reader::command::Command;
+use reader::print_answer::print_answer;
+use reader::print_statement::print_part;
+use reader::read::read;
+use std::alloc::Global;
+use std::test::*;
+use terms::copy::TryCopy;
+use terms::memory::Memory;
+use terms::part::Part;
+use terms::seq::Seq;
+use terms::text::Text;
+use terms::value::Value;
+use terms::write::Write;
+
+/// A part that a leaf's fetch brings: the leaf's relation and number, and the values.
+type Given = (&'static str, usize, &'static str);
+
+/// The part of a text such as `1, Ada`.
+fn part(alloc: Global, text: &str) -> Result<Part, Memory> {
+    let mut values = Vec::new(alloc);
+    for word in text.split(", ") {
+        values.push(match word.parse::<i64>() {
+            Ok(number) => Value::Int(number),
+            Err(_) => Value::Text(Text::copy_of(alloc, word)?),
+        })?;
+    }
+    Ok(Part::new(values))
+}
+
+/// What the fetches bring, of these parts.
+fn brought(alloc: Global, fetches: &[Fetch], parts: &[Given]) -> Result<Vec<FetchRows>, Memory> {
+    let mut rows = Vec::new(alloc);
+    for read in fetches {
+        let mut found = Vec::new(alloc);
+        for (relation, number, text) in parts {
+            if *relation == read.leaf.relation.as_str() && *number == read.leaf.number {
+                found.push(part(alloc, text)?)?;
+            }
+        }
+        rows.push(FetchRows {
+            leaf: read.leaf.copy()?,
+            parts: Seq::new(found),
+        })?;
+    }
+    Ok(rows)
+}
+
+/// An answer, and each write on a line after it.
+fn shown(alloc: Global, outcome: &Outcome) -> Result<String, Memory> {
+    let mut text = print_answer(alloc, &outcome.answer)?;
+    text.push('\n')?;
+    for write in outcome.writes.as_slice() {
+        let line = match write {
+            Write::Put(leaf, part) => {
+                let values = print_part(alloc, part.values())?;
+                format!(in alloc; "Put {leaf} {values}\n")?
+            }
+            Write::Del(leaf, key) => format!(in alloc; "Del {leaf} {key}\n")?,
+        };
+        text.push_str(line.as_str())?;
+    }
+    Ok(text)
+}
+
+/// What a statement answers and writes by these parts: by `work`, and by `evaluate` and `finish`.
+fn outcomes(
+    alloc: Global,
+    text: &str,
+    statement: &str,
+    parts: &[Given],
+) -> Result<(String, String), Memory> {
+    let catalog = Catalog::read(alloc, text).map_err(|_| Memory)?;
+    let Ok(Command::Run(statement)) = read(alloc, statement, catalog.schema()) else {
+        return Err(Memory);
+    };
+    let plan = localize(alloc, &catalog, &statement)?;
+    let less = reduce(alloc, &catalog, &statement, plan)?;
+    let reads = fetches(&less);
+    let rows = brought(alloc, reads, parts)?;
+    let rows = rows.as_slice();
+    if !are_all_parts(reads, rows) {
+        return Err(Memory);
+    }
+    let one = work(alloc, &catalog, &statement, &less, rows)?;
+    let table = evaluate(alloc, &less.plan, rows)?;
+    let other = finish(alloc, &catalog, &statement, &table)?;
+    Ok((shown(alloc, &one)?, shown(alloc, &other)?))
+}
+
+fn is_outcome(alloc: Global, text: &str, statement: &str, parts: &[Given], wanted: &str) -> bool {
+    let both = outcomes(alloc, text, statement, parts).or_else(|_| outcomes(
+        alloc, text, statement, parts,
+    ));
+    both.is_ok_and(|(one, other)| one.as_str() == wanted && other.as_str() == wanted)
+}
+
+#[test]
+fn joined(rt: HostRuntime) {
+    let parts = [
+        ("emp", 1, "1, Ada"),
+        ("emp", 1, "2, Bo"),
+        ("emp", 2, "1, 7, 100"),
+        ("emp", 3, "2, 12, 200"),
+        ("dept", 1, "7, paint"),
+        ("dept", 2, "12, dock"),
+    ];
+    assert!(rt;
+        is_outcome(
+            rt.alloc(),
+            EMP_AND_DEPT,
+            "SELECT emp.id, emp.name, dept.title FROM emp JOIN dept ON emp.dept = dept.no",
+            &parts,
+            "emp.id\temp.name\tdept.title\n1\tAda\tpaint\n2\tBo\tdock\n2 rows\n"
+        )
+    );
+}
+
+#[test]
+fn changed(rt: HostRuntime) {
+    let parts = [
+        ("emp", 1, "1, Ada"),
+        ("emp", 1, "2, Bo"),
+        ("emp", 1, "3, Cy"),
+        ("emp", 2, "1, 7, 100"),
+        ("emp", 2, "3, 1, 9223372036854775807"),
+        ("emp", 3, "2, 12, 200"),
+    ];
+    let cases = [
+        (
+            "UPDATE emp SET dept = dept + 5 WHERE id = 1",
+            "changed 1\nDel emp.2 1\nPut emp.3 1, 12, 100\n",
+        ),
+        ("UPDATE emp SET pay = pay + 1", "overflow\n"),
+        (
+            "UPDATE emp SET pay = 100 WHERE dept < 8 AND id < 3",
+            "changed 1\n",
+        ),
+        (
+            "DELETE FROM emp WHERE dept > 1",
+            "changed 2\nDel emp.1 1\nDel emp.1 2\nDel emp.2 1\nDel emp.3 2\n",
+        ),
+        (
+            "SELECT id FROM emp WHERE dept = 12 AND dept < 10",
+            "id\n0 rows\n",
+        ),
+        ("INSERT INTO emp VALUES (2, 'Di', 1, 5)", "exists\n"),
+    ];
+    for (statement, wanted) in cases {
+        assert!(rt;
+            is_outcome(rt.alloc(), EMP_AND_DEPT, statement, &parts, wanted),
+            "{statement}"
+        );
+    }
+}
+
+#[test]
+fn inserted(rt: HostRuntime) {
+    assert!(rt;
+        is_outcome(
+            rt.alloc(),
+            ITEM,
+            "INSERT INTO item VALUES (1, 50, 'b')",
+            &[("item", 1, "1, 3, a")],
+            "exists\n"
+        )
+    );
+    assert!(rt;
+        is_outcome(
+            rt.alloc(),
+            ITEM,
+            "INSERT INTO item VALUES (2, 50, 'b')",
+            &[],
+            "changed 1\nPut item.2 2, 50, 'b'\n"
+        )
+    );
+}

@@ -1,0 +1,365 @@
+//! What a site answers to the letters of a script, line by line.
+
+use crate::letters::{leaf, letter, part_of};
+use crate::refusing::Refusing;
+use reader::print_statement::print_part;
+use site::fault::SiteFault;
+use site::site::{Site, Unstarted};
+use std::alloc::Global;
+use std::fmt::Write;
+use std::test::*;
+use store::changes::Changes;
+use store::letter::Letter;
+use store::letter_text::letter_text;
+use store::plain_site::PlainSite;
+use store::site_store::SiteStore;
+use terms::copy::TryCopy;
+use terms::leaf::Leaf;
+use terms::memory::Memory;
+use terms::text::Text;
+
+/// How often a call is made: once more after memory ran out, and once more after the store refused.
+const TRIES: usize = 3;
+
+/// The leaves of the site, north.
+const LEAVES: [&str; 2] = ["emp.1", "emp.2"];
+
+fn leaves(alloc: Global) -> Result<Vec<Leaf>, Memory> {
+    let mut leaves = Vec::new(alloc);
+    for word in LEAVES {
+        leaves.push(leaf(alloc, word)?)?;
+    }
+    Ok(leaves)
+}
+
+/// A store of the parts that lines such as `emp.2 1, 7, 100` tell.
+fn opening(alloc: Global, lines: &[&str]) -> Result<PlainSite, Memory> {
+    let mut parts = Changes::new(alloc);
+    for line in lines {
+        let (word, values) = line.split_once(' ').unwrap_or((line, ""));
+        parts.put(leaf(alloc, word)?, part_of(alloc, values)?)?;
+    }
+    Ok(PlainSite::with_parts(alloc, parts))
+}
+
+fn put_letter(alloc: Global, told: &mut String, letter: &Letter) -> Result<(), Memory> {
+    let txn = format!(in alloc; "T{}", letter.txn.number)?;
+    let mut columns = Vec::new(alloc);
+    columns.push(Text::copy_of(alloc, "id")?)?;
+    let text = letter_text(alloc, letter, txn.as_str(), columns.as_slice())?;
+    told.push_str(text.as_str())?;
+    told.push('\n')?;
+    Ok(())
+}
+
+fn put_letters(alloc: Global, told: &mut String, letters: &[Letter]) -> Result<(), Memory> {
+    for letter in letters {
+        put_letter(alloc, told, letter)?;
+    }
+    Ok(())
+}
+
+/// Tells a fault, but not that memory ran out. Says whether the call is to be made once more.
+fn put_fault(told: &mut String, fault: SiteFault) -> Result<bool, Memory> {
+    if fault == SiteFault::Memory {
+        return Ok(true);
+    }
+    writeln!(told, "{} {fault}", fault.number())?;
+    Ok(matches!(fault, SiteFault::Store(_)))
+}
+
+/// Starts the site.
+fn start<S: SiteStore + Drop>(
+    alloc: Global,
+    told: &mut String,
+    store: S,
+) -> Result<Site<S>, Memory> {
+    told.push_str("start\n")?;
+    let leaves = leaves(alloc)?;
+    let mut store = store;
+    for _ in 0..TRIES {
+        let name = Text::copy_of(alloc, "north")?;
+        match Site::start(alloc, name, store, leaves.as_slice()) {
+            Ok(site) => return Ok(site),
+            Err(Unstarted { fault, store: back }) => {
+                put_fault(told, fault)?;
+                store = back;
+            }
+        }
+    }
+    Err(Memory)
+}
+
+/// Gives the site a letter, and tells what it answers.
+fn give<S: SiteStore + Drop>(
+    alloc: Global,
+    told: &mut String,
+    site: &mut Site<S>,
+    letter: &Letter,
+) -> Result<(), Memory> {
+    for _ in 0..TRIES {
+        match site.take(letter.copy()?) {
+            Ok(letters) => return put_letters(alloc, told, letters.as_slice()),
+            Err(fault) => {
+                if !put_fault(told, fault)? {
+                    return Ok(());
+                }
+            }
+        }
+    }
+    Ok(())
+}
+
+fn restart<S: SiteStore + Drop>(told: &mut String, site: &mut Site<S>) -> Result<(), Memory> {
+    for _ in 0..TRIES {
+        match site.restart() {
+            Ok(()) => return Ok(()),
+            Err(fault) => {
+                put_fault(told, fault)?;
+            }
+        }
+    }
+    Ok(())
+}
+
+/// Tells the parts of a leaf.
+fn show<S: SiteStore + Drop>(
+    alloc: Global,
+    told: &mut String,
+    site: &mut Site<S>,
+    word: &str,
+) -> Result<(), Memory> {
+    for _ in 0..TRIES {
+        match site.kept() {
+            Ok(kept) => {
+                for part in kept.parts.list(&leaf(alloc, word)?)?.as_slice() {
+                    told.push_str(print_part(alloc, part.values())?.as_str())?;
+                    told.push('\n')?;
+                }
+                return Ok(());
+            }
+            Err(fault) => {
+                put_fault(told, fault)?;
+            }
+        }
+    }
+    Ok(())
+}
+
+/// Does what a line of a script asks for; other lines are what the site is to answer.
+fn play_line<S: SiteStore + Drop>(
+    alloc: Global,
+    told: &mut String,
+    site: &mut Site<S>,
+    line: &str,
+) -> Result<(), Memory> {
+    if line.starts_with("desk>") {
+        let letter = letter(alloc, line)?;
+        put_letter(alloc, told, &letter)?;
+        return give(alloc, told, site, &letter);
+    }
+    if line == "restart" {
+        told.push_str("restart\n")?;
+        return restart(told, site);
+    }
+    if line == "inquire" {
+        told.push_str("inquire\n")?;
+        let letters = site.inquire().or_else(|_| site.inquire())?;
+        return put_letters(alloc, told, letters.as_slice());
+    }
+    if let Some(word) = line.strip_prefix("leaf ") {
+        writeln!(told, "{line}")?;
+        return show(alloc, told, site, word);
+    }
+    Ok(())
+}
+
+/// What a site over a store does by a script: each of its lines that asks for something, and what is answered.
+fn played<S: SiteStore + Drop>(alloc: Global, store: S, script: &str) -> Result<String, Memory> {
+    let mut told = String::new(alloc);
+    let mut site = start(alloc, &mut told, store)?;
+    for line in script.split('\n') {
+        play_line(alloc, &mut told, &mut site, line)?;
+    }
+    Ok(told)
+}
+
+/// The rest of the letters' schedule is in `T1`'s visit 1.1: that nothing stands behind a ticket is answered so.
+const WORKED: &str = "start
+desk>north Open T1
+north>desk Ticket T1 1.1
+desk>north Open T1
+north>desk Ticket T1 1.2
+desk>north Del T1 1.1 1 emp.2 1
+desk>north Del T1 1.1 1 emp.2 1
+desk>north Prepare T1 1.1 2
+north>desk Vote T1 1.1 NO
+desk>north Prepare T1 1.1 1
+north>desk Vote T1 1.1 NO
+desk>north Open T2
+north>desk Ticket T2 1.3
+desk>north Put T2 1.3 1 emp.2 1, 7, 100
+desk>north Prepare T2 1.3 1
+north>desk Vote T2 1.3 YES
+restart
+desk>north Open T3
+north>desk Ticket T3 2.1
+desk>north Fetch T3 2.1 1 emp.2
+north>desk Refused T3 2.1 Lock
+inquire
+north>desk Inquire T2 1.3
+desk>north Commit T2 1.3
+north>desk Ack T2 1.3
+desk>north Commit T2 1.3
+north>desk Ack T2 1.3
+leaf emp.2
+1, 7, 100
+desk>south Open T4
+4 Stranger
+desk>north Open T4
+north>desk Ticket T4 2.2
+desk>north Fetch T4 2.2 1 emp.3
+4 Stranger
+";
+
+/// One leaf's half of a moved row; then its letters come again.
+const MOVED: &str = "start
+desk>north Open T1
+north>desk Ticket T1 1.1
+desk>north Fetch T1 1.1 1 emp.1 where id = 1
+north>desk Rows T1 1.1 1 1
+desk>north Fetch T1 1.1 2 emp.2 where id = 1
+north>desk Rows T1 1.1 2 1
+desk>north Del T1 1.1 3 emp.2 1
+desk>north Prepare T1 1.1 3
+north>desk Vote T1 1.1 YES
+desk>north Commit T1 1.1
+north>desk Ack T1 1.1
+desk>north Open T1
+north>desk Ticket T1 1.2
+desk>north Fetch T1 1.1 1 emp.1 where id = 1
+north>desk Refused T1 1.1 Gone
+desk>north Fetch T1 1.1 2 emp.2 where id = 1
+north>desk Refused T1 1.1 Gone
+desk>north Del T1 1.1 3 emp.2 1
+desk>north Prepare T1 1.1 3
+north>desk Vote T1 1.1 NO
+desk>north Commit T1 1.1
+north>desk Ack T1 1.1
+leaf emp.1
+1, 'Ada'
+leaf emp.2
+";
+
+/// The same where the store doesn't keep the prepared row.
+const UNKEPT: &str = "start
+desk>north Open T1
+north>desk Ticket T1 1.1
+desk>north Fetch T1 1.1 1 emp.1 where id = 1
+north>desk Rows T1 1.1 1 1
+desk>north Fetch T1 1.1 2 emp.2 where id = 1
+north>desk Rows T1 1.1 2 1
+desk>north Del T1 1.1 3 emp.2 1
+desk>north Prepare T1 1.1 3
+north>desk Vote T1 1.1 NO
+desk>north Abort T1 1.1
+desk>north Prepare T1 1.1 3
+north>desk Vote T1 1.1 NO
+leaf emp.2
+1, 7, 100
+";
+
+/// A prepared row that a restart finds again, and an abort throws away. A visit reads what it intends itself.
+const ABORTED: &str = "start
+desk>north Open T1
+north>desk Ticket T1 1.1
+desk>north Fetch T1 1.1 1 emp.2
+north>desk Rows T1 1.1 1 1
+desk>north Put T1 1.1 2 emp.2 2, 12, 100
+desk>north Fetch T1 1.1 3 emp.2 where id = 2
+north>desk Rows T1 1.1 3 1
+desk>north Del T1 1.1 4 emp.2 1
+desk>north Fetch T1 1.1 5 emp.2 where id = 1
+north>desk Rows T1 1.1 5 0
+desk>north Prepare T1 1.1 5
+north>desk Vote T1 1.1 YES
+restart
+inquire
+north>desk Inquire T1 1.1
+desk>north Abort T1 1.1
+desk>north Abort T1 1.1
+inquire
+leaf emp.2
+1, 7, 100
+";
+
+/// What the site has at first.
+const PARTS: [&str; 2] = ["emp.1 1, 'Ada'", "emp.2 1, 7, 100"];
+
+/// Whether a site over lists answers to the lines of a script what the script says.
+fn plays(alloc: Global, parts: &[&str], script: &str) -> Result<bool, Memory> {
+    let told = played(alloc, opening(alloc, parts)?, script)?;
+    Ok(told.as_str() == script)
+}
+
+#[test]
+fn letters_of_a_site(rt: HostRuntime) {
+    let nothing: [&str; 0] = [];
+    let cases = [
+        ("worked", &nothing[..], WORKED),
+        ("moved", &PARTS[..], MOVED),
+        ("aborted", &PARTS[..], ABORTED),
+    ];
+    for (name, parts, script) in cases {
+        let same = plays(rt.alloc(), parts, script).or_else(|_| plays(rt.alloc(), parts, script));
+        assert!(rt; same == Ok(true), "{name}");
+    }
+}
+
+/// A script with a store's refusal told behind the first line of this text.
+fn with_refusal(alloc: Global, script: &str, line: &str) -> Result<String, Memory> {
+    let mut told = String::new(alloc);
+    let mut waits = true;
+    for next in script.lines() {
+        writeln!(told, "{next}")?;
+        if waits && next == line {
+            waits = false;
+            told.push_str("2 Store\n")?;
+        }
+    }
+    Ok(told)
+}
+
+/// Whether a site whose store refuses its call of this number answers what the script says, with the
+/// refusal behind this line: the letter that met it does, given again, what it does without.
+fn refuses(alloc: Global, script: &str, call: u64, line: &str) -> Result<bool, Memory> {
+    let store = Refusing::new(opening(alloc, &PARTS)?, call);
+    let told = played(alloc, store, script)?;
+    Ok(told.as_str() == with_refusal(alloc, script, line)?.as_str())
+}
+
+#[test]
+fn refused_calls(rt: HostRuntime) {
+    let cases = [
+        (MOVED, 1, "start"),
+        (MOVED, 2, "start"),
+        (MOVED, 3, "desk>north Fetch T1 1.1 1 emp.1 where id = 1"),
+        (MOVED, 4, "desk>north Fetch T1 1.1 2 emp.2 where id = 1"),
+        (UNKEPT, 5, "no refusal is told"),
+        (MOVED, 6, "desk>north Commit T1 1.1"),
+        (MOVED, 7, "leaf emp.1"),
+        (ABORTED, 3, "desk>north Fetch T1 1.1 1 emp.2"),
+        (ABORTED, 7, "restart"),
+        (ABORTED, 8, "restart"),
+        (ABORTED, 9, "desk>north Abort T1 1.1"),
+    ];
+    for (script, call, line) in cases {
+        let same = refuses(rt.alloc(), script, call, line).or_else(|_| refuses(
+            rt.alloc(),
+            script,
+            call,
+            line,
+        ));
+        assert!(rt; same == Ok(true), "call {call}: {line}");
+    }
+}
