@@ -1,7 +1,17 @@
 //! The coordinator's machine: transactions from their beginning to their end, over any store.
 //!
-//! Stands on `terms`, `meaning`, `reader`, `store` and `protocol`. So far there is no public call: the steps of
-//! one transaction, each the protocol's turn (`IsTurn`), of which the machine is to be made.
+//! Stands on `terms`, `meaning`, `reader`, `catalog`, `store` and `protocol`. The contract that the crates above
+//! use: each call of `Desk` does to the coordinator what the protocol's table says (`Steps`), and after a
+//! refusal nothing has changed. Statements and letters are no public call yet.
+//!
+//! ```text
+//! // the next life begins; on a refusal catalogue and store come back as they were
+//! let mut desk = Desk::start(alloc, catalog, store)?;
+//! let out = desk.begin()?;             // the reply names the transaction
+//! let out = desk.commit(txn)?;         // Prepare to each visited site, or committed at once
+//! let out = desk.rollback(txn)?;       // Abort to each visited site that may hold locks
+//! let out = desk.restart()?;           // Commit again to the voters of each commit row
+//! ```
 #![tactic(auto)]
 
 mod acking;
