@@ -27,8 +27,7 @@ use Rattle.desk.specs.Calls.{notices}
 use Rattle.desk.specs.Database.{Database, language}
 use Rattle.desk.specs.Spots.{is_at, nowhere, sites_of, spot_in}
 use Rattle.desk.specs.Standing.{txn_of}
-use Rattle.desk.specs.State.{Begins, Fits, IsBegun, Table, desk_of, is_open, notice_of, open_among, table_from, txn_at}
-use Rattle.desk.specs.Turn.{HasSites}
+use Rattle.desk.specs.State.{Begins, Fits, IsBegun, IsIn, Table, desk_of, is_open, notice_of, open_among, table_from, txn_at}
 use Rattle.desk.specs.Voters.{kept_voters}
 use Rattle.desk.proofs.Acknowledged.{txn_is}
 use Rattle.desk.proofs.Settled.{few_names, is_within, unknown_is}
@@ -153,7 +152,7 @@ module _ (db : Database) (kept : DeskContent) (entries : Entries) (undecided lif
     listed = λ j e. subst (In j) (sym keys_are) (listed_now j (ap is_some (sym (there j)) ∙ e));
     lives = λ j here. lives_now j (subst (In j) keys_are here);
     begun = λ j e. stood_all next (Some first) before.standing (λ i o. is_some o ≡ true → IsBegun now i) (λ f. inr (refl, omega arith)) (λ i a f. later i (fits.begun i f)) j (ap is_some (sym (there j)) ∙ e);
-    sites = λ j s e. stood_all next (Some first) before.standing (λ i o. o ≡ Some s → HasSites db.sites s) (λ f. subst (HasSites db.sites) (some_is f) (its_sites sites ∙ sym those)) (λ i a f. fits.sites i s f) j (sym (there j) ∙ e);
+    sites = λ j s e. stood_all next (Some first) before.standing (λ i o. o ≡ Some s → IsIn db s) (λ f. subst (IsIn db) (some_is f) (its_sites sites ∙ sym those, tt)) (λ i a f. fits.sites i s f) j (sym (there j) ∙ e);
     counted = one_more;
     short = λ j. subst (λ o. desk.is_short_txn (txn_of db o) ≡ true) (sym (there j)) (stood_all next (Some first) before.standing (λ i o. desk.is_short_txn (txn_of db o) ≡ true) (ap desk.is_short_txn fresh_now ∙ none_sent db.sites) (λ i a. fits.short i) j);
     few = few;

@@ -1,6 +1,5 @@
 -- A step of a statement is the protocol's.
 use Rattle.std.proofs.Common.{◌≡◌, refl, sym, ap, ◌∙◌, subst, ℕ, suc, nat_eq, Bool, true, false, List, [], ◌∷◌, map, length, if◌then◌else◌, ◌⊎◌, inl, inr, Option, Some, None}
-use Rattle.std.specs.Cmp.Lexicographic.{pointwise}
 use Rattle.std.specs.List.{list_any, filter_map}
 use Rattle.std.specs.Option.{option_map}
 use Rattle.std.proofs.lemmas.Bool.{eqb-true}

@@ -18,16 +18,19 @@ use Rattle.desk.specs.declared.reply.Notice.{Notice}
 use Rattle.desk.specs.declared.reply.Reply.{Reply}
 use Rattle.desk.specs.declared.standing.Standing.{Standing}
 use Rattle.desk.specs.declared.standing.Standing.TheVariants as standing
-use Rattle.desk.specs.declared.turn.After.TheVariants.{Becomes, Stays}
+use Rattle.desk.specs.declared.turn.After.{After}
+use Rattle.desk.specs.Spots.{sites_of}
+use Rattle.desk.specs.Stepped.{IsAtHome}
+use Rattle.desk.specs.declared.turn.After.TheVariants.{Becomes, Ends, Stays}
 use Rattle.desk.specs.declared.turn.Turn.{Turn}
 use Rattle.desk.specs.declared.undecided.Undecided.{Undecided}
 use Rattle.protocol.proofs.Basics.{clash, if_false, some_is}
 use Rattle.desk.specs.Calls.{IsAt, notices, open_in}
 use Rattle.desk.specs.Database.{Database, language, replied, sent}
 use Rattle.desk.specs.Standing.{txn_of, undecided_of}
-use Rattle.desk.specs.State.{Fits, Steps, Table, closes, desk_of, is_open, notice_of, settled, table_from, table_of, txn_at}
+use Rattle.desk.specs.State.{Fits, IsIn, IsInAfter, Steps, Table, closes, desk_of, is_open, notice_of, settled, table_from, table_of, txn_at}
 use Rattle.desk.specs.Taking.{may_send}
-use Rattle.desk.specs.Turn.{AtSites, HasSites, IsTurn, after_of, told, told_to}
+use Rattle.desk.specs.Turn.{AtSites, IsTurn, after_of, told, told_to}
 use Rattle.desk.specs.Voters.{Keeps, kept_voters}
 use Rattle.desk.proofs.Acknowledged.{keeps_same, txn_is, unchanged}
 use Rattle.desk.proofs.Limits.{short_came, shut_came, shut_request}
@@ -45,8 +48,15 @@ is_at db kept table distinct fits txn = go (table.standing txn) refl
   where
     go : (o : Option Standing) → table.standing txn ≡ o → IsAt db o
     go None e = tt
-    go (Some (standing.Undecided u)) e = let s : HasSites db.sites (standing.Undecided u) = fits.sites txn (standing.Undecided u) e in record { sites = s; distinct = subst AreDistinct (sym s) distinct }
+    go (Some (standing.Undecided u)) e = let s : sites_of u.spots ≡ db.sites = (fits.sites txn (standing.Undecided u) e).0 in record { sites = s; distinct = subst AreDistinct (sym s) distinct }
     go (Some (standing.Committed c)) e = tt
+
+-- a transaction in its first phase sends nothing more
+is_in : (db : Database) (a : After) → AtSites db.sites a → IsInAfter db a
+is_in db Stays sites = tt
+is_in db Ends sites = tt
+is_in db (Becomes (standing.Undecided u)) sites = (sites.0, subst (IsAtHome db) (sym sites.1) tt)
+is_in db (Becomes (standing.Committed c)) sites = tt
 
 -- ---- where nothing changes in memory
 module _ (db : Database) (kept new : DeskContent) (table : Table) (fits : Fits db kept table) (k : Txn) where
@@ -96,7 +106,7 @@ module _ (db : Database) (kept new : DeskContent) (present : Present) (sorted : 
     pub moved : (now : Standing) → before.standing k ≡ Some now → table ≡ table_from (settled k turn.after present.standings.entries) (if is_open (Some now) && closes turn.after then present.undecided - 1 else present.undecided) present.life present.number
     pub still : turn.after ≡ Stays → table ≡ before
 
-  module _ (turn : Turn) (wanted : desk.Turn (language db)) (is : IsTurn db k (before.standing k) turn wanted) (sites : AtSites db.sites turn.after) (keeps : Keeps k (kept_voters (after_of (before.standing k) turn.after)) kept new)
+  module _ (turn : Turn) (wanted : desk.Turn (language db)) (is : IsTurn db k (before.standing k) turn wanted) (sites : IsInAfter db turn.after) (keeps : Keeps k (kept_voters (after_of (before.standing k) turn.after)) kept new)
       (short : desk.is_short_txn wanted.txn ≡ true) (shut : desk.is_undecided (txn_of db (before.standing k)) ≡ false → desk.is_undecided wanted.txn ≡ false)
       (some : (is_some (before.standing k) ≡ true) ⊎ (turn.after ≡ Stays)) (table : Table) (made : IsSettled turn table) where
     abbrev FitsSo : Table → Type 0
@@ -150,7 +160,7 @@ module _ (db : Database) (kept : DeskContent) (present : Present) (sorted : IsSt
       Steps db (table_of present) kept table k wanted written heard
   asks is sites keeps short some table made written heard letters replies =
       let at = is_at db kept (table_of present) distinct fits k in
-      makes db kept kept present sorted fits k turn wanted (is at) (sites at)
+      makes db kept kept present sorted fits k turn wanted (is at) (is_in db turn.after (sites at))
       (keeps_same k (kept_voters (after_of o turn.after)) kept kept (sym (fits.rows k) ∙ sym keeps) (unchanged kept))
       (short (fits.short k)) (shut_request (txn_name k) choice request (txn_of db o)) some table made written heard letters replies
 
@@ -170,7 +180,7 @@ module _ (db : Database) (kept new : DeskContent) (present : Present) (sorted : 
   takes rests is sites keeps some table made written heard was letters replies was_is =
       let at = is_at db kept (table_of present) distinct fits k in
       subst (λ b. Steps db (table_of present) new table k (coming b) written heard) (sym was_is)
-      (makes db kept new present sorted fits k turn (coming turn.kept) (is at) (sites at) (keeps at (sym (fits.rows k)))
+      (makes db kept new present sorted fits k turn (coming turn.kept) (is at) (is_in db turn.after (sites at)) (keeps at (sym (fits.rows k)))
       (short_came db (txn_name k) a turn.kept choice stood said rests (fits.short k)) (shut_came db (txn_name k) a turn.kept choice said (txn_of db stood))
       some table made written heard letters replies)
 
@@ -186,7 +196,7 @@ module _ (db : Database) (kept : DeskContent) (present : Present) (sorted : IsSt
   never false = refl
 
   pub goes_on : (wanted : desk.Turn (language db)) (out : Vec Letter Global) (reply : Option Reply) → desk.Known (undecided_of db new) ≡ wanted.txn → map (sent db) out.items ≡ wanted.letters → told_to (txn_name k) reply ≡ filter_map told wanted.deeds →
-      HasSites db.sites (standing.Undecided new) → desk.is_short_txn wanted.txn ≡ true → (table : Table) → table ≡ gone_on → (written : List Letter) (heard : List Notice) → written ≡ out.items → heard ≡ notices k reply →
+      IsIn db (standing.Undecided new) → desk.is_short_txn wanted.txn ≡ true → (table : Table) → table ≡ gone_on → (written : List Letter) (heard : List Notice) → written ≡ out.items → heard ≡ notices k reply →
       Steps db (table_of present) kept table k wanted written heard
   goes_on wanted out reply stands letters replies sites short table table_is written heard written_is heard_is =
       let turn : Turn = record { after = Becomes (standing.Undecided new); letters = out; reply = reply; kept = true } in

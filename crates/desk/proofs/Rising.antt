@@ -21,9 +21,8 @@ use Rattle.desk.specs.declared.standing.Standing.{Standing}
 use Rattle.desk.specs.declared.standing.Standing.TheVariants as standing
 use Rattle.desk.specs.Database.{Database}
 use Rattle.desk.specs.Starting.{Rises, are_begun, resting, row_standing, stood_by}
-use Rattle.desk.specs.State.{Fits, Table, is_open, open_among, table_from}
+use Rattle.desk.specs.State.{Fits, IsIn, Table, is_open, open_among, table_from}
 use Rattle.desk.specs.Standing.{txn_of}
-use Rattle.desk.specs.Turn.{HasSites}
 use Rattle.protocol.specs.Desk.{is_short_txn}
 use Rattle.desk.specs.Voters.{kept_voters}
 use Rattle.desk.proofs.Acknowledged.{txn_is}
@@ -138,9 +137,9 @@ module _ (db : Database) (all : DeskKept) (kept after : DeskContent) (lists : Li
   none_open [] = refl
   none_open (j ∷ js) = ap (λ b. length (cond b (j ∷ filter (λ i. is_open (table.standing i)) js) (filter (λ i. is_open (table.standing i)) js))) (ap is_open (there j) ∙ shut (after.commits j)) ∙ none_open js
 
-  at_sites : (r : Option (List Voter)) (s : Standing) → resting r ≡ Some s → HasSites db.sites s
+  at_sites : (r : Option (List Voter)) (s : Standing) → resting r ≡ Some s → IsIn db s
   at_sites None s e = cc
-  at_sites (Some voters) s e = subst (HasSites db.sites) (some_is e) tt
+  at_sites (Some voters) s e = subst (IsIn db) (some_is e) tt
 
   short : (r : Option (List Voter)) → is_short_txn (txn_of db (resting r)) ≡ true
   short None = refl

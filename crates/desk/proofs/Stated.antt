@@ -1,7 +1,6 @@
 -- A statement that begins is the protocol's.
-use Rattle.std.proofs.Common.{◌≡◌, refl, sym, ap, ◌∙◌, subst, ℕ, List, [], ◌∷◌, ◌++◌, map, Some, None}
+use Rattle.std.proofs.Common.{◌≡◌, refl, sym, ap, ◌∙◌, subst, List, [], ◌∷◌, ◌++◌, map, None}
 use Rattle.std.proofs.lemmas.List.{map-append}
-use Rattle.std.specs.List.{filter_map}
 use Rattle.std.specs.Option.{option_map}
 use Rattle.terms.specs.declared.leaf.Leaf.{Leaf}
 use Rattle.meaning.specs.declared.statement.Statement.{Statement}
@@ -17,9 +16,8 @@ use Rattle.desk.specs.declared.undecided.Stage.{Stage}
 use Rattle.desk.specs.declared.undecided.Stage.TheVariants as stage
 use Rattle.desk.specs.declared.undecided.Undecided.{Undecided}
 use Rattle.desk.specs.Database.{Database, language, sent}
-use Rattle.desk.specs.Opening.{HaveSpots, opens, visited, visits}
+use Rattle.desk.specs.Opening.{HaveSpots, opens, visits}
 use Rattle.desk.specs.Sending.{AsksAtHome, asks_go}
-use Rattle.desk.specs.Spots.{spot_in}
 use Rattle.desk.specs.Standing.{ask_of, stage_of, undecided_of}
 use Rattle.desk.specs.Stating.{ask_sites}
 use Rattle.desk.specs.Stepped.{IsStep}

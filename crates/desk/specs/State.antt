@@ -18,8 +18,10 @@ use Rattle.desk.specs.declared.standing.Standing.TheVariants as standing
 use Rattle.desk.specs.declared.turn.After.{After}
 use Rattle.desk.specs.declared.turn.After.TheVariants.{Stays, Ends, Becomes}
 use Rattle.desk.specs.Database.{Database, language, sent}
+use Rattle.desk.specs.Spots.{sites_of}
 use Rattle.desk.specs.Standing.{txn_of}
-use Rattle.desk.specs.Turn.{HasSites, told}
+use Rattle.desk.specs.Stepped.{IsAtHome}
+use Rattle.desk.specs.Turn.{told}
 use Rattle.desk.specs.Voters.{kept_voters}
 
 -- what is in memory, read transaction by transaction
@@ -62,6 +64,17 @@ closes Ends = true
 closes (Becomes (standing.Undecided undecided)) = false
 closes (Becomes (standing.Committed committed)) = true
 
+-- an undecided transaction has to do with the sites of the database, and what its statement still sends has the sites of its leaves
+abbrev pub IsIn : Database → Standing → Type 0
+IsIn db (standing.Undecided undecided) = (sites_of undecided.spots ≡ db.sites) × IsAtHome db undecided.stage
+IsIn db (standing.Committed committed) = Unit
+
+-- so after a step
+abbrev pub IsInAfter : Database → After → Type 0
+IsInAfter db Stays = Unit
+IsInAfter db Ends = Unit
+IsInAfter db (Becomes standing) = IsIn db standing
+
 -- a transaction was begun in an earlier life, or in this one
 abbrev pub IsBegun : Table → Txn → Type 0
 IsBegun table txn = (txn.life < table.life) ⊎ ((txn.life ≡ table.life) × (txn.number ≤ table.number))
@@ -81,7 +94,7 @@ pub record Fits (db : Database) (kept : DeskContent) (table : Table) : Type 0 wh
   -- they were begun
   pub begun : (txn : Txn) → is_some (table.standing txn) ≡ true → IsBegun table txn
   -- each has to do with the sites of the database
-  pub sites : (txn : Txn) (standing : Standing) → table.standing txn ≡ Some standing → HasSites db.sites standing
+  pub sites : (txn : Txn) (standing : Standing) → table.standing txn ≡ Some standing → IsIn db standing
   -- so many are undecided
   pub counted : table.undecided ≡ open_among table.standing table.txns
   -- the limits are kept

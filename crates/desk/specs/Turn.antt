@@ -55,15 +55,15 @@ after_of old Stays = old
 after_of old Ends = None
 after_of old (Becomes standing) = Some standing
 
--- an undecided transaction after a step has to do with these sites
-abbrev pub HasSites : List (List ℕ) → Standing → Type 0
-HasSites sites (standing.Undecided undecided) = sites_of undecided.spots ≡ sites
-HasSites sites (standing.Committed committed) = Unit
+-- what stands after a step that is no statement's: a transaction in its first phase at these sites, or a decided one
+abbrev pub InPhaseAt : List (List ℕ) → Standing → Type 0
+InPhaseAt sites (standing.Undecided undecided) = (sites_of undecided.spots ≡ sites) × (undecided.stage ≡ stage.Voting)
+InPhaseAt sites (standing.Committed committed) = Unit
 
 abbrev pub AtSites : List (List ℕ) → afters.After → Type 0
 AtSites sites Stays = Unit
 AtSites sites Ends = Unit
-AtSites sites (Becomes standing) = HasSites sites standing
+AtSites sites (Becomes standing) = InPhaseAt sites standing
 
 -- the step is the protocol's
 pub record IsTurn (db : Database) (txn : Txn) (old : Option Standing) (turn : Turn) (wanted : protocol.Turn (language db)) : Type 0 where

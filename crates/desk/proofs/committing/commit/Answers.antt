@@ -24,5 +24,7 @@ returns-clause-turn c = λ db are.
     (sym (c.are_all_in.ensures ∙ ap (list_all is_in) c.deref.ensures.value) ∙ c.if-are_all_in.false) (c.in_ok-letters.ensures ∙ ap (letters_from c.args.txn Prepare) c.as_slice-2.ensures)
 
 pub returns-clause-sites : goal.returns-clause-sites
-returns-clause-sites c =
-    ap (λ u. sites_of u.spots) c.voting.ensures ∙ ap sites_of (c.in_ok-spots.ensures ∙ ap (map (with_vote None)) c.as_slice.ensures) ∙ same_sites (with_vote None) (λ s. refl) c.args.undecided.now.spots
+returns-clause-sites c = (
+  ap (λ u. sites_of u.spots) c.voting.ensures ∙ ap sites_of (c.in_ok-spots.ensures ∙ ap (map (with_vote None)) c.as_slice.ensures) ∙ same_sites (with_vote None) (λ s. refl) c.args.undecided.now.spots,
+  ap (λ u. u.stage) c.voting.ensures,
+)

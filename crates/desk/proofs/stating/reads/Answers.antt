@@ -1,5 +1,5 @@
 -- Why `reads` meets its contract.
-use Rattle.std.proofs.Common.{rules, ◌≡◌, refl, sym, ap, ◌∙◌}
+use Rattle.std.proofs.Common.{rules, refl}
 use Rattle.desk.proofs.Stated.{reads_is}
 use Rattle.desk.proofs.stating.reads.Goals as goal
 

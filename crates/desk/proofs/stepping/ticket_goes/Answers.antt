@@ -1,5 +1,5 @@
 -- Why `ticket_goes` meets its contract.
-use Rattle.std.proofs.Common.{rules, ◌≡◌, refl, sym, ap, ◌∙◌, subst}
+use Rattle.std.proofs.Common.{rules, ◌≡◌, refl, subst}
 use Rattle.desk.specs.declared.undecided.Stage.TheVariants as stages
 use Rattle.desk.specs.Stepped.{IsAtHome}
 use Rattle.desk.proofs.Going.{ticket_reading, ticket_idle, ticket_wrote}

@@ -1,5 +1,5 @@
 -- Why `works` meets its contract.
-use Rattle.std.proofs.Common.{rules, ◌≡◌, refl, sym, ap, ◌∙◌}
+use Rattle.std.proofs.Common.{rules, refl}
 use Rattle.desk.proofs.Evaluated.{works_is}
 use Rattle.desk.proofs.working.works.Goals as goal
 
