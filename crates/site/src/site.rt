@@ -151,6 +151,8 @@ impl<S: SiteStore> Site<S> {
         ensures all { S.is_clean self.new.store → IfOk result (Lists (S.kept self.new.store)) }
         ensures same { S.is_clean self.new.store → S.is_sound self.old.store → IsUnchanged (S.kept self.old.store) (S.kept self.new.store) }
         ensures memory { self.new.present ≡ self.old.present }
+        ensures own { result ≢ Err faults.Stranger }
+        ensures within { result ≢ Err faults.Full }
         ensures refusal { result ≡ Err (faults.Store store_faults.Refused) → HasRefused (S.refused self.old.store) (S.refused self.new.store) }
         ensures intact { S.is_clean self.new.store → S.is_sound self.old.store → result ≢ Err (faults.Store store_faults.Damaged) }
     {
