@@ -2,19 +2,21 @@
 # Times a site over lists: a fetch by key, and preparing and applying one write, with 2,500 and with 20,000 parts in
 # the leaf, and with 10 and with 1,000 visits that have locks on another leaf. Fails where the larger number costs more
 # than 1.3 times the smaller. Works on a copy of the repository with the work that earlier checks kept, so check the
-# crate `site` first; the program that it times is bench/site/main.rt.in.
+# crate `site` first; the program that it times is bench/site/main.rt.in. With a PROGRAM that was built so, it times
+# that.
 #
-# usage: bench/site.sh
+# usage: bench/site.sh [PROGRAM]
 set -eu
 top=$(cd "$(dirname "$0")/.." && pwd)
-exec python3 - "$top" <<'PYTHON'
+exec python3 - "$top" "$@" <<'PYTHON'
 import os
 import shutil
 import subprocess
 import sys
 import tempfile
 
-TOP, MOST, ROUNDS = sys.argv[1], 1.3, 5
+TOP, MOST, ROUNDS = sys.argv[1], 1.3, 9
+SIZES = {"few": (2500, 10), "20,000 parts for 2,500": (20000, 10), "1,000 visits for 10": (2500, 1000)}
 
 
 def built(room):
@@ -32,19 +34,22 @@ def built(room):
     return f"{it}/crates/timed/out/timed"
 
 
-def nanoseconds(program, parts, visits):
-    """A fetch and a write, each the least of several runs, so that other work on the machine counts little."""
-    runs = [[int(word) for word in subprocess.check_output([program, str(parts), str(visits)], text=True).split()] for _ in range(ROUNDS)]
-    return [min(column) for column in zip(*runs)]
+def nanoseconds(program):
+    """A fetch and a write at each size: the least of several runs, taken in turns, so that other work on the machine counts little."""
+    best = {name: [1e9, 1e9] for name in SIZES}
+    for _ in range(ROUNDS):
+        for name, (parts, visits) in SIZES.items():
+            ran = subprocess.check_output([program, str(parts), str(visits)], text=True)
+            best[name] = [min(pair) for pair in zip(best[name], map(int, ran.split()))]
+    return best
 
 
 failed = False
 room = tempfile.mkdtemp(prefix="site-")
 try:
-    program = built(room)
-    few = nanoseconds(program, 2500, 10)
-    for name, many in (("20,000 parts for 2,500", nanoseconds(program, 20000, 10)), ("1,000 visits for 10", nanoseconds(program, 2500, 1000))):
-        for what, before, after in zip(("a fetch by key", "a write prepared and applied"), few, many):
+    best = nanoseconds(sys.argv[2] if len(sys.argv) > 2 else built(room))
+    for name in list(SIZES)[1:]:
+        for what, before, after in zip(("a fetch by key", "a write prepared and applied"), best["few"], best[name]):
             wrong = after > MOST * before
             failed = failed or wrong
             print(f"{name}: {what}: {after} ns after {before} ns, ratio {after / before:.2f}{' TOO MUCH' if wrong else ''}")

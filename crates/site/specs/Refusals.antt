@@ -5,11 +5,12 @@ use Rattle.store.specs.declared.letter.Body.TheVariants as body
 use Rattle.store.specs.declared.order.Order as orders
 use Rattle.store.specs.declared.order.Order.TheVariants.{Open, Fetch, Intend, Prepare, Commit, Abort}
 use Rattle.site.specs.declared.locks.Locks.{Locks}
-use Rattle.protocol.specs.Letters.{leaf_of}
+use Rattle.protocol.specs.Letters.{leaf_of, at_key}
 use Rattle.site.specs.Locks.{place_in}
 use Rattle.site.specs.State.{Table}
-use Rattle.site.specs.Turn.{ballot}
+use Rattle.site.specs.Turn.{ballot, read_turn, write_turn}
 use Rattle.site.specs.declared.turn.Ballot.TheVariants.{Keeps}
+use Rattle.site.specs.declared.turn.Turn.TheVariants.{Go}
 
 -- an operation on a leaf that isn't one of these
 abbrev pub IsElsewhere : List Locks → orders.Order → Type 0
@@ -29,6 +30,15 @@ IsTooMuch alive number (Prepare prepare) = ⊥
 IsTooMuch alive number (Commit ticket) = ⊥
 IsTooMuch alive number (Abort ticket) = ⊥
 
+-- what would be done leads past a limit: a visit more than 1,024, or a number of 64 bits that has 2^63 in it
+abbrev pub IsBeyond : Table → orders.Order → Type 0
+IsBeyond table Open = (1024 ≤ table.alive) ⊎ (2 ^ 63 ≤ table.number + 1)
+IsBeyond table (Fetch fetch) = (read_turn fetch.ticket fetch.op (table.locks fetch.leaf) (table.standing fetch.ticket) ≡ Go) × (2 ^ 63 ≤ fetch.op)
+IsBeyond table (Intend intention) = (write_turn intention.ticket intention.op (leaf_of intention.write) (at_key intention.write) (table.locks (leaf_of intention.write)) (table.standing intention.ticket) ≡ Go) × (2 ^ 63 ≤ intention.op)
+IsBeyond table (Prepare prepare) = ⊥
+IsBeyond table (Commit ticket) = ⊥
+IsBeyond table (Abort ticket) = ⊥
+
 -- a visit is to be prepared that has done what was sent, and intends something: the store is to keep that
 abbrev pub IsToKeep : Table → orders.Order → Type 0
 IsToKeep table Open = ⊥
@@ -46,6 +56,10 @@ AsksElsewhere locks (body.Reply reply) = ⊥
 abbrev pub AsksTooMuch : ℕ → ℕ → bodies.Body → Type 0
 AsksTooMuch alive number (body.Order order) = IsTooMuch alive number order
 AsksTooMuch alive number (body.Reply reply) = ⊥
+
+abbrev pub AsksBeyond : Table → bodies.Body → Type 0
+AsksBeyond table (body.Order order) = IsBeyond table order
+AsksBeyond table (body.Reply reply) = ⊥
 
 abbrev pub AsksToKeep : Table → bodies.Body → Type 0
 AsksToKeep table (body.Order order) = IsToKeep table order

@@ -1,6 +1,6 @@
 //! What a site has in memory, and a restart loses.
 
-ghost use Rattle.std.specs.Prelude.{◌≡◌, ◌+◌, ◌-◌, ◌^◌, ◌<◌, ◌≤◌, ◌⊎◌, Some, IfOk, IfErr, OnOk, OnErr, length, map, slice_get, slice_set, unwrap_or};
+ghost use Rattle.std.specs.Prelude.{◌≡◌, ◌+◌, ◌-◌, ◌^◌, ◌<◌, ◌≤◌, ◌⊎◌, Some, Err, IfOk, IfErr, OnOk, OnErr, length, map, slice_get, slice_set, unwrap_or};
 ghost use Rattle.std.specs.BTreeMap.{insert_entry, is_at, IsOrdered};
 ghost use Rattle.std.specs.FinMap as fin;
 ghost use Rattle.std.specs.Map.{set_value, remove_entry};
@@ -95,6 +95,7 @@ impl Present {
         ensures ok { OnOk result (table_of self.new ≡ table_from (insert_entry ticket_cmp self.old.standings.entries (next_of (table_of self.old)) (standing.Alive (record { done = 0; changes = fin.empty })))
             self.old.locks.items (self.old.alive + 1) self.old.life (self.old.number + 1)) }
         ensures err { OnErr result (table_of self.new ≡ table_of self.old) }
+        ensures beyond { (1024 ≤ self.old.alive) ⊎ (2 ^ 63 ≤ self.old.number + 1) → result ≡ Err faults.Full }
         ensures ordered { IsOrdered ticket_cmp self.old.standings }
         ensures fault { IfErr result (λ fault. (fault ≡ faults.Memory) ⊎ ((fault ≡ faults.Full) × ((1024 ≤ self.old.alive) ⊎ (2 ^ 63 ≤ self.old.number + 1)))) }
     {

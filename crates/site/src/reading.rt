@@ -10,6 +10,8 @@ ghost use Rattle.protocol.specs.Letters.{name_of};
 ghost use Rattle.site.specs.Locks.{place_in};
 ghost use Rattle.site.specs.Starting.{leaves_in};
 ghost use Rattle.site.specs.State.{Fits, Steps, state_of, table_of};
+ghost use Rattle.site.specs.Turn.{read_turn};
+ghost use Rattle.site.specs.declared.turn.Turn.TheVariants.{Go};
 
 use crate::fault::SiteFault;
 use crate::present::{LAST, Present};
@@ -34,6 +36,8 @@ pub(crate) fn fetch<S: SiteStore>(
     ensures leaves { leaves_in present.new.locks.items ≡ leaves_in present.old.locks.items }
     ensures stranger { result ≡ Err faults.Stranger → place_in fetch.leaf present.old.locks.items ≡ None }
     ensures full { result ≡ Err faults.Full → 2 ^ 63 ≤ fetch.op }
+    ensures beyond { read_turn fetch.ticket fetch.op ((table_of present.old).locks fetch.leaf) ((table_of present.old).standing fetch.ticket) ≡ Go → 2 ^ 63 ≤ fetch.op
+        → (result ≡ Err faults.Full) ⊎ ((result ≡ Err faults.Memory) ⊎ (result ≡ Err faults.Stranger)) }
     ensures clean { S.is_clean store.new → S.is_clean store.old }
     ensures sound { S.is_clean store.new → S.is_sound store.old → S.is_sound store.new }
     ensures ok { S.is_clean store.new → S.is_sound store.old → Fits (S.kept store.old) (table_of present.old) → IfOk result (λ reply. Steps (S.kept store.old) (table_of present.old) (S.kept store.new) (table_of present.new)

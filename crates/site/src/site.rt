@@ -8,7 +8,7 @@ ghost use Rattle.std.specs.Vec.{vec_capacity};
 ghost use Rattle.protocol.specs.Site.{on_letter, on_give_up, inquiries};
 ghost use Rattle.store.specs.SiteContent.{IsUnchanged, BeginsLife, Lists};
 ghost use Rattle.protocol.specs.Letters.{name_of, letter_of, order_body, txn_name, kept_by, kept_in, letters_of};
-ghost use Rattle.site.specs.Refusals.{IsElsewhere, IsTooMuch, IsToKeep, AsksElsewhere, AsksTooMuch, AsksToKeep};
+ghost use Rattle.site.specs.Refusals.{IsElsewhere, IsTooMuch, IsToKeep, IsBeyond, AsksElsewhere, AsksTooMuch, AsksToKeep, AsksBeyond};
 ghost use Rattle.site.specs.Starting.{Begins, Restarts, IsStrange, leaves_in};
 ghost use Rattle.site.specs.State.{Fits, Steps, Takes, state_of, table_of};
 
@@ -151,6 +151,8 @@ impl<S: SiteStore> Site<S> {
         ensures all { S.is_clean self.new.store → IfOk result (Lists (S.kept self.new.store)) }
         ensures same { S.is_clean self.new.store → S.is_sound self.old.store → IsUnchanged (S.kept self.old.store) (S.kept self.new.store) }
         ensures memory { self.new.present ≡ self.old.present }
+        ensures own { result ≢ Err faults.Stranger }
+        ensures within { result ≢ Err faults.Full }
         ensures refusal { result ≡ Err (faults.Store store_faults.Refused) → HasRefused (S.refused self.old.store) (S.refused self.new.store) }
         ensures intact { S.is_clean self.new.store → S.is_sound self.old.store → result ≢ Err (faults.Store store_faults.Damaged) }
     {
@@ -167,6 +169,7 @@ impl<S: SiteStore> Site<S> {
         ensures leaves { leaves_in self.new.present.locks.items ≡ leaves_in self.old.present.locks.items }
         ensures elsewhere { result ≡ Err faults.Stranger → (letter.site ≢ self.old.present.name) ⊎ AsksElsewhere self.old.present.locks.items letter.body }
         ensures full { result ≡ Err faults.Full → AsksTooMuch self.old.present.alive self.old.present.number letter.body }
+        ensures beyond { AsksBeyond (table_of self.old.present) letter.body → (result ≡ Err faults.Full) ⊎ ((result ≡ Err faults.Memory) ⊎ (result ≡ Err faults.Stranger)) }
         ensures clean { S.is_clean self.new.store → S.is_clean self.old.store }
         ensures sound { S.is_clean self.new.store → S.is_sound self.old.store → S.is_sound self.new.store }
         ensures ok { S.is_clean self.new.store → S.is_sound self.old.store → Fits (S.kept self.old.store) (table_of self.old.present)
@@ -188,6 +191,7 @@ impl<S: SiteStore> Site<S> {
         ensures leaves { leaves_in self.new.present.locks.items ≡ leaves_in self.old.present.locks.items }
         ensures elsewhere { result ≡ Err faults.Stranger → (letter.site ≢ self.old.present.name) ⊎ AsksElsewhere self.old.present.locks.items letter.body }
         ensures full { result ≡ Err faults.Full → AsksTooMuch self.old.present.alive self.old.present.number letter.body }
+        ensures beyond { AsksBeyond (table_of self.old.present) letter.body → (result ≡ Err faults.Full) ⊎ ((result ≡ Err faults.Memory) ⊎ (result ≡ Err faults.Stranger)) }
         ensures clean { S.is_clean self.new.store → S.is_clean self.old.store }
         ensures sound { S.is_clean self.new.store → S.is_sound self.old.store → S.is_sound self.new.store }
         ensures ok { S.is_clean self.new.store → S.is_sound self.old.store → Fits (S.kept self.old.store) (table_of self.old.present)
@@ -276,6 +280,7 @@ fn obey<S: SiteStore>(
     ensures vote { IsToKeep (table_of present.old) order → IfOk result (λ reply. kept_by reply ≡ false → (kept ≡ false) ⊎ HasRefused (S.refused store.old) (S.refused store.new)) }
     ensures stranger { result ≡ Err faults.Stranger → IsElsewhere present.old.locks.items order }
     ensures full { result ≡ Err faults.Full → IsTooMuch present.old.alive present.old.number order }
+    ensures beyond { IsBeyond (table_of present.old) order → (result ≡ Err faults.Full) ⊎ ((result ≡ Err faults.Memory) ⊎ (result ≡ Err faults.Stranger)) }
     ensures clean { S.is_clean store.new → S.is_clean store.old }
     ensures sound { S.is_clean store.new → S.is_sound store.old → S.is_sound store.new }
     ensures ok { S.is_clean store.new → S.is_sound store.old → Fits (S.kept store.old) (table_of present.old) → IfOk result (λ reply. Steps (S.kept store.old) (table_of present.old) (S.kept store.new) (table_of present.new)

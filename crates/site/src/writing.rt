@@ -10,6 +10,8 @@ ghost use Rattle.protocol.specs.Letters.{name_of, leaf_of, at_key};
 ghost use Rattle.site.specs.Locks.{place_in};
 ghost use Rattle.site.specs.Starting.{leaves_in};
 ghost use Rattle.site.specs.State.{Fits, Steps, state_of, table_of};
+ghost use Rattle.site.specs.Turn.{write_turn};
+ghost use Rattle.site.specs.declared.turn.Turn.TheVariants.{Go};
 
 use crate::fault::SiteFault;
 use crate::present::{LAST, Present};
@@ -23,6 +25,7 @@ pub(crate) fn open(present: &mut Present) -> Result<Option<Reply>, SiteFault>
     ensures name { present.new.name ≡ present.old.name }
     ensures leaves { leaves_in present.new.locks.items ≡ leaves_in present.old.locks.items }
     ensures own { result ≢ Err faults.Stranger }
+    ensures beyond { (1024 ≤ present.old.alive) ⊎ (2 ^ 63 ≤ present.old.number + 1) → result ≡ Err faults.Full }
     ensures full { result ≡ Err faults.Full → (1024 ≤ present.old.alive) ⊎ (2 ^ 63 ≤ present.old.number + 1) }
     ensures ok { (kept : SiteContent) → Fits kept (table_of present.old) → IfOk result (λ reply. Steps kept (table_of present.old) kept (table_of present.new) Opens reply) }
     ensures err { OnErr result (table_of present.new ≡ table_of present.old) }
@@ -52,6 +55,8 @@ pub(crate) fn intend(
     ensures leaves { leaves_in present.new.locks.items ≡ leaves_in present.old.locks.items }
     ensures stranger { result ≡ Err faults.Stranger → place_in (leaf_of intention.write) present.old.locks.items ≡ None }
     ensures full { result ≡ Err faults.Full → 2 ^ 63 ≤ intention.op }
+    ensures beyond { write_turn intention.ticket intention.op (leaf_of intention.write) (at_key intention.write) ((table_of present.old).locks (leaf_of intention.write)) ((table_of present.old).standing intention.ticket) ≡ Go → 2 ^ 63 ≤ intention.op
+        → (result ≡ Err faults.Full) ⊎ ((result ≡ Err faults.Memory) ⊎ (result ≡ Err faults.Stranger)) }
     ensures ok { (kept : SiteContent) → Fits kept (table_of present.old) → IfOk result (λ reply. Steps kept (table_of present.old) kept (table_of present.new)
         (on_write (name_of intention.ticket) intention.op (leaf_of intention.write) (at_key intention.write) ((state_of kept (table_of present.old)).status (name_of intention.ticket))) reply) }
     ensures err { OnErr result (table_of present.new ≡ table_of present.old) }

@@ -1,5 +1,5 @@
 //! Tests of what no row under `tests/rows` can show yet: statements over several relations, by `read` and `run`
-//! on a whole database, and public calls that the program doesn't make, each with ample memory. Each call is
+//! on a whole database, public calls that the program doesn't make, and the letters of a site. Each call is
 //! made once more where memory ran out, so the tests pass with any one allocation refused too.
 #![tactic(auto)]
 

@@ -42,39 +42,48 @@ fn opening(alloc: Global, lines: &[&str]) -> Result<PlainSite, Memory> {
     Ok(PlainSite::with_parts(alloc, parts))
 }
 
-fn put_letter(alloc: Global, told: &mut String, letter: &Letter) -> Result<(), Memory> {
+/// What is told of a site.
+#[derive(Drop)]
+struct Told {
+    text: String,
+    /// Whether a call that found no memory is made once more; else the whole script is played anew.
+    again: bool,
+}
+
+impl Told {
+    fn line(&mut self, line: &str) -> Result<(), Memory> {
+        self.text.push_str(line)?;
+        self.text.push('\n')?;
+        Ok(())
+    }
+
+    /// Tells a fault, but not that memory ran out. Says whether the call is to be made once more.
+    fn fault(&mut self, fault: SiteFault) -> Result<bool, Memory> {
+        if fault == SiteFault::Memory {
+            return if self.again { Ok(true) } else { Err(Memory) };
+        }
+        writeln!(self.text, "{} {fault}", fault.number())?;
+        Ok(matches!(fault, SiteFault::Store(_)))
+    }
+}
+
+fn put_letter(alloc: Global, told: &mut Told, letter: &Letter) -> Result<(), Memory> {
     let txn = format!(in alloc; "T{}", letter.txn.number)?;
     let mut columns = Vec::new(alloc);
     columns.push(Text::copy_of(alloc, "id")?)?;
-    let text = letter_text(alloc, letter, txn.as_str(), columns.as_slice())?;
-    told.push_str(text.as_str())?;
-    told.push('\n')?;
-    Ok(())
+    told.line(letter_text(alloc, letter, txn.as_str(), columns.as_slice())?.as_str())
 }
 
-fn put_letters(alloc: Global, told: &mut String, letters: &[Letter]) -> Result<(), Memory> {
+fn put_letters(alloc: Global, told: &mut Told, letters: &[Letter]) -> Result<(), Memory> {
     for letter in letters {
         put_letter(alloc, told, letter)?;
     }
     Ok(())
 }
 
-/// Tells a fault, but not that memory ran out. Says whether the call is to be made once more.
-fn put_fault(told: &mut String, fault: SiteFault) -> Result<bool, Memory> {
-    if fault == SiteFault::Memory {
-        return Ok(true);
-    }
-    writeln!(told, "{} {fault}", fault.number())?;
-    Ok(matches!(fault, SiteFault::Store(_)))
-}
-
 /// Starts the site.
-fn start<S: SiteStore + Drop>(
-    alloc: Global,
-    told: &mut String,
-    store: S,
-) -> Result<Site<S>, Memory> {
-    told.push_str("start\n")?;
+fn start<S: SiteStore + Drop>(alloc: Global, told: &mut Told, store: S) -> Result<Site<S>, Memory> {
+    told.line("start")?;
     let leaves = leaves(alloc)?;
     let mut store = store;
     for _ in 0..TRIES {
@@ -82,7 +91,7 @@ fn start<S: SiteStore + Drop>(
         match Site::start(alloc, name, store, leaves.as_slice()) {
             Ok(site) => return Ok(site),
             Err(Unstarted { fault, store: back }) => {
-                put_fault(told, fault)?;
+                told.fault(fault)?;
                 store = back;
             }
         }
@@ -93,7 +102,7 @@ fn start<S: SiteStore + Drop>(
 /// Gives the site a letter, and tells what it answers.
 fn give<S: SiteStore + Drop>(
     alloc: Global,
-    told: &mut String,
+    told: &mut Told,
     site: &mut Site<S>,
     letter: &Letter,
 ) -> Result<(), Memory> {
@@ -101,7 +110,7 @@ fn give<S: SiteStore + Drop>(
         match site.take(letter.copy()?) {
             Ok(letters) => return put_letters(alloc, told, letters.as_slice()),
             Err(fault) => {
-                if !put_fault(told, fault)? {
+                if !told.fault(fault)? {
                     return Ok(());
                 }
             }
@@ -110,12 +119,12 @@ fn give<S: SiteStore + Drop>(
     Ok(())
 }
 
-fn restart<S: SiteStore + Drop>(told: &mut String, site: &mut Site<S>) -> Result<(), Memory> {
+fn restart<S: SiteStore + Drop>(told: &mut Told, site: &mut Site<S>) -> Result<(), Memory> {
     for _ in 0..TRIES {
         match site.restart() {
             Ok(()) => return Ok(()),
             Err(fault) => {
-                put_fault(told, fault)?;
+                told.fault(fault)?;
             }
         }
     }
@@ -125,7 +134,7 @@ fn restart<S: SiteStore + Drop>(told: &mut String, site: &mut Site<S>) -> Result
 /// Tells the parts of a leaf.
 fn show<S: SiteStore + Drop>(
     alloc: Global,
-    told: &mut String,
+    told: &mut Told,
     site: &mut Site<S>,
     word: &str,
 ) -> Result<(), Memory> {
@@ -133,13 +142,12 @@ fn show<S: SiteStore + Drop>(
         match site.kept() {
             Ok(kept) => {
                 for part in kept.parts.list(&leaf(alloc, word)?)?.as_slice() {
-                    told.push_str(print_part(alloc, part.values())?.as_str())?;
-                    told.push('\n')?;
+                    told.line(print_part(alloc, part.values())?.as_str())?;
                 }
                 return Ok(());
             }
             Err(fault) => {
-                put_fault(told, fault)?;
+                told.fault(fault)?;
             }
         }
     }
@@ -149,7 +157,7 @@ fn show<S: SiteStore + Drop>(
 /// Does what a line of a script asks for; other lines are what the site is to answer.
 fn play_line<S: SiteStore + Drop>(
     alloc: Global,
-    told: &mut String,
+    told: &mut Told,
     site: &mut Site<S>,
     line: &str,
 ) -> Result<(), Memory> {
@@ -159,32 +167,38 @@ fn play_line<S: SiteStore + Drop>(
         return give(alloc, told, site, &letter);
     }
     if line == "restart" {
-        told.push_str("restart\n")?;
+        told.line(line)?;
         return restart(told, site);
     }
     if line == "inquire" {
-        told.push_str("inquire\n")?;
+        told.line(line)?;
         let letters = site.inquire().or_else(|_| site.inquire())?;
         return put_letters(alloc, told, letters.as_slice());
     }
     if let Some(word) = line.strip_prefix("leaf ") {
-        writeln!(told, "{line}")?;
+        told.line(line)?;
         return show(alloc, told, site, word);
     }
     Ok(())
 }
 
 /// What a site over a store does by a script: each of its lines that asks for something, and what is answered.
-fn played<S: SiteStore + Drop>(alloc: Global, store: S, script: &str) -> Result<String, Memory> {
-    let mut told = String::new(alloc);
+fn played<S: SiteStore + Drop>(
+    alloc: Global,
+    store: S,
+    script: &str,
+    again: bool,
+) -> Result<String, Memory> {
+    let text = String::new(alloc);
+    let mut told = Told { text, again };
     let mut site = start(alloc, &mut told, store)?;
     for line in script.split('\n') {
         play_line(alloc, &mut told, &mut site, line)?;
     }
-    Ok(told)
+    Ok(told.text)
 }
 
-/// The rest of the letters' schedule is in `T1`'s visit 1.1: that nothing stands behind a ticket is answered so.
+/// Visits that are lost, a prepared row that a restart keeps, and letters that go elsewhere.
 const WORKED: &str = "start
 desk>north Open T1
 north>desk Ticket T1 1.1
@@ -222,7 +236,7 @@ desk>north Fetch T4 2.2 1 emp.3
 4 Stranger
 ";
 
-/// One leaf's half of a moved row; then its letters come again.
+/// A site's half of a moved row, whose old part is deleted; then its letters come again.
 const MOVED: &str = "start
 desk>north Open T1
 north>desk Ticket T1 1.1
@@ -298,7 +312,7 @@ const PARTS: [&str; 2] = ["emp.1 1, 'Ada'", "emp.2 1, 7, 100"];
 
 /// Whether a site over lists answers to the lines of a script what the script says.
 fn plays(alloc: Global, parts: &[&str], script: &str) -> Result<bool, Memory> {
-    let told = played(alloc, opening(alloc, parts)?, script)?;
+    let told = played(alloc, opening(alloc, parts)?, script, true)?;
     Ok(told.as_str() == script)
 }
 
@@ -334,7 +348,7 @@ fn with_refusal(alloc: Global, script: &str, line: &str) -> Result<String, Memor
 /// refusal behind this line: the letter that met it does, given again, what it does without.
 fn refuses(alloc: Global, script: &str, call: u64, line: &str) -> Result<bool, Memory> {
     let store = Refusing::new(opening(alloc, &PARTS)?, call);
-    let told = played(alloc, store, script)?;
+    let told = played(alloc, store, script, false)?;
     Ok(told.as_str() == with_refusal(alloc, script, line)?.as_str())
 }
 
