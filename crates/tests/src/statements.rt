@@ -7,6 +7,7 @@ use meaning::run::run;
 use meaning::schema::Schema;
 use meaning::whole::Whole;
 use reader::command::Command;
+use reader::fault::Rule;
 use reader::print_answer::print_answer;
 use reader::print_statement::print;
 use reader::read::read;
@@ -41,7 +42,10 @@ fn line(
         Ok(Command::Run(statement)) if prints => print(alloc, &statement),
         Ok(Command::Run(statement)) => print_answer(alloc, &run(alloc, whole, &statement)?),
         Ok(_) => Ok(String::from_str(alloc, "no statement")?),
-        Err(fault) => Ok(format!(in alloc; "{fault}")?),
+        Err(fault) => match fault.rule() {
+            Rule::Memory => Err(Memory),
+            _ => Ok(format!(in alloc; "{fault}")?),
+        },
     }
 }
 
