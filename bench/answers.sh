@@ -1,0 +1,126 @@
+#!/usr/bin/env bash
+# Times what comes of the parts that a statement's fetches bring, by a small program of bench/answers over files that
+# this script makes: `evaluate` and `finish` at growing numbers of rows and of leaves, and a change of one row. Then it
+# refuses each allocation of that program, from the catalogue to the writes, on a join and on an update.
+# It proves and builds the program in a copy of the crates below it with the work that earlier checks kept, so check
+# these first; that takes some ten minutes.
+#
+# usage: bench/answers.sh [PROGRAM]      (default: built anew)
+set -eu
+top=$(cd "$(dirname "$0")/.." && pwd)
+room=$(mktemp -d)
+trap 'rm -rf "$room"' EXIT
+program=${1:-}
+if [ -z "$program" ]; then
+    crates="terms meaning catalog reader plan answers"
+    mkdir -p "$room/it/crates" "$room/it/.git"
+    for crate in $crates; do
+        cp -r "$top/crates/$crate" "$room/it/crates/"
+        grep "^$crate:" "$top/crates.txt" >> "$room/it/crates.txt"
+    done
+    cp "$top/HANDLES" "$room/it/"
+    cp -r "$top/bench/answers" "$room/it/crates/bench_answers"
+    echo "bench_answers: $crates" >> "$room/it/crates.txt"
+    (cd "$room/it/crates/bench_answers" && rt run --jobs 2 > "$room/log" 2>&1) || true
+    program=$room/it/crates/bench_answers/out/bench_answers
+    [ -x "$program" ] || { tail -20 "$room/log"; exit 1; }
+fi
+python3 - "$program" "$room" <<'PYTHON'
+import subprocess
+import sys
+
+PROGRAM, ROOM = sys.argv[1:3]
+SIZES = [2500, 5000, 10000, 20000, 40000]
+
+
+def catalogue(leaves):
+    """A relation in so many leaves by its column `part`, and another one in one leaf."""
+    bounds = ["part < 1"] + [f"part >= {n} AND part < {n + 1}" for n in range(1, leaves - 1)] + [f"part >= {leaves - 1}"]
+    rows = ", ".join(f"{{ where = '{text}', site = 'here' }}" for text in bounds)
+    path = f"{ROOM}/catalogue{leaves}"
+    with open(path, "w") as it:
+        it.write("sites = ['here']\n"
+                 f"relations.t = {{ columns = ['id int', 'part int', 'other int', 'note text'], rows = [{rows}] }}\n"
+                 "relations.u = { columns = ['no int', 'title text'], rows = [{ where = 'no < 0', site = 'here' }, { where = 'no >= 0', site = 'here' }] }\n")
+    return path
+
+
+def parts(rows, leaves):
+    """The parts of so many rows; neighbours by the key are in different leaves, and each row has a partner of its own."""
+    path = f"{ROOM}/parts{rows}-{leaves}"
+    with open(path, "w") as it:
+        for leaf in range(leaves):
+            it.writelines(f"t.{leaf + 1} {key}, {leaf}, {rows - 1 - key}, note {key}\n" for key in range(leaf, rows, leaves))
+        it.writelines(f"u.2 {key}, title {key}\n" for key in range(rows))
+    return path
+
+
+def timed(statement, rows, leaves):
+    """The microseconds of `evaluate` and of `finish`, each the least of five runs, and the rows of the table."""
+    evaluated, finished, count = [], [], 0
+    for _ in range(5):
+        ran = subprocess.run([PROGRAM, catalogue(leaves), statement, parts(rows, leaves), "time"], stdout=subprocess.PIPE)
+        if ran.returncode:
+            sys.exit(f"{statement}: status {ran.returncode}")
+        _, _, first, second, count = map(int, ran.stdout.split())
+        evaluated.append(first)
+        finished.append(second - first)
+    return min(evaluated), min(finished), count
+
+
+failed = False
+
+
+def line(name, took, before, most):
+    """Prints the times beside those of the size before, and says where one grew by more than it may."""
+    global failed
+    evaluated, finished, count = took
+    text = f"{name:34} {count:6} rows  evaluate {evaluated / 1000:9.3f} ms  finish {finished / 1000:9.3f} ms"
+    if before:
+        ratios = [now / max(then, 50) for now, then in zip(took, before)]
+        wrong = max(ratios[:2]) > most
+        failed = failed or wrong
+        text += f"  ratios {ratios[0]:5.2f} {ratios[1]:5.2f}{' TOO LONG' if wrong else ''}"
+    print(text, flush=True)
+
+
+STATEMENTS = {
+    "SELECT": "SELECT * FROM t WHERE note <> 'x'",
+    "join": "SELECT t.id, u.title FROM t JOIN u ON t.other = u.no",
+    "UPDATE of all rows": "UPDATE t SET other = other + 1",
+    "UPDATE that moves all rows": "UPDATE t SET part = part + 1",
+    "DELETE of all rows": "DELETE FROM t",
+}
+# Twice the rows may take twice the time and a little more.
+for name, statement in STATEMENTS.items():
+    before = None
+    for rows in SIZES:
+        took = timed(statement, rows, 8)
+        line(f"{name}, 8 leaves", took, before, 2.8)
+        before = took
+# Four times the leaves add two halvings of the leaves, not four times the time.
+before = None
+for leaves in (2, 8, 32):
+    took = timed(STATEMENTS["SELECT"], 20000, leaves)
+    line(f"SELECT, {leaves} leaves", took, before, 2.0)
+    before = took
+# A change of one row doesn't look at the others.
+before = None
+for rows in SIZES:
+    took = timed("UPDATE t SET part = part + 1 WHERE id = 7", rows, 8)
+    line(f"UPDATE by key over {rows} rows", took, before, 2.0)
+    before = took
+sys.exit(1 if failed else 0)
+PYTHON
+cat > "$room/parts" <<'PARTS'
+emp.1 1, Ada
+emp.1 2, Bo
+emp.2 1, 7, 100
+emp.3 2, 12, 200
+dept.1 7, paint
+dept.2 12, dock
+PARTS
+for statement in "SELECT emp.id, emp.name, dept.title FROM emp JOIN dept ON emp.dept = dept.no" \
+    "UPDATE emp SET dept = dept + 5 WHERE id = 1"; do
+    "$top/bench/refused_memory.sh" "$program" "$top/crates/fragdb/data/emp_and_dept.toml" "$statement" "$room/parts"
+done
