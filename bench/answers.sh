@@ -1,7 +1,7 @@
 #!/usr/bin/env bash
-# Times what comes of the parts that a statement's fetches bring, by a small program of bench/answers over files that
-# this script makes: `evaluate` and `finish` at growing numbers of rows and of leaves, and a change of one row. Then it
-# refuses each allocation of that program, from the catalogue to the writes, on a join and on an update.
+# Times a statement from its plan to its writes, by a small program of bench/answers over files that this script makes:
+# `localize` and `reduce` at the limits, `evaluate` and `finish` at growing numbers of rows and of leaves, and a change of
+# one row. Then it refuses each allocation of that program, from the catalogue to the writes, on a join and on an update.
 # It proves and builds the program in a copy of the crates below it with the work that earlier checks kept, so check
 # these first; that takes some ten minutes.
 #
@@ -84,6 +84,26 @@ def line(name, took, before, most):
     print(text, flush=True)
 
 
+def wide_catalogue():
+    """Two relations of 16 columns in 32 leaves each, by ranges of the column a0."""
+    columns = ", ".join(f"'{column} int'" for column in ["id"] + [f"a{n}" for n in range(15)])
+    ranges = ["a0 < 10"] + [f"a0 >= {10 * n} AND a0 < {10 * n + 10}" for n in range(1, 31)] + ["a0 >= 310"]
+    rows = ", ".join(f"{{ where = '{text}', site = 'here' }}" for text in ranges)
+    path = f"{ROOM}/wide"
+    with open(path, "w") as it:
+        it.write("sites = ['here']\n" + "".join(f"relations.{name} = {{ columns = [{columns}], rows = [{rows}] }}\n" for name in "tu"))
+    return path
+
+
+# The plan itself: localized and reduced. A join at its limits, and a statement by key.
+for name, statement, most in (
+    ("join of 32 leaves and 32", "SELECT * FROM t JOIN u ON t.a0 = u.id WHERE " + " AND ".join(f"t.a{n} >= 0 AND u.a{n} <= 1000" for n in range(4)), 50000),
+    ("by key in 32 leaves", "SELECT a3 FROM t WHERE id = 7", 1000),
+):
+    ran = [subprocess.run([PROGRAM, wide_catalogue(), statement, "/dev/null", "time"], stdout=subprocess.PIPE) for _ in range(5)]
+    took = min(int(one.stdout.split()[1]) for one in ran)
+    failed = failed or took >= most
+    print(f"{name:34} plan {took / 1000:9.3f} ms{' TOO LONG' if took >= most else ''}", flush=True)
 STATEMENTS = {
     "SELECT": "SELECT * FROM t WHERE note <> 'x'",
     "join": "SELECT t.id, u.title FROM t JOIN u ON t.other = u.no",
