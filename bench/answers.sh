@@ -1,8 +1,9 @@
 #!/usr/bin/env bash
-# Times what comes of the parts that a statement's fetches bring, by a small program, bench/answers/main.rt.in, over files that
-# this script makes: `evaluate` and `finish` at growing numbers of rows and of leaves, and a change of one row. Then it
-# refuses each allocation of that program, from the catalogue to the writes, on a join and on an update.
-# It builds the program in a copy of the repository with the work that earlier checks kept, so check the crates first.
+# Times a statement from its plan to its writes, by a small program, bench/answers/main.rt.in, over files that this script
+# makes: `localize` and `reduce` at the limits, `evaluate` and `finish` at growing numbers of rows and of leaves, and a
+# change of one row. Then it refuses each allocation of that program, from the catalogue to the writes, on a join and on
+# an update. It proves and builds the program in a copy of the crates below it with the work that earlier checks kept, so
+# check these first; that takes some ten minutes.
 #
 # usage: bench/answers.sh [PROGRAM]      (default: built anew)
 set -eu
@@ -11,20 +12,26 @@ room=$(mktemp -d)
 trap 'rm -rf "$room"' EXIT
 program=${1:-}
 if [ -z "$program" ]; then
-    cp -r "$top" "$room/it"
-    rm -rf "$room/it/.git" && mkdir "$room/it/.git"
-    mkdir -p "$room/it/crates/bench_answers/src"
+    crates="terms meaning catalog reader plan answers"
+    mkdir -p "$room/it/crates" "$room/it/.git"
+    for crate in $crates; do
+        cp -r "$top/crates/$crate" "$room/it/crates/"
+        grep "^$crate:" "$top/crates.txt" >> "$room/it/crates.txt"
+    done
+    cp "$top/HANDLES" "$room/it/"
+    mkdir -p "$room/it/crates/bench_answers/src" "$room/it/crates/bench_answers/proofs/done"
     cp "$top/bench/answers/main.rt.in" "$room/it/crates/bench_answers/src/main.rt"
-    echo "bench_answers: terms meaning catalog reader plan answers" >> "$room/it/crates.txt"
+    cp "$top/bench/answers/done.antt.in" "$room/it/crates/bench_answers/proofs/done/Answers.antt"
+    echo "bench_answers: $crates" >> "$room/it/crates.txt"
     (cd "$room/it/crates/bench_answers" && rt run --jobs 2 > "$room/log" 2>&1) || true
     program=$room/it/crates/bench_answers/out/bench_answers
     [ -x "$program" ] || { tail -20 "$room/log"; exit 1; }
 fi
-python3 - "$program" "$room" "$top" <<'PYTHON'
+python3 - "$program" "$room" <<'PYTHON'
 import subprocess
 import sys
 
-PROGRAM, ROOM, TOP = sys.argv[1:4]
+PROGRAM, ROOM = sys.argv[1:3]
 SIZES = [2500, 5000, 10000, 20000, 40000]
 
 
@@ -66,19 +73,46 @@ def timed(statement, rows, leaves):
 failed = False
 
 
-def line(name, took, before, most):
-    """Prints the times beside those of the size before, and says where one grew by more than it may."""
+def series(names, took, most):
+    """Prints times beside those of the size before. From the first to the last they may grow by so much and no more."""
     global failed
-    evaluated, finished, count = took
-    text = f"{name:34} {count:6} rows  evaluate {evaluated / 1000:9.3f} ms  finish {finished / 1000:9.3f} ms"
-    if before:
-        ratios = [now / max(then, 50) for now, then in zip(took, before)]
-        wrong = max(ratios[:2]) > most
-        failed = failed or wrong
-        text += f"  ratios {ratios[0]:5.2f} {ratios[1]:5.2f}{' TOO LONG' if wrong else ''}"
-    print(text, flush=True)
+    first = before = None
+    for name, (evaluated, finished, count) in zip(names, took):
+        text = f"{name:38} {count:6} rows  evaluate {evaluated / 1000:9.3f} ms  finish {finished / 1000:9.3f} ms"
+        now = [max(evaluated, 50), max(finished, 50)]
+        if before:
+            text += "  ratios " + " ".join(f"{a / b:5.2f}" for a, b in zip(now, before))
+        print(text, flush=True)
+        first, before = first or now, now
+    grown = max(a / b for a, b in zip(before, first))
+    failed = failed or grown > most
+    print(f"    grown by {grown:.1f}, at most {most}{' TOO MUCH' if grown > most else ''}", flush=True)
 
 
+def wide_catalogue(leaves):
+    """Two relations of 16 columns in so many leaves each, by ranges of the column a0."""
+    columns = ", ".join(f"'{column} int'" for column in ["id"] + [f"a{n}" for n in range(15)])
+    ranges = ["a0 < 10"] + [f"a0 >= {10 * n} AND a0 < {10 * n + 10}" for n in range(1, leaves - 1)] + [f"a0 >= {10 * leaves - 10}"]
+    rows = ", ".join(f"{{ where = '{text}', site = 'here' }}" for text in ranges)
+    path = f"{ROOM}/wide{leaves}"
+    with open(path, "w") as it:
+        it.write("sites = ['here']\n" + "".join(f"relations.{name} = {{ columns = [{columns}], rows = [{rows}] }}\n" for name in "tu"))
+    return path
+
+
+# The plan itself, localized and reduced: a join with all columns and 8 conditions, and a statement by key.
+for name, statement, most in (
+    ("plan of a join", "SELECT * FROM t JOIN u ON t.a0 = u.id WHERE " + " AND ".join(f"t.a{n} >= 0 AND u.a{n} <= 1000" for n in range(4)), 50000),
+    ("plan by key", "SELECT a3 FROM t WHERE id = 7", 1000),
+):
+    before = None
+    for leaves in (2, 8, 32):
+        ran = [subprocess.run([PROGRAM, wide_catalogue(leaves), statement, "/dev/null", "time"], stdout=subprocess.PIPE) for _ in range(5)]
+        took = min(int(one.stdout.split()[1]) for one in ran)
+        failed = failed or took >= most
+        ratio = f"  ratio {took / before:5.2f}" if before else ""
+        print(f"{name + f', {leaves} leaves':34} {took / 1000:9.3f} ms{ratio}{' TOO LONG' if took >= most else ''}", flush=True)
+        before = max(took, 1)
 STATEMENTS = {
     "SELECT": "SELECT * FROM t WHERE note <> 'x'",
     "join": "SELECT t.id, u.title FROM t JOIN u ON t.other = u.no",
@@ -86,25 +120,13 @@ STATEMENTS = {
     "UPDATE that moves all rows": "UPDATE t SET part = part + 1",
     "DELETE of all rows": "DELETE FROM t",
 }
-# Twice the rows may take twice the time and a little more.
+# From the least to the most rows there are 16 times as many; n log n grows by 22, and by 256 what goes by their square.
 for name, statement in STATEMENTS.items():
-    before = None
-    for rows in SIZES:
-        took = timed(statement, rows, 8)
-        line(f"{name}, 8 leaves", took, before, 2.8)
-        before = took
-# Four times the leaves add two halvings of the leaves, not four times the time.
-before = None
-for leaves in (2, 8, 32):
-    took = timed(STATEMENTS["SELECT"], 20000, leaves)
-    line(f"SELECT, {leaves} leaves", took, before, 2.0)
-    before = took
+    series([f"{name}, 8 leaves" for _ in SIZES], (timed(statement, rows, 8) for rows in SIZES), 40)
+# Sixteen times the leaves add four halvings of the tables, not sixteen times the time.
+series([f"SELECT, {leaves} leaves" for leaves in (2, 8, 32)], (timed(STATEMENTS["SELECT"], 20000, leaves) for leaves in (2, 8, 32)), 4)
 # A change of one row doesn't look at the others.
-before = None
-for rows in SIZES:
-    took = timed("UPDATE t SET part = part + 1 WHERE id = 7", rows, 8)
-    line(f"UPDATE by key over {rows} rows", took, before, 2.0)
-    before = took
+series([f"UPDATE by key over {rows} rows" for rows in SIZES], (timed("UPDATE t SET part = part + 1 WHERE id = 7", rows, 8) for rows in SIZES), 4)
 sys.exit(1 if failed else 0)
 PYTHON
 cat > "$room/parts" <<'PARTS'

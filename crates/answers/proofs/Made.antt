@@ -17,7 +17,7 @@ use Rattle.catalog.specs.Counts.{has}
 use Rattle.catalog.specs.Keyed.{row_at}
 use Rattle.plan.specs.declared.fetch.Fetch as fetch
 use Rattle.plan.specs.Rows.{Seen, at_value, is_seen, kept, merged, met, restricted, rows, seen_meets, seen_part, shifted}
-use Rattle.plan.specs.Shape.{Shape, Empty, Fetch, Filter, Project, Union, KeyJoin, Lookup}
+use Rattle.plan.specs.Shape.{Shape, Fetch, Filter, Project, Union, KeyJoin, Lookup}
 use Rattle.plan.specs.Uniform.{Agree, beside, both_columns, columns_had, past, StayWithin}
 use Rattle.plan.proofs.OneSide.{all_at}
 use Rattle.answers.specs.declared.table.Table.{Table}
@@ -31,18 +31,6 @@ use Rattle.answers.proofs.Picked.{beside_first, cut_first, cut_key, cut_seen, or
 pub given_as : (result : Result Table Memory) (made : Table) (P : Table → Type 0) → IfOk result (λ table. table ≡ made) → P made → IfOk result P
 given_as (Ok table) made P is holds = subst P (sym is) holds
 given_as (Err error) made P is holds = tt
-
--- no rows
-pub empty_made : (contents : Leaf → List (List Value)) (table : Table) → table.rows ≡ [] → slice_get table.columns 0 ≡ Some 0 → IsMade Empty contents table
-empty_made contents table none key = record {
-  has_rows = record {
-    order = let P : List (List Value) → Type 0 = Ascends in subst P (sym none) tt;
-    seen = λ k. ap (λ (all : List (List Value)). seen_rows table.columns all k) none;
-  };
-  key = key;
-  wide = let P : List (List Value) → Type 0 = AllByRecursion (λ row. length row ≡ length table.columns) in subst P (sym none) tt;
-  had = inl none;
-}
 
 -- a read
 pub fetch_made : (read : fetch.Fetch) (contents : Leaf → List (List Value)) → slice_get read.columns 0 ≡ Some 0 → AreParts read.columns (contents read.leaf) →

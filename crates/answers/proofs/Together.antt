@@ -1,6 +1,5 @@
 -- Tables whose rows together are those of a plan.
 use Rattle.std.proofs.Common.{◌≡◌, List, [], ◌∷◌, ◌++◌, Result, Ok, Err, IfOk, Vec, Global, refl, sym, subst}
-use Rattle.std.specs.List.{AllByRecursion}
 use Rattle.terms.specs.declared.leaf.Leaf.{Leaf}
 use Rattle.terms.specs.declared.memory.Memory.{Memory}
 use Rattle.terms.specs.declared.value.Value.{Value}

@@ -4,7 +4,8 @@
 //! It stands on `terms`, `meaning`, `catalog` and `plan`. The contract that the layers above use is that
 //! of `work`: over every whole database of which the fetches bring what they brought, the answer and the
 //! writes are those of the serial meaning. `evaluate` gives the table of a plan, and `finish` what a
-//! statement makes of it; `laws::writes_lead` says what the writes do to the leaves.
+//! statement makes of it; `laws::writes_lead` says what the writes do to the leaves. Whether what came are
+//! parts of the fetches' columns, as `work` asks, is tested by `table::are_all_parts`.
 //!
 //! ```text
 //! let less = reduce(alloc, &catalog, &statement, plan)?;     // DELETE FROM item WHERE zone = 3

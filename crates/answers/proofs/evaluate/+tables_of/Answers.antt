@@ -3,7 +3,7 @@ use Rattle.std.proofs.Common.{◌≡◌, List, ap, ap₂, sym, ◌∙◌, subst}
 use Rattle.plan.specs.Shape.{Shape, Fetch, Filter, Project, Union, KeyJoin, Lookup, shape}
 use Rattle.plan.specs.Uniform.{EachRead, IsUniform, columns_had}
 use Rattle.answers.specs.declared.table.Table.{Table}
-use Rattle.answers.specs.Evaluated.{AreMade, IsMade, cut, filtered, keyed, partnered, table_read}
+use Rattle.answers.specs.Evaluated.{AreMade, cut, filtered, keyed, partnered, table_read}
 use Rattle.answers.specs.Table.{AreParts, given}
 use Rattle.answers.proofs.Made.{cut_made, fetch_made, filter_made, key_join_made, lookup_made, stays_within}
 use Rattle.answers.proofs.Together.{both_made, one_made, whole_made}

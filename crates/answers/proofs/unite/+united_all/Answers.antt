@@ -1,5 +1,5 @@
 -- Why `unite::united_all` meets its contract.
-use Rattle.std.proofs.Common.{◌≡◌, ◌/◌, ◌<◌, ℕ, length, take, drop, ap, ap₂, sym, ◌∙◌, subst, arith}
+use Rattle.std.proofs.Common.{◌≡◌, ◌/◌, ◌<◌, length, take, drop, ap, ap₂, sym, ◌∙◌, subst, arith}
 use Rattle.meaning.specs.Relation.{Ascends}
 use Rattle.answers.specs.declared.table.Table.{Table}
 use Rattle.answers.specs.Evaluated.{all_united, united}
