@@ -1,7 +1,8 @@
 #!/usr/bin/env bash
 # Times `fragdb plan` beside `fragdb check` on the same catalogue, so that what is left is the plan: a statement by key
 # over relations of 2 and of 32 leaves, and a join of two relations of 32 leaves each, with 16 columns and 8 conditions.
-# Fails where the join's plan takes 50 ms or more, or that of a statement by key 1 ms (each the mean of many runs).
+# Fails where the join's plan takes 50 ms or more, or that of a statement by key 1 ms (each the mean of many runs), and
+# prints what 32 leaves cost for 2. What evaluating and answering cost is printed by bench/answers.sh.
 #
 # usage: bench/plan.sh [PROGRAM]      (default: crates/fragdb/out/fragdb)
 set -eu
@@ -46,7 +47,7 @@ def seconds(words):
 
 by_key = "SELECT a3 FROM t WHERE id = 7"
 join = "SELECT * FROM t JOIN u ON t.a0 = u.id WHERE " + " AND ".join(f"t.a{n} >= 0 AND u.a{n} <= 1000" for n in range(4))
-failed = False
+failed, cost = False, {}
 with tempfile.TemporaryDirectory() as room:
     for leaves in (2, 32):
         path = catalogue(room, leaves)
@@ -54,8 +55,11 @@ with tempfile.TemporaryDirectory() as room:
         for name, text, most in (("by key", by_key, 0.001), ("join", join, 0.050)):
             took, last = seconds(["plan", path, text])
             plan = max(took - base, 0)
+            cost[leaves, name] = plan
             wrong = plan >= most
             failed = failed or wrong
             print(f"{leaves:2} leaves, {name:6}: {1000 * plan:7.3f} ms beside {1000 * base:.3f} ms of check, {last}{' TOO LONG' if wrong else ''}")
+for name in ("by key", "join"):
+    print(f"32 leaves for 2, {name:6}: {cost[32, name] / max(cost[2, name], 1e-6):.1f} times")
 sys.exit(1 if failed else 0)
 PYTHON
