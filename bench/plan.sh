@@ -60,6 +60,7 @@ with tempfile.TemporaryDirectory() as room:
             failed = failed or wrong
             print(f"{leaves:2} leaves, {name:6}: {1000 * plan:7.3f} ms beside {1000 * base:.3f} ms of check, {last}{' TOO LONG' if wrong else ''}")
 for name in ("by key", "join"):
-    print(f"32 leaves for 2, {name:6}: {cost[32, name] / max(cost[2, name], 1e-6):.1f} times")
+    few, many = cost[2, name], cost[32, name]
+    print(f"32 leaves for 2, {name:6}: " + (f"{many / few:.1f} times" if few > 1e-5 else "with 2 too little to tell from the check"))
 sys.exit(1 if failed else 0)
 PYTHON
