@@ -10,10 +10,10 @@ mod catalogues;
 #[cfg(test)]
 mod letters;
 #[cfg(test)]
+mod outcomes;
+#[cfg(test)]
 mod refusing;
 #[cfg(test)]
 mod sites;
-#[cfg(test)]
-mod outcomes;
 #[cfg(test)]
 mod statements;
