@@ -227,6 +227,13 @@ impl<S: SiteStore> Site<S> {
         give_up(&mut self.present, ticket);
     }
 
+    /// The site's name.
+    pub fn name(&self) -> &Text
+        ensures { result.now ≡ self.now.present.name }
+    {
+        &self.present.name
+    }
+
     /// The store.
     pub fn into_store(self) -> S
     where

@@ -1,0 +1,3 @@
+-- What proves the contracts of the crate.
+pub mod Seating
+pub mod Moving

@@ -1,0 +1,131 @@
+-- A site that makes a step makes it in the protocol's world, where nothing else changes.
+use Rattle.std.proofs.Common.{◌≡◌, refl, sym, ap, ap₂, ◌∙◌, subst, ℕ, nat_eq, Bool, true, false, List, [], ◌∷◌, map, Option, Some, None, if◌then◌else◌}
+use Rattle.std.specs.Cmp.Lexicographic.{pointwise}
+use Rattle.std.specs.List.{AllByRecursion}
+use Rattle.std.proofs.lemmas.Slice.Eq.{bytes_eq-Decides}
+use Rattle.std.proofs.lemmas.List.{map-append}
+use Rattle.store.specs.declared.letter.Letter.{Letter}
+use Rattle.protocol.specs.Language.{Name, put}
+use Rattle.protocol.specs.Letter as protocol
+use Rattle.protocol.specs.Letters.{body_of, kept_in, letter_of, txn_name}
+use Rattle.protocol.specs.Local.{local}
+use Rattle.protocol.specs.Site.{SiteState, is_within, on_letter, said, site_after}
+use Rattle.protocol.specs.Statements.{Statements, act_with, body_with, letter_with, site_with, with_statements}
+use Rattle.protocol.specs.World.{addressed}
+use Rattle.protocol.proofs.Basics.{if_false, if_true, some_is}
+use Rattle.protocol.proofs.OtherStatements.{act_same, after_same, said_same, within_same}
+use Rattle.site.specs.State.{Takes, state_of}
+use Rattle.world.specs.Seats.{AreSeated, IsSeated, Moves, Seat, is_called, reseated, seat_of, state_at, states_of}
+
+pub name_is : (a b : List ℕ) → pointwise nat_eq a b ≡ true → a ≡ b
+name_is a b e = (bytes_eq-Decides a b).0 e
+
+name_self : (a : List ℕ) → pointwise nat_eq a a ≡ true
+name_self a = (bytes_eq-Decides a a).1 refl
+
+-- a step keeps the names
+pub names_kept : (name : List ℕ) (new : Seat) (seats : List Seat) → new.name ≡ name → map (λ seat. seat.name) (reseated name new seats) ≡ map (λ seat. seat.name) seats
+names_kept name new [] named = refl
+names_kept name new (seat ∷ seats) named = go (is_called name seat) refl (names_kept name new seats named)
+  where
+    go : (b : Bool) → is_called name seat ≡ b → map (λ s. s.name) (reseated name new seats) ≡ map (λ s. s.name) seats → map (λ s. s.name) (if b then new ∷ seats else seat ∷ reseated name new seats) ≡ seat.name ∷ map (λ s. s.name) seats
+    go true e later = ap (λ n. n ∷ map (λ s. s.name) seats) (named ∙ name_is name seat.name e)
+    go false e later = ap (λ ns. seat.name ∷ ns) later
+
+-- what holds of each site holds of each after a step
+pub all_kept : (P : Seat → Type 0) (name : List ℕ) (new : Seat) (seats : List Seat) → P new → AllByRecursion P seats → AllByRecursion P (reseated name new seats)
+all_kept P name new [] here all = tt
+all_kept P name new (seat ∷ seats) here all = go (is_called name seat) (all_kept P name new seats here all.1)
+  where
+    go : (b : Bool) → AllByRecursion P (reseated name new seats) → AllByRecursion P (if b then new ∷ seats else seat ∷ reseated name new seats)
+    go true later = (here, all.1)
+    go false later = (all.0, later)
+
+-- what holds of each site holds of that of a name
+pub seat_has : (P : Seat → Type 0) (name : List ℕ) (seats : List Seat) (seat : Seat) → seat_of name seats ≡ Some seat → AllByRecursion P seats → P seat
+seat_has P name [] seat there all = absurd cc
+seat_has P name (first ∷ seats) seat there all = go (is_called name first) there (λ later. seat_has P name seats seat later all.1)
+  where
+    go : (b : Bool) → (if b then Some first else seat_of name seats) ≡ Some seat → (seat_of name seats ≡ Some seat → P seat) → P seat
+    go true is later = subst P (some_is is) all.0
+    go false is later = later is
+
+-- it has the name
+pub seat_named : (name : List ℕ) (seats : List Seat) (seat : Seat) → seat_of name seats ≡ Some seat → seat.name ≡ name
+seat_named name [] seat there = absurd cc
+seat_named name (first ∷ seats) seat there = go (is_called name first) refl there (seat_named name seats seat)
+  where
+    go : (b : Bool) → is_called name first ≡ b → (if b then Some first else seat_of name seats) ≡ Some seat → (seat_of name seats ≡ Some seat → seat.name ≡ name) → seat.name ≡ name
+    go true e is later = ap (λ s. s.name) (sym (some_is is)) ∙ sym (name_is name first.name e)
+    go false e is later = later is
+
+module _ (S : Statements local) where
+  -- the state at its name
+  pub state_there : (name : List ℕ) (seats : List Seat) (seat : Seat) → seat_of name seats ≡ Some seat → states_of S seats name ≡ state_at S seat
+  state_there name [] seat there = absurd cc
+  state_there name (first ∷ seats) seat there = go (is_called name first) there (state_there name seats seat)
+    where
+      go : (b : Bool) → (if b then Some first else seat_of name seats) ≡ Some seat → (seat_of name seats ≡ Some seat → states_of S seats name ≡ state_at S seat) → (if b then state_at S first else states_of S seats name) ≡ state_at S seat
+      go true is later = ap (state_at S) (some_is is)
+      go false is later = later is
+
+  -- the state at one name is another one
+  put_at : (name : List ℕ) (new seat : Seat) (seats : List Seat) → new.name ≡ name → seat_of name seats ≡ Some seat → (at : List ℕ) →
+      states_of S (reseated name new seats) at ≡ put (pointwise nat_eq) name (state_at S new) (states_of S seats) at
+  put_at name new seat [] named there at = absurd cc
+  put_at name new seat (first ∷ seats) named there at = go (is_called name first) refl there (λ rest. put_at name new seat seats named rest at)
+    where
+      ahead : (b : Bool) → is_called at first ≡ b → is_called name first ≡ false → (if b then state_at S first else put (pointwise nat_eq) name (state_at S new) (states_of S seats) at) ≡ (if pointwise nat_eq at name then state_at S new else (if b then state_at S first else states_of S seats at))
+      ahead false e apart = refl
+      ahead true e apart = both (pointwise nat_eq at name) refl
+        where
+          both : (b : Bool) → pointwise nat_eq at name ≡ b → state_at S first ≡ (if b then state_at S new else state_at S first)
+          both false e2 = refl
+          both true e2 = let same : is_called name first ≡ true = subst (λ n. is_called n first ≡ true) (name_is at name e2) e in absurd cc
+      go : (b : Bool) → is_called name first ≡ b → (if b then Some first else seat_of name seats) ≡ Some seat → (seat_of name seats ≡ Some seat → states_of S (reseated name new seats) at ≡ put (pointwise nat_eq) name (state_at S new) (states_of S seats) at) →
+          states_of S (if b then new ∷ seats else first ∷ reseated name new seats) at ≡ (if pointwise nat_eq at name then state_at S new else (if is_called at first then state_at S first else states_of S seats at))
+      go true e is later =
+          let here : pointwise nat_eq at new.name ≡ pointwise nat_eq at name = ap (pointwise nat_eq at) named in
+          ap (λ (b : Bool). if b then state_at S new else states_of S seats at) here ∙ last (pointwise nat_eq at name) refl
+        where
+          last : (b : Bool) → pointwise nat_eq at name ≡ b → (if b then state_at S new else states_of S seats at) ≡ (if b then state_at S new else (if is_called at first then state_at S first else states_of S seats at))
+          last true e2 = refl
+          last false e2 = let apart : is_called at first ≡ false = subst (λ n. pointwise nat_eq at n ≡ false) (name_is name first.name e) e2 in ap (λ (b : Bool). if b then state_at S first else states_of S seats at) (sym apart)
+      go false e is later = ap (λ x. if is_called at first then state_at S first else x) (later is) ∙ ahead (is_called at first) refl e
+
+  -- so the states after a step
+  pub states_after : (name : List ℕ) (seat new : Seat) (before after : List Seat) → Moves name seat new before after → states_of S after ≡ put (pointwise nat_eq) name (state_at S new) (states_of S before)
+  states_after name seat new before after moves = ap (states_of S) moves.is ∙ (λ i at. put_at name new seat before moves.named moves.there at i)
+
+-- a step keeps each site fit
+pub seated_after : (name : List ℕ) (seat new : Seat) (before after : List Seat) → Moves name seat new before after → AreSeated before → AreSeated after
+seated_after name seat new before after moves all = subst AreSeated (sym moves.is) (all_kept IsSeated name new before moves.seated all)
+
+-- and the names
+pub names_after : (name : List ℕ) (seat new : Seat) (before after : List Seat) → Moves name seat new before after → map (λ s. s.name) after ≡ map (λ s. s.name) before
+names_after name seat new before after moves = ap (map (λ s. s.name)) moves.is ∙ names_kept name new before moves.named
+
+-- ---- a letter
+module _ (S : Statements local) (letter : Letter) (letters : List Letter) (seat new : Seat) (takes : Takes seat.kept seat.table new.kept new.table letter letters) where
+  -- the state after it is that of the table
+  pub letter_state : site_after (state_at S seat) (on_letter (state_at S seat) (txn_name letter.txn) (kept_in letters) (body_with S (body_of letter.body))) ≡ state_at S new
+  letter_state =
+      let s = state_of seat.kept seat.table in
+      let act = on_letter s (txn_name letter.txn) (kept_in letters) (body_of letter.body) in
+      ap (site_after (site_with S s)) (sym (act_same S s (txn_name letter.txn) (kept_in letters) (body_of letter.body))) ∙ sym (after_same S s act) ∙ ap (site_with S) (sym takes.state)
+
+  -- so is what is answered
+  pub letter_said : addressed letter.site (txn_name letter.txn) (said (state_at S seat) (on_letter (state_at S seat) (txn_name letter.txn) (kept_in letters) (body_with S (body_of letter.body)))) ≡ map (λ l. letter_with S (letter_of l)) letters
+  letter_said =
+      let s = state_of seat.kept seat.table in
+      let act = on_letter s (txn_name letter.txn) (kept_in letters) (body_of letter.body) in
+      let spoken : said (site_with S s) (on_letter (site_with S s) (txn_name letter.txn) (kept_in letters) (body_with S (body_of letter.body))) ≡ map (body_with S) (said s act) = ap (said (site_with S s)) (sym (act_same S s (txn_name letter.txn) (kept_in letters) (body_of letter.body))) ∙ sym (said_same S s act) in
+      ap (addressed letter.site (txn_name letter.txn)) spoken ∙ put_out (said s act) ∙ ap (map (letter_with S)) (sym takes.says) ∙ twice letters
+    where
+      put_out : (bodies : List (protocol.Body local)) → addressed letter.site (txn_name letter.txn) (map (body_with S) bodies) ≡ map (letter_with S) (addressed letter.site (txn_name letter.txn) bodies)
+      put_out [] = refl
+      put_out (body ∷ bodies) = ap (λ rest. record { site = letter.site; txn = txn_name letter.txn; body = body_with S body } ∷ rest) (put_out bodies)
+      twice : (out : List Letter) → map (letter_with S) (map letter_of out) ≡ map (λ l. letter_with S (letter_of l)) out
+      twice [] = refl
+      twice (l ∷ out) = ap (λ rest. letter_with S (letter_of l) ∷ rest) (twice out)
+

@@ -1,0 +1,3 @@
+-- A database in one process: its machines together as the protocol's world.
+pub mod Seats
+pub mod Seated

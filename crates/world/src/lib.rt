@@ -1,0 +1,4 @@
+//! A database in one process.
+#![tactic(auto)]
+
+mod seats;
