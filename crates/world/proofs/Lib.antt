@@ -1,3 +1,5 @@
 -- What proves the contracts of the crate.
 pub mod Seating
 pub mod Moving
+pub mod Machinery
+pub mod Ends

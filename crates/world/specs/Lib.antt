@@ -1,3 +1,5 @@
 -- A database in one process: its machines together as the protocol's world.
 pub mod Seats
 pub mod Seated
+pub mod Machines
+pub mod Held

@@ -1,4 +1,5 @@
 //! A database in one process.
 #![tactic(auto)]
 
+mod machines;
 mod seats;

@@ -1,0 +1,17 @@
+-- What the machines of the code hold.
+use Rattle.std.specs.Prelude.{List}
+use Rattle.std.specs.List.{AllByRecursion}
+use Rattle.store.specs.DeskContent.{DeskContent}
+use Rattle.store.specs.SiteContent.{SiteContent}
+use Rattle.desk.specs.State.{table_of}
+use Rattle.world.specs.declared.machines.Machines as code
+use Rattle.world.specs.Machines.{Machines}
+use Rattle.world.specs.Seated.{seats_in}
+
+-- the machines; of_desk and of_site: what stores keep
+abbrev pub held : {D S : Type 0} → (D → DeskContent) → (S → SiteContent) → code.Machines D S → Machines
+held of_desk of_site machines = record { desk = of_desk machines.desk.store; table = table_of machines.desk.present; seats = seats_in of_site machines.sites.items }
+
+-- something holds of the store of each machine
+abbrev pub OfStores : {D S : Type 0} → (D → Type 0) → (S → Type 0) → code.Machines D S → Type 0
+OfStores OfDesk OfSite machines = OfDesk machines.desk.store × AllByRecursion (λ site. OfSite site.store) machines.sites.items

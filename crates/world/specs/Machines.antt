@@ -1,0 +1,40 @@
+-- The machines of a database together, as the protocol's world.
+use Rattle.std.specs.Prelude.{◌≡◌, true, List, ◌++◌, map}
+use Rattle.std.specs.List.{filter_map}
+use Rattle.store.specs.declared.letter.Letter as letters
+use Rattle.store.specs.DeskContent.{DeskContent}
+use Rattle.protocol.specs.Desk.{Deed, is_desk_within}
+use Rattle.protocol.specs.Letter.{Letter}
+use Rattle.protocol.specs.Serial.{AllExplained}
+use Rattle.protocol.specs.World.{World}
+use Rattle.desk.specs.declared.reply.Notice.{Notice}
+use Rattle.desk.specs.Database.{Database, language, sent, statements}
+use Rattle.desk.specs.State.{Fits, Table, desk_of, notice_of}
+use Rattle.desk.specs.Turn.{told}
+use Rattle.world.specs.Seats.{AreSeated, Seat, states_of}
+
+-- the coordinator, by what its store keeps and what it has in memory, and the sites
+pub record Machines : Type 0 where
+  pub desk : DeskContent
+  pub table : Table
+  pub seats : List Seat
+
+-- the world of the machines; letters: those that wait, or all that were sent, past: what happened to transactions
+abbrev pub world_of : (db : Database) → Machines → List (Letter (language db)) → List (Deed (language db)) → World (language db)
+world_of db machines letters past = record { desk = desk_of db machines.table; sites = states_of (statements db) machines.seats; letters = letters; past = past }
+
+-- what is in memory fits what the stores keep, and the sites are those of the database
+pub record AreFit (db : Database) (machines : Machines) : Type 0 where
+  pub names : map (λ seat. seat.name) machines.seats ≡ db.sites
+  pub desk : Fits db machines.desk machines.table
+  pub within : is_desk_within (desk_of db machines.table) ≡ true
+  pub sites : AreSeated machines.seats
+
+-- a step of the machines is one of the protocol's world, whatever letters wait and whatever happened before: these
+-- letters are put out, deeds are done, among them no statement that isn't explained, and clients hear of them
+pub record Leads (db : Database) (step : World (language db) → World (language db)) (before after : Machines) (out : List letters.Letter) (notices : List Notice) : Type 0 where
+  pub deeds : List (Deed (language db))
+  pub fit : AreFit db after
+  pub is : (waiting : List (Letter (language db))) (past : List (Deed (language db))) → step (world_of db before waiting past) ≡ world_of db after (waiting ++ map (sent db) out) (past ++ deeds)
+  pub explained : AllExplained deeds
+  pub replies : map notice_of notices ≡ filter_map told deeds
