@@ -2,6 +2,9 @@
 use Rattle.std.proofs.Common.{◌≡◌, refl, sym, ap, ap₂, ◌∙◌, subst, ℕ, Bool, true, false, List, [], ◌∷◌, ◌++◌, map, Option, Some, None, if◌then◌else◌}
 use Rattle.std.specs.List.{filter_map}
 use Rattle.std.proofs.lemmas.List.{append-nil}
+use Rattle.store.specs.declared.letter.Body as bodies
+use Rattle.store.specs.declared.letter.Body.TheVariants as body
+use Rattle.store.specs.declared.order.Order.TheVariants as order
 use Rattle.store.specs.declared.letter.Letter as letters
 use Rattle.store.specs.declared.name.Txn.{Txn}
 use Rattle.store.specs.DeskContent.{DeskContent}
@@ -20,9 +23,9 @@ use Rattle.desk.specs.State.{Begins, Fits, Steps, Table, desk_of, notice_of}
 use Rattle.desk.specs.Turn.{told}
 use Rattle.site.specs.State.{Fits as SiteFits, state_of, Table as SiteTable}
 use Rattle.store.specs.SiteContent.{SiteContent}
-use Rattle.world.specs.Machines.{AreFit, Leads, Machines, world_of}
+use Rattle.world.specs.Machines.{AreFit, Leads, Machines, is_order, world_of}
 use Rattle.world.specs.Seated.{SomeSeatTakes}
-use Rattle.world.specs.Seats.{Seat, seat_of, state_at, states_of}
+use Rattle.world.specs.Seats.{Seat, SiteLimits, seat_of, state_at, states_of}
 use Rattle.world.proofs.Seating.{letter_said, letter_state, names_after, seat_has, seated_after, state_there, states_after}
 use Rattle.protocol.proofs.OtherStatements.{within_same}
 
@@ -69,7 +72,7 @@ module _ (db : Database) (before : Machines) (kept : DeskContent) (after : Table
 abbrev pub with_seats : Machines → List Seat → Machines
 with_seats machines seats = record { desk = machines.desk; table = machines.table; seats = seats }
 
-module _ (db : Database) (before : Machines) (seat : Seat) (after : List Seat) (letter : letters.Letter) (out : List letters.Letter) (fit : AreFit db before) (takes : SomeSeatTakes seat before.seats after letter out) (limits : (kept : SiteContent) (table : SiteTable) → SiteFits kept table → is_within (state_of kept table) ≡ true) where
+module _ (db : Database) (before : Machines) (seat : Seat) (after : List Seat) (letter : letters.Letter) (out : List letters.Letter) (fit : AreFit db before) (takes : SomeSeatTakes seat before.seats after letter out) (limits : SiteLimits) where
   -- what its site makes of the letter
   abbrev made : World (language db) → SiteState (language db) → World (language db)
   made w s =
@@ -86,11 +89,28 @@ module _ (db : Database) (before : Machines) (seat : Seat) (after : List Seat) (
       if_true (is_within new) (with_site w letter.site new (map (sent db) out)) w (within_same S (state_of takes.new.kept takes.new.table) ∙ limits takes.new.kept takes.new.table takes.moves.seated) ∙
       (λ i. record { desk = w.desk; sites = sym (states_after S letter.site seat takes.new before.seats after takes.moves) i; letters = waiting ++ map (sent db) out; past = sym (append-nil past) i })
 
-  pub letter_leads : (choice : Choice (language db)) → is_for_desk (body_with (statements db) (body_of letter.body)) ≡ false → Leads db (λ w. comes w (kept_in out) choice (sent db letter)) before (with_seats before after) out []
-  letter_leads choice order = record {
+  order_is : (body : bodies.Body) → is_order body ≡ true → is_for_desk (body_with (statements db) (body_of body)) ≡ false
+  order_is (body.Order order.Open) is = refl
+  order_is (body.Order (order.Fetch fetch)) is = refl
+  order_is (body.Order (order.Intend intention)) is = refl
+  order_is (body.Order (order.Prepare prepare)) is = refl
+  order_is (body.Order (order.Commit ticket)) is = refl
+  order_is (body.Order (order.Abort ticket)) is = refl
+  order_is (body.Reply reply) is = absurd cc
+
+  pub letter_leads : (choice : Choice (language db)) → is_order letter.body ≡ true → Leads db (λ w. comes w (kept_in out) choice (sent db letter)) before (with_seats before after) out []
+  letter_leads choice sent_to = record {
     deeds = [];
     fit = record { names = names_after letter.site seat takes.new before.seats after takes.moves ∙ fit.names; desk = fit.desk; within = fit.within; sites = seated_after letter.site seat takes.new before.seats after takes.moves fit.sites };
-    is = λ waiting past. ap (λ (b : Bool). comes_to b (world_of db before waiting past) (kept_in out) choice (sent db letter)) order ∙ letter_is waiting past;
+    is = λ waiting past. ap (λ (b : Bool). comes_to b (world_of db before waiting past) (kept_in out) choice (sent db letter)) (order_is letter.body sent_to) ∙ letter_is waiting past;
     explained = tt;
     replies = refl;
   }
+
+  -- as the code puts it out
+  pub put_out_leads : (choice : Choice (language db)) → is_order letter.body ≡ true → (kept : Bool) (put : List letters.Letter) (notices : List Notice) → kept ≡ kept_in out → put ≡ out → notices ≡ [] →
+      Leads db (λ w. comes w kept choice (sent db letter)) before (with_seats before after) put notices
+  put_out_leads choice sent_to kept put notices same_kept same_put none =
+      subst (λ (k : Bool). Leads db (λ w. comes w k choice (sent db letter)) before (with_seats before after) put notices) (sym same_kept)
+      (subst (λ (ls : List letters.Letter). Leads db (λ w. comes w (kept_in out) choice (sent db letter)) before (with_seats before after) ls notices) (sym same_put)
+      (subst (Leads db (λ w. comes w (kept_in out) choice (sent db letter)) before (with_seats before after) out) (sym none) (letter_leads choice sent_to)))

@@ -1,6 +1,8 @@
 -- The machines of a database together, as the protocol's world.
-use Rattle.std.specs.Prelude.{◌≡◌, true, List, ◌++◌, map}
+use Rattle.std.specs.Prelude.{◌≡◌, Bool, true, false, List, ◌++◌, map}
 use Rattle.std.specs.List.{filter_map}
+use Rattle.store.specs.declared.letter.Body as bodies
+use Rattle.store.specs.declared.letter.Body.TheVariants as body
 use Rattle.store.specs.declared.letter.Letter as letters
 use Rattle.store.specs.DeskContent.{DeskContent}
 use Rattle.protocol.specs.Desk.{Deed, is_desk_within}
@@ -29,6 +31,11 @@ pub record AreFit (db : Database) (machines : Machines) : Type 0 where
   pub desk : Fits db machines.desk machines.table
   pub within : is_desk_within (desk_of db machines.table) ≡ true
   pub sites : AreSeated machines.seats
+
+-- whether a letter is for a site
+abbrev pub is_order : bodies.Body → Bool
+is_order (body.Order order) = true
+is_order (body.Reply reply) = false
 
 -- a step of the machines is one of the protocol's world, whatever letters wait and whatever happened before: these
 -- letters are put out, deeds are done, among them no statement that isn't explained, and clients hear of them

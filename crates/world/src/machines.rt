@@ -1,13 +1,21 @@
 //! The machines of a database: its coordinator and its sites.
 
+ghost use Rattle.std.specs.Prelude.{◌≡◌, [], not};
+ghost use Rattle.protocol.specs.Letters.{kept_in};
+
+use crate::seats::take_among;
 use desk::desk::Desk;
 use desk::reply::Out;
 use desk::refusal::Refusal;
+use site::fault::SiteFault;
 use site::site::Site;
 use std::alloc::Global;
 use store::desk_store::DeskStore;
+use store::letter::{Body, Letter};
 use store::name::Txn;
+use store::reply::{Reply, Vote, Voted};
 use store::site_store::SiteStore;
+use terms::seq::Seq;
 
 /// The coordinator, and the sites in the catalogue's order.
 #[derive(Drop)]
@@ -18,14 +26,15 @@ pub(crate) struct Machines<D: DeskStore, S: SiteStore> {
 }
 
 impl<D: DeskStore, S: SiteStore> Machines<D, S> {
-    ghost use Rattle.std.specs.Prelude.{◌≡◌, IfOk, OnErr};
+    ghost use Rattle.std.specs.Prelude.{◌≡◌, true, Some, IfOk, OnErr};
     ghost use Rattle.protocol.specs.Desk.{Choice, Commit_call, Give_up, Rollback};
     ghost use Rattle.protocol.specs.Letters.{txn_name};
-    ghost use Rattle.protocol.specs.World.{begins, called};
+    ghost use Rattle.protocol.specs.World.{begins, called, comes};
     ghost use Rattle.desk.specs.Calls.{IsOver};
-    ghost use Rattle.desk.specs.Database.{Database, language};
+    ghost use Rattle.desk.specs.Database.{Database, language, sent};
     ghost use Rattle.world.specs.Held.{OfStores, held};
-    ghost use Rattle.world.specs.Machines.{AreFit, Leads};
+    ghost use Rattle.world.specs.Machines.{AreFit, Leads, is_order};
+    ghost use Rattle.world.specs.Seats.{Seat, SiteLimits, seat_of};
 
     /// A transaction begins.
     pub(crate) fn begin(&mut self) -> Result<Out, Refusal>
@@ -47,5 +56,72 @@ impl<D: DeskStore, S: SiteStore> Machines<D, S> {
         ensures err { OnErr result (held D.kept S.kept self.new ≡ held D.kept S.kept self.old) }
     {
         self.desk.commit(txn)
+    }
+
+    /// A transaction is rolled back.
+    pub(crate) fn rollback(&mut self, txn: Txn) -> Result<Out, Refusal>
+        ensures clean { OfStores D.is_clean S.is_clean self.new → OfStores D.is_clean S.is_clean self.old }
+        ensures sound { OfStores D.is_clean S.is_clean self.new → OfStores D.is_sound S.is_sound self.old → OfStores D.is_sound S.is_sound self.new }
+        ensures ok { (db : Database) (choice : Choice (language db)) → IsOver db self.old.desk.catalog.0 → AreFit db (held D.kept S.kept self.old)
+            → IfOk result (λ out. Leads db (λ w. called w (txn_name txn) choice Rollback) (held D.kept S.kept self.old) (held D.kept S.kept self.new) out.letters out.replies) }
+        ensures err { OnErr result (held D.kept S.kept self.new ≡ held D.kept S.kept self.old) }
+    {
+        self.desk.rollback(txn)
+    }
+
+    /// A transaction is given up.
+    pub(crate) fn give_up(&mut self, txn: Txn) -> Result<Out, Refusal>
+        ensures clean { OfStores D.is_clean S.is_clean self.new → OfStores D.is_clean S.is_clean self.old }
+        ensures sound { OfStores D.is_clean S.is_clean self.new → OfStores D.is_sound S.is_sound self.old → OfStores D.is_sound S.is_sound self.new }
+        ensures ok { (db : Database) (choice : Choice (language db)) → IsOver db self.old.desk.catalog.0 → AreFit db (held D.kept S.kept self.old)
+            → IfOk result (λ out. Leads db (λ w. called w (txn_name txn) choice Give_up) (held D.kept S.kept self.old) (held D.kept S.kept self.new) out.letters out.replies) }
+        ensures err { OnErr result (held D.kept S.kept self.new ≡ held D.kept S.kept self.old) }
+    {
+        self.desk.give_up(txn)
+    }
+
+    /// An order comes to its site.
+    fn order(&mut self, letter: Letter, kept: bool) -> Result<Out, SiteFault>
+        requires { is_order letter.body ≡ true }
+        ensures clean { OfStores D.is_clean S.is_clean self.new → OfStores D.is_clean S.is_clean self.old }
+        ensures sound { OfStores D.is_clean S.is_clean self.new → OfStores D.is_sound S.is_sound self.old → OfStores D.is_sound S.is_sound self.new }
+        ensures ok { (db : Database) (choice : Choice (language db)) (seat : Seat) → SiteLimits → OfStores D.is_clean S.is_clean self.new → OfStores D.is_sound S.is_sound self.old → AreFit db (held D.kept S.kept self.old) → seat_of letter.site (held D.kept S.kept self.old).seats ≡ Some seat
+            → IfOk result (λ out. Leads db (λ w. comes w out.kept choice (sent db letter)) (held D.kept S.kept self.old) (held D.kept S.kept self.new) out.letters out.replies) }
+        ensures err { OfStores D.is_clean S.is_clean self.new → OfStores D.is_sound S.is_sound self.old → OnErr result (held D.kept S.kept self.new ≡ held D.kept S.kept self.old) }
+    {
+        match take_among(self.alloc, &mut self.sites, letter, kept) {
+            Ok(letters) => Ok(put_out(self.alloc, letters)),
+            Err(fault) => Err(fault),
+        }
+    }
+}
+
+/// What a site puts out. A vote NO may come of a store that refused.
+fn put_out(alloc: Global, letters: Vec<Letter>) -> Out
+    ensures letters { result.letters ≡ letters.items }
+    ensures replies { result.replies ≡ [] }
+    ensures kept { result.kept ≡ kept_in letters.items }
+{
+    let kept = !votes_no(letters.as_slice());
+    Out {
+        letters: Seq::new(letters),
+        replies: Seq::new(Vec::new(alloc)),
+        kept,
+    }
+}
+
+/// Whether the first of these letters is a vote NO.
+fn votes_no(letters: &[Letter]) -> bool
+    ensures { result ≡ not (kept_in letters.now) }
+{
+    match letters.first() {
+        Some(letter) => matches!(
+            &letter.body,
+            Body::Reply(Reply::Voted(Voted {
+                vote: Vote::No,
+                ..
+            }))
+        ),
+        None => false,
     }
 }

@@ -35,7 +35,7 @@ fn take_one<S: SiteStore>(
 }
 
 /// A letter comes to the site that it is for. Where there is none, nothing is put out.
-pub(crate) fn take<S: SiteStore>(
+fn take<S: SiteStore>(
     alloc: Global,
     sites: &mut [Site<S>],
     letter: Letter,
@@ -54,4 +54,20 @@ pub(crate) fn take<S: SiteStore>(
         return take(alloc, rest, letter, kept);
     }
     take_one(site, letter, kept)
+}
+
+/// The same of all sites.
+pub(crate) fn take_among<S: SiteStore>(
+    alloc: Global,
+    sites: &mut Vec<Site<S>>,
+    letter: Letter,
+    kept: bool,
+) -> Result<Vec<Letter>, SiteFault>
+    ensures clean { AllByRecursion (λ site. S.is_clean site.store) sites.new.items → AllByRecursion (λ site. S.is_clean site.store) sites.old.items }
+    ensures sound { AllByRecursion (λ site. S.is_clean site.store) sites.new.items → AllByRecursion (λ site. S.is_sound site.store) sites.old.items → AllByRecursion (λ site. S.is_sound site.store) sites.new.items }
+    ensures ok { (seat : Seat) → AllByRecursion (λ site. S.is_clean site.store) sites.new.items → AllByRecursion (λ site. S.is_sound site.store) sites.old.items → AreSeated (seats_in S.kept sites.old.items) → seat_of letter.site (seats_in S.kept sites.old.items) ≡ Some seat
+        → IfOk result (λ letters. SomeSeatTakes seat (seats_in S.kept sites.old.items) (seats_in S.kept sites.new.items) letter letters.items) }
+    ensures err { AllByRecursion (λ site. S.is_clean site.store) sites.new.items → AllByRecursion (λ site. S.is_sound site.store) sites.old.items → OnErr result (seats_in S.kept sites.new.items ≡ seats_in S.kept sites.old.items) }
+{
+    take(alloc, sites.as_mut_slice(), letter, kept)
 }
