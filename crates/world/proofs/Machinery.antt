@@ -10,12 +10,12 @@ use Rattle.store.specs.declared.name.Txn.{Txn}
 use Rattle.store.specs.DeskContent.{DeskContent}
 use Rattle.protocol.specs.Desk.{Began, Choice, next_txn, Deed, Request, Turn, desk_after, desk_began, is_desk_within, on_request}
 use Rattle.protocol.specs.Letter.{Body, Letter, is_for_desk}
-use Rattle.protocol.specs.Letters.{body_of, kept_in, letter_of, txn_name}
+use Rattle.protocol.specs.Letters.{body_of, kept_in, letter_of, name_of, txn_name}
 use Rattle.protocol.specs.Local.{local}
 use Rattle.protocol.specs.Serial.{AllExplained}
-use Rattle.protocol.specs.Site.{SiteState, is_within, on_letter, said, site_after}
-use Rattle.protocol.specs.Statements.{body_with}
-use Rattle.protocol.specs.World.{World, addressed, begins, begun, called, comes, comes_to, site_steps, turned, turns, with_site}
+use Rattle.protocol.specs.Site.{Act, SiteState, inquiries, is_within, on_give_up, on_letter, said, site_after, site_restarted}
+use Rattle.protocol.specs.Statements.{body_with, letter_with, site_with}
+use Rattle.protocol.specs.World.{World, addressed, begins, begun, called, comes, comes_to, gives_up, inquires, restarts, site_steps, turned, turns, with_site}
 use Rattle.protocol.proofs.Basics.{if_true}
 use Rattle.desk.specs.declared.reply.Notice.{Notice}
 use Rattle.desk.specs.Database.{Database, language, sent, statements}
@@ -23,11 +23,13 @@ use Rattle.desk.specs.State.{Begins, Fits, Steps, Table, desk_of, notice_of}
 use Rattle.desk.specs.Turn.{told}
 use Rattle.site.specs.State.{Fits as SiteFits, state_of, Table as SiteTable}
 use Rattle.store.specs.SiteContent.{SiteContent}
-use Rattle.world.specs.Machines.{AreFit, Leads, Machines, is_order, world_of}
-use Rattle.world.specs.Seated.{SomeSeatTakes}
-use Rattle.world.specs.Seats.{Seat, SiteLimits, seat_of, state_at, states_of}
-use Rattle.world.proofs.Seating.{letter_said, letter_state, names_after, seat_has, seated_after, state_there, states_after}
-use Rattle.protocol.proofs.OtherStatements.{within_same}
+use Rattle.world.specs.Machines.{AreFit, Leads, Machines, happens_at, is_for_site, is_order, world_of}
+use Rattle.world.specs.Seated.{SomeSeatDoes}
+use Rattle.world.specs.declared.doing.Doing as doing
+use Rattle.world.specs.declared.doing.Doing.TheVariants.{GiveUp, Inquire, Restart, Take}
+use Rattle.world.specs.Seats.{Moves, Seat, SiteLimits, seat_of, state_at, states_of}
+use Rattle.world.proofs.Seating.{letter_said, letter_state, names_after, reseated_same, seat_named, seated_after, state_there, states_after}
+use Rattle.protocol.proofs.OtherStatements.{after_same, give_up_same, inquiries_same, restart_same, within_same}
 
 -- the coordinator is another one
 abbrev pub with_desk : Machines → DeskContent → Table → Machines
@@ -68,26 +70,40 @@ module _ (db : Database) (before : Machines) (kept : DeskContent) (after : Table
     replies = begun_so.replies;
   }
 
--- ---- a letter that comes to a site
+-- the sites are others
 abbrev pub with_seats : Machines → List Seat → Machines
 with_seats machines seats = record { desk = machines.desk; table = machines.table; seats = seats }
 
-module _ (db : Database) (before : Machines) (seat : Seat) (after : List Seat) (letter : letters.Letter) (out : List letters.Letter) (fit : AreFit db before) (takes : SomeSeatTakes seat before.seats after letter out) (limits : SiteLimits) where
-  -- what its site makes of the letter
-  abbrev made : World (language db) → SiteState (language db) → World (language db)
-  made w s =
-      let act = on_letter s (txn_name letter.txn) (kept_in out) (body_with (statements db) (body_of letter.body)) in
-      site_steps w letter.site (site_after s act) (addressed letter.site (txn_name letter.txn) (said s act))
+-- ---- something is done at a site
+module _ (db : Database) (before : Machines) (seat : Seat) (after : List Seat) (out : List letters.Letter) (fit : AreFit db before) (limits : SiteLimits) where
+  -- a site's step
+  abbrev steps_to : World (language db) → List ℕ → SiteState (language db) → List (Letter (language db)) → World (language db)
+  steps_to w name new put = site_steps w name new put
 
-  letter_is : (waiting : List (Letter (language db))) (past : List (Deed (language db))) → made (world_of db before waiting past) (states_of (statements db) before.seats letter.site) ≡ world_of db (with_seats before after) (waiting ++ map (sent db) out) (past ++ [])
-  letter_is waiting past =
-      let S = statements db in
-      let w = world_of db before waiting past in
-      let new = state_at S takes.new in
-      ap (made w) (state_there S letter.site before.seats seat takes.moves.there) ∙
-      ap₂ (site_steps w letter.site) (letter_state S letter out seat takes.new takes.takes) (letter_said S letter out seat takes.new takes.takes) ∙
-      if_true (is_within new) (with_site w letter.site new (map (sent db) out)) w (within_same S (state_of takes.new.kept takes.new.table) ∙ limits takes.new.kept takes.new.table takes.moves.seated) ∙
-      (λ i. record { desk = w.desk; sites = sym (states_after S letter.site seat takes.new before.seats after takes.moves) i; letters = waiting ++ map (sent db) out; past = sym (append-nil past) i })
+  module _ (name : List ℕ) (new : Seat) (moves : Moves name seat new before.seats after) where
+    stepped : (waiting : List (Letter (language db))) (past : List (Deed (language db))) (put : List (Letter (language db))) → site_steps (world_of db before waiting past) name (state_at (statements db) new) put ≡ world_of db (with_seats before after) (waiting ++ put) (past ++ [])
+    stepped waiting past put =
+        let S = statements db in
+        let w = world_of db before waiting past in
+        if_true (is_within (state_at S new)) (with_site w name (state_at S new) put) w (within_same S (state_of new.kept new.table) ∙ limits new.kept new.table moves.seated) ∙
+        (λ i. record { desk = w.desk; sites = sym (states_after S name seat new before.seats after moves) i; letters = waiting ++ put; past = sym (append-nil past) i })
+
+    now_fit : AreFit db (with_seats before after)
+    now_fit = record { names = names_after name seat new before.seats after moves ∙ fit.names; desk = fit.desk; within = fit.within; sites = seated_after name seat new before.seats after moves fit.sites }
+
+    -- so where the step is such a one
+    pub site_leads : (step : World (language db) → World (language db)) (of : SiteState (language db) → SiteState (language db)) (said_by : SiteState (language db) → List (Letter (language db))) →
+        ((waiting : List (Letter (language db))) (past : List (Deed (language db))) → step (world_of db before waiting past) ≡ site_steps (world_of db before waiting past) name (of (states_of (statements db) before.seats name)) (said_by (states_of (statements db) before.seats name))) →
+        of (state_at (statements db) seat) ≡ state_at (statements db) new → said_by (state_at (statements db) seat) ≡ map (sent db) out → Leads db step before (with_seats before after) out []
+    site_leads step of said_by is became said = record {
+      deeds = [];
+      fit = now_fit;
+      is = λ waiting past.
+          let w = world_of db before waiting past in
+          is waiting past ∙ ap (λ s. site_steps w name (of s) (said_by s)) (state_there (statements db) name before.seats seat moves.there) ∙ ap₂ (site_steps w name) became said ∙ stepped waiting past (map (sent db) out);
+      explained = tt;
+      replies = refl;
+    }
 
   order_is : (body : bodies.Body) → is_order body ≡ true → is_for_desk (body_with (statements db) (body_of body)) ≡ false
   order_is (body.Order order.Open) is = refl
@@ -98,19 +114,49 @@ module _ (db : Database) (before : Machines) (seat : Seat) (after : List Seat) (
   order_is (body.Order (order.Abort ticket)) is = refl
   order_is (body.Reply reply) is = absurd cc
 
-  pub letter_leads : (choice : Choice (language db)) → is_order letter.body ≡ true → Leads db (λ w. comes w (kept_in out) choice (sent db letter)) before (with_seats before after) out []
-  letter_leads choice sent_to = record {
-    deeds = [];
-    fit = record { names = names_after letter.site seat takes.new before.seats after takes.moves ∙ fit.names; desk = fit.desk; within = fit.within; sites = seated_after letter.site seat takes.new before.seats after takes.moves fit.sites };
-    is = λ waiting past. ap (λ (b : Bool). comes_to b (world_of db before waiting past) (kept_in out) choice (sent db letter)) (order_is letter.body sent_to) ∙ letter_is waiting past;
-    explained = tt;
-    replies = refl;
-  }
+  put_out : (letters : List letters.Letter) → map (letter_with (statements db)) (map letter_of letters) ≡ map (sent db) letters
+  put_out [] = refl
+  put_out (l ∷ ls) = ap (λ rest. sent db l ∷ rest) (put_out ls)
+
+  pub done_leads : (what : doing.Doing) (choice : Choice (language db)) → is_for_site what ≡ true → SomeSeatDoes what seat before.seats after out → Leads db (happens_at db what (kept_in out) choice) before (with_seats before after) out []
+  done_leads (Take letter) choice order did =
+      let S = statements db in
+      let act : SiteState (language db) → Act (language db) = λ s. on_letter s (txn_name letter.txn) (kept_in out) (body_with S (body_of letter.body)) in
+      site_leads letter.site did.new did.moves (λ w. comes w (kept_in out) choice (sent db letter)) (λ s. site_after s (act s)) (λ s. addressed letter.site (txn_name letter.txn) (said s (act s)))
+      (λ waiting past. ap (λ (b : Bool). comes_to b (world_of db before waiting past) (kept_in out) choice (sent db letter)) (order_is letter.body order))
+      (letter_state S letter out seat did.new did.does) (letter_said S letter out seat did.new did.does)
+  done_leads (GiveUp site ticket) choice order did =
+      let S = statements db in
+      let k = name_of ticket in
+      let s = state_of seat.kept seat.table in
+      site_leads site did.new did.moves (λ w. gives_up w site k) (λ s. site_after s (on_give_up k (s.status k))) (λ s. []) (λ waiting past. refl)
+      (ap (site_after (site_with S s)) (sym (give_up_same S k (s.status k))) ∙ sym (after_same S s (on_give_up k (s.status k))) ∙ ap (site_with S) (sym did.does.0.state)) (ap (map (sent db)) (sym did.does.1))
+  done_leads (Inquire site) choice order did =
+      let S = statements db in
+      let s = state_of seat.kept seat.table in
+      let same : after ≡ before.seats = did.moves.is ∙ reseated_same site did.new before.seats seat did.does.0 did.moves.there in
+      subst (λ (seats : List Seat). Leads db (λ w. inquires w site) before (with_seats before seats) out []) (sym same) (record {
+        deeds = [];
+        fit = fit;
+        is = λ waiting past i. record {
+          desk = desk_of db before.table;
+          sites = states_of S before.seats;
+          letters = waiting ++ (ap (inquiries site) (state_there S site before.seats seat did.moves.there) ∙ sym (inquiries_same S site s) ∙ ap (λ name. map (letter_with S) (inquiries name s)) (sym (seat_named site before.seats seat did.moves.there)) ∙ ap (map (letter_with S)) (sym did.does.1) ∙ put_out out) i;
+          past = sym (append-nil past) i;
+        };
+        explained = tt;
+        replies = refl;
+      })
+  done_leads (Restart site) choice order did =
+      let S = statements db in
+      let s = state_of seat.kept seat.table in
+      site_leads site did.new did.moves (λ w. restarts w site) site_restarted (λ s. []) (λ waiting past. refl)
+      (sym (restart_same S s) ∙ ap (site_with S) (sym did.does.0.state)) (ap (map (sent db)) (sym did.does.1))
 
   -- as the code puts it out
-  pub put_out_leads : (choice : Choice (language db)) → is_order letter.body ≡ true → (kept : Bool) (put : List letters.Letter) (notices : List Notice) → kept ≡ kept_in out → put ≡ out → notices ≡ [] →
-      Leads db (λ w. comes w kept choice (sent db letter)) before (with_seats before after) put notices
-  put_out_leads choice sent_to kept put notices same_kept same_put none =
-      subst (λ (k : Bool). Leads db (λ w. comes w k choice (sent db letter)) before (with_seats before after) put notices) (sym same_kept)
-      (subst (λ (ls : List letters.Letter). Leads db (λ w. comes w (kept_in out) choice (sent db letter)) before (with_seats before after) ls notices) (sym same_put)
-      (subst (Leads db (λ w. comes w (kept_in out) choice (sent db letter)) before (with_seats before after) out) (sym none) (letter_leads choice sent_to)))
+  pub put_out_leads : (what : doing.Doing) (choice : Choice (language db)) → is_for_site what ≡ true → SomeSeatDoes what seat before.seats after out → (kept : Bool) (put : List letters.Letter) (notices : List Notice) → kept ≡ kept_in out → put ≡ out → notices ≡ [] →
+      Leads db (happens_at db what kept choice) before (with_seats before after) put notices
+  put_out_leads what choice for_site did kept put notices same_kept same_put none =
+      subst (λ (k : Bool). Leads db (happens_at db what k choice) before (with_seats before after) put notices) (sym same_kept)
+      (subst (λ (ls : List letters.Letter). Leads db (happens_at db what (kept_in out) choice) before (with_seats before after) ls notices) (sym same_put)
+      (subst (Leads db (happens_at db what (kept_in out) choice) before (with_seats before after) out) (sym none) (done_leads what choice for_site did)))

@@ -7,7 +7,8 @@ use Rattle.protocol.proofs.Basics.{some_is}
 use Rattle.site.specs.State.{Table, Takes}
 use Rattle.world.specs.Seats.{AreSeated, IsSeated, Moves, Seat, is_called, reseated, seat_of}
 use Rattle.site.specs.declared.site.Site.{Site}
-use Rattle.world.specs.Seated.{SeatTakes, SomeSeatTakes, seat_from, seats_in}
+use Rattle.world.specs.Seated.{SeatDoes, SomeSeatDoes, place_of, seat_from, seats_in}
+use Rattle.world.specs.declared.doing.Doing.{Doing}
 use Rattle.world.proofs.Seating.{name_is}
 
 pub on_err : {T E P Q R : Type 0} (result : Result T E) → (P → Q → R) → OnErr result P → OnErr result Q → OnErr result R
@@ -26,54 +27,54 @@ pub seat_same : (old new : Seat) → new.name ≡ old.name → new.leaves ≡ ol
 seat_same old new name leaves table kept i = record { name = name i; leaves = leaves i; kept = kept i; table = table i }
 
 -- the first one is the site
-pub take_here : (first new seat : Seat) (rest : List Seat) (letter : Letter) (letters : List Letter) → is_called letter.site first ≡ true → SeatTakes first new letter letters → seat_of letter.site (first ∷ rest) ≡ Some seat →
-    SomeSeatTakes seat (first ∷ rest) (new ∷ rest) letter letters
-take_here first new seat rest letter letters called takes there =
-    let same : first ≡ seat = some_is (sym (ap (λ (b : Bool). if b then Some first else seat_of letter.site rest) called) ∙ there) in
-    subst (λ (s : Seat). SomeSeatTakes s (first ∷ rest) (new ∷ rest) letter letters) same (record {
+pub take_here : (first new seat : Seat) (rest : List Seat) (what : Doing) (letters : List Letter) → is_called (place_of what) first ≡ true → SeatDoes what first new letters → seat_of (place_of what) (first ∷ rest) ≡ Some seat →
+    SomeSeatDoes what seat (first ∷ rest) (new ∷ rest) letters
+take_here first new seat rest what letters called takes there =
+    let same : first ≡ seat = some_is (sym (ap (λ (b : Bool). if b then Some first else seat_of (place_of what) rest) called) ∙ there) in
+    subst (λ (s : Seat). SomeSeatDoes what s (first ∷ rest) (new ∷ rest) letters) same (record {
       new = new;
       moves = record {
         there = there ∙ ap Some (sym same);
-        is = sym (ap (λ (b : Bool). if b then new ∷ rest else first ∷ reseated letter.site new rest) called);
-        named = takes.name ∙ sym (name_is letter.site first.name called);
+        is = sym (ap (λ (b : Bool). if b then new ∷ rest else first ∷ reseated (place_of what) new rest) called);
+        named = takes.name ∙ sym (name_is (place_of what) first.name called);
         leaves = takes.leaves;
-        seated = takes.takes.fits;
+        seated = takes.fits;
       };
-      takes = takes.takes;
+      does = takes.does;
     })
 
 -- it is one of those behind
-pub take_later : (first seat : Seat) (before after : List Seat) (letter : Letter) (letters : List Letter) → is_called letter.site first ≡ false → SomeSeatTakes seat before after letter letters →
-    SomeSeatTakes seat (first ∷ before) (first ∷ after) letter letters
-take_later first seat before after letter letters apart takes = record {
+pub take_later : (first seat : Seat) (before after : List Seat) (what : Doing) (letters : List Letter) → is_called (place_of what) first ≡ false → SomeSeatDoes what seat before after letters →
+    SomeSeatDoes what seat (first ∷ before) (first ∷ after) letters
+take_later first seat before after what letters apart takes = record {
   new = takes.new;
   moves = record {
-    there = ap (λ (b : Bool). if b then Some first else seat_of letter.site before) apart ∙ takes.moves.there;
-    is = ap (λ (rest : List Seat). first ∷ rest) takes.moves.is ∙ sym (ap (λ (b : Bool). if b then takes.new ∷ before else first ∷ reseated letter.site takes.new before) apart);
+    there = ap (λ (b : Bool). if b then Some first else seat_of (place_of what) before) apart ∙ takes.moves.there;
+    is = ap (λ (rest : List Seat). first ∷ rest) takes.moves.is ∙ sym (ap (λ (b : Bool). if b then takes.new ∷ before else first ∷ reseated (place_of what) takes.new before) apart);
     named = takes.moves.named;
     leaves = takes.moves.leaves;
     seated = takes.moves.seated;
   };
-  takes = takes.takes;
+  does = takes.does;
 }
 
 pub there_later : (name : List ℕ) (first seat : Seat) (rest : List Seat) → is_called name first ≡ false → seat_of name (first ∷ rest) ≡ Some seat → seat_of name rest ≡ Some seat
 there_later name first seat rest apart there = sym (ap (λ (b : Bool). if b then Some first else seat_of name rest) apart) ∙ there
 
 -- ---- the sites of the code
-module _ {S T E : Type 0} (content : S → SiteContent) (items : T → List Letter) (result : Result T E) (sites rest : List (Site S)) (first : Site S) (seat : Seat) (letter : Letter) (is : sites ≡ first ∷ rest) (there : seat_of letter.site (seats_in content sites) ≡ Some seat) where
-  there_now : seat_of letter.site (seat_from content first ∷ seats_in content rest) ≡ Some seat
-  there_now = subst (λ (all : List (Site S)). seat_of letter.site (seats_in content all) ≡ Some seat) is there
+module _ {S T E : Type 0} (content : S → SiteContent) (items : T → List Letter) (result : Result T E) (sites rest : List (Site S)) (first : Site S) (seat : Seat) (what : Doing) (is : sites ≡ first ∷ rest) (there : seat_of (place_of what) (seats_in content sites) ≡ Some seat) where
+  there_now : seat_of (place_of what) (seat_from content first ∷ seats_in content rest) ≡ Some seat
+  there_now = subst (λ (all : List (Site S)). seat_of (place_of what) (seats_in content all) ≡ Some seat) is there
 
-  pub first_takes : (new : Site S) → is_called letter.site (seat_from content first) ≡ true → IfOk result (λ letters. SeatTakes (seat_from content first) (seat_from content new) letter (items letters)) →
-      IfOk result (λ letters. SomeSeatTakes seat (seats_in content sites) (seat_from content new ∷ seats_in content rest) letter (items letters))
-  first_takes new called = if_ok result (λ letters takes. subst (λ (all : List (Site S)). SomeSeatTakes seat (seats_in content all) (seat_from content new ∷ seats_in content rest) letter (items letters)) (sym is)
-      (take_here (seat_from content first) (seat_from content new) seat (seats_in content rest) letter (items letters) called takes there_now))
+  pub first_takes : (new : Site S) → is_called (place_of what) (seat_from content first) ≡ true → IfOk result (λ letters. SeatDoes what (seat_from content first) (seat_from content new) (items letters)) →
+      IfOk result (λ letters. SomeSeatDoes what seat (seats_in content sites) (seat_from content new ∷ seats_in content rest) (items letters))
+  first_takes new called = if_ok result (λ letters takes. subst (λ (all : List (Site S)). SomeSeatDoes what seat (seats_in content all) (seat_from content new ∷ seats_in content rest) (items letters)) (sym is)
+      (take_here (seat_from content first) (seat_from content new) seat (seats_in content rest) what (items letters) called takes there_now))
 
-  pub other_takes : (after : List (Site S)) → is_called letter.site (seat_from content first) ≡ false → (seat_of letter.site (seats_in content rest) ≡ Some seat → IfOk result (λ letters. SomeSeatTakes seat (seats_in content rest) (seats_in content after) letter (items letters))) →
-      IfOk result (λ letters. SomeSeatTakes seat (seats_in content sites) (seat_from content first ∷ seats_in content after) letter (items letters))
-  other_takes after apart later = if_ok result (λ letters takes. subst (λ (all : List (Site S)). SomeSeatTakes seat (seats_in content all) (seat_from content first ∷ seats_in content after) letter (items letters)) (sym is)
-      (take_later (seat_from content first) seat (seats_in content rest) (seats_in content after) letter (items letters) apart takes)) (later (there_later letter.site (seat_from content first) seat (seats_in content rest) apart there_now))
+  pub other_takes : (after : List (Site S)) → is_called (place_of what) (seat_from content first) ≡ false → (seat_of (place_of what) (seats_in content rest) ≡ Some seat → IfOk result (λ letters. SomeSeatDoes what seat (seats_in content rest) (seats_in content after) (items letters))) →
+      IfOk result (λ letters. SomeSeatDoes what seat (seats_in content sites) (seat_from content first ∷ seats_in content after) (items letters))
+  other_takes after apart later = if_ok result (λ letters takes. subst (λ (all : List (Site S)). SomeSeatDoes what seat (seats_in content all) (seat_from content first ∷ seats_in content after) (items letters)) (sym is)
+      (take_later (seat_from content first) seat (seats_in content rest) (seats_in content after) what (items letters) apart takes)) (later (there_later (place_of what) (seat_from content first) seat (seats_in content rest) apart there_now))
 
   pub rest_seated : AreSeated (seats_in content sites) → AreSeated (seats_in content rest)
   rest_seated all = (subst (λ (all : List (Site S)). AreSeated (seats_in content all)) is all).1

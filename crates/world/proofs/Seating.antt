@@ -59,6 +59,15 @@ seat_named name (first ∷ seats) seat there = go (is_called name first) refl th
     go true e is later = ap (λ s. s.name) (sym (some_is is)) ∙ sym (name_is name first.name e)
     go false e is later = later is
 
+-- a site that is as it was leaves all as they were
+pub reseated_same : (name : List ℕ) (new : Seat) (seats : List Seat) (seat : Seat) → new ≡ seat → seat_of name seats ≡ Some seat → reseated name new seats ≡ seats
+reseated_same name new [] seat same there = refl
+reseated_same name new (first ∷ seats) seat same there = go (is_called name first) there (reseated_same name new seats seat same)
+  where
+    go : (b : Bool) → (if b then Some first else seat_of name seats) ≡ Some seat → (seat_of name seats ≡ Some seat → reseated name new seats ≡ seats) → (if b then new ∷ seats else first ∷ reseated name new seats) ≡ first ∷ seats
+    go true is later = ap (λ s. s ∷ seats) (same ∙ sym (some_is is))
+    go false is later = ap (λ rest. first ∷ rest) (later is)
+
 module _ (S : Statements local) where
   -- the state at its name
   pub state_there : (name : List ℕ) (seats : List Seat) (seat : Seat) → seat_of name seats ≡ Some seat → states_of S seats name ≡ state_at S seat

@@ -5,14 +5,17 @@ use Rattle.store.specs.declared.letter.Body as bodies
 use Rattle.store.specs.declared.letter.Body.TheVariants as body
 use Rattle.store.specs.declared.letter.Letter as letters
 use Rattle.store.specs.DeskContent.{DeskContent}
-use Rattle.protocol.specs.Desk.{Deed, is_desk_within}
+use Rattle.protocol.specs.Desk.{Choice, Deed, is_desk_within}
 use Rattle.protocol.specs.Letter.{Letter}
 use Rattle.protocol.specs.Serial.{AllExplained}
-use Rattle.protocol.specs.World.{World}
+use Rattle.protocol.specs.Letters.{name_of}
+use Rattle.protocol.specs.World.{World, comes, gives_up, inquires, restarts}
 use Rattle.desk.specs.declared.reply.Notice.{Notice}
 use Rattle.desk.specs.Database.{Database, language, sent, statements}
 use Rattle.desk.specs.State.{Fits, Table, desk_of, notice_of}
 use Rattle.desk.specs.Turn.{told}
+use Rattle.world.specs.declared.doing.Doing as doing
+use Rattle.world.specs.declared.doing.Doing.TheVariants.{GiveUp, Inquire, Restart, Take}
 use Rattle.world.specs.Seats.{AreSeated, Seat, states_of}
 
 -- the coordinator, by what its store keeps and what it has in memory, and the sites
@@ -36,6 +39,20 @@ pub record AreFit (db : Database) (machines : Machines) : Type 0 where
 abbrev pub is_order : bodies.Body → Bool
 is_order (body.Order order) = true
 is_order (body.Reply reply) = false
+
+-- whether it can be done at a site: a letter that comes there is an order
+abbrev pub is_for_site : doing.Doing → Bool
+is_for_site (Take letter) = is_order letter.body
+is_for_site (GiveUp site ticket) = true
+is_for_site (Inquire site) = true
+is_for_site (Restart site) = true
+
+-- what is done at a site, as a step of the world; kept: whether the store call that it makes is kept
+abbrev pub happens_at : (db : Database) → doing.Doing → Bool → Choice (language db) → World (language db) → World (language db)
+happens_at db (Take letter) kept choice w = comes w kept choice (sent db letter)
+happens_at db (GiveUp site ticket) kept choice w = gives_up w site (name_of ticket)
+happens_at db (Inquire site) kept choice w = inquires w site
+happens_at db (Restart site) kept choice w = restarts w site
 
 -- a step of the machines is one of the protocol's world, whatever letters wait and whatever happened before: these
 -- letters are put out, deeds are done, among them no statement that isn't explained, and clients hear of them

@@ -1,5 +1,6 @@
 //! A database in one process.
 #![tactic(auto)]
 
+mod doing;
 mod machines;
 mod seats;

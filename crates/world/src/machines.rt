@@ -3,7 +3,8 @@
 ghost use Rattle.std.specs.Prelude.{◌≡◌, [], not};
 ghost use Rattle.protocol.specs.Letters.{kept_in};
 
-use crate::seats::take_among;
+use crate::doing::Doing;
+use crate::seats::do_among;
 use desk::desk::Desk;
 use desk::reply::Out;
 use desk::refusal::Refusal;
@@ -29,11 +30,12 @@ impl<D: DeskStore, S: SiteStore> Machines<D, S> {
     ghost use Rattle.std.specs.Prelude.{◌≡◌, true, Some, IfOk, OnErr};
     ghost use Rattle.protocol.specs.Desk.{Choice, Commit_call, Give_up, Rollback};
     ghost use Rattle.protocol.specs.Letters.{txn_name};
-    ghost use Rattle.protocol.specs.World.{begins, called, comes};
+    ghost use Rattle.protocol.specs.World.{begins, called};
     ghost use Rattle.desk.specs.Calls.{IsOver};
-    ghost use Rattle.desk.specs.Database.{Database, language, sent};
+    ghost use Rattle.desk.specs.Database.{Database, language};
     ghost use Rattle.world.specs.Held.{OfStores, held};
-    ghost use Rattle.world.specs.Machines.{AreFit, Leads, is_order};
+    ghost use Rattle.world.specs.Machines.{AreFit, Leads, happens_at, is_for_site};
+    ghost use Rattle.world.specs.Seated.{place_of};
     ghost use Rattle.world.specs.Seats.{Seat, SiteLimits, seat_of};
 
     /// A transaction begins.
@@ -80,16 +82,16 @@ impl<D: DeskStore, S: SiteStore> Machines<D, S> {
         self.desk.give_up(txn)
     }
 
-    /// An order comes to its site.
-    fn order(&mut self, letter: Letter, kept: bool) -> Result<Out, SiteFault>
-        requires { is_order letter.body ≡ true }
+    /// Something is done at its site. A letter that comes there is an order.
+    fn at_site(&mut self, what: Doing, kept: bool) -> Result<Out, SiteFault>
+        requires { is_for_site what ≡ true }
         ensures clean { OfStores D.is_clean S.is_clean self.new → OfStores D.is_clean S.is_clean self.old }
         ensures sound { OfStores D.is_clean S.is_clean self.new → OfStores D.is_sound S.is_sound self.old → OfStores D.is_sound S.is_sound self.new }
-        ensures ok { (db : Database) (choice : Choice (language db)) (seat : Seat) → SiteLimits → OfStores D.is_clean S.is_clean self.new → OfStores D.is_sound S.is_sound self.old → AreFit db (held D.kept S.kept self.old) → seat_of letter.site (held D.kept S.kept self.old).seats ≡ Some seat
-            → IfOk result (λ out. Leads db (λ w. comes w out.kept choice (sent db letter)) (held D.kept S.kept self.old) (held D.kept S.kept self.new) out.letters out.replies) }
+        ensures ok { (db : Database) (choice : Choice (language db)) (seat : Seat) → SiteLimits → OfStores D.is_clean S.is_clean self.new → OfStores D.is_sound S.is_sound self.old → AreFit db (held D.kept S.kept self.old) → seat_of (place_of what) (held D.kept S.kept self.old).seats ≡ Some seat
+            → IfOk result (λ out. Leads db (happens_at db what out.kept choice) (held D.kept S.kept self.old) (held D.kept S.kept self.new) out.letters out.replies) }
         ensures err { OfStores D.is_clean S.is_clean self.new → OfStores D.is_sound S.is_sound self.old → OnErr result (held D.kept S.kept self.new ≡ held D.kept S.kept self.old) }
     {
-        match take_among(self.alloc, &mut self.sites, letter, kept) {
+        match do_among(self.alloc, &mut self.sites, what, kept) {
             Ok(letters) => Ok(put_out(self.alloc, letters)),
             Err(fault) => Err(fault),
         }

@@ -1,11 +1,11 @@
--- Why `take_one` meets its contract.
+-- Why `do_one` meets its contract.
 use Rattle.std.proofs.Common.{◌≡◌}
 use Rattle.world.proofs.Moving.{on_err, seat_same, unchanged}
 use Rattle.world.specs.Seated.{seat_from}
-use Rattle.world.proofs.seats.take_one.Goals as goal
+use Rattle.world.proofs.seats.do_one.Goals as goal
 
-pub returns-clause-err : goal.returns-clause-err
-returns-clause-err g c = λ clean sound.
+pub returns-in-Take-clause-err : goal.returns-in-Take-clause-err
+returns-in-Take-clause-err g c = λ clean sound.
     let kept = g.S.SiteStore.kept in
     let old = c.args.site.now in
     let new = c.take_kept.new.self in
