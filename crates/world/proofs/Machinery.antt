@@ -1,21 +1,23 @@
 -- A step of one machine is one of the world.
 use Rattle.std.proofs.Common.{◌≡◌, refl, sym, ap, ap₂, ◌∙◌, subst, ℕ, Bool, true, false, List, [], ◌∷◌, ◌++◌, map, Option, Some, None, if◌then◌else◌}
-use Rattle.std.specs.List.{filter_map}
+use Rattle.std.specs.List.{filter_map, flat_map}
 use Rattle.std.proofs.lemmas.List.{append-nil}
 use Rattle.store.specs.declared.letter.Body as bodies
 use Rattle.store.specs.declared.letter.Body.TheVariants as body
 use Rattle.store.specs.declared.order.Order.TheVariants as order
 use Rattle.store.specs.declared.letter.Letter as letters
-use Rattle.store.specs.declared.name.Txn.{Txn}
+use Rattle.store.specs.declared.name.Txn as names
 use Rattle.store.specs.DeskContent.{DeskContent}
-use Rattle.protocol.specs.Desk.{Began, Choice, next_txn, Deed, Request, Turn, desk_after, desk_began, is_desk_within, on_request}
+use Rattle.desk.specs.Starting.{Restarts}
+use Rattle.protocol.specs.Language.{Name}
+use Rattle.protocol.specs.Desk.{Began, Choice, Desk, Known, Row, Txn, Unknown, desk_restarted, next_txn, txn_restarted, Deed, Request, Turn, desk_after, desk_began, is_desk_within, on_request}
 use Rattle.protocol.specs.Letter.{Body, Letter, is_for_desk}
 use Rattle.protocol.specs.Letters.{body_of, kept_in, letter_of, name_of, txn_name}
 use Rattle.protocol.specs.Local.{local}
 use Rattle.protocol.specs.Serial.{AllExplained}
 use Rattle.protocol.specs.Site.{Act, SiteState, inquiries, is_within, on_give_up, on_letter, said, site_after, site_restarted}
 use Rattle.protocol.specs.Statements.{body_with, letter_with, site_with}
-use Rattle.protocol.specs.World.{World, addressed, begins, begun, called, comes, comes_to, gives_up, inquires, restarts, site_steps, turned, turns, with_site}
+use Rattle.protocol.specs.World.{World, addressed, desk_lives, desk_restarts, begins, begun, called, comes, comes_to, gives_up, inquires, restarts, site_steps, turned, turns, with_site}
 use Rattle.protocol.proofs.Basics.{if_true}
 use Rattle.desk.specs.declared.reply.Notice.{Notice}
 use Rattle.desk.specs.Database.{Database, language, sent, statements}
@@ -36,7 +38,7 @@ abbrev pub with_desk : Machines → DeskContent → Table → Machines
 with_desk machines desk table = record { desk = desk; table = table; seats = machines.seats }
 
 -- a turn of the coordinator
-module _ (db : Database) (before : Machines) (kept : DeskContent) (after : Table) (txn : Txn) (wanted : Turn (language db)) (out : List letters.Letter) (notices : List Notice) (fit : AreFit db before) (steps : Steps db before.table kept after txn wanted out notices) where
+module _ (db : Database) (before : Machines) (kept : DeskContent) (after : Table) (txn : names.Txn) (wanted : Turn (language db)) (out : List letters.Letter) (notices : List Notice) (fit : AreFit db before) (steps : Steps db before.table kept after txn wanted out notices) where
   turn_is : (waiting : List (Letter (language db))) (past : List (Deed (language db))) → turns (world_of db before waiting past) (txn_name txn) wanted ≡ world_of db (with_desk before kept after) (waiting ++ map (sent db) out) (past ++ wanted.deeds)
   turn_is waiting past =
       let w = world_of db before waiting past in
@@ -69,6 +71,31 @@ module _ (db : Database) (before : Machines) (kept : DeskContent) (after : Table
     explained = (tt, tt);
     replies = begun_so.replies;
   }
+
+-- the coordinator restarts
+restarted_explained : (db : Database) (d : Desk (language db)) (names : List Name) → AllExplained (flat_map (λ t. (txn_restarted t (d.txn t)).deeds) names)
+restarted_explained db d [] = tt
+restarted_explained db d (t ∷ names) = go (d.txn t) (restarted_explained db d names)
+  where
+    go : (x : Txn (language db)) → AllExplained (flat_map (λ t. (txn_restarted t (d.txn t)).deeds) names) → AllExplained ((txn_restarted t x).deeds ++ flat_map (λ t. (txn_restarted t (d.txn t)).deeds) names)
+    go Unknown later = later
+    go (Known u) later = (tt, later)
+    go (Row voters acked) later = later
+
+module _ (db : Database) (before : Machines) (kept : DeskContent) (after : Table) (out : List letters.Letter) (notices : List Notice) (fit : AreFit db before) (restarted : Restarts db before.table kept after out notices) where
+  pub restart_leads : Leads db desk_restarts before (with_desk before kept after) out notices
+  restart_leads =
+      let d = desk_of db before.table in
+      record {
+        deeds = flat_map (λ t. (txn_restarted t (d.txn t)).deeds) d.known;
+        fit = record { names = fit.names; desk = restarted.fits; within = restarted.within; sites = fit.sites };
+        is = λ waiting past.
+            let w = world_of db before waiting past in
+            if_true (is_desk_within (desk_restarted w.desk)) (desk_lives w) w (ap is_desk_within (sym restarted.state) ∙ restarted.within) ∙
+            (λ i. record { desk = sym restarted.state i; sites = w.sites; letters = waiting ++ sym restarted.letters i; past = past ++ flat_map (λ t. (txn_restarted t (d.txn t)).deeds) d.known });
+        explained = restarted_explained db d d.known;
+        replies = restarted.replies;
+      }
 
 -- the sites are others
 abbrev pub with_seats : Machines → List Seat → Machines

@@ -30,7 +30,7 @@ impl<D: DeskStore, S: SiteStore> Machines<D, S> {
     ghost use Rattle.std.specs.Prelude.{◌≡◌, true, Some, IfOk, OnErr};
     ghost use Rattle.protocol.specs.Desk.{Choice, Commit_call, Give_up, Rollback};
     ghost use Rattle.protocol.specs.Letters.{txn_name};
-    ghost use Rattle.protocol.specs.World.{begins, called};
+    ghost use Rattle.protocol.specs.World.{begins, called, desk_restarts};
     ghost use Rattle.desk.specs.Calls.{IsOver};
     ghost use Rattle.desk.specs.Database.{Database, language};
     ghost use Rattle.world.specs.Held.{OfStores, held};
@@ -80,6 +80,17 @@ impl<D: DeskStore, S: SiteStore> Machines<D, S> {
         ensures err { OnErr result (held D.kept S.kept self.new ≡ held D.kept S.kept self.old) }
     {
         self.desk.give_up(txn)
+    }
+
+    /// The coordinator restarts.
+    pub(crate) fn restart(&mut self, kept: bool) -> Result<Out, Refusal>
+        ensures clean { OfStores D.is_clean S.is_clean self.new → OfStores D.is_clean S.is_clean self.old }
+        ensures sound { OfStores D.is_clean S.is_clean self.new → OfStores D.is_sound S.is_sound self.old → OfStores D.is_sound S.is_sound self.new }
+        ensures ok { (db : Database) → OfStores D.is_clean S.is_clean self.new → OfStores D.is_sound S.is_sound self.old → AreFit db (held D.kept S.kept self.old)
+            → IfOk result (λ out. Leads db desk_restarts (held D.kept S.kept self.old) (held D.kept S.kept self.new) out.letters out.replies) }
+        ensures err { OfStores D.is_clean S.is_clean self.new → OfStores D.is_sound S.is_sound self.old → OnErr result (held D.kept S.kept self.new ≡ held D.kept S.kept self.old) }
+    {
+        self.desk.restart_kept(kept)
     }
 
     /// Something is done at its site. A letter that comes there is an order.

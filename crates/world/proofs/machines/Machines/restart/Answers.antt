@@ -1,0 +1,13 @@
+-- Why `restart` meets its contract.
+use Rattle.std.proofs.Common.{◌≡◌}
+use Rattle.desk.specs.State.{table_of}
+use Rattle.world.specs.Held.{held}
+use Rattle.world.proofs.Machinery.{restart_leads}
+use Rattle.world.proofs.Moving.{if_ok}
+use Rattle.world.proofs.machines.Machines.restart.Goals as goal
+
+pub returns-clause-ok : goal.returns-clause-ok
+returns-clause-ok g c = λ db clean sound fit.
+    let before = held g.D.DeskStore.kept g.S.SiteStore.kept c.args.self.now in
+    let new = c.restart_kept.new.self in
+    if_ok c.restart_kept.result (λ out restarts. restart_leads db before (g.D.DeskStore.kept new.store) (table_of new.present) out.letters out.replies fit restarts) (c.restart_kept.ensures.ok db clean.0 sound.0 fit.desk)
