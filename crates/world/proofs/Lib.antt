@@ -3,3 +3,4 @@ pub mod Seating
 pub mod Moving
 pub mod Machinery
 pub mod Ends
+pub mod Filled

@@ -3,3 +3,4 @@ pub mod Seats
 pub mod Seated
 pub mod Machines
 pub mod Held
+pub mod Filling

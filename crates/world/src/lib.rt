@@ -2,5 +2,6 @@
 #![tactic(auto)]
 
 mod doing;
+mod filling;
 mod machines;
 mod seats;
