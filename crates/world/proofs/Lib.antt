@@ -4,3 +4,4 @@ pub mod Moving
 pub mod Machinery
 pub mod Ends
 pub mod Filled
+pub mod Opened

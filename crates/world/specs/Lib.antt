@@ -4,3 +4,4 @@ pub mod Seated
 pub mod Machines
 pub mod Held
 pub mod Filling
+pub mod Opening

@@ -4,4 +4,5 @@
 mod doing;
 mod filling;
 mod machines;
+mod opening;
 mod seats;

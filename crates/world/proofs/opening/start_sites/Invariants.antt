@@ -1,0 +1,11 @@
+-- What each round of `start_sites` keeps.
+use Rattle.std.proofs.Common.{take}
+use Rattle.catalog.specs.Relation.{catalogue_of}
+use Rattle.store.specs.PlainSite.{kept_of}
+use Rattle.world.specs.Opening.{AllStarted}
+use Rattle.world.specs.Seated.{seats_in}
+use Rattle.world.proofs.opening.start_sites.Given as goal
+
+-- the sites of the first names have started
+abbrev pub invariant-loop-place : goal.invariant-loop-place
+invariant-loop-place l = AllStarted (catalogue_of l.catalog) l.whole 0 (take l.place l.names) (seats_in kept_of l.sites.items)
