@@ -20,12 +20,12 @@ use Rattle.meaning.specs.Schema.{kinds_of}
 use Rattle.catalog.proofs.FormedTrees.{all_both}
 
 -- two leaves have names of their own, whichever is asked for
-record AreOther (one other : FragmentLeaf) : Type 0 where
-  forth : is_name_of one.name other ≡ false
-  back : is_name_of other.name one ≡ false
+pub record AreOther (one other : FragmentLeaf) : Type 0 where
+  pub forth : is_name_of one.name other ≡ false
+  pub back : is_name_of other.name one ≡ false
 
 -- each leaf has another name than those after it
-abbrev HaveOwnNames : List FragmentLeaf → Type 0
+abbrev pub HaveOwnNames : List FragmentLeaf → Type 0
 HaveOwnNames [] = Unit {0}
 HaveOwnNames (leaf ∷ leaves) = AllByRecursion (AreOther leaf) leaves × HaveOwnNames leaves
 
@@ -108,7 +108,7 @@ each_apart : (relation columns : List ℕ) (number : ℕ) (ps : List Path) (rela
 each_apart relation columns number [] relations less = tt
 each_apart relation columns number (path ∷ ps) relations less = (apart_all (leaf_of relation columns number path) relations less, each_apart relation columns (suc number) ps relations less)
 
-own_names : (relations : List SplitRelation) → IsStrictlySortedBy (slice_cmp nat_cmp) (names_in relations) → HaveOwnNames (flat_map leaves_of relations)
+pub own_names : (relations : List SplitRelation) → IsStrictlySortedBy (slice_cmp nat_cmp) (names_in relations) → HaveOwnNames (flat_map leaves_of relations)
 unfolding IsStrictlySortedBy
 own_names [] sorted = tt
 own_names (relation ∷ relations) sorted =

@@ -5,3 +5,4 @@ pub mod Machinery
 pub mod Ends
 pub mod Filled
 pub mod Opened
+pub mod FilledLeaves
