@@ -6,3 +6,4 @@ pub mod Ends
 pub mod Filled
 pub mod Opened
 pub mod FilledLeaves
+pub mod Openings

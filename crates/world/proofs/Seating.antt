@@ -20,7 +20,7 @@ use Rattle.world.specs.Seats.{AreSeated, IsSeated, Moves, Seat, is_called, resea
 pub name_is : (a b : List ℕ) → pointwise nat_eq a b ≡ true → a ≡ b
 name_is a b e = (bytes_eq-Decides a b).0 e
 
-name_self : (a : List ℕ) → pointwise nat_eq a a ≡ true
+pub name_self : (a : List ℕ) → pointwise nat_eq a a ≡ true
 name_self a = (bytes_eq-Decides a a).1 refl
 
 -- a step keeps the names

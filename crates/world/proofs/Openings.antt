@@ -1,0 +1,175 @@
+-- The world of machines that have just started is an opening of the protocol.
+use Rattle.std.proofs.Common.{◌≡◌, ◌≢◌, refl, sym, ap, ◌∙◌, subst, ℕ, zero, suc, ◌+◌, nat_eq, Bool, true, false, List, [], ◌∷◌, map, Option, Some, None, is_some, slice_get, if◌then◌else◌, inl, arith}
+use Rattle.std.specs.FinMap as fin
+use Rattle.std.specs.List.{AllByRecursion}
+use Rattle.terms.specs.declared.leaf.Leaf.{Leaf}
+use Rattle.meaning.specs.Whole.{FitsSchema, Relations, rows_of}
+use Rattle.reader.specs.Printable.{AreDistinct}
+use Rattle.catalog.specs.declared.fragment_leaf.FragmentLeaf.{FragmentLeaf}
+use Rattle.catalog.specs.Catalogue.{Catalogue}
+use Rattle.catalog.specs.Fragment.{content}
+use Rattle.catalog.specs.FragmentLeaf.{catalogue_leaves, leaf_named, unnamed}
+use Rattle.catalog.proofs.LeafNames.{HaveOwnNames}
+use Rattle.store.specs.declared.name.Ticket.{Ticket}
+use Rattle.store.specs.declared.name.Txn as txns
+use Rattle.store.specs.DeskContent.{DeskContent}
+use Rattle.protocol.specs.Desk as protocol
+use Rattle.protocol.specs.Language.{Name}
+use Rattle.protocol.specs.Letters.{name_of, ticket_of, txn_name}
+use Rattle.protocol.specs.Local.{local}
+use Rattle.protocol.specs.Parts.{In}
+use Rattle.protocol.specs.Serial.{IsOpening}
+use Rattle.protocol.specs.Site.{Alive, Dead, SiteState, Status}
+use Rattle.protocol.specs.Statements.{Statements, status_with, with_statements}
+use Rattle.protocol.proofs.Basics.{some_is}
+use Rattle.desk.specs.declared.standing.Standing as desk_standing
+use Rattle.desk.specs.Database.{Database, language, statements}
+use Rattle.desk.specs.Standing.{txn_of}
+use Rattle.desk.specs.Starting as desk_starting
+use Rattle.desk.specs.State.{Table, txn_at}
+use Rattle.site.specs.declared.standing.Standing as standings
+use Rattle.site.specs.declared.standing.Standing.TheVariants as standing
+use Rattle.site.specs.Starting.{at_rest, resting}
+use Rattle.site.specs.State.{stands, state_of, txn_in, visiting}
+use Rattle.world.specs.Filling.{stored_in}
+use Rattle.world.specs.Machines.{AreFit, Machines, world_of}
+use Rattle.world.specs.Opening.{AllStarted, IsStarted}
+use Rattle.world.specs.Seats.{AreSeated, Seat, is_called, nobody, seat_of, state_at, states_of}
+use Rattle.world.proofs.FilledLeaves.{leaf_filled, none_filled}
+use Rattle.world.proofs.Seating.{name_is, name_self, state_there}
+
+-- what holds of each started site holds of each
+started_all : (P : Seat → Type 0) (c : Catalogue) (whole : Relations) (place : ℕ) (names : List (List ℕ)) (seats : List Seat) → ((at : ℕ) (name : List ℕ) (seat : Seat) → IsStarted c whole at name seat → P seat) → AllStarted c whole place names seats → AllByRecursion P seats
+started_all P c whole place [] [] each all = tt
+started_all P c whole place [] (s ∷ seats) each all = absurd all
+started_all P c whole place (n ∷ names) [] each all = absurd all
+started_all P c whole place (n ∷ names) (s ∷ seats) each all = (each place n s all.0, started_all P c whole (suc place) names seats each all.1)
+
+started_names : (c : Catalogue) (whole : Relations) (place : ℕ) (names : List (List ℕ)) (seats : List Seat) → AllStarted c whole place names seats → map (λ seat. seat.name) seats ≡ names
+started_names c whole place [] [] all = refl
+started_names c whole place [] (s ∷ seats) all = absurd all
+started_names c whole place (n ∷ names) [] all = absurd all
+started_names c whole place (n ∷ names) (s ∷ seats) all = λ i. all.0.called i ∷ started_names c whole (suc place) names seats all.1 i
+
+apart_at : (first : List ℕ) (names : List (List ℕ)) (i : ℕ) (name : List ℕ) → AllByRecursion (λ other. first ≢ other) names → slice_get names i ≡ Some name → first ≢ name
+apart_at first [] zero name apart got = cc
+apart_at first [] (suc i) name apart got = cc
+apart_at first (n ∷ names) zero name apart got = subst (λ m. first ≢ m) (some_is got) apart.0
+apart_at first (n ∷ names) (suc i) name apart got = apart_at first names i name apart.1 got
+
+-- a started site, by its name
+record Found (c : Catalogue) (whole : Relations) (at : ℕ) (name : List ℕ) (seats : List Seat) : Type 0 where
+  seat : Seat
+  there : seat_of name seats ≡ Some seat
+  started : IsStarted c whole at name seat
+
+found_at : (c : Catalogue) (whole : Relations) (place : ℕ) (names : List (List ℕ)) (seats : List Seat) (i : ℕ) (name : List ℕ) → AllStarted c whole place names seats → AreDistinct names → slice_get names i ≡ Some name → Found c whole (place + i) name seats
+found_at c whole place [] seats zero name all distinct got = cc
+found_at c whole place [] seats (suc i) name all distinct got = cc
+found_at c whole place (n ∷ names) [] i name all distinct got = absurd all
+found_at c whole place (n ∷ names) (s ∷ seats) zero name all distinct got =
+    let called : is_called name s ≡ true = subst (λ m. is_called m s ≡ true) (all.0.called ∙ some_is got) (name_self s.name) in
+    record {
+      seat = s;
+      there = ap (λ (b : Bool). if b then Some s else seat_of name seats) called;
+      started = subst (λ m. IsStarted c whole (place + 0) m s) (some_is got) (subst (λ p. IsStarted c whole p n s) (let e : place ≡ place + 0 = omega arith in e) all.0);
+    }
+found_at c whole place (n ∷ names) (s ∷ seats) (suc i) name all distinct got =
+    let later = found_at c whole (suc place) names seats i name all.1 distinct.1 got in
+    let apart : is_called name s ≡ false = no_match (is_called name s) refl in
+    record {
+      seat = later.seat;
+      there = ap (λ (b : Bool). if b then Some s else seat_of name seats) apart ∙ later.there;
+      started = subst (λ p. IsStarted c whole p name later.seat) (let e : suc place + i ≡ place + suc i = omega arith in e) later.started;
+    }
+  where
+    no_match : (b : Bool) → is_called name s ≡ b → b ≡ false
+    no_match false e = refl
+    no_match true e = absurd (apart_at n names i name distinct.0 got (sym all.0.called ∙ sym (name_is name s.name e)))
+
+-- ---- a site that has started is at rest
+module _ (S : Statements local) (c : Catalogue) (whole : Relations) (at : ℕ) (name : List ℕ) (seat : Seat) (started : IsStarted c whole at name seat) where
+  stands_dead : (ticket : Ticket) → stands seat.table ticket (seat.kept.prepared ticket) ≡ Dead
+  stands_dead ticket = ap (λ (s : SiteState local). s.status (name_of ticket)) started.begins.state ∙ ap resting (started.prepared ticket)
+
+  dead : (k : Name) → (state_at S seat).status k ≡ Dead
+  dead k = ap (status_with S) (stands_dead (ticket_of k))
+
+  nobody_listed : (ticket : Ticket) → In ticket seat.table.tickets → ⊥
+  nobody_listed ticket here = go (seat.table.standing ticket) refl (started.begins.fits.lives ticket here)
+    where
+      go : (o : Option standings.Standing) → seat.table.standing ticket ≡ o → is_some (seat.table.standing ticket) ≡ true → ⊥
+      go None e some = let no : is_some (seat.table.standing ticket) ≡ false = ap is_some e in absurd cc
+      go (Some (standing.Prepared t)) e some = let has : txn_in (seat.table.standing ticket) ≡ Some t = ap txn_in e in let none : txn_in (seat.table.standing ticket) ≡ None = started.begins.fits.prepared ticket ∙ ap (λ r. Rattle.std.specs.Option.option_map (λ row. row.txn) r) (started.prepared ticket) in absurd cc
+      go (Some (standing.Alive v)) e some =
+          let is : visiting seat.table.locks ticket (Some (standing.Alive v)) ≡ Dead = ap (visiting seat.table.locks ticket) (sym e) ∙ ap (stands seat.table ticket) (sym (started.prepared ticket)) ∙ stands_dead ticket in absurd cc
+
+  none_known : (state_at S seat).known ≡ []
+  none_known = go seat.table.tickets nobody_listed
+    where
+      go : (tickets : List Ticket) → ((ticket : Ticket) → In ticket tickets → ⊥) → map name_of tickets ≡ []
+      go [] none = refl
+      go (t ∷ tickets) none = absurd (none t (inl refl))
+
+-- what holds of each site, and of none, holds at each name
+at_each : (S : Statements local) (P : SiteState (with_statements local S) → Type 0) (seats : List Seat) → P (nobody S) → AllByRecursion (λ seat. P (state_at S seat)) seats → (a : List ℕ) → P (states_of S seats a)
+at_each S P [] none all a = none
+at_each S P (seat ∷ seats) none all a = go (is_called a seat) (at_each S P seats none all.1 a)
+  where
+    go : (b : Bool) → P (states_of S seats a) → P (if b then state_at S seat else states_of S seats a)
+    go true later = all.0
+    go false later = later
+
+-- ---- the whole world
+-- what a database has to do with its catalogue, leaf by leaf
+pub record Places (db : Database) (c : Catalogue) (whole : Relations) : Type 0 where
+  pub home : (name : Leaf) (leaf : FragmentLeaf) → leaf_named name (catalogue_leaves c) ≡ Some leaf → slice_get db.sites leaf.site ≡ Some (db.home name)
+  pub held : (name : Leaf) (leaf : FragmentLeaf) → leaf_named name (catalogue_leaves c) ≡ Some leaf → db.content name whole ≡ stored_in fin.empty (content (unnamed leaf) (rows_of whole leaf.name.relation))
+  pub nowhere : (name : Leaf) → leaf_named name (catalogue_leaves c) ≡ None → db.content name whole ≡ fin.empty
+
+module _ (db : Database) (c : Catalogue) (whole : Relations) (machines : Machines) (distinct : AreDistinct db.sites) (own : HaveOwnNames (catalogue_leaves c)) (places : Places db c whole)
+    (started : AllStarted c whole 0 db.sites machines.seats) (rises : desk_starting.Rises db machines.desk machines.table) (none : (txn : txns.Txn) → machines.desk.commits txn ≡ None) where
+  abbrev S : Statements local
+  S = statements db
+
+  pub opened_fit : AreFit db machines
+  opened_fit = record {
+    names = started_names c whole 0 db.sites machines.seats started;
+    desk = rises.fits;
+    within = rises.within;
+    sites = started_all (λ seat. Rattle.site.specs.State.Fits seat.kept seat.table) c whole 0 db.sites machines.seats (λ at name seat is. is.begins.fits) started;
+  }
+
+  nothing_stands : (txn : txns.Txn) → machines.table.standing txn ≡ None
+  nothing_stands txn = rises.stands txn ∙ ap desk_starting.resting (none txn)
+
+  no_names : (names : List txns.Txn) → ((txn : txns.Txn) → In txn names → is_some (machines.table.standing txn) ≡ true) → map txn_name names ≡ []
+  no_names [] lives = refl
+  no_names (txn ∷ names) lives = let some = lives txn (inl refl) in let no : is_some (machines.table.standing txn) ≡ false = ap is_some (nothing_stands txn) in absurd cc
+
+  keeps_its : (name : Leaf) → (states_of S machines.seats (db.home name)).kept name ≡ db.content name whole
+  keeps_its name = go (leaf_named name (catalogue_leaves c)) refl
+    where
+      go : (o : Option FragmentLeaf) → leaf_named name (catalogue_leaves c) ≡ o → (states_of S machines.seats (db.home name)).kept name ≡ db.content name whole
+      go None e =
+          at_each S (λ s. s.kept name ≡ fin.empty) machines.seats refl
+          (started_all (λ seat. (state_at S seat).kept name ≡ fin.empty) c whole 0 db.sites machines.seats (λ at site seat is. is.content name ∙ none_filled whole at (catalogue_leaves c) name fin.empty e) started) (db.home name)
+          ∙ sym (places.nowhere name e)
+      go (Some leaf) e =
+          let here = found_at c whole 0 db.sites machines.seats leaf.site (db.home name) started distinct (places.home name leaf e) in
+          ap (λ (s : SiteState (language db)). s.kept name) (state_there S (db.home name) machines.seats here.seat here.there)
+          ∙ here.started.content name
+          ∙ leaf_filled whole (0 + leaf.site) (catalogue_leaves c) name leaf fin.empty own e (let n : leaf.site ≡ 0 + leaf.site = omega arith in n)
+          ∙ sym (places.held name leaf e)
+
+  pub opened_world : FitsSchema db.schemas whole → IsOpening whole (world_of db machines [] [])
+  opened_world fits = record {
+    is_whole = fits;
+    letters = refl;
+    past = refl;
+    visits = at_each S (λ s. (k : Name) → s.status k ≡ Dead) machines.seats (λ k. refl) (started_all (λ seat. (k : Name) → (state_at S seat).status k ≡ Dead) c whole 0 db.sites machines.seats (λ at name seat is. dead S c whole at name seat is) started);
+    tickets = at_each S (λ s. s.known ≡ []) machines.seats refl (started_all (λ seat. (state_at S seat).known ≡ []) c whole 0 db.sites machines.seats (λ at name seat is. none_known S c whole at name seat is) started);
+    undecided = λ t. ap (txn_of db) (nothing_stands (txn_at t));
+    names = no_names machines.table.txns rises.fits.lives;
+    rebuilt = keeps_its;
+  }
