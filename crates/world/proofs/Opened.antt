@@ -2,6 +2,7 @@
 use Rattle.std.proofs.Common.{◌≡◌, refl, sym, ap, ◌∙◌, subst, ℕ, zero, suc, ◌+◌, ◌<◌, add-one, List, [], ◌∷◌, ◌++◌, map, take, get_or, length, arith}
 use Rattle.std.proofs.Math.Seq.{take-suc}
 use Rattle.std.proofs.lemmas.List.{length-take-le, map-append}
+use Rattle.std.specs.List.{AllByRecursion}
 use Rattle.meaning.specs.Whole.{Relations}
 use Rattle.catalog.specs.Catalogue.{Catalogue}
 use Rattle.world.specs.Opening.{AllStarted, IsStarted}
@@ -27,3 +28,8 @@ next_started view catalogue whole names items new place d name item below all is
     subst (λ (ns : List (List ℕ)). AllStarted catalogue whole 0 ns (map view new)) more_names
     (subst (AllStarted catalogue whole 0 (take place names ++ name ∷ [])) more_seats
     (started_more catalogue whole 0 (take place names) (map view items) name (view item) all (subst (λ n. IsStarted catalogue whole n name (view item)) (sym size) here)))
+
+-- what holds of all, and of one more
+pub all_more : {A : Type 0} (P : A → Type 0) (items : List A) (item : A) → AllByRecursion P items → P item → AllByRecursion P (items ++ item ∷ [])
+all_more P [] item all here = (here, tt)
+all_more P (x ∷ items) item all here = (all.0, all_more P items item all.1 here)

@@ -7,9 +7,10 @@ use Rattle.meaning.specs.Whole.{FitsSchema, Relations, rows_of}
 use Rattle.reader.specs.Printable.{AreDistinct}
 use Rattle.catalog.specs.declared.fragment_leaf.FragmentLeaf.{FragmentLeaf}
 use Rattle.catalog.specs.Catalogue.{Catalogue}
+use Rattle.catalog.specs.Formed.{IsFormed}
 use Rattle.catalog.specs.Fragment.{content}
 use Rattle.catalog.specs.FragmentLeaf.{catalogue_leaves, leaf_named, unnamed}
-use Rattle.catalog.proofs.LeafNames.{HaveOwnNames}
+use Rattle.catalog.proofs.LeafNames.{HaveOwnNames, own_names}
 use Rattle.store.specs.declared.name.Ticket.{Ticket}
 use Rattle.store.specs.declared.name.Txn as txns
 use Rattle.store.specs.DeskContent.{DeskContent}
@@ -33,6 +34,7 @@ use Rattle.site.specs.Starting.{at_rest, resting}
 use Rattle.site.specs.State.{stands, state_of, txn_in, visiting}
 use Rattle.world.specs.Filling.{stored_in}
 use Rattle.world.specs.Machines.{AreFit, Machines, world_of}
+use Rattle.world.specs.Placed.{IsPlaced, Opens}
 use Rattle.world.specs.Opening.{AllStarted, IsStarted}
 use Rattle.world.specs.Seats.{AreSeated, Seat, is_called, nobody, seat_of, state_at, states_of}
 use Rattle.world.proofs.FilledLeaves.{leaf_filled, none_filled}
@@ -121,18 +123,12 @@ at_each S P (seat ∷ seats) none all a = go (is_called a seat) (at_each S P sea
     go false later = later
 
 -- ---- the whole world
--- what a database has to do with its catalogue, leaf by leaf
-pub record Places (db : Database) (c : Catalogue) (whole : Relations) : Type 0 where
-  pub home : (name : Leaf) (leaf : FragmentLeaf) → leaf_named name (catalogue_leaves c) ≡ Some leaf → slice_get db.sites leaf.site ≡ Some (db.home name)
-  pub held : (name : Leaf) (leaf : FragmentLeaf) → leaf_named name (catalogue_leaves c) ≡ Some leaf → db.content name whole ≡ stored_in fin.empty (content (unnamed leaf) (rows_of whole leaf.name.relation))
-  pub nowhere : (name : Leaf) → leaf_named name (catalogue_leaves c) ≡ None → db.content name whole ≡ fin.empty
-
-module _ (db : Database) (c : Catalogue) (whole : Relations) (machines : Machines) (distinct : AreDistinct db.sites) (own : HaveOwnNames (catalogue_leaves c)) (places : Places db c whole)
+module _ (db : Database) (c : Catalogue) (whole : Relations) (machines : Machines) (distinct : AreDistinct db.sites) (own : HaveOwnNames (catalogue_leaves c)) (places : IsPlaced db c whole)
     (started : AllStarted c whole 0 db.sites machines.seats) (rises : desk_starting.Rises db machines.desk machines.table) (none : (txn : txns.Txn) → machines.desk.commits txn ≡ None) where
   abbrev S : Statements local
   S = statements db
 
-  pub opened_fit : AreFit db machines
+  opened_fit : AreFit db machines
   opened_fit = record {
     names = started_names c whole 0 db.sites machines.seats started;
     desk = rises.fits;
@@ -160,11 +156,11 @@ module _ (db : Database) (c : Catalogue) (whole : Relations) (machines : Machine
           ap (λ (s : SiteState (language db)). s.kept name) (state_there S (db.home name) machines.seats here.seat here.there)
           ∙ here.started.content name
           ∙ leaf_filled whole (0 + leaf.site) (catalogue_leaves c) name leaf fin.empty own e (let n : leaf.site ≡ 0 + leaf.site = omega arith in n)
-          ∙ sym (places.held name leaf e)
+          ∙ sym (places.has name leaf e)
 
-  pub opened_world : FitsSchema db.schemas whole → IsOpening whole (world_of db machines [] [])
-  opened_world fits = record {
-    is_whole = fits;
+  opened_world : IsOpening whole (world_of db machines [] [])
+  opened_world = record {
+    is_whole = places.fits;
     letters = refl;
     past = refl;
     visits = at_each S (λ s. (k : Name) → s.status k ≡ Dead) machines.seats (λ k. refl) (started_all (λ seat. (k : Name) → (state_at S seat).status k ≡ Dead) c whole 0 db.sites machines.seats (λ at name seat is. dead S c whole at name seat is) started);
@@ -173,3 +169,11 @@ module _ (db : Database) (c : Catalogue) (whole : Relations) (machines : Machine
     names = no_names machines.table.txns rises.fits.lives;
     rebuilt = keeps_its;
   }
+
+  pub opens : Opens db whole machines
+  opens = record { fit = opened_fit; opening = opened_world }
+
+-- of the sites of the code and their catalogue
+pub opens_of : (db : Database) (c : Catalogue) (whole : Relations) (machines : Machines) → IsFormed c → IsPlaced db c whole → AllStarted c whole 0 c.sites machines.seats → desk_starting.Rises db machines.desk machines.table → ((txn : txns.Txn) → machines.desk.commits txn ≡ None) → Opens db whole machines
+opens_of db c whole machines formed places started rises none =
+    opens db c whole machines (subst AreDistinct (sym places.sites) formed.distinct) (own_names c.relations formed.ascending) places (subst (λ sites. AllStarted c whole 0 sites machines.seats) (sym places.sites) started) rises none

@@ -5,3 +5,4 @@ pub mod Machines
 pub mod Held
 pub mod Filling
 pub mod Opening
+pub mod Placed

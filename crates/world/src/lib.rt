@@ -2,6 +2,7 @@
 #![tactic(auto)]
 
 mod doing;
+pub mod fault;
 mod filling;
 mod machines;
 mod opening;

@@ -1,17 +1,26 @@
 //! The machines of a database start.
 
-ghost use Rattle.std.specs.Prelude.{◌≡◌, IfOk, take};
+ghost use Rattle.std.specs.Prelude.{◌≡◌, IfOk};
+ghost use Rattle.std.specs.List.{AllByRecursion};
 ghost use Rattle.catalog.specs.Relation.{catalogue_of};
-ghost use Rattle.store.specs.PlainSite.{kept_of};
+ghost use Rattle.desk.specs.Database.{Database};
+ghost use Rattle.store.specs.PlainDesk.{kept_of as desk_kept};
+ghost use Rattle.store.specs.PlainSite.{IsSound, kept_of};
+ghost use Rattle.world.specs.Held.{OfStores, held};
+ghost use Rattle.world.specs.Placed.{IsPlaced, Opens};
 ghost use Rattle.world.specs.Opening.{AllStarted, IsStarted};
 ghost use Rattle.world.specs.Seated.{seat_from, seats_in};
 
+use crate::fault::Fault;
 use crate::filling::parts_at;
+use crate::machines::Machines;
 use catalog::catalogue::Catalog;
+use desk::desk::Desk;
 use meaning::whole::Whole;
 use site::fault::SiteFault;
 use site::site::Site;
 use std::alloc::Global;
+use store::plain_desk::PlainDesk;
 use store::plain_site::PlainSite;
 use terms::copy::TryCopy;
 use terms::text::Text;
@@ -24,7 +33,8 @@ fn start_site(
     name: &Text,
     place: usize,
 ) -> Result<Site<PlainSite>, SiteFault>
-    ensures { IfOk result (λ site. IsStarted (catalogue_of catalog.now) whole.now place name.now (seat_from kept_of site)) }
+    ensures started { IfOk result (λ site. IsStarted (catalogue_of catalog.now) whole.now place name.now (seat_from kept_of site)) }
+    ensures sound { IfOk result (λ site. IsSound site.store) }
 {
     let parts = parts_at(alloc, catalog, whole, place)?;
     let leaves = catalog.leaves_at(place)?;
@@ -41,7 +51,8 @@ pub(crate) fn start_sites(
     catalog: &Catalog,
     whole: &Whole,
 ) -> Result<Vec<Site<PlainSite>>, SiteFault>
-    ensures { IfOk result (λ sites. AllStarted (catalogue_of catalog.now) whole.now 0 catalog.now.0 (seats_in kept_of sites.items)) }
+    ensures started { IfOk result (λ sites. AllStarted (catalogue_of catalog.now) whole.now 0 catalog.now.0 (seats_in kept_of sites.items)) }
+    ensures sound { IfOk result (λ sites. AllByRecursion (λ site. IsSound site.store) sites.items) }
 {
     let names = catalog.sites();
     let mut sites = Vec::new(alloc);
@@ -50,4 +61,22 @@ pub(crate) fn start_sites(
         sites.push(site)?;
     }
     Ok(sites)
+}
+
+/// The machines of a database over lists start: whole relations stand in its fragments.
+pub(crate) fn start(
+    alloc: Global,
+    catalog: Catalog,
+    whole: &Whole,
+) -> Result<Machines<PlainDesk, PlainSite>, Fault>
+    ensures opens { IfOk result (λ machines. (db : Database) → IsPlaced db (catalogue_of catalog) whole.now → Opens db whole.now (held desk_kept kept_of machines)) }
+    ensures catalog { IfOk result (λ machines. machines.desk.catalog ≡ catalog) }
+    ensures sound { IfOk result (λ machines. OfStores (λ _. Unit {0}) IsSound machines) }
+{
+    let _relations = catalog.relations();
+    let sites = start_sites(alloc, &catalog, whole)?;
+    match Desk::start(alloc, catalog, PlainDesk::new(alloc)) {
+        Ok(desk) => Ok(Machines { alloc, desk, sites }),
+        Err(unstarted) => Err(Fault::Desk(unstarted.refusal)),
+    }
 }

@@ -1,11 +1,15 @@
 -- What each round of `start_sites` keeps.
 use Rattle.std.proofs.Common.{take}
+use Rattle.std.specs.List.{AllByRecursion}
 use Rattle.catalog.specs.Relation.{catalogue_of}
-use Rattle.store.specs.PlainSite.{kept_of}
+use Rattle.store.specs.PlainSite.{IsSound, kept_of}
 use Rattle.world.specs.Opening.{AllStarted}
 use Rattle.world.specs.Seated.{seats_in}
 use Rattle.world.proofs.opening.start_sites.Given as goal
 
 -- the sites of the first names have started
 abbrev pub invariant-loop-place : goal.invariant-loop-place
-invariant-loop-place l = AllStarted (catalogue_of l.catalog) l.whole 0 (take l.place l.names) (seats_in kept_of l.sites.items)
+invariant-loop-place l = record {
+  started : AllStarted (catalogue_of l.catalog) l.whole 0 (take l.place l.names) (seats_in kept_of l.sites.items);
+  sound : AllByRecursion (λ site. IsSound site.store) l.sites.items;
+}

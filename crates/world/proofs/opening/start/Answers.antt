@@ -1,0 +1,13 @@
+-- Why `start` meets its contract.
+use Rattle.std.proofs.Common.{◌≡◌, ◌∙◌}
+use Rattle.catalog.specs.Relation.{catalogue_of}
+use Rattle.store.specs.PlainDesk.{kept_of as desk_kept}
+use Rattle.store.specs.PlainSite.{kept_of}
+use Rattle.world.specs.Held.{held}
+use Rattle.world.proofs.Openings.{opens_of}
+use Rattle.world.proofs.opening.start.Goals as goal
+
+pub returns-in-Ok-clause-opens : goal.returns-in-Ok-clause-opens
+returns-in-Ok-clause-opens c = λ db placed.
+    opens_of db (catalogue_of c.args.catalog) c.args.whole.now (held desk_kept kept_of (record { alloc = c.args.alloc; desk = c.in-Ok.desk; sites = c.in_ok-sites.sites })) c.relations-relations.ensures.formed placed c.in_ok-sites.ensures.started
+    (c.in-Ok.ensures.ok db tt) (λ txn. (c.in-Ok.ensures.life tt tt).commits txn ∙ c.new.ensures.commits txn)
