@@ -1,5 +1,5 @@
 -- Steps of the machine, from what the code makes of entries and locks.
-use Rattle.std.proofs.Common.{◌≡◌, refl, sym, ap, ◌∙◌, subst, ℕ, ◌+◌, ◌<◌, ◌≤◌, ◌||◌, add-one, Bool, true, false, not, List, [], ◌∷◌, map, Option, Some, None, if◌then◌else◌, slice_set, ⊎_elim, arith}
+use Rattle.std.proofs.Common.{◌≡◌, refl, sym, ap, ◌∙◌, subst, ℕ, suc, inr, ◌+◌, ◌-◌, ◌^◌, ◌<◌, ◌≤◌, ◌||◌, add-one, Bool, true, false, not, List, [], ◌∷◌, map, Option, Some, None, if◌then◌else◌, slice_set, ⊎_elim, arith}
 use Rattle.std.specs.BTreeMap.{is_at, insert_entry}
 use Rattle.std.specs.FinMap as fin
 use Rattle.std.specs.List.{AllByRecursion}
@@ -58,12 +58,12 @@ module _ (kept : SiteContent) (entries : Entries) (ls : List locks.Locks) (alive
   pub gone_table : (k : Ticket) (left : ℕ) → IsStrictlySortedBy ticket_cmp (keys_of entries) → table_from (remove_entry (is_at (ticket_cmp k)) entries) (map (stops k number) ls) left life number ≡ gone k left table
   gone_table k left sorted = λ i. record { standing = λ j. removed_there k entries sorted j i; tickets = removed_keys k entries sorted i; locks = λ g. all_stop k number ls g i; alive = left; life = life; number = number }
 
-  pub ends_steps : (k : Ticket) (left : ℕ) → IsStrictlySortedBy ticket_cmp (keys_of entries) → is_visit (table.standing k) ≡ true → (act : Act local) (answer : Option Reply) → act ≡ Ends (name_of k) (said_by answer) →
+  pub ends_steps : (k : Ticket) (left : ℕ) → left ≡ alive - 1 → IsStrictlySortedBy ticket_cmp (keys_of entries) → is_visit (table.standing k) ≡ true → (act : Act local) (answer : Option Reply) → act ≡ Ends (name_of k) (said_by answer) →
       Steps kept table kept (table_from (remove_entry (is_at (ticket_cmp k)) entries) (map (stops k number) ls) left life number) act answer
-  ends_steps k left sorted visit act answer is =
+  ends_steps k left fewer sorted visit act answer is =
       steps_at kept kept table _ (gone k left table) act answer (gone_table k left sorted)
       (record {
-        fits = fits_gone kept table fits k kept left rows refl;
+        fits = fits_gone kept table fits k kept left (inr (visit, fewer)) rows refl;
         state = ended_state kept table fits k kept left kept.content rows (λ g. refl) ∙ ap (site_after (state_of kept table)) (sym is);
         says = ap (said (state_of kept table)) is;
       })
@@ -98,13 +98,13 @@ module _ (kept : SiteContent) (entries : Entries) (ls : List locks.Locks) (alive
       ap (λ es. table_from es ls (alive + 1) life (number + 1)) (put_last (next_of table) begun entries above)
       ∙ (λ i. record { standing = λ j. last_there (next_of table) begun entries above j i; tickets = last_keys (next_of table) begun entries i; locks = λ g. locks_in g ls; alive = add-one alive i; life = life; number = add-one number i })
 
-  pub opens_steps : (answer : Option Reply) → answer ≡ Some (reply.Ticket (next_of table)) → Steps kept table kept (table_from (insert_entry ticket_cmp entries (next_of table) begun) ls (alive + 1) life (number + 1)) Opens answer
-  opens_steps answer is =
+  pub opens_steps : suc alive ≤ 1024 → suc number < 2 ^ 63 → (answer : Option Reply) → answer ≡ Some (reply.Ticket (next_of table)) → Steps kept table kept (table_from (insert_entry ticket_cmp entries (next_of table) begun) ls (alive + 1) life (number + 1)) Opens answer
+  opens_steps room lower answer is =
       steps_at kept kept table _ (opened table) Opens answer opened_table
-      (record { fits = fits_opened kept table fits; state = opens_state kept table fits (fits_opened kept table fits); says = ap said_by (sym is) })
+      (record { fits = fits_opened kept table fits room lower; state = opens_state kept table fits (fits_opened kept table fits room lower); says = ap said_by (sym is) })
 
   -- ---- an operation
-  module _ (k : Ticket) (v : visits.Visit) (visit : at_ticket entries k ≡ Some (standing.Alive v)) (op : ℕ) (leaf : Leaf) (place : ℕ) (place_is : place_in leaf ls ≡ Some place) where
+  module _ (k : Ticket) (v : visits.Visit) (visit : at_ticket entries k ≡ Some (standing.Alive v)) (op : ℕ) (low_op : op < 2 ^ 63) (leaf : Leaf) (place : ℕ) (place_is : place_in leaf ls ≡ Some place) where
     operated_table : (changes : Changes) (step : locks.Locks → locks.Locks) → ((l : locks.Locks) → (step l).leaf ≡ l.leaf) →
         table_from (set_value (is_at (ticket_cmp k)) entries (standing.Alive (record { done = op; changes = changes }))) (slice_set ls place (step (locks_in leaf ls))) alive life number
         ≡ record table { standing = stood k (Some (standing.Alive (record { done = op; changes = changes }))) table.standing; locks = locked leaf step table.locks }
@@ -158,7 +158,7 @@ module _ (kept : SiteContent) (entries : Entries) (ls : List locks.Locks) (alive
     reads_steps act answer is =
         let new : Fits kept (record table { standing = stood k (Some (standing.Alive (record v { done = op }))) table.standing; locks = locked leaf (with_reader k) table.locks }) =
         fits_operated kept table fits k op v.changes v.changes v.done leaf (with_reader k) visit
-        (λ j l apart. apart_reads j l (ticket_sym j k ∙ apart)) (λ l. refl) (λ g j apart. same_writes g j) (λ g. same_writes g k ∙ writes_touch g) in
+        (λ j l apart. apart_reads j l (ticket_sym j k ∙ apart)) (λ l. refl) (λ g j apart. same_writes g j) (λ g. same_writes g k ∙ writes_touch g) low_op in
         steps_at kept kept table _ _ act answer (operated_table v.changes (with_reader k) (λ l. refl))
         (record {
           fits = new;
@@ -218,7 +218,7 @@ module _ (kept : SiteContent) (entries : Entries) (ls : List locks.Locks) (alive
           Steps kept table kept (table_from (set_value (is_at (ticket_cmp k)) entries (standing.Alive (record { done = op; changes = more }))) (slice_set ls place (with_writer k (locks_in leaf ls))) alive life number) act None
       writes_steps act is =
           let new : Fits kept (record table { standing = stood k (Some (standing.Alive (record { done = op; changes = more }))) table.standing; locks = locked leaf (with_writer k) table.locks }) =
-          fits_operated kept table fits k op v.changes more v.done leaf (with_writer k) visit (λ j l apart. refl) (λ l. refl) others_write_same own_write in
+          fits_operated kept table fits k op v.changes more v.done leaf (with_writer k) visit (λ j l apart. refl) (λ l. refl) others_write_same own_write low_op in
           steps_at kept kept table _ _ act None (operated_table more (with_writer k) (λ l. refl))
           (record {
             fits = new;
@@ -229,10 +229,10 @@ module _ (kept : SiteContent) (entries : Entries) (ls : List locks.Locks) (alive
           })
 
   -- ---- an operation is refused, and the visit ends
-  pub refused_steps : (k : Ticket) (left : ℕ) → IsStrictlySortedBy ticket_cmp (keys_of entries) → is_visit (table.standing k) ≡ true → (act : Act local) (reason : Reason) (answer : Option Reply) →
+  pub refused_steps : (k : Ticket) (left : ℕ) → left ≡ alive - 1 → IsStrictlySortedBy ticket_cmp (keys_of entries) → is_visit (table.standing k) ≡ true → (act : Act local) (reason : Reason) (answer : Option Reply) →
       answer ≡ Some (reply.Refused (record { ticket = k; reason = reason })) → act ≡ Ends (name_of k) (protocol.Refused (name_of k) (reason_of reason) ∷ []) →
       Steps kept table kept (table_from (remove_entry (is_at (ticket_cmp k)) entries) (map (stops k number) ls) left life number) act answer
-  refused_steps k left sorted visit act reason answer said is = ends_steps k left sorted visit act answer (is ∙ ap ends (sym said))
+  refused_steps k left fewer sorted visit act reason answer said is = ends_steps k left fewer sorted visit act answer (is ∙ ap ends (sym said))
     where
       ends : Option Reply → Act local
       ends a = Ends (name_of k) (said_by a)

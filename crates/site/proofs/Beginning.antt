@@ -1,5 +1,5 @@
 -- A life begins: the memory fits the store, and the state is that of a restart.
-use Rattle.std.proofs.Common.{Result, Ok, Err, ◌≡◌, refl, sym, ap, ◌∙◌, subst, ℕ, ◌+◌, ◌<◌, nat_le, true, false, List, [], map, Option, Some, None, is_some, inl, arith}
+use Rattle.std.proofs.Common.{Result, Ok, Err, ◌≡◌, refl, sym, ap, ◌∙◌, subst, ℕ, ◌+◌, ◌^◌, ◌<◌, nat_le, true, false, List, [], map, Option, Some, None, is_some, inl, arith}
 use Rattle.std.specs.List.Sorted.{IsStrictlySortedBy}
 use Rattle.std.specs.Map.{keys_of}
 use Rattle.std.specs.Option.{option_map}
@@ -11,7 +11,7 @@ use Rattle.store.specs.declared.prepared.PreparedRow.{PreparedRow}
 use Rattle.store.specs.declared.prepared.SiteKept.{SiteKept}
 use Rattle.store.specs.Name.{ticket_cmp}
 use Rattle.store.specs.SiteContent.{SiteContent, BeginsLife, Lists, row_of}
-use Rattle.protocol.specs.Site.{has_exclusive}
+use Rattle.protocol.specs.Site.{has_exclusive, is_short}
 use Rattle.protocol.proofs.Basics.{clash}
 use Rattle.store.specs.declared.fault.StoreFault.{StoreFault}
 use Rattle.site.specs.declared.fault.SiteFault.{SiteFault}
@@ -23,6 +23,7 @@ use Rattle.protocol.specs.Local.{local}
 use Rattle.site.specs.Locks.{free}
 use Rattle.site.specs.Starting.{Begins, granted, stood_by, all_may_stand, resting}
 use Rattle.site.specs.State.{Table, table_from, stands, visiting, is_visit, txn_in}
+use Rattle.site.proofs.Counting.{none_pass}
 use Rattle.site.proofs.PreparedRows.{standing_of, holds, rows_there, rows_drawn, none_read, none_released, all_write, some_listed, listed_some}
 use Rattle.site.proofs.Tables.{Entries}
 
@@ -67,8 +68,12 @@ module _ (leaves : List Leaf) (all : SiteKept) (kept after : SiteContent) (lists
   rests_at : (j : Ticket) → stands table j (after.prepared j) ≡ resting (after.prepared j)
   rests_at j = rests (after.prepared j) j (table.standing j) (there j) refl
 
-  pub begins : Begins after table
-  begins = record {
+  short_rests : (r : Option Row) → is_short (resting r) ≡ true
+  short_rests None = refl
+  short_rests (Some row) = refl
+
+  pub begins : after.life < 2 ^ 63 → Begins after table
+  begins lower = record {
     fits = record {
       prepared = λ j. ap txn_in (there j) ∙ txn_is (after.prepared j);
       life = refl;
@@ -84,6 +89,10 @@ module _ (leaves : List Leaf) (all : SiteKept) (kept after : SiteContent) (lists
           inl h;
       fresh = λ j e. clash e (ap is_visit (there j) ∙ no_visit (after.prepared j));
       released = λ g. let r : (table.locks g).released ≡ 0 = none_released g leaves all.prepared in omega arith;
+      counted = none_pass (λ j. is_visit (table.standing j)) table.tickets (λ j. ap is_visit (there j) ∙ no_visit (after.prepared j));
+      few = omega arith;
+      short = λ j. ap is_short (rests_at j) ∙ short_rests (after.prepared j);
+      low = (lower, omega arith);
     };
     state = λ i. record { kept = after.content; status = λ name. rests_at (ticket_of name) i; known = map name_of table.tickets; life = after.life; number = 0 };
     ascend = sorted;
@@ -91,8 +100,8 @@ module _ (leaves : List Leaf) (all : SiteKept) (kept after : SiteContent) (lists
   }
 
 pub begins_from : (leaves : List Leaf) (all : SiteKept) (kept after : SiteContent) → Lists kept all → BeginsLife kept after → (rows : List PreparedRow) → rows ≡ all.prepared → (es : Entries) (locks : List Locks) (life : ℕ) →
-    es ≡ stood_by rows [] → locks ≡ granted rows (map free leaves) → all_may_stand leaves all.life rows (map free leaves) ≡ true → IsStrictlySortedBy ticket_cmp (keys_of es) → life ≡ after.life → Begins after (table_from es locks 0 life 0)
-begins_from leaves all kept after lists begun rows rows_are es locks life stand grant right sorted life_is =
+    after.life < 2 ^ 63 → es ≡ stood_by rows [] → locks ≡ granted rows (map free leaves) → all_may_stand leaves all.life rows (map free leaves) ≡ true → IsStrictlySortedBy ticket_cmp (keys_of es) → life ≡ after.life → Begins after (table_from es locks 0 life 0)
+begins_from leaves all kept after lists begun rows rows_are es locks life lower stand grant right sorted life_is =
     let entries_are = stand ∙ ap (λ r. stood_by r []) rows_are in
     let locks_are = grant ∙ ap (λ r. granted r (map free leaves)) rows_are in
     subst (λ n. Begins after (table_from es locks 0 n 0)) (sym life_is)
@@ -100,7 +109,7 @@ begins_from leaves all kept after lists begun rows rows_are es locks life stand 
     (subst (λ x. Begins after (table_from x (granted all.prepared (map free leaves)) 0 after.life 0)) (sym entries_are)
     (begins leaves all kept after lists begun
     (subst (λ r. all_may_stand leaves all.life r (map free leaves) ≡ true) rows_are right)
-    (subst (λ x. IsStrictlySortedBy ticket_cmp (keys_of x)) entries_are sorted))))
+    (subst (λ x. IsStrictlySortedBy ticket_cmp (keys_of x)) entries_are sorted) lower)))
 
 -- want of memory is no fault of the store
 pub not_memory : {A Q : Type 0} (result : Result A SiteFault) (fault : SiteFault) (of : StoreFault) → IsErrAnd result (λ e. e ≡ fault) → result ≡ Err (faults.Store of) → fault ≡ faults.Memory → Q

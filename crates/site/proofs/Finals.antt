@@ -1,5 +1,5 @@
 -- Steps by which a visit is prepared or ends, and what the table says of them.
-use Rattle.std.proofs.Common.{Result, Ok, Err, IfOk, ◌≡◌, refl, sym, ap, ◌∙◌, subst, ℕ, ◌-◌, ◌==◌, nat_eq, Bool, true, false, List, [], ◌∷◌, map, Option, Some, None, if◌then◌else◌, cond}
+use Rattle.std.proofs.Common.{Result, Ok, Err, IfOk, ◌≡◌, refl, sym, ap, ◌∙◌, subst, ℕ, ◌-◌, ◌==◌, nat_eq, Bool, true, false, List, [], ◌∷◌, map, Option, Some, None, if◌then◌else◌, cond, inl, inr}
 use Rattle.std.specs.BTreeMap.{is_at}
 use Rattle.std.specs.FinMap as fin
 use Rattle.std.specs.List.Sorted.{IsStrictlySortedBy}
@@ -34,7 +34,7 @@ use Rattle.site.specs.State.{Table, Fits, Steps, table_from, state_of, stands, i
 use Rattle.site.specs.Turn.{ballot}
 use Rattle.site.proofs.Acts.{steps_at, gone_table}
 use Rattle.site.proofs.Endings.{ended_state, prepared_state}
-use Rattle.site.proofs.Fitting.{fits_gone, fits_prepared}
+use Rattle.site.proofs.Fitting.{Left, fits_gone, fits_prepared}
 use Rattle.site.proofs.Listed.{row_none}
 use Rattle.site.proofs.Tables.{Entries, at_ticket, set_there, set_keys, all_stop_reading}
 use Rattle.site.proofs.Tickets.{ticket_is, ticket_self}
@@ -86,19 +86,19 @@ module _ (kept : SiteContent) (entries : Entries) (ls : List locks.Locks) (alive
       go false e = refl
 
   -- what stood there is gone
-  pub ended_steps : (after : SiteContent) (left : ℕ) → IsStrictlySortedBy ticket_cmp (keys_of entries) → ((j : Ticket) → after.prepared j ≡ (if is_ticket k j then None else kept.prepared j)) → after.life ≡ kept.life →
+  pub ended_steps : (after : SiteContent) (left : ℕ) → Left kept table fits k left → IsStrictlySortedBy ticket_cmp (keys_of entries) → ((j : Ticket) → after.prepared j ≡ (if is_ticket k j then None else kept.prepared j)) → after.life ≡ kept.life →
       (contents : Leaf → Content) → ((g : Leaf) → after.content g ≡ contents g) → (act : Act local) (answer : Option Reply) →
       site_after s act ≡ record (with_status s (put same (name_of k) Dead s.status) s.known) { kept = contents } → said s act ≡ said_by answer →
       Steps kept table after (table_from (remove_entry (is_at (ticket_cmp k)) entries) (map (stops k number) ls) left life number) act answer
-  ended_steps after left sorted rows life_is contents same act answer state says =
+  ended_steps after left left_so sorted rows life_is contents same act answer state says =
       steps_at kept after table _ (gone k left table) act answer (gone_table kept entries ls alive life number fits k left sorted)
-      (record { fits = fits_gone kept table fits k after left rows life_is; state = ended_state kept table fits k after left contents rows same ∙ sym state; says = says })
+      (record { fits = fits_gone kept table fits k after left left_so rows life_is; state = ended_state kept table fits k after left contents rows same ∙ sym state; says = says })
 
   -- a visit ends, whatever the store's call left as it was
-  pub visit_ends : (after : SiteContent) (left : ℕ) → IsStrictlySortedBy ticket_cmp (keys_of entries) → is_visit (table.standing k) ≡ true → IsUnchanged kept after → (act : Act local) (answer : Option Reply) → act ≡ Ends (name_of k) (said_by answer) →
+  pub visit_ends : (after : SiteContent) (left : ℕ) → left ≡ alive - 1 → IsStrictlySortedBy ticket_cmp (keys_of entries) → is_visit (table.standing k) ≡ true → IsUnchanged kept after → (act : Act local) (answer : Option Reply) → act ≡ Ends (name_of k) (said_by answer) →
       Steps kept table after (table_from (remove_entry (is_at (ticket_cmp k)) entries) (map (stops k number) ls) left life number) act answer
-  visit_ends after left sorted visit same act answer is =
-      ended_steps after left sorted (visit_rows visit after same) same.life kept.content same.content act answer (ap (site_after s) is) (ap (said s) is)
+  visit_ends after left fewer sorted visit same act answer is =
+      ended_steps after left (inr (visit, fewer)) sorted (visit_rows visit after same) same.life kept.content same.content act answer (ap (site_after s) is) (ap (said s) is)
 
   -- a visit is prepared
   pub prepares_steps : (after : SiteContent) (txn : Txn) (visit : visits.Visit) → table.standing k ≡ Some (standing.Alive visit) → content.Prepares k (record { txn = txn; changes = visit.changes }) kept after → (act : Act local) (answer : Option Reply) →
@@ -123,13 +123,13 @@ module _ (kept : SiteContent) (entries : Entries) (ls : List locks.Locks) (alive
       Steps kept table after (table_from (remove_entry (is_at (ticket_cmp k)) entries) (map (stops k number) ls) alive life number) (on_commit true (name_of k) (s.status (name_of k))) (Some (reply.Ack k))
   commit_steps after row sorted is applies =
       let act = ap (λ r. on_commit true (name_of k) (stands table k r)) is in
-      ended_steps after alive sorted applies.prepared applies.life (λ g. changed g row.changes (kept.content g)) applies.content _ (Some (reply.Ack k)) (ap (site_after s) act) (ap (said s) act)
+      ended_steps after alive (inl refl) sorted applies.prepared applies.life (λ g. changed g row.changes (kept.content g)) applies.content _ (Some (reply.Ack k)) (ap (site_after s) act) (ap (said s) act)
 
   pub abort_steps : (after : SiteContent) (row : Row) → IsStrictlySortedBy ticket_cmp (keys_of entries) → kept.prepared k ≡ Some row → content.Discards k kept after →
       Steps kept table after (table_from (remove_entry (is_at (ticket_cmp k)) entries) (map (stops k number) ls) alive life number) (on_abort true (name_of k) (s.status (name_of k))) None
   abort_steps after row sorted is discards =
       let act = ap (λ r. on_abort true (name_of k) (stands table k r)) is in
-      ended_steps after alive sorted discards.prepared discards.life kept.content discards.content _ None (ap (site_after s) act) (ap (said s) act)
+      ended_steps after alive (inl refl) sorted discards.prepared discards.life kept.content discards.content _ None (ap (site_after s) act) (ap (said s) act)
 
   visit_there : (o : Option standings.Standing) → table.standing k ≡ o → is_visit o ≡ true → (v : visits.Visit) × (table.standing k ≡ Some (standing.Alive v))
   visit_there None e is = cc

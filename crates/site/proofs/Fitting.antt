@@ -1,5 +1,5 @@
 -- The memory still fits the store after each move.
-use Rattle.std.proofs.Common.{◌≡◌, refl, sym, ap, ◌∙◌, subst, ℕ, suc, ◌≤◌, ◌<◌, ◌⊎◌, Bool, true, false, not, List, [], ◌∷◌, ◌++◌, Option, Some, None, is_some, filter, if◌then◌else◌, inl, inr, ⊎_elim, arith}
+use Rattle.std.proofs.Common.{◌≡◌, refl, sym, ap, ◌∙◌, subst, ℕ, suc, ◌-◌, ◌^◌, ◌≤◌, ◌<◌, ◌⊎◌, nat_lt, length, Bool, true, false, not, List, [], ◌∷◌, ◌++◌, Option, Some, None, is_some, filter, if◌then◌else◌, inl, inr, ⊎_elim, arith}
 use Rattle.std.specs.FinMap as fin
 use Rattle.std.specs.Option.{option_map}
 use Rattle.std.specs.Ordering.{is_eq}
@@ -12,7 +12,7 @@ use Rattle.store.specs.Content.{Changes, touches}
 use Rattle.store.specs.SiteContent.{SiteContent, is_ticket}
 use Rattle.store.proofs.Changing.{touches_none}
 use Rattle.protocol.specs.Parts.{In}
-use Rattle.protocol.specs.Site.{has_exclusive}
+use Rattle.protocol.specs.Site.{has_exclusive, is_short}
 use Rattle.protocol.proofs.Basics.{if_true, if_false, clash, in_left, in_right, in_append, in_filter}
 use Rattle.protocol.proofs.Locks.{from_filter}
 use Rattle.site.specs.declared.locks.Locks as locks
@@ -20,8 +20,9 @@ use Rattle.site.specs.declared.standing.Standing as standings
 use Rattle.site.specs.declared.standing.Visit as visits
 use Rattle.site.specs.declared.standing.Standing.TheVariants as standing
 use Rattle.site.specs.Locks.{reads, writes, stops, stops_reading}
-use Rattle.site.specs.State.{Table, Fits, IsDrawn, stands, visiting, is_visit, txn_in}
+use Rattle.site.specs.State.{Table, Fits, IsDrawn, stands, visiting, is_visit, txn_in, visits_among}
 use Rattle.site.specs.Moves.{next_of, stood, locked, opened, gone, prepared}
+use Rattle.site.proofs.Counting.{no_more, of_part, one_less, one_more}
 use Rattle.site.proofs.LockLaws.{others-stops_reading, writes-stops_reading, reads-stops_reading, reads-stops_writing, writes-stops_writing, others-stops_writing, released-stops_reading, released-stops_writing}
 use Rattle.site.proofs.Listed.{row_none}
 use Rattle.site.proofs.Steps.{stood_all, nothing_next}
@@ -37,6 +38,22 @@ has_by new old j None leaf e = ap (λ o. has_exclusive leaf (visiting new.locks 
     go (Some (standing.Alive v)) = refl
     go (Some (standing.Prepared t)) = refl
 
+-- so is how many operations it has done
+short_by : (new old : Table) (j : Ticket) (row : Option Row) → new.standing j ≡ old.standing j → is_short (stands old j row) ≡ true → is_short (stands new j row) ≡ true
+short_by new old j (Some row) e short = refl
+short_by new old j None e short = ap (λ o. is_short (visiting new.locks j o)) e ∙ go (old.standing j) short
+  where
+    go : (o : Option standings.Standing) → is_short (visiting old.locks j o) ≡ true → is_short (visiting new.locks j o) ≡ true
+    go None short = refl
+    go (Some (standing.Alive v)) short = short
+    go (Some (standing.Prepared t)) short = refl
+
+below_limit : (n : ℕ) → n < 2 ^ 63 → nat_lt n (2 ^ 63) ≡ true
+below_limit n below = ltb n below
+  where
+    ltb : (n : ℕ) → n < 2 ^ 63 → nat_lt n (2 ^ 63) ≡ true
+    ltb n below = grind (arith)
+
 -- what was drawn before is drawn still
 drawn_still : (life number : ℕ) (j : Ticket) → (j.life < life) ⊎ ((j.life ≡ life) × (j.visit ≤ number)) → (j.life < life) ⊎ ((j.life ≡ life) × (j.visit ≤ suc number))
 drawn_still life number j (inl below) = inl below
@@ -46,8 +63,8 @@ module _ (kept : SiteContent) (table : Table) (fits : Fits kept table) where
   abbrev next : Ticket
   next = next_of table
 
-  pub fits_opened : Fits kept (opened table)
-  fits_opened =
+  pub fits_opened : suc table.alive ≤ 1024 → suc table.number < 2 ^ 63 → Fits kept (opened table)
+  fits_opened room lower =
       let new = Some (standing.Alive (record { done = 0; changes = fin.empty })) in
       let none = row_none kept table fits next (ap txn_in (nothing_next kept table fits)) in
       record {
@@ -61,8 +78,24 @@ module _ (kept : SiteContent) (table : Table) (fits : Fits kept table) where
         drawn = stood_all next new table.standing (λ j o. is_some o ≡ true → IsDrawn (opened table) j) (λ e. inr (refl, omega arith)) (λ j apart e. drawn_still table.life table.number j (fits.drawn j e));
         fresh = stood_all next new table.standing (λ j o. is_visit o ≡ true → (j.life ≡ table.life) × (j.visit ≤ suc table.number)) (λ e. (refl, omega arith)) (λ j apart e. let f = fits.fresh j e in (f.0, (let h : j.visit ≤ table.number = f.1 in omega arith)));
         released = λ leaf. let r : (table.locks leaf).released ≤ table.number = fits.released leaf in omega arith;
+        counted =
+            let now : Ticket → Bool = λ j. is_visit (stood next new table.standing j) in
+            let one : length (filter now (table.tickets ++ next ∷ [])) ≤ suc (length (filter now table.tickets)) = one_more now table.tickets next in
+            let old : length (filter now table.tickets) ≤ length (filter (λ j. is_visit (table.standing j)) table.tickets) = no_more now (λ j. is_visit (table.standing j)) table.tickets
+            (λ j here. stood_all next new table.standing (λ i o. In i table.tickets → is_visit o ≡ true → is_visit (table.standing i) ≡ true) (λ listed yes. clash (fits.lives next listed) (ap is_some (nothing_next kept table fits))) (λ i apart listed yes. yes) j here) in
+            let before : length (filter (λ j. is_visit (table.standing j)) table.tickets) ≤ table.alive = fits.counted in
+            omega (arith, one, old, before);
+        few = room;
+        short = λ j. shorter j (is_ticket next j) refl;
+        low = (fits.low.0, lower);
       }
     where
+      shorter : (j : Ticket) (b : Bool) → is_ticket next j ≡ b → is_short (stands (opened table) j (kept.prepared j)) ≡ true
+      shorter j true e = subst (λ i. is_short (stands (opened table) i (kept.prepared i)) ≡ true) (ticket_is next j e)
+          (let none = row_none kept table fits next (ap txn_in (nothing_next kept table fits)) in
+          ap (λ row. is_short (stands (opened table) next row)) none ∙ ap (λ o. is_short (visiting table.locks next o)) (if_true (is_ticket next next) _ (table.standing next) (ticket_self next)))
+      shorter j false e = short_by (opened table) table j (kept.prepared j) (if_false (is_ticket next j) _ (table.standing j) e) (fits.short j)
+
       go : (leaf : Leaf) (j : Ticket) (b : Bool) → is_ticket next j ≡ b → has_exclusive leaf (stands table j (kept.prepared j)) ≡ has_exclusive leaf (stands (opened table) j (kept.prepared j))
       go leaf j true e = subst (λ i. has_exclusive leaf (stands table i (kept.prepared i)) ≡ has_exclusive leaf (stands (opened table) i (kept.prepared i))) (ticket_is next j e)
           (let none = row_none kept table fits next (ap txn_in (nothing_next kept table fits)) in
@@ -101,8 +134,8 @@ module _ (kept : SiteContent) (table : Table) (fits : Fits kept table) where
           go true = released_step (table.locks g)
           go false = refl
 
-      pub fits_operated : Fits kept operated
-      fits_operated = record {
+      pub fits_operated : op < 2 ^ 63 → Fits kept operated
+      fits_operated low_op = record {
         prepared = stood_all k new table.standing (λ j o. txn_in o ≡ option_map (λ row. row.txn) (kept.prepared j)) (sym (ap (option_map (λ row. row.txn)) no_row)) (λ j apart. fits.prepared j);
         life = fits.life;
         listed = stood_all k new table.standing (λ j o. is_some o ≡ true → In j table.tickets) (λ e. fits.listed k (ap is_some visit)) (λ j apart. fits.listed j);
@@ -112,8 +145,21 @@ module _ (kept : SiteContent) (table : Table) (fits : Fits kept table) where
         drawn = stood_all k new table.standing (λ j o. is_some o ≡ true → IsDrawn table j) (λ e. fits.drawn k (ap is_some visit)) (λ j apart. fits.drawn j);
         fresh = stood_all k new table.standing (λ j o. is_visit o ≡ true → (j.life ≡ table.life) × (j.visit ≤ table.number)) (λ e. fits.fresh k (ap is_visit visit)) (λ j apart. fits.fresh j);
         released = λ g. subst (λ n. n ≤ table.number) (sym (released_before g)) (fits.released g);
+        counted =
+            let less : visits_among (stood k new table.standing) table.tickets ≤ visits_among table.standing table.tickets = no_more (λ j. is_visit (stood k new table.standing j)) (λ j. is_visit (table.standing j)) table.tickets
+            (λ j here. stood_all k new table.standing (λ i o. is_visit o ≡ true → is_visit (table.standing i) ≡ true) (λ yes. ap is_visit visit) (λ i apart yes. yes) j) in
+            let before : visits_among table.standing table.tickets ≤ table.alive = fits.counted in
+            omega (arith, less, before);
+        few = fits.few;
+        short = λ j. shorter j (is_ticket k j) refl;
+        low = fits.low;
       }
         where
+          shorter : (j : Ticket) (b : Bool) → is_ticket k j ≡ b → is_short (stands operated j (kept.prepared j)) ≡ true
+          shorter j true e = subst (λ i. is_short (stands operated i (kept.prepared i)) ≡ true) (ticket_is k j e)
+              (ap (λ row. is_short (stands operated k row)) no_row ∙ ap (λ o. is_short (visiting (locked leaf step table.locks) k o)) (if_true (is_ticket k k) new (table.standing k) (ticket_self k)) ∙ below_limit op low_op)
+          shorter j false e = short_by operated table j (kept.prepared j) (if_false (is_ticket k j) new (table.standing j) e) (fits.short j)
+
           go : (g : Leaf) (j : Ticket) (b : Bool) → is_ticket k j ≡ b → writes j (locked leaf step table.locks g) ≡ has_exclusive g (stands operated j (kept.prepared j))
           go g j true e = subst (λ i. writes i (locked leaf step table.locks g) ≡ has_exclusive g (stands operated i (kept.prepared i))) (ticket_is k j e)
               (own_writes g
@@ -150,9 +196,29 @@ module _ (kept : SiteContent) (table : Table) (fits : Fits kept table) where
     writes_apart : (g : Leaf) (j : Ticket) → is_ticket k j ≡ false → writes j (stops k table.number (table.locks g)) ≡ writes j (table.locks g)
     writes_apart g j apart = others-stops_writing j k table.number (stops_reading k table.number (table.locks g)) (ticket_sym j k ∙ apart) ∙ writes-stops_reading j k table.number (table.locks g)
 
+  -- as many visits are counted as before, or one fewer where a visit ends
+  abbrev pub Left : Ticket → ℕ → Type 0
+  Left k alive = (alive ≡ table.alive) ⊎ ((is_visit (table.standing k) ≡ true) × (alive ≡ table.alive - 1))
+
+  counted_left : (k : Ticket) (alive : ℕ) → Left k alive → visits_among (stood k None table.standing) (filter (λ j. not (is_ticket k j)) table.tickets) ≤ alive
+  counted_left k alive left =
+      let now : Ticket → Bool = λ j. is_visit (stood k None table.standing j) in
+      let was : Ticket → Bool = λ j. is_visit (table.standing j) in
+      let fewer : (j : Ticket) → In j table.tickets → now j ≡ true → was j ≡ true = λ j here. stood_all k None table.standing (λ i o. is_visit o ≡ true → is_visit (table.standing i) ≡ true) (λ yes. cc) (λ i apart yes. yes) j in
+      let part : length (filter now (filter (λ j. not (is_ticket k j)) table.tickets)) ≤ length (filter now table.tickets) = of_part now (λ j. not (is_ticket k j)) table.tickets in
+      let before : length (filter was table.tickets) ≤ table.alive = fits.counted in
+      ⊎_elim
+      (λ same. let less : length (filter now table.tickets) ≤ length (filter was table.tickets) = no_more now was table.tickets fewer in let e : alive ≡ table.alive = same in omega (arith, part, less, before, e))
+      (λ ends. let less : suc (length (filter now table.tickets)) ≤ length (filter was table.tickets) = one_less k now was table.tickets (fits.listed k (visit_some (table.standing k) ends.0)) fewer (ap is_visit (if_true (is_ticket k k) None (table.standing k) (ticket_self k))) ends.0 in let e : alive ≡ table.alive - 1 = ends.1 in omega (arith, part, less, before, e))
+      left
+    where
+      visit_some : (o : Option standings.Standing) → is_visit o ≡ true → is_some o ≡ true
+      visit_some None e = cc
+      visit_some (Some s) e = refl
+
   -- nothing stands behind a ticket any more, nor has the store a row
-  pub fits_gone : (k : Ticket) (after : SiteContent) (alive : ℕ) → ((j : Ticket) → after.prepared j ≡ (if is_ticket k j then None else kept.prepared j)) → after.life ≡ kept.life → Fits after (gone k alive table)
-  fits_gone k after alive rows life =
+  pub fits_gone : (k : Ticket) (after : SiteContent) (alive : ℕ) → Left k alive → ((j : Ticket) → after.prepared j ≡ (if is_ticket k j then None else kept.prepared j)) → after.life ≡ kept.life → Fits after (gone k alive table)
+  fits_gone k after alive left_so rows life =
       let left : List Ticket = filter (λ j. not (is_ticket k j)) table.tickets in
       record {
         prepared = matches k None None after alive rows life refl;
@@ -168,8 +234,17 @@ module _ (kept : SiteContent) (table : Table) (fits : Fits kept table) where
         drawn = stood_all k None table.standing (λ j o. is_some o ≡ true → IsDrawn table j) (λ e. cc) (λ j apart. fits.drawn j);
         fresh = stood_all k None table.standing (λ j o. is_visit o ≡ true → (j.life ≡ table.life) × (j.visit ≤ table.number)) (λ e. cc) (λ j apart. fits.fresh j);
         released = λ g. released-stops_writing k table.number (stops_reading k table.number (table.locks g)) (released-stops_reading k table.number (table.locks g) (fits.released g));
+        counted = counted_left k alive left_so;
+        few = ⊎_elim (λ same. let n : table.alive ≤ 1024 = fits.few in let e : alive ≡ table.alive = same in omega (arith, n, e)) (λ less. let n : table.alive ≤ 1024 = fits.few in let e : alive ≡ table.alive - 1 = less.1 in omega (arith, n, e)) left_so;
+        short = λ j. shorter j (is_ticket k j) refl;
+        low = fits.low;
       }
     where
+      shorter : (j : Ticket) (b : Bool) → is_ticket k j ≡ b → is_short (stands (gone k alive table) j (after.prepared j)) ≡ true
+      shorter j true e = subst (λ i. is_short (stands (gone k alive table) i (after.prepared i)) ≡ true) (ticket_is k j e)
+          (ap (λ r. is_short (stands (gone k alive table) k r)) (own_row k None None after alive rows life) ∙ ap (λ o. is_short (visiting (λ h. stops k table.number (table.locks h)) k o)) (if_true (is_ticket k k) None (table.standing k) (ticket_self k)))
+      shorter j false e = ap (λ r. is_short (stands (gone k alive table) j r)) (others_row k None None after alive rows life j e) ∙ short_by (gone k alive table) table j (kept.prepared j) (if_false (is_ticket k j) None (table.standing j) e) (fits.short j)
+
       go : (g : Leaf) (j : Ticket) (b : Bool) → is_ticket k j ≡ b → writes j (stops k table.number (table.locks g)) ≡ has_exclusive g (stands (gone k alive table) j (after.prepared j))
       go g j true e = subst (λ i. writes i (stops k table.number (table.locks g)) ≡ has_exclusive g (stands (gone k alive table) i (after.prepared i))) (ticket_is k j e)
           (writes-stops_writing k table.number (stops_reading k table.number (table.locks g))
@@ -194,8 +269,24 @@ module _ (kept : SiteContent) (table : Table) (fits : Fits kept table) where
         drawn = stood_all k new table.standing (λ j o. is_some o ≡ true → IsDrawn table j) (λ e. fits.drawn k (ap is_some is)) (λ j apart. fits.drawn j);
         fresh = stood_all k new table.standing (λ j o. is_visit o ≡ true → (j.life ≡ table.life) × (j.visit ≤ table.number)) (λ e. cc) (λ j apart. fits.fresh j);
         released = λ g. released-stops_reading k table.number (table.locks g) (fits.released g);
+        counted =
+            let now : Ticket → Bool = λ j. is_visit (stood k new table.standing j) in
+            let was : Ticket → Bool = λ j. is_visit (table.standing j) in
+            let less : suc (length (filter now table.tickets)) ≤ length (filter was table.tickets) = one_less k now was table.tickets (fits.listed k (ap is_some is))
+            (λ j here. stood_all k new table.standing (λ i o. is_visit o ≡ true → is_visit (table.standing i) ≡ true) (λ yes. cc) (λ i apart yes. yes) j)
+            (ap is_visit (if_true (is_ticket k k) new (table.standing k) (ticket_self k))) (ap is_visit is) in
+            let before : length (filter was table.tickets) ≤ table.alive = fits.counted in
+            omega (arith, less, before);
+        few = let n : table.alive ≤ 1024 = fits.few in omega (arith, n);
+        short = λ j. shorter j (is_ticket k j) refl;
+        low = fits.low;
       }
     where
+      shorter : (j : Ticket) (b : Bool) → is_ticket k j ≡ b → is_short (stands (prepared k txn table) j (after.prepared j)) ≡ true
+      shorter j true e = subst (λ i. is_short (stands (prepared k txn table) i (after.prepared i)) ≡ true) (ticket_is k j e)
+          (ap (λ r. is_short (stands (prepared k txn table) k r)) (own_row k (Some (standing.Prepared txn)) (Some (record { txn = txn; changes = visit.changes })) after 0 rows life))
+      shorter j false e = ap (λ r. is_short (stands (prepared k txn table) j r)) (others_row k (Some (standing.Prepared txn)) (Some (record { txn = txn; changes = visit.changes })) after 0 rows life j e) ∙ short_by (prepared k txn table) table j (kept.prepared j) (if_false (is_ticket k j) (Some (standing.Prepared txn)) (table.standing j) e) (fits.short j)
+
       go : (g : Leaf) (j : Ticket) (b : Bool) → is_ticket k j ≡ b → writes j (stops_reading k table.number (table.locks g)) ≡ has_exclusive g (stands (prepared k txn table) j (after.prepared j))
       go g j true e = subst (λ i. writes i (stops_reading k table.number (table.locks g)) ≡ has_exclusive g (stands (prepared k txn table) i (after.prepared i))) (ticket_is k j e)
           (writes-stops_reading k k table.number (table.locks g) ∙ fits.writers g k

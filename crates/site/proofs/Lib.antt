@@ -5,6 +5,7 @@ pub mod Listed
 pub mod Steps
 pub mod Leaves
 pub mod Tables
+pub mod Counting
 pub mod Fitting
 pub mod Endings
 pub mod Acts
@@ -17,3 +18,4 @@ pub mod PreparedRows
 pub mod Beginning
 pub mod Restarting
 pub mod Inquired
+pub mod Limited

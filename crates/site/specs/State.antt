@@ -1,5 +1,5 @@
 -- A site's state: what its store keeps, and what it has in memory.
-use Rattle.std.specs.Prelude.{◌≡◌, ℕ, ◌<◌, ◌≤◌, ◌⊎◌, Bool, true, false, List, map, Option, Some, None, is_some}
+use Rattle.std.specs.Prelude.{◌≡◌, ℕ, ◌<◌, ◌≤◌, ◌^◌, ◌⊎◌, Bool, true, false, List, filter, length, map, Option, Some, None, is_some}
 use Rattle.std.specs.BTreeMap.{is_at}
 use Rattle.std.specs.FinMap as fin
 use Rattle.std.specs.Map.{lookup, keys_of}
@@ -13,7 +13,7 @@ use Rattle.store.specs.Name.{ticket_cmp}
 use Rattle.store.specs.SiteContent.{SiteContent}
 use Rattle.protocol.specs.Parts.{In}
 use Rattle.store.specs.declared.reply.Reply.{Reply}
-use Rattle.protocol.specs.Site.{SiteState, Status, Dead, Alive, Prepared, Act, has_exclusive, site_after, said, on_letter}
+use Rattle.protocol.specs.Site.{SiteState, Status, Dead, Alive, Prepared, Act, has_exclusive, is_short, site_after, said, on_letter}
 use Rattle.protocol.specs.World.{addressed}
 use Rattle.store.specs.declared.letter.Letter.{Letter}
 use Rattle.site.specs.declared.locks.Locks.{Locks}
@@ -96,6 +96,10 @@ changes_at table ticket = changes_of (table.standing ticket)
 abbrev pub IsDrawn : Table → Ticket → Type 0
 IsDrawn table ticket = (ticket.life < table.life) ⊎ ((ticket.life ≡ table.life) × (ticket.visit ≤ table.number))
 
+-- how many tickets have visits
+abbrev pub visits_among : (Ticket → Option standings.Standing) → List Ticket → ℕ
+visits_among standing tickets = length (filter (λ ticket. is_visit (standing ticket)) tickets)
+
 -- what is in memory fits what the store keeps
 pub record Fits (kept : SiteContent) (table : Table) : Type 0 where
   -- the prepared tickets are those of the store's rows
@@ -111,6 +115,11 @@ pub record Fits (kept : SiteContent) (table : Table) : Type 0 where
   pub drawn : (ticket : Ticket) → is_some (table.standing ticket) ≡ true → IsDrawn table ticket
   pub fresh : (ticket : Ticket) → is_visit (table.standing ticket) ≡ true → (ticket.life ≡ table.life) × (ticket.visit ≤ table.number)
   pub released : (leaf : Leaf) → (table.locks leaf).released ≤ table.number
+  -- no more visits are there than are counted, and the limits are kept
+  pub counted : visits_among table.standing table.tickets ≤ table.alive
+  pub few : table.alive ≤ 1024
+  pub short : (ticket : Ticket) → is_short (stands table ticket (kept.prepared ticket)) ≡ true
+  pub low : (table.life < 2 ^ 63) × (table.number < 2 ^ 63)
 
 -- a step of the machine: what the act makes of the state, and what it says
 pub record Steps (old : SiteContent) (before : Table) (new : SiteContent) (after : Table) (act : Act local) (reply : Option Reply) : Type 0 where

@@ -95,6 +95,8 @@ impl Present {
         ensures ok { OnOk result (table_of self.new ≡ table_from (insert_entry ticket_cmp self.old.standings.entries (next_of (table_of self.old)) (standing.Alive (record { done = 0; changes = fin.empty })))
             self.old.locks.items (self.old.alive + 1) self.old.life (self.old.number + 1)) }
         ensures err { OnErr result (table_of self.new ≡ table_of self.old) }
+        ensures room { OnOk result (self.old.alive + 1 ≤ 1024) }
+        ensures last { OnOk result (self.old.number + 2 ≤ 2 ^ 63) }
         ensures beyond { (1024 ≤ self.old.alive) ⊎ (2 ^ 63 ≤ self.old.number + 1) → result ≡ Err faults.Full }
         ensures ordered { IsOrdered ticket_cmp self.old.standings }
         ensures fault { IfErr result (λ fault. (fault ≡ faults.Memory) ⊎ ((fault ≡ faults.Full) × ((1024 ≤ self.old.alive) ⊎ (2 ^ 63 ≤ self.old.number + 1)))) }

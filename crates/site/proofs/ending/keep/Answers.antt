@@ -22,7 +22,7 @@ returns-then-not-kept-clause-ok g c = λ clean sound fits visit is.
     let k = c.args.ticket in
     let kept = g.S.SiteStore.kept c.args.store.now in
     steps_at kept kept (table_of p) (table_of c.end.new.self) _ _ c.voted.result c.end.ensures.ended
-    (visit_ends kept p.standings.entries p.locks.items p.alive p.life p.number fits k kept _ c.end.ensures.ordered (is_visiting p.standings.entries k visit is) (record { content = λ leaf. refl; prepared = λ ticket. refl; life = refl }) _ c.voted.result
+    (visit_ends kept p.standings.entries p.locks.items p.alive p.life p.number fits k kept _ refl c.end.ensures.ordered (is_visiting p.standings.entries k visit is) (record { content = λ leaf. refl; prepared = λ ticket. refl; life = refl }) _ c.voted.result
     (no_act k c.voted.result _ c.voted.ensures))
 
 pub returns-then-eq-clause-err : goal.returns-then-eq-clause-err
@@ -66,5 +66,5 @@ returns-else-eq-clause-ok g c = λ clean sound fits visit is.
     let rest : Entries → Table = λ es. table_from es (map (stops k p.number) p.locks.items) (p.alive - 1) p.life p.number in
     let ends = c.end-in-Err.ensures.ended ∙ ap (λ es. rest (remove_entry (is_at (ticket_cmp k)) es)) once ∙ ap rest (set_removed k p.standings.entries empty) in
     steps_at kept after (table_of p) (table_of c.end-in-Err.new.self) _ _ c.voted-in-Err.result ends
-    (visit_ends kept p.standings.entries p.locks.items p.alive p.life p.number fits k after _ sorted (is_visiting p.standings.entries k visit is) (c.in-Err.ensures.err clean sound) _ c.voted-in-Err.result
+    (visit_ends kept p.standings.entries p.locks.items p.alive p.life p.number fits k after _ refl sorted (is_visiting p.standings.entries k visit is) (c.in-Err.ensures.err clean sound) _ c.voted-in-Err.result
     (no_act k c.voted-in-Err.result _ c.voted-in-Err.ensures))

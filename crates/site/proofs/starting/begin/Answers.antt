@@ -1,5 +1,5 @@
 -- Why `begin` meets its contract.
-use Rattle.std.proofs.Common.{◌≡◌, ap, ◌∙◌, subst, ◌+◌, ◌<◌, ◌^◌, map, false, ⊎_elim, arith}
+use Rattle.std.proofs.Common.{◌≡◌, ap, sym, ◌∙◌, subst, ◌+◌, ◌<◌, ◌^◌, map, false, ⊎_elim, arith}
 use Rattle.store.specs.declared.fault.StoreFault.TheVariants as store_faults
 use Rattle.site.specs.Locks.{free}
 use Rattle.site.specs.Starting.{all_may_stand, leaves_in}
@@ -23,8 +23,9 @@ returns-in-Ok-next_incarnation-clause-ok g c = λ clean.
     let i = lists.incarnation in
     let f = c.if-all-ge-LAST.false in
     let below : kept.life + 1 < 2 ^ 63 = grind (arith) in
-    begins_from c.args.leaves.now c.in-Ok.all kept after lists (c.in-Ok-next_incarnation.ensures.ok clean sound below) c.as_slice.result.now c.as_slice.ensures
-    c.in_ok-resting.resting.standings.entries c.in_ok-resting.resting.locks.items c.in-Ok-next_incarnation.life
+    let begun = c.in-Ok-next_incarnation.ensures.ok clean sound below in
+    begins_from c.args.leaves.now c.in-Ok.all kept after lists begun c.as_slice.result.now c.as_slice.ensures
+    c.in_ok-resting.resting.standings.entries c.in_ok-resting.resting.locks.items c.in-Ok-next_incarnation.life (subst (λ n. n < 2 ^ 63) (sym begun.life) below)
     c.in_ok-resting.ensures.standings c.in_ok-resting.ensures.locks c.in_ok-resting.ensures.right c.in_ok-resting.ensures.ordered (c.in-Ok-next_incarnation.ensures.life clean sound)
 
 pub returns-in-Ok-next_incarnation-clause-leaves : goal.returns-in-Ok-next_incarnation-clause-leaves

@@ -1,0 +1,58 @@
+-- A site whose memory fits its store is within the limits.
+use Rattle.std.proofs.Common.{◌≡◌, refl, sym, ap, ap₂, ◌∙◌, ℕ, ◌<◌, ◌≤◌, ◌^◌, nat_lt, nat_le, ◌&&◌, not, Bool, true, false, List, [], ◌∷◌, map, filter, length, cond, Option, Some, None, arith}
+use Rattle.std.specs.List.{list_all}
+use Rattle.store.specs.declared.name.Ticket.{Ticket}
+use Rattle.store.specs.declared.prepared.Prepared.{Prepared as Row}
+use Rattle.store.specs.SiteContent.{SiteContent}
+use Rattle.protocol.specs.Language.{Name}
+use Rattle.protocol.specs.Letters.{name_of, ticket_of}
+use Rattle.protocol.specs.Local.{local}
+use Rattle.protocol.specs.Site.{Status, is_alive, is_short, is_within}
+use Rattle.protocol.proofs.Basics.{both_true}
+use Rattle.site.specs.declared.standing.Standing as standings
+use Rattle.site.specs.declared.standing.Standing.TheVariants as standing
+use Rattle.site.specs.State.{Fits, Table, is_visit, stands, state_of, visiting, visits_among}
+
+below : (n m : ℕ) → n < m → nat_lt n m ≡ true
+below n m less = grind (arith)
+
+up_to : (n m : ℕ) → n ≤ m → nat_le n m ≡ true
+up_to n m less = grind (arith)
+
+module _ (kept : SiteContent) (table : Table) (fits : Fits kept table) where
+  abbrev status : Name → Status local
+  status name = stands table (ticket_of name) (kept.prepared (ticket_of name))
+
+  all_short : (tickets : List Ticket) → list_all (λ k. is_short (status k)) (map name_of tickets) ≡ true
+  all_short [] = refl
+  all_short (t ∷ tickets) = both_true (is_short (status (name_of t))) (list_all (λ k. is_short (status k)) (map name_of tickets)) (fits.short t) (all_short tickets)
+
+  -- who is alive is a visit
+  alive_visit : (t : Ticket) → is_alive (status (name_of t)) ≡ true → is_visit (table.standing t) ≡ true
+  alive_visit t alive = go (kept.prepared t) alive
+    where
+      at : (o : Option standings.Standing) → is_alive (visiting table.locks t o) ≡ true → is_visit o ≡ true
+      at None e = cc
+      at (Some (standing.Alive v)) e = refl
+      at (Some (standing.Prepared x)) e = cc
+      go : (r : Option Row) → is_alive (stands table t r) ≡ true → is_visit (table.standing t) ≡ true
+      go (Some row) e = cc
+      go None e = at (table.standing t) e
+
+  few_alive : (tickets : List Ticket) → length (filter (λ k. is_alive (status k)) (map name_of tickets)) ≤ visits_among table.standing tickets
+  few_alive [] = omega arith
+  few_alive (t ∷ tickets) = go (is_alive (status (name_of t))) refl (is_visit (table.standing t)) refl (few_alive tickets)
+    where
+      go : (b : Bool) → is_alive (status (name_of t)) ≡ b → (c : Bool) → is_visit (table.standing t) ≡ c → length (filter (λ k. is_alive (status k)) (map name_of tickets)) ≤ visits_among table.standing tickets →
+          length (cond b (name_of t ∷ filter (λ k. is_alive (status k)) (map name_of tickets)) (filter (λ k. is_alive (status k)) (map name_of tickets))) ≤ length (cond c (t ∷ filter (λ x. is_visit (table.standing x)) tickets) (filter (λ x. is_visit (table.standing x)) tickets))
+      go true e true f rest = omega (arith, rest)
+      go true e false f rest = let v = alive_visit t e in absurd (let n : true ≡ false = sym v ∙ f in cc)
+      go false e true f rest = omega (arith, rest)
+      go false e false f rest = rest
+
+  pub fits_within : is_within (state_of kept table) ≡ true
+  fits_within =
+      let few : length (filter (λ k. is_alive (status k)) (map name_of table.tickets)) ≤ visits_among table.standing table.tickets = few_alive table.tickets in
+      let counted : visits_among table.standing table.tickets ≤ table.alive = fits.counted in
+      let most : table.alive ≤ 1024 = fits.few in
+      both_true _ _ (both_true _ _ (both_true _ _ (below table.life (2 ^ 63) fits.low.0) (below table.number (2 ^ 63) fits.low.1)) (all_short table.tickets)) (up_to (length (filter (λ k. is_alive (status k)) (map name_of table.tickets))) 1024 (omega (arith, few, counted, most)))
