@@ -25,11 +25,12 @@ use Rattle.desk.specs.State.{Begins, Fits, Steps, Table, desk_of, notice_of}
 use Rattle.desk.specs.Turn.{told}
 use Rattle.site.specs.State.{Fits as SiteFits, state_of, Table as SiteTable}
 use Rattle.store.specs.SiteContent.{SiteContent}
+use Rattle.site.proofs.Limited.{fits_within}
 use Rattle.world.specs.Machines.{AreFit, Leads, Machines, happens_at, is_for_site, is_order, world_of}
 use Rattle.world.specs.Seated.{SomeSeatDoes}
 use Rattle.world.specs.declared.doing.Doing as doing
 use Rattle.world.specs.declared.doing.Doing.TheVariants.{GiveUp, Inquire, Restart, Take}
-use Rattle.world.specs.Seats.{Moves, Seat, SiteLimits, seat_of, state_at, states_of}
+use Rattle.world.specs.Seats.{Moves, Seat, seat_of, state_at, states_of}
 use Rattle.world.proofs.Seating.{letter_said, letter_state, names_after, reseated_same, seat_named, seated_after, state_there, states_after}
 use Rattle.protocol.proofs.OtherStatements.{after_same, give_up_same, inquiries_same, restart_same, within_same}
 
@@ -102,7 +103,7 @@ abbrev pub with_seats : Machines → List Seat → Machines
 with_seats machines seats = record { desk = machines.desk; table = machines.table; seats = seats }
 
 -- ---- something is done at a site
-module _ (db : Database) (before : Machines) (seat : Seat) (after : List Seat) (out : List letters.Letter) (fit : AreFit db before) (limits : SiteLimits) where
+module _ (db : Database) (before : Machines) (seat : Seat) (after : List Seat) (out : List letters.Letter) (fit : AreFit db before) where
   -- a site's step
   abbrev steps_to : World (language db) → List ℕ → SiteState (language db) → List (Letter (language db)) → World (language db)
   steps_to w name new put = site_steps w name new put
@@ -112,7 +113,7 @@ module _ (db : Database) (before : Machines) (seat : Seat) (after : List Seat) (
     stepped waiting past put =
         let S = statements db in
         let w = world_of db before waiting past in
-        if_true (is_within (state_at S new)) (with_site w name (state_at S new) put) w (within_same S (state_of new.kept new.table) ∙ limits new.kept new.table moves.seated) ∙
+        if_true (is_within (state_at S new)) (with_site w name (state_at S new) put) w (within_same S (state_of new.kept new.table) ∙ fits_within new.kept new.table moves.seated) ∙
         (λ i. record { desk = w.desk; sites = sym (states_after S name seat new before.seats after moves) i; letters = waiting ++ put; past = sym (append-nil past) i })
 
     now_fit : AreFit db (with_seats before after)

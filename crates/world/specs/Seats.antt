@@ -61,7 +61,3 @@ module _ (S : Statements local) where
   abbrev pub states_of : List Seat → List ℕ → SiteState (with_statements local S)
   states_of [] name = nobody
   states_of (seat ∷ seats) name = if is_called name seat then state_at seat else states_of seats name
-
--- a site whose memory fits its store is within the limits
-abbrev pub SiteLimits : Type 0
-SiteLimits = (kept : SiteContent) (table : Table) → Fits kept table → is_within (state_of kept table) ≡ true

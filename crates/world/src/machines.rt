@@ -36,7 +36,7 @@ impl<D: DeskStore, S: SiteStore> Machines<D, S> {
     ghost use Rattle.world.specs.Held.{OfStores, held};
     ghost use Rattle.world.specs.Machines.{AreFit, Leads, happens_at, is_for_site};
     ghost use Rattle.world.specs.Seated.{place_of};
-    ghost use Rattle.world.specs.Seats.{Seat, SiteLimits, seat_of};
+    ghost use Rattle.world.specs.Seats.{Seat, seat_of};
 
     /// A transaction begins.
     pub(crate) fn begin(&mut self) -> Result<Out, Refusal>
@@ -98,7 +98,7 @@ impl<D: DeskStore, S: SiteStore> Machines<D, S> {
         requires { is_for_site what ≡ true }
         ensures clean { OfStores D.is_clean S.is_clean self.new → OfStores D.is_clean S.is_clean self.old }
         ensures sound { OfStores D.is_clean S.is_clean self.new → OfStores D.is_sound S.is_sound self.old → OfStores D.is_sound S.is_sound self.new }
-        ensures ok { (db : Database) (choice : Choice (language db)) (seat : Seat) → SiteLimits → OfStores D.is_clean S.is_clean self.new → OfStores D.is_sound S.is_sound self.old → AreFit db (held D.kept S.kept self.old) → seat_of (place_of what) (held D.kept S.kept self.old).seats ≡ Some seat
+        ensures ok { (db : Database) (choice : Choice (language db)) (seat : Seat) → OfStores D.is_clean S.is_clean self.new → OfStores D.is_sound S.is_sound self.old → AreFit db (held D.kept S.kept self.old) → seat_of (place_of what) (held D.kept S.kept self.old).seats ≡ Some seat
             → IfOk result (λ out. Leads db (happens_at db what out.kept choice) (held D.kept S.kept self.old) (held D.kept S.kept self.new) out.letters out.replies) }
         ensures err { OfStores D.is_clean S.is_clean self.new → OfStores D.is_sound S.is_sound self.old → OnErr result (held D.kept S.kept self.new ≡ held D.kept S.kept self.old) }
     {
