@@ -13,7 +13,7 @@ use Rattle.store.specs.Name.{ticket_cmp}
 use Rattle.store.specs.SiteContent.{SiteContent}
 use Rattle.protocol.specs.Parts.{In}
 use Rattle.store.specs.declared.reply.Reply.{Reply}
-use Rattle.protocol.specs.Site.{SiteState, Status, Dead, Alive, Prepared, Act, has_exclusive, is_short, site_after, said, on_letter}
+use Rattle.protocol.specs.Site.{SiteState, Status, Dead, Alive, Prepared, Act, has_exclusive, is_short, is_within, site_after, said, on_letter}
 use Rattle.protocol.specs.World.{addressed}
 use Rattle.store.specs.declared.letter.Letter.{Letter}
 use Rattle.site.specs.declared.locks.Locks.{Locks}
@@ -136,3 +136,7 @@ pub record Takes (old : SiteContent) (before : Table) (new : SiteContent) (after
   pub fits : Fits new after
   pub state : state_of new after ≡ site_after (state_of old before) (act_on old before letter letters)
   pub says : map letter_of letters ≡ addressed letter.site (txn_name letter.txn) (said (state_of old before) (act_on old before letter letters))
+
+-- a state whose memory fits the store is within the protocol's limits: 1,024 visits, and numbers below 2^63
+abbrev pub FitIsWithin : Type 0
+FitIsWithin = (kept : SiteContent) (table : Table) → Fits kept table → is_within (state_of kept table) ≡ true

@@ -18,6 +18,7 @@ mod asked;
 mod ending;
 pub mod fault;
 mod inquiring;
+pub mod laws;
 mod locks;
 mod present;
 mod reading;
