@@ -1,6 +1,6 @@
 -- A step of one machine is one of the world.
-use Rattle.std.proofs.Common.{◌≡◌, refl, sym, ap, ap₂, ◌∙◌, subst, ℕ, Bool, true, false, List, [], ◌∷◌, ◌++◌, map, Option, Some, None, if◌then◌else◌}
-use Rattle.std.specs.List.{filter_map, flat_map}
+use Rattle.std.proofs.Common.{◌≡◌, refl, sym, ap, ap₂, ◌∙◌, subst, ℕ, Bool, true, false, List, [], ◌∷◌, ◌++◌, map}
+use Rattle.std.specs.List.{flat_map}
 use Rattle.std.proofs.lemmas.List.{append-nil}
 use Rattle.store.specs.declared.letter.Body as bodies
 use Rattle.store.specs.declared.letter.Body.TheVariants as body
@@ -10,27 +10,24 @@ use Rattle.store.specs.declared.name.Txn as names
 use Rattle.store.specs.DeskContent.{DeskContent}
 use Rattle.desk.specs.Starting.{Restarts}
 use Rattle.protocol.specs.Language.{Name}
-use Rattle.protocol.specs.Desk.{Began, Choice, Desk, Known, Row, Txn, Unknown, desk_restarted, next_txn, txn_restarted, Deed, Request, Turn, desk_after, desk_began, is_desk_within, on_request}
-use Rattle.protocol.specs.Letter.{Body, Letter, is_for_desk}
+use Rattle.protocol.specs.Desk.{Began, Choice, Desk, Known, Row, Txn, Unknown, desk_restarted, next_txn, txn_restarted, Deed, Turn, desk_after, desk_began, is_desk_within}
+use Rattle.protocol.specs.Letter.{Letter, is_for_desk}
 use Rattle.protocol.specs.Letters.{body_of, kept_in, letter_of, name_of, txn_name}
-use Rattle.protocol.specs.Local.{local}
 use Rattle.protocol.specs.Serial.{AllExplained}
 use Rattle.protocol.specs.Site.{Act, SiteState, inquiries, is_within, on_give_up, on_letter, said, site_after, site_restarted}
 use Rattle.protocol.specs.Statements.{body_with, letter_with, site_with}
-use Rattle.protocol.specs.World.{World, addressed, desk_lives, desk_restarts, begins, begun, called, comes, comes_to, gives_up, inquires, restarts, site_steps, turned, turns, with_site}
+use Rattle.protocol.specs.World.{World, addressed, desk_lives, desk_restarts, begins, begun, comes, comes_to, gives_up, inquires, restarts, site_steps, turned, turns, with_site}
 use Rattle.protocol.proofs.Basics.{if_true}
 use Rattle.desk.specs.declared.reply.Notice.{Notice}
 use Rattle.desk.specs.Database.{Database, language, sent, statements}
-use Rattle.desk.specs.State.{Begins, Fits, Steps, Table, desk_of, notice_of}
-use Rattle.desk.specs.Turn.{told}
-use Rattle.site.specs.State.{Fits as SiteFits, state_of, Table as SiteTable}
-use Rattle.store.specs.SiteContent.{SiteContent}
+use Rattle.desk.specs.State.{Begins, Steps, Table, desk_of}
+use Rattle.site.specs.State.{state_of}
 use Rattle.site.proofs.Limited.{fits_within}
 use Rattle.world.specs.Machines.{AreFit, Leads, Machines, happens_at, is_for_site, is_order, world_of}
 use Rattle.world.specs.Seated.{SomeSeatDoes}
 use Rattle.world.specs.declared.doing.Doing as doing
 use Rattle.world.specs.declared.doing.Doing.TheVariants.{GiveUp, Inquire, Restart, Take}
-use Rattle.world.specs.Seats.{Moves, Seat, seat_of, state_at, states_of}
+use Rattle.world.specs.Seats.{Moves, Seat, state_at, states_of}
 use Rattle.world.proofs.Seating.{letter_said, letter_state, names_after, reseated_same, seat_named, seated_after, state_there, states_after}
 use Rattle.protocol.proofs.OtherStatements.{after_same, give_up_same, inquiries_same, restart_same, within_same}
 

@@ -1,19 +1,18 @@
 -- A site that makes a step makes it in the protocol's world, where nothing else changes.
-use Rattle.std.proofs.Common.{◌≡◌, refl, sym, ap, ap₂, ◌∙◌, subst, ℕ, nat_eq, Bool, true, false, List, [], ◌∷◌, map, Option, Some, None, if◌then◌else◌}
+use Rattle.std.proofs.Common.{◌≡◌, refl, sym, ap, ◌∙◌, subst, ℕ, nat_eq, Bool, true, false, List, [], ◌∷◌, map, Some, if◌then◌else◌}
 use Rattle.std.specs.Cmp.Lexicographic.{pointwise}
 use Rattle.std.specs.List.{AllByRecursion}
 use Rattle.std.proofs.lemmas.Slice.Eq.{bytes_eq-Decides}
-use Rattle.std.proofs.lemmas.List.{map-append}
 use Rattle.store.specs.declared.letter.Letter.{Letter}
-use Rattle.protocol.specs.Language.{Name, put}
+use Rattle.protocol.specs.Language.{put}
 use Rattle.protocol.specs.Letter as protocol
 use Rattle.protocol.specs.Letters.{body_of, kept_in, letter_of, txn_name}
 use Rattle.protocol.specs.Local.{local}
-use Rattle.protocol.specs.Site.{SiteState, is_within, on_letter, said, site_after}
-use Rattle.protocol.specs.Statements.{Statements, act_with, body_with, letter_with, site_with, with_statements}
+use Rattle.protocol.specs.Site.{on_letter, said, site_after}
+use Rattle.protocol.specs.Statements.{Statements, body_with, letter_with, site_with}
 use Rattle.protocol.specs.World.{addressed}
-use Rattle.protocol.proofs.Basics.{if_false, if_true, some_is}
-use Rattle.protocol.proofs.OtherStatements.{act_same, after_same, said_same, within_same}
+use Rattle.protocol.proofs.Basics.{some_is}
+use Rattle.protocol.proofs.OtherStatements.{act_same, after_same, said_same}
 use Rattle.site.specs.State.{Takes, state_of}
 use Rattle.world.specs.Seats.{AreSeated, IsSeated, Moves, Seat, is_called, reseated, seat_of, state_at, states_of}
 
@@ -91,6 +90,7 @@ module _ (S : Statements local) where
           both : (b : Bool) → pointwise nat_eq at name ≡ b → state_at S first ≡ (if b then state_at S new else state_at S first)
           both false e2 = refl
           both true e2 = let same : is_called name first ≡ true = subst (λ n. is_called n first ≡ true) (name_is at name e2) e in absurd cc
+
       go : (b : Bool) → is_called name first ≡ b → (if b then Some first else seat_of name seats) ≡ Some seat → (seat_of name seats ≡ Some seat → states_of S (reseated name new seats) at ≡ put (pointwise nat_eq) name (state_at S new) (states_of S seats) at) →
           states_of S (if b then new ∷ seats else first ∷ reseated name new seats) at ≡ (if pointwise nat_eq at name then state_at S new else (if is_called at first then state_at S first else states_of S seats at))
       go true e is later =
@@ -134,7 +134,7 @@ module _ (S : Statements local) (letter : Letter) (letters : List Letter) (seat 
       put_out : (bodies : List (protocol.Body local)) → addressed letter.site (txn_name letter.txn) (map (body_with S) bodies) ≡ map (letter_with S) (addressed letter.site (txn_name letter.txn) bodies)
       put_out [] = refl
       put_out (body ∷ bodies) = ap (λ rest. record { site = letter.site; txn = txn_name letter.txn; body = body_with S body } ∷ rest) (put_out bodies)
+
       twice : (out : List Letter) → map (letter_with S) (map letter_of out) ≡ map (λ l. letter_with S (letter_of l)) out
       twice [] = refl
       twice (l ∷ out) = ap (λ rest. letter_with S (letter_of l) ∷ rest) (twice out)
-

@@ -6,8 +6,8 @@ ghost use Rattle.protocol.specs.Letters.{kept_in};
 use crate::doing::Doing;
 use crate::seats::do_among;
 use desk::desk::Desk;
-use desk::reply::Out;
 use desk::refusal::Refusal;
+use desk::reply::Out;
 use site::fault::SiteFault;
 use site::site::Site;
 use std::alloc::Global;
@@ -130,10 +130,7 @@ fn votes_no(letters: &[Letter]) -> bool
     match letters.first() {
         Some(letter) => matches!(
             &letter.body,
-            Body::Reply(Reply::Voted(Voted {
-                vote: Vote::No,
-                ..
-            }))
+            Body::Reply(Reply::Voted(Voted { vote: Vote::No, .. }))
         ),
         None => false,
     }
