@@ -7,3 +7,4 @@ pub mod RowLists
 pub mod Changing
 pub mod ByKey
 pub mod Near
+pub mod Shelving

@@ -25,4 +25,5 @@ pub mod prepared;
 pub mod reply;
 pub mod site_store;
 pub mod slot;
+mod shelves;
 mod slots;
