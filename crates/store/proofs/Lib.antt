@@ -8,3 +8,4 @@ pub mod Changing
 pub mod ByKey
 pub mod Near
 pub mod Shelving
+pub mod Flat

@@ -19,6 +19,7 @@ pub mod letter;
 pub mod letter_text;
 pub mod name;
 pub mod order;
+mod parts;
 pub mod plain_desk;
 pub mod plain_site;
 pub mod prepared;

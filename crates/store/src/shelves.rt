@@ -1,20 +1,21 @@
 //! The maps that hold a site's parts, leaf by leaf.
 
-ghost use Rattle.std.specs.Prelude.{◌≡◌, ℤ, List, IfOk, OnOk, Some, None, IsSome, if◌then◌else◌, unwrap_or};
+ghost use Rattle.std.specs.Prelude.{◌≡◌, ℤ, List, false, IfOk, OnOk, Some, None, IsSome, if◌then◌else◌, unwrap_or};
 ghost use Rattle.std.specs.BTreeMap.{is_at, IsOrdered};
 ghost use Rattle.std.specs.List.Sorted.{IsStrictlySortedBy};
 ghost use Rattle.std.specs.Map.{lookup, keys_of};
 ghost use Rattle.std.specs.Option.{option_copied, option_map};
 ghost use Rattle.std.specs.Ordering.{int_cmp};
+ghost use Rattle.std.specs.declared.cmp.Ordering.TheVariants.{Equal};
 ghost use Rattle.terms.specs.Leaf.{leaf_cmp};
 ghost use Rattle.terms.specs.declared.value.Value.{Value};
 ghost use Rattle.store.specs.declared.slot.Slot.{Slot as Place};
-ghost use Rattle.store.specs.Slot.{slot_cmp};
+ghost use Rattle.store.specs.Slot.{slot_cmp, slot_of};
 ghost use Rattle.store.specs.Entries.{entry_at};
 ghost use Rattle.store.specs.Shelves.{key_at, place_at, part_on, shelf_at, shelf_parts};
 
 use crate::slot::Slot;
-use crate::slots::Slots;
+use crate::slots::{Slots, copy_part};
 use std::alloc::Global;
 use std::collections::BTreeMap;
 use terms::copy::TryCopy;
@@ -189,4 +190,45 @@ pub(crate) fn fill(shelves: &mut Shelves, changes: Slots)
     while let Some((slot, part)) = rest.pop_first() {
         fill_slot(shelves, slot, part);
     }
+}
+
+/// The entry at a key of a leaf, once more.
+fn copy_key(
+    copies: &mut Slots,
+    leaf: &Leaf,
+    key: &i64,
+    part: &Option<Part>,
+) -> Result<(), Memory>
+    ensures { OnOk result ((q : Place) → entry_at copies.new.entries q ≡ (if is_at (slot_cmp (slot_of leaf.now key.now)) q then Some part.now else entry_at copies.old.entries q)) }
+{
+    let slot = Slot {
+        leaf: leaf.copy()?,
+        key: *key,
+    };
+    let _old = copies.insert(slot, copy_part(part)?)?;
+    Ok(())
+}
+
+/// The entries of a leaf's shelf, once more.
+fn copy_shelf(copies: &mut Slots, leaf: &Leaf, shelf: &Shelf) -> Result<(), Memory>
+    ensures here { OnOk result ((q : Place) → leaf_cmp leaf.now q.leaf ≡ Equal → entry_at copies.old.entries q ≡ None → entry_at copies.new.entries q ≡ key_at shelf.now.entries q.key) }
+    ensures others { (q : Place) → is_at (leaf_cmp leaf.now) q.leaf ≡ false → entry_at copies.new.entries q ≡ entry_at copies.old.entries q }
+{
+    for (key, part) in shelf {
+        copy_key(copies, leaf, key, part)?;
+    }
+    Ok(())
+}
+
+/// What stands at each slot, once more.
+pub(crate) fn copy_all(alloc: Global, shelves: &Shelves) -> Result<Slots, Memory>
+    ensures copies { IfOk result (λ copies. (q : Place) → entry_at copies.entries q ≡ place_at shelves.now.entries q) }
+    ensures ordered { IsOrdered leaf_cmp shelves.now }
+{
+    let _count = shelves.len();
+    let mut copies = BTreeMap::new(alloc);
+    for (leaf, shelf) in shelves {
+        copy_shelf(&mut copies, leaf, shelf)?;
+    }
+    Ok(copies)
 }
