@@ -9,3 +9,4 @@ pub mod ByKey
 pub mod Near
 pub mod Shelving
 pub mod Flat
+pub mod Copied

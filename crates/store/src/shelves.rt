@@ -212,7 +212,7 @@ fn copy_key(
 /// The entries of a leaf's shelf, once more.
 fn copy_shelf(copies: &mut Slots, leaf: &Leaf, shelf: &Shelf) -> Result<(), Memory>
     ensures here { OnOk result ((q : Place) → leaf_cmp leaf.now q.leaf ≡ Equal → entry_at copies.old.entries q ≡ None → entry_at copies.new.entries q ≡ key_at shelf.now.entries q.key) }
-    ensures others { (q : Place) → is_at (leaf_cmp leaf.now) q.leaf ≡ false → entry_at copies.new.entries q ≡ entry_at copies.old.entries q }
+    ensures others { OnOk result ((q : Place) → is_at (leaf_cmp leaf.now) q.leaf ≡ false → entry_at copies.new.entries q ≡ entry_at copies.old.entries q) }
 {
     for (key, part) in shelf {
         copy_key(copies, leaf, key, part)?;
