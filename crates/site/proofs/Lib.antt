@@ -17,3 +17,4 @@ pub mod PreparedRows
 pub mod Beginning
 pub mod Restarting
 pub mod Inquired
+pub mod OldestFirst
