@@ -140,7 +140,9 @@ impl<S: SiteStore> Site<S> {
         ensures { Fits (S.kept self.now.store) (table_of self.now.present)
             → IfOk result (λ letters. map letter_of letters.items ≡ inquiries self.now.present.name (state_of (S.kept self.now.store) (table_of self.now.present))) }
     {
-        self.present.standings.inquire(self.present.alloc, &self.present.name)
+        self.present
+            .standings
+            .inquire(self.present.alloc, &self.present.name)
     }
 
     /// All that the store keeps.

@@ -157,12 +157,7 @@ fn set_done(map: &mut YoungestFirst, ticket: &Ticket, op: u64)
     }
 }
 
-fn set_change(
-    map: &mut YoungestFirst,
-    ticket: &Ticket,
-    op: u64,
-    write: Write,
-) -> Result<(), Memory>
+fn set_change(map: &mut YoungestFirst, ticket: &Ticket, op: u64, write: Write) -> Result<(), Memory>
     ensures ok { (now : StandingNow) → lookup (λ key. is_eq (ticket_cmp key.0 ticket.now)) map.old.entries ≡ Some now
         → OnOk result (map.new.entries ≡ set_value (λ key. is_eq (ticket_cmp key.0 ticket.now)) map.old.entries (with_done op (intends write now))) }
     ensures err { OnErr result (map.new.entries ≡ map.old.entries) }

@@ -1,7 +1,7 @@
 -- What is copied of the shelves, leaf by leaf and key by key.
-use Rattle.std.proofs.Common.{◌≡◌, ℤ, List, [], ◌∷◌, true, false, cond, Option, Some, None, IsSome, is_some, refl, ap, sym, ◌∙◌, subst}
+use Rattle.std.proofs.Common.{◌≡◌, ℤ, List, ◌∷◌, true, false, cond, Option, Some, None, IsSome, is_some, refl, ap, sym, ◌∙◌, subst}
 use Rattle.std.specs.BTreeMap.{BTreeMap, is_at}
-use Rattle.std.specs.Cmp.{int_cmp_total, eq_by_cmp_equiv, tied_itself}
+use Rattle.std.specs.Cmp.{int_cmp_total, eq_by_cmp_equiv}
 use Rattle.std.specs.FinMap.{int_cmp-IsAntisymmetric}
 use Rattle.std.specs.List.Sorted.{IsStrictlySortedBy}
 use Rattle.std.specs.Map.{lookup, keys_of}

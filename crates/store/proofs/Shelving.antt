@@ -1,10 +1,9 @@
 -- What one leaf's shelf makes of all of them.
-use Rattle.std.proofs.Common.{◌≡◌, ℤ, List, [], ◌∷◌, ◌++◌, true, false, cond, Option, Some, None, IsSome, is_some, unwrap_or, option_to_list, refl, ap, sym, ◌∙◌, subst}
+use Rattle.std.proofs.Common.{◌≡◌, ℤ, List, true, false, cond, Option, Some, None, IsSome, is_some, unwrap_or, refl, ap, sym, ◌∙◌}
 use Rattle.std.specs.BTreeMap.{BTreeMap, is_at}
 use Rattle.std.specs.Map.{lookup}
 use Rattle.std.specs.Option.{option_map}
 use Rattle.std.specs.Ordering.{int_cmp, is_eq, ordering_then}
-use Rattle.std.specs.declared.cmp.Ordering.{Ordering}
 use Rattle.std.specs.declared.cmp.Ordering.TheVariants.{Less, Equal, Greater}
 use Rattle.terms.specs.declared.leaf.Leaf.{Leaf}
 use Rattle.terms.specs.declared.value.Value.{Value}
@@ -12,7 +11,7 @@ use Rattle.terms.specs.Leaf.{leaf_cmp}
 use Rattle.store.specs.declared.slot.Slot.{Slot}
 use Rattle.store.specs.Slot.{slot_of, slot_cmp}
 use Rattle.store.specs.Orders.{leaf_cmp-IsAntisymmetric}
-use Rattle.store.specs.Shelves.{Shelf, Shelves, entries_on, shelf_at, key_at, place_at, part_on}
+use Rattle.store.specs.Shelves.{Shelves, entries_on, shelf_at, key_at, place_at, part_on}
 
 -- the part of an entry that stands where a part was put
 pub filled_part : (part : Option (List Value)) → unwrap_or (option_map (λ p. Some p) part) None ≡ part

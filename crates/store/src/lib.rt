@@ -24,7 +24,7 @@ pub mod plain_desk;
 pub mod plain_site;
 pub mod prepared;
 pub mod reply;
+mod shelves;
 pub mod site_store;
 pub mod slot;
-mod shelves;
 mod slots;

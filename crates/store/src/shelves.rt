@@ -193,12 +193,7 @@ pub(crate) fn fill(shelves: &mut Shelves, changes: Slots)
 }
 
 /// The entry at a key of a leaf, once more.
-fn copy_key(
-    copies: &mut Slots,
-    leaf: &Leaf,
-    key: &i64,
-    part: &Option<Part>,
-) -> Result<(), Memory>
+fn copy_key(copies: &mut Slots, leaf: &Leaf, key: &i64, part: &Option<Part>) -> Result<(), Memory>
     ensures { OnOk result ((q : Place) → entry_at copies.new.entries q ≡ (if is_at (slot_cmp (slot_of leaf.now key.now)) q then Some part.now else entry_at copies.old.entries q)) }
 {
     let slot = Slot {

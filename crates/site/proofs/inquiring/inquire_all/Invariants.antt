@@ -1,6 +1,5 @@
 -- What each round of `inquire_all` keeps.
 use Rattle.std.proofs.Common.{◌≡◌, ◌++◌, reverse}
-
 use Rattle.site.specs.Inquiries.{inquiries_of}
 use Rattle.site.specs.Youngest.{from_oldest}
 use Rattle.site.proofs.inquiring.inquire_all.Given as goal

@@ -1,5 +1,5 @@
 -- Why `shelves::copy_shelf` meets its contract.
-use Rattle.std.proofs.Common.{◌∙◌, rules}
+use Rattle.std.proofs.Common.{rules}
 use Rattle.std.proofs.lemmas.Map.Iter.{btree_map_turn, rest_more}
 use Rattle.std.specs.Cmp.{int_cmp_total}
 use Rattle.std.specs.Map.Iter.{deref_pair}

@@ -1,5 +1,5 @@
 -- Why `shelves::make_room` meets its contract.
-use Rattle.std.proofs.Common.{None, IsSome, is_some, unwrap_or, refl, ap, sym, ◌∙◌, subst}
+use Rattle.std.proofs.Common.{None, IsSome, is_some, unwrap_or, refl, ap, ◌∙◌, subst}
 use Rattle.store.specs.Shelves.{Shelf, entries_on, key_at}
 use Rattle.store.proofs.Shelving.{shelf_keeps, shelf_grows}
 use Rattle.store.proofs.shelves.make_room.Goals as goal

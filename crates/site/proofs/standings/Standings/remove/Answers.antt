@@ -1,13 +1,11 @@
 -- Why `Standings::remove` meets its contract.
-use Rattle.std.proofs.Common.{◌≡◌, Some, ap, sym, ◌∙◌, subst}
-use Rattle.std.specs.BTreeMap.{is_at, insert_entry}
+use Rattle.std.proofs.Common.{ap, ◌∙◌, subst}
+use Rattle.std.specs.BTreeMap.{is_at}
 use Rattle.std.specs.List.Sorted.{IsStrictlySortedBy}
-use Rattle.std.specs.Map.{keys_of, lookup, remove_entry, set_value}
+use Rattle.std.specs.Map.{keys_of, remove_entry}
 use Rattle.store.specs.Name.{ticket_cmp}
-use Rattle.protocol.proofs.Basics.{some_is}
-use Rattle.site.specs.Standing.{with_done, intends, with_changes, changes_in}
 use Rattle.site.specs.Youngest.{from_oldest}
-use Rattle.site.proofs.OldestFirst.{oldest_found, oldest_inserted, oldest_removed, oldest_set, oldest_sorted}
+use Rattle.site.proofs.OldestFirst.{oldest_removed, oldest_sorted}
 use Rattle.site.proofs.standings.Standings.remove.Goals as goal
 
 pub returns-clause-gone : goal.returns-clause-gone

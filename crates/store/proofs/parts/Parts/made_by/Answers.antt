@@ -1,5 +1,5 @@
 -- Why `Parts::made_by` meets its contract.
-use Rattle.std.proofs.Common.{List, Option, Some, None, unwrap_or, refl, ap, ◌∙◌}
+use Rattle.std.proofs.Common.{List, Option, None, unwrap_or, ap, ◌∙◌}
 use Rattle.std.specs.FinMap as fin
 use Rattle.terms.specs.declared.value.Value.{Value}
 use Rattle.store.specs.Content.{put_at}

@@ -1,5 +1,5 @@
 -- Why `Parts::new` meets its contract.
-use Rattle.std.proofs.Common.{ap, ◌∙◌}
+use Rattle.std.proofs.Common.{ap}
 use Rattle.store.specs.Shelves.{all_on}
 use Rattle.store.proofs.Keyed.{keyed_none}
 use Rattle.store.proofs.parts.Parts.new.Goals as goal

@@ -2,8 +2,6 @@
 use Rattle.std.proofs.Common.{ap, ◌∙◌}
 use Rattle.std.specs.BTreeMap.{is_at}
 use Rattle.std.specs.Map.{lookup}
-use Rattle.store.specs.declared.prepared.Prepared.{Prepared}
-use Rattle.store.specs.declared.name.Ticket.{Ticket}
 use Rattle.store.specs.Content.{made_by}
 use Rattle.store.specs.ContentLaws.{same_made}
 use Rattle.store.specs.Name.{ticket_cmp}
