@@ -5,9 +5,13 @@ use Rattle.std.proofs.lemmas.List.{append-nil}
 use Rattle.store.specs.declared.letter.Body as bodies
 use Rattle.store.specs.declared.letter.Body.TheVariants as body
 use Rattle.store.specs.declared.order.Order.TheVariants as order
+use Rattle.store.specs.declared.reply.Reply as replies
+use Rattle.store.specs.declared.reply.Reply.TheVariants as reply_kinds
 use Rattle.store.specs.declared.letter.Letter as letters
 use Rattle.store.specs.declared.name.Txn as names
 use Rattle.store.specs.DeskContent.{DeskContent}
+use Rattle.desk.specs.Calls.{txn_in}
+use Rattle.desk.specs.Does.{Takes}
 use Rattle.desk.specs.Starting.{Restarts}
 use Rattle.protocol.specs.Language.{Name}
 use Rattle.protocol.specs.Desk.{Began, Choice, Desk, Known, Row, Txn, Unknown, desk_restarted, next_txn, txn_restarted, Deed, Turn, desk_after, desk_began, is_desk_within}
@@ -19,11 +23,11 @@ use Rattle.protocol.specs.Statements.{body_with, letter_with, site_with}
 use Rattle.protocol.specs.World.{World, addressed, desk_lives, desk_restarts, begins, begun, comes, comes_to, gives_up, inquires, restarts, site_steps, turned, turns, with_site}
 use Rattle.protocol.proofs.Basics.{if_true}
 use Rattle.desk.specs.declared.reply.Notice.{Notice}
-use Rattle.desk.specs.Database.{Database, language, sent, statements}
+use Rattle.desk.specs.Database.{Database, language, replied, sent, statements}
 use Rattle.desk.specs.State.{Begins, Steps, Table, desk_of}
 use Rattle.site.specs.State.{state_of}
 use Rattle.site.proofs.Limited.{fits_within}
-use Rattle.world.specs.Machines.{AreFit, Leads, Machines, happens_at, is_for_site, is_order, world_of}
+use Rattle.world.specs.Machines.{AreFit, Came, Leads, Machines, happens_at, is_for_site, is_order, world_of}
 use Rattle.world.specs.Seated.{SomeSeatDoes}
 use Rattle.world.specs.declared.doing.Doing as doing
 use Rattle.world.specs.declared.doing.Doing.TheVariants.{GiveUp, Inquire, Restart, Take}
@@ -94,6 +98,33 @@ module _ (db : Database) (before : Machines) (kept : DeskContent) (after : Table
         explained = restarted_explained db d d.known;
         replies = restarted.replies;
       }
+
+-- a letter of a site
+pub reply_of : (said : bodies.Body) → is_order said ≡ false → (reply : replies.Reply) × (said ≡ body.Reply reply)
+reply_of (body.Order order) is = absurd cc
+reply_of (body.Reply reply) is = (reply, refl)
+
+comes_is : (db : Database) (letter : letters.Letter) (reply : replies.Reply) → letter.body ≡ body.Reply reply → (kept : Bool) (choice : Choice (language db)) (w : World (language db)) →
+    comes w kept choice (sent db letter) ≡ turns w (txn_name letter.txn) (on_desk_letter (txn_name letter.txn) letter.site kept choice (replied db reply) (w.desk.txn (txn_name letter.txn)))
+comes_is db letter reply is kept choice w = ap (λ said. comes w kept choice (as_sent said)) is ∙ go reply
+  where
+    as_sent : bodies.Body → Letter (language db)
+    as_sent said = record { site = letter.site; txn = txn_name letter.txn; body = body_with (statements db) (body_of said) }
+    go : (r : replies.Reply) → comes w kept choice (as_sent (body.Reply r)) ≡ turns w (txn_name letter.txn) (on_desk_letter (txn_name letter.txn) letter.site kept choice (replied db r) (w.desk.txn (txn_name letter.txn)))
+    go (reply_kinds.Ticket ticket) = refl
+    go (reply_kinds.Rows rows) = refl
+    go (reply_kinds.Refused refusal) = refl
+    go (reply_kinds.Voted voted) = refl
+    go (reply_kinds.Ack ticket) = refl
+    go (reply_kinds.Inquire ticket) = refl
+
+pub reply_leads : (db : Database) (before : Machines) (kept : DeskContent) (after : Table) (letter : letters.Letter) (reply : replies.Reply) → letter.body ≡ body.Reply reply → (keeps : Bool) (out : List letters.Letter) (notices : List Notice) → AreFit db before →
+    Takes db before.table kept after letter.txn (λ choice. on_desk_letter (txn_name letter.txn) letter.site keeps choice (replied db reply) (txn_in db before.table letter.txn)) out notices → Came db letter keeps before (with_desk before kept after) out notices
+reply_leads db before kept after letter reply is keeps out notices fit takes = record {
+  choice = takes.choice;
+  leads = turn_leads db before kept after letter.txn (on_desk_letter (txn_name letter.txn) letter.site keeps takes.choice (replied db reply) (txn_in db before.table letter.txn)) out notices fit takes.steps
+      (λ w. comes w keeps takes.choice (sent db letter)) (λ waiting past. comes_is db letter reply is keeps takes.choice (world_of db before waiting past)) takes.explained;
+}
 
 -- the sites are others
 abbrev pub with_seats : Machines → List Seat → Machines
