@@ -20,3 +20,9 @@ pub mod Stated
 pub mod Evaluated
 pub mod Rising
 pub mod Restarted
+pub mod Fitting
+pub mod Located
+pub mod AtHomes
+pub mod Asked
+pub mod Explaining
+pub mod Rowed

@@ -10,6 +10,8 @@ pub mod Turn
 pub mod Opening
 pub mod Sending
 pub mod Stating
+pub mod Planned
+pub mod Brought
 pub mod Stepped
 pub mod Ballots
 pub mod State

@@ -33,4 +33,4 @@ ticketed db undecided site ticket =
 pub record IsStep (db : Database) (txn : Txn) (new : Undecided) (step : Step) (wanted : protocol.Turn (language db)) : Type 0 where
   pub stands : protocol.Known (undecided_of db new) ≡ wanted.txn
   pub letters : map (sent db) step.letters.items ≡ wanted.letters
-  pub replies : told_to (txn_name txn) step.reply ≡ filter_map told wanted.deeds
+  pub replies : told_to (txn_name txn) step.reply ≡ filter_map (told db) wanted.deeds

@@ -16,6 +16,7 @@ ghost use Rattle.desk.specs.Turn.{AreSpots};
 use crate::ask::Ask;
 use crate::asking::{Going, asks_step};
 use crate::opening;
+use crate::planned::Planned;
 use crate::refusal::Refusal;
 use crate::spot::Spot;
 use crate::stepping::Step;
@@ -73,6 +74,7 @@ pub(crate) fn reads(
     txn: Txn,
     undecided: &mut Undecided,
     statement: Statement,
+    plan: Planned,
     asks: Vec<Ask>,
 ) -> Result<Step, Refusal>
     ensures step { (db : Database) (choice : Choice (language db)) (first : AskNow) (rest : List AskNow) → asks.items ≡ first ∷ rest → AreSpots db undecided.old.spots → HaveSpots undecided.old.spots (ask_sites asks.items) → AsksAtHome db asks.items
@@ -81,7 +83,7 @@ pub(crate) fn reads(
 {
     let mut asks = asks;
     let going = asks_begin(alloc, txn, undecided.spots.as_slice(), &mut asks)?;
-    reading(undecided, going.spots, Reading { statement, asks });
+    reading(undecided, going.spots, Reading { statement, plan, asks });
     Ok(Step {
         letters: going.letters,
         reply: None,

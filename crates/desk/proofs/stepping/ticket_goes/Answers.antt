@@ -8,7 +8,7 @@ use Rattle.desk.proofs.stepping.ticket_goes.Goals as goal
 pub returns-in_ok-going-in-Reading-clause-step : goal.returns-in_ok-going-in-Reading-clause-step
 returns-in_ok-going-in-Reading-clause-step c = λ db choice there home.
     let is : c.args.undecided.now.stage ≡ stages.Reading c.in-Reading.reading = search rules in
-    ticket_reading db c.args.txn choice c.args.undecided.now _ c.args.site.now c.args.ticket there c.in_ok-spots.spots.items (search rules) _ c.in-Reading.reading (record { statement = c.in-Reading.reading.statement; asks = c.asks_step.new.asks })
+    ticket_reading db c.args.txn choice c.args.undecided.now _ c.args.site.now c.args.ticket there c.in_ok-spots.spots.items (search rules) _ c.in-Reading.reading (record { statement = c.in-Reading.reading.statement; plan = c.in-Reading.reading.plan; asks = c.asks_step.new.asks })
     is (search rules) (subst (IsAtHome db) is home) refl (search rules) (search rules) (search rules) refl
 
 pub returns-in_ok-written-in-Writing-clause-step :
