@@ -26,3 +26,4 @@ pub mod AtHomes
 pub mod Asked
 pub mod Explaining
 pub mod Rowed
+pub mod Short

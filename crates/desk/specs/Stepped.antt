@@ -7,12 +7,13 @@ use Rattle.store.specs.declared.name.Txn.{Txn}
 use Rattle.protocol.specs.Desk as protocol
 use Rattle.protocol.specs.Language.{put}
 use Rattle.protocol.specs.Letters.{name_of, txn_name}
+use Rattle.desk.specs.declared.spot.Spot.{Spot}
 use Rattle.desk.specs.declared.stepping.Step.{Step}
 use Rattle.desk.specs.declared.undecided.Stage.{Stage}
 use Rattle.desk.specs.declared.undecided.Stage.TheVariants as stage
 use Rattle.desk.specs.declared.undecided.Undecided.{Undecided}
 use Rattle.desk.specs.Database.{Database, language, sent}
-use Rattle.desk.specs.Sending.{AsksAtHome, UnsentAtHome}
+use Rattle.desk.specs.Sending.{AsksAtHome, UnsentAtHome, asks_go, writes_go}
 use Rattle.desk.specs.Standing.{undecided_of}
 use Rattle.desk.specs.Turn.{told, told_to}
 
@@ -34,3 +35,10 @@ pub record IsStep (db : Database) (txn : Txn) (new : Undecided) (step : Step) (w
   pub stands : protocol.Known (undecided_of db new) ≡ wanted.txn
   pub letters : map (sent db) step.letters.items ≡ wanted.letters
   pub replies : told_to (txn_name txn) step.reply ≡ filter_map (told db) wanted.deeds
+
+-- the spots after the operations that a stage still sends went out to these
+abbrev pub goes_to : Txn → List Spot → Stage → List Spot
+goes_to txn spots stage.Idle = spots
+goes_to txn spots (stage.Reading reading) = (asks_go txn reading.asks.items spots).spots
+goes_to txn spots (stage.Writing writing) = (writes_go txn writing.unsent.items spots).spots
+goes_to txn spots stage.Voting = spots
