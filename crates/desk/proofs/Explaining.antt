@@ -20,10 +20,13 @@ use Rattle.plan.specs.declared.need.Need.{Need}
 use Rattle.plan.specs.declared.reduce.Reduced.{Reduced}
 use Rattle.plan.specs.Given.{AreBrought}
 use Rattle.plan.specs.Given as plan
-use Rattle.plan.specs.Reduced.{is_fetched, same_leaf}
+use Rattle.catalog.specs.Catalogue.{Catalogue}
+use Rattle.plan.specs.Stated.{AreFetchesOf}
+use Rattle.plan.specs.Reduced.{FindsAll, is_fetched, same_leaf}
 use Rattle.plan.specs.Rows.{met}
 use Rattle.plan.specs.Shape.{shape}
 use Rattle.plan.proofs.Fetched.{one_name}
+use Rattle.answers.specs.declared.table.FetchRows.{FetchRows}
 use Rattle.answers.specs.Table.{given}
 use Rattle.answers.specs.Writes.{writes_between}
 use Rattle.store.specs.Content.{parts}
@@ -32,6 +35,7 @@ use Rattle.protocol.specs.Language.{Name}
 use Rattle.protocol.specs.Parts.{In}
 use Rattle.protocol.specs.Serial.{Explained, Gives}
 use Rattle.desk.specs.declared.ask.Ask.{Ask}
+use Rattle.desk.specs.declared.undecided.Unsent.{Unsent}
 use Rattle.desk.specs.Brought.{brought, brought_by}
 use Rattle.desk.specs.Database.{Database, language}
 use Rattle.desk.specs.OfCatalogue.{HasContent, IsOfCatalogue}
@@ -133,3 +137,29 @@ module _ (db : Database) (of : IsOfCatalogue db) (unique : LeafNamesAreUnique) (
           writes_are db list ∙ ap (map at_leaf) (writes whole there are) ∙ sym (of.writes whole (meaning stated whole).1),
         ),
   )
+
+-- so, where the catalogue, the rows and the writes go by other names
+pub explained_of : (db : Database) → IsOfCatalogue db → LeafNamesAreUnique → (stated : Statement) (reduced : Reduced) (asks : List Ask) → IsOfPlan db stated reduced asks → (t : Name) (answer : Answer) (list : List Write) (catalogue : Catalogue) → db.catalogue ≡ catalogue →
+    (rows : List FetchRows) → rows ≡ brought asks → (unsent : List Unsent) → unsent ≡ map (unsent_from catalogue) list →
+    (IsStatementOf (schemas_of catalogue) stated → AreFetchesOf catalogue stated reduced.fetches.items → FindsAll catalogue stated reduced.fetches.items (shape reduced.plan) → (whole : Relations) → FitsSchema (schemas_of catalogue) whole → AreBrought catalogue whole reduced.fetches.items (given rows) → answer ≡ (meaning stated whole).0) →
+    (IsStatementOf (schemas_of catalogue) stated → AreFetchesOf catalogue stated reduced.fetches.items → FindsAll catalogue stated reduced.fetches.items (shape reduced.plan) → (whole : Relations) → FitsSchema (schemas_of catalogue) whole → AreBrought catalogue whole reduced.fetches.items (given rows) → list ≡ writes_between catalogue whole (meaning stated whole).1) →
+    Explained {L = language db} (desk.Worked t stated (map (ask_of db) asks) (answer, map write_of unsent))
+explained_of db of unique stated reduced asks planned t answer list catalogue same rows rows_are unsent unsent_are answers writes =
+    subst (λ us. Explained {L = language db} (desk.Worked t stated (map (ask_of db) asks) (answer, map write_of us))) (sym unsent_are)
+    (subst (λ cat. Explained {L = language db} (desk.Worked t stated (map (ask_of db) asks) (answer, map write_of (map (unsent_from cat) list)))) same
+    (explained db of unique stated reduced asks planned t answer list
+    (λ whole fits are. answers of_statement of_fetches of_finds whole (subst (λ cat. FitsSchema (schemas_of cat) whole) same fits) (brought_there whole are))
+    (λ whole fits are. writes of_statement of_fetches of_finds whole (subst (λ cat. FitsSchema (schemas_of cat) whole) same fits) (brought_there whole are)
+    ∙ sym (ap (λ cat. writes_between cat whole (meaning stated whole).1) same))))
+  where
+    of_statement : IsStatementOf (schemas_of catalogue) stated
+    of_statement = subst (λ cat. IsStatementOf (schemas_of cat) stated) same (stated_there db of unique stated reduced asks planned)
+
+    of_fetches : AreFetchesOf catalogue stated reduced.fetches.items
+    of_fetches = subst (λ cat. AreFetchesOf cat stated reduced.fetches.items) same planned.fetches
+
+    of_finds : FindsAll catalogue stated reduced.fetches.items (shape reduced.plan)
+    of_finds = subst (λ cat. FindsAll cat stated reduced.fetches.items (shape reduced.plan)) same planned.finds
+
+    brought_there : (whole : Relations) → AreBrought db.catalogue whole reduced.fetches.items (given (brought asks)) → AreBrought catalogue whole reduced.fetches.items (given rows)
+    brought_there whole are = subst (λ r. AreBrought catalogue whole reduced.fetches.items (given r)) (sym rows_are) (subst (λ cat. AreBrought cat whole reduced.fetches.items (given (brought asks))) same are)

@@ -27,3 +27,4 @@ pub mod Asked
 pub mod Explaining
 pub mod Rowed
 pub mod Short
+pub mod Within

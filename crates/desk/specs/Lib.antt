@@ -17,5 +17,6 @@ pub mod Ballots
 pub mod State
 pub mod Begun
 pub mod Calls
+pub mod Does
 pub mod Starting
 pub mod Taking

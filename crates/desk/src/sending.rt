@@ -1,6 +1,6 @@
 //! The operations of a statement go out to the tickets that have come.
 
-ghost use Rattle.std.specs.Prelude.{◌≡◌, ◌≤◌, ◌^◌, ◌∷◌, ◌++◌, [], None, Err, filter, map, IfOk, IfSome, OnOk};
+ghost use Rattle.std.specs.Prelude.{◌≡◌, ◌<◌, ◌≤◌, ◌^◌, ◌∷◌, ◌++◌, [], None, Err, filter, map, IfOk, IfSome, OnOk};
 ghost use Rattle.desk.specs.declared.refusal.Refusal.TheVariants as refusals;
 ghost use Rattle.desk.specs.Sending.{AreShort, IsPast, asks_go, counted, next_number, waits_in, with_numbers, writes_go};
 ghost use Rattle.desk.specs.Spots.{spot_in};
@@ -55,6 +55,7 @@ fn sent_to(spots: &[Spot], site: &Text) -> u64
 /// The number of the next operation to a site, unless it is past the limit.
 fn next_number(spots: &[Spot], site: &Text) -> Option<u64>
     ensures some { IfSome result (λ number. number ≡ next_number site.now spots.now) }
+    ensures few { IfSome result (λ number. number < 2 ^ 63) }
     ensures none { result ≡ None → 2 ^ 63 ≤ next_number site.now spots.now }
 {
     let sent = sent_to(spots, site);
