@@ -28,3 +28,4 @@ pub mod Explaining
 pub mod Rowed
 pub mod Short
 pub mod Within
+pub mod Doing

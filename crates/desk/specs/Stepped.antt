@@ -1,5 +1,5 @@
 -- What a step of a statement makes of a transaction, as the protocol has it.
-use Rattle.std.specs.Prelude.{◌≡◌, ⊤, ℕ, nat_eq, List, map, Some}
+use Rattle.std.specs.Prelude.{◌≡◌, ⊤, ℕ, nat_eq, Bool, true, false, List, map, Some}
 use Rattle.std.specs.Cmp.Lexicographic.{pointwise}
 use Rattle.std.specs.List.{filter_map}
 use Rattle.store.specs.declared.name.Ticket.{Ticket}
@@ -42,3 +42,10 @@ goes_to txn spots stage.Idle = spots
 goes_to txn spots (stage.Reading reading) = (asks_go txn reading.asks.items spots).spots
 goes_to txn spots (stage.Writing writing) = (writes_go txn writing.unsent.items spots).spots
 goes_to txn spots stage.Voting = spots
+
+-- whether rows are waited for
+abbrev pub is_reading : Stage → Bool
+is_reading stage.Idle = false
+is_reading (stage.Reading reading) = true
+is_reading (stage.Writing writing) = false
+is_reading stage.Voting = false

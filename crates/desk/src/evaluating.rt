@@ -48,7 +48,7 @@ pub(crate) fn evaluate(
     ensures home { (db : Database) → IsOfCatalogue db → db.catalogue ≡ catalogue_of catalog.now → IfOk result (λ worked. UnsentAtHome db worked.unsent.items) }
     ensures spots { (db : Database) (spots : List Spot) → IsOfCatalogue db → db.catalogue ≡ catalogue_of catalog.now → sites_of spots ≡ db.sites → IfOk result (λ worked. HaveSpots spots (write_sites worked.unsent.items)) }
     ensures explained { (db : Database) (t : Name) → IsOfCatalogue db → db.catalogue ≡ catalogue_of catalog.now → IsOfPlan db statement.now plan.now asks.now
-        → IfOk result (λ worked. Explained (WorkedDeed {L = language db} t statement.now (map (ask_of db) asks.now) (worked.answer, map write_of worked.unsent.items))) }
+        → IfOk result (λ worked. Explained {L = language db} (WorkedDeed t statement.now (map (ask_of db) asks.now) (worked.answer, map write_of worked.unsent.items))) }
 {
     leaf_names_are_unique();
     let fetched = brought(alloc, asks)?;

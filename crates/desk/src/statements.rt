@@ -101,9 +101,9 @@ fn stated(
 
 /// Whether a transaction may state something: it is undecided, and between two statements.
 fn may_state(present: &Present, txn: &Txn) -> Result<(), Refusal>
-    ensures accepted { (db : Database) (statement : StatementNow) → OnOk result (refusal (State {L = language db} statement) (txn_in db (table_of present.now) txn.now) ≡ None) }
+    ensures accepted { (db : Database) (statement : StatementNow) → OnOk result (refusal (State statement) (txn_in db (table_of present.now) txn.now) ≡ None) }
     ensures idle { OnOk result (option_map (λ open. open.stage) (open_in ((table_of present.now).standing txn.now)) ≡ Some stages.Idle) }
-    ensures told { (db : Database) (statement : StatementNow) → IfErr result (λ told. option_map refused_as (refusal (State {L = language db} statement) (txn_in db (table_of present.now) txn.now)) ≡ Some told) }
+    ensures told { (db : Database) (statement : StatementNow) → IfErr result (λ told. option_map refused_as (refusal (State statement) (txn_in db (table_of present.now) txn.now)) ≡ Some told) }
 {
     let Some(undecided) = open(present, txn) else {
         return Err(Refusal::NoTransaction);
@@ -166,7 +166,7 @@ pub(crate) fn call_statement(
         → IfOk result (λ out. States db (table_of present.old) kept (table_of present.new) txn text.now out.letters out.replies) }
     ensures kept { IfOk result (λ out. out.kept ≡ true) }
     ensures err { OnErr result (table_of present.new ≡ table_of present.old) }
-    ensures accepted { (db : Database) (statement : StatementNow) → OnOk result (refusal (State {L = language db} statement) (txn_in db (table_of present.old) txn) ≡ None) }
+    ensures accepted { (db : Database) (statement : StatementNow) → OnOk result (refusal (State statement) (txn_in db (table_of present.old) txn) ≡ None) }
 {
     let room = room(present.alloc)?;
     may_state(present, &txn)?;

@@ -1,0 +1,208 @@
+-- A statement that is stated, and one that goes on, is the protocol's, and its evaluation is explained.
+use Rattle.std.proofs.Common.{◌≡◌, refl, sym, ap, ◌∙◌, subst, ℕ, Bool, true, false, List, [], ◌∷◌, map, Option, Some, None, if◌then◌else◌}
+use Rattle.std.specs.Option.{option_map}
+use Rattle.meaning.specs.declared.answer.Answer.{Answer}
+use Rattle.meaning.specs.declared.answer.Answer.TheVariants as answer
+use Rattle.meaning.specs.declared.statement.Statement.{Statement}
+use Rattle.plan.specs.declared.fetch.Fetch.{Fetch}
+use Rattle.plan.specs.declared.reduce.Reduced.{Reduced}
+use Rattle.store.specs.declared.name.Ticket.{Ticket}
+use Rattle.store.specs.declared.name.Txn.{Txn}
+use Rattle.store.specs.declared.reply.Reply.TheVariants as replies
+use Rattle.store.specs.declared.reply.Rows.{Rows}
+use Rattle.protocol.specs.Desk as desk
+use Rattle.protocol.specs.Language.{Lang, Name}
+use Rattle.protocol.specs.Letter as letter
+use Rattle.protocol.specs.Letters.{name_of, txn_name}
+use Rattle.protocol.specs.Serial.{AllExplained, Explained}
+use Rattle.desk.specs.declared.ask.Ask.{Ask}
+use Rattle.desk.specs.declared.standing.Standing.TheVariants as standing
+use Rattle.desk.specs.declared.stepping.Step.{Step}
+use Rattle.desk.specs.declared.undecided.Reading.{Reading}
+use Rattle.desk.specs.declared.undecided.Stage.{Stage}
+use Rattle.desk.specs.declared.undecided.Stage.TheVariants as stage
+use Rattle.desk.specs.declared.undecided.Undecided.{Undecided}
+use Rattle.desk.specs.declared.undecided.Unsent.{Unsent}
+use Rattle.desk.specs.Ballots.{is_first}
+use Rattle.desk.specs.Brought.{are_in, with_rows}
+use Rattle.desk.specs.Database.{Database, language, replied, sent}
+use Rattle.desk.specs.Does.{Does}
+use Rattle.desk.specs.OfCatalogue.{IsOfCatalogue}
+use Rattle.desk.specs.Planned.{IsOfPlan, IsPlanned, ask_from}
+use Rattle.desk.specs.Sending.{AsksAtHome}
+use Rattle.desk.specs.Spots.{sites_of, spot_in}
+use Rattle.desk.specs.Standing.{ask_of, stage_of, undecided_of, write_of}
+use Rattle.desk.specs.State.{IsIn}
+use Rattle.desk.specs.Stepped.{IsAtHome, IsStep, is_reading, ticketed}
+use Rattle.desk.specs.Turn.{told_to}
+use Rattle.desk.proofs.Asked.{rows_home, rows_order}
+use Rattle.desk.proofs.AtHomes.{asks_fresh}
+use Rattle.desk.proofs.Within.{same_plan}
+use Rattle.desk.proofs.Counted.{named_is}
+use Rattle.desk.proofs.Explaining.{known}
+use Rattle.desk.proofs.Rowed.{all_in, rows_are}
+use Rattle.catalog.specs.Laws.{LeafNamesAreUnique}
+
+-- what a statement's writes do needs no explanation
+writing_explained : (L : Lang) (t : Name) (u : desk.Undecided L) (told : L.Answer) (sent : L.Site → ℕ) (left : List (L.Leaf × L.Write)) (letters : List (letter.Letter L)) → AllExplained (desk.writing t u told sent left letters).deeds
+writing_explained L t u told sent [] letters = (tt, tt)
+writing_explained L t u told sent (x ∷ left) letters = tt
+
+pub writes_explained : (L : Lang) (t : Name) (u : desk.Undecided L) (told : L.Answer) (ws : List (L.Leaf × L.Write)) → AllExplained (desk.writes_go t u told ws).deeds
+writes_explained L t u told ws = let out = desk.writes_out t u.ticket ws u.sent in writing_explained L t u told out.sent out.left out.letters
+
+-- nor does a ticket
+pub ticket_explained : (L : Lang) (t : Name) (u : desk.Undecided L) (choice : desk.Choice L) (st : desk.Stage L) → AllExplained (desk.ticket_goes t u choice st).deeds
+ticket_explained L t u choice desk.Idle = tt
+ticket_explained L t u choice (desk.Reading s asks) = tt
+ticket_explained L t u choice (desk.Writing told ws) = writes_explained L t u told ws
+ticket_explained L t u choice (desk.Voting votes) = tt
+
+-- a step that is the same turn's
+step_as : (db : Database) (txn : Txn) (new : Undecided) (step : Step) (one other : desk.Turn (language db)) → one ≡ other → IsStep db txn new step other → IsStep db txn new step one
+step_as db txn new step one other same is = subst (IsStep db txn new step) (sym same) is
+
+-- ---- a statement is stated
+module _ (db : Database) (of : IsOfCatalogue db) (txn : Txn) (u new : Undecided) (idle : u.stage ≡ stage.Idle) (stated : Statement) (plan : Reduced) (planned : IsOfPlan db stated plan (map (ask_from db.catalogue) plan.fetches.items)) (step : Step) where
+  abbrev asks : List Ask
+  asks = map (ask_from db.catalogue) plan.fetches.items
+
+  abbrev wanted : desk.Choice (language db) → desk.Turn (language db)
+  wanted choice = desk.on_request (txn_name txn) choice (desk.State stated) (desk.Known (undecided_of db u))
+
+  abbrev begun : desk.Choice (language db) → List (desk.Ask (language db)) → desk.Turn (language db)
+  begun choice list = desk.after_deed (desk.Stated (txn_name txn) stated) (desk.states (txn_name txn) (undecided_of db u) stated list choice)
+
+  wanted_is : (choice : desk.Choice (language db)) → wanted choice ≡ begun choice (map (ask_of db) asks)
+  wanted_is choice =
+      ap (λ st. desk.on_state {L = language db} (txn_name txn) (undecided_of db u) stated choice (stage_of db u.spots st)) idle
+      ∙ ap (λ (list : List (desk.Ask (language db))). begun choice list) (ap (map (desk.ask_of {L = language db})) (of.fetches stated plan.fetches.items planned.statement planned.fetches) ∙ sym (asks_fresh db plan.fetches.items))
+
+  pub states_reads : (first : Ask) (rest : List Ask) → asks ≡ first ∷ rest → ((choice : desk.Choice (language db)) → IsStep db txn new step (desk.states (txn_name txn) (undecided_of db u) stated (map (ask_of db) asks) choice)) → IsIn db (standing.Undecided new) → Does db txn new step wanted
+  states_reads first rest some is within =
+      let choice : desk.Choice (language db) = (answer.Changed 0, []) in
+      let one = is choice in
+      record {
+        choice = choice;
+        step = step_as db txn new step (wanted choice) (begun choice (map (ask_of db) asks)) (wanted_is choice) (record { stands = one.stands; letters = one.letters; replies = one.replies });
+        explained = subst (λ (turn : desk.Turn (language db)). AllExplained turn.deeds) (sym (wanted_is choice ∙ ap (λ (list : List Ask). begun choice (map (ask_of db) list)) some)) (tt, tt);
+        within = within;
+      }
+
+  pub states_works : asks ≡ [] → (told : Answer) (unsent : List Unsent) → Explained {L = language db} (desk.Worked (txn_name txn) stated (map (ask_of db) asks) (told, map write_of unsent)) →
+      ((list : List (desk.Ask (language db))) → IsStep db txn new step (desk.works (txn_name txn) (undecided_of db u) stated list (told, map write_of unsent))) → IsIn db (standing.Undecided new) → Does db txn new step wanted
+  states_works none told unsent why is within =
+      let choice : desk.Choice (language db) = (told, map write_of unsent) in
+      let one = is [] in
+      let same : wanted choice ≡ begun choice [] = wanted_is choice ∙ ap (λ (list : List Ask). begun choice (map (ask_of db) list)) none in
+      record {
+        choice = choice;
+        step = step_as db txn new step (wanted choice) (begun choice []) same (record { stands = one.stands; letters = one.letters; replies = one.replies });
+        explained = subst (λ (turn : desk.Turn (language db)). AllExplained turn.deeds) (sym same)
+            (tt, (subst (λ (list : List Ask). Explained {L = language db} (desk.Worked (txn_name txn) stated (map (ask_of db) list) choice)) none why, writes_explained (language db) (txn_name txn) (desk.visits (undecided_of db u) (map (λ w. w.0) choice.1)) told choice.1));
+        within = within;
+      }
+
+-- ---- a first ticket comes
+pub ticket_does : (db : Database) (txn : Txn) (u new : Undecided) (site : List ℕ) (ticket : Ticket) (step : Step) → (spot_in site u.spots).ticket ≡ None →
+    ((choice : desk.Choice (language db)) → IsStep db txn new step (desk.ticket_goes {L = language db} (txn_name txn) (ticketed db u site ticket) choice (stage_of db u.spots u.stage))) → IsIn db (standing.Undecided new) →
+    Does db txn new step (λ choice. desk.on_known {L = language db} (txn_name txn) (undecided_of db u) site true choice (replied db (replies.Ticket ticket)))
+ticket_does db txn u new site ticket step none is within =
+    let choice : desk.Choice (language db) = (answer.Changed 0, []) in
+    let same = ap (λ (o : Option Ticket). desk.on_ticket {L = language db} (txn_name txn) (undecided_of db u) site (name_of ticket) choice (option_map name_of o)) none in
+    record {
+      choice = choice;
+      step = step_as db txn new step _ (desk.ticket_goes {L = language db} (txn_name txn) (ticketed db u site ticket) choice (stage_of db u.spots u.stage)) same (is choice);
+      explained = subst (λ (turn : desk.Turn (language db)). AllExplained turn.deeds) (sym same) (ticket_explained (language db) (txn_name txn) (ticketed db u site ticket) choice (stage_of db u.spots u.stage));
+      within = within;
+    }
+
+-- ---- rows come
+module _ (db : Database) (txn : Txn) (u new : Undecided) (site : List ℕ) (rows : Rows) (step : Step) where
+  abbrev rowed : desk.Choice (language db) → desk.Turn (language db)
+  rowed choice = desk.on_known {L = language db} (txn_name txn) (undecided_of db u) site true choice (replied db (replies.Rows rows))
+
+  abbrev rowed_if : desk.Choice (language db) → Bool → Stage → desk.Turn (language db)
+  rowed_if choice first st = if first then desk.on_rows {L = language db} (txn_name txn) (undecided_of db u) site rows.op rows.parts choice (stage_of db u.spots st) else desk.stays (desk.Known (undecided_of db u))
+
+  rowed_is : (choice : desk.Choice (language db)) (first : Bool) (st : Stage) → is_first rows.ticket (spot_in site u.spots).ticket ≡ first → u.stage ≡ st → rowed choice ≡ rowed_if choice first st
+  rowed_is choice first st is here = ap (λ b. rowed_if choice b u.stage) (named_is rows.ticket (spot_in site u.spots).ticket ∙ is) ∙ ap (rowed_if choice first) here
+
+  -- nothing changes
+  still : (choice : desk.Choice (language db)) → rowed choice ≡ desk.stays (desk.Known (undecided_of db u)) → new ≡ u → step.letters.items ≡ [] → step.reply ≡ None → IsIn db (standing.Undecided u) → Does db txn new step rowed
+  still choice same is none quiet within = record {
+    choice = choice;
+    step = step_as db txn new step (rowed choice) (desk.stays (desk.Known (undecided_of db u))) same (record { stands = ap (λ x. desk.Known (undecided_of db x)) is; letters = ap (map (sent db)) none; replies = ap (told_to (txn_name txn)) quiet });
+    explained = subst (λ (turn : desk.Turn (language db)). AllExplained turn.deeds) (sym same) tt;
+    within = subst (λ x. IsIn db (standing.Undecided x)) (sym is) within;
+  }
+
+  pub rows_strange : is_first rows.ticket (spot_in site u.spots).ticket ≡ false → new ≡ u → step.letters.items ≡ [] → step.reply ≡ None → IsIn db (standing.Undecided u) → Does db txn new step rowed
+  rows_strange other is none quiet within = let choice : desk.Choice (language db) = (answer.Changed 0, []) in still choice (rowed_is choice false u.stage other refl) is none quiet within
+
+  pub rows_unread : is_reading u.stage ≡ false → new ≡ u → step.letters.items ≡ [] → step.reply ≡ None → IsIn db (standing.Undecided u) → Does db txn new step rowed
+  rows_unread other is none quiet within = let choice : desk.Choice (language db) = (answer.Changed 0, []) in still choice (go choice (is_first rows.ticket (spot_in site u.spots).ticket) refl ∙ refl) is none quiet within
+    where
+      stays_at : (choice : desk.Choice (language db)) (st : Stage) → is_reading st ≡ false → rowed_if choice true st ≡ desk.stays (desk.Known (undecided_of db u))
+      stays_at choice stage.Idle e = refl
+      stays_at choice (stage.Reading reading) e = cc
+      stays_at choice (stage.Writing writing) e = refl
+      stays_at choice stage.Voting e = refl
+
+      go : (choice : desk.Choice (language db)) (b : Bool) → is_first rows.ticket (spot_in site u.spots).ticket ≡ b → rowed choice ≡ desk.stays (desk.Known (undecided_of db u))
+      go choice true e = rowed_is choice true u.stage e refl ∙ stays_at choice u.stage other
+      go choice false e = rowed_is choice false u.stage e refl
+
+  -- they are put where they are waited for
+  module _ (of : IsOfCatalogue db) (unique : LeafNamesAreUnique) (reading : Reading) (here : u.stage ≡ stage.Reading reading) (first : is_first rows.ticket (spot_in site u.spots).ticket ≡ true) (known_in : IsIn db (standing.Undecided u)) where
+    abbrev given : List Ask
+    given = map (with_rows db.catalogue site rows.op rows.parts) reading.asks.items
+
+    home : AsksAtHome db reading.asks.items
+    home = subst (IsAtHome db) here known_in.1
+
+    planned : IsOfPlan db reading.statement reading.plan reading.asks.items
+    planned = subst (IsPlanned db) here known_in.2
+
+    pub planned_given : IsOfPlan db reading.statement reading.plan given
+    planned_given = same_plan db reading.statement reading.plan reading.asks.items given (rows_order db.catalogue site rows.op rows.parts reading.asks.items) planned
+
+    turn_is : (choice : desk.Choice (language db)) → rowed choice ≡ desk.rows_go {L = language db} (txn_name txn) (undecided_of db u) reading.statement (map (ask_of db) given) choice
+    turn_is choice =
+        let all = known db of unique reading.statement reading.plan reading.asks.items planned in
+        rowed_is choice true (stage.Reading reading) first here
+        ∙ ap (λ (list : List (desk.Ask (language db))). desk.rows_go {L = language db} (txn_name txn) (undecided_of db u) reading.statement list choice) (sym (rows_are db of site rows.op rows.parts all.need all.other reading.asks.items reading.plan.fetches.items planned.in_order all.each home))
+
+    abbrev go_if : desk.Choice (language db) → Bool → desk.Turn (language db)
+    go_if choice b = if b then desk.works {L = language db} (txn_name txn) (undecided_of db u) reading.statement (map (ask_of db) given) choice else desk.stays (desk.Known (record (undecided_of db u) { stage = desk.Reading reading.statement (map (ask_of db) given) }))
+
+    pub rows_wait : are_in given ≡ false → (after : Reading) → after.statement ≡ reading.statement → after.plan ≡ reading.plan → after.asks.items ≡ given → new.spots ≡ u.spots → new.stage ≡ stage.Reading after → step.letters.items ≡ [] → step.reply ≡ None → Does db txn new step rowed
+    rows_wait more after statement plan items spots now none quiet =
+        let choice : desk.Choice (language db) = (answer.Changed 0, []) in
+        let same : rowed choice ≡ go_if choice false = turn_is choice ∙ ap (go_if choice) (all_in db given ∙ more) in
+        record {
+          choice = choice;
+          step = step_as db txn new step (rowed choice) (go_if choice false) same (record {
+            stands = λ i. desk.Known (record (undecided_of db (record { spots = spots i; stage = u.stage })) { stage = (ap (stage_of db new.spots) now ∙ (λ j. desk.Reading (statement j) (map (ask_of db) (items j)))) i });
+            letters = ap (map (sent db)) none;
+            replies = ap (told_to (txn_name txn)) quiet;
+          });
+          explained = subst (λ (turn : desk.Turn (language db)). AllExplained turn.deeds) (sym same) tt;
+          within = (
+            ap sites_of spots ∙ known_in.0,
+            subst (IsAtHome db) (sym now) (subst (AsksAtHome db) (sym items) (rows_home db.catalogue site rows.op rows.parts db reading.asks.items home)),
+            subst (IsPlanned db) (sym now) (subst (λ s. IsOfPlan db s after.plan after.asks.items) (sym statement) (subst (λ p. IsOfPlan db reading.statement p after.asks.items) (sym plan) (subst (IsOfPlan db reading.statement reading.plan) (sym items) planned_given))),
+          );
+        }
+
+    pub rows_work : are_in given ≡ true → (told : Answer) (unsent : List Unsent) → Explained {L = language db} (desk.Worked (txn_name txn) reading.statement (map (ask_of db) given) (told, map write_of unsent)) →
+        IsStep db txn new step (desk.works (txn_name txn) (undecided_of db u) reading.statement (map (ask_of db) given) (told, map write_of unsent)) → IsIn db (standing.Undecided new) → Does db txn new step rowed
+    rows_work all told unsent why is within =
+        let choice : desk.Choice (language db) = (told, map write_of unsent) in
+        let same : rowed choice ≡ go_if choice true = turn_is choice ∙ ap (go_if choice) (all_in db given ∙ all) in
+        record {
+          choice = choice;
+          step = step_as db txn new step (rowed choice) (go_if choice true) same is;
+          explained = subst (λ (turn : desk.Turn (language db)). AllExplained turn.deeds) (sym same) (why, writes_explained (language db) (txn_name txn) (desk.visits (undecided_of db u) (map (λ w. w.0) choice.1)) told choice.1);
+          within = within;
+        }
