@@ -1,5 +1,5 @@
 -- A statement that is stated, and one that goes on, is the protocol's, and its evaluation is explained.
-use Rattle.std.proofs.Common.{◌≡◌, refl, sym, ap, ◌∙◌, subst, ℕ, Bool, true, false, List, [], ◌∷◌, map, Option, Some, None, if◌then◌else◌}
+use Rattle.std.proofs.Common.{nat_eq, length, Result, Ok, Err, IfOk, ◌≡◌, refl, sym, ap, ◌∙◌, subst, ℕ, Bool, true, false, List, [], ◌∷◌, map, Option, Some, None, if◌then◌else◌}
 use Rattle.std.specs.Option.{option_map}
 use Rattle.meaning.specs.declared.answer.Answer.{Answer}
 use Rattle.meaning.specs.declared.answer.Answer.TheVariants as answer
@@ -15,6 +15,12 @@ use Rattle.protocol.specs.Language.{Lang, Name}
 use Rattle.protocol.specs.Letter as letter
 use Rattle.protocol.specs.Letters.{name_of, txn_name}
 use Rattle.protocol.specs.Serial.{AllExplained, Explained}
+use Rattle.std.specs.BTreeMap.{is_at as is_key}
+use Rattle.std.specs.Map.{set_value}
+use Rattle.std.specs.Result.{OnOk}
+use Rattle.store.specs.DeskContent.{DeskContent}
+use Rattle.store.specs.Name.{txn_cmp}
+use Rattle.desk.specs.declared.present.Present.{Present}
 use Rattle.desk.specs.declared.ask.Ask.{Ask}
 use Rattle.desk.specs.declared.standing.Standing.TheVariants as standing
 use Rattle.desk.specs.declared.stepping.Step.{Step}
@@ -26,13 +32,13 @@ use Rattle.desk.specs.declared.undecided.Unsent.{Unsent}
 use Rattle.desk.specs.Ballots.{is_first}
 use Rattle.desk.specs.Brought.{are_in, with_rows}
 use Rattle.desk.specs.Database.{Database, language, replied, sent}
-use Rattle.desk.specs.Does.{Does}
+use Rattle.desk.specs.Does.{Does, GoesOn}
 use Rattle.desk.specs.OfCatalogue.{IsOfCatalogue}
 use Rattle.desk.specs.Planned.{IsOfPlan, IsPlanned, ask_from}
-use Rattle.desk.specs.Sending.{AsksAtHome}
+use Rattle.desk.specs.Sending.{AreShort, AsksAtHome}
 use Rattle.desk.specs.Spots.{sites_of, spot_in}
-use Rattle.desk.specs.Standing.{ask_of, stage_of, undecided_of, write_of}
-use Rattle.desk.specs.State.{IsIn}
+use Rattle.desk.specs.Standing.{ask_of, stage_of, txn_of, undecided_of, write_of}
+use Rattle.desk.specs.State.{Fits, IsIn, Table, table_from, table_of}
 use Rattle.desk.specs.Stepped.{IsAtHome, IsStep, is_reading, ticketed}
 use Rattle.desk.specs.Turn.{told_to}
 use Rattle.desk.proofs.Asked.{rows_home, rows_order}
@@ -41,6 +47,7 @@ use Rattle.desk.proofs.Within.{same_plan}
 use Rattle.desk.proofs.Counted.{named_is}
 use Rattle.desk.proofs.Explaining.{known}
 use Rattle.desk.proofs.Rowed.{all_in, rows_are}
+use Rattle.desk.proofs.Short.{of_short}
 use Rattle.catalog.specs.Laws.{LeafNamesAreUnique}
 
 -- what a statement's writes do needs no explanation
@@ -206,3 +213,50 @@ module _ (db : Database) (txn : Txn) (u new : Undecided) (site : List ℕ) (rows
           explained = subst (λ (turn : desk.Turn (language db)). AllExplained turn.deeds) (sym same) (why, writes_explained (language db) (txn_name txn) (desk.visits (undecided_of db u) (map (λ w. w.0) choice.1)) told choice.1);
           within = within;
         }
+
+-- ---- where a call may fail
+module _ (db : Database) (of : IsOfCatalogue db) (txn : Txn) (u new : Undecided) (idle : u.stage ≡ stage.Idle) (stated : Statement) (plan : Reduced) (list : List Ask) (of_plan : IsOfPlan db stated plan list) (same : list ≡ map (ask_from db.catalogue) plan.fetches.items) {E : Type 0} (result : Result Step E) (within : OnOk result (IsIn db (standing.Undecided new))) where
+  planned_so : IsOfPlan db stated plan (map (ask_from db.catalogue) plan.fetches.items)
+  planned_so = subst (IsOfPlan db stated plan) same of_plan
+
+  pub works_once : list ≡ [] → (told : Answer) (unsent : List Unsent) → Explained {L = language db} (desk.Worked (txn_name txn) stated (map (ask_of db) list) (told, map write_of unsent)) →
+      ((others : List (desk.Ask (language db))) → IfOk result (λ step. IsStep db txn new step (desk.works (txn_name txn) (undecided_of db u) stated others (told, map write_of unsent)))) → IfOk result (λ step. Does db txn new step (λ choice. desk.on_request (txn_name txn) choice (desk.State stated) (desk.Known (undecided_of db u))))
+  works_once none told unsent why is = go result within is
+    where
+      go : (result : Result Step E) → OnOk result (IsIn db (standing.Undecided new)) → ((others : List (desk.Ask (language db))) → IfOk result (λ step. IsStep db txn new step (desk.works (txn_name txn) (undecided_of db u) stated others (told, map write_of unsent)))) → IfOk result (λ step. Does db txn new step (λ choice. desk.on_request (txn_name txn) choice (desk.State stated) (desk.Known (undecided_of db u))))
+      go (Ok step) within is = states_works db of txn u new idle stated plan planned_so step (sym same ∙ none) told unsent (subst (λ (l : List Ask). Explained {L = language db} (desk.Worked (txn_name txn) stated (map (ask_of db) l) (told, map write_of unsent))) same why) is within
+      go (Err e) within is = tt
+
+  pub reads_on : nat_eq (length list) 0 ≡ false → ((choice : desk.Choice (language db)) (first : Ask) (rest : List Ask) → list ≡ first ∷ rest → IfOk result (λ step. IsStep db txn new step (desk.states (txn_name txn) (undecided_of db u) stated (map (ask_of db) list) choice))) →
+      IfOk result (λ step. Does db txn new step (λ choice. desk.on_request (txn_name txn) choice (desk.State stated) (desk.Known (undecided_of db u))))
+  reads_on some is = at list refl result within is
+    where
+      at : (l : List Ask) → list ≡ l → (result : Result Step E) → OnOk result (IsIn db (standing.Undecided new)) → ((choice : desk.Choice (language db)) (first : Ask) (rest : List Ask) → list ≡ first ∷ rest → IfOk result (λ step. IsStep db txn new step (desk.states (txn_name txn) (undecided_of db u) stated (map (ask_of db) list) choice))) →
+          IfOk result (λ step. Does db txn new step (λ choice. desk.on_request (txn_name txn) choice (desk.State stated) (desk.Known (undecided_of db u))))
+      at [] e result within is = let f : true ≡ false = sym (ap (λ (l : List Ask). nat_eq (length l) 0) e) ∙ some in cc
+      at (first ∷ rest) e (Ok step) within is = states_reads db of txn u new idle stated plan planned_so step first rest (sym same ∙ e)
+          (λ choice. subst (λ (l : List Ask). IsStep db txn new step (desk.states (txn_name txn) (undecided_of db u) stated (map (ask_of db) l) choice)) same (is choice first rest e)) within
+      at (first ∷ rest) e (Err x) within is = tt
+
+-- rows that complete a statement
+pub works_rows : (db : Database) (txn : Txn) (u new : Undecided) (site : List ℕ) (rows : Rows) (of : IsOfCatalogue db) (unique : LeafNamesAreUnique) (reading : Reading) → u.stage ≡ stage.Reading reading → is_first rows.ticket (spot_in site u.spots).ticket ≡ true → IsIn db (standing.Undecided u) →
+    (list : List Ask) → list ≡ map (with_rows db.catalogue site rows.op rows.parts) reading.asks.items → are_in list ≡ true → (told : Answer) (unsent : List Unsent) → Explained {L = language db} (desk.Worked (txn_name txn) reading.statement (map (ask_of db) list) (told, map write_of unsent)) →
+    {E : Type 0} (result : Result Step E) → IfOk result (λ step. IsStep db txn new step (desk.works (txn_name txn) (undecided_of db u) reading.statement (map (ask_of db) list) (told, map write_of unsent))) → OnOk result (IsIn db (standing.Undecided new)) →
+    IfOk result (λ step. Does db txn new step (λ choice. desk.on_known {L = language db} (txn_name txn) (undecided_of db u) site true choice (replied db (replies.Rows rows))))
+works_rows db txn u new site rows of unique reading here first known_in list same all told unsent why (Err e) is within = tt
+works_rows db txn u new site rows of unique reading here first known_in list same all told unsent why (Ok step) is within =
+    rows_work db txn u new site rows step of unique reading here first known_in (sym (ap are_in same) ∙ all) told unsent
+    (subst (λ (l : List Ask). Explained {L = language db} (desk.Worked (txn_name txn) reading.statement (map (ask_of db) l) (told, map write_of unsent))) same why)
+    (subst (λ (l : List Ask). IsStep db txn new step (desk.works (txn_name txn) (undecided_of db u) reading.statement (map (ask_of db) l) (told, map write_of unsent))) same is) within
+
+-- ---- the state in memory
+pub goes_so : (db : Database) (kept : DeskContent) (old : Present) (after : Table) (txn : Txn) (u new : Undecided) → Fits db kept (table_of old) → (table_of old).standing txn ≡ Some (standing.Undecided u) → AreShort new.spots →
+    after ≡ table_from (set_value (is_key (txn_cmp txn)) old.standings.entries (standing.Undecided new)) old.undecided old.life old.number → (step : Step) (turn : desk.Choice (language db) → desk.Txn (language db) → desk.Turn (language db)) →
+    Does db txn new step (λ choice. turn choice (desk.Known (undecided_of db u))) → GoesOn db old after txn step (λ choice. turn choice (txn_of db ((table_of old).standing txn)))
+goes_so db kept old after txn u new fits here short moved step turn does =
+    subst (λ o. GoesOn db old after txn step (λ choice. turn choice (txn_of db o))) (sym here) (record {
+      new = new;
+      moved = moved;
+      does = does;
+      short = ap desk.is_short_txn (sym does.step.stands) ∙ of_short new.spots short db.sites;
+    })

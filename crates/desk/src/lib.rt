@@ -31,6 +31,7 @@ mod opening;
 mod orders;
 mod present;
 mod planned;
+mod receiving;
 pub mod refusal;
 pub mod reply;
 mod sending;

@@ -28,6 +28,7 @@ ghost use Rattle.desk.specs.Standing.{undecided_of};
 ghost use Rattle.desk.specs.State.{Fits, table_of};
 ghost use Rattle.desk.specs.Turn.{AreSpots};
 
+use crate::ask::Ask;
 use crate::calls::open;
 use crate::evaluating::{Worked, evaluate};
 use crate::homes::asks_of;
@@ -51,7 +52,28 @@ use std::alloc::Global;
 use store::name::Txn;
 use terms::seq::Seq;
 
-/// An idle transaction has a statement done. One without fetches is evaluated at once.
+/// A statement without fetches is evaluated at once.
+fn at_once(
+    alloc: Global,
+    catalog: &Catalog,
+    txn: Txn,
+    undecided: &mut Undecided,
+    statement: &Statement,
+    plan: &Planned,
+    asks: &[Ask],
+) -> Result<Step, Refusal>
+    ensures does { (db : Database) → IsOfCatalogue db → db.catalogue ≡ catalogue_of catalog.now → AreSpots db undecided.old.spots → undecided.old.stage ≡ stages.Idle
+        → IsOfPlan db statement.now plan.now asks.now → asks.now ≡ map (ask_from db.catalogue) plan.now.fetches.items → asks.now ≡ []
+        → IfOk result (λ step. Does db txn undecided.new step (λ choice. on_request (txn_name txn) choice (State statement.now) (Known (undecided_of db undecided.old)))) }
+    ensures short { AreShort undecided.old.spots → OnOk result (AreShort undecided.new.spots) }
+    ensures same { OnErr result (undecided.new ≡ undecided.old) }
+{
+    let worked = evaluate(alloc, catalog, statement, plan, asks)?;
+    let Worked { answer, unsent } = worked;
+    works(alloc, txn, undecided, answer, unsent)
+}
+
+/// An idle transaction has a statement done.
 fn states(
     alloc: Global,
     catalog: &Catalog,
@@ -59,18 +81,17 @@ fn states(
     undecided: &mut Undecided,
     statement: Statement,
     plan: Planned,
+    asks: Vec<Ask>,
 ) -> Result<Step, Refusal>
     ensures does { (db : Database) → IsOfCatalogue db → db.catalogue ≡ catalogue_of catalog.now → AreSpots db undecided.old.spots → undecided.old.stage ≡ stages.Idle
-        → IsOfPlan db statement plan (map (ask_from db.catalogue) plan.fetches.items)
+        → IsOfPlan db statement plan asks.items → asks.items ≡ map (ask_from db.catalogue) plan.fetches.items
         → IfOk result (λ step. Does db txn undecided.new step (λ choice. on_request (txn_name txn) choice (State statement) (Known (undecided_of db undecided.old)))) }
     ensures short { AreShort undecided.old.spots → OnOk result (AreShort undecided.new.spots) }
     ensures same { OnErr result (undecided.new ≡ undecided.old) }
 {
-    let asks = asks_of(alloc, catalog, fetches(plan.reduced()))?;
     if asks.is_empty() {
-        let worked = evaluate(alloc, catalog, &statement, &plan, asks.as_slice())?;
-        let Worked { answer, unsent } = worked;
-        return works(alloc, txn, undecided, answer, unsent);
+        let none = asks.as_slice();
+        return at_once(alloc, catalog, txn, undecided, &statement, &plan, none);
     }
     reads(alloc, txn, undecided, statement, plan, asks)
 }
@@ -82,9 +103,10 @@ fn stated(
     txn: Txn,
     statement: Statement,
     plan: Planned,
+    asks: Vec<Ask>,
 ) -> Result<Step, Refusal>
     ensures goes { (db : Database) (kept : DeskContent) (old : UndecidedNow) → IsOfCatalogue db → db.catalogue ≡ catalogue_of catalog.now → Fits db kept (table_of present.old)
-        → (table_of present.old).standing txn ≡ Some (standings.Undecided old) → old.stage ≡ stages.Idle → IsOfPlan db statement plan (map (ask_from db.catalogue) plan.fetches.items)
+        → (table_of present.old).standing txn ≡ Some (standings.Undecided old) → old.stage ≡ stages.Idle → IsOfPlan db statement plan asks.items → asks.items ≡ map (ask_from db.catalogue) plan.fetches.items
         → IfOk result (λ step. GoesOn db present.old (table_of present.new) txn step (λ choice. on_request (txn_name txn) choice (State statement) (txn_in db (table_of present.old) txn))) }
     ensures err { OnErr result (table_of present.new ≡ table_of present.old) }
     ensures ordered { IsOrdered txn_cmp present.old.standings }
@@ -93,7 +115,7 @@ fn stated(
     let _count = present.standings.len();
     match present.standings.get_mut(&txn) {
         Some(Standing::Undecided(undecided)) => {
-            states(alloc, catalog, txn, undecided, statement, plan)
+            states(alloc, catalog, txn, undecided, statement, plan, asks)
         }
         _ => Err(Refusal::NoTransaction),
     }
@@ -172,6 +194,7 @@ pub(crate) fn call_statement(
     may_state(present, &txn)?;
     let statement = statement_of(present.alloc, catalog, text)?;
     let plan = Planned::new(present.alloc, catalog, &statement)?;
-    let step = stated(present, catalog, txn, statement, plan)?;
+    let asks = asks_of(present.alloc, catalog, fetches(plan.reduced()))?;
+    let step = stated(present, catalog, txn, statement, plan, asks)?;
     Ok(put_out(room, txn, step))
 }

@@ -44,7 +44,7 @@ struct Written {
 }
 
 /// Nothing goes out.
-fn nothing(alloc: Global) -> Step
+pub(crate) fn nothing(alloc: Global) -> Step
     ensures letters { result.letters.items ≡ [] }
     ensures reply { result.reply ≡ None }
 {
