@@ -1,5 +1,5 @@
 -- A statement that is stated, and one that goes on, is the protocol's, and its evaluation is explained.
-use Rattle.std.proofs.Common.{nat_eq, length, Result, Ok, Err, IfOk, ◌≡◌, refl, sym, ap, ◌∙◌, subst, ℕ, Bool, true, false, List, [], ◌∷◌, map, Option, Some, None, if◌then◌else◌}
+use Rattle.std.proofs.Common.{arith, suc, nat_eq, nat_lt, ◌^◌, length, Result, Ok, Err, IfOk, ◌≡◌, refl, sym, ap, ◌∙◌, subst, ℕ, Bool, true, false, List, [], ◌∷◌, map, Option, Some, None, if◌then◌else◌}
 use Rattle.std.specs.Option.{option_map}
 use Rattle.meaning.specs.declared.answer.Answer.{Answer}
 use Rattle.meaning.specs.declared.answer.Answer.TheVariants as answer
@@ -16,8 +16,9 @@ use Rattle.protocol.specs.Letter as letter
 use Rattle.protocol.specs.Letters.{name_of, txn_name}
 use Rattle.protocol.specs.Serial.{AllExplained, Explained}
 use Rattle.std.specs.BTreeMap.{is_at as is_key}
-use Rattle.std.specs.Map.{set_value}
-use Rattle.std.specs.Result.{OnOk}
+use Rattle.std.specs.Map.{keys_of, set_value}
+use Rattle.std.specs.Result.{OnErr, OnOk}
+use Rattle.std.proofs.lemmas.Map.Steps.{set_value_same}
 use Rattle.store.specs.DeskContent.{DeskContent}
 use Rattle.store.specs.Name.{txn_cmp}
 use Rattle.desk.specs.declared.present.Present.{Present}
@@ -32,23 +33,41 @@ use Rattle.desk.specs.declared.undecided.Unsent.{Unsent}
 use Rattle.desk.specs.Ballots.{is_first}
 use Rattle.desk.specs.Brought.{are_in, with_rows}
 use Rattle.desk.specs.Database.{Database, language, replied, sent}
-use Rattle.desk.specs.Does.{Does, GoesOn}
+use Rattle.desk.specs.Does.{Does, DoesIn, GoesOn, IsShort, Takes}
 use Rattle.desk.specs.OfCatalogue.{IsOfCatalogue}
-use Rattle.desk.specs.Planned.{IsOfPlan, IsPlanned, ask_from}
+use Rattle.desk.specs.Planned.{IsOfPlan, IsPlanned, ask_from, asked}
 use Rattle.desk.specs.Sending.{AreShort, AsksAtHome}
 use Rattle.desk.specs.Spots.{sites_of, spot_in}
 use Rattle.desk.specs.Standing.{ask_of, stage_of, txn_of, undecided_of, write_of}
-use Rattle.desk.specs.State.{Fits, IsIn, Table, table_from, table_of}
+use Rattle.desk.specs.State.{Fits, IsIn, Steps, Table, table_from, table_of}
 use Rattle.desk.specs.Stepped.{IsAtHome, IsStep, is_reading, ticketed}
-use Rattle.desk.specs.Turn.{told_to}
+use Rattle.desk.specs.Stating.{ask_sites}
+use Rattle.desk.specs.Turn.{AreSpots, told_to}
+use Rattle.desk.specs.Opening.{HaveSpots}
+use Rattle.desk.specs.Calls.{notices, open_in}
+use Rattle.desk.proofs.Making.{goes_on}
 use Rattle.desk.proofs.Asked.{rows_home, rows_order}
-use Rattle.desk.proofs.AtHomes.{asks_fresh}
+use Rattle.desk.proofs.AtHomes.{asks_fresh, asks_home, asks_order, asks_spots}
 use Rattle.desk.proofs.Within.{same_plan}
 use Rattle.desk.proofs.Counted.{named_is}
 use Rattle.desk.proofs.Explaining.{known}
 use Rattle.desk.proofs.Rowed.{all_in, rows_are}
-use Rattle.desk.proofs.Short.{of_short}
+use Rattle.desk.proofs.Short.{of_short, short_of}
+use Rattle.catalog.specs.Catalogue.{Catalogue}
+use Rattle.catalog.specs.FragmentLeaf.{schemas_of}
 use Rattle.catalog.specs.Laws.{LeafNamesAreUnique}
+use Rattle.meaning.specs.declared.schema.RelationSchema.{RelationSchema}
+use Rattle.meaning.specs.Statement.{IsStatementOf}
+use Rattle.plan.specs.Reduced.{FindsAll}
+use Rattle.plan.specs.Shape.{shape}
+use Rattle.plan.specs.Stated.{AreFetchesOf}
+use Rattle.reader.specs.Printable.{AreDistinct}
+use Rattle.std.specs.List.{list_all}
+use Rattle.std.specs.List.Sorted.{IsStrictlySortedBy}
+use Rattle.store.specs.declared.letter.Letter.{Letter}
+use Rattle.desk.specs.declared.reply.Notice.{Notice}
+use Rattle.desk.specs.declared.spot.Spot.{Spot}
+use Rattle.desk.specs.declared.standing.Standing.{Standing}
 
 -- what a statement's writes do needs no explanation
 writing_explained : (L : Lang) (t : Name) (u : desk.Undecided L) (told : L.Answer) (sent : L.Site → ℕ) (left : List (L.Leaf × L.Write)) (letters : List (letter.Letter L)) → AllExplained (desk.writing t u told sent left letters).deeds
@@ -260,3 +279,80 @@ goes_so db kept old after txn u new fits here short moved step turn does =
       does = does;
       short = ap desk.is_short_txn (sym does.step.stands) ∙ of_short new.spots short db.sites;
     })
+
+pub goes_ok : (db : Database) (kept : DeskContent) (old : Present) (after : Table) (txn : Txn) (u : Undecided) (now : Standing) → Fits db kept (table_of old) → (table_of old).standing txn ≡ Some (standing.Undecided u) →
+    after ≡ table_from (set_value (is_key (txn_cmp txn)) old.standings.entries now) old.undecided old.life old.number → (turn : desk.Choice (language db) → desk.Txn (language db) → desk.Turn (language db)) → {E : Type 0} (result : Result Step E) →
+    OnOk result (IsShort now) → IfOk result (λ step. DoesIn db txn now step (λ choice. turn choice (desk.Known (undecided_of db u)))) → IfOk result (λ step. GoesOn db old after txn step (λ choice. turn choice (txn_of db ((table_of old).standing txn))))
+goes_ok db kept old after txn u now fits here moved turn (Err e) short does = tt
+goes_ok db kept old after txn u (standing.Undecided new) fits here moved turn (Ok step) short does = goes_so db kept old after txn u new fits here short moved step turn does
+goes_ok db kept old after txn u (standing.Committed c) fits here moved turn (Ok step) short does = absurd (does)
+
+-- nothing has changed where what stands there is the same
+pub same_table : (old : Present) (after : Table) (txn : Txn) (was now : Standing) → (table_of old).standing txn ≡ Some was → after ≡ table_from (set_value (is_key (txn_cmp txn)) old.standings.entries now) old.undecided old.life old.number → now ≡ was → after ≡ table_of old
+same_table old after txn was now here moved same =
+    moved ∙ ap (λ x. table_from (set_value (is_key (txn_cmp txn)) old.standings.entries x) old.undecided old.life old.number) same
+    ∙ ap (λ es. table_from es old.undecided old.life old.number) (set_value_same (is_key (txn_cmp txn)) old.standings.entries was here)
+
+pub same_ok : (old : Present) (after : Table) (txn : Txn) (was now : Standing) → (table_of old).standing txn ≡ Some was → after ≡ table_from (set_value (is_key (txn_cmp txn)) old.standings.entries now) old.undecided old.life old.number → {A E : Type 0} (result : Result A E) → OnErr result (now ≡ was) → OnErr result (after ≡ table_of old)
+same_ok old after txn was now here moved (Ok x) same = tt
+same_ok old after txn was now here moved (Err e) same = same_table old after txn was now here moved same
+
+pub empty_is : {A : Type 0} (list : List A) → nat_eq (length list) 0 ≡ true → list ≡ []
+empty_is [] e = refl
+empty_is (x ∷ list) e = let f : false ≡ true = sym (more (length list)) ∙ e in cc
+  where
+    more : (n : ℕ) → nat_eq (suc n) 0 ≡ false
+    more n = grind (arith)
+
+-- ---- what is known of a transaction in memory
+module _ (db : Database) (kept : DeskContent) (table : Table) (fits : Fits db kept table) (txn : Txn) (u : Undecided) (here : table.standing txn ≡ Some (standing.Undecided u)) where
+  pub known_there : IsIn db (standing.Undecided u)
+  known_there = fits.sites txn (standing.Undecided u) here
+
+  pub short_there : AreShort u.spots
+  short_there = short_of u.spots (ap (list_all (λ a. nat_lt (spot_in a u.spots).sent (2 ^ 63))) known_there.0 ∙ sym (ap (λ o. desk.is_short_txn (txn_of db o)) here) ∙ fits.short txn)
+
+  pub spots_there : IsOfCatalogue db → AreSpots db u.spots
+  spots_there of = record { sites = known_there.0; distinct = subst AreDistinct (sym (known_there.0 ∙ of.sites)) of.formed.distinct }
+
+-- ---- a plan that is made
+pub plan_made : (db : Database) → IsOfCatalogue db → (catalogue : Catalogue) → db.catalogue ≡ catalogue → (stated : Statement) (plan : Reduced) (asks : List Ask) → IsStatementOf (schemas_of catalogue) stated → AreFetchesOf catalogue stated plan.fetches.items → FindsAll catalogue stated plan.fetches.items (shape plan.plan) →
+    asks ≡ map (ask_from catalogue) plan.fetches.items → IsOfPlan db stated plan asks
+plan_made db of catalogue same stated plan those is are finds list = record {
+  statement = subst (λ (ss : List RelationSchema). IsStatementOf ss stated) (sym (of.schemas ∙ ap schemas_of same)) is;
+  fetches = subst (λ cat. AreFetchesOf cat stated plan.fetches.items) (sym same) are;
+  finds = subst (λ cat. FindsAll cat stated plan.fetches.items (shape plan.plan)) (sym same) finds;
+  in_order = ap (map asked) (list ∙ ap (λ cat. map (ask_from cat) plan.fetches.items) (sym same)) ∙ asks_order db plan.fetches.items;
+}
+
+module _ (db : Database) (of : IsOfCatalogue db) (unique : LeafNamesAreUnique) (stated : Statement) (plan : Reduced) (list : List Ask) (of_plan : IsOfPlan db stated plan list) (same : list ≡ map (ask_from db.catalogue) plan.fetches.items) where
+  pub ready_home : AsksAtHome db list
+  ready_home = let all = known db of unique stated plan list of_plan in subst (AsksAtHome db) (sym same) (asks_home db of all.need all.other plan.fetches.items all.each)
+
+  pub ready_spots : (spots : List Spot) → sites_of spots ≡ db.sites → HaveSpots spots (ask_sites list)
+  ready_spots spots those = let all = known db of unique stated plan list of_plan in subst (λ (l : List Ask). HaveSpots spots (ask_sites l)) (sym same) (asks_spots db of spots those all.need all.other plan.fetches.items all.each)
+
+-- ---- an idle transaction
+pub idle_there : (o : Option Standing) → option_map (λ found. found.stage) (open_in o) ≡ Some stage.Idle → (u : Undecided) × (o ≡ Some (standing.Undecided u)) × (u.stage ≡ stage.Idle)
+idle_there None e = cc
+idle_there (Some (standing.Undecided u)) e = (u, refl, cc)
+idle_there (Some (standing.Committed c)) e = cc
+
+pub undecided_is : {u v : Undecided} → standing.Undecided u ≡ standing.Undecided v → u ≡ v
+undecided_is e = cc
+
+pub some_standing : {s r : Standing} → Some s ≡ Some r → s ≡ r
+some_standing e = cc
+
+pub standing_is : {u v : Undecided} → Some (standing.Undecided u) ≡ Some (standing.Undecided v) → u ≡ v
+standing_is e = cc
+
+-- ---- the call
+module _ (db : Database) (kept : DeskContent) (present : Present) (sorted : IsStrictlySortedBy txn_cmp (keys_of present.standings.entries)) (fits : Fits db kept (table_of present)) (txn : Txn) (u : Undecided) (here : (table_of present).standing txn ≡ Some (standing.Undecided u))
+    (wanted : desk.Choice (language db) → desk.Turn (language db)) (after : Table) (step : Step) (goes : GoesOn db present after txn step wanted) (written : List Letter) (heard : List Notice) (letters : written ≡ step.letters.items) (replies : heard ≡ notices txn step.reply) where
+  pub steps_on : Steps db (table_of present) kept after txn (wanted goes.does.choice) written heard
+  steps_on =
+      goes_on db kept present sorted fits txn u goes.new here (wanted goes.does.choice) step.letters step.reply goes.does.step.stands goes.does.step.letters goes.does.step.replies goes.does.within goes.short after goes.moved written heard letters replies
+
+  pub takes_on : Takes db (table_of present) kept after txn wanted written heard
+  takes_on = record { choice = goes.does.choice; steps = steps_on; explained = goes.does.explained }

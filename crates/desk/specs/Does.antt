@@ -22,11 +22,13 @@ use Rattle.desk.specs.declared.present.Present.{Present}
 use Rattle.desk.specs.declared.refusal.Refusal as refusals
 use Rattle.desk.specs.declared.refusal.Refusal.TheVariants as refusal
 use Rattle.desk.specs.declared.reply.Notice.{Notice}
+use Rattle.desk.specs.declared.standing.Standing.{Standing}
 use Rattle.desk.specs.declared.standing.Standing.TheVariants as standing
 use Rattle.desk.specs.declared.stepping.Step.{Step}
 use Rattle.desk.specs.declared.undecided.Undecided.{Undecided}
 use Rattle.desk.specs.Calls.{txn_in}
 use Rattle.desk.specs.Database.{Database, language}
+use Rattle.desk.specs.Sending.{AreShort}
 use Rattle.desk.specs.State.{IsIn, Steps, Table, desk_of, table_from}
 use Rattle.desk.specs.Stepped.{IsStep}
 
@@ -36,6 +38,16 @@ pub record Does (db : Database) (txn : Txn) (new : Undecided) (made : Step) (wan
   pub step : IsStep db txn new made (wanted choice)
   pub explained : AllExplained (wanted choice).deeds
   pub within : IsIn db (standing.Undecided new)
+
+-- so of what stands behind a transaction
+abbrev pub DoesIn : (db : Database) → Txn → Standing → Step → (protocol.Choice (language db) → protocol.Turn (language db)) → Type 0
+DoesIn db txn (standing.Undecided new) made wanted = Does db txn new made wanted
+DoesIn db txn (standing.Committed committed) made wanted = ⊥
+
+-- an undecided transaction's counts are below the limit
+abbrev pub IsShort : Standing → Type 0
+IsShort (standing.Undecided undecided) = AreShort undecided.spots
+IsShort (standing.Committed committed) = Unit {0}
 
 -- a turn is past the limits, for one answer and its writes that are explained
 pub record IsTooMuch (db : Database) (wanted : protocol.Choice (language db) → protocol.Turn (language db)) : Type 0 where

@@ -15,7 +15,7 @@ ghost use Rattle.desk.specs.declared.standing.Standing.TheVariants as standings;
 ghost use Rattle.desk.specs.declared.undecided.Undecided.{Undecided as UndecidedNow};
 ghost use Rattle.desk.specs.Calls.{txn_in};
 ghost use Rattle.desk.specs.Database.{Database, language, replied};
-ghost use Rattle.desk.specs.Does.{Does, GoesOn, Takes};
+ghost use Rattle.desk.specs.Does.{Does, DoesIn, GoesOn, IsShort, Takes};
 ghost use Rattle.desk.specs.OfCatalogue.{IsOfCatalogue};
 ghost use Rattle.desk.specs.Sending.{AreShort};
 ghost use Rattle.desk.specs.Spots.{is_at, spot_in};
@@ -112,6 +112,27 @@ fn goes(
     }
 }
 
+/// The statement of what stands behind a transaction goes on.
+fn standing_goes(
+    alloc: Global,
+    catalog: &Catalog,
+    txn: Txn,
+    standing: &mut Standing,
+    site: &Text,
+    reply: &Reply,
+) -> Result<Step, Refusal>
+    requires { may_send (Some standing.old) site.now reply.now ≡ true }
+    ensures does { (db : Database) (old : UndecidedNow) → IsOfCatalogue db → db.catalogue ≡ catalogue_of catalog.now → standing.old ≡ standings.Undecided old → list_any (is_at site.now) old.spots ≡ true → AreSpots db old.spots → IsIn db (standings.Undecided old)
+        → IfOk result (λ step. DoesIn db txn standing.new step (λ choice. on_known (txn_name txn) (undecided_of db old) site.now true choice (replied db reply.now))) }
+    ensures short { IsShort standing.old → OnOk result (IsShort standing.new) }
+    ensures same { OnErr result (standing.new ≡ standing.old) }
+{
+    match standing {
+        Standing::Undecided(undecided) => goes(alloc, catalog, txn, undecided, site, reply),
+        Standing::Committed(_) => Err(Refusal::NoTransaction),
+    }
+}
+
 /// A statement of a transaction in memory goes on.
 fn gone_on(
     present: &mut Present,
@@ -130,10 +151,8 @@ fn gone_on(
     let alloc = present.alloc;
     let _count = present.standings.len();
     match present.standings.get_mut(&txn) {
-        Some(Standing::Undecided(undecided)) => {
-            goes(alloc, catalog, txn, undecided, site, reply)
-        }
-        _ => Err(Refusal::Memory),
+        Some(standing) => standing_goes(alloc, catalog, txn, standing, site, reply),
+        None => Err(Refusal::NoTransaction),
     }
 }
 

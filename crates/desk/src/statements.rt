@@ -20,7 +20,7 @@ ghost use Rattle.desk.specs.declared.undecided.Stage.TheVariants as stages;
 ghost use Rattle.desk.specs.declared.undecided.Undecided.{Undecided as UndecidedNow};
 ghost use Rattle.desk.specs.Calls.{notices, open_in, refused_as, txn_in};
 ghost use Rattle.desk.specs.Database.{Database, language};
-ghost use Rattle.desk.specs.Does.{Does, GoesOn, IsUnread, States};
+ghost use Rattle.desk.specs.Does.{Does, DoesIn, GoesOn, IsShort, IsUnread, States};
 ghost use Rattle.desk.specs.OfCatalogue.{IsOfCatalogue};
 ghost use Rattle.desk.specs.Planned.{IsOfPlan, ask_from};
 ghost use Rattle.desk.specs.Sending.{AreShort};
@@ -43,6 +43,7 @@ use crate::stepping::Step;
 use crate::undecided::{Stage, Undecided};
 use crate::working::works;
 use catalog::catalogue::Catalog;
+use catalog::laws::leaf_names_are_unique;
 use meaning::statement::Statement;
 use plan::reduce::fetches;
 use reader::command::Command;
@@ -89,11 +90,36 @@ fn states(
     ensures short { AreShort undecided.old.spots → OnOk result (AreShort undecided.new.spots) }
     ensures same { OnErr result (undecided.new ≡ undecided.old) }
 {
+    leaf_names_are_unique();
     if asks.is_empty() {
         let none = asks.as_slice();
         return at_once(alloc, catalog, txn, undecided, &statement, &plan, none);
     }
     reads(alloc, txn, undecided, statement, plan, asks)
+}
+
+/// What stands behind a transaction has a statement done.
+fn standing_states(
+    alloc: Global,
+    catalog: &Catalog,
+    txn: Txn,
+    standing: &mut Standing,
+    statement: Statement,
+    plan: Planned,
+    asks: Vec<Ask>,
+) -> Result<Step, Refusal>
+    ensures does { (db : Database) (old : UndecidedNow) → IsOfCatalogue db → db.catalogue ≡ catalogue_of catalog.now → standing.old ≡ standings.Undecided old → AreSpots db old.spots → old.stage ≡ stages.Idle
+        → IsOfPlan db statement plan asks.items → asks.items ≡ map (ask_from db.catalogue) plan.fetches.items
+        → IfOk result (λ step. DoesIn db txn standing.new step (λ choice. on_request (txn_name txn) choice (State statement) (Known (undecided_of db old)))) }
+    ensures short { IsShort standing.old → OnOk result (IsShort standing.new) }
+    ensures same { OnErr result (standing.new ≡ standing.old) }
+{
+    match standing {
+        Standing::Undecided(undecided) => {
+            states(alloc, catalog, txn, undecided, statement, plan, asks)
+        }
+        Standing::Committed(_) => Err(Refusal::NoTransaction),
+    }
 }
 
 /// A transaction in memory has a statement done.
@@ -114,17 +140,15 @@ fn stated(
     let alloc = present.alloc;
     let _count = present.standings.len();
     match present.standings.get_mut(&txn) {
-        Some(Standing::Undecided(undecided)) => {
-            states(alloc, catalog, txn, undecided, statement, plan, asks)
-        }
-        _ => Err(Refusal::NoTransaction),
+        Some(standing) => standing_states(alloc, catalog, txn, standing, statement, plan, asks),
+        None => Err(Refusal::NoTransaction),
     }
 }
 
 /// Whether a transaction may state something: it is undecided, and between two statements.
 fn may_state(present: &Present, txn: &Txn) -> Result<(), Refusal>
     ensures accepted { (db : Database) (statement : StatementNow) → OnOk result (refusal (State statement) (txn_in db (table_of present.now) txn.now) ≡ None) }
-    ensures idle { OnOk result (option_map (λ open. open.stage) (open_in ((table_of present.now).standing txn.now)) ≡ Some stages.Idle) }
+    ensures idle { OnOk result (option_map (λ found. found.stage) (open_in ((table_of present.now).standing txn.now)) ≡ Some stages.Idle) }
     ensures told { (db : Database) (statement : StatementNow) → IfErr result (λ told. option_map refused_as (refusal (State statement) (txn_in db (table_of present.now) txn.now)) ≡ Some told) }
 {
     let Some(undecided) = open(present, txn) else {
