@@ -9,7 +9,10 @@ use Rattle.plan.specs.declared.reduce.Reduced.{Reduced}
 use Rattle.store.specs.declared.name.Ticket.{Ticket}
 use Rattle.store.specs.declared.name.Txn.{Txn}
 use Rattle.store.specs.declared.reply.Reply.TheVariants as replies
+use Rattle.store.specs.declared.reply.Reply.{Reply}
 use Rattle.store.specs.declared.reply.Rows.{Rows}
+use Rattle.desk.specs.Taking.{may_send}
+use Rattle.desk.specs.Taking.{goes_on as goes_on_by}
 use Rattle.protocol.specs.Desk as desk
 use Rattle.protocol.specs.Language.{Lang, Name}
 use Rattle.protocol.specs.Letter as letter
@@ -356,3 +359,32 @@ module _ (db : Database) (kept : DeskContent) (present : Present) (sorted : IsSt
 
   pub takes_on : Takes db (table_of present) kept after txn wanted written heard
   takes_on = record { choice = goes.does.choice; steps = steps_on; explained = goes.does.explained }
+
+-- ---- letters by which a statement goes on
+pub sending_there : (o : Option Standing) (site : List ℕ) (said : Reply) → may_send o site said ≡ true → (u : Undecided) × (o ≡ Some (standing.Undecided u))
+sending_there None site said e = cc
+sending_there (Some (standing.Undecided u)) site said e = (u, refl)
+sending_there (Some (standing.Committed c)) site said e = cc
+
+pub first_none : (first : Option Ticket) (said : Reply) (ticket : Ticket) → said ≡ replies.Ticket ticket → goes_on_by first said ≡ true → first ≡ None
+first_none None said ticket is e = refl
+first_none (Some k) said ticket is e = let f : goes_on_by (Some k) (replies.Ticket ticket) ≡ true = subst (λ r. goes_on_by (Some k) r ≡ true) is e in cc
+
+pub ticket_ok : (db : Database) (txn : Txn) (u new : Undecided) (site : List ℕ) (ticket : Ticket) → (spot_in site u.spots).ticket ≡ None → {E : Type 0} (result : Result Step E) →
+    ((choice : desk.Choice (language db)) → IfOk result (λ step. IsStep db txn new step (desk.ticket_goes {L = language db} (txn_name txn) (ticketed db u site ticket) choice (stage_of db u.spots u.stage)))) → OnOk result (IsIn db (standing.Undecided new)) →
+    IfOk result (λ step. Does db txn new step (λ choice. desk.on_known {L = language db} (txn_name txn) (undecided_of db u) site true choice (replied db (replies.Ticket ticket))))
+ticket_ok db txn u new site ticket none (Err e) is within = tt
+ticket_ok db txn u new site ticket none (Ok step) is within = ticket_does db txn u new site ticket step none is within
+
+-- rows that come, with the catalogue and the fetches by other names
+module _ (db : Database) (txn : Txn) (u : Undecided) (site : List ℕ) (rows : Rows) (of : IsOfCatalogue db) (unique : LeafNamesAreUnique) (reading : Reading) (here : u.stage ≡ stage.Reading reading) (first : is_first rows.ticket (spot_in site u.spots).ticket ≡ true) (known_in : IsIn db (standing.Undecided u)) where
+  pub planned_given_by : (list : List Ask) → list ≡ map (with_rows db.catalogue site rows.op rows.parts) reading.asks.items → IsOfPlan db reading.statement reading.plan list
+  planned_given_by list same = same_plan db reading.statement reading.plan reading.asks.items list (ap (map asked) same ∙ rows_order db.catalogue site rows.op rows.parts reading.asks.items) (subst (IsPlanned db) here known_in.2)
+
+pub rows_wait_by : (db : Database) (txn : Txn) (u new : Undecided) (site : List ℕ) (rows : Rows) (of : IsOfCatalogue db) (unique : LeafNamesAreUnique) (reading : Reading) → u.stage ≡ stage.Reading reading → is_first rows.ticket (spot_in site u.spots).ticket ≡ true → IsIn db (standing.Undecided u) →
+    (catalogue : Catalogue) → db.catalogue ≡ catalogue → (list : List Ask) → list ≡ map (with_rows catalogue site rows.op rows.parts) reading.asks.items → are_in list ≡ false → (after : Reading) → after.statement ≡ reading.statement → after.plan ≡ reading.plan → after.asks.items ≡ list →
+    new.spots ≡ u.spots → new.stage ≡ stage.Reading after → (step : Step) → step.letters.items ≡ [] → step.reply ≡ None →
+    Does db txn new step (λ choice. desk.on_known {L = language db} (txn_name txn) (undecided_of db u) site true choice (replied db (replies.Rows rows)))
+rows_wait_by db txn u new site rows of unique reading here first known_in catalogue same list list_is more after statement plan items spots now step none quiet =
+    let there = list_is ∙ ap (λ cat. map (with_rows cat site rows.op rows.parts) reading.asks.items) (sym same) in
+    rows_wait db txn u new site rows step of unique reading here first known_in (sym (ap are_in there) ∙ more) after statement plan (items ∙ there) spots now none quiet

@@ -29,3 +29,4 @@ pub mod Rowed
 pub mod Short
 pub mod Within
 pub mod Doing
+pub mod Unread

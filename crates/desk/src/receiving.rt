@@ -1,6 +1,6 @@
 //! Letters of sites by which a statement goes on.
 
-ghost use Rattle.std.specs.Prelude.{◌≡◌, [], None, Some, nat_eq, true, IfOk, OnOk, OnErr};
+ghost use Rattle.std.specs.Prelude.{◌≡◌, ◌⊎◌, [], None, Some, nat_eq, true, IfOk, IfErr, OnOk, OnErr};
 ghost use Rattle.std.specs.Cmp.Lexicographic.{pointwise};
 ghost use Rattle.std.specs.BTreeMap.{IsOrdered};
 ghost use Rattle.std.specs.List.{list_any};
@@ -33,7 +33,7 @@ use crate::present::Present;
 use crate::refusal::Refusal;
 use crate::reply::Out;
 use crate::standing::Standing;
-use crate::statements::put_out;
+use crate::statements::{limited, put_out};
 use crate::stepping::{Step, nothing, ticket_goes};
 use crate::undecided::{Reading, Stage, Undecided};
 use crate::working::works;
@@ -42,6 +42,7 @@ use catalog::laws::leaf_names_are_unique;
 use std::alloc::Global;
 use store::name::Txn;
 use store::reply::{Reply, Rows};
+use terms::seq::Seq;
 use terms::text::Text;
 
 /// A statement waits on, with these fetches.
@@ -156,6 +157,19 @@ fn gone_on(
     }
 }
 
+/// Nothing is put out.
+pub(crate) fn passed_over(alloc: Global) -> Out
+    ensures letters { result.letters ≡ [] }
+    ensures replies { result.replies ≡ [] }
+    ensures kept { result.kept ≡ true }
+{
+    Out {
+        letters: Seq::new(Vec::new(alloc)),
+        replies: Seq::new(Vec::new(alloc)),
+        kept: true,
+    }
+}
+
 /// A letter of a site comes, by which a statement goes on.
 pub(crate) fn take_on(
     present: &mut Present,
@@ -165,12 +179,15 @@ pub(crate) fn take_on(
     reply: &Reply,
 ) -> Result<Out, Refusal>
     requires { may_send ((table_of present.old).standing txn) site.now reply.now ≡ true }
-    ensures ok { (db : Database) (kept : DeskContent) → IsOfCatalogue db → db.catalogue ≡ catalogue_of catalog.now → Fits db kept (table_of present.old) → list_any (pointwise nat_eq site.now) db.sites ≡ true
+    ensures ok { (db : Database) (kept : DeskContent) → IsOfCatalogue db → db.catalogue ≡ catalogue_of catalog.now → Fits db kept (table_of present.old) → list_any (λ other. pointwise nat_eq other site.now) db.sites ≡ true
         → IfOk result (λ out. Takes db (table_of present.old) kept (table_of present.new) txn (λ choice. on_desk_letter (txn_name txn) site.now true choice (replied db reply.now) (txn_in db (table_of present.old) txn)) out.letters out.replies) }
     ensures kept { IfOk result (λ out. out.kept ≡ true) }
+    ensures own { IfErr result (λ told. (told ≡ refusals.Memory) ⊎ (told ≡ refusals.Full)) }
     ensures err { OnErr result (table_of present.new ≡ table_of present.old) }
 {
     let room = room(present.alloc)?;
-    let step = gone_on(present, catalog, txn, site, reply)?;
-    Ok(put_out(room, txn, step))
+    match gone_on(present, catalog, txn, site, reply) {
+        Ok(step) => Ok(put_out(room, txn, step)),
+        Err(refusal) => Err(limited(refusal)),
+    }
 }

@@ -6,7 +6,8 @@ ghost use Rattle.std.specs.BTreeMap.{IsOrdered};
 ghost use Rattle.std.specs.Vec.{vec_capacity};
 ghost use Rattle.meaning.specs.declared.statement.Statement.{Statement as StatementNow};
 ghost use Rattle.meaning.specs.Statement.{IsStatementOf};
-ghost use Rattle.reader.specs.declared.command.Command.TheVariants.{Run};
+ghost use Rattle.reader.specs.declared.command.Command.TheVariants.{Begin, Commit, Rollback, Run};
+ghost use Rattle.reader.specs.declared.fault.Rule.TheVariants as rules;
 ghost use Rattle.reader.specs.Command.{IsTextOf};
 ghost use Rattle.catalog.specs.FragmentLeaf.{schemas_of};
 ghost use Rattle.catalog.specs.Relation.{catalogue_of};
@@ -163,8 +164,7 @@ fn may_state(present: &Present, txn: &Txn) -> Result<(), Refusal>
 
 /// What the reader says of a text.
 fn unread(fault: ReadFault) -> Refusal
-    ensures memory { fault.rule ≡ Rule.Memory → result ≡ refusals.Memory }
-    ensures fault { fault.rule ≢ Rule.Memory → result ≡ refusals.Read fault }
+    ensures { (result ≡ refusals.Memory) ⊎ ((fault.rule ≢ Rule.Memory) × (result ≡ refusals.Read fault)) }
 {
     if fault.rule() == Rule::Memory {
         Refusal::Memory
@@ -173,16 +173,39 @@ fn unread(fault: ReadFault) -> Refusal
     }
 }
 
-/// The statement of a text, under the catalogue's schema. BEGIN, COMMIT and ROLLBACK are no statements.
+/// The statement that a command runs. BEGIN, COMMIT and ROLLBACK run none.
+fn run_by(command: Command) -> Result<Statement, Refusal>
+    ensures run { IfOk result (λ statement. command ≡ Run statement) }
+    ensures none { IfErr result (λ told. (told ≡ refusals.Read (record { rule = rules.Syntax; offset = 0 })) × ((command ≡ Begin) ⊎ ((command ≡ Commit) ⊎ (command ≡ Rollback)))) }
+{
+    match command {
+        Command::Run(statement) => Ok(statement),
+        Command::Begin => Err(Refusal::Read(ReadFault::new(Rule::Syntax, 0))),
+        Command::Commit => Err(Refusal::Read(ReadFault::new(Rule::Syntax, 0))),
+        Command::Rollback => Err(Refusal::Read(ReadFault::new(Rule::Syntax, 0))),
+    }
+}
+
+/// The statement of a text, under the catalogue's schema.
 fn statement_of(alloc: Global, catalog: &Catalog, text: &str) -> Result<Statement, Refusal>
     ensures spelled { IfOk result (λ statement. IsTextOf (schemas_of (catalogue_of catalog.now)) text.now (Run statement)) }
     ensures fits { IfOk result (λ statement. IsStatementOf (schemas_of (catalogue_of catalog.now)) statement) }
     ensures told { IfErr result (λ told. (told ≡ refusals.Memory) ⊎ IsUnread (schemas_of (catalogue_of catalog.now)) text.now told) }
 {
     match read(alloc, text, catalog.schema()) {
-        Ok(Command::Run(statement)) => Ok(statement),
-        Ok(_) => Err(Refusal::Read(ReadFault::new(Rule::Syntax, 0))),
+        Ok(command) => run_by(command),
         Err(fault) => Err(unread(fault)),
+    }
+}
+
+/// Why a step of a statement could not be made: a limit is reached, or memory ran out.
+pub(crate) fn limited(refusal: Refusal) -> Refusal
+    ensures own { (result ≡ refusals.Memory) ⊎ (result ≡ refusals.Full) }
+    ensures full { result ≡ refusals.Full → refusal ≡ refusals.Full }
+{
+    match refusal {
+        Refusal::Full => Refusal::Full,
+        _ => Refusal::Memory,
     }
 }
 
@@ -213,12 +236,16 @@ pub(crate) fn call_statement(
     ensures kept { IfOk result (λ out. out.kept ≡ true) }
     ensures err { OnErr result (table_of present.new ≡ table_of present.old) }
     ensures accepted { (db : Database) (statement : StatementNow) → OnOk result (refusal (State statement) (txn_in db (table_of present.old) txn) ≡ None) }
+    ensures told { (db : Database) (statement : StatementNow) → IfErr result (λ told. (told ≡ refusals.Memory) ⊎ (option_map refused_as (refusal (State statement) (txn_in db (table_of present.old) txn)) ≡ Some told)
+        ⊎ ((refusal (State statement) (txn_in db (table_of present.old) txn) ≡ None) × (IsUnread (schemas_of (catalogue_of catalog.now)) text.now told ⊎ (told ≡ refusals.Full)))) }
 {
     let room = room(present.alloc)?;
     may_state(present, &txn)?;
     let statement = statement_of(present.alloc, catalog, text)?;
     let plan = Planned::new(present.alloc, catalog, &statement)?;
     let asks = asks_of(present.alloc, catalog, fetches(plan.reduced()))?;
-    let step = stated(present, catalog, txn, statement, plan, asks)?;
-    Ok(put_out(room, txn, step))
+    match stated(present, catalog, txn, statement, plan, asks) {
+        Ok(step) => Ok(put_out(room, txn, step)),
+        Err(refusal) => Err(limited(refusal)),
+    }
 }
