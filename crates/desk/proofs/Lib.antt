@@ -30,3 +30,4 @@ pub mod Short
 pub mod Within
 pub mod Doing
 pub mod Unread
+pub mod Quiet
