@@ -1,6 +1,7 @@
 -- The coordinator's machine over its store, in reading order.
 pub mod Refusal
 pub mod Database
+pub mod OfCatalogue
 pub mod Spots
 pub mod Standing
 pub mod Orders
@@ -9,10 +10,13 @@ pub mod Turn
 pub mod Opening
 pub mod Sending
 pub mod Stating
+pub mod Planned
+pub mod Brought
 pub mod Stepped
 pub mod Ballots
 pub mod State
 pub mod Begun
 pub mod Calls
+pub mod Does
 pub mod Starting
 pub mod Taking
