@@ -2,7 +2,7 @@
 pub mod Need
 pub mod Fetch
 pub mod Stated
-pub mod Side
+pub mod Picked
 pub mod Shape
 pub mod Rows
 pub mod Located
