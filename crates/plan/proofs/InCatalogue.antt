@@ -77,12 +77,6 @@ leaves_fit catalogue name formed = at (relation_named name catalogue.relations) 
     at None each = tt
     at (Some relation) each = conds_of_leaves catalogue.sites (kinds_of relation.schema) (catalog.leaves_of relation) (each relation formed.relations refl).leaves
 
--- the same of types and leaves that are those of the name
-pub leaves_fit_at : (catalogue : Catalogue) (name : List ℕ) (types : List Kind) (leaves : List FragmentLeaf) → IsFormed catalogue → types ≡ kinds_in catalogue name → leaves ≡ leaves_of catalogue name → AllByRecursion (λ leaf. AllByRecursion (IsCondOf types) leaf.conds) leaves
-leaves_fit_at catalogue name types leaves formed kinds_is leaves_is =
-    let P : List Kind → List FragmentLeaf → Type 0 = λ all ls. AllByRecursion (λ leaf. AllByRecursion (IsCondOf all) leaf.conds) ls in
-    subst (λ ls. P types ls) (sym leaves_is) (subst (λ all. P all (leaves_of catalogue name)) (sym kinds_is) (leaves_fit catalogue name formed))
-
 -- the leaves of a name are formed over the columns of that name, which are few
 pub leaves_over : (catalogue : Catalogue) (name : List ℕ) → IsFormed catalogue → AllByRecursion (IsLeafOver catalogue.sites (kinds_in catalogue name)) (leaves_of catalogue name) × (length (kinds_in catalogue name) ≤ 16)
 leaves_over catalogue name formed = at (relation_named name catalogue.relations) (found_all (IsFormedRelation catalogue.sites) (λ relation. pointwise nat_eq relation.schema.name name) catalogue.relations)

@@ -30,3 +30,4 @@ pub mod TestRows
 pub mod PutOn
 pub mod PickedStated
 pub mod LeavesFit
+pub mod ContentParts

@@ -92,7 +92,7 @@ kinds_placed types others col joined place =
 pub joined_put : (types others : List Kind) (col : ℕ) (conds : List Cond) → AreJoined types others col → AllByRecursion (IsCondOf others) conds → AllByRecursion (IsCondOf (types ++ others)) (put_on (joined_places col (length types)) conds)
 joined_put types others col conds joined fit = placed_fit (types ++ others) others (joined_places col (length types)) (kinds_placed types others col joined) conds fit
 
-pub joined_within : (types others : List Kind) (conds : List Cond) → length types ≤ 16 → length others ≤ 16 → AllByRecursion (IsCondOf others) conds → AllByRecursion (λ c. length types + c.col < 18446744073709551616) conds
+joined_within : (types others : List Kind) (conds : List Cond) → length types ≤ 16 → length others ≤ 16 → AllByRecursion (IsCondOf others) conds → AllByRecursion (λ c. length types + c.col < 18446744073709551616) conds
 joined_within types others conds few few_others fit = within_some others (length types) conds (omega (arith, few, few_others)) fit
 
 pub joined_is_put : (types others : List Kind) (col : ℕ) (conds : List Cond) → AreJoined types others col → length types ≤ 16 → length others ≤ 16 → AllByRecursion (IsCondOf others) conds → IsPutOn (types ++ others) (joined_places col (length types)) conds

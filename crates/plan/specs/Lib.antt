@@ -9,4 +9,5 @@ pub mod Located
 pub mod Found
 pub mod Reduced
 pub mod Given
+pub mod Contents
 pub mod Uniform

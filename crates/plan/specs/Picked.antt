@@ -1,5 +1,5 @@
 -- The fetches of a statement as a function: those of the leaves that one test picks. Of a join it is a test over the rows of both relations, in which the two columns of ON are one.
-use Rattle.std.specs.Prelude.{ℕ, suc, ◌+◌, ◌<◌, ◌==◌, ◌&&◌, Bool, true, if◌then◌else◌, List, [], ◌∷◌, ◌++◌, map, filter, length}
+use Rattle.std.specs.Prelude.{◌≡◌, ℕ, suc, ◌+◌, ◌<◌, ◌==◌, ◌&&◌, Bool, true, if◌then◌else◌, List, [], ◌∷◌, ◌++◌, map, filter, length}
 use Rattle.std.specs.List.{AllByRecursion, list_any}
 use Rattle.terms.specs.declared.cond.Cond.{Cond}
 use Rattle.terms.specs.declared.value.Kind.{Kind}
@@ -7,7 +7,10 @@ use Rattle.terms.specs.Cond.{IsCondOf}
 use Rattle.terms.specs.TestValues.{column_holds, constants, test_values}
 use Rattle.meaning.specs.declared.statement.Statement.{Statement}
 use Rattle.catalog.specs.declared.fragment_leaf.FragmentLeaf.{FragmentLeaf}
-use Rattle.catalog.specs.Catalogue.{Catalogue}
+use Rattle.meaning.specs.Statement.{IsStatementOf}
+use Rattle.catalog.specs.Catalogue.{Catalogue, IsValidCatalogue}
+use Rattle.catalog.specs.Formed.{IsFormed}
+use Rattle.catalog.specs.FragmentLeaf.{schemas_of}
 use Rattle.catalog.specs.Path.{wanted}
 use Rattle.plan.specs.declared.fetch.Fetch.{Fetch}
 use Rattle.plan.specs.declared.need.Need.{Need}
@@ -16,7 +19,7 @@ use Rattle.plan.specs.declared.need.Needs.TheVariants.{One, Joined}
 use Rattle.plan.specs.declared.stated.Places.{Places}
 use Rattle.plan.specs.Fetch.{fetch_of}
 use Rattle.plan.specs.Need.{needs, on_column}
-use Rattle.plan.specs.Stated.{kinds_in, leaves_of}
+use Rattle.plan.specs.Stated.{AreFetchesOf, kinds_in, leaves_of}
 
 -- whether in each column, from this one on, some test value meets the conditions
 abbrev pub columns_met : List Cond → ℕ → List Kind → Bool
@@ -70,3 +73,11 @@ fetches_for catalogue (Joined col need other) =
 -- the fetches of a statement
 abbrev pub fetches_by : Catalogue → Statement → List Fetch
 fetches_by catalogue statement = fetches_for catalogue (needs statement)
+
+-- of a catalogue that was read, and a statement of its schema, these are the fetches
+abbrev pub FetchesAreTold : Type 0
+FetchesAreTold = (catalogue : Catalogue) (statement : Statement) → IsFormed catalogue → IsValidCatalogue catalogue → IsStatementOf (schemas_of catalogue) statement → AreFetchesOf catalogue statement (fetches_by catalogue statement)
+
+-- and no other list is
+abbrev pub OneListOfFetches : Type 0
+OneListOfFetches = (catalogue : Catalogue) (statement : Statement) (one other : List Fetch) → AreFetchesOf catalogue statement one → AreFetchesOf catalogue statement other → one ≡ other

@@ -49,8 +49,8 @@ fn one_side(alloc: Global, catalog: &Catalog, need: &Need) -> Result<Vec<Fetch>,
     let _relations = catalog.relations();
     let name = need.relation.as_str();
     let kinds = relation_kinds(alloc, catalog, name)?;
-    let asked = need.conds.as_slice();
-    picked(alloc, kinds.as_slice(), asked, own_places(), need, catalog.leaves_of(name))
+    let (asked, leaves) = (need.conds.as_slice(), catalog.leaves_of(name));
+    picked(alloc, kinds.as_slice(), asked, own_places(), need, leaves)
 }
 
 /// The fetches of both sides of a join, one after the other: a leaf of either is tried over the columns of
@@ -69,15 +69,19 @@ fn both_sides(
     ensures { IfOk result (λ fetches. fetches.items ≡ fetches_for (catalogue_of catalog.now) (Joined col first.now second.now)) }
 {
     let _relations = catalog.relations();
-    let (one, other) = (first.relation.as_str(), second.relation.as_str());
-    let mut kinds = relation_kinds(alloc, catalog, one)?;
-    let joined = Places { key: col, past: kinds.len() };
+    let (name, other) = (first.relation.as_str(), second.relation.as_str());
+    let mut kinds = relation_kinds(alloc, catalog, name)?;
+    let joined = Places {
+        key: col,
+        past: kinds.len(),
+    };
     kinds.append(&mut relation_kinds(alloc, catalog, other)?)?;
     let mut asked = copy_all(alloc, first.conds.as_slice())?;
     put_on(&mut asked, joined, second.conds.as_slice())?;
     let (kinds, asked) = (kinds.as_slice(), asked.as_slice());
-    let mut fetches = picked(alloc, kinds, asked, own_places(), first, catalog.leaves_of(one))?;
-    fetches.append(&mut picked(alloc, kinds, asked, joined, second, catalog.leaves_of(other))?)?;
+    let (leaves, others) = (catalog.leaves_of(name), catalog.leaves_of(other));
+    let mut fetches = picked(alloc, kinds, asked, own_places(), first, leaves)?;
+    fetches.append(&mut picked(alloc, kinds, asked, joined, second, others)?)?;
     Ok(fetches)
 }
 

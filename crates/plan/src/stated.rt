@@ -45,7 +45,11 @@ pub fn put_on(out: &mut Vec<Cond>, places: Places, conds: &[Cond]) -> Result<(),
     ensures { OnOk result (out.new.items ≡ out.old.items ++ spec.put_on places conds.now) }
 {
     for cond in conds {
-        let place = if cond.col == 0 { places.key } else { places.past + cond.col };
+        let place = if cond.col == 0 {
+            places.key
+        } else {
+            places.past + cond.col
+        };
         out.push(on_column(place, cond)?)?;
     }
     Ok(())

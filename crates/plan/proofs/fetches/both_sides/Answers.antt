@@ -22,7 +22,7 @@ picked-requires-clause-leaves c =
     let types = kinds_in catalogue c.args.first.now.relation in
     let others = kinds_in catalogue c.args.second.now.relation in
     let kinds_is : c.as_slice-kinds.result.now ≡ types ++ others = search rules in
-    own_leaves_fit catalogue c.args.first.now.relation others c.as_slice-kinds.result.now c.own_places.result c.leaves_of.result.now c.relations-relations.ensures.formed kinds_is c.own_places.ensures (search rules)
+    own_leaves_fit catalogue c.args.first.now.relation others c.as_slice-kinds.result.now c.own_places.result c.leaves_of-leaves.result.now c.relations-relations.ensures.formed kinds_is c.own_places.ensures (search rules)
 
 pub picked-requires-2-clause-asked : goal.picked-requires-2-clause-asked
 picked-requires-2-clause-asked c =
@@ -40,7 +40,7 @@ picked-requires-2-clause-leaves c =
     let others = kinds_in catalogue c.args.second.now.relation in
     let kinds_is : c.as_slice-kinds.result.now ≡ types ++ others = search rules in
     let width_is : c.len.result ≡ length types = search rules in
-    joined_leaves_fit catalogue c.args.first.now.relation c.args.second.now.relation c.args.col c.as_slice-kinds.result.now _ c.leaves_of-2.result.now c.relations-relations.ensures.formed
+    joined_leaves_fit catalogue c.args.first.now.relation c.args.second.now.relation c.args.col c.as_slice-kinds.result.now _ c.leaves_of-others.result.now c.relations-relations.ensures.formed
     (record { column = c.requires.column; key = c.requires.key }) kinds_is (ap (joined_places c.args.col) width_is) (search rules)
 
 pub returns : goal.returns

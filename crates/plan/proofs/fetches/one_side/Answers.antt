@@ -8,4 +8,4 @@ use Rattle.plan.proofs.fetches.one_side.Goals as goal
 pub picked-requires-clause-leaves : goal.picked-requires-clause-leaves
 picked-requires-clause-leaves c =
     let kinds_is : c.as_slice.result.now ≡ kinds_in (catalogue_of c.args.catalog.now) c.args.need.now.relation = search rules in
-    own_leaves_fit (catalogue_of c.args.catalog.now) c.args.need.now.relation [] c.as_slice.result.now c.own_places.result c.leaves_of.result.now c.relations-relations.ensures.formed (kinds_is ∙ sym (append-nil (kinds_in (catalogue_of c.args.catalog.now) c.args.need.now.relation))) c.own_places.ensures (search rules)
+    own_leaves_fit (catalogue_of c.args.catalog.now) c.args.need.now.relation [] c.as_slice.result.now c.own_places.result c.leaves_of-leaves.result.now c.relations-relations.ensures.formed (kinds_is ∙ sym (append-nil (kinds_in (catalogue_of c.args.catalog.now) c.args.need.now.relation))) c.own_places.ensures (search rules)
