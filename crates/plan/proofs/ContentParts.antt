@@ -1,5 +1,5 @@
 -- The content of each leaf of a catalogue has parts that fit the leaf's columns, and ascends.
-use Rattle.std.proofs.Common.{◌≡◌, ℕ, ℤ, zero, suc, ◌<◌, ◌<ℤ◌, Bool, true, false, cond, List, [], ◌∷◌, ◌++◌, length, filter, flat_map, map, find, nat_eq, Option, Some, None, refl, ap, sym, ◌∙◌, subst, arith}
+use Rattle.std.proofs.Common.{◌≡◌, ℕ, ℤ, zero, suc, ◌<◌, ◌<ℤ◌, Bool, true, false, cond, List, [], ◌∷◌, length, filter, flat_map, map, nat_eq, Some, refl, ap, sym, ◌∙◌, subst, arith}
 use Rattle.std.specs.Cmp.Lexicographic.{nat_list_eq_equiv, pointwise, slice_cmp}
 use Rattle.std.specs.List.{AllByRecursion, slice_get}
 use Rattle.std.specs.List.Sorted.{IsStrictlySortedBy}
@@ -12,7 +12,6 @@ use Rattle.terms.specs.declared.value.Value.{Value}
 use Rattle.terms.specs.Cond.{conds_hold}
 use Rattle.terms.specs.Row.{FitsKinds, key_of}
 use Rattle.terms.specs.Value.{Fits, kind_of}
-use Rattle.meaning.specs.declared.schema.RelationSchema.{RelationSchema}
 use Rattle.meaning.specs.Listed.{listed}
 use Rattle.meaning.specs.Relation.{Ascends, IsRelation}
 use Rattle.meaning.specs.Schema as meaning
@@ -22,9 +21,9 @@ use Rattle.meaning.proofs.Rows.{Ascends-passed}
 use Rattle.catalog.specs.declared.fragment_leaf.FragmentLeaf.{FragmentLeaf}
 use Rattle.catalog.specs.declared.path.Path.{Path}
 use Rattle.catalog.specs.Catalogue.{Catalogue, SplitRelation}
-use Rattle.catalog.specs.Formed.{IsFormed, IsFormedRelation, IsLeafOver, names_in}
+use Rattle.catalog.specs.Formed.{IsFormedRelation, IsLeafOver, names_in}
 use Rattle.catalog.specs.Fragment.{content}
-use Rattle.catalog.specs.FragmentLeaf.{catalogue_leaves, leaves_from, leaves_of, relation_named, schemas_of, unnamed}
+use Rattle.catalog.specs.FragmentLeaf.{leaves_from, leaves_of, relation_named, schemas_of, unnamed}
 use Rattle.catalog.specs.Path.{columns_beside_key, path_columns, path_conds, paths}
 use Rattle.plan.specs.Contents.{AreParts, ContentsAscend}
 use Rattle.plan.specs.Stated.{kinds_found, kinds_in}
@@ -81,12 +80,15 @@ parts_ascend columns (row ∷ rows) order =
     let Below : ℤ → Type 0 = λ key. AllByRecursion (λ later. key <ℤ key_of later) (map (listed (0 ∷ columns)) rows) in
     (subst Below (sym (key-listed columns row)) (later_parts columns (key_of row) rows order.0), parts_ascend columns rows order.1)
 
+pub content_ascends : (conds : List Cond) (columns : List ℕ) (rows : List (List Value)) → Ascends rows → Ascends (content (record { conds = conds; columns = 0 ∷ columns }) rows)
+content_ascends conds columns rows order = parts_ascend columns (filter (conds_hold conds) rows) (Ascends-passed (conds_hold conds) rows order)
+
 are_parts : (types : List Kind) (conds : List Cond) (columns : List ℕ) (rows : List (List Value)) → AllByRecursion (λ col. col < length types) (0 ∷ columns) → IsRelation types rows →
     AreParts types (0 ∷ columns) (content (record { conds = conds; columns = 0 ∷ columns }) rows)
 are_parts types conds columns rows within is = record {
   long = parts_of (FitsKinds types) (λ part. length part ≡ length (0 ∷ columns)) (0 ∷ columns) (conds_hold conds) rows (λ row fits. part_long types row (0 ∷ columns) fits within) is.fit;
   fit = parts_of (FitsKinds types) (FitsKinds (listed (0 ∷ columns) types)) (0 ∷ columns) (conds_hold conds) rows (λ row fits. part_fits types row (0 ∷ columns) fits within) is.fit;
-  ascends = parts_ascend columns (filter (conds_hold conds) rows) (Ascends-passed (conds_hold conds) rows is.ascends);
+  ascends = content_ascends conds columns rows is.ascends;
 }
 
 -- each relation of a catalogue is the one that its name finds

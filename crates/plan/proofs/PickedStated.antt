@@ -1,13 +1,11 @@
 -- The leaves that the test over the rows of both relations picks are those that the statement states.
-use Rattle.std.proofs.Common.{◌≡◌, ℕ, ◌≤◌, ◌&&◌, Bool, true, List, [], ◌∷◌, ◌++◌, length, Option, Some, None, Result, Ok, Err, IfOk, Vec, Global, refl, ap, ap₂, sym, ◌∙◌, subst}
+use Rattle.std.proofs.Common.{◌≡◌, ℕ, true, List, [], ◌∷◌, ◌++◌, length, Option, Some, None, Result, Ok, Err, IfOk, Vec, Global, refl, ap, ap₂, sym, ◌∙◌, subst}
 use Rattle.std.proofs.lemmas.Bool.{and_from, and_parts}
-use Rattle.std.specs.List.{AllByRecursion, Contains}
+use Rattle.std.specs.List.{AllByRecursion}
 use Rattle.terms.specs.declared.cond.Cond.{Cond}
 use Rattle.terms.specs.declared.memory.Memory.{Memory}
 use Rattle.terms.specs.declared.value.Kind.{Kind}
-use Rattle.terms.specs.declared.value.Value.{Value}
 use Rattle.terms.specs.Cond.{IsCondOf, conds_hold}
-use Rattle.terms.specs.Row.{FitsKinds}
 use Rattle.meaning.specs.declared.statement.Statement.{Statement}
 use Rattle.meaning.specs.declared.statement.Statement.TheVariants as statement
 use Rattle.meaning.specs.declared.statement.Select.{Select}
@@ -28,10 +26,10 @@ use Rattle.plan.specs.declared.need.Needs.{Needs}
 use Rattle.plan.specs.declared.need.Needs.TheVariants.{One, Joined}
 use Rattle.plan.specs.Need.{key_is, need_from, need_joined, need_of_select, needs, needs_of_select, places_to}
 use Rattle.plan.specs.Picked.{can_be_met, fetches_by, fetches_for, joined_places, own_places, picked, picks, put_on}
-use Rattle.plan.specs.Stated.{AreFetches, AreFetchesFor, AreFetchesOf, AreJoinFetches, IsStated, IsStatedFrom, IsStatedJoined, kinds_in, leaves_of}
-use Rattle.plan.proofs.InCatalogue.{kinds_are, leaves_are, leaves_fit, leaves_over}
+use Rattle.plan.specs.Stated.{AreFetchesFor, AreFetchesOf, IsStated, IsStatedFrom, IsStatedJoined, kinds_in, leaves_of}
+use Rattle.plan.proofs.InCatalogue.{kinds_are, leaves_are, leaves_fit}
 use Rattle.plan.proofs.LeafByLeaf.{Tells, one_list, picked_are}
-use Rattle.plan.proofs.Meeting.{IsMet, conds_both, conds_joined, served_among}
+use Rattle.plan.proofs.Meeting.{conds_both, conds_joined, served_among}
 use Rattle.plan.proofs.NeedsFit.{all_both}
 use Rattle.plan.proofs.PutOn.{AreJoined, IsPair, fits_both, front_fit, joined_put, pair_cut, pair_of, put_own}
 use Rattle.plan.proofs.StatementFits.{NeedsFit, Sides, needs_fit, sides_fit, sides_of}

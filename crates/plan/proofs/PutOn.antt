@@ -1,5 +1,5 @@
 -- Conditions of a joined relation, put on the columns of both: they hold of a row of both exactly where they hold of the joined row.
-use Rattle.std.proofs.Common.{◌≡◌, ℕ, zero, suc, ℤ, ◌+◌, ◌-◌, ◌<◌, ◌≤◌, ◌==◌, ◌&&◌, Bool, false, if◌then◌else◌, List, [], ◌∷◌, ◌++◌, length, map, Some, refl, ap, ap₂, sym, ◌∙◌, subst, arith}
+use Rattle.std.proofs.Common.{◌≡◌, ℕ, zero, suc, ℤ, ◌+◌, ◌-◌, ◌<◌, ◌≤◌, ◌==◌, ◌&&◌, Bool, false, if◌then◌else◌, List, [], ◌∷◌, ◌++◌, length, Some, refl, ap, ap₂, sym, ◌∙◌, subst, arith}
 use Rattle.std.proofs.lemmas.Bool.Decides.{nat_tests}
 use Rattle.std.proofs.lemmas.Option.{slice_get_within}
 use Rattle.std.specs.List.{AllByRecursion, slice_get}
@@ -8,7 +8,7 @@ use Rattle.terms.specs.declared.value.Kind.{Kind}
 use Rattle.terms.specs.declared.value.Kind.TheVariants as kinds
 use Rattle.terms.specs.declared.value.Value.{Value}
 use Rattle.terms.specs.declared.value.Value.TheVariants.{Int}
-use Rattle.terms.specs.Cond.{IsCondOf, cond_holds, conds_hold, holds_of}
+use Rattle.terms.specs.Cond.{IsCondOf, conds_hold, holds_of}
 use Rattle.terms.specs.Row.{FitsKinds, key_of}
 use Rattle.terms.specs.Value.{kind_of}
 use Rattle.plan.specs.declared.stated.Places.{Places}

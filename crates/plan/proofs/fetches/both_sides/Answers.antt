@@ -1,6 +1,5 @@
 -- Why `fetches::both_sides` meets its contract.
-use Rattle.std.proofs.Common.{◌≡◌, ◌++◌, List, length, rules, sym, ap, ◌∙◌}
-use Rattle.terms.specs.declared.cond.Cond.{Cond}
+use Rattle.std.proofs.Common.{◌≡◌, ◌++◌, length, rules, ap}
 use Rattle.catalog.specs.Relation.{catalogue_of}
 use Rattle.plan.specs.Picked.{joined_places, put_on}
 use Rattle.plan.specs.Stated.{kinds_in}
