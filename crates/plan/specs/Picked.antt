@@ -26,7 +26,7 @@ abbrev pub columns_met : List Cond → ℕ → List Kind → Bool
 columns_met conds col [] = true
 columns_met conds col (kind ∷ kinds) = list_any (column_holds conds col) (test_values kind (constants conds col)) && columns_met conds (suc col) kinds
 
--- whether some row of these types meets conditions
+-- whether some row of these types meets conditions that fit them
 abbrev pub can_be_met : List Kind → List Cond → Bool
 can_be_met kinds conds = columns_met conds 0 kinds
 
