@@ -110,6 +110,7 @@ comes_is db letter reply is kept choice w = ap (λ said. comes w kept choice (as
   where
     as_sent : bodies.Body → Letter (language db)
     as_sent said = record { site = letter.site; txn = txn_name letter.txn; body = body_with (statements db) (body_of said) }
+
     go : (r : replies.Reply) → comes w kept choice (as_sent (body.Reply r)) ≡ turns w (txn_name letter.txn) (on_desk_letter (txn_name letter.txn) letter.site kept choice (replied db r) (w.desk.txn (txn_name letter.txn)))
     go (reply_kinds.Ticket ticket) = refl
     go (reply_kinds.Rows rows) = refl

@@ -48,6 +48,7 @@ seat_there name (first ∷ seats) there = go (pointwise nat_eq first.name name) 
   where
     Here : Type 0
     Here = (seat : Seat) × ((if is_called name first then Some first else seat_of name seats) ≡ Some seat)
+
     go : (b : Bool) → pointwise nat_eq first.name name ≡ b → (b || list_any (λ site. pointwise nat_eq site name) (map (λ seat. seat.name) seats)) ≡ true → (list_any (λ site. pointwise nat_eq site name) (map (λ seat. seat.name) seats) ≡ true → (seat : Seat) × (seat_of name seats ≡ Some seat)) → Here
     go true e is later = (first, ap (λ (b : Bool). if b then Some first else seat_of name seats) (subst (λ n. is_called n first ≡ true) (name_is first.name name e) (name_self first.name)))
     go false e is later = let rest = later is in (rest.0, ap (λ (b : Bool). if b then Some first else seat_of name seats) (same_bool (is_called name first) false (λ called. let same : pointwise nat_eq first.name name ≡ true = subst (λ n. pointwise nat_eq n name ≡ true) (name_is name first.name called) (name_self name) in absurd cc) (λ no_one. absurd cc)) ∙ rest.1)
