@@ -29,7 +29,7 @@ use Rattle.desk.specs.declared.undecided.Undecided.{Undecided}
 use Rattle.desk.specs.Calls.{txn_in}
 use Rattle.desk.specs.Database.{Database, language}
 use Rattle.desk.specs.Sending.{AreShort}
-use Rattle.desk.specs.State.{IsIn, Steps, Table, desk_of, table_from}
+use Rattle.desk.specs.State.{IsIn, Steps, Table, table_from}
 use Rattle.desk.specs.Stepped.{IsStep}
 
 -- a step is the protocol's for one answer and its writes, and these are explained
