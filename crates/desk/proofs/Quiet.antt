@@ -1,5 +1,5 @@
 -- Letters by which no statement goes on need no explanation.
-use Rattle.std.proofs.Common.{◌≡◌, ℕ, Bool, true, false, ◌&&◌, not, List, [], ◌∷◌, ◌++◌, Option, Some, None, is_none, is_some, Result, Ok, Err, IfOk, if◌then◌else◌, nat_eq, subst, sym, ap, ◌∙◌}
+use Rattle.std.proofs.Common.{◌≡◌, ℕ, Bool, true, false, ◌&&◌, not, List, [], ◌∷◌, ◌++◌, Option, Some, None, is_none, Result, Ok, Err, IfOk, nat_eq, subst, sym, ap, ◌∙◌}
 use Rattle.std.specs.Cmp.Lexicographic.{pointwise}
 use Rattle.std.specs.List.{list_any}
 use Rattle.std.specs.Option.{option_map}

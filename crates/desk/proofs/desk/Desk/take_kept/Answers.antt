@@ -1,5 +1,5 @@
 -- Why `take_kept` meets its contract.
-use Rattle.std.proofs.Common.{rules, ◌≡◌, true, false, nat_eq, sym, ap, ◌∙◌, subst, IfOk}
+use Rattle.std.proofs.Common.{rules, ◌≡◌, true, false, nat_eq, sym, ◌∙◌, subst, IfOk}
 use Rattle.std.specs.Cmp.Lexicographic.{pointwise}
 use Rattle.std.specs.List.{list_any}
 use Rattle.catalog.specs.Relation.{catalogue_of}
@@ -10,7 +10,7 @@ use Rattle.protocol.specs.Letters.{txn_name}
 use Rattle.desk.specs.Calls.{txn_in}
 use Rattle.desk.specs.Database.{replied}
 use Rattle.desk.specs.Does.{Takes}
-use Rattle.desk.specs.State.{Steps, table_of}
+use Rattle.desk.specs.State.{table_of}
 use Rattle.desk.specs.Taking.{may_send}
 use Rattle.desk.proofs.Quiet.{among_there, loud_takes, not_strange, quiet_takes, said_is}
 use Rattle.desk.proofs.desk.Desk.take_kept.Goals as goal
