@@ -14,7 +14,7 @@ use Rattle.desk.specs.Calls.{txn_in}
 use Rattle.desk.specs.Does.{Takes}
 use Rattle.desk.specs.Starting.{Restarts}
 use Rattle.protocol.specs.Language.{Name}
-use Rattle.protocol.specs.Desk.{Began, Choice, Desk, Known, Row, Txn, Unknown, desk_restarted, next_txn, txn_restarted, Deed, Turn, desk_after, desk_began, is_desk_within}
+use Rattle.protocol.specs.Desk.{Began, Choice, Desk, Known, Row, Txn, Unknown, desk_restarted, next_txn, txn_restarted, Deed, Turn, desk_after, desk_began, is_desk_within, on_desk_letter}
 use Rattle.protocol.specs.Letter.{Letter, is_for_desk}
 use Rattle.protocol.specs.Letters.{body_of, kept_in, letter_of, name_of, txn_name}
 use Rattle.protocol.specs.Serial.{AllExplained}

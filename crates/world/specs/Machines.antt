@@ -66,7 +66,7 @@ pub record Leads (db : Database) (step : World (language db) → World (language
   pub fit : AreFit db after
   pub is : (waiting : List (Letter (language db))) (past : List (Deed (language db))) → step (world_of db before waiting past) ≡ world_of db after (waiting ++ map (sent db) out) (past ++ deeds)
   pub explained : AllExplained deeds
-  pub replies : map notice_of notices ≡ filter_map told deeds
+  pub replies : map notice_of notices ≡ filter_map (told db) deeds
 
 -- a statement of a transaction is stated: the text is its text
 pub record Stated (db : Database) (txn : Txn) (text : List ℕ) (before after : Machines) (out : List letters.Letter) (notices : List Notice) : Type 0 where
