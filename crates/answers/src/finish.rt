@@ -39,19 +39,21 @@ pub struct Outcome {
     pub writes: Seq<Write>,
 }
 
-/// What a statement of the catalogue's schema answers and writes, by its table.
+/// What a statement answers and writes, by its table.
 ///
-/// Over each whole database of which the table has what the statement is to find there, it is the
-/// statement's meaning: the answer, and the writes that lead to the whole database after it.
+/// Where it is a statement of the catalogue's schema, then over each whole database of which the table has
+/// what the statement is to find there it is the statement's meaning: the answer, and the writes that lead
+/// to the whole database after it.
 pub fn finish(
     alloc: Global,
     catalog: &Catalog,
     statement: &Statement,
     table: &Table,
 ) -> Result<Outcome, Memory>
-    requires { IsStatementOf (schemas_of (catalogue_of catalog.now)) statement.now }
-    ensures answer { IfOk result (λ outcome. (whole : Relations) → FitsSchema (schemas_of (catalogue_of catalog.now)) whole → IsTableOf statement.now whole table.now → outcome.answer ≡ (meaning statement.now whole).0) }
-    ensures writes { IfOk result (λ outcome. (whole : Relations) → FitsSchema (schemas_of (catalogue_of catalog.now)) whole → IsTableOf statement.now whole table.now →
+    ensures answer { IsStatementOf (schemas_of (catalogue_of catalog.now)) statement.now
+        → IfOk result (λ outcome. (whole : Relations) → FitsSchema (schemas_of (catalogue_of catalog.now)) whole → IsTableOf statement.now whole table.now → outcome.answer ≡ (meaning statement.now whole).0) }
+    ensures writes { IsStatementOf (schemas_of (catalogue_of catalog.now)) statement.now
+        → IfOk result (λ outcome. (whole : Relations) → FitsSchema (schemas_of (catalogue_of catalog.now)) whole → IsTableOf statement.now whole table.now →
         outcome.writes ≡ writes_between (catalogue_of catalog.now) whole (meaning statement.now whole).1) }
     // And whatever the table has, each write is to a leaf of the catalogue.
     ensures leaves { IfOk result (λ outcome. AllByRecursion (λ write. is_leaf_in (catalogue_leaves (catalogue_of catalog.now)) (leaf_of write) ≡ true) outcome.writes) }

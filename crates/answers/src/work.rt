@@ -25,11 +25,11 @@ use plan::reduce::Reduced;
 use std::alloc::Global;
 use terms::memory::Memory;
 
-/// What a statement of the catalogue's schema answers and writes, by its reduced plan and by what the
-/// plan's fetches brought.
+/// What a statement answers and writes, by its reduced plan and by what the plan's fetches brought.
 ///
-/// Over each whole database of which the fetches bring these parts, it is the statement's meaning: the
-/// answer, and the writes that lead to the whole database after it.
+/// Where it is a statement of the catalogue's schema, and the plan a reduced one of it, then over each whole
+/// database of which the fetches bring these parts it is the statement's meaning: the answer, and the writes
+/// that lead to the whole database after it.
 pub fn work(
     alloc: Global,
     catalog: &Catalog,
@@ -37,17 +37,20 @@ pub fn work(
     reduced: &Reduced,
     fetched: &[FetchRows],
 ) -> Result<Outcome, Memory>
-    requires statement { IsStatementOf (schemas_of (catalogue_of catalog.now)) statement.now }
-    // What holds of each reduced plan.
-    requires fetches { AreFetchesOf (catalogue_of catalog.now) statement.now reduced.now.fetches.items }
-    requires rows { FindsAll (catalogue_of catalog.now) statement.now reduced.now.fetches.items (shape reduced.now.plan) }
+    // What holds of the reads of each reduced plan.
     requires fetched { EachRead (λ read. Contains reduced.now.fetches.items read) (shape reduced.now.plan) }
     requires uniform { IsUniform (shape reduced.now.plan) }
     // The parts of each fetch have its columns, and their keys ascend.
     requires parts { AllByRecursion (λ read. AreParts read.columns (given fetched.now read.leaf)) reduced.now.fetches.items }
-    ensures answer { IfOk result (λ outcome. (whole : Relations) → FitsSchema (schemas_of (catalogue_of catalog.now)) whole →
+    ensures answer { IsStatementOf (schemas_of (catalogue_of catalog.now)) statement.now
+        → AreFetchesOf (catalogue_of catalog.now) statement.now reduced.now.fetches.items
+        → FindsAll (catalogue_of catalog.now) statement.now reduced.now.fetches.items (shape reduced.now.plan)
+        → IfOk result (λ outcome. (whole : Relations) → FitsSchema (schemas_of (catalogue_of catalog.now)) whole →
         AreBrought (catalogue_of catalog.now) whole reduced.now.fetches.items (given fetched.now) → outcome.answer ≡ (meaning statement.now whole).0) }
-    ensures writes { IfOk result (λ outcome. (whole : Relations) → FitsSchema (schemas_of (catalogue_of catalog.now)) whole →
+    ensures writes { IsStatementOf (schemas_of (catalogue_of catalog.now)) statement.now
+        → AreFetchesOf (catalogue_of catalog.now) statement.now reduced.now.fetches.items
+        → FindsAll (catalogue_of catalog.now) statement.now reduced.now.fetches.items (shape reduced.now.plan)
+        → IfOk result (λ outcome. (whole : Relations) → FitsSchema (schemas_of (catalogue_of catalog.now)) whole →
         AreBrought (catalogue_of catalog.now) whole reduced.now.fetches.items (given fetched.now) → outcome.writes ≡ writes_between (catalogue_of catalog.now) whole (meaning statement.now whole).1) }
     // And whatever the fetches brought, each write is to a leaf of the catalogue.
     ensures leaves { IfOk result (λ outcome. AllByRecursion (λ write. is_leaf_in (catalogue_leaves (catalogue_of catalog.now)) (leaf_of write) ≡ true) outcome.writes) }

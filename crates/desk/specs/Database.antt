@@ -9,6 +9,7 @@ use Rattle.meaning.specs.declared.statement.Statement.{Statement}
 use Rattle.meaning.specs.Meaning.{meaning}
 use Rattle.meaning.specs.Statement.{IsStatementOf}
 use Rattle.meaning.specs.Whole.{FitsSchema, Relations}
+use Rattle.catalog.specs.Catalogue.{Catalogue}
 use Rattle.store.specs.Content.{Content}
 use Rattle.store.specs.declared.letter.Letter as letters
 use Rattle.store.specs.declared.reply.Reply as replies
@@ -20,7 +21,8 @@ use Rattle.protocol.specs.Statements.{Statements, with_statements, body_with, le
 
 -- what the coordinator's machine knows of a database
 pub record Database : Type 0 where
-  -- its relations
+  -- its catalogue, and its relations
+  pub catalogue : Catalogue
   pub schemas : List RelationSchema
   -- the sites in the catalogue's order, and the site of each leaf
   pub sites : List (List ℕ)

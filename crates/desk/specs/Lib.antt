@@ -1,6 +1,7 @@
 -- The coordinator's machine over its store, in reading order.
 pub mod Refusal
 pub mod Database
+pub mod OfCatalogue
 pub mod Spots
 pub mod Standing
 pub mod Orders

@@ -28,7 +28,7 @@ use crate::made::{make, room};
 use crate::present::Present;
 use crate::refusal::Refusal;
 use crate::reply::Out;
-use crate::spot::{Spot, find_spot};
+use crate::sending::ticket_of;
 use crate::standing::Standing;
 use crate::strange::on_unknown;
 use crate::turn::{Turn, stays, tells};
@@ -40,16 +40,6 @@ use store::order::Order;
 use store::reply::Reply;
 use terms::memory::Memory;
 use terms::text::Text;
-
-/// The ticket that a site gave first, if it has given one.
-fn first_ticket(spots: &[Spot], site: &Text) -> Option<Ticket>
-    ensures { result ≡ (spot_in site.now spots.now).ticket }
-{
-    match find_spot(spots, site) {
-        Some(spot) => spot.ticket,
-        None => None,
-    }
-}
 
 /// Whether a statement goes on by what a site says that has given this ticket so far.
 fn goes_on(first: Option<Ticket>, reply: &Reply) -> bool
@@ -68,7 +58,7 @@ pub(crate) fn may_send(standing: Option<&Standing>, site: &Text, reply: &Reply) 
 {
     match standing {
         Some(Standing::Undecided(undecided)) => {
-            goes_on(first_ticket(undecided.spots.as_slice(), site), reply)
+            goes_on(ticket_of(undecided.spots.as_slice(), site), reply)
         }
         _ => false,
     }
@@ -88,7 +78,7 @@ fn on_another(
     ensures after { IfOk result (λ turn. turn.after ≡ after.Stays) }
     ensures kept { IfOk result (λ turn. turn.kept ≡ true) }
 {
-    let first = first_ticket(undecided.spots.as_slice(), site);
+    let first = ticket_of(undecided.spots.as_slice(), site);
     if is_first(first, &ticket) {
         return Ok(stays(alloc, true));
     }

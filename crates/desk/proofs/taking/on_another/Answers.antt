@@ -13,7 +13,7 @@ returns-then-is_first-clause-turn c = λ db choice some.
     let u = c.args.undecided.now in
     turn_as db c.args.txn (Some (standing.Undecided u)) c.stays.result _ _
     (same_ticket db (txn_name c.args.txn) u c.args.site.now c.args.ticket choice (spot_in c.args.site.now u.spots).ticket
-    (ap (is_first c.args.ticket) (ap (λ ss. (spot_in c.args.site.now ss).ticket) (sym c.as_slice.ensures) ∙ sym c.first_ticket-first.ensures) ∙ sym c.is_first.ensures ∙ c.if-is_first.true))
+    (ap (is_first c.args.ticket) (ap (λ ss. (spot_in c.args.site.now ss).ticket) (sym c.as_slice.ensures) ∙ sym c.ticket_of-first.ensures) ∙ sym c.is_first.ensures ∙ c.if-is_first.true))
     (c.stays.ensures.turn db c.args.txn (Some (standing.Undecided u)))
 
 pub returns-clause-turn : goal.returns-clause-turn
@@ -21,5 +21,5 @@ returns-clause-turn c = λ db choice some.
     let u = c.args.undecided.now in
     turns_as db c.args.txn (Some (standing.Undecided u)) _ _
     (λ turn. other_ticket db (txn_name c.args.txn) u c.args.site.now c.args.ticket choice (spot_in c.args.site.now u.spots).ticket some
-    (ap (is_first c.args.ticket) (ap (λ ss. (spot_in c.args.site.now ss).ticket) (sym c.as_slice.ensures) ∙ sym c.first_ticket-first.ensures) ∙ sym c.is_first.ensures ∙ c.if-is_first.false))
+    (ap (is_first c.args.ticket) (ap (λ ss. (spot_in c.args.site.now ss).ticket) (sym c.as_slice.ensures) ∙ sym c.ticket_of-first.ensures) ∙ sym c.is_first.ensures ∙ c.if-is_first.false))
     c.tells.result (c.tells.ensures.turn db (Some (standing.Undecided u)))
