@@ -8,22 +8,20 @@ use Rattle.terms.specs.declared.leaf.Leaf.{Leaf}
 use Rattle.terms.specs.declared.cond.Cond.{Cond}
 use Rattle.terms.specs.declared.value.Value.{Value}
 use Rattle.terms.specs.declared.write.Write.{Write}
-use Rattle.terms.specs.Cond.{conds_hold}
 use Rattle.terms.specs.Order.{value_cmp_total}
 use Rattle.terms.specs.Row.{key_of}
 use Rattle.terms.specs.Value.{value_cmp}
-use Rattle.meaning.specs.Listed.{listed}
 use Rattle.meaning.specs.Relation.{Ascends}
 use Rattle.meaning.proofs.Rows.{Ascends-passed}
 use Rattle.catalog.specs.Fragment.{Fragment, content, part}
 use Rattle.catalog.specs.Keyed.{row_at}
 use Rattle.catalog.proofs.Keyed.{content-at}
-use Rattle.plan.proofs.AtKey.{key-listed}
+use Rattle.plan.proofs.ContentParts.{content_ascends}
 use Rattle.answers.specs.declared.change.Change.{Change}
 use Rattle.answers.specs.Merged.{merged_rows}
 use Rattle.answers.specs.Writes.{leaf_writes, same_part, write_between}
 use Rattle.answers.proofs.Listing.{same_shown}
-use Rattle.answers.proofs.Mapped.{KeepsKeyOf, ascends_kept, at_kept, each, filter_is, found_key, map_is, passing, passing_keys}
+use Rattle.answers.proofs.Mapped.{KeepsKeyOf, at_kept, each, filter_is, found_key, passing, passing_keys}
 use Rattle.answers.proofs.Merged.{merged_ascends, merged_at}
 
 -- a part is the same as itself
@@ -77,16 +75,6 @@ same_made g h rows others order order_other same =
     ∙ ap some_of (same_shown g h (filter (gives g) rows) (filter (gives h) others) (Ascends-passed (gives g) rows order) (Ascends-passed (gives h) others order_other)
     (λ key. given_at g key rows order ∙ ap whole_of (same key) ∙ sym (given_at h key others order_other)))
     ∙ sym (given_only h others)
-
--- a content ascends by its keys
-listed_keeps : (columns : List ℕ) (row : List Value) → KeepsKeyOf (λ r. Some (listed (0 ∷ columns) r)) row
-listed_keeps columns row made is = let one : listed (0 ∷ columns) row ≡ made = cc in ap key_of (sym one) ∙ key-listed columns row
-
-pub content_ascends : (conds : List Cond) (columns : List ℕ) (rows : List (List Value)) → Ascends rows → Ascends (content (record { conds = conds; columns = 0 ∷ columns }) rows)
-content_ascends conds columns rows order =
-    let P : List (List Value) → Type 0 = Ascends in
-    let passed = filter (conds_hold conds) rows in
-    subst P (sym (map_is (listed (0 ∷ columns)) passed)) (ascends_kept (λ r. Some (listed (0 ∷ columns) r)) passed (each (KeepsKeyOf (λ r. Some (listed (0 ∷ columns) r))) passed (listed_keeps columns)) (Ascends-passed (conds_hold conds) rows order))
 
 -- changes of rows lead from some rows to others: each row that is changed has its key, and is what is there before and after; at another key nothing is changed
 abbrev pub LeadAt : (List Value → Change) → ℤ → Option (List Value) → Option (List Value) → Option (List Value) → Type 0

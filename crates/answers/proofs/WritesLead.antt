@@ -1,38 +1,30 @@
 -- The writes between two whole databases lead each leaf from what it has of the one to what it has of the other.
-use Rattle.std.proofs.Common.{◌≡◌, ℕ, suc, ℤ, Bool, true, false, cond, ◌||◌, List, [], ◌∷◌, flat_map, map, nat_eq, Option, Some, None, refl, ap, ap₂, sym, ◌∙◌, subst}
-use Rattle.std.specs.Cmp.Lexicographic.{nat_list_eq_equiv, pointwise}
-use Rattle.std.specs.List.{AllByRecursion, list_any, slice_get}
+use Rattle.std.proofs.Common.{◌≡◌, ℤ, Bool, true, false, cond, List, [], ◌∷◌, flat_map, map, Option, Some, None, refl, ap, ap₂, sym, ◌∙◌}
+use Rattle.std.specs.List.{AllByRecursion, list_any}
 use Rattle.std.specs.Ordering.{int_eq}
 use Rattle.terms.specs.declared.leaf.Leaf.{Leaf}
-use Rattle.terms.specs.declared.value.Value.{Value}
 use Rattle.terms.specs.declared.write.Write.{Write}
 use Rattle.terms.specs.Row.{key_of}
-use Rattle.meaning.specs.declared.schema.RelationSchema.{RelationSchema}
 use Rattle.meaning.specs.Relation.{Ascends}
-use Rattle.meaning.specs.Schema as meaning
-use Rattle.meaning.specs.Schema.{kinds_of}
-use Rattle.meaning.specs.Whole.{FitsSchema, Relations, rows_of}
+use Rattle.meaning.specs.Whole.{Relations, rows_of}
 use Rattle.catalog.specs.declared.fragment_leaf.FragmentLeaf.{FragmentLeaf}
-use Rattle.catalog.specs.declared.path.Path.{Path}
-use Rattle.catalog.specs.Catalogue.{Catalogue, SplitRelation}
+use Rattle.catalog.specs.Catalogue.{Catalogue}
 use Rattle.catalog.specs.Fragment.{content}
-use Rattle.catalog.specs.FragmentLeaf.{catalogue_leaves, is_name_of, leaf_named, leaves_from, leaves_of, schemas_of, unnamed}
+use Rattle.catalog.specs.FragmentLeaf.{catalogue_leaves, is_name_of, leaf_named, unnamed}
 use Rattle.catalog.specs.Keyed.{row_at}
 use Rattle.catalog.specs.Laws.{LeafNamesAreUnique}
-use Rattle.catalog.specs.Path.{columns_beside_key, paths}
 use Rattle.catalog.proofs.FormedTrees.{all_both}
+use Rattle.plan.specs.Contents.{AreParts, ContentsAscend}
 use Rattle.plan.specs.Reduced.{same_leaf}
+use Rattle.plan.specs.Stated.{kinds_in}
 use Rattle.plan.proofs.CarriedConds.{and_true, both}
-use Rattle.plan.proofs.Covered.{or_second}
 use Rattle.plan.proofs.Fetched.{one_leaf, one_name}
 use Rattle.answers.specs.Merged.{merged_rows}
 use Rattle.answers.specs.Writes.{WritesLead, applied, key_written, leaf_of, leaf_writes, part_in, write_between}
 use Rattle.answers.proofs.Applied.{Leaves, all_given, any_back, any_front, between, comes, given_there, one_is_there, own_key, stays, touches, unchanged}
-use Rattle.answers.proofs.LeafByLeaf.{HasKey, relations_key}
 use Rattle.answers.proofs.LeavesWritten.{same_itself}
 use Rattle.answers.proofs.Mapped.{found_key, one_key}
 use Rattle.answers.proofs.Merged.{merged_at}
-use Rattle.answers.proofs.WritesLaw.{content_ascends}
 
 -- the writes to one leaf, and to leaves
 abbrev writes_to : Relations → Relations → FragmentLeaf → List Write
@@ -99,55 +91,17 @@ leaf_leads all before after leaf key each unique order = at (write_between leaf.
     at None is = stays leaf.name key (part_in after leaf key) writes (part_in before leaf) leave (unchanged leaf.name key (part_in before leaf key) (part_in after leaf key) is)
     at (Some write) is = comes leaf.name key (part_in after leaf key) writes (part_in before leaf) leave (some_touched before after leaf key all unique (own_touched before after leaf key write order is))
 
--- the contents of the leaves ascend by their keys
+-- the contents of the leaves have parts that ascend by their keys, and so each leaf is led
+abbrev HasParts : Catalogue → Relations → FragmentLeaf → Type 0
+HasParts catalogue whole leaf = AreParts (kinds_in catalogue leaf.name.relation) leaf.columns (content (unnamed leaf) (rows_of whole leaf.name.relation))
 
-content_order : (leaf : FragmentLeaf) (columns : List ℕ) (rows : List (List Value)) → leaf.columns ≡ columns → slice_get columns 0 ≡ Some 0 → Ascends rows → Ascends (content (unnamed leaf) rows)
-content_order leaf [] rows is key order = absurd (cc)
-content_order leaf (col ∷ columns) rows is key order =
-    let zero_is : col ≡ 0 = cc in
-    let own : leaf.columns ≡ 0 ∷ columns = is ∙ ap (λ (c : ℕ). c ∷ columns) zero_is in
-    let P : List ℕ → Type 0 = λ cs. Ascends (content (record { conds = leaf.conds; columns = cs }) rows) in
-    subst P (sym own) (content_ascends leaf.conds columns rows order)
-
-abbrev IsOrdered : Relations → FragmentLeaf → Type 0
-IsOrdered whole leaf = Ascends (rows_of whole leaf.name.relation)
-
-numbered_order : (whole : Relations) (relation columns : List ℕ) (number : ℕ) (ways : List Path) → Ascends (rows_of whole relation) → AllByRecursion (IsOrdered whole) (leaves_from relation columns number ways)
-numbered_order whole relation columns number [] order = tt
-numbered_order whole relation columns number (way ∷ ways) order = (order, numbered_order whole relation columns (suc number) ways order)
-
--- a relation of the catalogue is one of the schema
-is_somewhere : (name : List ℕ) (relations : List SplitRelation) → list_any (λ relation. pointwise nat_eq relation.schema.name name) relations ≡ true → (schema : RelationSchema) × (meaning.relation_named name (map (λ relation. relation.schema) relations) ≡ Some schema)
-is_somewhere name [] some = absurd (cc)
-is_somewhere name (first ∷ rest) some = at (is_somewhere name rest) (pointwise nat_eq first.schema.name name) some
-  where
-    schemas : List RelationSchema
-    schemas = map (λ relation. relation.schema) rest
-
-    at : (list_any (λ relation. pointwise nat_eq relation.schema.name name) rest ≡ true → (schema : RelationSchema) × (meaning.relation_named name schemas ≡ Some schema)) → (t : Bool) →
-        (t || list_any (λ relation. pointwise nat_eq relation.schema.name name) rest) ≡ true → (schema : RelationSchema) × (cond t (Some first.schema) (meaning.relation_named name schemas) ≡ Some schema)
-    at more true h = (first.schema, refl)
-    at more false h = more h
-
-relations_order : (catalogue : Catalogue) (whole : Relations) (relations : List SplitRelation) → FitsSchema (schemas_of catalogue) whole →
-    ((name : List ℕ) → list_any (λ relation. pointwise nat_eq relation.schema.name name) relations ≡ true → list_any (λ relation. pointwise nat_eq relation.schema.name name) catalogue.relations ≡ true) → AllByRecursion (IsOrdered whole) (flat_map leaves_of relations)
-relations_order catalogue whole [] fit more = tt
-relations_order catalogue whole (first ∷ rest) fit more =
-    let name = first.schema.name in
-    let same : pointwise nat_eq name name ≡ true = nat_list_eq_equiv.refl name in
-    let found = is_somewhere name catalogue.relations (more name (ap (λ (t : Bool). t || list_any (λ relation. pointwise nat_eq relation.schema.name name) rest) same)) in
-    all_both (IsOrdered whole) (leaves_of first) (flat_map leaves_of rest) (numbered_order whole name (columns_beside_key (kinds_of first.schema)) 1 (paths first.tree) (fit.fit name found.0 found.1).ascends)
-    (relations_order catalogue whole rest fit (λ other h. more other (or_second (pointwise nat_eq name other) (list_any (λ relation. pointwise nat_eq relation.schema.name other) rest) h)))
-
-each_leads : (all : List FragmentLeaf) (before after : Relations) (key : ℤ) (leaves : List FragmentLeaf) → AllByRecursion (IsUnique all) all → AllByRecursion (IsUnique all) leaves → AllByRecursion HasKey leaves → AllByRecursion (IsOrdered before) leaves →
+each_leads : (catalogue : Catalogue) (all : List FragmentLeaf) (before after : Relations) (key : ℤ) (leaves : List FragmentLeaf) → AllByRecursion (IsUnique all) all → AllByRecursion (IsUnique all) leaves → AllByRecursion (HasParts catalogue before) leaves →
     AllByRecursion (λ leaf. applied leaf.name (writes_in before after all) (part_in before leaf) key ≡ part_in after leaf key) leaves
-each_leads all before after key [] each unique keys order = tt
-each_leads all before after key (leaf ∷ leaves) each unique keys order = (
-  leaf_leads all before after leaf key each unique.0 (content_order leaf leaf.columns (rows_of before leaf.name.relation) refl keys.0 order.0),
-  each_leads all before after key leaves each unique.1 keys.1 order.1,
-)
+each_leads catalogue all before after key [] each unique parts = tt
+each_leads catalogue all before after key (leaf ∷ leaves) each unique parts =
+    (leaf_leads all before after leaf key each unique.0 parts.0.ascends, each_leads catalogue all before after key leaves each unique.1 parts.1)
 
-pub writes_lead : LeafNamesAreUnique → WritesLead
-writes_lead unique catalogue before after key formed fit =
+pub writes_lead : LeafNamesAreUnique → ContentsAscend → WritesLead
+writes_lead unique ascend catalogue before after key formed fit =
     let each = unique catalogue formed in
-    each_leads (catalogue_leaves catalogue) before after key (catalogue_leaves catalogue) each each (relations_key catalogue.relations) (relations_order catalogue before catalogue.relations fit (λ name h. h))
+    each_leads catalogue (catalogue_leaves catalogue) before after key (catalogue_leaves catalogue) each each (ascend catalogue before formed fit)

@@ -1,5 +1,5 @@
 -- What holds of the relations of a catalogue that a statement names.
-use Rattle.std.proofs.Common.{◌≡◌, ◌≤◌, ℕ, Bool, true, false, cond, List, [], ◌∷◌, Option, Some, None, find, length, map, nat_eq, refl, ap, sym, ◌∙◌, subst, arith}
+use Rattle.std.proofs.Common.{◌≡◌, ◌≤◌, ℕ, Bool, true, false, cond, List, [], ◌∷◌, Option, Some, None, find, length, map, nat_eq, refl, ap, ◌∙◌, subst, arith}
 use Rattle.std.proofs.lemmas.List.{length-map}
 use Rattle.std.specs.List.{AllByRecursion}
 use Rattle.std.specs.Cmp.Lexicographic.{pointwise}
@@ -76,12 +76,6 @@ leaves_fit catalogue name formed = at (relation_named name catalogue.relations) 
         AllByRecursion (λ leaf. AllByRecursion (IsCondOf (kinds_found found)) leaf.conds) (leaves_in found)
     at None each = tt
     at (Some relation) each = conds_of_leaves catalogue.sites (kinds_of relation.schema) (catalog.leaves_of relation) (each relation formed.relations refl).leaves
-
--- the same of types and leaves that are those of the name
-pub leaves_fit_at : (catalogue : Catalogue) (name : List ℕ) (types : List Kind) (leaves : List FragmentLeaf) → IsFormed catalogue → types ≡ kinds_in catalogue name → leaves ≡ leaves_of catalogue name → AllByRecursion (λ leaf. AllByRecursion (IsCondOf types) leaf.conds) leaves
-leaves_fit_at catalogue name types leaves formed kinds_is leaves_is =
-    let P : List Kind → List FragmentLeaf → Type 0 = λ all ls. AllByRecursion (λ leaf. AllByRecursion (IsCondOf all) leaf.conds) ls in
-    subst (λ ls. P types ls) (sym leaves_is) (subst (λ all. P all (leaves_of catalogue name)) (sym kinds_is) (leaves_fit catalogue name formed))
 
 -- the leaves of a name are formed over the columns of that name, which are few
 pub leaves_over : (catalogue : Catalogue) (name : List ℕ) → IsFormed catalogue → AllByRecursion (IsLeafOver catalogue.sites (kinds_in catalogue name)) (leaves_of catalogue name) × (length (kinds_in catalogue name) ≤ 16)

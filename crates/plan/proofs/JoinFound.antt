@@ -17,10 +17,10 @@ use Rattle.catalog.specs.Valid.{IsValid}
 use Rattle.plan.specs.declared.need.Need.{Need}
 use Rattle.plan.specs.Need.{carried, conds_below, conds_past, on_column, places_below, places_past}
 use Rattle.plan.specs.Rows.{Seen, at_value, merged, shifted}
-use Rattle.plan.specs.Stated.{IsMet, IsStated, IsStatedFrom, IsStatedJoined}
+use Rattle.plan.specs.Stated.{IsStated, IsStatedFrom, IsStatedJoined}
 use Rattle.plan.proofs.AtKey.{KeepsKeys}
 use Rattle.plan.proofs.CarriedConds.{and_true, both, brought_holds, carried_holds, holds_filtered, holds_passed}
-use Rattle.plan.proofs.Meeting.{IsJoin, conds_joined, first_of, is_met_by, meets, rest_of}
+use Rattle.plan.proofs.Meeting.{IsJoin, IsMet, conds_joined, first_of, is_met_by, meets, rest_of}
 use Rattle.plan.proofs.NeedsFit.{get_front, get_past}
 use Rattle.plan.proofs.OneFound.{AreMarked}
 use Rattle.plan.proofs.OneSide.{AreSeen, IsSide, side_leaves}

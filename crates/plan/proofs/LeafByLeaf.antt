@@ -1,41 +1,32 @@
 -- Lemmas on the fetches of leaves, leaf by leaf.
-use Rattle.std.proofs.Common.{◌≡◌, ℕ, ◌≤◌, ◌++◌, List, [], ◌∷◌, length, drop, append-nil, Result, Ok, Err, IfOk, Vec, Global, inl, inr, refl, subst, sym, arith}
-use Rattle.std.proofs.lemmas.Grind.{common_steps}
+use Rattle.std.proofs.Common.{◌≡◌, Bool, true, false, cond, List, [], ◌∷◌, filter, map, inl, inr, refl, ap, sym, ◌∙◌}
+use Rattle.std.specs.List.{AllByRecursion}
+use Rattle.std.proofs.lemmas.Bool.{both_ways}
 use Rattle.catalog.specs.declared.fragment_leaf.FragmentLeaf.{FragmentLeaf}
 use Rattle.plan.specs.declared.fetch.Fetch.{Fetch}
 use Rattle.plan.specs.declared.need.Need.{Need}
-use Rattle.terms.specs.declared.memory.Memory.{Memory}
-use Rattle.catalog.specs.Catalogue.{Catalogue}
-use Rattle.plan.specs.Side.{AreSideFetches}
-use Rattle.plan.specs.Stated.{AreFetches, IsMet, IsStated, kinds_in, leaves_of}
+use Rattle.plan.specs.Fetch.{fetch_of}
+use Rattle.plan.specs.Stated.{AreFetches}
 
-none_left : (leaves : List FragmentLeaf) (i : ℕ) → length leaves ≤ i → drop i leaves ≡ []
-none_left leaves i past = grind (arith, common_steps)
+-- a test tells whether a leaf is stated
+abbrev pub Tells : Bool → Type 0 → Type 0
+Tells test Stated = (test ≡ true → Stated) × (Stated → test ≡ true)
 
--- where no leaf is left, what was found is all
-pub all_found : (Stated : FragmentLeaf → Type 0) (need : Need) (leaves : List FragmentLeaf) (i : ℕ) (found : List Fetch) → length leaves ≤ i →
-    ((rest : List Fetch) → AreFetches Stated need (drop i leaves) rest → AreFetches Stated need leaves (found ++ rest)) → AreFetches Stated need leaves found
-all_found Stated need leaves i found past more =
-    let P : List FragmentLeaf → Type 0 = λ left. AreFetches Stated need left [] in
-    let Q : List Fetch → Type 0 = λ fetches. AreFetches Stated need leaves fetches in
-    subst Q (append-nil found) (more [] (subst P (sym (none_left leaves i past)) refl))
+-- the fetches of the leaves that such a test picks are those of the stated ones
+pub picked_are : (Stated : FragmentLeaf → Type 0) (picks : FragmentLeaf → Bool) (need : Need) (leaves : List FragmentLeaf) → AllByRecursion (λ leaf. Tells (picks leaf) (Stated leaf)) leaves → AreFetches Stated need leaves (map (fetch_of need) (filter picks leaves))
+picked_are Stated picks need [] tells = refl
+picked_are Stated picks need (leaf ∷ leaves) tells =
+    let rest = picked_are Stated picks need leaves tells.1 in
+    elim (picks leaf) as (λ t. picks leaf ≡ t → AreFetches Stated need (leaf ∷ leaves) (map (fetch_of need) (cond t (leaf ∷ filter picks leaves) (filter picks leaves)))) [
+      | true ↦ λ is. inl (tells.0.0 is, (map (fetch_of need) (filter picks leaves), refl, rest))
+      | false ↦ λ is. inr (λ stated. both_ways (picks leaf) is (tells.0.1 stated), rest)
+    ] refl
 
--- leaves that are stated by another rule, which says the same of each
-pub same_rule : (One Other : FragmentLeaf → Type 0) (need : Need) → ((leaf : FragmentLeaf) → One leaf → Other leaf) → ((leaf : FragmentLeaf) → Other leaf → One leaf) →
-    (leaves : List FragmentLeaf) (fetches : List Fetch) → AreFetches One need leaves fetches → AreFetches Other need leaves fetches
-same_rule One Other need to from [] fetches h = h
-same_rule One Other need to from (leaf ∷ leaves) fetches (inl there) = inl (to leaf there.0, (there.1.0, there.1.1, same_rule One Other need to from leaves there.1.0 there.1.2))
-same_rule One Other need to from (leaf ∷ leaves) fetches (inr none) = inr (λ other. none.0 (from leaf other), same_rule One Other need to from leaves fetches none.1)
-
--- where no leaf is stated, none is fetched
-pub none_stated : (Stated : FragmentLeaf → Type 0) (need : Need) → ((leaf : FragmentLeaf) → Stated leaf → ⊥) → (leaves : List FragmentLeaf) → AreFetches Stated need leaves []
-none_stated Stated need none [] = refl
-none_stated Stated need none (leaf ∷ leaves) = inr (none leaf, none_stated Stated need none leaves)
-
--- the fetches of one side, where the conditions on the other can be met
-pub with_met : (catalogue : Catalogue) (need other : Need) (result : Result (Vec Fetch Global) Memory) → IsMet (kinds_in catalogue other.relation) other.conds →
-    IfOk result (λ fetches. AreFetches (IsStated (kinds_in catalogue need.relation) need) need (leaves_of catalogue need.relation) fetches.items) → IfOk result (λ fetches. AreSideFetches catalogue need other fetches.items)
-with_met catalogue need other (Err e) met h = tt
-with_met catalogue need other (Ok fetches) met h =
-    same_rule (IsStated (kinds_in catalogue need.relation) need) (λ leaf. IsStated (kinds_in catalogue need.relation) need leaf × IsMet (kinds_in catalogue other.relation) other.conds) need
-    (λ leaf stated. (stated, met)) (λ leaf both. both.0) (leaves_of catalogue need.relation) fetches.items h
+-- leaves have one list of fetches
+pub one_list : (Stated : FragmentLeaf → Type 0) (need : Need) (leaves : List FragmentLeaf) (one other : List Fetch) → AreFetches Stated need leaves one → AreFetches Stated need leaves other → one ≡ other
+one_list Stated need [] one other first second = first ∙ sym second
+one_list Stated need (leaf ∷ leaves) one other (inl first) (inl second) =
+    first.1.1 ∙ ap (λ (rest : List Fetch). fetch_of need leaf ∷ rest) (one_list Stated need leaves first.1.0 second.1.0 first.1.2 second.1.2) ∙ sym second.1.1
+one_list Stated need (leaf ∷ leaves) one other (inl first) (inr second) = absurd (second.0 first.0)
+one_list Stated need (leaf ∷ leaves) one other (inr first) (inl second) = absurd (first.0 second.0)
+one_list Stated need (leaf ∷ leaves) one other (inr first) (inr second) = one_list Stated need leaves one other first.1 second.1

@@ -6,7 +6,6 @@ pub mod Meeting
 pub mod NeedsFit
 pub mod Places
 pub mod StatementFits
-pub mod JoinStated
 pub mod RowsOf
 pub mod PartsSeen
 pub mod AtKey
@@ -27,3 +26,8 @@ pub mod Fetched
 pub mod Among
 pub mod CutColumns
 pub mod UniformPlan
+pub mod TestRows
+pub mod PutOn
+pub mod PickedStated
+pub mod LeavesFit
+pub mod ContentParts

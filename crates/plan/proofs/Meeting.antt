@@ -19,9 +19,15 @@ use Rattle.catalog.specs.Split.{Tree}
 use Rattle.catalog.specs.Valid.{IsValid}
 use Rattle.plan.specs.declared.need.Need.{Need}
 use Rattle.plan.specs.Need.{carried, conds_below, conds_past}
-use Rattle.plan.specs.Stated.{IsMet, IsStated, IsStatedFrom, IsStatedJoined}
+use Rattle.plan.specs.Stated.{IsStated, IsStatedFrom, IsStatedJoined}
 use Rattle.plan.proofs.CarriedConds.{and_true, below_moved, both, brought_holds, carried_holds, past_moved}
 use Rattle.plan.proofs.Columns.{FoundAt, fits_at, fits_set, get_set_same}
+
+-- some row that fits meets all conditions
+pub record IsMet (kinds : List Kind) (conds : List Cond) : Type 0 where
+  pub row : List Value
+  pub fits : FitsKinds kinds row
+  pub holds : conds_hold conds row ≡ true
 
 pub conds_both : (first second : List Cond) (row : List Value) → conds_hold (first ++ second) row ≡ true → (conds_hold first row ≡ true) × (conds_hold second row ≡ true)
 conds_both first second row h = both (conds_hold first row) (conds_hold second row) (sym (list_all-append (λ c. cond_holds c row) first second) ∙ h)
@@ -69,9 +75,9 @@ integer row col found = of found.value found.there found.of found.good
     of (Text bytes) there is good = absurd (cc)
 
 -- the values after the first of a row that has one
-abbrev pub rest_of : List Value → List Value
+abbrev pub rest_of : {A : Type 0} → List A → List A
 rest_of [] = []
-rest_of (value ∷ row) = row
+rest_of (first ∷ rest) = rest
 
 pub first_of : (row : List Value) (value : Value) → slice_get row 0 ≡ Some value → row ≡ value ∷ rest_of row
 first_of [] value there = absurd (cc)
@@ -143,14 +149,3 @@ is_met_by types others width col conds need other leaf relation tree cover valid
         joined = subst Key (sym found) there;
       };
     }
-
--- a leaf that meets another may serve alone, and the conditions on the other side can be met
-pub meets_only : (types others : List Kind) (col : ℕ) (need other : Need) (leaves : List FragmentLeaf) (leaf : FragmentLeaf) → IsStatedFrom types others col need other leaves leaf → IsStated types need leaf × IsMet others other.conds
-meets_only types others col need other leaves leaf h =
-    let there = h.meet.serves_other in
-    (record { row = h.meet.row; serves = h.meet.serves }, record { row = h.meet.other; fits = there.fits; holds = (conds_both h.other_leaf.conds other.conds h.meet.other there.holds).1 })
-
-pub is_met_only : (types others : List Kind) (col : ℕ) (need other : Need) (leaves : List FragmentLeaf) (leaf : FragmentLeaf) → IsStatedJoined types others col need other leaves leaf → IsStated others other leaf × IsMet types need.conds
-is_met_only types others col need other leaves leaf h =
-    let there = h.meet.serves in
-    (record { row = h.meet.other; serves = h.meet.serves_other }, record { row = h.meet.row; fits = there.fits; holds = (conds_both h.leaf.conds need.conds h.meet.row there.holds).1 })

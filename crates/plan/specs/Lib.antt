@@ -2,11 +2,12 @@
 pub mod Need
 pub mod Fetch
 pub mod Stated
-pub mod Side
+pub mod Picked
 pub mod Shape
 pub mod Rows
 pub mod Located
 pub mod Found
 pub mod Reduced
 pub mod Given
+pub mod Contents
 pub mod Uniform

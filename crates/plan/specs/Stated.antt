@@ -1,7 +1,6 @@
 -- Which leaves a statement fetches: exactly those that it may need.
 use Rattle.std.specs.Prelude.{◌≡◌, ◌⊎◌, ℕ, true, List, [], ◌∷◌, ◌++◌, Option, Some, None}
 use Rattle.std.specs.List.{Contains, slice_get}
-use Rattle.terms.specs.declared.cond.Cond.{Cond}
 use Rattle.terms.specs.declared.value.Kind.{Kind}
 use Rattle.terms.specs.declared.value.Value.{Value}
 use Rattle.terms.specs.declared.value.Value.TheVariants.{Int}
@@ -30,12 +29,6 @@ kinds_in catalogue name = kinds_found (relation_named name catalogue.relations)
 
 abbrev pub leaves_of : Catalogue → List ℕ → List FragmentLeaf
 leaves_of catalogue name = leaves_in (relation_named name catalogue.relations)
-
--- some row that fits meets all conditions
-pub record IsMet (kinds : List Kind) (conds : List Cond) : Type 0 where
-  pub row : List Value
-  pub fits : FitsKinds kinds row
-  pub holds : conds_hold conds row ≡ true
 
 -- a leaf may serve a need by a row: it is wanted for the needed columns, and its conditions and those of the need hold of the row
 pub record Serves (kinds : List Kind) (need : Need) (leaf : FragmentLeaf) (row : List Value) : Type 0 where

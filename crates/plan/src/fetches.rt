@@ -1,18 +1,19 @@
 //! The fetches of a statement.
 
-ghost use Rattle.std.specs.Prelude.{◌≡◌, ◌++◌, ◌⊎◌, List, IfOk, OnOk, map};
-ghost use Rattle.std.specs.List.{AllByRecursion};
+ghost use Rattle.std.specs.Prelude.{◌≡◌, Some, IfOk, map};
+ghost use Rattle.std.specs.List.{AllByRecursion, slice_get};
+ghost use Rattle.terms.specs.declared.value.Kind.TheVariants.{Int};
 ghost use Rattle.terms.specs.Cond.{IsCondOf};
-ghost use Rattle.meaning.specs.Schema.{kinds_of};
 ghost use Rattle.meaning.specs.Statement.{IsStatementOf};
 ghost use Rattle.catalog.specs.FragmentLeaf.{schemas_of};
 ghost use Rattle.catalog.specs.Relation.{catalogue_of};
-ghost use Rattle.plan.specs.Side.{AreSideFetches, AreSidesFetches};
-ghost use Rattle.plan.specs.Stated.{AreFetches, AreFetchesOf, IsStated, kinds_in, leaves_of};
+ghost use Rattle.plan.specs.declared.need.Needs.TheVariants.{One, Joined};
+ghost use Rattle.plan.specs.Picked.{fetches_for};
+ghost use Rattle.plan.specs.Stated.{AreFetchesOf, kinds_in};
 
 use crate::fetch::Fetch;
 use crate::need::{Need, Needs, statement_needs};
-use crate::stated::{fetches_of, is_met};
+use crate::stated::{Places, own_places, picked, put_on};
 use catalog::catalogue::Catalog;
 use catalog::laws::some_leaf_serves;
 use meaning::schema::Column;
@@ -35,52 +36,53 @@ pub fn statement_fetches(
     some_leaf_serves();
     let _relations = catalog.relations();
     match statement_needs(alloc, statement)? {
-        Needs::One(need) => need_fetches(alloc, catalog, &need),
-        Needs::Joined { first, second, .. } => sides(alloc, catalog, &first, &second),
+        Needs::One(need) => one_side(alloc, catalog, &need),
+        Needs::Joined { col, first, second } => both_sides(alloc, catalog, col, &first, &second),
     }
 }
 
 /// The fetches of one need alone.
-fn need_fetches(alloc: Global, catalog: &Catalog, need: &Need) -> Result<Vec<Fetch>, Memory>
+fn one_side(alloc: Global, catalog: &Catalog, need: &Need) -> Result<Vec<Fetch>, Memory>
     requires { AllByRecursion (IsCondOf (kinds_in (catalogue_of catalog.now) need.now.relation)) need.now.conds }
-    ensures { IfOk result (λ fetches. AreFetches (IsStated (kinds_in (catalogue_of catalog.now) need.now.relation) need.now)
-        need.now (leaves_of (catalogue_of catalog.now) need.now.relation) fetches.items) }
+    ensures { IfOk result (λ fetches. fetches.items ≡ fetches_for (catalogue_of catalog.now) (One need.now)) }
 {
     let _relations = catalog.relations();
     let name = need.relation.as_str();
     let kinds = relation_kinds(alloc, catalog, name)?;
-    fetches_of(alloc, kinds.as_slice(), need, catalog.leaves_of(name))
+    let (asked, leaves) = (need.conds.as_slice(), catalog.leaves_of(name));
+    picked(alloc, kinds.as_slice(), asked, own_places(), need, leaves)
 }
 
-/// The fetches of both sides of a join, one after the other.
-fn sides(
+/// The fetches of both sides of a join, one after the other: a leaf of either is tried over the columns of
+/// both, of which the joined key is the column of ON.
+fn both_sides(
     alloc: Global,
     catalog: &Catalog,
+    col: usize,
     first: &Need,
     second: &Need,
 ) -> Result<Vec<Fetch>, Memory>
     requires first { AllByRecursion (IsCondOf (kinds_in (catalogue_of catalog.now) first.now.relation)) first.now.conds }
     requires second { AllByRecursion (IsCondOf (kinds_in (catalogue_of catalog.now) second.now.relation)) second.now.conds }
-    ensures { IfOk result (λ fetches. AreSidesFetches (catalogue_of catalog.now) first.now second.now fetches.items) }
+    requires column { slice_get (kinds_in (catalogue_of catalog.now) first.now.relation) col ≡ Some Int }
+    requires key { slice_get (kinds_in (catalogue_of catalog.now) second.now.relation) 0 ≡ Some Int }
+    ensures { IfOk result (λ fetches. fetches.items ≡ fetches_for (catalogue_of catalog.now) (Joined col first.now second.now)) }
 {
-    let mut fetches = side(alloc, catalog, first, second)?;
-    let mut others = side(alloc, catalog, second, first)?;
-    fetches.append(&mut others)?;
+    let _relations = catalog.relations();
+    let (name, other) = (first.relation.as_str(), second.relation.as_str());
+    let mut kinds = relation_kinds(alloc, catalog, name)?;
+    let joined = Places {
+        key: col,
+        past: kinds.len(),
+    };
+    kinds.append(&mut relation_kinds(alloc, catalog, other)?)?;
+    let mut asked = copy_all(alloc, first.conds.as_slice())?;
+    put_on(&mut asked, joined, second.conds.as_slice())?;
+    let (kinds, asked) = (kinds.as_slice(), asked.as_slice());
+    let (leaves, others) = (catalog.leaves_of(name), catalog.leaves_of(other));
+    let mut fetches = picked(alloc, kinds, asked, own_places(), first, leaves)?;
+    fetches.append(&mut picked(alloc, kinds, asked, joined, second, others)?)?;
     Ok(fetches)
-}
-
-/// The fetches of one side of a join: none where the conditions on the other side can't be met.
-fn side(alloc: Global, catalog: &Catalog, need: &Need, other: &Need) -> Result<Vec<Fetch>, Memory>
-    requires need { AllByRecursion (IsCondOf (kinds_in (catalogue_of catalog.now) need.now.relation)) need.now.conds }
-    requires other { AllByRecursion (IsCondOf (kinds_in (catalogue_of catalog.now) other.now.relation)) other.now.conds }
-    ensures { IfOk result (λ fetches. AreSideFetches (catalogue_of catalog.now) need.now other.now fetches.items) }
-{
-    let kinds = relation_kinds(alloc, catalog, other.relation.as_str())?;
-    let conds = copy_all(alloc, other.conds.as_slice())?;
-    if !is_met(alloc, kinds.as_slice(), conds)? {
-        return Ok(Vec::new(alloc));
-    }
-    need_fetches(alloc, catalog, need)
 }
 
 /// The types of the columns of a relation of the catalogue; none where it is not there.

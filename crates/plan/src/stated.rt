@@ -1,50 +1,58 @@
 //! Which leaves a statement fetches.
 
-ghost use Rattle.std.specs.Prelude.{◌≡◌, ◌⊎◌, ◌++◌, ℕ, true, false, List, IfOk, OnOk};
+ghost use Rattle.std.specs.Prelude.{◌≡◌, ◌++◌, ◌+◌, ◌<◌, IfOk, OnOk};
 ghost use Rattle.std.specs.List.{AllByRecursion};
-ghost use Rattle.terms.specs.declared.value.Value.{Value};
-ghost use Rattle.terms.specs.Cond.{IsCondOf, conds_hold};
-ghost use Rattle.terms.specs.Row.{FitsKinds};
-ghost use Rattle.plan.specs.Stated.{AreFetches, IsMet, Serves};
-ghost use Rattle.plan.specs.Stated as spec;
+ghost use Rattle.terms.specs.Cond.{IsCondOf};
+ghost use Rattle.plan.specs.Picked.{IsPutOn, can_be_met, own_places, picked, picks};
+ghost use Rattle.plan.specs.Picked as spec;
 
 use crate::fetch::{Fetch, fetch_of};
-use crate::need::Need;
+use crate::need::{Need, on_column};
 use catalog::fragment_leaf::FragmentLeaf;
 use catalog::path::wanted;
 use std::alloc::Global;
 use terms::cond::{Cond, Conds};
-use terms::copy::{TryCopy, copy_all};
+use terms::copy::TryCopy;
 use terms::memory::Memory;
 use terms::value::Kind;
 
+/// Where a relation's columns stand in the rows that are tried: its key at one place, its other columns
+/// counted on from a width.
+#[derive(Clone, Copy, Debug)]
+pub struct Places {
+    pub key: usize,
+    pub past: usize,
+}
+
+/// The places of a relation whose columns stand first.
+pub fn own_places() -> Places
+    ensures { result ≡ own_places }
+{
+    Places { key: 0, past: 0 }
+}
+
 /// Whether some row of these types meets all conditions.
-pub fn is_met(alloc: Global, kinds: &[Kind], conds: Vec<Cond>) -> Result<bool, Memory>
+fn can_be_met(kinds: &[Kind], conds: Vec<Cond>) -> Result<bool, Memory>
     requires { AllByRecursion (IsCondOf kinds.now) conds.items }
-    ensures met { IfOk result (λ met. met ≡ true → IsMet kinds.now conds.items) }
-    ensures none { IfOk result (λ met. met ≡ false → IsMet kinds.now conds.items → ⊥) }
+    ensures { IfOk result (λ met. met ≡ can_be_met kinds.now conds.items) }
 {
     Ok(Conds::new(conds).satisfiable(kinds)?.is_some())
 }
 
-/// Whether a leaf is wanted for a need, and some row meets the leaf's conditions and the need's.
-pub fn may_serve(
-    alloc: Global,
-    kinds: &[Kind],
-    need: &Need,
-    leaf: &FragmentLeaf,
-) -> Result<bool, Memory>
-    requires need { AllByRecursion (IsCondOf kinds.now) need.now.conds }
-    requires leaf { AllByRecursion (IsCondOf kinds.now) leaf.now.conds }
-    ensures served { IfOk result (λ serves. serves ≡ true → spec.IsStated kinds.now need.now leaf.now) }
-    ensures none { IfOk result (λ serves. serves ≡ false → spec.IsStated kinds.now need.now leaf.now → ⊥) }
+/// Puts out conditions on a relation's columns as conditions on their places.
+pub fn put_on(out: &mut Vec<Cond>, places: Places, conds: &[Cond]) -> Result<(), Memory>
+    requires { AllByRecursion (λ cond. places.past + cond.col < 18446744073709551616) conds.now }
+    ensures { OnOk result (out.new.items ≡ out.old.items ++ spec.put_on places conds.now) }
 {
-    if !wanted(need.columns.as_slice(), leaf.steps.as_slice()) {
-        return Ok(false);
+    for cond in conds {
+        let place = if cond.col == 0 {
+            places.key
+        } else {
+            places.past + cond.col
+        };
+        out.push(on_column(place, cond)?)?;
     }
-    let mut conds = copy_all(alloc, leaf.conds.as_slice())?;
-    put_conds(&mut conds, need.conds.as_slice())?;
-    is_met(alloc, kinds, conds)
+    Ok(())
 }
 
 fn put_conds(out: &mut Vec<Cond>, conds: &[Cond]) -> Result<(), Memory>
@@ -56,20 +64,44 @@ fn put_conds(out: &mut Vec<Cond>, conds: &[Cond]) -> Result<(), Memory>
     Ok(())
 }
 
-/// The fetches of those of the leaves that may serve a need.
-pub fn fetches_of(
+/// Whether a leaf is wanted for a need, and some row meets the leaf's conditions and those that are asked.
+fn picks(
     alloc: Global,
     kinds: &[Kind],
+    asked: &[Cond],
+    places: Places,
+    need: &Need,
+    leaf: &FragmentLeaf,
+) -> Result<bool, Memory>
+    requires asked { AllByRecursion (IsCondOf kinds.now) asked.now }
+    requires leaf { IsPutOn kinds.now places leaf.now.conds }
+    ensures { IfOk result (λ picked. picked ≡ picks kinds.now asked.now places need.now leaf.now) }
+{
+    if !wanted(need.columns.as_slice(), leaf.steps.as_slice()) {
+        return Ok(false);
+    }
+    let mut conds = Vec::new(alloc);
+    put_on(&mut conds, places, leaf.conds.as_slice())?;
+    put_conds(&mut conds, asked)?;
+    can_be_met(kinds, conds)
+}
+
+/// The fetches of those of the leaves of which some row meets their conditions and those that are asked.
+pub fn picked(
+    alloc: Global,
+    kinds: &[Kind],
+    asked: &[Cond],
+    places: Places,
     need: &Need,
     leaves: &[FragmentLeaf],
 ) -> Result<Vec<Fetch>, Memory>
-    requires need { AllByRecursion (IsCondOf kinds.now) need.now.conds }
-    requires leaves { AllByRecursion (λ leaf. AllByRecursion (IsCondOf kinds.now) leaf.conds) leaves.now }
-    ensures { IfOk result (λ fetches. AreFetches (spec.IsStated kinds.now need.now) need.now leaves.now fetches.items) }
+    requires asked { AllByRecursion (IsCondOf kinds.now) asked.now }
+    requires leaves { AllByRecursion (λ leaf. IsPutOn kinds.now places leaf.conds) leaves.now }
+    ensures { IfOk result (λ fetches. fetches.items ≡ picked kinds.now asked.now places need.now leaves.now) }
 {
     let mut fetches = Vec::new(alloc);
     for leaf in leaves {
-        if !may_serve(alloc, kinds, need, leaf)? {
+        if !picks(alloc, kinds, asked, places, need, leaf)? {
             continue;
         }
         fetches.push(fetch_of(alloc, need, leaf)?)?;
