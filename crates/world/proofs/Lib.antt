@@ -7,3 +7,4 @@ pub mod Filled
 pub mod Opened
 pub mod FilledLeaves
 pub mod Openings
+pub mod BaseStored
