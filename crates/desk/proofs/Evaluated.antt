@@ -81,7 +81,7 @@ module _ (db : Database) (txn : Txn) (u new : Undecided) (began : Writing) (s : 
       record {
         stands = ap (λ x. desk.Known (undecided_of db (record { spots = new.spots; stage = x }))) now ∙ base.0 ∙ ap (λ turn. turn.txn) goes_as;
         letters = all_letters base.1;
-        replies = ap (told_to (txn_name txn)) quiet ∙ sym (ap (filter_map told) (sym (ap (λ turn. turn.deeds) goes_as) ∙ base.2));
+        replies = ap (told_to (txn_name txn)) quiet ∙ sym (ap (filter_map (told db)) (sym (ap (λ turn. turn.deeds) goes_as) ∙ base.2));
       }
 
   pub works_answered : [] ≡ (writes_go txn ws opened).left → new.stage ≡ stage.Idle → step.reply ≡ Some (reply.Answer began.answer) → IsStep db txn new step at_work
@@ -90,7 +90,7 @@ module _ (db : Database) (txn : Txn) (u new : Undecided) (began : Writing) (s : 
       record {
         stands = ap (λ x. desk.Known (undecided_of db (record { spots = new.spots; stage = x }))) now ∙ base.0 ∙ ap (λ turn. turn.txn) goes_as;
         letters = all_letters base.1;
-        replies = ap (told_to (txn_name txn)) answers ∙ sym (ap (filter_map told) (sym (ap (λ turn. turn.deeds) goes_as) ∙ base.2));
+        replies = ap (told_to (txn_name txn)) answers ∙ sym (ap (filter_map (told db)) (sym (ap (λ turn. turn.deeds) goes_as) ∙ base.2));
       }
 
   -- whichever it is

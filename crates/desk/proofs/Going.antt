@@ -93,7 +93,7 @@ module _ (db : Database) (txn : Txn) (choice : desk.Choice (language db)) (u new
   at_stage st is = ap (λ x. undecided_of db (record { spots = spots; stage = x })) (sym is) ∙ ap (λ x. undecided_of db (record { spots = x; stage = u.stage })) spots_are ∙ ticketed_is db u site ticket there
 
   -- a turn that is that one
-  is_step : (st : Stage) → new.stage ≡ st → (turn : desk.Turn (language db)) → turn ≡ at_ticket → desk.Known (undecided_of db (record { spots = new.spots; stage = st })) ≡ turn.txn → map (sent db) step.letters.items ≡ turn.letters → told_to (txn_name txn) step.reply ≡ filter_map told turn.deeds → IsStep db txn new step at_ticket
+  is_step : (st : Stage) → new.stage ≡ st → (turn : desk.Turn (language db)) → turn ≡ at_ticket → desk.Known (undecided_of db (record { spots = new.spots; stage = st })) ≡ turn.txn → map (sent db) step.letters.items ≡ turn.letters → told_to (txn_name txn) step.reply ≡ filter_map (told db) turn.deeds → IsStep db txn new step at_ticket
   is_step st is turn same stands letters replies = subst (IsStep db txn new step) same (record { stands = ap (λ x. desk.Known (undecided_of db (record { spots = new.spots; stage = x }))) is ∙ stands; letters = letters; replies = replies })
 
   pub ticket_idle : (stage.Idle ≡ u.stage) ⊎ (stage.Voting ≡ u.stage) → new.stage ≡ u.stage → new.spots ≡ spots → step.letters.items ≡ [] → step.reply ≡ None → IsStep db txn new step at_ticket
@@ -122,12 +122,12 @@ module _ (db : Database) (txn : Txn) (choice : desk.Choice (language db)) (u new
     pub ticket_waiting : (first : Unsent) (rest : List Unsent) → after.unsent.items ≡ first ∷ rest → new.stage ≡ stage.Writing after → after.answer ≡ writing.answer → step.reply ≡ None → IsStep db txn new step at_ticket
     ticket_waiting first rest some now answer quiet =
         let all = waiting_is db txn spots new.spots step.letters.items writing home spots_now letters after answer first rest some left in
-        is_step (stage.Writing after) now turn turn_is all.0 all.1 (ap (told_to (txn_name txn)) quiet ∙ sym (ap (filter_map told) all.2))
+        is_step (stage.Writing after) now turn turn_is all.0 all.1 (ap (told_to (txn_name txn)) quiet ∙ sym (ap (filter_map (told db)) all.2))
 
     pub ticket_answered : after.unsent.items ≡ [] → new.stage ≡ stage.Idle → step.reply ≡ Some (reply.Answer writing.answer) → IsStep db txn new step at_ticket
     ticket_answered none now answers =
         let all = answered_is db txn spots new.spots step.letters.items writing home spots_now letters (sym none ∙ left) in
-        is_step stage.Idle now turn turn_is all.0 all.1 (ap (told_to (txn_name txn)) answers ∙ sym (ap (filter_map told) all.2))
+        is_step stage.Idle now turn turn_is all.0 all.1 (ap (told_to (txn_name txn)) answers ∙ sym (ap (filter_map (told db)) all.2))
 
     -- whichever it is
     pub ticket_wrote : (answer : Option Answer) → answer ≡ (if nat_eq (length after.unsent.items) 0 then Some writing.answer else None) → after.answer ≡ writing.answer →

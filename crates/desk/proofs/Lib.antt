@@ -20,3 +20,14 @@ pub mod Stated
 pub mod Evaluated
 pub mod Rising
 pub mod Restarted
+pub mod Fitting
+pub mod Located
+pub mod AtHomes
+pub mod Asked
+pub mod Explaining
+pub mod Rowed
+pub mod Short
+pub mod Within
+pub mod Doing
+pub mod Unread
+pub mod Quiet

@@ -19,6 +19,7 @@ use Rattle.desk.specs.declared.reply.Reply.{Reply}
 use Rattle.desk.specs.declared.standing.Standing.{Standing}
 use Rattle.desk.specs.declared.standing.Standing.TheVariants as standing
 use Rattle.desk.specs.declared.turn.After.{After}
+use Rattle.desk.specs.Planned.{IsPlanned}
 use Rattle.desk.specs.Spots.{sites_of}
 use Rattle.desk.specs.Stepped.{IsAtHome}
 use Rattle.desk.specs.declared.turn.After.TheVariants.{Becomes, Ends, Stays}
@@ -55,7 +56,7 @@ is_at db kept table distinct fits txn = go (table.standing txn) refl
 is_in : (db : Database) (a : After) → AtSites db.sites a → IsInAfter db a
 is_in db Stays sites = tt
 is_in db Ends sites = tt
-is_in db (Becomes (standing.Undecided u)) sites = (sites.0, subst (IsAtHome db) (sym sites.1) tt)
+is_in db (Becomes (standing.Undecided u)) sites = (sites.0, subst (IsAtHome db) (sym sites.1) tt, subst (IsPlanned db) (sym sites.1) tt)
 is_in db (Becomes (standing.Committed c)) sites = tt
 
 -- ---- where nothing changes in memory
@@ -195,7 +196,7 @@ module _ (db : Database) (kept : DeskContent) (present : Present) (sorted : IsSt
   never true = refl
   never false = refl
 
-  pub goes_on : (wanted : desk.Turn (language db)) (out : Vec Letter Global) (reply : Option Reply) → desk.Known (undecided_of db new) ≡ wanted.txn → map (sent db) out.items ≡ wanted.letters → told_to (txn_name k) reply ≡ filter_map told wanted.deeds →
+  pub goes_on : (wanted : desk.Turn (language db)) (out : Vec Letter Global) (reply : Option Reply) → desk.Known (undecided_of db new) ≡ wanted.txn → map (sent db) out.items ≡ wanted.letters → told_to (txn_name k) reply ≡ filter_map (told db) wanted.deeds →
       IsIn db (standing.Undecided new) → desk.is_short_txn wanted.txn ≡ true → (table : Table) → table ≡ gone_on → (written : List Letter) (heard : List Notice) → written ≡ out.items → heard ≡ notices k reply →
       Steps db (table_of present) kept table k wanted written heard
   goes_on wanted out reply stands letters replies sites short table table_is written heard written_is heard_is =

@@ -19,7 +19,7 @@ use Rattle.desk.specs.Standing.{undecided_of}
 use Rattle.desk.specs.Turn.{AreSpots}
 use Rattle.desk.proofs.Spots.{at_home, orders_all, said, text_is}
 
-any_mapped : {A B : Type 0} (p : B → Bool) (f : A → B) (xs : List A) → list_any p (map f xs) ≡ list_any (λ x. p (f x)) xs
+pub any_mapped : {A B : Type 0} (p : B → Bool) (f : A → B) (xs : List A) → list_any p (map f xs) ≡ list_any (λ x. p (f x)) xs
 any_mapped p f [] = refl
 any_mapped p f (x ∷ xs) = ap (λ b. p (f x) || b) (any_mapped p f xs)
 

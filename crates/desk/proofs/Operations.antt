@@ -54,7 +54,7 @@ module _ (a : List ℕ) (spots : List Spot) (there : list_any (is_at a) spots �
   }
 
   -- the counts are as the protocol puts them
-  more_sent : (j : List ℕ) → (spot_in j (one_more a spots)).sent ≡ put (pointwise nat_eq) a (suc (spot_in a spots).sent) (λ i. (spot_in i spots).sent) j
+  pub more_sent : (j : List ℕ) → (spot_in j (one_more a spots)).sent ≡ put (pointwise nat_eq) a (suc (spot_in a spots).sent) (λ i. (spot_in i spots).sent) j
   more_sent j = ap (λ s. s.sent) (more_there j) ∙ go (pointwise nat_eq j a) refl
     where
       go : (b : Bool) → pointwise nat_eq j a ≡ b → (if b then with_count (next_number a spots) (spot_in j spots) else spot_in j spots).sent ≡ (if b then suc (spot_in a spots).sent else (spot_in j spots).sent)

@@ -99,10 +99,10 @@ module _ (db : Database) (txn : Txn) (u : Undecided) (are : AreSpots db u.spots)
       ∙ ap (λ vs. phase (desk.votes_go {L = language db} t (undecided_of db (voting now)) vs true)) none_there
 
   -- no site was visited
-  pub commit_alone : (turn : Turn) (given : List Spot) → given ≡ now → is_idle u.stage ≡ true → list_all is_in given ≡ true → IsTurn db txn here turn (commits_now t) → IsTurn db txn here turn called
+  pub commit_alone : (turn : Turn) (given : List Spot) → given ≡ now → is_idle u.stage ≡ true → list_all is_in given ≡ true → IsTurn db txn here turn (commits_now db t) → IsTurn db txn here turn called
   commit_alone turn given same idle all is =
       let every : list_all is_in now ≡ true = subst (λ ss. list_all is_in ss ≡ true) same all in
-      turn_as db txn here turn called (phase (commits_now t))
+      turn_as db txn here turn called (phase (commits_now db t))
       (begins u.stage idle ∙ goes ∙ ap phase (votes_decide db now now_are t true [] every (sym (no_voters u.spots))))
       (record {
         stands = is.stands;

@@ -120,7 +120,7 @@ module _ (db : Database) where
   said j (Some (standing.Undecided u)) voters e = cc
   said j (Some (standing.Committed c)) voters e = sym (commits_is db j c.voters) ∙ ap (λ vs. map (sent db) (commit_letters j vs)) (some_is e)
 
-  one_lost : (j : Txn) (s : Standing) (notices : List Notice) → map notice_of (with_lost j s notices) ≡ filter_map told (turned j (Some s)).deeds ++ map notice_of notices
+  one_lost : (j : Txn) (s : Standing) (notices : List Notice) → map notice_of (with_lost j s notices) ≡ filter_map (told db) (turned j (Some s)).deeds ++ map notice_of notices
   one_lost j (standing.Undecided u) notices = refl
   one_lost j (standing.Committed c) notices = refl
 
@@ -141,14 +141,14 @@ module _ (db : Database) where
   all_said f [] each = refl
   all_said f (row ∷ rows) each = map-append (sent db) (commit_letters row.txn row.voters) (commits_again rows) ∙ (λ i. sym (each row (inl refl)) i ++ all_said f rows (λ r here. each r (inr here)) i)
 
-  all_lost : (f : Txn → List (desk.Deed (language db))) (entries : Entries) → ((e : Txn × Standing) → In e entries → f e.0 ≡ (turned e.0 (Some e.1)).deeds) → map notice_of (lost_among entries) ≡ filter_map told (flat_map f (keys_of entries))
+  all_lost : (f : Txn → List (desk.Deed (language db))) (entries : Entries) → ((e : Txn × Standing) → In e entries → f e.0 ≡ (turned e.0 (Some e.1)).deeds) → map notice_of (lost_among entries) ≡ filter_map (told db) (flat_map f (keys_of entries))
   all_lost f [] each = refl
   all_lost f (e ∷ entries) each =
-      one_lost e.0 e.1 (lost_among entries) ∙ (λ i. filter_map told (sym (each e (inl refl)) i) ++ all_lost f entries (λ x here. each x (inr here)) i)
+      one_lost e.0 e.1 (lost_among entries) ∙ (λ i. filter_map (told db) (sym (each e (inl refl)) i) ++ all_lost f entries (λ x here. each x (inr here)) i)
       ∙ sym (told_more (f e.0) (flat_map f (keys_of entries)))
     where
-      told_more : (ds es : List (desk.Deed (language db))) → filter_map told (ds ++ es) ≡ filter_map told ds ++ filter_map told es
-      told_more ds es = filter_map-append told ds es
+      told_more : (ds es : List (desk.Deed (language db))) → filter_map (told db) (ds ++ es) ≡ filter_map (told db) ds ++ filter_map (told db) es
+      told_more ds es = filter_map-append (told db) ds es
 
 module _ (db : Database) (old new : DeskContent) (entries : Entries) (sorted : IsStrictlySortedBy txn_cmp (keys_of entries)) (undecided life number : ℕ) (fits : Fits db old (table_from entries undecided life number))
     (after : Table) (ascend : IsStrictlySortedBy txn_cmp after.txns) (rises : Rises db new after) (begins : BeginsLife old new) where
@@ -208,10 +208,10 @@ module _ (db : Database) (old new : DeskContent) (entries : Entries) (sorted : I
       ∙ sym (flat_names db (λ t. (desk.txn_restarted t ((desk_of db before).txn t)).letters) before.txns)
 
   -- ---- the replies
-  replies_are : map notice_of (lost_among entries) ≡ filter_map told (flat_map (λ t. (desk.txn_restarted t ((desk_of db before).txn t)).deeds) (map txn_name before.txns))
+  replies_are : map notice_of (lost_among entries) ≡ filter_map (told db) (flat_map (λ t. (desk.txn_restarted t ((desk_of db before).txn t)).deeds) (map txn_name before.txns))
   replies_are =
       all_lost db (λ j. (turned db j (before.standing j)).deeds) entries (λ e here. ap (λ o. (turned db e.0 o).deeds) (entry_there entries sorted e here))
-      ∙ ap (filter_map told) (sym (flat_names db (λ t. (desk.txn_restarted t ((desk_of db before).txn t)).deeds) before.txns))
+      ∙ ap (filter_map (told db)) (sym (flat_names db (λ t. (desk.txn_restarted t ((desk_of db before).txn t)).deeds) before.txns))
 
   pub restarts : (table : Table) (written : List Letter) (heard : List Notice) → table ≡ after → SendsAgain new written → heard ≡ lost_among entries → Restarts db before new table written heard
   restarts table written heard table_is sends heard_is = record {

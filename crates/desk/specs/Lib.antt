@@ -10,10 +10,13 @@ pub mod Turn
 pub mod Opening
 pub mod Sending
 pub mod Stating
+pub mod Planned
+pub mod Brought
 pub mod Stepped
 pub mod Ballots
 pub mod State
 pub mod Begun
 pub mod Calls
+pub mod Does
 pub mod Starting
 pub mod Taking

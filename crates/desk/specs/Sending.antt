@@ -1,5 +1,5 @@
 -- The operations of a statement go out to the tickets that have come.
-use Rattle.std.specs.Prelude.{◌≡◌, ℕ, suc, Bool, List, [], ◌∷◌, map, Option, Some, None, is_none}
+use Rattle.std.specs.Prelude.{◌≡◌, ℕ, suc, ◌^◌, ◌<◌, ◌≤◌, Bool, List, [], ◌∷◌, map, Option, Some, None, is_none}
 use Rattle.std.specs.List.{AllByRecursion}
 use Rattle.store.specs.declared.letter.Letter.{Letter}
 use Rattle.store.specs.declared.name.Ticket.{Ticket}
@@ -91,3 +91,12 @@ AsksAtHome db asks = AllByRecursion (λ ask. ask.site ≡ db.home ask.leaf) asks
 
 abbrev pub UnsentAtHome : Database → List Unsent → Type 0
 UnsentAtHome db writes = AllByRecursion (λ unsent. unsent.site ≡ db.home (leaf_of unsent.write)) writes
+
+-- each site was sent as many operations at most as the limit allows
+abbrev pub AreShort : List Spot → Type 0
+AreShort spots = (site : List ℕ) → (spot_in site spots).sent < 2 ^ 63
+
+-- some site was sent more
+pub record IsPast (spots : List Spot) : Type 0 where
+  pub site : List ℕ
+  pub past : 2 ^ 63 ≤ (spot_in site spots).sent

@@ -18,6 +18,7 @@ use Rattle.desk.specs.declared.standing.Standing.TheVariants as standing
 use Rattle.desk.specs.declared.turn.After.{After}
 use Rattle.desk.specs.declared.turn.After.TheVariants.{Stays, Ends, Becomes}
 use Rattle.desk.specs.Database.{Database, language, sent}
+use Rattle.desk.specs.Planned.{IsPlanned}
 use Rattle.desk.specs.Spots.{sites_of}
 use Rattle.desk.specs.Standing.{txn_of}
 use Rattle.desk.specs.Stepped.{IsAtHome}
@@ -64,9 +65,10 @@ closes Ends = true
 closes (Becomes (standing.Undecided undecided)) = false
 closes (Becomes (standing.Committed committed)) = true
 
--- an undecided transaction has to do with the sites of the database, and what its statement still sends has the sites of its leaves
+-- an undecided transaction has to do with the sites of the database, what its statement still sends has the sites of its leaves,
+-- and a plan whose rows are waited for is the statement's
 abbrev pub IsIn : Database → Standing → Type 0
-IsIn db (standing.Undecided undecided) = (sites_of undecided.spots ≡ db.sites) × IsAtHome db undecided.stage
+IsIn db (standing.Undecided undecided) = (sites_of undecided.spots ≡ db.sites) × IsAtHome db undecided.stage × IsPlanned db undecided.stage
 IsIn db (standing.Committed committed) = Unit
 
 -- so after a step
@@ -118,7 +120,7 @@ pub record Steps (db : Database) (before : Table) (kept : DeskContent) (after : 
   pub within : protocol.is_desk_within (desk_of db after) ≡ true
   pub state : desk_of db after ≡ protocol.desk_after (desk_of db before) (txn_name txn) wanted.txn
   pub letters : map (sent db) written ≡ wanted.letters
-  pub replies : map notice_of notices ≡ filter_map told wanted.deeds
+  pub replies : map notice_of notices ≡ filter_map (told db) wanted.deeds
 
 -- a transaction begins: the state after it is the protocol's, and its client hears that it has begun
 pub record Begins (db : Database) (before : Table) (kept : DeskContent) (after : Table) (written : List Letter) (notices : List Notice) : Type 0 where
@@ -126,4 +128,4 @@ pub record Begins (db : Database) (before : Table) (kept : DeskContent) (after :
   pub within : protocol.is_desk_within (desk_of db after) ≡ true
   pub state : desk_of db after ≡ protocol.desk_began (desk_of db before)
   pub letters : written ≡ []
-  pub replies : map notice_of notices ≡ filter_map (told {db = db}) (protocol.Began (protocol.next_txn (desk_of db before)) ∷ [])
+  pub replies : map notice_of notices ≡ filter_map (told db) (protocol.Began (protocol.next_txn (desk_of db before)) ∷ [])

@@ -1,5 +1,5 @@
 -- What a step of a statement makes of a transaction, as the protocol has it.
-use Rattle.std.specs.Prelude.{◌≡◌, ⊤, ℕ, nat_eq, List, map, Some}
+use Rattle.std.specs.Prelude.{◌≡◌, ⊤, ℕ, nat_eq, Bool, true, false, List, map, Some}
 use Rattle.std.specs.Cmp.Lexicographic.{pointwise}
 use Rattle.std.specs.List.{filter_map}
 use Rattle.store.specs.declared.name.Ticket.{Ticket}
@@ -7,12 +7,13 @@ use Rattle.store.specs.declared.name.Txn.{Txn}
 use Rattle.protocol.specs.Desk as protocol
 use Rattle.protocol.specs.Language.{put}
 use Rattle.protocol.specs.Letters.{name_of, txn_name}
+use Rattle.desk.specs.declared.spot.Spot.{Spot}
 use Rattle.desk.specs.declared.stepping.Step.{Step}
 use Rattle.desk.specs.declared.undecided.Stage.{Stage}
 use Rattle.desk.specs.declared.undecided.Stage.TheVariants as stage
 use Rattle.desk.specs.declared.undecided.Undecided.{Undecided}
 use Rattle.desk.specs.Database.{Database, language, sent}
-use Rattle.desk.specs.Sending.{AsksAtHome, UnsentAtHome}
+use Rattle.desk.specs.Sending.{AsksAtHome, UnsentAtHome, asks_go, writes_go}
 use Rattle.desk.specs.Standing.{undecided_of}
 use Rattle.desk.specs.Turn.{told, told_to}
 
@@ -33,4 +34,18 @@ ticketed db undecided site ticket =
 pub record IsStep (db : Database) (txn : Txn) (new : Undecided) (step : Step) (wanted : protocol.Turn (language db)) : Type 0 where
   pub stands : protocol.Known (undecided_of db new) ≡ wanted.txn
   pub letters : map (sent db) step.letters.items ≡ wanted.letters
-  pub replies : told_to (txn_name txn) step.reply ≡ filter_map told wanted.deeds
+  pub replies : told_to (txn_name txn) step.reply ≡ filter_map (told db) wanted.deeds
+
+-- the spots after the operations that a stage still sends went out to these
+abbrev pub goes_to : Txn → List Spot → Stage → List Spot
+goes_to txn spots stage.Idle = spots
+goes_to txn spots (stage.Reading reading) = (asks_go txn reading.asks.items spots).spots
+goes_to txn spots (stage.Writing writing) = (writes_go txn writing.unsent.items spots).spots
+goes_to txn spots stage.Voting = spots
+
+-- whether rows are waited for
+abbrev pub is_reading : Stage → Bool
+is_reading stage.Idle = false
+is_reading (stage.Reading reading) = true
+is_reading (stage.Writing writing) = false
+is_reading stage.Voting = false

@@ -1,5 +1,10 @@
 -- Which letters of sites may have operations sent.
-use Rattle.std.specs.Prelude.{ℕ, Bool, true, false, List, Option, Some, None, is_none}
+use Rattle.std.specs.Prelude.{ℕ, nat_eq, Bool, true, false, ◌&&◌, not, List, Option, Some, None, is_none}
+use Rattle.std.specs.Cmp.Lexicographic.{pointwise}
+use Rattle.std.specs.List.{list_any}
+use Rattle.store.specs.declared.letter.Body as bodies
+use Rattle.store.specs.declared.letter.Body.TheVariants as body
+use Rattle.store.specs.declared.letter.Letter as letters
 use Rattle.store.specs.declared.name.Ticket.{Ticket}
 use Rattle.store.specs.declared.reply.Reply as replies
 use Rattle.store.specs.declared.reply.Reply.TheVariants as reply
@@ -21,3 +26,11 @@ abbrev pub may_send : Option standings.Standing → List ℕ → replies.Reply �
 may_send None site said = false
 may_send (Some (standing.Undecided undecided)) site said = goes_on (spot_in site undecided.spots).ticket said
 may_send (Some (standing.Committed committed)) site said = false
+
+-- whether a letter is passed over: it is of none of these sites, or no site's
+abbrev pub is_reply : bodies.Body → Bool
+is_reply (body.Order order) = false
+is_reply (body.Reply said) = true
+
+abbrev pub is_strange : List (List ℕ) → letters.Letter → Bool
+is_strange sites letter = not (is_reply letter.body && list_any (λ site. pointwise nat_eq site letter.site) sites)

@@ -36,13 +36,13 @@ why_of protocol.By_restart = why.Restart
 why_of protocol.By_store = why.Store
 
 -- what a client hears of a deed
-abbrev pub told : {db : Database} → protocol.Deed (language db) → Option (Name × Reply)
-told (protocol.Began t) = Some (t, Begun)
-told (protocol.Answered t answer) = Some (t, Answer answer)
-told (protocol.Committed t) = Some (t, Committed)
-told (protocol.Aborted t reason) = Some (t, Aborted (why_of reason))
-told (protocol.Rolled_back t) = Some (t, RolledBack)
-told deed = None
+abbrev pub told : (db : Database) → protocol.Deed (language db) → Option (Name × Reply)
+told db (protocol.Began t) = Some (t, Begun)
+told db (protocol.Answered t answer) = Some (t, Answer answer)
+told db (protocol.Committed t) = Some (t, Committed)
+told db (protocol.Aborted t reason) = Some (t, Aborted (why_of reason))
+told db (protocol.Rolled_back t) = Some (t, RolledBack)
+told db deed = None
 
 -- a reply to a transaction's client, if there is one
 abbrev pub told_to : Name → Option Reply → List (Name × Reply)
@@ -69,12 +69,12 @@ AtSites sites (Becomes standing) = InPhaseAt sites standing
 pub record IsTurn (db : Database) (txn : Txn) (old : Option Standing) (turn : Turn) (wanted : protocol.Turn (language db)) : Type 0 where
   pub stands : txn_of db (after_of old turn.after) ≡ wanted.txn
   pub letters : map (sent db) turn.letters.items ≡ wanted.letters
-  pub replies : told_to (txn_name txn) turn.reply ≡ filter_map told wanted.deeds
+  pub replies : told_to (txn_name txn) turn.reply ≡ filter_map (told db) wanted.deeds
 
 -- a transaction in its first phase
 abbrev pub voting : List Spot → Undecided
 voting spots = record { spots = spots; stage = stage.Voting }
 
 -- it is committed, and nobody is to be told
-abbrev pub commits_now : {db : Database} → Name → protocol.Turn (language db)
-commits_now t = record { txn = protocol.Unknown; letters = []; deeds = protocol.Committed t ∷ [] }
+abbrev pub commits_now : (db : Database) → Name → protocol.Turn (language db)
+commits_now db t = record { txn = protocol.Unknown; letters = []; deeds = protocol.Committed t ∷ [] }

@@ -1,7 +1,8 @@
 //! What waited for a ticket goes out.
 
-ghost use Rattle.std.specs.Prelude.{◌≡◌, IfOk, OnErr};
-ghost use Rattle.desk.specs.Sending.{asks_go, writes_go};
+ghost use Rattle.std.specs.Prelude.{◌≡◌, Err, IfOk, OnErr};
+ghost use Rattle.desk.specs.declared.refusal.Refusal.TheVariants as refusals;
+ghost use Rattle.desk.specs.Sending.{AreShort, IsPast, asks_go, writes_go};
 
 use crate::ask::Ask;
 use crate::refusal::Refusal;
@@ -30,6 +31,8 @@ pub(crate) fn asks_step(
     ensures spots { IfOk result (λ going. going.spots.items ≡ (asks_go txn asks.old.items spots.now).spots) }
     ensures letters { IfOk result (λ going. going.letters.items ≡ (asks_go txn asks.old.items spots.now).letters) }
     ensures left { IfOk result (λ _. asks.new.items ≡ (asks_go txn asks.old.items spots.now).left) }
+    ensures short { AreShort spots.now → IfOk result (λ going. AreShort going.spots.items) }
+    ensures full { result ≡ Err refusals.Full → IsPast (asks_go txn asks.old.items spots.now).spots }
     ensures same { OnErr result (asks.new ≡ asks.old) }
 {
     let mut counted = copy_all(alloc, spots)?;
@@ -51,6 +54,8 @@ pub(crate) fn writes_step(
     ensures spots { IfOk result (λ going. going.spots.items ≡ (writes_go txn unsent.old.items spots.now).spots) }
     ensures letters { IfOk result (λ going. going.letters.items ≡ (writes_go txn unsent.old.items spots.now).letters) }
     ensures left { IfOk result (λ _. unsent.new.items ≡ (writes_go txn unsent.old.items spots.now).left) }
+    ensures short { AreShort spots.now → IfOk result (λ going. AreShort going.spots.items) }
+    ensures full { result ≡ Err refusals.Full → IsPast (writes_go txn unsent.old.items spots.now).spots }
     ensures same { OnErr result (unsent.new ≡ unsent.old) }
 {
     let mut counted = copy_all(alloc, spots)?;

@@ -1,28 +1,43 @@
 //! The coordinator's machine.
 
-ghost use Rattle.std.specs.Prelude.{◌≡◌, ◌≢◌, ◌⊎◌, ◌+◌, ◌≤◌, ◌^◌, None, Some, true, false, Err, IfOk, IfErr, OnOk, OnErr};
+ghost use Rattle.std.specs.Prelude.{◌≡◌, ◌≢◌, ◌⊎◌, ◌+◌, ◌≤◌, ◌^◌, [], None, Some, true, false, nat_eq, Err, IsOk, IfOk, IfErr, OnOk, OnErr};
+ghost use Rattle.std.specs.Cmp.Lexicographic.{pointwise};
+ghost use Rattle.std.specs.List.{list_any};
 ghost use Rattle.std.specs.Option.{option_map};
-ghost use Rattle.protocol.specs.Desk.{Choice, Commit_call, Give_up, Rollback, desk_began, is_desk_within, on_request, refusal};
+ghost use Rattle.meaning.specs.declared.statement.Statement.{Statement};
+ghost use Rattle.catalog.specs.FragmentLeaf.{schemas_of};
+ghost use Rattle.catalog.specs.Relation.{catalogue_of};
+ghost use Rattle.protocol.specs.Desk.{Choice, Commit_call, Give_up, Rollback, State, desk_began, is_desk_within, on_desk_letter, on_request, refusal};
 ghost use Rattle.protocol.specs.Letters.{txn_name};
 ghost use Rattle.store.specs.DeskContent.{BeginsLife, IsUnchanged, Lists};
 ghost use Rattle.store.specs.Fault.{HasRefused};
 ghost use Rattle.store.specs.declared.fault.StoreFault.TheVariants as store_faults;
+ghost use Rattle.store.specs.declared.letter.Body.TheVariants as bodies;
+ghost use Rattle.store.specs.declared.reply.Reply.{Reply};
 ghost use Rattle.desk.specs.declared.refusal.Refusal.TheVariants as refusals;
 ghost use Rattle.desk.specs.Calls.{IsOver, refused_as, txn_in};
-ghost use Rattle.desk.specs.Database.{Database, language};
+ghost use Rattle.desk.specs.Database.{Database, language, replied};
+ghost use Rattle.desk.specs.Does.{IsUnread, States, Takes};
+ghost use Rattle.desk.specs.OfCatalogue.{IsOfCatalogue};
+ghost use Rattle.desk.specs.Taking.{is_strange};
 ghost use Rattle.desk.specs.Starting.{IsStrange, Restarts, Rises};
 ghost use Rattle.desk.specs.State.{Begins, Fits, Steps, desk_of, table_of};
 
 use crate::calls::{call_begin, call_commit, call_give_up, call_rollback};
+use crate::opening::is_among;
 use crate::present::Present;
+use crate::receiving::{passed_over, take_on};
 use crate::refusal::{Refusal, store_refusal};
 use crate::reply::Out;
 use crate::starting::{begin, restart};
+use crate::statements::call_statement;
+use crate::taking::{may_send, take};
 use catalog::catalogue::Catalog;
 use std::alloc::Global;
 use store::commit::DeskKept;
 use store::desk_store::DeskStore;
 use store::fault::StoreFault;
+use store::letter::{Body, Letter};
 use store::name::Txn;
 
 /// A coordinator: its store, its catalogue, and what it has in memory. What its clauses say holds where the
@@ -132,6 +147,70 @@ impl<S: DeskStore> Desk<S> {
         ensures catalog { self.new.catalog ≡ self.old.catalog }
     {
         call_give_up(&mut self.present, txn)
+    }
+
+    /// A statement of a transaction, by its text. The text is read under the catalogue's schema; one of BEGIN, COMMIT or ROLLBACK
+    /// is no statement's. After a refusal nothing has changed.
+    pub fn statement(&mut self, txn: Txn, text: &str) -> Result<Out, Refusal>
+        ensures ok { (db : Database) → IsOfCatalogue db → db.catalogue ≡ catalogue_of self.old.catalog → Fits db (S.kept self.old.store) (table_of self.old.present)
+            → IfOk result (λ out. States db (table_of self.old.present) (S.kept self.new.store) (table_of self.new.present) txn text.now out.letters out.replies) }
+        ensures kept { IfOk result (λ out. out.kept ≡ true) }
+        ensures accepted { (db : Database) (statement : Statement) → OnOk result (refusal (State statement) (txn_in db (table_of self.old.present) txn) ≡ None) }
+        ensures told { (db : Database) (statement : Statement) → IfErr result (λ told. (told ≡ refusals.Memory) ⊎ (option_map refused_as (refusal (State statement) (txn_in db (table_of self.old.present) txn)) ≡ Some told)
+            ⊎ ((refusal (State statement) (txn_in db (table_of self.old.present) txn) ≡ None) × (IsUnread (schemas_of (catalogue_of self.old.catalog)) text.now told ⊎ (told ≡ refusals.Full)))) }
+        ensures err { OnErr result (table_of self.new.present ≡ table_of self.old.present) }
+        ensures store { self.new.store ≡ self.old.store }
+        ensures catalog { self.new.catalog ≡ self.old.catalog }
+    {
+        call_statement(&mut self.present, &self.catalog, txn, text)
+    }
+
+    /// A letter comes. One of a site that the catalogue doesn't have, and one that no site sends, are passed over.
+    pub fn take(&mut self, letter: &Letter) -> Result<Out, Refusal>
+        ensures clean { S.is_clean self.new.store → S.is_clean self.old.store }
+        ensures keeps { S.is_clean self.new.store → S.is_sound self.old.store → S.is_sound self.new.store }
+        ensures ok { (db : Database) (reply : Reply) → IsOfCatalogue db → db.catalogue ≡ catalogue_of self.old.catalog → S.is_clean self.new.store → S.is_sound self.old.store → Fits db (S.kept self.old.store) (table_of self.old.present)
+            → letter.now.body ≡ bodies.Reply reply → list_any (λ site. pointwise nat_eq site letter.now.site) db.sites ≡ true
+            → IfOk result (λ out. Takes db (table_of self.old.present) (S.kept self.new.store) (table_of self.new.present) letter.now.txn
+            (λ choice. on_desk_letter (txn_name letter.now.txn) letter.now.site out.kept choice (replied db reply) (txn_in db (table_of self.old.present) letter.now.txn)) out.letters out.replies) }
+        ensures strange { is_strange self.old.catalog.0 letter.now ≡ true → IsOk result × ((self.new.present ≡ self.old.present) × (self.new.store ≡ self.old.store)) }
+        ensures silent { is_strange self.old.catalog.0 letter.now ≡ true → IfOk result (λ out. (out.letters ≡ []) × (out.replies ≡ []) × (out.kept ≡ true)) }
+        ensures refusal { IfOk result (λ out. out.kept ≡ false → HasRefused (S.refused self.old.store) (S.refused self.new.store)) }
+        ensures own { IfErr result (λ told. (told ≡ refusals.Memory) ⊎ (told ≡ refusals.Full)) }
+        ensures err { OnErr result (table_of self.new.present ≡ table_of self.old.present) }
+        ensures same { S.is_clean self.new.store → S.is_sound self.old.store → OnErr result (IsUnchanged (S.kept self.old.store) (S.kept self.new.store)) }
+        ensures catalog { self.new.catalog ≡ self.old.catalog }
+    {
+        self.take_kept(letter, true)
+    }
+
+    /// So, but where `kept` is false the store isn't called, and counts as having refused.
+    pub fn take_kept(&mut self, letter: &Letter, kept: bool) -> Result<Out, Refusal>
+        ensures clean { S.is_clean self.new.store → S.is_clean self.old.store }
+        ensures keeps { S.is_clean self.new.store → S.is_sound self.old.store → S.is_sound self.new.store }
+        ensures ok { (db : Database) (reply : Reply) → IsOfCatalogue db → db.catalogue ≡ catalogue_of self.old.catalog → S.is_clean self.new.store → S.is_sound self.old.store → Fits db (S.kept self.old.store) (table_of self.old.present)
+            → letter.now.body ≡ bodies.Reply reply → list_any (λ site. pointwise nat_eq site letter.now.site) db.sites ≡ true
+            → IfOk result (λ out. Takes db (table_of self.old.present) (S.kept self.new.store) (table_of self.new.present) letter.now.txn
+            (λ choice. on_desk_letter (txn_name letter.now.txn) letter.now.site out.kept choice (replied db reply) (txn_in db (table_of self.old.present) letter.now.txn)) out.letters out.replies) }
+        ensures strange { is_strange self.old.catalog.0 letter.now ≡ true → IsOk result × ((self.new.present ≡ self.old.present) × (self.new.store ≡ self.old.store)) }
+        ensures silent { is_strange self.old.catalog.0 letter.now ≡ true → IfOk result (λ out. (out.letters ≡ []) × (out.replies ≡ []) × (out.kept ≡ true)) }
+        ensures refusal { IfOk result (λ out. out.kept ≡ false → (kept ≡ false) ⊎ HasRefused (S.refused self.old.store) (S.refused self.new.store)) }
+        ensures own { IfErr result (λ told. (told ≡ refusals.Memory) ⊎ (told ≡ refusals.Full)) }
+        ensures err { OnErr result (table_of self.new.present ≡ table_of self.old.present) }
+        ensures same { S.is_clean self.new.store → S.is_sound self.old.store → OnErr result (IsUnchanged (S.kept self.old.store) (S.kept self.new.store)) }
+        ensures catalog { self.new.catalog ≡ self.old.catalog }
+    {
+        let Body::Reply(reply) = &letter.body else {
+            return Ok(passed_over(self.present.alloc));
+        };
+        if !is_among(&letter.site, self.catalog.sites()) {
+            return Ok(passed_over(self.present.alloc));
+        }
+        let (txn, site) = (letter.txn, &letter.site);
+        if may_send(self.present.standing(&txn), site, reply) {
+            return take_on(&mut self.present, &self.catalog, txn, site, reply);
+        }
+        take(&mut self.store, &mut self.present, txn, site, reply, kept)
     }
 
     /// Restarts: undecided transactions abort and acknowledgements are lost, the next life begins, and who

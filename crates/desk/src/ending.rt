@@ -39,7 +39,7 @@ pub(crate) fn ends(
     reply: Reply,
     kept: bool,
 ) -> Result<Turn, Memory>
-    ensures turn { (db : Database) (old : Option Standing) (stage : StageNow) (deed : Deed (language db)) → AreSpots db spots.now → word ≡ ending_word stage → told deed ≡ Some (txn_name txn, reply)
+    ensures turn { (db : Database) (old : Option Standing) (stage : StageNow) (deed : Deed (language db)) → AreSpots db spots.now → word ≡ ending_word stage → told db deed ≡ Some (txn_name txn, reply)
         → IfOk result (λ turn. IsTurn db txn old turn (ends_by (txn_name txn) (undecided_of db (record { spots = spots.now; stage = stage })) deed)) }
     ensures kept { IfOk result (λ turn. turn.kept ≡ kept) }
     ensures after { IfOk result (λ turn. turn.after ≡ Ends) }

@@ -1,13 +1,15 @@
 //! The coordinator's machine: transactions from their beginning to their end, over any store.
 //!
-//! Stands on `terms`, `meaning`, `reader`, `catalog`, `store` and `protocol`. The contract that the crates above
+//! Stands on `terms`, `meaning`, `reader`, `catalog`, `plan`, `answers`, `store` and `protocol`. The contract that the crates above
 //! use: each call of `Desk` does to the coordinator what the protocol's table says (`Steps`), and after a
-//! refusal nothing has changed. Statements and letters are no public call yet.
+//! refusal nothing has changed. What a statement answers and writes is its meaning (`AllExplained`).
 //!
 //! ```text
 //! // the next life begins; on a refusal catalogue and store come back as they were
 //! let mut desk = Desk::start(alloc, catalog, store)?;
 //! let out = desk.begin()?;             // the reply names the transaction
+//! let out = desk.statement(txn, text)?; // Opens and fetches; without fetches the answer
+//! let out = desk.take(&letter)?;       // a site's letter: what waited for it goes on
 //! let out = desk.commit(txn)?;         // Prepare to each visited site, or committed at once
 //! let out = desk.rollback(txn)?;       // Abort to each visited site that may hold locks
 //! let out = desk.restart()?;           // Commit again to the voters of each commit row
@@ -18,21 +20,27 @@ mod acking;
 mod ask;
 mod asking;
 mod ballots;
+mod bringing;
 mod calls;
 mod committing;
 pub mod desk;
 mod ending;
+mod evaluating;
 mod finishing;
+mod homes;
 mod made;
 mod opening;
 mod orders;
 mod present;
+mod planned;
+mod receiving;
 pub mod refusal;
 pub mod reply;
 mod sending;
 mod spot;
 mod standing;
 mod starting;
+mod statements;
 mod stating;
 mod stepping;
 mod strange;

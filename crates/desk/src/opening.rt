@@ -39,7 +39,7 @@ pub(crate) fn write_sites(alloc: Global, writes: &[Unsent]) -> Result<Vec<Text>,
 }
 
 /// Whether a site is one of these.
-fn is_among(site: &Text, sites: &[Text]) -> bool
+pub(crate) fn is_among(site: &Text, sites: &[Text]) -> bool
     ensures { result ≡ list_any (λ other. pointwise nat_eq other site.now) sites.now }
 {
     for other in sites {

@@ -1,7 +1,8 @@
 //! The operations of a statement go out to the tickets that have come.
 
-ghost use Rattle.std.specs.Prelude.{◌≡◌, ◌≤◌, ◌^◌, ◌∷◌, ◌++◌, [], None, filter, map, IfOk, IfSome};
-ghost use Rattle.desk.specs.Sending.{asks_go, counted, next_number, waits_in, with_numbers, writes_go};
+ghost use Rattle.std.specs.Prelude.{◌≡◌, ◌<◌, ◌≤◌, ◌^◌, ◌∷◌, ◌++◌, [], None, Err, filter, map, IfOk, IfSome, OnOk};
+ghost use Rattle.desk.specs.declared.refusal.Refusal.TheVariants as refusals;
+ghost use Rattle.desk.specs.Sending.{AreShort, IsPast, asks_go, counted, next_number, waits_in, with_numbers, writes_go};
 ghost use Rattle.desk.specs.Spots.{spot_in};
 
 use crate::ask::Ask;
@@ -54,6 +55,7 @@ fn sent_to(spots: &[Spot], site: &Text) -> u64
 /// The number of the next operation to a site, unless it is past the limit.
 fn next_number(spots: &[Spot], site: &Text) -> Option<u64>
     ensures some { IfSome result (λ number. number ≡ next_number site.now spots.now) }
+    ensures few { IfSome result (λ number. number < 2 ^ 63) }
     ensures none { result ≡ None → 2 ^ 63 ≤ next_number site.now spots.now }
 {
     let sent = sent_to(spots, site);
@@ -74,6 +76,8 @@ fn ask_out(
     ensures number { IfOk result (λ number. map (λ left. left.number) (asks_go txn (ask.now ∷ []) spots.old).left ≡ number ∷ []) }
     ensures spots { IfOk result (λ _. spots.new ≡ (asks_go txn (ask.now ∷ []) spots.old).spots) }
     ensures letters { IfOk result (λ _. letters.new.items ≡ letters.old.items ++ (asks_go txn (ask.now ∷ []) spots.old).letters) }
+    ensures short { AreShort spots.old → OnOk result (AreShort spots.new) }
+    ensures full { result ≡ Err refusals.Full → IsPast (asks_go txn (ask.now ∷ []) spots.old).spots }
 {
     if ask.number.is_some() {
         return Ok(ask.number);
@@ -115,6 +119,8 @@ pub(crate) fn asks_out(
     ensures numbers { IfOk result (λ out. out.numbers.items ≡ map (λ left. left.number) (asks_go txn asks.now spots.old).left) }
     ensures letters { IfOk result (λ out. out.letters.items ≡ (asks_go txn asks.now spots.old).letters) }
     ensures spots { IfOk result (λ _. spots.new ≡ (asks_go txn asks.now spots.old).spots) }
+    ensures short { AreShort spots.old → OnOk result (AreShort spots.new) }
+    ensures full { result ≡ Err refusals.Full → IsPast (asks_go txn asks.now spots.old).spots }
 {
     let mut numbers = Vec::new(alloc);
     let mut letters = Vec::new(alloc);
@@ -147,6 +153,8 @@ fn write_out(
 ) -> Result<(), Refusal>
     ensures spots { IfOk result (λ _. spots.new ≡ (writes_go txn (unsent.now ∷ []) spots.old).spots) }
     ensures letters { IfOk result (λ _. letters.new.items ≡ letters.old.items ++ (writes_go txn (unsent.now ∷ []) spots.old).letters) }
+    ensures short { AreShort spots.old → OnOk result (AreShort spots.new) }
+    ensures full { result ≡ Err refusals.Full → IsPast (writes_go txn (unsent.now ∷ []) spots.old).spots }
 {
     let Some(ticket) = ticket_of(spots, &unsent.site) else {
         return Ok(());
@@ -176,6 +184,8 @@ pub(crate) fn writes_out(
 ) -> Result<Vec<Letter>, Refusal>
     ensures letters { IfOk result (λ letters. letters.items ≡ (writes_go txn writes.now spots.old).letters) }
     ensures spots { IfOk result (λ _. spots.new ≡ (writes_go txn writes.now spots.old).spots) }
+    ensures short { AreShort spots.old → OnOk result (AreShort spots.new) }
+    ensures full { result ≡ Err refusals.Full → IsPast (writes_go txn writes.now spots.old).spots }
 {
     let mut letters = Vec::new(alloc);
     for unsent in writes {

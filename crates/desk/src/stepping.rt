@@ -1,17 +1,20 @@
 //! A statement goes on with a ticket that came.
 
-ghost use Rattle.std.specs.Prelude.{◌≡◌, [], true, None, Some, nat_eq, length, if◌then◌else◌, IfOk, OnOk, OnErr};
+ghost use Rattle.std.specs.Prelude.{◌≡◌, [], true, None, Some, Err, map, nat_eq, length, if◌then◌else◌, IfOk, OnOk, OnErr};
 ghost use Rattle.std.specs.List.{list_any};
 ghost use Rattle.protocol.specs.Desk.{Choice, ticket_goes};
 ghost use Rattle.protocol.specs.Letters.{txn_name};
 ghost use Rattle.meaning.specs.declared.answer.Answer.{Answer as AnswerNow};
 ghost use Rattle.desk.specs.declared.reply.Reply.TheVariants.{Answer as Answers};
+ghost use Rattle.desk.specs.declared.refusal.Refusal.TheVariants as refusals;
+ghost use Rattle.desk.specs.declared.standing.Standing.TheVariants as standings;
 ghost use Rattle.desk.specs.declared.undecided.Stage.TheVariants as stages;
 ghost use Rattle.desk.specs.Database.{Database, language};
-ghost use Rattle.desk.specs.Sending.{writes_go};
-ghost use Rattle.desk.specs.Spots.{is_at};
+ghost use Rattle.desk.specs.Sending.{AreShort, IsPast, writes_go};
+ghost use Rattle.desk.specs.Spots.{changed_at, is_at, with_ticket};
 ghost use Rattle.desk.specs.Standing.{stage_of};
-ghost use Rattle.desk.specs.Stepped.{IsAtHome, IsStep, ticketed};
+ghost use Rattle.desk.specs.State.{IsIn};
+ghost use Rattle.desk.specs.Stepped.{IsAtHome, IsStep, goes_to, ticketed};
 
 use crate::asking::{Going, asks_step, writes_step};
 use crate::refusal::Refusal;
@@ -41,7 +44,7 @@ struct Written {
 }
 
 /// Nothing goes out.
-fn nothing(alloc: Global) -> Step
+pub(crate) fn nothing(alloc: Global) -> Step
     ensures letters { result.letters.items ≡ [] }
     ensures reply { result.reply ≡ None }
 {
@@ -79,6 +82,8 @@ fn writing_goes(
     ensures left { IfOk result (λ _. writing.new.unsent.items ≡ (writes_go txn writing.old.unsent.items spots.now).left) }
     ensures answer { OnOk result (writing.new.answer ≡ writing.old.answer) }
     ensures done { IfOk result (λ written. written.answer ≡ (if nat_eq (length writing.new.unsent.items) 0 then Some writing.old.answer else None)) }
+    ensures short { AreShort spots.now → IfOk result (λ written. AreShort written.going.spots.items) }
+    ensures full { result ≡ Err refusals.Full → IsPast (writes_go txn writing.old.unsent.items spots.now).spots }
     ensures same { OnErr result (writing.new ≡ writing.old) }
 {
     let answer = writing.answer.copy()?;
@@ -127,6 +132,9 @@ pub(crate) fn ticket_goes(
     ensures step { (db : Database) (choice : Choice (language db)) → list_any (is_at site.now) undecided.old.spots ≡ true → IsAtHome db undecided.old.stage
         → IfOk result (λ step. IsStep db txn undecided.new step
         (ticket_goes (txn_name txn) (ticketed db undecided.old site.now ticket) choice (stage_of db undecided.old.spots undecided.old.stage))) }
+    ensures within { (db : Database) → IsIn db (standings.Undecided undecided.old) → OnOk result (IsIn db (standings.Undecided undecided.new)) }
+    ensures short { AreShort undecided.old.spots → OnOk result (AreShort undecided.new.spots) }
+    ensures full { result ≡ Err refusals.Full → IsPast (goes_to txn (map (changed_at site.now (with_ticket (Some ticket))) undecided.old.spots) undecided.old.stage) }
     ensures same { OnErr result (undecided.new ≡ undecided.old) }
 {
     let spots = with_ticket(alloc, undecided.spots.as_slice(), site, ticket)?;

@@ -1,6 +1,7 @@
 //! Transactions that aren't decided.
 
 use crate::ask::Ask;
+use crate::planned::Planned;
 use crate::spot::Spot;
 use meaning::answer::Answer;
 use meaning::statement::Statement;
@@ -12,6 +13,7 @@ use terms::write::Write;
 #[derive(Debug, Drop)]
 pub(crate) struct Reading {
     pub(crate) statement: Statement,
+    pub(crate) plan: Planned,
     pub(crate) asks: Vec<Ask>,
 }
 

@@ -79,7 +79,7 @@ pub(crate) fn voting(spots: Vec<Spot>) -> Undecided
 
 /// Committed without a row.
 pub(crate) fn commits_at_once(alloc: Global) -> Turn
-    ensures turn { (db : Database) (txn : Txn) (old : Option StandingNow) → IsTurn db txn old result (commits_now (txn_name txn)) }
+    ensures turn { (db : Database) (txn : Txn) (old : Option StandingNow) → IsTurn db txn old result (commits_now db (txn_name txn)) }
     ensures after { result.after ≡ Ends }
     ensures kept { result.kept ≡ true }
 {

@@ -1,8 +1,9 @@
 -- Why `asks_begin` meets its contract.
-use Rattle.std.proofs.Common.{rules, ◌≡◌, ◌++◌, ◌∙◌}
+use Rattle.std.proofs.Common.{rules, ◌≡◌, ◌++◌, ◌∙◌, subst}
 use Rattle.desk.specs.Opening.{opens, visits}
-use Rattle.desk.specs.Sending.{asks_go}
+use Rattle.desk.specs.Sending.{AreShort, asks_go}
 use Rattle.desk.specs.Stating.{ask_sites}
+use Rattle.desk.proofs.Short.{visits_short}
 use Rattle.desk.proofs.stating.asks_begin.Goals as goal
 
 pub returns-clause-letters : goal.returns-clause-letters
@@ -15,3 +16,6 @@ returns-clause-letters c =
     let out : c.in_ok-going.going.letters.items ≡ (asks_go txn asks (visits c.in_ok-sites.sites.items spots)).letters = search rules in
     let all : c.in_ok-joined.field-0.items ≡ c.in_ok-letters.letters.items ++ c.in_ok-going.going.letters.items = search rules in
     all ∙ (λ i. first i ++ out i) ∙ (λ i. opens txn (sites i) spots ++ (asks_go txn asks (visits (sites i) spots)).letters)
+
+pub returns-clause-short : goal.returns-clause-short
+returns-clause-short c = λ short. c.in_ok-going.ensures.short (subst AreShort (search rules) (visits_short c.in_ok-sites.sites.items c.args.spots.now short))

@@ -1,0 +1,165 @@
+-- What a statement answers and writes, by rows that a whole database gives, is its meaning there.
+use Rattle.std.proofs.Common.{rules, ◌≡◌, ◌⊎◌, inl, inr, refl, sym, ap, ◌∙◌, subst, Bool, true, false, ◌||◌, List, [], ◌∷◌, map, Option, Some, None, if◌then◌else◌}
+use Rattle.std.specs.List.{AllByRecursion, cons_option}
+use Rattle.std.specs.FinMap as keyed
+use Rattle.terms.specs.declared.cond.Cond.{Cond}
+use Rattle.terms.specs.declared.leaf.Leaf.{Leaf}
+use Rattle.terms.specs.declared.value.Value.{Value}
+use Rattle.terms.specs.declared.write.Write.{Write}
+use Rattle.meaning.specs.declared.answer.Answer.{Answer}
+use Rattle.meaning.specs.declared.statement.Statement.{Statement}
+use Rattle.meaning.specs.Meaning.{meaning}
+use Rattle.meaning.specs.Statement.{IsStatementOf}
+use Rattle.meaning.specs.Whole.{FitsSchema, Relations, rows_of}
+use Rattle.catalog.specs.declared.fragment_leaf.FragmentLeaf.{FragmentLeaf}
+use Rattle.catalog.specs.Fragment.{content}
+use Rattle.catalog.specs.FragmentLeaf.{catalogue_leaves, is_name_of, leaf_named, unnamed, schemas_of}
+use Rattle.catalog.specs.Laws.{LeafNamesAreUnique}
+use Rattle.plan.specs.declared.fetch.Fetch.{Fetch}
+use Rattle.plan.specs.declared.need.Need.{Need}
+use Rattle.plan.specs.declared.reduce.Reduced.{Reduced}
+use Rattle.plan.specs.Given.{AreBrought}
+use Rattle.plan.specs.Given as plan
+use Rattle.catalog.specs.Catalogue.{Catalogue}
+use Rattle.plan.specs.Stated.{AreFetchesOf}
+use Rattle.plan.specs.Reduced.{FindsAll, is_fetched, same_leaf}
+use Rattle.plan.specs.Rows.{met}
+use Rattle.plan.specs.Shape.{shape}
+use Rattle.plan.proofs.Fetched.{one_name}
+use Rattle.answers.specs.declared.table.FetchRows.{FetchRows}
+use Rattle.answers.specs.Table.{given}
+use Rattle.answers.specs.Writes.{writes_between}
+use Rattle.store.specs.Content.{parts}
+use Rattle.protocol.specs.Desk as desk
+use Rattle.protocol.specs.Language.{Name}
+use Rattle.protocol.specs.Parts.{In}
+use Rattle.protocol.specs.Serial.{Explained, Gives}
+use Rattle.desk.specs.declared.ask.Ask.{Ask}
+use Rattle.desk.specs.declared.undecided.Unsent.{Unsent}
+use Rattle.desk.specs.Brought.{brought, brought_by}
+use Rattle.desk.specs.Database.{Database, language}
+use Rattle.desk.specs.OfCatalogue.{HasContent, IsOfCatalogue}
+use Rattle.desk.specs.Planned.{IsOfPlan, asked, fetched, unsent_from}
+use Rattle.desk.specs.Standing.{ask_of, at_leaf, write_of}
+use Rattle.desk.proofs.AtHomes.{found_so, writes_are}
+use Rattle.desk.proofs.Located.{AreOf, IsEither, are_of, located, same_fetch}
+
+each_in : {A : Type 0} (Q : A → Type 0) (xs : List A) → ((x : A) → In x xs → Q x) → AllByRecursion Q xs
+each_in Q [] each = tt
+each_in Q (x ∷ xs) each = (each x (inl refl), each_in Q xs (λ y there. each y (inr there)))
+
+of_in : {A : Type 0} (P : A → Type 0) (xs : List A) (x : A) → AllByRecursion P xs → In x xs → P x
+of_in P [] x all there = absurd (there)
+of_in P (y ∷ xs) x all (inl is) = subst P (sym is) all.0
+of_in P (y ∷ xs) x all (inr there) = of_in P xs x all.1 there
+
+fetched_in : (fetches : List Fetch) (fetch : Fetch) → In fetch fetches → is_fetched fetches fetch.leaf ≡ true
+fetched_in [] fetch there = absurd (there)
+fetched_in (first ∷ fetches) fetch (inl is) = ap (λ (f : Fetch). same_leaf first.leaf f.leaf || is_fetched fetches f.leaf) is ∙ ap (λ b. b || is_fetched fetches first.leaf) (same_self first.leaf)
+  where
+    same_self : (leaf : Leaf) → same_leaf leaf leaf ≡ true
+    same_self leaf = search rules
+fetched_in (first ∷ fetches) fetch (inr there) = go (same_leaf first.leaf fetch.leaf) (fetched_in fetches fetch there)
+  where
+    go : (b : Bool) → is_fetched fetches fetch.leaf ≡ true → (b || is_fetched fetches fetch.leaf) ≡ true
+    go true is = refl
+    go false is = is
+
+module _ (db : Database) (of : IsOfCatalogue db) (unique : LeafNamesAreUnique) (stated : Statement) (reduced : Reduced) (asks : List Ask) (planned : IsOfPlan db stated reduced asks) where
+  abbrev all : List FragmentLeaf
+  all = catalogue_leaves db.catalogue
+
+  abbrev fetches : List Fetch
+  fetches = reduced.fetches.items
+
+  -- it is a statement of the catalogue's schema
+  pub stated_there : IsStatementOf (schemas_of db.catalogue) stated
+  stated_there = subst (λ schemas. IsStatementOf schemas stated) of.schemas planned.statement
+
+  pub known : AreOf all fetches
+  known = are_of db.catalogue unique of.formed stated fetches stated_there planned.fetches
+
+  module _ (whole : Relations) (fits : FitsSchema db.schemas whole) (gives : Gives {L = language db} whole (map (ask_of db) asks)) where
+    -- what a fetch is to bring
+    of_whole : (fetch : Fetch) → IsEither all known.need known.other fetch → parts fetch.conds (db.content fetch.leaf whole) ≡ plan.brought whole fetch (leaf_named fetch.leaf all)
+    of_whole fetch is =
+        let there = located all known.need known.other fetch is in
+        let leaf = there.0 in
+        let found = found_so (HasContent db whole) (is_name_of fetch.leaf) all leaf (of.content whole fits) there.1 in
+        ap (λ (name : Leaf). parts fetch.conds (db.content name whole)) (sym (one_name leaf.name fetch.leaf found.1))
+        ∙ ap (met fetch.conds) found.0
+        ∙ sym (ap (plan.brought whole fetch) there.1)
+
+    -- what was brought of a leaf that is among these
+    given_at : (asks : List Ask) (list : List Fetch) → map asked asks ≡ map fetched list → AllByRecursion (IsEither all known.need known.other) list → Gives {L = language db} whole (map (ask_of db) asks) →
+        (fetch : Fetch) → IsEither all known.need known.other fetch → is_fetched list fetch.leaf ≡ true → given (brought asks) fetch.leaf ≡ parts fetch.conds (db.content fetch.leaf whole)
+    given_at [] [] same each gives fetch is there = cc
+    given_at [] (first ∷ list) same each gives fetch is there = cc
+    given_at (ask ∷ asks) [] same each gives fetch is there = cc
+    given_at (ask ∷ asks) (first ∷ list) same each gives fetch is there =
+        let head : asked ask ≡ fetched first = cc in
+        let leaf : ask.leaf ≡ first.leaf = ap (λ (p : Leaf × List Cond). p.0) head in
+        let conds : ask.conds ≡ first.conds = ap (λ (p : Leaf × List Cond). p.1) head in
+        let rest : map asked asks ≡ map fetched list = cc in
+        go ask.rows gives.0 leaf conds (same_leaf ask.leaf fetch.leaf) refl (ap (λ (name : Leaf). same_leaf name fetch.leaf || is_fetched list fetch.leaf) leaf ∙ there) (given_at asks list rest each.1 gives.1 fetch is)
+      where
+        go : (rows : Option (List (List Value))) → rows ≡ Some (parts ask.conds (db.content ask.leaf whole)) → ask.leaf ≡ first.leaf → ask.conds ≡ first.conds → (b : Bool) → same_leaf ask.leaf fetch.leaf ≡ b → (same_leaf ask.leaf fetch.leaf || is_fetched list fetch.leaf) ≡ true →
+            (is_fetched list fetch.leaf ≡ true → given (brought asks) fetch.leaf ≡ parts fetch.conds (db.content fetch.leaf whole)) →
+            given (cons_option (brought_by (record ask { rows = rows })) (brought asks)) fetch.leaf ≡ parts fetch.conds (db.content fetch.leaf whole)
+        go None is_rows leaf conds b e there more = cc
+        go (Some rows) is_rows leaf conds true e there more =
+            let name : ask.leaf ≡ fetch.leaf = one_name ask.leaf fetch.leaf e in
+            let one : first ≡ fetch = same_fetch all known.need known.other first fetch known.apart each.0 is (sym leaf ∙ name) in
+            let rows_are : rows ≡ parts ask.conds (db.content ask.leaf whole) = cc in
+            ap (λ b. if b then rows else given (brought asks) fetch.leaf) e
+            ∙ rows_are ∙ (λ i. parts (conds i) (db.content (leaf i) whole)) ∙ ap (λ (f : Fetch). parts f.conds (db.content f.leaf whole)) one
+        go (Some rows) is_rows leaf conds false e there more =
+            ap (λ b. if b then rows else given (brought asks) fetch.leaf) e
+            ∙ more (ap (λ b. b || is_fetched list fetch.leaf) (sym e) ∙ there)
+
+    pub are_brought : AreBrought db.catalogue whole fetches (given (brought asks))
+    are_brought = each_in (λ read. given (brought asks) read.leaf ≡ plan.brought whole read (leaf_named read.leaf all)) fetches
+        (λ fetch there.
+        let is = of_in (IsEither all known.need known.other) fetches fetch known.each there in
+        given_at asks fetches planned.in_order known.each gives fetch is (fetched_in fetches fetch there) ∙ of_whole fetch is)
+
+  -- the deed of the evaluation is explained
+  pub explained : (t : Name) (answer : Answer) (list : List Write) →
+      ((whole : Relations) → FitsSchema (schemas_of db.catalogue) whole → AreBrought db.catalogue whole fetches (given (brought asks)) → answer ≡ (meaning stated whole).0) →
+      ((whole : Relations) → FitsSchema (schemas_of db.catalogue) whole → AreBrought db.catalogue whole fetches (given (brought asks)) → list ≡ writes_between db.catalogue whole (meaning stated whole).1) →
+      Explained {L = language db} (desk.Worked t stated (map (ask_of db) asks) (answer, map write_of (map (unsent_from db.catalogue) list)))
+  explained t answer list answers writes = (
+    planned.statement,
+    λ whole fits gives.
+        let there = subst (λ schemas. FitsSchema schemas whole) of.schemas fits in
+        let are = are_brought whole fits gives in (
+          answers whole there are,
+          writes_are db list ∙ ap (map at_leaf) (writes whole there are) ∙ sym (of.writes whole (meaning stated whole).1),
+        ),
+  )
+
+-- so, where the catalogue, the rows and the writes go by other names
+pub explained_of : (db : Database) → IsOfCatalogue db → LeafNamesAreUnique → (stated : Statement) (reduced : Reduced) (asks : List Ask) → IsOfPlan db stated reduced asks → (t : Name) (answer : Answer) (list : List Write) (catalogue : Catalogue) → db.catalogue ≡ catalogue →
+    (rows : List FetchRows) → rows ≡ brought asks → (unsent : List Unsent) → unsent ≡ map (unsent_from catalogue) list →
+    (IsStatementOf (schemas_of catalogue) stated → AreFetchesOf catalogue stated reduced.fetches.items → FindsAll catalogue stated reduced.fetches.items (shape reduced.plan) → (whole : Relations) → FitsSchema (schemas_of catalogue) whole → AreBrought catalogue whole reduced.fetches.items (given rows) → answer ≡ (meaning stated whole).0) →
+    (IsStatementOf (schemas_of catalogue) stated → AreFetchesOf catalogue stated reduced.fetches.items → FindsAll catalogue stated reduced.fetches.items (shape reduced.plan) → (whole : Relations) → FitsSchema (schemas_of catalogue) whole → AreBrought catalogue whole reduced.fetches.items (given rows) → list ≡ writes_between catalogue whole (meaning stated whole).1) →
+    Explained {L = language db} (desk.Worked t stated (map (ask_of db) asks) (answer, map write_of unsent))
+explained_of db of unique stated reduced asks planned t answer list catalogue same rows rows_are unsent unsent_are answers writes =
+    subst (λ us. Explained {L = language db} (desk.Worked t stated (map (ask_of db) asks) (answer, map write_of us))) (sym unsent_are)
+    (subst (λ cat. Explained {L = language db} (desk.Worked t stated (map (ask_of db) asks) (answer, map write_of (map (unsent_from cat) list)))) same
+    (explained db of unique stated reduced asks planned t answer list
+    (λ whole fits are. answers of_statement of_fetches of_finds whole (subst (λ cat. FitsSchema (schemas_of cat) whole) same fits) (brought_there whole are))
+    (λ whole fits are. writes of_statement of_fetches of_finds whole (subst (λ cat. FitsSchema (schemas_of cat) whole) same fits) (brought_there whole are)
+    ∙ sym (ap (λ cat. writes_between cat whole (meaning stated whole).1) same))))
+  where
+    of_statement : IsStatementOf (schemas_of catalogue) stated
+    of_statement = subst (λ cat. IsStatementOf (schemas_of cat) stated) same (stated_there db of unique stated reduced asks planned)
+
+    of_fetches : AreFetchesOf catalogue stated reduced.fetches.items
+    of_fetches = subst (λ cat. AreFetchesOf cat stated reduced.fetches.items) same planned.fetches
+
+    of_finds : FindsAll catalogue stated reduced.fetches.items (shape reduced.plan)
+    of_finds = subst (λ cat. FindsAll cat stated reduced.fetches.items (shape reduced.plan)) same planned.finds
+
+    brought_there : (whole : Relations) → AreBrought db.catalogue whole reduced.fetches.items (given (brought asks)) → AreBrought catalogue whole reduced.fetches.items (given rows)
+    brought_there whole are = subst (λ r. AreBrought catalogue whole reduced.fetches.items (given r)) (sym rows_are) (subst (λ cat. AreBrought cat whole reduced.fetches.items (given (brought asks))) same are)

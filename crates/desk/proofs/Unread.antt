@@ -1,0 +1,45 @@
+-- What the reader says of texts that are no statement's.
+use Rattle.std.proofs.Common.{◌≡◌, ◌≢◌, ◌⊎◌, inl, inr, refl, sym, subst, ℕ, List, Result, Ok, Err, IfOk, IfErr}
+use Rattle.meaning.specs.declared.schema.RelationSchema.{RelationSchema}
+use Rattle.meaning.specs.declared.statement.Statement.{Statement}
+use Rattle.meaning.specs.Statement.{IsStatementOf}
+use Rattle.reader.specs.declared.command.Command.{Command}
+use Rattle.reader.specs.declared.command.Command.TheVariants as command
+use Rattle.reader.specs.declared.fault.Rule.TheVariants as rules
+use Rattle.reader.specs.Breaks.{TextBreaks}
+use Rattle.reader.specs.Command.{IsCommandOf, IsTextOf}
+use Rattle.reader.specs.Fault.{Fault}
+use Rattle.desk.specs.declared.refusal.Refusal.{Refusal}
+use Rattle.desk.specs.declared.refusal.Refusal.TheVariants as refusal
+use Rattle.desk.specs.Does.{IsUnread}
+
+module _ (there schema : List RelationSchema) (same : there ≡ schema) where
+  pub spelled_by : (text : List ℕ) (given : Command) (result : Result Statement Refusal) → IsTextOf there text given → IfOk result (λ stated. given ≡ command.Run stated) → IfOk result (λ stated. IsTextOf schema text (command.Run stated))
+  spelled_by text given (Ok stated) found is = subst (λ ss. IsTextOf ss text (command.Run stated)) same (subst (IsTextOf there text) is found)
+  spelled_by text given (Err told) found is = tt
+
+  pub fits_by : (given : Command) (result : Result Statement Refusal) → IsCommandOf there given → IfOk result (λ stated. given ≡ command.Run stated) → IfOk result (λ stated. IsStatementOf schema stated)
+  fits_by given (Ok stated) fits is = subst (λ ss. IsStatementOf ss stated) same (subst (IsCommandOf there) is fits)
+  fits_by given (Err told) fits is = tt
+
+  pub run_told : (text : List ℕ) (given : Command) (result : Result Statement Refusal) → IsTextOf there text given →
+      IfErr result (λ told. (told ≡ refusal.Read (record { rule = rules.Syntax; offset = 0 })) × ((given ≡ command.Begin) ⊎ ((given ≡ command.Commit) ⊎ (given ≡ command.Rollback)))) → IfErr result (λ told. (told ≡ refusal.Memory) ⊎ IsUnread schema text told)
+  run_told text given (Ok stated) found none = tt
+  run_told text given (Err told) found none = inr (record { fault = record { rule = rules.Syntax; offset = 0 }; is = none.0; why = inr (refl, go none.1) })
+    where
+      at : (other : Command) → given ≡ other → IsTextOf schema text other
+      at other is = subst (λ ss. IsTextOf ss text other) same (subst (IsTextOf there text) is found)
+
+      go : (given ≡ command.Begin) ⊎ ((given ≡ command.Commit) ⊎ (given ≡ command.Rollback)) → IsTextOf schema text command.Begin ⊎ (IsTextOf schema text command.Commit ⊎ IsTextOf schema text command.Rollback)
+      go (inl is) = inl (at command.Begin is)
+      go (inr (inl is)) = inr (inl (at command.Commit is))
+      go (inr (inr is)) = inr (inr (at command.Rollback is))
+
+  pub unread_told : (text : List ℕ) (fault : Fault) (told : Refusal) → (told ≡ refusal.Memory) ⊎ ((fault.rule ≢ rules.Memory) × (told ≡ refusal.Read fault)) → (fault.rule ≢ rules.Memory → (given : Command) → IsTextOf there text given → ⊥) → (fault.rule ≢ rules.Memory → TextBreaks fault.rule there text) →
+      (told ≡ refusal.Memory) ⊎ IsUnread schema text told
+  unread_told text fault told (inl memory) none breaks = inl memory
+  unread_told text fault told (inr other) none breaks = inr (record {
+    fault = fault;
+    is = other.1;
+    why = inl (subst (λ ss. TextBreaks fault.rule ss text) same (breaks other.0), λ given spelled. none other.0 given (subst (λ ss. IsTextOf ss text given) (sym same) spelled));
+  })

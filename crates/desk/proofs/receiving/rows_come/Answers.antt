@@ -1,0 +1,52 @@
+-- Why `rows_come` meets its contract.
+use Rattle.std.proofs.Common.{rules, ◌≡◌, true, false, sym, ap, ◌∙◌, subst, map}
+use Rattle.catalog.specs.Relation.{catalogue_of}
+use Rattle.protocol.specs.Letters.{txn_name}
+use Rattle.desk.specs.declared.undecided.Stage.TheVariants as stages
+use Rattle.desk.specs.Ballots.{is_first}
+use Rattle.desk.specs.Brought.{are_in, with_rows}
+use Rattle.desk.specs.Spots.{spot_in}
+use Rattle.desk.proofs.Doing.{planned_given_by, rows_strange, rows_unread, rows_wait_by, works_rows}
+use Rattle.desk.proofs.receiving.rows_come.Goals as goal
+
+pub returns-then-not-gave_first-clause-does : goal.returns-then-not-gave_first-clause-does
+returns-then-not-gave_first-clause-does c = λ db of same are known.
+    let u = c.args.undecided.now in
+    let other : is_first c.args.rows.now.ticket (spot_in c.args.site.now u.spots).ticket ≡ false = search rules in
+    rows_strange db c.args.txn u u c.args.site.now c.args.rows.now c.nothing.result other (λ i. u) (search rules) (search rules) known
+
+pub returns-in_default : goal.returns-in_default
+returns-in_default c = record {
+  does = λ db of same are known.
+      let u = c.args.undecided.now in
+      rows_unread db c.args.txn u u c.args.site.now c.args.rows.now c.nothing-in_default.result (search rules) (λ i. u) (search rules) (search rules) known;
+  short = λ short. short;
+  same = tt;
+}
+
+pub returns-then-not-are_in-clause-does : goal.returns-then-not-are_in-clause-does
+returns-then-not-are_in-clause-does c = λ db of same are known.
+    let u = c.args.undecided.now in
+    let reading = c.in-Reading.reading in
+    let here : u.stage ≡ stages.Reading reading = search rules in
+    let first : is_first c.args.rows.now.ticket (spot_in c.args.site.now u.spots).ticket ≡ true = search rules in
+    let list : c.in_ok-asks.asks.items ≡ map (with_rows (catalogue_of c.args.catalog.now) c.args.site.now c.args.rows.now.op c.args.rows.now.parts) reading.asks.items = search rules in
+    let more : are_in c.in_ok-asks.asks.items ≡ false = search rules in
+    rows_wait_by db c.args.txn u _ c.args.site.now c.args.rows.now of c.leaf_names_are_unique.ensures reading here first known (catalogue_of c.args.catalog.now) same c.in_ok-asks.asks.items list more c.waits.new.reading (search rules) (search rules) (search rules) (search rules) (search rules) c.nothing-then-not-are_in.result (search rules) (search rules)
+
+pub returns-clause-does : goal.returns-clause-does
+returns-clause-does c = λ db of same are known.
+    let u = c.args.undecided.now in
+    let reading = c.in-Reading.reading in
+    let worked = c.in_ok-worked.worked in
+    let here : u.stage ≡ stages.Reading reading = search rules in
+    let first : is_first c.args.rows.now.ticket (spot_in c.args.site.now u.spots).ticket ≡ true = search rules in
+    let list : c.in_ok-asks.asks.items ≡ map (with_rows (catalogue_of c.args.catalog.now) c.args.site.now c.args.rows.now.op c.args.rows.now.parts) reading.asks.items = search rules in
+    let all : are_in c.in_ok-asks.asks.items ≡ true = search rules in
+    let here_list = list ∙ ap (λ cat. map (with_rows cat c.args.site.now c.args.rows.now.op c.args.rows.now.parts) reading.asks.items) (sym same) in
+    let slice = c.as_slice-4.ensures.value ∙ here_list in
+    let home = c.in_ok-worked.ensures.home db of same in
+    let have = c.in_ok-worked.ensures.spots db u.spots of same are.sites in
+    let planned = planned_given_by db c.args.txn u c.args.site.now c.args.rows.now of c.leaf_names_are_unique.ensures reading here first known c.as_slice-4.result.now slice in
+    works_rows db c.args.txn u c.works.new.undecided c.args.site.now c.args.rows.now of c.leaf_names_are_unique.ensures reading here first known c.as_slice-4.result.now slice (ap are_in c.as_slice-4.ensures.value ∙ all) worked.answer worked.unsent.items
+    (c.in_ok-worked.ensures.explained db (txn_name c.args.txn) of same planned) c.works.result (c.works.ensures.step db reading.statement _ are have home) (c.works.ensures.within db are.sites home)

@@ -1,0 +1,37 @@
+-- Why `call_statement` meets its contract.
+use Rattle.std.proofs.Common.{rules, ◌≡◌, sym, ap, ◌∙◌, subst, map, List}
+use Rattle.catalog.specs.FragmentLeaf.{schemas_of}
+use Rattle.catalog.specs.Relation.{catalogue_of}
+use Rattle.meaning.specs.declared.schema.RelationSchema.{RelationSchema}
+use Rattle.meaning.specs.Statement.{IsStatementOf}
+use Rattle.reader.specs.declared.command.Command.TheVariants.{Run}
+use Rattle.reader.specs.Command.{IsTextOf}
+use Rattle.protocol.specs.Desk.{State, on_request}
+use Rattle.protocol.specs.Letters.{txn_name}
+use Rattle.desk.specs.Calls.{txn_in}
+use Rattle.desk.specs.Planned.{ask_from}
+use Rattle.desk.specs.State.{table_of}
+use Rattle.desk.proofs.Doing.{idle_there, plan_made, steps_on}
+use Rattle.desk.proofs.statements.call_statement.Goals as goal
+
+pub returns-in-Ok-clause-ok : goal.returns-in-Ok-clause-ok
+returns-in-Ok-clause-ok c = λ db kept of same fits.
+    let present = c.args.present.now in
+    let catalogue = catalogue_of c.args.catalog.now in
+    let statement = c.in_ok-statement.statement in
+    let plan = c.in_ok-plan.plan in
+    let asks = c.in_ok-asks.asks.items in
+    let list : asks ≡ map (ask_from catalogue) plan.fetches.items = search rules in
+    let stands = idle_there ((table_of present).standing c.args.txn) c.in_ok-may_state.ensures.idle in
+    let planned = plan_made db of catalogue same statement plan asks c.in_ok-statement.ensures.fits c.in_ok-plan.ensures.fetches c.in_ok-plan.ensures.finds list in
+    let goes = c.in-Ok.ensures.goes db kept stands.0 of same fits stands.1 stands.2 planned (list ∙ ap (λ cat. map (ask_from cat) plan.fetches.items) (sym same)) in
+    let schemas = of.schemas ∙ ap schemas_of same in
+    record {
+      statement = statement;
+      choice = goes.does.choice;
+      spelled = subst (λ (ss : List RelationSchema). IsTextOf ss c.args.text.now (Run statement)) (sym schemas) c.in_ok-statement.ensures.spelled;
+      fits = subst (λ (ss : List RelationSchema). IsStatementOf ss statement) (sym schemas) c.in_ok-statement.ensures.fits;
+      steps = steps_on db kept present c.stated.ensures.ordered fits c.args.txn stands.0 stands.1 (λ choice. on_request (txn_name c.args.txn) choice (State statement) (txn_in db (table_of present) c.args.txn)) (table_of c.stated.new.present) c.in-Ok.step goes
+          c.put_out.result.letters c.put_out.result.replies c.put_out.ensures.letters (c.put_out.ensures.replies c.in_ok-room.ensures.empty);
+      explained = goes.does.explained;
+    }

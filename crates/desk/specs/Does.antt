@@ -1,0 +1,85 @@
+-- What is done of a statement.
+use Rattle.std.specs.Prelude.{◌≡◌, ◌⊎◌, ℕ, true, false, List}
+use Rattle.std.specs.BTreeMap.{is_at}
+use Rattle.std.specs.Map.{set_value}
+use Rattle.meaning.specs.declared.schema.RelationSchema.{RelationSchema}
+use Rattle.meaning.specs.declared.statement.Statement.{Statement}
+use Rattle.meaning.specs.Statement.{IsStatementOf}
+use Rattle.reader.specs.declared.command.Command.{Command}
+use Rattle.reader.specs.declared.command.Command.TheVariants as command
+use Rattle.reader.specs.declared.fault.Rule.TheVariants as rules
+use Rattle.reader.specs.Breaks.{TextBreaks}
+use Rattle.reader.specs.Command.{IsTextOf}
+use Rattle.reader.specs.Fault.{Fault}
+use Rattle.store.specs.DeskContent.{DeskContent}
+use Rattle.store.specs.declared.letter.Letter.{Letter}
+use Rattle.store.specs.declared.name.Txn.{Txn}
+use Rattle.store.specs.Name.{txn_cmp}
+use Rattle.protocol.specs.Desk as protocol
+use Rattle.protocol.specs.Letters.{txn_name}
+use Rattle.protocol.specs.Serial.{AllExplained}
+use Rattle.desk.specs.declared.present.Present.{Present}
+use Rattle.desk.specs.declared.refusal.Refusal as refusals
+use Rattle.desk.specs.declared.refusal.Refusal.TheVariants as refusal
+use Rattle.desk.specs.declared.reply.Notice.{Notice}
+use Rattle.desk.specs.declared.standing.Standing.{Standing}
+use Rattle.desk.specs.declared.standing.Standing.TheVariants as standing
+use Rattle.desk.specs.declared.stepping.Step.{Step}
+use Rattle.desk.specs.declared.undecided.Undecided.{Undecided}
+use Rattle.desk.specs.Calls.{txn_in}
+use Rattle.desk.specs.Database.{Database, language}
+use Rattle.desk.specs.Sending.{AreShort}
+use Rattle.desk.specs.State.{IsIn, Steps, Table, desk_of, table_from}
+use Rattle.desk.specs.Stepped.{IsStep}
+
+-- a step is the protocol's for one answer and its writes, and these are explained
+pub record Does (db : Database) (txn : Txn) (new : Undecided) (made : Step) (wanted : protocol.Choice (language db) → protocol.Turn (language db)) : Type 0 where
+  pub choice : protocol.Choice (language db)
+  pub step : IsStep db txn new made (wanted choice)
+  pub explained : AllExplained (wanted choice).deeds
+  pub within : IsIn db (standing.Undecided new)
+
+-- so of what stands behind a transaction
+abbrev pub DoesIn : (db : Database) → Txn → Standing → Step → (protocol.Choice (language db) → protocol.Turn (language db)) → Type 0
+DoesIn db txn (standing.Undecided new) made wanted = Does db txn new made wanted
+DoesIn db txn (standing.Committed committed) made wanted = ⊥
+
+-- an undecided transaction's counts are below the limit
+abbrev pub IsShort : Standing → Type 0
+IsShort (standing.Undecided undecided) = AreShort undecided.spots
+IsShort (standing.Committed committed) = Unit {0}
+
+-- a turn is past the limits, for one answer and its writes that are explained
+pub record IsTooMuch (db : Database) (wanted : protocol.Choice (language db) → protocol.Turn (language db)) : Type 0 where
+  pub choice : protocol.Choice (language db)
+  pub long : protocol.is_short_txn (wanted choice).txn ≡ false
+  pub known : protocol.is_unknown (wanted choice).txn ≡ false
+
+-- a text that is no statement's, as the reader tells it: it breaks a rule and is no command's, or it begins or ends a transaction
+pub record IsUnread (schema : List RelationSchema) (text : List ℕ) (told : refusals.Refusal) : Type 0 where
+  pub fault : Fault
+  pub is : told ≡ refusal.Read fault
+  pub why : (TextBreaks fault.rule schema text × ((given : Command) → IsTextOf schema text given → ⊥))
+      ⊎ ((fault ≡ record { rule = rules.Syntax; offset = 0 }) × (IsTextOf schema text command.Begin ⊎ (IsTextOf schema text command.Commit ⊎ IsTextOf schema text command.Rollback)))
+
+-- a text is a statement's, and the statement is stated
+pub record States (db : Database) (before : Table) (kept : DeskContent) (after : Table) (txn : Txn) (text : List ℕ) (written : List Letter) (heard : List Notice) : Type 0 where
+  pub statement : Statement
+  pub choice : protocol.Choice (language db)
+  pub spelled : IsTextOf db.schemas text (command.Run statement)
+  pub fits : IsStatementOf db.schemas statement
+  pub steps : Steps db before kept after txn (protocol.on_request (txn_name txn) choice (protocol.State statement) (txn_in db before txn)) written heard
+  pub explained : AllExplained (protocol.on_request (txn_name txn) choice (protocol.State statement) (txn_in db before txn)).deeds
+
+-- a letter of a site is taken
+pub record Takes (db : Database) (before : Table) (kept : DeskContent) (after : Table) (txn : Txn) (wanted : protocol.Choice (language db) → protocol.Turn (language db)) (written : List Letter) (heard : List Notice) : Type 0 where
+  pub choice : protocol.Choice (language db)
+  pub steps : Steps db before kept after txn (wanted choice) written heard
+  pub explained : AllExplained (wanted choice).deeds
+
+-- a statement goes on in memory
+pub record GoesOn (db : Database) (old : Present) (after : Table) (txn : Txn) (made : Step) (wanted : protocol.Choice (language db) → protocol.Turn (language db)) : Type 0 where
+  pub new : Undecided
+  pub moved : after ≡ table_from (set_value (is_at (txn_cmp txn)) old.standings.entries (standing.Undecided new)) old.undecided old.life old.number
+  pub does : Does db txn new made wanted
+  pub short : protocol.is_short_txn (wanted does.choice).txn ≡ true
