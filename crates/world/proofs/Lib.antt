@@ -8,3 +8,5 @@ pub mod Opened
 pub mod FilledLeaves
 pub mod Openings
 pub mod BaseStored
+pub mod BaseWritten
+pub mod BaseLawful
