@@ -1,5 +1,5 @@
 -- The database of a catalogue is that of the catalogue, and its language is lawful.
-use Rattle.std.proofs.Common.{◌≡◌, ◌<◌, refl, sym, ap, ◌∙◌, subst, ℕ, List, [], ◌∷◌, map, length, Option, Some, None, unwrap_or, arith}
+use Rattle.std.proofs.Common.{◌≡◌, ◌<◌, refl, sym, ap, ◌∙◌, subst, ℕ, zero, suc, List, [], ◌∷◌, map, length, Option, Some, None, unwrap_or, arith}
 use Rattle.std.specs.FinMap as fin
 use Rattle.std.specs.List.{AllByRecursion, slice_get}
 use Rattle.terms.specs.declared.leaf.Leaf.{Leaf}

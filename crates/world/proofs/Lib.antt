@@ -10,3 +10,4 @@ pub mod Openings
 pub mod BaseStored
 pub mod BaseWritten
 pub mod BaseLawful
+pub mod BaseSites
