@@ -1,6 +1,5 @@
 -- Fetches that go out, and those that have rows, are asked as before.
-use Rattle.std.proofs.Common.{◌≡◌, refl, sym, ap, ap₂, ◌∙◌, subst, ℕ, Bool, true, false, List, [], ◌∷◌, map, Option, Some, None, if◌then◌else◌}
-use Rattle.std.specs.List.{AllByRecursion}
+use Rattle.std.proofs.Common.{◌≡◌, refl, sym, ap, ap₂, ◌∙◌, ℕ, Bool, true, false, List, [], ◌∷◌, map, Option, Some, None, if◌then◌else◌}
 use Rattle.terms.specs.declared.value.Value.{Value}
 use Rattle.catalog.specs.Catalogue.{Catalogue}
 use Rattle.store.specs.declared.name.Ticket.{Ticket}

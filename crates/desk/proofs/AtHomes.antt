@@ -1,5 +1,5 @@
 -- Fetches and writes are at the homes of their leaves, and at each of these there is a spot.
-use Rattle.std.proofs.Common.{◌≡◌, refl, sym, ap, ◌∙◌, subst, ℕ, zero, suc, nat_eq, Bool, true, false, ◌||◌, ◌&&◌, ◌==◌, List, [], ◌∷◌, map, find, Option, Some, None, option_and_then, unwrap_or, if◌then◌else◌}
+use Rattle.std.proofs.Common.{◌≡◌, refl, sym, ap, ◌∙◌, subst, ℕ, zero, suc, nat_eq, Bool, true, false, ◌||◌, List, [], ◌∷◌, map, find, Option, Some, option_and_then, unwrap_or, if◌then◌else◌}
 use Rattle.std.specs.Cmp.Lexicographic.{pointwise}
 use Rattle.std.specs.List.{AllByRecursion, list_any, slice_get}
 use Rattle.terms.specs.declared.leaf.Leaf.{Leaf}
@@ -14,13 +14,11 @@ use Rattle.answers.specs.Writes as answers
 use Rattle.answers.specs.Writes.{is_leaf_in}
 use Rattle.protocol.specs.Desk as desk
 use Rattle.protocol.specs.Letters.{leaf_of}
-use Rattle.desk.specs.declared.ask.Ask.{Ask}
 use Rattle.desk.specs.declared.spot.Spot.{Spot}
-use Rattle.desk.specs.declared.undecided.Unsent.{Unsent}
 use Rattle.desk.specs.Database.{Database, language}
 use Rattle.desk.specs.OfCatalogue.{IsOfCatalogue}
 use Rattle.desk.specs.Opening.{HaveSpots}
-use Rattle.desk.specs.Planned.{ask_from, asked, fetched, home_in, site_in, unsent_from}
+use Rattle.desk.specs.Planned.{ask_from, asked, fetched, home_in, unsent_from}
 use Rattle.desk.specs.Sending.{AsksAtHome, UnsentAtHome}
 use Rattle.desk.specs.Spots.{is_at, sites_of}
 use Rattle.desk.specs.Standing.{ask_of, at_leaf, write_of}

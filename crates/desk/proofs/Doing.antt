@@ -4,7 +4,6 @@ use Rattle.std.specs.Option.{option_map}
 use Rattle.meaning.specs.declared.answer.Answer.{Answer}
 use Rattle.meaning.specs.declared.answer.Answer.TheVariants as answer
 use Rattle.meaning.specs.declared.statement.Statement.{Statement}
-use Rattle.plan.specs.declared.fetch.Fetch.{Fetch}
 use Rattle.plan.specs.declared.reduce.Reduced.{Reduced}
 use Rattle.store.specs.declared.name.Ticket.{Ticket}
 use Rattle.store.specs.declared.name.Txn.{Txn}

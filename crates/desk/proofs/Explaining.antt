@@ -1,7 +1,6 @@
 -- What a statement answers and writes, by rows that a whole database gives, is its meaning there.
-use Rattle.std.proofs.Common.{rules, ◌≡◌, ◌⊎◌, inl, inr, refl, sym, ap, ◌∙◌, subst, Bool, true, false, ◌||◌, List, [], ◌∷◌, map, Option, Some, None, if◌then◌else◌}
+use Rattle.std.proofs.Common.{rules, ◌≡◌, inl, inr, refl, sym, ap, ◌∙◌, subst, Bool, true, false, ◌||◌, List, [], ◌∷◌, map, Option, Some, None, if◌then◌else◌}
 use Rattle.std.specs.List.{AllByRecursion, cons_option}
-use Rattle.std.specs.FinMap as keyed
 use Rattle.terms.specs.declared.cond.Cond.{Cond}
 use Rattle.terms.specs.declared.leaf.Leaf.{Leaf}
 use Rattle.terms.specs.declared.value.Value.{Value}
@@ -10,13 +9,11 @@ use Rattle.meaning.specs.declared.answer.Answer.{Answer}
 use Rattle.meaning.specs.declared.statement.Statement.{Statement}
 use Rattle.meaning.specs.Meaning.{meaning}
 use Rattle.meaning.specs.Statement.{IsStatementOf}
-use Rattle.meaning.specs.Whole.{FitsSchema, Relations, rows_of}
+use Rattle.meaning.specs.Whole.{FitsSchema, Relations}
 use Rattle.catalog.specs.declared.fragment_leaf.FragmentLeaf.{FragmentLeaf}
-use Rattle.catalog.specs.Fragment.{content}
-use Rattle.catalog.specs.FragmentLeaf.{catalogue_leaves, is_name_of, leaf_named, unnamed, schemas_of}
+use Rattle.catalog.specs.FragmentLeaf.{catalogue_leaves, is_name_of, leaf_named, schemas_of}
 use Rattle.catalog.specs.Laws.{LeafNamesAreUnique}
 use Rattle.plan.specs.declared.fetch.Fetch.{Fetch}
-use Rattle.plan.specs.declared.need.Need.{Need}
 use Rattle.plan.specs.declared.reduce.Reduced.{Reduced}
 use Rattle.plan.specs.Given.{AreBrought}
 use Rattle.plan.specs.Given as plan

@@ -31,3 +31,4 @@ pub mod Within
 pub mod Doing
 pub mod Unread
 pub mod Quiet
+pub mod PastLimit

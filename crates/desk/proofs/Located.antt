@@ -1,5 +1,5 @@
 -- The fetches of a statement are of leaves of its catalogue, and of one leaf there is one fetch.
-use Rattle.std.proofs.Common.{◌≡◌, ◌≢◌, ◌⊎◌, inl, inr, ℕ, Bool, true, false, ◌||◌, List, [], ◌∷◌, ◌++◌, length, Option, Some, None, refl, sym, ap, ◌∙◌, subst}
+use Rattle.std.proofs.Common.{◌≡◌, ◌≢◌, ◌⊎◌, inl, inr, ℕ, List, [], ◌∷◌, ◌++◌, length, Option, Some, None, refl, sym, ap, ◌∙◌, subst}
 use Rattle.std.specs.List.{AllByRecursion}
 use Rattle.terms.specs.declared.leaf.Leaf.{Leaf}
 use Rattle.meaning.specs.declared.schema.RelationSchema.{RelationSchema}

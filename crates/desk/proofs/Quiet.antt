@@ -1,9 +1,13 @@
 -- Letters by which no statement goes on need no explanation.
-use Rattle.std.proofs.Common.{◌≡◌, ℕ, Bool, true, false, ◌&&◌, not, List, [], ◌∷◌, ◌++◌, Option, Some, None, is_none, is_some, Result, Ok, Err, IfOk, if◌then◌else◌, subst, sym}
+use Rattle.std.proofs.Common.{◌≡◌, ℕ, Bool, true, false, ◌&&◌, not, List, [], ◌∷◌, ◌++◌, Option, Some, None, is_none, Result, Ok, Err, IfOk, nat_eq, subst, sym, ap, ◌∙◌}
+use Rattle.std.specs.Cmp.Lexicographic.{pointwise}
 use Rattle.std.specs.List.{list_any}
 use Rattle.std.specs.Option.{option_map}
 use Rattle.meaning.specs.declared.answer.Answer.TheVariants as answer
 use Rattle.store.specs.DeskContent.{DeskContent}
+use Rattle.catalog.specs.Catalogue.{Catalogue}
+use Rattle.store.specs.declared.letter.Body.TheVariants as body
+use Rattle.store.specs.declared.letter.Letter.{Letter}
 use Rattle.store.specs.declared.name.Ticket.{Ticket}
 use Rattle.store.specs.declared.name.Txn.{Txn}
 use Rattle.store.specs.declared.reply.Reply.{Reply}
@@ -20,10 +24,11 @@ use Rattle.desk.specs.declared.standing.Standing.{Standing}
 use Rattle.desk.specs.declared.standing.Standing.TheVariants as standing
 use Rattle.desk.specs.Database.{Database, language, replied}
 use Rattle.desk.specs.Does.{Takes}
+use Rattle.desk.specs.OfCatalogue.{IsOfCatalogue}
 use Rattle.desk.specs.Spots.{spot_in}
 use Rattle.desk.specs.Standing.{txn_of, undecided_of}
 use Rattle.desk.specs.State.{Steps, Table}
-use Rattle.desk.specs.Taking.{goes_on, may_send}
+use Rattle.desk.specs.Taking.{goes_on, is_reply, is_strange, may_send}
 
 module _ {L : Lang} where
   abbrev IsPlain : desk.Turn L → Type 0
@@ -109,3 +114,15 @@ module _ (db : Database) (before : Table) (kept : DeskContent) (after : Table) (
   pub loud_takes : (result : Result Out Refusal) → IfOk result (λ out. out.kept ≡ true) → IfOk result (λ out. Takes db before kept after txn (λ choice. coming true choice) out.letters out.replies) → IfOk result HasTaken
   loud_takes (Err e) was takes = tt
   loud_takes (Ok out) was takes = subst (λ b. Takes db before kept after txn (λ choice. coming b choice) out.letters out.replies) (sym was) takes
+
+-- ---- letters that are passed over
+pub said_is : {one other : Reply} → body.Reply one ≡ body.Reply other → one ≡ other
+said_is e = cc
+
+pub not_strange : (sites : List (List ℕ)) (came : Letter) (said : Reply) → came.body ≡ body.Reply said → list_any (λ site. pointwise nat_eq site came.site) sites ≡ true → is_strange sites came ≡ true → ⊥
+not_strange sites came said is among strange =
+    let f : not (true && true) ≡ true = sym (ap (λ b. not (is_reply b && list_any (λ site. pointwise nat_eq site came.site) sites)) is ∙ ap (λ b. not (true && b)) among) ∙ strange in
+    cc
+
+pub among_there : (db : Database) → IsOfCatalogue db → (catalogue : Catalogue) → db.catalogue ≡ catalogue → (site : List ℕ) → list_any (λ other. pointwise nat_eq other site) db.sites ≡ true → list_any (λ other. pointwise nat_eq other site) catalogue.sites ≡ true
+among_there db of catalogue same site among = sym (ap (list_any (λ other. pointwise nat_eq other site)) (of.sites ∙ ap (λ cat. cat.sites) same)) ∙ among

@@ -43,3 +43,7 @@ module _ (there schema : List RelationSchema) (same : there ≡ schema) where
     is = other.1;
     why = inl (subst (λ ss. TextBreaks fault.rule ss text) same (breaks other.0), λ given spelled. none other.0 given (subst (λ ss. IsTextOf ss text given) (sym same) spelled));
   })
+
+-- the second of three
+pub told_by : {A : Type 0} (result : Result A Refusal) (told : Refusal) (First Second Third : Refusal → Type 0) → result ≡ Err told → Second told → IfErr result (λ x. First x ⊎ Second x ⊎ Third x)
+told_by result told First Second Third is holds = subst (λ r. IfErr r (λ x. First x ⊎ Second x ⊎ Third x)) (sym is) (inr (inl holds))

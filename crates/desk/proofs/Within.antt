@@ -1,5 +1,5 @@
 -- What is known of a transaction while its statement goes on.
-use Rattle.std.proofs.Common.{◌≡◌, ◌⊎◌, inl, inr, refl, sym, ap, ◌∙◌, subst, ℕ, suc, nat_eq, false, length, if◌then◌else◌, List, [], ◌∷◌, map, Option, Some, None, arith}
+use Rattle.std.proofs.Common.{◌≡◌, refl, sym, ap, ◌∙◌, subst, ℕ, suc, nat_eq, false, length, if◌then◌else◌, List, [], ◌∷◌, map, Option, Some, None, arith}
 use Rattle.std.specs.Option.{option_map}
 use Rattle.meaning.specs.declared.answer.Answer.{Answer}
 use Rattle.desk.specs.declared.reply.Reply.{Reply}

@@ -1,5 +1,5 @@
 -- What is done of a statement.
-use Rattle.std.specs.Prelude.{◌≡◌, ◌⊎◌, ℕ, true, false, List}
+use Rattle.std.specs.Prelude.{◌≡◌, ◌⊎◌, ℕ, true, List}
 use Rattle.std.specs.BTreeMap.{is_at}
 use Rattle.std.specs.Map.{set_value}
 use Rattle.meaning.specs.declared.schema.RelationSchema.{RelationSchema}
@@ -29,7 +29,7 @@ use Rattle.desk.specs.declared.undecided.Undecided.{Undecided}
 use Rattle.desk.specs.Calls.{txn_in}
 use Rattle.desk.specs.Database.{Database, language}
 use Rattle.desk.specs.Sending.{AreShort}
-use Rattle.desk.specs.State.{IsIn, Steps, Table, desk_of, table_from}
+use Rattle.desk.specs.State.{IsIn, Steps, Table, table_from}
 use Rattle.desk.specs.Stepped.{IsStep}
 
 -- a step is the protocol's for one answer and its writes, and these are explained
@@ -48,12 +48,6 @@ DoesIn db txn (standing.Committed committed) made wanted = ⊥
 abbrev pub IsShort : Standing → Type 0
 IsShort (standing.Undecided undecided) = AreShort undecided.spots
 IsShort (standing.Committed committed) = Unit {0}
-
--- a turn is past the limits, for one answer and its writes that are explained
-pub record IsTooMuch (db : Database) (wanted : protocol.Choice (language db) → protocol.Turn (language db)) : Type 0 where
-  pub choice : protocol.Choice (language db)
-  pub long : protocol.is_short_txn (wanted choice).txn ≡ false
-  pub known : protocol.is_unknown (wanted choice).txn ≡ false
 
 -- a text that is no statement's, as the reader tells it: it breaks a rule and is no command's, or it begins or ends a transaction
 pub record IsUnread (schema : List RelationSchema) (text : List ℕ) (told : refusals.Refusal) : Type 0 where

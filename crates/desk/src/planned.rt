@@ -29,7 +29,6 @@ impl Model for Planned {
     ghost use Rattle.plan.specs.declared.reduce.Reduced.{Reduced as ReducedNow};
     ghost use Rattle.plan.specs.Shape.{shape};
     ghost use Rattle.plan.specs.Uniform.{EachRead, IsUniform};
-
     ghost use Rattle.std.specs.Coded.{codes};
     ghost use Rattle.plan.specs.contracts.plan.Plan as plan;
 

@@ -93,7 +93,15 @@ pub(crate) fn reads(
 {
     let mut asks = asks;
     let going = asks_begin(alloc, txn, undecided.spots.as_slice(), &mut asks)?;
-    reading(undecided, going.spots, Reading { statement, plan, asks });
+    reading(
+        undecided,
+        going.spots,
+        Reading {
+            statement,
+            plan,
+            asks,
+        },
+    );
     Ok(Step {
         letters: going.letters,
         reply: None,

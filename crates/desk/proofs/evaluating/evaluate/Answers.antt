@@ -1,26 +1,19 @@
 -- Why `evaluate` meets its contract.
 use Rattle.std.proofs.Common.{rules, ◌≡◌, true, sym, ◌∙◌, subst, map, List}
 use Rattle.std.specs.List.{AllByRecursion, Contains}
-use Rattle.terms.specs.declared.write.Write.{Write}
-use Rattle.catalog.specs.Catalogue.{Catalogue}
-use Rattle.catalog.specs.FragmentLeaf.{catalogue_leaves, schemas_of}
+use Rattle.catalog.specs.FragmentLeaf.{catalogue_leaves}
 use Rattle.catalog.specs.Relation.{catalogue_of}
-use Rattle.meaning.specs.Statement.{IsStatementOf}
-use Rattle.plan.specs.Reduced.{FindsAll}
 use Rattle.plan.specs.declared.fetch.Fetch.{Fetch}
 use Rattle.plan.specs.declared.reduce.Reduced.{Reduced}
 use Rattle.plan.specs.Uniform.{EachRead}
 use Rattle.answers.specs.declared.table.FetchRows.{FetchRows}
 use Rattle.answers.specs.Table.{AreParts, given}
 use Rattle.plan.specs.Shape.{shape}
-use Rattle.plan.specs.Stated.{AreFetchesOf}
 use Rattle.answers.specs.Writes.{is_leaf_in, leaf_of}
-use Rattle.desk.specs.declared.undecided.Unsent.{Unsent}
 use Rattle.desk.specs.Brought.{brought}
 use Rattle.desk.specs.Opening.{HaveSpots}
 use Rattle.desk.specs.Planned.{IsOfPlan, unsent_from}
 use Rattle.desk.specs.Sending.{UnsentAtHome}
-use Rattle.desk.specs.Standing.{ask_of, write_of}
 use Rattle.desk.specs.Stating.{write_sites}
 use Rattle.desk.proofs.AtHomes.{writes_home, writes_spots}
 use Rattle.desk.proofs.Explaining.{explained_of}

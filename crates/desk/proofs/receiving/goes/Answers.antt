@@ -1,7 +1,6 @@
 -- Why `goes` meets its contract.
-use Rattle.std.proofs.Common.{rules, ◌≡◌, None, true, sym, subst}
+use Rattle.std.proofs.Common.{◌≡◌, None}
 use Rattle.desk.specs.Spots.{spot_in}
-use Rattle.desk.specs.Taking.{goes_on}
 use Rattle.desk.proofs.Doing.{first_none, ticket_ok}
 use Rattle.desk.proofs.receiving.goes.Goals as goal
 

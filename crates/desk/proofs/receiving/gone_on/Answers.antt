@@ -1,14 +1,11 @@
 -- Why `gone_on` meets its contract.
-use Rattle.std.proofs.Common.{rules, ◌≡◌, Some, true, sym, ap, ◌∙◌, subst}
-use Rattle.std.specs.BTreeMap.{is_at}
-use Rattle.std.specs.Map.{set_value}
-use Rattle.store.specs.Name.{txn_cmp}
+use Rattle.std.proofs.Common.{rules, ◌≡◌, Some, true, sym, ◌∙◌, subst}
 use Rattle.protocol.specs.Desk.{on_desk_letter}
 use Rattle.protocol.specs.Letters.{txn_name}
 use Rattle.desk.specs.declared.standing.Standing.TheVariants as standing
 use Rattle.desk.specs.Database.{replied}
 use Rattle.desk.specs.Does.{IsShort}
-use Rattle.desk.specs.State.{table_from, table_of}
+use Rattle.desk.specs.State.{table_of}
 use Rattle.desk.proofs.Doing.{goes_ok, known_there, same_ok, short_there, some_standing, spots_there}
 use Rattle.desk.proofs.receiving.gone_on.Goals as goal
 

@@ -1,5 +1,5 @@
 -- Why `rows_come` meets its contract.
-use Rattle.std.proofs.Common.{rules, ◌≡◌, true, false, sym, ap, ◌∙◌, subst, map}
+use Rattle.std.proofs.Common.{rules, ◌≡◌, true, false, sym, ap, ◌∙◌, map}
 use Rattle.catalog.specs.Relation.{catalogue_of}
 use Rattle.protocol.specs.Letters.{txn_name}
 use Rattle.desk.specs.declared.undecided.Stage.TheVariants as stages

@@ -1,5 +1,5 @@
 -- Why `standing_goes` meets its contract.
-use Rattle.std.proofs.Common.{rules, ◌≡◌, true, sym, ap, ◌∙◌, subst, IfOk}
+use Rattle.std.proofs.Common.{rules, ◌≡◌, true, sym, ◌∙◌, subst, IfOk}
 use Rattle.std.specs.List.{list_any}
 use Rattle.protocol.specs.Desk.{on_known}
 use Rattle.protocol.specs.Letters.{txn_name}

@@ -1,5 +1,5 @@
 -- Why `take_on` meets its contract.
-use Rattle.std.proofs.Common.{rules, ◌≡◌, true, nat_eq, sym, ap, ◌∙◌}
+use Rattle.std.proofs.Common.{true, nat_eq, sym, ap, ◌∙◌}
 use Rattle.std.specs.Cmp.Lexicographic.{pointwise}
 use Rattle.std.specs.List.{list_any}
 use Rattle.protocol.specs.Desk.{on_desk_letter}

@@ -1,5 +1,5 @@
 -- Why `asks_out` meets its contract.
-use Rattle.std.proofs.Common.{arith, rules, ◌≡◌, [], ◌∷◌, ◌+◌, drop, sym, subst}
+use Rattle.std.proofs.Common.{arith, rules, ◌≡◌, [], ◌∷◌, ◌+◌, drop, subst}
 use Rattle.std.proofs.lemmas.Grind.{common_steps}
 use Rattle.desk.specs.Sending.{IsPast, asks_go}
 use Rattle.desk.proofs.Short.{first_ask}

@@ -1,5 +1,4 @@
 -- Why `at_once` meets its contract.
-use Rattle.std.proofs.Common.{rules}
 use Rattle.protocol.specs.Letters.{txn_name}
 use Rattle.desk.proofs.Doing.{works_once}
 use Rattle.desk.proofs.statements.at_once.Goals as goal

@@ -1,5 +1,5 @@
 -- Why `call_statement` meets its contract.
-use Rattle.std.proofs.Common.{rules, ◌≡◌, sym, ap, ◌∙◌, subst, map, List}
+use Rattle.std.proofs.Common.{rules, ◌≡◌, Err, sym, ap, ◌∙◌, subst, map, List}
 use Rattle.catalog.specs.FragmentLeaf.{schemas_of}
 use Rattle.catalog.specs.Relation.{catalogue_of}
 use Rattle.meaning.specs.declared.schema.RelationSchema.{RelationSchema}
@@ -12,6 +12,7 @@ use Rattle.desk.specs.Calls.{txn_in}
 use Rattle.desk.specs.Planned.{ask_from}
 use Rattle.desk.specs.State.{table_of}
 use Rattle.desk.proofs.Doing.{idle_there, plan_made, steps_on}
+use Rattle.desk.proofs.Unread.{told_by}
 use Rattle.desk.proofs.statements.call_statement.Goals as goal
 
 pub returns-in-Ok-clause-ok : goal.returns-in-Ok-clause-ok
@@ -35,3 +36,8 @@ returns-in-Ok-clause-ok c = λ db kept of same fits.
           c.put_out.result.letters c.put_out.result.replies c.put_out.ensures.letters (c.put_out.ensures.replies c.in_ok-room.ensures.empty);
       explained = goes.does.explained;
     }
+
+pub returns-in_err-may_state-clause-told : goal.returns-in_err-may_state-clause-told
+returns-in_err-may_state-clause-told c = λ db statement.
+    let is : c.from_residual-in_err-may_state.result ≡ Err c.in_err-may_state.field-0.0 = search rules in
+    told_by _ _ _ _ _ is (c.in_err-may_state.ensures.told db statement)

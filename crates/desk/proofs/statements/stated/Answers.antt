@@ -1,13 +1,10 @@
 -- Why `stated` meets its contract.
-use Rattle.std.proofs.Common.{rules, ◌≡◌, Some, sym, ap, ◌∙◌, subst}
-use Rattle.std.specs.BTreeMap.{is_at}
-use Rattle.std.specs.Map.{set_value}
-use Rattle.store.specs.Name.{txn_cmp}
+use Rattle.std.proofs.Common.{rules, ◌≡◌, Some, sym, ◌∙◌, subst}
 use Rattle.protocol.specs.Desk.{State, on_request}
 use Rattle.protocol.specs.Letters.{txn_name}
 use Rattle.desk.specs.declared.standing.Standing.TheVariants as standing
 use Rattle.desk.specs.Does.{IsShort}
-use Rattle.desk.specs.State.{table_from, table_of}
+use Rattle.desk.specs.State.{table_of}
 use Rattle.desk.proofs.Doing.{goes_ok, same_ok, short_there, some_standing, spots_there}
 use Rattle.desk.proofs.statements.stated.Goals as goal
 

@@ -1,7 +1,4 @@
 -- Why `statement_of` meets its contract.
-use Rattle.std.proofs.Common.{rules, ◌≡◌, sym}
-use Rattle.catalog.specs.FragmentLeaf.{schemas_of}
-use Rattle.catalog.specs.Relation.{catalogue_of}
 use Rattle.desk.proofs.Unread.{fits_by, run_told, spelled_by, unread_told}
 use Rattle.desk.proofs.statements.statement_of.Goals as goal
 

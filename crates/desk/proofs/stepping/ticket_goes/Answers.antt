@@ -1,5 +1,5 @@
 -- Why `ticket_goes` meets its contract.
-use Rattle.std.proofs.Common.{rules, ◌≡◌, refl, subst, sym, ◌∙◌, map, Some}
+use Rattle.std.proofs.Common.{rules, ◌≡◌, refl, subst, ◌∙◌, map, Some}
 use Rattle.desk.specs.declared.undecided.Stage.TheVariants as stages
 use Rattle.desk.specs.Planned.{IsPlanned}
 use Rattle.desk.specs.Sending.{AreShort}

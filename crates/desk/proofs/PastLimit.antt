@@ -1,0 +1,70 @@
+-- A statement that would send more operations than the limit allows is past the protocol's limit.
+use Rattle.std.proofs.Common.{◌≡◌, refl, sym, ap, ◌∙◌, subst, ℕ, nat_lt, ◌^◌, Bool, false, List, [], ◌∷◌, map, Option}
+use Rattle.std.specs.List.{list_all}
+use Rattle.std.specs.Option.{option_map}
+use Rattle.terms.specs.declared.leaf.Leaf.{Leaf}
+use Rattle.meaning.specs.declared.answer.Answer.{Answer}
+use Rattle.meaning.specs.declared.statement.Statement.{Statement}
+use Rattle.store.specs.declared.name.Txn.{Txn}
+use Rattle.protocol.specs.Desk as desk
+use Rattle.protocol.specs.Language.{Lang, Name}
+use Rattle.protocol.specs.Letter as letter
+use Rattle.protocol.specs.Letters.{name_of, txn_name}
+use Rattle.protocol.specs.Local.{AtKey}
+use Rattle.desk.specs.declared.ask.Ask.{Ask}
+use Rattle.desk.specs.declared.spot.Spot.{Spot}
+use Rattle.desk.specs.declared.undecided.Undecided.{Undecided}
+use Rattle.desk.specs.declared.undecided.Unsent.{Unsent}
+use Rattle.desk.specs.Database.{Database, language}
+use Rattle.desk.specs.Opening.{visits}
+use Rattle.desk.specs.Sending.{AsksAtHome, IsPast, UnsentAtHome, asks_go, writes_go}
+use Rattle.desk.specs.Spots.{sites_of, spot_in}
+use Rattle.desk.specs.Standing.{ask_of, undecided_of, write_of}
+use Rattle.desk.proofs.Opened.{kept_by_visits}
+use Rattle.desk.proofs.Operations.{asks_same, writes_same}
+use Rattle.desk.proofs.Short.{past_short}
+use Rattle.desk.proofs.Within.{visits_sites}
+
+module _ (db : Database) (txn : Txn) (u : Undecided) (those : sites_of u.spots ≡ db.sites) (sites : List (List ℕ)) where
+  abbrev opened : List Spot
+  opened = visits sites u.spots
+
+  abbrev tickets : List ℕ → Option Name
+  tickets j = option_map name_of (spot_in j u.spots).ticket
+
+  abbrev counts : List ℕ → ℕ
+  counts j = (spot_in j u.spots).sent
+
+  same_counts : (λ (j : List ℕ). (spot_in j opened).sent) ≡ counts
+  same_counts = λ i j. kept_by_visits sites u.spots (λ s. s.sent) (λ s. refl) j i
+
+  same_ticket : (j : List ℕ) → tickets j ≡ option_map name_of (spot_in j opened).ticket
+  same_ticket j = ap (option_map name_of) (sym (kept_by_visits sites u.spots (λ s. s.ticket) (λ s. refl) j))
+
+  abbrev AllShort : (List ℕ → ℕ) → Bool
+  AllShort sent = list_all (λ a. nat_lt (sent a) (2 ^ 63)) db.sites
+
+  long : (spots : List Spot) → sites_of spots ≡ db.sites → IsPast spots → (sent : List ℕ → ℕ) → (λ (j : List ℕ). (spot_in j spots).sent) ≡ sent → AllShort sent ≡ false
+  long spots there past sent is = ap AllShort (sym is) ∙ ap (list_all (λ a. nat_lt (spot_in a spots).sent (2 ^ 63))) (sym there) ∙ past_short spots past
+
+  -- fetches
+  pub asks_past : (stated : Statement) (choice : desk.Choice (language db)) (asks : List Ask) (first : Ask) (rest : List Ask) → asks ≡ first ∷ rest → AsksAtHome db asks → IsPast (asks_go txn asks opened).spots →
+      desk.is_short_txn (desk.states (txn_name txn) (undecided_of db u) stated (map (ask_of db) asks) choice).txn ≡ false
+  asks_past stated choice asks first rest some home past =
+      let out = asks_same db txn tickets asks opened same_ticket home in
+      let sent = out.counts ∙ ap (λ (c : List ℕ → ℕ). (desk.asks_out {L = language db} (txn_name txn) tickets (map (ask_of db) asks) c).sent) same_counts in
+      subst (λ (l : List Ask). AllShort (desk.asks_out {L = language db} (txn_name txn) tickets (map (ask_of db) l) counts).sent ≡ false → desk.is_short_txn (desk.states (txn_name txn) (undecided_of db u) stated (map (ask_of db) l) choice).txn ≡ false) (sym some) (λ e. e)
+      (long (asks_go txn asks opened).spots (out.same.sites ∙ visits_sites sites u.spots ∙ those) past _ sent)
+
+  -- writes
+  pub writes_past : (stated : Statement) (list : List (desk.Ask (language db))) (told : Answer) (unsent : List Unsent) → UnsentAtHome db unsent → IsPast (writes_go txn unsent opened).spots →
+      desk.is_short_txn (desk.works (txn_name txn) (undecided_of db u) stated list (told, map write_of unsent)).txn ≡ false
+  writes_past stated list told unsent home past =
+      let out = writes_same db txn tickets unsent opened same_ticket home in
+      let sent = out.counts ∙ ap (λ (c : List ℕ → ℕ). (desk.writes_out {L = language db} (txn_name txn) tickets (map write_of unsent) c).sent) same_counts in
+      let wanted = desk.writes_out {L = language db} (txn_name txn) tickets (map write_of unsent) counts in
+      written (desk.visits (undecided_of db u) (map (λ w. w.0) (map write_of unsent))) told wanted.sent wanted.left wanted.letters ∙ long (writes_go txn unsent opened).spots (out.same.sites ∙ visits_sites sites u.spots ∙ those) past _ sent
+    where
+      written : (v : desk.Undecided (language db)) (told : Answer) (sent : List ℕ → ℕ) (left : List (Leaf × AtKey)) (letters : List (letter.Letter (language db))) → desk.is_short_txn (desk.writing {L = language db} (txn_name txn) v told sent left letters).txn ≡ AllShort sent
+      written v told sent [] letters = refl
+      written v told sent (x ∷ left) letters = refl
