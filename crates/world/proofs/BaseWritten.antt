@@ -34,9 +34,7 @@ use Rattle.site.proofs.Tickets.{leaf_is, leaf_self, same_bool}
 use Rattle.desk.specs.Database.{Database, language}
 use Rattle.desk.specs.Standing.{at_leaf}
 use Rattle.world.specs.Base.{content_of, database, found, stored}
-use Rattle.world.specs.Filling.{is_leaf}
 use Rattle.world.proofs.BaseStored.{get_stored, turned}
-use Rattle.world.proofs.FilledLeaves.{same_test}
 
 same_names : (one other : Leaf) → is_eq (leaf_cmp one other) ≡ same_leaf one other
 same_names one other = same_bool _ _
@@ -54,7 +52,7 @@ one_step leaf to at key part kept = go (is_eq (leaf_cmp to leaf)) ∙ ap (λ (b 
 
 -- what stands at a key after writes
 module _ (db : Database) (leaf : Leaf) where
-  put_with : Write → Content → Content
+  abbrev put_with : Write → Content → Content
   put_with write kept = if is_eq (leaf_cmp (at_leaf write).0 leaf) then set_at (at_leaf write).1.0 (at_leaf write).1.1 kept else kept
 
   step : (write : Write) (kept : Content) (at : ℤ) → fin.get (put_with write kept) at ≡ (if same_leaf (leaf_of write) leaf && int_eq (key_written write) at then part_written write else fin.get kept at)
@@ -83,8 +81,8 @@ found_name name leaf (first ∷ leaves) there = go (is_name_of name first) refl 
     go : (b : Bool) → is_name_of name first ≡ b → (if b then Some first else leaf_named name leaves) ≡ Some leaf → (leaf_named name leaves ≡ Some leaf → leaf.name ≡ name) → leaf.name ≡ name
     go true e is later =
         let same : first ≡ leaf = some_is is in
-        let named : name ≡ first.name = leaf_is name first.name (sym (same_test name first) ∙ e) in
-        ap (λ (l : FragmentLeaf). l.name) (sym same) ∙ sym named
+        let named : first.name ≡ name = one_name first.name name e in
+        ap (λ (l : FragmentLeaf). l.name) (sym same) ∙ named
     go false e is later = later is
 
 -- no leaf of a name that finds none has it
