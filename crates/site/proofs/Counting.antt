@@ -51,9 +51,11 @@ of_part p q (x ∷ xs) = go (q x) (of_part p q xs)
     at : (b : Bool) → length (filter p xs) ≤ length (cond b (x ∷ filter p xs) (filter p xs))
     at true = omega arith
     at false = omega arith
+
     both : (b : Bool) → length (filter p (filter q xs)) ≤ length (filter p xs) → length (cond b (x ∷ filter p (filter q xs)) (filter p (filter q xs))) ≤ length (cond b (x ∷ filter p xs) (filter p xs))
     both true rest = omega (arith, rest)
     both false rest = rest
+
     go : (b : Bool) → length (filter p (filter q xs)) ≤ length (filter p xs) → length (filter p (cond b (x ∷ filter q xs) (filter q xs))) ≤ length (filter p (x ∷ xs))
     go true rest = both (p x) rest
     go false rest = let h : length (filter p xs) ≤ length (filter p (x ∷ xs)) = at (p x) in omega (arith, rest, h)

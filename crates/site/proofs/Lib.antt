@@ -19,3 +19,4 @@ pub mod Beginning
 pub mod Restarting
 pub mod Inquired
 pub mod Limited
+pub mod OldestFirst

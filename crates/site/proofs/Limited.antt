@@ -35,6 +35,7 @@ module _ (kept : SiteContent) (table : Table) (fits : Fits kept table) where
       at None e = cc
       at (Some (standing.Alive v)) e = refl
       at (Some (standing.Prepared x)) e = cc
+
       go : (r : Option Row) → is_alive (stands table t r) ≡ true → is_visit (table.standing t) ≡ true
       go (Some row) e = cc
       go None e = at (table.standing t) e

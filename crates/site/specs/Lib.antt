@@ -9,4 +9,5 @@ pub mod State
 pub mod Moves
 pub mod Starting
 pub mod Inquiries
+pub mod Youngest
 pub mod Refusals

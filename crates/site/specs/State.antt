@@ -37,7 +37,7 @@ abbrev pub table_from : List (Ticket × standings.Standing) → List Locks → �
 table_from entries locks alive life number = record { standing = λ ticket. lookup (is_at (ticket_cmp ticket)) entries; tickets = keys_of entries; locks = λ leaf. locks_in leaf locks; alive = alive; life = life; number = number }
 
 abbrev pub table_of : Present → Table
-table_of present = table_from present.standings.entries present.locks.items present.alive present.life present.number
+table_of present = table_from present.standings present.locks.items present.alive present.life present.number
 
 -- what stands behind a ticket without a prepared row: a visit, with its locks and the leaves that are foreign to it, or nothing
 abbrev pub visiting : (Leaf → Locks) → Ticket → Option standings.Standing → Status local

@@ -18,7 +18,6 @@ ghost use Rattle.site.specs.declared.turn.Ballot.TheVariants.{Keeps};
 
 use crate::fault::{SiteFault, site_fault};
 use crate::present::Present;
-use crate::standing::swap_changes;
 use crate::turn::{Ballot, ballot_at};
 use store::changes::Changes;
 use store::fault::StoreFault;
@@ -95,7 +94,7 @@ fn keep<S: SiteStore>(
         return Ok(voted(ticket, Vote::No));
     }
     let none = Changes::new(present.alloc);
-    let changes = swap_changes(&mut present.standings, &ticket, none);
+    let changes = present.standings.swap_changes(&ticket, none);
     match store.keep_prepared(txn, ticket, changes) {
         Ok(()) => {
             present.prepare(&ticket, txn);
@@ -103,7 +102,7 @@ fn keep<S: SiteStore>(
         }
         Err(unkept) => {
             if unkept.fault == StoreFault::Memory {
-                let _none = swap_changes(&mut present.standings, &ticket, unkept.changes);
+                let _none = present.standings.swap_changes(&ticket, unkept.changes);
                 return Err(SiteFault::Memory);
             }
             present.end(&ticket);

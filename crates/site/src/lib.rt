@@ -25,6 +25,7 @@ mod reading;
 mod rows;
 pub mod site;
 mod standing;
+mod standings;
 mod starting;
 mod turn;
 mod writing;

@@ -1,9 +1,10 @@
 //! What a site has in memory, and a restart loses.
 
 ghost use Rattle.std.specs.Prelude.{◌≡◌, ◌+◌, ◌-◌, ◌^◌, ◌<◌, ◌≤◌, ◌⊎◌, Some, Err, IfOk, IfErr, OnOk, OnErr, length, map, slice_get, slice_set, unwrap_or};
-ghost use Rattle.std.specs.BTreeMap.{insert_entry, is_at, IsOrdered};
+ghost use Rattle.std.specs.BTreeMap.{insert_entry, is_at};
 ghost use Rattle.std.specs.FinMap as fin;
-ghost use Rattle.std.specs.Map.{set_value, remove_entry};
+ghost use Rattle.std.specs.List.Sorted.{IsStrictlySortedBy};
+ghost use Rattle.std.specs.Map.{keys_of, set_value, remove_entry};
 ghost use Rattle.std.specs.Option.{option_copied};
 ghost use Rattle.store.specs.Name.{ticket_cmp};
 ghost use Rattle.site.specs.declared.fault.SiteFault.TheVariants as faults;
@@ -18,7 +19,8 @@ ghost use Rattle.site.specs.Moves.{next_of};
 
 use crate::fault::SiteFault;
 use crate::locks::{Locks, grant_at, share_at, stop, stop_reading};
-use crate::standing::{Standing, Standings, Visit, set_change, set_done, set_prepared};
+use crate::standing::{Standing, Visit};
+use crate::standings::Standings;
 use crate::starting::Beginning;
 use std::alloc::Global;
 use store::changes::Changes;
@@ -92,13 +94,13 @@ impl Present {
         ensures name { self.new.name ≡ self.old.name }
         ensures leaves { leaves_in self.new.locks.items ≡ leaves_in self.old.locks.items }
         ensures ticket { IfOk result (λ ticket. ticket ≡ next_of (table_of self.old)) }
-        ensures ok { OnOk result (table_of self.new ≡ table_from (insert_entry ticket_cmp self.old.standings.entries (next_of (table_of self.old)) (standing.Alive (record { done = 0; changes = fin.empty })))
+        ensures ok { OnOk result (table_of self.new ≡ table_from (insert_entry ticket_cmp self.old.standings (next_of (table_of self.old)) (standing.Alive (record { done = 0; changes = fin.empty })))
             self.old.locks.items (self.old.alive + 1) self.old.life (self.old.number + 1)) }
         ensures err { OnErr result (table_of self.new ≡ table_of self.old) }
         ensures room { OnOk result (self.old.alive + 1 ≤ 1024) }
         ensures last { OnOk result (self.old.number + 2 ≤ 2 ^ 63) }
         ensures beyond { (1024 ≤ self.old.alive) ⊎ (2 ^ 63 ≤ self.old.number + 1) → result ≡ Err faults.Full }
-        ensures ordered { IsOrdered ticket_cmp self.old.standings }
+        ensures ordered { IsStrictlySortedBy ticket_cmp (keys_of self.old.standings) }
         ensures fault { IfErr result (λ fault. (fault ≡ faults.Memory) ⊎ ((fault ≡ faults.Full) × ((1024 ≤ self.old.alive) ⊎ (2 ^ 63 ≤ self.old.number + 1)))) }
     {
         let _count = self.standings.len();
@@ -113,7 +115,7 @@ impl Present {
             done: 0,
             changes: Changes::new(self.alloc),
         };
-        let _old = self.standings.insert(ticket, Standing::Alive(visit))?;
+        self.standings.insert(ticket, Standing::Alive(visit))?;
         self.alive += 1;
         self.number += 1;
         Ok(ticket)
@@ -125,12 +127,12 @@ impl Present {
         ensures name { self.new.name ≡ self.old.name }
         ensures leaves { leaves_in self.new.locks.items ≡ leaves_in self.old.locks.items }
         ensures ok { (now : StandingNow) (at : LocksNow) → (table_of self.old).standing ticket.now ≡ Some now → slice_get self.old.locks.items place ≡ Some at
-            → OnOk result (table_of self.new ≡ table_from (set_value (is_at (ticket_cmp ticket.now)) self.old.standings.entries (with_done op now))
+            → OnOk result (table_of self.new ≡ table_from (set_value (is_at (ticket_cmp ticket.now)) self.old.standings (with_done op now))
             (slice_set self.old.locks.items place (with_reader ticket.now at)) self.old.alive self.old.life self.old.number) }
         ensures err { OnErr result (table_of self.new ≡ table_of self.old) }
     {
         share_at(&mut self.locks, place, *ticket)?;
-        set_done(&mut self.standings, ticket, op);
+        self.standings.set_done(ticket, op);
         Ok(())
     }
 
@@ -146,11 +148,11 @@ impl Present {
         ensures name { self.new.name ≡ self.old.name }
         ensures leaves { leaves_in self.new.locks.items ≡ leaves_in self.old.locks.items }
         ensures ok { (now : StandingNow) (at : LocksNow) → (table_of self.old).standing ticket.now ≡ Some now → slice_get self.old.locks.items place ≡ Some at
-            → OnOk result (table_of self.new ≡ table_from (set_value (is_at (ticket_cmp ticket.now)) self.old.standings.entries (with_done op (intends write now)))
+            → OnOk result (table_of self.new ≡ table_from (set_value (is_at (ticket_cmp ticket.now)) self.old.standings (with_done op (intends write now)))
             (slice_set self.old.locks.items place (with_writer ticket.now at)) self.old.alive self.old.life self.old.number) }
         ensures err { OnErr result (table_of self.new ≡ table_of self.old) }
     {
-        set_change(&mut self.standings, ticket, op, write)?;
+        self.standings.set_change(ticket, op, write)?;
         grant_at(&mut self.locks, place, *ticket);
         Ok(())
     }
@@ -160,10 +162,10 @@ impl Present {
         ensures name { self.new.name ≡ self.old.name }
         ensures leaves { leaves_in self.new.locks.items ≡ leaves_in self.old.locks.items }
         ensures prepared { (now : StandingNow) → (table_of self.old).standing ticket.now ≡ Some now
-            → table_of self.new ≡ table_from (set_value (is_at (ticket_cmp ticket.now)) self.old.standings.entries (standing.Prepared txn))
+            → table_of self.new ≡ table_from (set_value (is_at (ticket_cmp ticket.now)) self.old.standings (standing.Prepared txn))
             (map (stops_reading ticket.now self.old.number) self.old.locks.items) (self.old.alive - 1) self.old.life self.old.number }
     {
-        set_prepared(&mut self.standings, ticket, txn);
+        self.standings.set_prepared(ticket, txn);
         stop_reading(&mut self.locks, ticket, self.number);
         self.alive = self.alive.saturating_sub(1);
     }
@@ -172,9 +174,9 @@ impl Present {
     pub(crate) fn end(&mut self, ticket: &Ticket)
         ensures name { self.new.name ≡ self.old.name }
         ensures leaves { leaves_in self.new.locks.items ≡ leaves_in self.old.locks.items }
-        ensures ended { table_of self.new ≡ table_from (remove_entry (is_at (ticket_cmp ticket.now)) self.old.standings.entries)
+        ensures ended { table_of self.new ≡ table_from (remove_entry (is_at (ticket_cmp ticket.now)) self.old.standings)
             (map (stops ticket.now self.old.number) self.old.locks.items) (self.old.alive - 1) self.old.life self.old.number }
-        ensures ordered { IsOrdered ticket_cmp self.old.standings }
+        ensures ordered { IsStrictlySortedBy ticket_cmp (keys_of self.old.standings) }
     {
         self.forget(ticket);
         self.alive = self.alive.saturating_sub(1);
@@ -184,22 +186,22 @@ impl Present {
     pub(crate) fn forget(&mut self, ticket: &Ticket)
         ensures name { self.new.name ≡ self.old.name }
         ensures leaves { leaves_in self.new.locks.items ≡ leaves_in self.old.locks.items }
-        ensures gone { table_of self.new ≡ table_from (remove_entry (is_at (ticket_cmp ticket.now)) self.old.standings.entries)
+        ensures gone { table_of self.new ≡ table_from (remove_entry (is_at (ticket_cmp ticket.now)) self.old.standings)
             (map (stops ticket.now self.old.number) self.old.locks.items) self.old.alive self.old.life self.old.number }
         ensures alive { self.new.alive ≡ self.old.alive }
-        ensures ordered { IsOrdered ticket_cmp self.old.standings }
+        ensures ordered { IsStrictlySortedBy ticket_cmp (keys_of self.old.standings) }
     {
         let _count = self.standings.len();
-        let _gone = self.standings.remove(ticket);
+        self.standings.remove(ticket);
         stop(&mut self.locks, ticket, self.number);
     }
 
     /// What was in memory is lost, and another life has begun.
     pub(crate) fn restart(&mut self, begun: Beginning)
-        ensures begun { table_of self.new ≡ table_from begun.resting.standings.entries begun.resting.locks.items 0 begun.life 0 }
+        ensures begun { table_of self.new ≡ table_from begun.resting.standings begun.resting.locks.items 0 begun.life 0 }
         ensures name { self.new.name ≡ self.old.name }
         ensures locks { self.new.locks.items ≡ begun.resting.locks.items }
-        ensures ordered { IsOrdered ticket_cmp self.old.standings }
+        ensures ordered { IsStrictlySortedBy ticket_cmp (keys_of self.old.standings) }
     {
         let _count = self.standings.len();
         self.standings = begun.resting.standings;

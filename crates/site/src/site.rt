@@ -14,7 +14,6 @@ ghost use Rattle.site.specs.State.{Fits, Steps, Takes, state_of, table_of};
 
 use crate::ending::{abort, commit, give_up, prepare};
 use crate::fault::{SiteFault, site_fault};
-use crate::inquiring::inquire;
 use crate::present::Present;
 use crate::reading::fetch;
 use crate::starting::{begin, leaves_of};
@@ -141,7 +140,9 @@ impl<S: SiteStore> Site<S> {
         ensures { Fits (S.kept self.now.store) (table_of self.now.present)
             → IfOk result (λ letters. map letter_of letters.items ≡ inquiries self.now.present.name (state_of (S.kept self.now.store) (table_of self.now.present))) }
     {
-        inquire(&self.present)
+        self.present
+            .standings
+            .inquire(self.present.alloc, &self.present.name)
     }
 
     /// All that the store keeps.

@@ -1,21 +1,14 @@
-//! What stands behind tickets.
+//! What stands behind a ticket.
 
 ghost use Rattle.std.specs.Prelude.{◌≡◌, Some, OnOk, OnErr, unwrap_or};
-ghost use Rattle.std.specs.BTreeMap.{is_at};
-ghost use Rattle.std.specs.BTreeMap as tree;
 ghost use Rattle.std.specs.FinMap as map;
-ghost use Rattle.std.specs.Map.{set_value};
 ghost use Rattle.std.specs.Option.{option_copied};
-ghost use Rattle.store.specs.Name.{ticket_cmp};
-ghost use Rattle.site.specs.declared.standing.Standing.{Standing as StandingNow};
-ghost use Rattle.site.specs.declared.standing.Standing.TheVariants as standing;
 ghost use Rattle.site.specs.State.{is_visit, changes_of};
 ghost use Rattle.site.specs.Standing.{with_change, with_done, intends, with_changes, changes_in};
 
-use std::collections::BTreeMap;
 use std::mem;
 use store::changes::Changes;
-use store::name::{Ticket, Txn};
+use store::name::Txn;
 use store::slot::Slot;
 use terms::memory::Memory;
 use terms::write::Write;
@@ -35,8 +28,6 @@ pub(crate) enum Standing {
     /// A prepared row of the store.
     Prepared(Txn),
 }
-
-pub(crate) type Standings = BTreeMap<Ticket, Standing>;
 
 impl Standing {
     /// Whether this is a visit.
@@ -60,7 +51,7 @@ impl Standing {
     }
 
     /// A visit has done this operation.
-    fn set_done(&mut self, op: u64)
+    pub(crate) fn set_done(&mut self, op: u64)
         ensures { self.new ≡ with_done op self.old }
     {
         match self {
@@ -70,7 +61,7 @@ impl Standing {
     }
 
     /// A visit has done this operation, by which it intends a write too.
-    fn intend(&mut self, op: u64, write: Write) -> Result<(), Memory>
+    pub(crate) fn intend(&mut self, op: u64, write: Write) -> Result<(), Memory>
         ensures ok { OnOk result (self.new ≡ with_done op (intends write self.old)) }
         ensures err { OnErr result (self.new ≡ self.old) }
     {
@@ -85,7 +76,7 @@ impl Standing {
     }
 
     /// Other intentions; those that were come back.
-    fn swap_changes(&mut self, changes: Changes) -> Changes
+    pub(crate) fn swap_changes(&mut self, changes: Changes) -> Changes
         ensures swapped { self.new ≡ with_changes changes self.old }
         ensures old { result ≡ changes_in changes self.old }
     {
@@ -104,54 +95,5 @@ fn intend(changes: &mut Changes, write: Write) -> Result<(), Memory>
     match write {
         Write::Put(leaf, part) => changes.put(leaf, part),
         Write::Del(leaf, key) => changes.del(Slot { leaf, key }),
-    }
-}
-
-/// A visit has done this operation.
-pub(crate) fn set_done(standings: &mut Standings, ticket: &Ticket, op: u64)
-    ensures { (now : StandingNow) → tree.get ticket_cmp standings.old ticket.now ≡ Some now
-        → standings.new.entries ≡ set_value (is_at (ticket_cmp ticket.now)) standings.old.entries (with_done op now) }
-{
-    if let Some(standing) = standings.get_mut(ticket) {
-        standing.set_done(op);
-    }
-}
-
-/// A visit has done this operation, by which it intends a write too.
-pub(crate) fn set_change(
-    standings: &mut Standings,
-    ticket: &Ticket,
-    op: u64,
-    write: Write,
-) -> Result<(), Memory>
-    ensures ok { (now : StandingNow) → tree.get ticket_cmp standings.old ticket.now ≡ Some now
-        → OnOk result (standings.new.entries ≡ set_value (is_at (ticket_cmp ticket.now)) standings.old.entries (with_done op (intends write now))) }
-    ensures err { OnErr result (standings.new.entries ≡ standings.old.entries) }
-{
-    match standings.get_mut(ticket) {
-        Some(standing) => standing.intend(op, write),
-        None => Ok(()),
-    }
-}
-
-/// A visit intends something else; what it intended comes back.
-pub(crate) fn swap_changes(standings: &mut Standings, ticket: &Ticket, changes: Changes) -> Changes
-    ensures old { (now : StandingNow) → tree.get ticket_cmp standings.old ticket.now ≡ Some now → result ≡ changes_in changes now }
-    ensures swapped { (now : StandingNow) → tree.get ticket_cmp standings.old ticket.now ≡ Some now
-        → standings.new.entries ≡ set_value (is_at (ticket_cmp ticket.now)) standings.old.entries (with_changes changes now) }
-{
-    match standings.get_mut(ticket) {
-        Some(standing) => standing.swap_changes(changes),
-        None => changes,
-    }
-}
-
-/// A ticket is prepared.
-pub(crate) fn set_prepared(standings: &mut Standings, ticket: &Ticket, txn: Txn)
-    ensures { (now : StandingNow) → tree.get ticket_cmp standings.old ticket.now ≡ Some now
-        → standings.new.entries ≡ set_value (is_at (ticket_cmp ticket.now)) standings.old.entries (standing.Prepared txn) }
-{
-    if let Some(standing) = standings.get_mut(ticket) {
-        *standing = Standing::Prepared(txn);
     }
 }

@@ -1,7 +1,8 @@
 //! A life of a site begins.
 
 ghost use Rattle.std.specs.Prelude.{◌≡◌, ◌≢◌, ◌⊎◌, ◌+◌, ◌<◌, ◌≤◌, ◌^◌, [], map, true, false, Err, IfOk, IfErr, OnOk, OnErr};
-ghost use Rattle.std.specs.BTreeMap.{IsOrdered};
+ghost use Rattle.std.specs.List.Sorted.{IsStrictlySortedBy};
+ghost use Rattle.std.specs.Map.{keys_of};
 ghost use Rattle.store.specs.Fault.{HasRefused};
 ghost use Rattle.store.specs.Name.{ticket_cmp};
 ghost use Rattle.store.specs.SiteContent.{IsUnchanged, BeginsLife};
@@ -14,9 +15,9 @@ ghost use Rattle.site.specs.State.{table_from};
 use crate::fault::{SiteFault, site_fault};
 use crate::locks::{Locks, grant, is_open};
 use crate::present::LAST;
-use crate::standing::{Standing, Standings};
+use crate::standing::Standing;
+use crate::standings::Standings;
 use std::alloc::Global;
-use std::collections::BTreeMap;
 use store::fault::StoreFault;
 use store::prepared::PreparedRow;
 use store::site_store::SiteStore;
@@ -47,7 +48,7 @@ pub(crate) fn begin<S: SiteStore>(
     ensures clean { S.is_clean store.new → S.is_clean store.old }
     ensures sound { S.is_clean store.new → OnOk result (S.is_sound store.new) }
     ensures keeps { S.is_clean store.new → S.is_sound store.old → S.is_sound store.new }
-    ensures ok { S.is_clean store.new → IfOk result (λ begun. Begins (S.kept store.new) (table_from begun.resting.standings.entries begun.resting.locks.items 0 begun.life 0)) }
+    ensures ok { S.is_clean store.new → IfOk result (λ begun. Begins (S.kept store.new) (table_from begun.resting.standings begun.resting.locks.items 0 begun.life 0)) }
     ensures leaves { IfOk result (λ begun. leaves_in begun.resting.locks.items ≡ leaves.now) }
     ensures life { S.is_clean store.new → S.is_sound store.old → OnOk result (BeginsLife (S.kept store.old) (S.kept store.new)) }
     ensures same { S.is_clean store.new → S.is_sound store.old → OnErr result (IsUnchanged (S.kept store.old) (S.kept store.new)) }
@@ -77,20 +78,20 @@ fn rest(
     life: u64,
     rows: &[PreparedRow],
 ) -> Result<Resting, SiteFault>
-    ensures standings { IfOk result (λ resting. resting.standings.entries ≡ stood_by rows.now []) }
+    ensures standings { IfOk result (λ resting. resting.standings ≡ stood_by rows.now []) }
     ensures locks { IfOk result (λ resting. resting.locks.items ≡ granted rows.now (map free leaves.now)) }
     ensures right { OnOk result (all_may_stand leaves.now life rows.now (map free leaves.now) ≡ true) }
-    ensures ordered { IfOk result (λ resting. IsOrdered ticket_cmp resting.standings) }
+    ensures ordered { IfOk result (λ resting. IsStrictlySortedBy ticket_cmp (keys_of resting.standings)) }
     ensures fault { IfErr result (λ fault. (fault ≡ faults.Memory) ⊎ ((fault ≡ faults.Store store_faults.Damaged) × (all_may_stand leaves.now life rows.now (map free leaves.now) ≡ false))) }
 {
     let mut locks = free_locks(alloc, leaves)?;
-    let mut standings = BTreeMap::new(alloc);
+    let mut standings = Standings::new(alloc);
     for row in rows {
         if !may_stand(leaves, life, row, locks.as_slice()) {
             return Err(SiteFault::Store(StoreFault::Damaged));
         }
         grant(&mut locks, row.ticket, &row.prepared.changes);
-        let _old = standings.insert(row.ticket, Standing::Prepared(row.prepared.txn))?;
+        standings.insert(row.ticket, Standing::Prepared(row.prepared.txn))?;
     }
     let _count = standings.len();
     Ok(Resting { standings, locks })

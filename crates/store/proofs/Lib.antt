@@ -7,3 +7,6 @@ pub mod RowLists
 pub mod Changing
 pub mod ByKey
 pub mod Near
+pub mod Shelving
+pub mod Flat
+pub mod Copied

@@ -9,7 +9,7 @@ use Rattle.terms.specs.declared.value.Value.{Value}
 use Rattle.store.specs.declared.slot.Slot.{Slot}
 use Rattle.store.specs.Slot.{slot_cmp}
 use Rattle.store.specs.Orders.{slot_cmp-IsAntisymmetric, slot_cmp_total}
-use Rattle.store.specs.Entries.{Entries, entry_at, part_at, HasRooms}
+use Rattle.store.specs.Entries.{Entries, entry_at, part_at}
 
 none_of : {X : Type 0} (found : Option X) → is_some found ≡ false → found ≡ None
 none_of None is = refl
@@ -32,38 +32,42 @@ room_grows old new slot updates q there =
     ∙ elim (is_at (slot_cmp slot) q) as (λ b. is_some (cond b (Some None) (entry_at old q)) ≡ true) [ true ↦ refl | false ↦ there ]
 
 -- what was looked at has its room, and what is looked at now
-pub rooms_more : (changes before after rest new : Entries) (slot : Slot) (part : Option (List Value)) → ((q : Slot) (p : List Value) → entry_at changes q ≡ Some (Some p) → entry_at rest q ≡ None → IsSome (entry_at before q)) → rest ≡ (slot, part) ∷ new → entry_at changes slot ≡ Some part →
-    ((q : Slot) → IsSome (entry_at before q) → IsSome (entry_at after q)) → (IsSome part → IsSome (entry_at after slot)) → (q : Slot) (p : List Value) → entry_at changes q ≡ Some (Some p) → entry_at new q ≡ None → IsSome (entry_at after q)
-rooms_more changes before after rest new slot part so_far step turn grows made q p is gone =
-    elim (slot_cmp q slot) as (λ r. slot_cmp q slot ≡ r → IsSome (entry_at after q)) [
+pub rooms_more : (changes rest new : Entries) (before after : Slot → Option (Option (List Value))) (slot : Slot) (part : Option (List Value)) → ((q : Slot) (p : List Value) → entry_at changes q ≡ Some (Some p) → entry_at rest q ≡ None → IsSome (before q)) → rest ≡ (slot, part) ∷ new → entry_at changes slot ≡ Some part →
+    ((q : Slot) → IsSome (before q) → IsSome (after q)) → (IsSome part → IsSome (after slot)) → (q : Slot) (p : List Value) → entry_at changes q ≡ Some (Some p) → entry_at new q ≡ None → IsSome (after q)
+rooms_more changes rest new before after slot part so_far step turn grows made q p is gone =
+    elim (slot_cmp q slot) as (λ r. slot_cmp q slot ≡ r → IsSome (after q)) [
       | Less ↦ λ apart. grows q (so_far q p is (ap (λ es. entry_at es q) step ∙ ap (λ r. cond (is_eq r) (Some part) (entry_at new q)) apart ∙ gone))
       | Equal ↦ λ tie.
           let same = slot_cmp-IsAntisymmetric q slot tie in
-          subst (λ s. IsSome (entry_at after s)) (sym same) (made (ap (λ o. is_some (unwrap_or o None)) (sym turn ∙ ap (entry_at changes) (sym same) ∙ is)))
+          subst (λ s. IsSome (after s)) (sym same) (made (ap (λ o. is_some (unwrap_or o None)) (sym turn ∙ ap (entry_at changes) (sym same) ∙ is)))
       | Greater ↦ λ apart. grows q (so_far q p is (ap (λ es. entry_at es q) step ∙ ap (λ r. cond (is_eq r) (Some part) (entry_at new q)) apart ∙ gone))
     ] refl
 
+-- there is an entry wherever a part is to be put
+abbrev pub HasRoomsAt : Entries → (Slot → Option (Option (List Value))) → Type 0
+HasRoomsAt changes there = (slot : Slot) (part : List Value) → entry_at changes slot ≡ Some (Some part) → IsSome (there slot)
+
 -- the room of the change that comes next
-pub room_here : (rest slots : Entries) (slot : Slot) (part : Option (List Value)) → HasRooms rest slots → entry_at rest slot ≡ Some part → IsSome part → IsSome (entry_at slots slot)
+pub room_here : (rest : Entries) (slots : Slot → Option (Option (List Value))) (slot : Slot) (part : Option (List Value)) → HasRoomsAt rest slots → entry_at rest slot ≡ Some part → IsSome part → IsSome (slots slot)
 room_here rest slots slot None rooms is some = cc
 room_here rest slots slot (Some p) rooms is some = rooms slot p is
 
 -- the changes that are left, over what was made
-pub filled_more : (rest new slots after : Entries) (slot : Slot) (part : Option (List Value)) → ((q : Slot) → entry_at new q ≡ cond (is_at (slot_cmp slot) q) None (entry_at rest q)) → entry_at rest slot ≡ Some part → ((q : Slot) → part_at after q ≡ cond (is_at (slot_cmp slot) q) part (part_at slots q)) →
-    (q : Slot) → unwrap_or (entry_at new q) (part_at after q) ≡ unwrap_or (entry_at rest q) (part_at slots q)
+pub filled_more : (rest new : Entries) (slots after : Slot → Option (List Value)) (slot : Slot) (part : Option (List Value)) → ((q : Slot) → entry_at new q ≡ cond (is_at (slot_cmp slot) q) None (entry_at rest q)) → entry_at rest slot ≡ Some part → ((q : Slot) → after q ≡ cond (is_at (slot_cmp slot) q) part (slots q)) →
+    (q : Slot) → unwrap_or (entry_at new q) (after q) ≡ unwrap_or (entry_at rest q) (slots q)
 filled_more rest new slots after slot part updates value parts q =
-    ap (λ o. unwrap_or o (part_at after q)) (updates q)
+    ap (λ o. unwrap_or o (after q)) (updates q)
     ∙ ap (unwrap_or (cond (is_at (slot_cmp slot) q) None (entry_at rest q))) (parts q)
-    ∙ elim (slot_cmp slot q) as (λ r. slot_cmp slot q ≡ r → unwrap_or (cond (is_eq r) None (entry_at rest q)) (cond (is_eq r) part (part_at slots q)) ≡ unwrap_or (entry_at rest q) (part_at slots q)) [
+    ∙ elim (slot_cmp slot q) as (λ r. slot_cmp slot q ≡ r → unwrap_or (cond (is_eq r) None (entry_at rest q)) (cond (is_eq r) part (slots q)) ≡ unwrap_or (entry_at rest q) (slots q)) [
       | Less ↦ λ is. refl
-      | Equal ↦ λ is. sym (ap (λ o. unwrap_or o (part_at slots q)) (ap (entry_at rest) (sym (slot_cmp-IsAntisymmetric slot q is)) ∙ value))
+      | Equal ↦ λ is. sym (ap (λ o. unwrap_or o (slots q)) (ap (entry_at rest) (sym (slot_cmp-IsAntisymmetric slot q is)) ∙ value))
       | Greater ↦ λ is. refl
     ] refl
 
 -- and their rooms
-pub rooms_left : (rest new slots after : Entries) (slot : Slot) → HasRooms rest slots → ((q : Slot) → entry_at new q ≡ cond (is_at (slot_cmp slot) q) None (entry_at rest q)) → ((q : Slot) → is_at (slot_cmp slot) q ≡ false → entry_at after q ≡ entry_at slots q) → HasRooms new after
+pub rooms_left : (rest new : Entries) (slots after : Slot → Option (Option (List Value))) (slot : Slot) → HasRoomsAt rest slots → ((q : Slot) → entry_at new q ≡ cond (is_at (slot_cmp slot) q) None (entry_at rest q)) → ((q : Slot) → is_at (slot_cmp slot) q ≡ false → after q ≡ slots q) → HasRoomsAt new after
 rooms_left rest new slots after slot rooms updates others q p is =
-    elim (is_at (slot_cmp slot) q) as (λ b. is_at (slot_cmp slot) q ≡ b → entry_at new q ≡ cond b None (entry_at rest q) → IsSome (entry_at after q)) [
+    elim (is_at (slot_cmp slot) q) as (λ b. is_at (slot_cmp slot) q ≡ b → entry_at new q ≡ cond b None (entry_at rest q) → IsSome (after q)) [
       | true ↦ λ here none. let h = sym is ∙ none in cc
       | false ↦ λ apart same. ap is_some (others q apart) ∙ rooms q p (sym same ∙ is)
     ] refl (updates q)

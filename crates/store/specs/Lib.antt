@@ -15,4 +15,5 @@ pub mod Orders
 pub mod ContentLaws
 -- The lists' own words, which a reader may skip.
 pub mod Entries
+pub mod Shelves
 pub mod RowList

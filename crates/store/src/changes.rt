@@ -9,7 +9,7 @@ ghost use Rattle.store.specs.Slot.{slot_of};
 ghost use Rattle.store.specs.Content.{AreKeyed, HasRoomFor, made_by, put_at, touches, are_within};
 
 use crate::slot::Slot;
-use crate::slots::{copy_slots, fill, list_parts, make_rooms, stay_within, touch};
+use crate::slots::{Slots, copy_slots, fill, list_parts, make_rooms, stay_within, touch};
 use std::alloc::Global;
 use std::collections::BTreeMap;
 use std::marker::Model;
@@ -22,7 +22,7 @@ use terms::part::Part;
 #[derive(Debug, Drop)]
 pub struct Changes {
     alloc: Global,
-    slots: BTreeMap<Slot, Option<Part>>,
+    slots: Slots,
 }
 
 impl Model for Changes {
@@ -47,6 +47,30 @@ impl Changes {
             alloc,
             slots: BTreeMap::new(alloc),
         }
+    }
+
+    /// The changes that a map has, whose parts stand under their own keys.
+    pub(crate) fn from_slots(alloc: Global, slots: Slots) -> Changes
+        requires { AreKeyed (map.from_entries slots.entries) }
+        ensures { result ≡ map.from_entries slots.entries }
+    {
+        Changes { alloc, slots }
+    }
+
+    /// The map that has the changes.
+    pub(crate) fn slots(&self) -> &Slots
+        ensures slots { map.from_entries result.now.entries ≡ self.now }
+        ensures keyed { AreKeyed self.now }
+    {
+        &self.slots
+    }
+
+    /// So, to take them out.
+    pub(crate) fn into_slots(self) -> Slots
+        ensures slots { map.from_entries result.entries ≡ self }
+        ensures keyed { AreKeyed self }
+    {
+        self.slots
     }
 
     /// How many slots are changed.

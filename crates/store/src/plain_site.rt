@@ -1,6 +1,6 @@
 //! A site's store in memory.
 
-ghost use Rattle.std.specs.Prelude.{◌≡◌, IfOk};
+ghost use Rattle.std.specs.Prelude.{◌≡◌, [], IfOk};
 ghost use Rattle.std.specs.BTreeMap.{IsOrdered};
 ghost use Rattle.std.specs.FinMap as fin;
 ghost use Rattle.store.specs.Name.{ticket_cmp};
@@ -9,6 +9,7 @@ ghost use Rattle.store.specs.RowList.{rows_of};
 use crate::changes::Changes;
 use crate::fault::StoreFault;
 use crate::name::{Ticket, Txn};
+use crate::parts::Parts;
 use crate::prepared::{Prepared, PreparedRow, SiteKept, Unkept};
 use crate::site_store::SiteStore;
 use crate::slot::Slot;
@@ -24,7 +25,7 @@ use terms::seq::Seq;
 #[derive(Debug, Drop)]
 pub struct PlainSite {
     alloc: Global,
-    parts: Changes,
+    parts: Parts,
     prepared: BTreeMap<Ticket, Prepared>,
     life: u64,
 }
@@ -56,15 +57,23 @@ impl PlainSite {
         ensures sound { IsSound result }
         ensures parts { HoldsParts fin.empty result }
     {
-        PlainSite::with_parts(alloc, Changes::new(alloc))
+        PlainSite::keeping(alloc, Parts::new(alloc))
     }
 
     /// A store that keeps the parts that changes make of nothing.
-    pub fn with_parts(alloc: Global, parts: Changes) -> PlainSite
-        ensures sound { IsSound result }
-        ensures parts { HoldsParts parts result }
+    pub fn with_parts(alloc: Global, parts: Changes) -> Result<PlainSite, Memory>
+        ensures sound { IfOk result IsSound }
+        ensures parts { IfOk result (HoldsParts parts) }
     {
-        let _count = parts.len();
+        Ok(PlainSite::keeping(alloc, Parts::made_by(alloc, parts)?))
+    }
+
+    /// A store that keeps these parts.
+    fn keeping(alloc: Global, parts: Parts) -> PlainSite
+        ensures kept { result.parts ≡ parts }
+        ensures none { result.prepared.entries ≡ [] }
+        ensures life { result.life ≡ 0 }
+    {
         PlainSite {
             alloc,
             parts,
@@ -94,7 +103,7 @@ impl SiteStore for PlainSite {
     }
 
     fn find(&mut self, slot: &Slot) -> Result<Option<Part>, StoreFault> {
-        match self.parts.part_at(slot) {
+        match self.parts.find(slot) {
             Some(part) => Ok(Some(part.copy()?)),
             None => Ok(None),
         }
@@ -139,7 +148,7 @@ impl SiteStore for PlainSite {
 
     fn load(&mut self) -> Result<SiteKept, StoreFault> {
         Ok(SiteKept {
-            parts: self.parts.copy()?,
+            parts: self.parts.changes()?,
             prepared: list_rows(self.alloc, &self.prepared)?,
             life: self.life,
         })

@@ -91,7 +91,7 @@ fn copy_slot(copies: &mut Slots, slot: &Slot, part: &Option<Part>) -> Result<(),
     Ok(())
 }
 
-fn copy_part(part: &Option<Part>) -> Result<Option<Part>, Memory>
+pub(crate) fn copy_part(part: &Option<Part>) -> Result<Option<Part>, Memory>
     ensures { IfOk result (λ copy. copy ≡ part.now) }
 {
     match part {

@@ -35,7 +35,7 @@ fn ticket(word: &str) -> Ticket {
 }
 
 /// The leaf that a word such as `emp.2` names.
-pub fn leaf(alloc: Global, word: &str) -> Result<Leaf, Memory> {
+pub(crate) fn leaf(alloc: Global, word: &str) -> Result<Leaf, Memory> {
     let (relation, place) = word.split_once('.').unwrap_or((word, ""));
     Ok(Leaf {
         relation: Text::copy_of(alloc, relation)?,
@@ -53,7 +53,7 @@ fn value(alloc: Global, word: &str) -> Result<Value, Memory> {
 }
 
 /// The part that a line such as `1, 'Ada'` names.
-pub fn part_of(alloc: Global, line: &str) -> Result<Part, Memory> {
+pub(crate) fn part_of(alloc: Global, line: &str) -> Result<Part, Memory> {
     let mut values = Vec::new(alloc);
     for word in line.split(' ') {
         values.push(value(alloc, word)?)?;
@@ -123,7 +123,7 @@ fn order(alloc: Global, words: &[&str]) -> Result<Order, Memory> {
 }
 
 /// The letter that a line tells, such as `desk>north Prepare T1 1.1 2`. Transaction T1 is the first of the first life.
-pub fn letter(alloc: Global, line: &str) -> Result<Letter, Memory> {
+pub(crate) fn letter(alloc: Global, line: &str) -> Result<Letter, Memory> {
     let mut words = Vec::new(alloc);
     for word in line.split(' ') {
         words.push(word)?;

@@ -15,7 +15,7 @@ use terms::part::Part;
 
 /// A store in memory that refuses its call of one number, counted from 1.
 #[derive(Drop)]
-pub struct Refusing {
+pub(crate) struct Refusing {
     store: PlainSite,
     wanted: u64,
     calls: u64,
@@ -24,7 +24,7 @@ pub struct Refusing {
 
 impl Refusing {
     /// A store that refuses its call of this number; with 0, none.
-    pub fn new(store: PlainSite, wanted: u64) -> Refusing {
+    pub(crate) fn new(store: PlainSite, wanted: u64) -> Refusing {
         Refusing {
             store,
             wanted,

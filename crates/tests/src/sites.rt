@@ -39,7 +39,7 @@ fn opening(alloc: Global, lines: &[&str]) -> Result<PlainSite, Memory> {
         let (word, values) = line.split_once(' ').unwrap_or((line, ""));
         parts.put(leaf(alloc, word)?, part_of(alloc, values)?)?;
     }
-    Ok(PlainSite::with_parts(alloc, parts))
+    PlainSite::with_parts(alloc, parts)
 }
 
 /// What is told of a site.

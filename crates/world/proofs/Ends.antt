@@ -1,7 +1,7 @@
 -- What a client asks for, statements aside, evaluates nothing; so each statement that it evaluates is explained.
 use Rattle.std.proofs.Common.{Bool, true, false, List, [], ◌∷◌, Option, None, if◌then◌else◌}
 use Rattle.protocol.specs.Language.{Lang, Name}
-use Rattle.protocol.specs.Desk.{Choice, Commit_call, Deed, Give_up, Idle, Known, Reading, Rollback, Row, Stage, Txn, Undecided, Unknown, Voting, Writing, are_all_in, decides, on_commit_call, on_request, on_rollback, stays, voters_of, votes_go}
+use Rattle.protocol.specs.Desk.{Choice, Commit_call, Give_up, Idle, Known, Reading, Rollback, Row, Stage, Txn, Undecided, Unknown, Voting, Writing, are_all_in, decides, on_commit_call, on_request, on_rollback, stays, voters_of, votes_go}
 use Rattle.protocol.specs.Letter.{Vote}
 use Rattle.protocol.specs.Serial.{AllExplained}
 

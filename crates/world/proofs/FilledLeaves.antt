@@ -1,5 +1,5 @@
 -- What a site keeps of each leaf as it starts: the parts of its own leaves, and of others none.
-use Rattle.std.proofs.Common.{◌≡◌, refl, sym, ap, ap₂, ◌∙◌, subst, ℕ, nat_eq, ◌==◌, ◌&&◌, Bool, true, false, List, [], ◌∷◌, Option, Some, None, if◌then◌else◌}
+use Rattle.std.proofs.Common.{◌≡◌, refl, sym, ap, ap₂, ◌∙◌, subst, ℕ, nat_eq, ◌==◌, ◌&&◌, Bool, true, false, List, [], ◌∷◌, Some, None, if◌then◌else◌}
 use Rattle.std.proofs.lemmas.Bool.{eqb-true, eq-eqb}
 use Rattle.std.proofs.lemmas.Slice.Eq.{bytes_eq-Decides}
 use Rattle.std.specs.Cmp.Lexicographic.{pointwise}
@@ -54,6 +54,7 @@ module _ (whole : Relations) (site : ℕ) where
     where
       put : Content → Content
       put c = stored_in c (content (unnamed leaf) (rows_of whole leaf.name.relation))
+
       go : (b : Bool) → is_name_of name first ≡ b → (if b then Some first else leaf_named name leaves) ≡ Some leaf → (leaf_named name leaves ≡ Some leaf → filled whole site leaves name kept ≡ stored_in kept (content (unnamed leaf) (rows_of whole leaf.name.relation))) →
           filled whole site (first ∷ leaves) name kept ≡ stored_in kept (content (unnamed leaf) (rows_of whole leaf.name.relation))
       go false e is later = passes first leaves name kept e ∙ later is
@@ -63,7 +64,7 @@ module _ (whole : Relations) (site : ℕ) where
           let test : is_leaf first name ≡ true = sym (same_test name first) ∙ e in
           let named : first.name ≡ name = sym (leaf_is name first.name test) in
           let now : (if first.site == site then kept_with first (rows_of whole first.name.relation) name kept else kept) ≡ stored_in kept (content (unnamed leaf) (rows_of whole leaf.name.relation)) =
-              ap (λ (b : Bool). if b then kept_with first (rows_of whole first.name.relation) name kept else kept) at_site
-              ∙ ap (λ (b : Bool). if b then stored_in kept (content (unnamed first) (rows_of whole first.name.relation)) else kept) test
-              ∙ ap (λ (l : FragmentLeaf). stored_in kept (content (unnamed l) (rows_of whole l.name.relation))) same in
+          ap (λ (b : Bool). if b then kept_with first (rows_of whole first.name.relation) name kept else kept) at_site
+          ∙ ap (λ (b : Bool). if b then stored_in kept (content (unnamed first) (rows_of whole first.name.relation)) else kept) test
+          ∙ ap (λ (l : FragmentLeaf). stored_in kept (content (unnamed l) (rows_of whole l.name.relation))) same in
           ap (filled whole site leaves name) now ∙ subst (λ n. filled whole site leaves n (stored_in kept (content (unnamed leaf) (rows_of whole leaf.name.relation))) ≡ stored_in kept (content (unnamed leaf) (rows_of whole leaf.name.relation))) named (others_pass first leaves (stored_in kept (content (unnamed leaf) (rows_of whole leaf.name.relation))) own.0)

@@ -1,36 +1,37 @@
 -- A step of one machine is one of the world.
-use Rattle.std.proofs.Common.{◌≡◌, refl, sym, ap, ap₂, ◌∙◌, subst, ℕ, Bool, true, false, List, [], ◌∷◌, ◌++◌, map, Option, Some, None, if◌then◌else◌}
-use Rattle.std.specs.List.{filter_map, flat_map}
+use Rattle.std.proofs.Common.{◌≡◌, refl, sym, ap, ap₂, ◌∙◌, subst, ℕ, Bool, true, false, List, [], ◌∷◌, ◌++◌, map}
+use Rattle.std.specs.List.{flat_map}
 use Rattle.std.proofs.lemmas.List.{append-nil}
 use Rattle.store.specs.declared.letter.Body as bodies
 use Rattle.store.specs.declared.letter.Body.TheVariants as body
 use Rattle.store.specs.declared.order.Order.TheVariants as order
+use Rattle.store.specs.declared.reply.Reply as replies
+use Rattle.store.specs.declared.reply.Reply.TheVariants as reply_kinds
 use Rattle.store.specs.declared.letter.Letter as letters
 use Rattle.store.specs.declared.name.Txn as names
 use Rattle.store.specs.DeskContent.{DeskContent}
+use Rattle.desk.specs.Calls.{txn_in}
+use Rattle.desk.specs.Does.{Takes}
 use Rattle.desk.specs.Starting.{Restarts}
 use Rattle.protocol.specs.Language.{Name}
-use Rattle.protocol.specs.Desk.{Began, Choice, Desk, Known, Row, Txn, Unknown, desk_restarted, next_txn, txn_restarted, Deed, Request, Turn, desk_after, desk_began, is_desk_within, on_request}
-use Rattle.protocol.specs.Letter.{Body, Letter, is_for_desk}
+use Rattle.protocol.specs.Desk.{Began, Choice, Desk, Known, Row, Txn, Unknown, desk_restarted, next_txn, txn_restarted, Deed, Turn, desk_after, desk_began, is_desk_within}
+use Rattle.protocol.specs.Letter.{Letter, is_for_desk}
 use Rattle.protocol.specs.Letters.{body_of, kept_in, letter_of, name_of, txn_name}
-use Rattle.protocol.specs.Local.{local}
 use Rattle.protocol.specs.Serial.{AllExplained}
 use Rattle.protocol.specs.Site.{Act, SiteState, inquiries, is_within, on_give_up, on_letter, said, site_after, site_restarted}
 use Rattle.protocol.specs.Statements.{body_with, letter_with, site_with}
-use Rattle.protocol.specs.World.{World, addressed, desk_lives, desk_restarts, begins, begun, called, comes, comes_to, gives_up, inquires, restarts, site_steps, turned, turns, with_site}
+use Rattle.protocol.specs.World.{World, addressed, desk_lives, desk_restarts, begins, begun, comes, comes_to, gives_up, inquires, restarts, site_steps, turned, turns, with_site}
 use Rattle.protocol.proofs.Basics.{if_true}
 use Rattle.desk.specs.declared.reply.Notice.{Notice}
-use Rattle.desk.specs.Database.{Database, language, sent, statements}
-use Rattle.desk.specs.State.{Begins, Fits, Steps, Table, desk_of, notice_of}
-use Rattle.desk.specs.Turn.{told}
-use Rattle.site.specs.State.{Fits as SiteFits, state_of, Table as SiteTable}
-use Rattle.store.specs.SiteContent.{SiteContent}
+use Rattle.desk.specs.Database.{Database, language, replied, sent, statements}
+use Rattle.desk.specs.State.{Begins, Steps, Table, desk_of}
+use Rattle.site.specs.State.{state_of}
 use Rattle.site.proofs.Limited.{fits_within}
-use Rattle.world.specs.Machines.{AreFit, Leads, Machines, happens_at, is_for_site, is_order, world_of}
+use Rattle.world.specs.Machines.{AreFit, Came, Leads, Machines, happens_at, is_for_site, is_order, world_of}
 use Rattle.world.specs.Seated.{SomeSeatDoes}
 use Rattle.world.specs.declared.doing.Doing as doing
 use Rattle.world.specs.declared.doing.Doing.TheVariants.{GiveUp, Inquire, Restart, Take}
-use Rattle.world.specs.Seats.{Moves, Seat, seat_of, state_at, states_of}
+use Rattle.world.specs.Seats.{Moves, Seat, state_at, states_of}
 use Rattle.world.proofs.Seating.{letter_said, letter_state, names_after, reseated_same, seat_named, seated_after, state_there, states_after}
 use Rattle.protocol.proofs.OtherStatements.{after_same, give_up_same, inquiries_same, restart_same, within_same}
 
@@ -97,6 +98,34 @@ module _ (db : Database) (before : Machines) (kept : DeskContent) (after : Table
         explained = restarted_explained db d d.known;
         replies = restarted.replies;
       }
+
+-- a letter of a site
+pub reply_of : (said : bodies.Body) → is_order said ≡ false → (reply : replies.Reply) × (said ≡ body.Reply reply)
+reply_of (body.Order order) is = absurd cc
+reply_of (body.Reply reply) is = (reply, refl)
+
+comes_is : (db : Database) (letter : letters.Letter) (reply : replies.Reply) → letter.body ≡ body.Reply reply → (kept : Bool) (choice : Choice (language db)) (w : World (language db)) →
+    comes w kept choice (sent db letter) ≡ turns w (txn_name letter.txn) (on_desk_letter (txn_name letter.txn) letter.site kept choice (replied db reply) (w.desk.txn (txn_name letter.txn)))
+comes_is db letter reply is kept choice w = ap (λ said. comes w kept choice (as_sent said)) is ∙ go reply
+  where
+    as_sent : bodies.Body → Letter (language db)
+    as_sent said = record { site = letter.site; txn = txn_name letter.txn; body = body_with (statements db) (body_of said) }
+
+    go : (r : replies.Reply) → comes w kept choice (as_sent (body.Reply r)) ≡ turns w (txn_name letter.txn) (on_desk_letter (txn_name letter.txn) letter.site kept choice (replied db r) (w.desk.txn (txn_name letter.txn)))
+    go (reply_kinds.Ticket ticket) = refl
+    go (reply_kinds.Rows rows) = refl
+    go (reply_kinds.Refused refusal) = refl
+    go (reply_kinds.Voted voted) = refl
+    go (reply_kinds.Ack ticket) = refl
+    go (reply_kinds.Inquire ticket) = refl
+
+pub reply_leads : (db : Database) (before : Machines) (kept : DeskContent) (after : Table) (letter : letters.Letter) (reply : replies.Reply) → letter.body ≡ body.Reply reply → (keeps : Bool) (out : List letters.Letter) (notices : List Notice) → AreFit db before →
+    Takes db before.table kept after letter.txn (λ choice. on_desk_letter (txn_name letter.txn) letter.site keeps choice (replied db reply) (txn_in db before.table letter.txn)) out notices → Came db letter keeps before (with_desk before kept after) out notices
+reply_leads db before kept after letter reply is keeps out notices fit takes = record {
+  choice = takes.choice;
+  leads = turn_leads db before kept after letter.txn (on_desk_letter (txn_name letter.txn) letter.site keeps takes.choice (replied db reply) (txn_in db before.table letter.txn)) out notices fit takes.steps
+      (λ w. comes w keeps takes.choice (sent db letter)) (λ waiting past. comes_is db letter reply is keeps takes.choice (world_of db before waiting past)) takes.explained;
+}
 
 -- the sites are others
 abbrev pub with_seats : Machines → List Seat → Machines

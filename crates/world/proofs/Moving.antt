@@ -1,11 +1,10 @@
 -- A site of the code that makes a step, alone and among the others.
-use Rattle.std.proofs.Common.{◌≡◌, refl, sym, ap, ◌∙◌, subst, ℕ, Bool, true, false, List, [], ◌∷◌, Option, Some, None, Result, Ok, Err, IfOk, OnErr, if◌then◌else◌}
+use Rattle.std.proofs.Common.{◌≡◌, sym, ap, ◌∙◌, subst, ℕ, Bool, true, false, List, ◌∷◌, Some, Result, Ok, Err, IfOk, OnErr, if◌then◌else◌}
 use Rattle.std.specs.List.{AllByRecursion}
 use Rattle.store.specs.declared.letter.Letter.{Letter}
 use Rattle.store.specs.SiteContent.{IsUnchanged, SiteContent}
 use Rattle.protocol.proofs.Basics.{some_is}
-use Rattle.site.specs.State.{Table, Takes}
-use Rattle.world.specs.Seats.{AreSeated, IsSeated, Moves, Seat, is_called, reseated, seat_of}
+use Rattle.world.specs.Seats.{AreSeated, IsSeated, Seat, is_called, reseated, seat_of}
 use Rattle.site.specs.declared.site.Site.{Site}
 use Rattle.world.specs.Seated.{SeatDoes, SomeSeatDoes, place_of, seat_from, seats_in}
 use Rattle.world.specs.declared.doing.Doing.{Doing}

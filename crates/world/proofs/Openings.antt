@@ -1,42 +1,37 @@
 -- The world of machines that have just started is an opening of the protocol.
-use Rattle.std.proofs.Common.{◌≡◌, ◌≢◌, refl, sym, ap, ◌∙◌, subst, ℕ, zero, suc, ◌+◌, nat_eq, Bool, true, false, List, [], ◌∷◌, map, Option, Some, None, is_some, slice_get, if◌then◌else◌, inl, arith}
+use Rattle.std.proofs.Common.{◌≡◌, ◌≢◌, refl, sym, ap, ◌∙◌, subst, ℕ, zero, suc, ◌+◌, Bool, true, false, List, [], ◌∷◌, map, Option, Some, None, is_some, slice_get, if◌then◌else◌, inl, arith}
 use Rattle.std.specs.FinMap as fin
 use Rattle.std.specs.List.{AllByRecursion}
 use Rattle.terms.specs.declared.leaf.Leaf.{Leaf}
-use Rattle.meaning.specs.Whole.{FitsSchema, Relations, rows_of}
+use Rattle.meaning.specs.Whole.{Relations}
 use Rattle.reader.specs.Printable.{AreDistinct}
 use Rattle.catalog.specs.declared.fragment_leaf.FragmentLeaf.{FragmentLeaf}
 use Rattle.catalog.specs.Catalogue.{Catalogue}
 use Rattle.catalog.specs.Formed.{IsFormed}
-use Rattle.catalog.specs.Fragment.{content}
-use Rattle.catalog.specs.FragmentLeaf.{catalogue_leaves, leaf_named, unnamed}
+use Rattle.catalog.specs.FragmentLeaf.{catalogue_leaves, leaf_named}
 use Rattle.catalog.proofs.LeafNames.{HaveOwnNames, own_names}
 use Rattle.store.specs.declared.name.Ticket.{Ticket}
 use Rattle.store.specs.declared.name.Txn as txns
-use Rattle.store.specs.DeskContent.{DeskContent}
-use Rattle.protocol.specs.Desk as protocol
 use Rattle.protocol.specs.Language.{Name}
 use Rattle.protocol.specs.Letters.{name_of, ticket_of, txn_name}
 use Rattle.protocol.specs.Local.{local}
 use Rattle.protocol.specs.Parts.{In}
 use Rattle.protocol.specs.Serial.{IsOpening}
-use Rattle.protocol.specs.Site.{Alive, Dead, SiteState, Status}
+use Rattle.protocol.specs.Site.{Dead, SiteState}
 use Rattle.protocol.specs.Statements.{Statements, status_with, with_statements}
 use Rattle.protocol.proofs.Basics.{some_is}
-use Rattle.desk.specs.declared.standing.Standing as desk_standing
 use Rattle.desk.specs.Database.{Database, language, statements}
 use Rattle.desk.specs.Standing.{txn_of}
 use Rattle.desk.specs.Starting as desk_starting
-use Rattle.desk.specs.State.{Table, txn_at}
+use Rattle.desk.specs.State.{txn_at}
 use Rattle.site.specs.declared.standing.Standing as standings
 use Rattle.site.specs.declared.standing.Standing.TheVariants as standing
-use Rattle.site.specs.Starting.{at_rest, resting}
+use Rattle.site.specs.Starting.{resting}
 use Rattle.site.specs.State.{stands, state_of, txn_in, visiting}
-use Rattle.world.specs.Filling.{stored_in}
 use Rattle.world.specs.Machines.{AreFit, Machines, world_of}
 use Rattle.world.specs.Placed.{IsPlaced, Opens}
 use Rattle.world.specs.Opening.{AllStarted, IsStarted}
-use Rattle.world.specs.Seats.{AreSeated, Seat, is_called, nobody, seat_of, state_at, states_of}
+use Rattle.world.specs.Seats.{Seat, is_called, nobody, seat_of, state_at, states_of}
 use Rattle.world.proofs.FilledLeaves.{leaf_filled, none_filled}
 use Rattle.world.proofs.Seating.{name_is, name_self, state_there}
 

@@ -1,20 +1,20 @@
 -- A site that makes a step makes it in the protocol's world, where nothing else changes.
-use Rattle.std.proofs.Common.{◌≡◌, refl, sym, ap, ap₂, ◌∙◌, subst, ℕ, nat_eq, Bool, true, false, List, [], ◌∷◌, map, Option, Some, None, if◌then◌else◌}
+use Rattle.std.proofs.Common.{◌≡◌, refl, sym, ap, ◌∙◌, subst, ℕ, nat_eq, Bool, true, false, ◌||◌, List, [], ◌∷◌, map, Some, if◌then◌else◌}
 use Rattle.std.specs.Cmp.Lexicographic.{pointwise}
-use Rattle.std.specs.List.{AllByRecursion}
+use Rattle.std.specs.List.{AllByRecursion, list_any}
 use Rattle.std.proofs.lemmas.Slice.Eq.{bytes_eq-Decides}
-use Rattle.std.proofs.lemmas.List.{map-append}
 use Rattle.store.specs.declared.letter.Letter.{Letter}
-use Rattle.protocol.specs.Language.{Name, put}
+use Rattle.protocol.specs.Language.{put}
 use Rattle.protocol.specs.Letter as protocol
 use Rattle.protocol.specs.Letters.{body_of, kept_in, letter_of, txn_name}
 use Rattle.protocol.specs.Local.{local}
-use Rattle.protocol.specs.Site.{SiteState, is_within, on_letter, said, site_after}
-use Rattle.protocol.specs.Statements.{Statements, act_with, body_with, letter_with, site_with, with_statements}
+use Rattle.protocol.specs.Site.{on_letter, said, site_after}
+use Rattle.protocol.specs.Statements.{Statements, body_with, letter_with, site_with}
 use Rattle.protocol.specs.World.{addressed}
-use Rattle.protocol.proofs.Basics.{if_false, if_true, some_is}
-use Rattle.protocol.proofs.OtherStatements.{act_same, after_same, said_same, within_same}
+use Rattle.protocol.proofs.Basics.{some_is}
+use Rattle.protocol.proofs.OtherStatements.{act_same, after_same, said_same}
 use Rattle.site.specs.State.{Takes, state_of}
+use Rattle.site.proofs.Tickets.{same_bool}
 use Rattle.world.specs.Seats.{AreSeated, IsSeated, Moves, Seat, is_called, reseated, seat_of, state_at, states_of}
 
 pub name_is : (a b : List ℕ) → pointwise nat_eq a b ≡ true → a ≡ b
@@ -40,6 +40,18 @@ all_kept P name new (seat ∷ seats) here all = go (is_called name seat) (all_ke
     go : (b : Bool) → AllByRecursion P (reseated name new seats) → AllByRecursion P (if b then new ∷ seats else seat ∷ reseated name new seats)
     go true later = (here, all.1)
     go false later = (all.0, later)
+
+-- a name that is among those of the sites is that of one
+pub seat_there : (name : List ℕ) (seats : List Seat) → list_any (λ site. pointwise nat_eq site name) (map (λ seat. seat.name) seats) ≡ true → (seat : Seat) × (seat_of name seats ≡ Some seat)
+seat_there name [] there = absurd cc
+seat_there name (first ∷ seats) there = go (pointwise nat_eq first.name name) refl there (seat_there name seats)
+  where
+    Here : Type 0
+    Here = (seat : Seat) × ((if is_called name first then Some first else seat_of name seats) ≡ Some seat)
+
+    go : (b : Bool) → pointwise nat_eq first.name name ≡ b → (b || list_any (λ site. pointwise nat_eq site name) (map (λ seat. seat.name) seats)) ≡ true → (list_any (λ site. pointwise nat_eq site name) (map (λ seat. seat.name) seats) ≡ true → (seat : Seat) × (seat_of name seats ≡ Some seat)) → Here
+    go true e is later = (first, ap (λ (b : Bool). if b then Some first else seat_of name seats) (subst (λ n. is_called n first ≡ true) (name_is first.name name e) (name_self first.name)))
+    go false e is later = let rest = later is in (rest.0, ap (λ (b : Bool). if b then Some first else seat_of name seats) (same_bool (is_called name first) false (λ called. let same : pointwise nat_eq first.name name ≡ true = subst (λ n. pointwise nat_eq n name ≡ true) (name_is name first.name called) (name_self name) in absurd cc) (λ no_one. absurd cc)) ∙ rest.1)
 
 -- what holds of each site holds of that of a name
 pub seat_has : (P : Seat → Type 0) (name : List ℕ) (seats : List Seat) (seat : Seat) → seat_of name seats ≡ Some seat → AllByRecursion P seats → P seat
@@ -91,6 +103,7 @@ module _ (S : Statements local) where
           both : (b : Bool) → pointwise nat_eq at name ≡ b → state_at S first ≡ (if b then state_at S new else state_at S first)
           both false e2 = refl
           both true e2 = let same : is_called name first ≡ true = subst (λ n. is_called n first ≡ true) (name_is at name e2) e in absurd cc
+
       go : (b : Bool) → is_called name first ≡ b → (if b then Some first else seat_of name seats) ≡ Some seat → (seat_of name seats ≡ Some seat → states_of S (reseated name new seats) at ≡ put (pointwise nat_eq) name (state_at S new) (states_of S seats) at) →
           states_of S (if b then new ∷ seats else first ∷ reseated name new seats) at ≡ (if pointwise nat_eq at name then state_at S new else (if is_called at first then state_at S first else states_of S seats at))
       go true e is later =
@@ -134,7 +147,7 @@ module _ (S : Statements local) (letter : Letter) (letters : List Letter) (seat 
       put_out : (bodies : List (protocol.Body local)) → addressed letter.site (txn_name letter.txn) (map (body_with S) bodies) ≡ map (letter_with S) (addressed letter.site (txn_name letter.txn) bodies)
       put_out [] = refl
       put_out (body ∷ bodies) = ap (λ rest. record { site = letter.site; txn = txn_name letter.txn; body = body_with S body } ∷ rest) (put_out bodies)
+
       twice : (out : List Letter) → map (letter_with S) (map letter_of out) ≡ map (λ l. letter_with S (letter_of l)) out
       twice [] = refl
       twice (l ∷ out) = ap (λ rest. letter_with S (letter_of l) ∷ rest) (twice out)
-

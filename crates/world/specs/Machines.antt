@@ -1,15 +1,20 @@
 -- The machines of a database together, as the protocol's world.
-use Rattle.std.specs.Prelude.{◌≡◌, Bool, true, false, List, ◌++◌, map}
-use Rattle.std.specs.List.{filter_map}
+use Rattle.std.specs.Prelude.{◌≡◌, ℕ, nat_eq, Bool, true, false, List, ◌++◌, map}
+use Rattle.std.specs.Cmp.Lexicographic.{pointwise}
+use Rattle.std.specs.List.{filter_map, list_any}
+use Rattle.meaning.specs.declared.statement.Statement.{Statement}
+use Rattle.reader.specs.declared.command.Command.TheVariants as command
+use Rattle.reader.specs.Command.{IsTextOf}
 use Rattle.store.specs.declared.letter.Body as bodies
 use Rattle.store.specs.declared.letter.Body.TheVariants as body
 use Rattle.store.specs.declared.letter.Letter as letters
+use Rattle.store.specs.declared.name.Txn.{Txn}
 use Rattle.store.specs.DeskContent.{DeskContent}
-use Rattle.protocol.specs.Desk.{Choice, Deed, is_desk_within}
+use Rattle.protocol.specs.Desk.{Choice, Deed, State, is_desk_within}
 use Rattle.protocol.specs.Letter.{Letter}
 use Rattle.protocol.specs.Serial.{AllExplained}
-use Rattle.protocol.specs.Letters.{name_of}
-use Rattle.protocol.specs.World.{World, comes, gives_up, inquires, restarts}
+use Rattle.protocol.specs.Letters.{name_of, txn_name}
+use Rattle.protocol.specs.World.{World, called, comes, gives_up, inquires, restarts}
 use Rattle.desk.specs.declared.reply.Notice.{Notice}
 use Rattle.desk.specs.Database.{Database, language, sent, statements}
 use Rattle.desk.specs.State.{Fits, Table, desk_of, notice_of}
@@ -62,3 +67,19 @@ pub record Leads (db : Database) (step : World (language db) → World (language
   pub is : (waiting : List (Letter (language db))) (past : List (Deed (language db))) → step (world_of db before waiting past) ≡ world_of db after (waiting ++ map (sent db) out) (past ++ deeds)
   pub explained : AllExplained deeds
   pub replies : map notice_of notices ≡ filter_map told deeds
+
+-- a statement of a transaction is stated: the text is its text
+pub record Stated (db : Database) (txn : Txn) (text : List ℕ) (before after : Machines) (out : List letters.Letter) (notices : List Notice) : Type 0 where
+  pub statement : Statement
+  pub choice : Choice (language db)
+  pub spelled : IsTextOf db.schemas text (command.Run statement)
+  pub leads : Leads db (λ w. called w (txn_name txn) choice (State statement)) before after out notices
+
+-- a letter comes to the machine that it is for; kept: whether the store call that it makes is kept
+pub record Came (db : Database) (letter : letters.Letter) (kept : Bool) (before after : Machines) (out : List letters.Letter) (notices : List Notice) : Type 0 where
+  pub choice : Choice (language db)
+  pub leads : Leads db (λ w. comes w kept choice (sent db letter)) before after out notices
+
+-- a letter is to or from a site of the database
+abbrev pub is_of_site : Database → letters.Letter → Bool
+is_of_site db letter = list_any (λ site. pointwise nat_eq site letter.site) db.sites

@@ -1,5 +1,5 @@
 -- When machines that start are an opening of the protocol.
-use Rattle.std.specs.Prelude.{◌≡◌, List, [], Some, None, slice_get}
+use Rattle.std.specs.Prelude.{◌≡◌, [], Some, None, slice_get}
 use Rattle.std.specs.FinMap as fin
 use Rattle.terms.specs.declared.leaf.Leaf.{Leaf}
 use Rattle.meaning.specs.Whole.{FitsSchema, Relations, rows_of}

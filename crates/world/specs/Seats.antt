@@ -1,15 +1,14 @@
 -- The sites of a database, each under its name, as the protocol's world has them.
-use Rattle.std.specs.Prelude.{◌≡◌, ℕ, nat_eq, Bool, true, false, ◌||◌, List, [], ◌∷◌, Option, Some, None, if◌then◌else◌}
+use Rattle.std.specs.Prelude.{◌≡◌, ℕ, nat_eq, Bool, List, [], ◌∷◌, Option, Some, None, if◌then◌else◌}
 use Rattle.std.specs.Cmp.Lexicographic.{pointwise}
 use Rattle.std.specs.FinMap as fin
 use Rattle.std.specs.List.{AllByRecursion}
 use Rattle.terms.specs.declared.leaf.Leaf.{Leaf}
-use Rattle.store.specs.declared.letter.Letter.{Letter}
 use Rattle.store.specs.SiteContent.{SiteContent}
 use Rattle.protocol.specs.Local.{local}
-use Rattle.protocol.specs.Site.{SiteState, Dead, is_within}
+use Rattle.protocol.specs.Site.{SiteState, Dead}
 use Rattle.protocol.specs.Statements.{Statements, with_statements, site_with}
-use Rattle.site.specs.State.{Fits, Table, Takes, state_of}
+use Rattle.site.specs.State.{Fits, Table, state_of}
 
 -- a site: its name, its leaves, what its store keeps, and what it has in memory
 pub record Seat : Type 0 where

@@ -21,19 +21,32 @@ use terms::part::Part;
 use terms::row::Row;
 
 /// A part is put, if there is one.
-fn put_part(alloc: Global, parts: &mut Changes, leaf: &FragmentLeaf, row: &Row) -> Result<(), Memory>
+fn put_part(
+    alloc: Global,
+    parts: &mut Changes,
+    leaf: &FragmentLeaf,
+    row: &Row,
+) -> Result<(), Memory>
     ensures { (name : LeafName) → OnOk result (made_by parts.new name ≡ kept_with leaf.now (row.now ∷ []) name (made_by parts.old name)) }
 {
     one_change_more();
     match place(alloc, leaf.conds.as_slice(), leaf.columns.as_slice(), row)? {
-        Some(placed) => parts.put(leaf.name.copy()?, Part::new(copy_all(alloc, placed.values())?)),
+        Some(placed) => parts.put(
+            leaf.name.copy()?,
+            Part::new(copy_all(alloc, placed.values())?),
+        ),
         None => Ok(()),
     }
 }
 
 /// The parts of rows in a leaf are put.
 #[tactic(auto, using(crate::proofs::Filled::one_row_then, crate::proofs::Filled::no_row))]
-fn put_parts(alloc: Global, parts: &mut Changes, leaf: &FragmentLeaf, rows: &[Row]) -> Result<(), Memory>
+fn put_parts(
+    alloc: Global,
+    parts: &mut Changes,
+    leaf: &FragmentLeaf,
+    rows: &[Row],
+) -> Result<(), Memory>
     ensures { (name : LeafName) → OnOk result (made_by parts.new name ≡ kept_with leaf.now rows.now name (made_by parts.old name)) }
 {
     for row in rows {

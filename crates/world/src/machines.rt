@@ -2,12 +2,14 @@
 
 ghost use Rattle.std.specs.Prelude.{◌≡◌, [], not};
 ghost use Rattle.protocol.specs.Letters.{kept_in};
+ghost use Rattle.world.specs.Machines.{is_order};
 
 use crate::doing::Doing;
+use crate::fault::Fault;
 use crate::seats::do_among;
 use desk::desk::Desk;
-use desk::reply::Out;
 use desk::refusal::Refusal;
+use desk::reply::Out;
 use site::fault::SiteFault;
 use site::site::Site;
 use std::alloc::Global;
@@ -27,14 +29,16 @@ pub(crate) struct Machines<D: DeskStore, S: SiteStore> {
 }
 
 impl<D: DeskStore, S: SiteStore> Machines<D, S> {
-    ghost use Rattle.std.specs.Prelude.{◌≡◌, true, Some, IfOk, OnErr};
+    ghost use Rattle.std.specs.Prelude.{◌≡◌, false, true, Some, IfOk, OnErr};
     ghost use Rattle.protocol.specs.Desk.{Choice, Commit_call, Give_up, Rollback};
     ghost use Rattle.protocol.specs.Letters.{txn_name};
     ghost use Rattle.protocol.specs.World.{begins, called, desk_restarts};
     ghost use Rattle.desk.specs.Calls.{IsOver};
     ghost use Rattle.desk.specs.Database.{Database, language};
     ghost use Rattle.world.specs.Held.{OfStores, held};
-    ghost use Rattle.world.specs.Machines.{AreFit, Leads, happens_at, is_for_site};
+    ghost use Rattle.world.specs.Machines.{AreFit, Came, Leads, Stated, happens_at, is_for_site, is_of_site, is_order};
+    ghost use Rattle.catalog.specs.Relation.{catalogue_of};
+    ghost use Rattle.desk.specs.OfCatalogue.{IsOfCatalogue};
     ghost use Rattle.world.specs.Seated.{place_of};
     ghost use Rattle.world.specs.Seats.{Seat, seat_of};
 
@@ -93,6 +97,48 @@ impl<D: DeskStore, S: SiteStore> Machines<D, S> {
         self.desk.restart_kept(kept)
     }
 
+    /// A statement of a transaction, by its text.
+    pub(crate) fn statement(&mut self, txn: Txn, text: &str) -> Result<Out, Refusal>
+        ensures clean { OfStores D.is_clean S.is_clean self.new → OfStores D.is_clean S.is_clean self.old }
+        ensures sound { OfStores D.is_clean S.is_clean self.new → OfStores D.is_sound S.is_sound self.old → OfStores D.is_sound S.is_sound self.new }
+        ensures ok { (db : Database) → IsOfCatalogue db → db.catalogue ≡ catalogue_of self.old.desk.catalog → AreFit db (held D.kept S.kept self.old)
+            → IfOk result (λ out. Stated db txn text.now (held D.kept S.kept self.old) (held D.kept S.kept self.new) out.letters out.replies) }
+        ensures err { OnErr result (held D.kept S.kept self.new ≡ held D.kept S.kept self.old) }
+    {
+        self.desk.statement(txn, text)
+    }
+
+    /// A letter of a site comes.
+    fn reply(&mut self, letter: &Letter, kept: bool) -> Result<Out, Refusal>
+        ensures clean { OfStores D.is_clean S.is_clean self.new → OfStores D.is_clean S.is_clean self.old }
+        ensures sound { OfStores D.is_clean S.is_clean self.new → OfStores D.is_sound S.is_sound self.old → OfStores D.is_sound S.is_sound self.new }
+        ensures ok { (db : Database) → IsOfCatalogue db → db.catalogue ≡ catalogue_of self.old.desk.catalog → OfStores D.is_clean S.is_clean self.new → OfStores D.is_sound S.is_sound self.old → AreFit db (held D.kept S.kept self.old) → is_order letter.now.body ≡ false → is_of_site db letter.now ≡ true
+            → IfOk result (λ out. Came db letter.now out.kept (held D.kept S.kept self.old) (held D.kept S.kept self.new) out.letters out.replies) }
+        ensures err { OfStores D.is_clean S.is_clean self.new → OfStores D.is_sound S.is_sound self.old → OnErr result (held D.kept S.kept self.new ≡ held D.kept S.kept self.old) }
+    {
+        self.desk.take_kept(letter, kept)
+    }
+
+    /// A letter comes to the machine that it is for.
+    pub(crate) fn deliver(&mut self, letter: Letter, kept: bool) -> Result<Out, Fault>
+        ensures clean { OfStores D.is_clean S.is_clean self.new → OfStores D.is_clean S.is_clean self.old }
+        ensures sound { OfStores D.is_clean S.is_clean self.new → OfStores D.is_sound S.is_sound self.old → OfStores D.is_sound S.is_sound self.new }
+        ensures ok { (db : Database) → IsOfCatalogue db → db.catalogue ≡ catalogue_of self.old.desk.catalog → OfStores D.is_clean S.is_clean self.new → OfStores D.is_sound S.is_sound self.old → AreFit db (held D.kept S.kept self.old) → is_of_site db letter ≡ true
+            → IfOk result (λ out. Came db letter out.kept (held D.kept S.kept self.old) (held D.kept S.kept self.new) out.letters out.replies) }
+        ensures err { OfStores D.is_clean S.is_clean self.new → OfStores D.is_sound S.is_sound self.old → OnErr result (held D.kept S.kept self.new ≡ held D.kept S.kept self.old) }
+    {
+        if !is_order(&letter.body) {
+            return match self.reply(&letter, kept) {
+                Ok(out) => Ok(out),
+                Err(refusal) => Err(Fault::Desk(refusal)),
+            };
+        }
+        match self.at_site(Doing::Take(letter), kept) {
+            Ok(out) => Ok(out),
+            Err(fault) => Err(Fault::Site(fault)),
+        }
+    }
+
     /// Something is done at its site. A letter that comes there is an order.
     fn at_site(&mut self, what: Doing, kept: bool) -> Result<Out, SiteFault>
         requires { is_for_site what ≡ true }
@@ -130,11 +176,15 @@ fn votes_no(letters: &[Letter]) -> bool
     match letters.first() {
         Some(letter) => matches!(
             &letter.body,
-            Body::Reply(Reply::Voted(Voted {
-                vote: Vote::No,
-                ..
-            }))
+            Body::Reply(Reply::Voted(Voted { vote: Vote::No, .. }))
         ),
         None => false,
     }
+}
+
+/// Whether a letter is for a site.
+fn is_order(body: &Body) -> bool
+    ensures { result ≡ is_order body.now }
+{
+    matches!(body, Body::Order(_))
 }

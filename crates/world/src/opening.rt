@@ -38,7 +38,7 @@ fn start_site(
 {
     let parts = parts_at(alloc, catalog, whole, place)?;
     let leaves = catalog.leaves_at(place)?;
-    let store = PlainSite::with_parts(alloc, parts);
+    let store = PlainSite::with_parts(alloc, parts)?;
     match Site::start(alloc, name.copy()?, store, leaves.as_slice()) {
         Ok(site) => Ok(site),
         Err(unstarted) => Err(unstarted.fault),

@@ -10,6 +10,6 @@ returns-in-Ok-clause-ok g c = λ clean sound fits.
     let p = c.args.present.now in
     let k = c.args.ticket in
     let kept = g.S.SiteStore.kept c.args.store.now in
-    let row = row_of kept p.standings.entries p.locks.items p.alive p.life p.number fits k (sym c.is_prepared.ensures ∙ c.if-not-is_prepared.false) in
+    let row = row_of kept p.standings p.locks.items p.alive p.life p.number fits k (sym c.is_prepared.ensures ∙ c.if-not-is_prepared.false) in
     steps_at kept (g.S.SiteStore.kept c.apply.new.self) (table_of p) (table_of c.forget.new.self) _ _ _ c.forget.ensures.gone
-    (commit_steps kept p.standings.entries p.locks.items p.alive p.life p.number fits k (g.S.SiteStore.kept c.apply.new.self) row.0 c.forget.ensures.ordered row.1 (c.in-Ok.ensures.ok clean sound row.0 row.1))
+    (commit_steps kept p.standings p.locks.items p.alive p.life p.number fits k (g.S.SiteStore.kept c.apply.new.self) row.0 c.forget.ensures.ordered row.1 (c.in-Ok.ensures.ok clean sound row.0 row.1))

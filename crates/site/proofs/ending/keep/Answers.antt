@@ -22,7 +22,7 @@ returns-then-not-kept-clause-ok g c = λ clean sound fits visit is.
     let k = c.args.ticket in
     let kept = g.S.SiteStore.kept c.args.store.now in
     steps_at kept kept (table_of p) (table_of c.end.new.self) _ _ c.voted.result c.end.ensures.ended
-    (visit_ends kept p.standings.entries p.locks.items p.alive p.life p.number fits k kept _ refl c.end.ensures.ordered (is_visiting p.standings.entries k visit is) (record { content = λ leaf. refl; prepared = λ ticket. refl; life = refl }) _ c.voted.result
+    (visit_ends kept p.standings p.locks.items p.alive p.life p.number fits k kept _ refl c.end.ensures.ordered (is_visiting p.standings k visit is) (record { content = λ leaf. refl; prepared = λ ticket. refl; life = refl }) _ c.voted.result
     (no_act k c.voted.result _ c.voted.ensures))
 
 pub returns-then-eq-clause-err : goal.returns-then-eq-clause-err
@@ -32,10 +32,10 @@ returns-then-eq-clause-err g c = λ visit is.
     let test = is_at (ticket_cmp k) in
     let empty = standing.Alive (record visit { changes = c.new-none.result }) in
     let once = c.swap_changes-changes.ensures.swapped (standing.Alive visit) is in
-    let twice = c.swap_changes-none.ensures.swapped empty (set_here p.standings.entries c.swap_changes-changes.new.standings.entries k (standing.Alive visit) empty is once) in
-    let again : Changes → Entries = λ changes. set_value test p.standings.entries (standing.Alive (record visit { changes = changes })) in
-    let same = twice ∙ ap (λ es. set_value test es (standing.Alive (record visit { changes = c.in-Err.unkept.changes }))) once ∙ set_twice k p.standings.entries empty (standing.Alive (record visit { changes = c.in-Err.unkept.changes }))
-    ∙ ap again (c.in-Err.ensures.back ∙ c.swap_changes-changes.ensures.old (standing.Alive visit) is) ∙ set_value_same test p.standings.entries (standing.Alive visit) is in
+    let twice = c.swap_changes-none.ensures.swapped empty (set_here p.standings c.swap_changes-changes.new.self k (standing.Alive visit) empty is once) in
+    let again : Changes → Entries = λ changes. set_value test p.standings (standing.Alive (record visit { changes = changes })) in
+    let same = twice ∙ ap (λ es. set_value test es (standing.Alive (record visit { changes = c.in-Err.unkept.changes }))) once ∙ set_twice k p.standings empty (standing.Alive (record visit { changes = c.in-Err.unkept.changes }))
+    ∙ ap again (c.in-Err.ensures.back ∙ c.swap_changes-changes.ensures.old (standing.Alive visit) is) ∙ set_value_same test p.standings (standing.Alive visit) is in
     ap (λ es. table_from es p.locks.items p.alive p.life p.number) same
 
 pub returns-in-Ok-clause-ok : goal.returns-in-Ok-clause-ok
@@ -49,10 +49,10 @@ returns-in-Ok-clause-ok g c = λ clean sound fits visit is.
     let none = row_none kept (table_of p) fits k (ap txn_in is) in
     let keeps = subst (λ changes. Prepares k (record { txn = c.args.txn; changes = changes }) kept after) (c.swap_changes-changes.ensures.old (standing.Alive visit) is) (c.in-Ok.ensures.ok clean sound none) in
     let rest : Entries → Table = λ es. table_from es (map (stops_reading k p.number) p.locks.items) (p.alive - 1) p.life p.number in
-    let ends = c.prepare.ensures.prepared empty (set_here p.standings.entries c.swap_changes-changes.new.standings.entries k (standing.Alive visit) empty is once)
-    ∙ ap (λ es. rest (set_value (is_at (ticket_cmp k)) es (standing.Prepared c.args.txn))) once ∙ ap rest (set_twice k p.standings.entries empty (standing.Prepared c.args.txn)) in
+    let ends = c.prepare.ensures.prepared empty (set_here p.standings c.swap_changes-changes.new.self k (standing.Alive visit) empty is once)
+    ∙ ap (λ es. rest (set_value (is_at (ticket_cmp k)) es (standing.Prepared c.args.txn))) once ∙ ap rest (set_twice k p.standings empty (standing.Prepared c.args.txn)) in
     steps_at kept after (table_of p) (table_of c.prepare.new.self) _ _ c.voted-in-Ok.result ends
-    (prepares_steps kept p.standings.entries p.locks.items p.alive p.life p.number fits k after c.args.txn visit is keeps _ c.voted-in-Ok.result (yes_act k c.voted-in-Ok.result _ _ c.voted-in-Ok.ensures) c.voted-in-Ok.ensures)
+    (prepares_steps kept p.standings p.locks.items p.alive p.life p.number fits k after c.args.txn visit is keeps _ c.voted-in-Ok.result (yes_act k c.voted-in-Ok.result _ _ c.voted-in-Ok.ensures) c.voted-in-Ok.ensures)
 
 pub returns-else-eq-clause-ok : goal.returns-else-eq-clause-ok
 returns-else-eq-clause-ok g c = λ clean sound fits visit is.
@@ -62,9 +62,9 @@ returns-else-eq-clause-ok g c = λ clean sound fits visit is.
     let after = g.S.SiteStore.kept c.keep_prepared.new.self in
     let empty = standing.Alive (record visit { changes = c.new-none.result }) in
     let once = c.swap_changes-changes.ensures.swapped (standing.Alive visit) is in
-    let sorted = subst (IsStrictlySortedBy ticket_cmp) (ap keys_of once ∙ set_keys k p.standings.entries empty) c.end-in-Err.ensures.ordered in
+    let sorted = subst (IsStrictlySortedBy ticket_cmp) (ap keys_of once ∙ set_keys k p.standings empty) c.end-in-Err.ensures.ordered in
     let rest : Entries → Table = λ es. table_from es (map (stops k p.number) p.locks.items) (p.alive - 1) p.life p.number in
-    let ends = c.end-in-Err.ensures.ended ∙ ap (λ es. rest (remove_entry (is_at (ticket_cmp k)) es)) once ∙ ap rest (set_removed k p.standings.entries empty) in
+    let ends = c.end-in-Err.ensures.ended ∙ ap (λ es. rest (remove_entry (is_at (ticket_cmp k)) es)) once ∙ ap rest (set_removed k p.standings empty) in
     steps_at kept after (table_of p) (table_of c.end-in-Err.new.self) _ _ c.voted-in-Err.result ends
-    (visit_ends kept p.standings.entries p.locks.items p.alive p.life p.number fits k after _ refl sorted (is_visiting p.standings.entries k visit is) (c.in-Err.ensures.err clean sound) _ c.voted-in-Err.result
+    (visit_ends kept p.standings p.locks.items p.alive p.life p.number fits k after _ refl sorted (is_visiting p.standings k visit is) (c.in-Err.ensures.err clean sound) _ c.voted-in-Err.result
     (no_act k c.voted-in-Err.result _ c.voted-in-Err.ensures))

@@ -15,10 +15,10 @@ returns-in-Ends-clause-ok g c = λ clean sound fits.
     let k = c.args.prepare.ticket in
     let kept = g.S.SiteStore.kept c.args.store.now in
     let answer = c.voted-in-Ends.result in
-    let r = prepare_ends kept p.standings.entries p.locks.items p.alive p.life p.number fits k (kept_by answer) c.args.txn c.args.prepare.count ((table_of p).standing k) c.in-Ends.vote refl (sym c.ballot_at.ensures ∙ c.in-Ends.is) in
+    let r = prepare_ends kept p.standings p.locks.items p.alive p.life p.number fits k (kept_by answer) c.args.txn c.args.prepare.count ((table_of p).standing k) c.in-Ends.vote refl (sym c.ballot_at.ensures ∙ c.in-Ends.is) in
     let ends : Option Reply → Act local = λ a. Ends (name_of k) (said_by a) in
     steps_at kept kept (table_of p) (table_of c.end.new.self) _ _ answer c.end.ensures.ended
-    (visit_ends kept p.standings.entries p.locks.items p.alive p.life p.number fits k kept _ refl c.end.ensures.ordered r.1 (record { content = λ leaf. refl; prepared = λ ticket. refl; life = refl }) _ answer
+    (visit_ends kept p.standings p.locks.items p.alive p.life p.number fits k kept _ refl c.end.ensures.ordered r.1 (record { content = λ leaf. refl; prepared = λ ticket. refl; life = refl }) _ answer
     (r.0 ∙ ap ends (sym c.voted-in-Ends.ensures)))
 
 pub returns-in-Keeps-clause-ok : goal.returns-in-Keeps-clause-ok
@@ -26,5 +26,5 @@ returns-in-Keeps-clause-ok g c = λ clean sound fits.
     let p = c.args.present.now in
     let k = c.args.prepare.ticket in
     let kept = g.S.SiteStore.kept c.args.store.now in
-    act_kept kept (g.S.SiteStore.kept c.keep.new.store) p.standings.entries p.locks.items p.alive p.life p.number fits k (table_of c.keep.new.present) c.args.txn c.args.prepare.count (sym c.ballot_at.ensures ∙ c.in-Keeps.is) c.keep.result
+    act_kept kept (g.S.SiteStore.kept c.keep.new.store) p.standings p.locks.items p.alive p.life p.number fits k (table_of c.keep.new.present) c.args.txn c.args.prepare.count (sym c.ballot_at.ensures ∙ c.in-Keeps.is) c.keep.result
     (λ visit is. c.keep.ensures.ok clean sound fits visit is)

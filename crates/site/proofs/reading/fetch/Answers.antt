@@ -25,7 +25,7 @@ returns-in-Refuse-clause-ok g c = λ clean sound fits.
     let kept = g.S.SiteStore.kept c.args.store.now in
     let r = read_refused kept (table_of p) fits k c.args.fetch.op c.args.fetch.leaf c.args.fetch.conds ((table_of p).standing k) c.in-Refuse.reason refl (sym c.in_ok-place.ensures.turn ∙ c.in-Refuse.is) in
     steps_at kept kept (table_of p) (table_of c.end.new.self) _ _ c.refused-in-Refuse.result c.end.ensures.ended
-    (refused_steps kept p.standings.entries p.locks.items p.alive p.life p.number fits k _ refl c.end.ensures.ordered r.1 _ c.in-Refuse.reason c.refused-in-Refuse.result c.refused-in-Refuse.ensures r.0)
+    (refused_steps kept p.standings p.locks.items p.alive p.life p.number fits k _ refl c.end.ensures.ordered r.1 _ c.in-Refuse.reason c.refused-in-Refuse.result c.refused-in-Refuse.ensures r.0)
 
 pub returns-clause-ok : goal.returns-clause-ok
 returns-clause-ok g c = λ clean sound fits.
@@ -41,4 +41,4 @@ returns-clause-ok g c = λ clean sound fits.
     let act : List (List Value) → Act local = λ found. Locks (name_of k) (record (visit_of (table_of p) k r.visit) { done = op; shared = put (λ a b. is_eq (leaf_cmp a b)) leaf true (visit_of (table_of p) k r.visit).shared }) leaf (protocol.Rows (name_of k) op found ∷ []) in
     moves kept (g.S.SiteStore.kept c.rows.new.store) (table_of p) (table_of c.read.new.self) _ _ (c.in_ok-parts-in-Go.ensures.same clean sound)
     (steps_at kept kept (table_of p) (table_of c.read.new.self) _ _ _ (c.in_ok-read-in-Go.ensures.ok (standing.Alive r.visit) (locks_in leaf p.locks.items) r.stands_there at.here)
-    (reads_steps kept p.standings.entries p.locks.items p.alive p.life p.number fits k r.visit r.stands_there op (let n = c.if-op-gt-LAST.false in grind (arith)) leaf c.in_ok-place.place c.in_ok-place.ensures.place _ _ (r.act_is ∙ ap act (sym rows))))
+    (reads_steps kept p.standings p.locks.items p.alive p.life p.number fits k r.visit r.stands_there op (let n = c.if-op-gt-LAST.false in grind (arith)) leaf c.in_ok-place.place c.in_ok-place.ensures.place _ _ (r.act_is ∙ ap act (sym rows))))

@@ -25,7 +25,7 @@ returns-in-Ok-next_incarnation-clause-ok g c = λ clean.
     let below : kept.life + 1 < 2 ^ 63 = grind (arith) in
     let begun = c.in-Ok-next_incarnation.ensures.ok clean sound below in
     begins_from c.args.leaves.now c.in-Ok.all kept after lists begun c.as_slice.result.now c.as_slice.ensures
-    c.in_ok-resting.resting.standings.entries c.in_ok-resting.resting.locks.items c.in-Ok-next_incarnation.life (subst (λ n. n < 2 ^ 63) (sym begun.life) below)
+    c.in_ok-resting.resting.standings c.in_ok-resting.resting.locks.items c.in-Ok-next_incarnation.life (subst (λ n. n < 2 ^ 63) (sym begun.life) below)
     c.in_ok-resting.ensures.standings c.in_ok-resting.ensures.locks c.in_ok-resting.ensures.right c.in_ok-resting.ensures.ordered (c.in-Ok-next_incarnation.ensures.life clean sound)
 
 pub returns-in-Ok-next_incarnation-clause-leaves : goal.returns-in-Ok-next_incarnation-clause-leaves

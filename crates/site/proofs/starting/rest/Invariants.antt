@@ -7,5 +7,5 @@ use Rattle.site.proofs.starting.rest.Given as goal
 abbrev pub invariant-loop-row : goal.invariant-loop-row
 invariant-loop-row l =
     (granted (drop l.row-index l.rows) l.locks.items ≡ granted l.rows (map free l.leaves))
-    × (stood_by (drop l.row-index l.rows) l.standings.entries ≡ stood_by l.rows [])
+    × (stood_by (drop l.row-index l.rows) l.standings ≡ stood_by l.rows [])
     × (all_may_stand l.leaves l.life (drop l.row-index l.rows) l.locks.items ≡ all_may_stand l.leaves l.life l.rows (map free l.leaves))

@@ -13,4 +13,4 @@ returns-clause-ok c = λ kept fits.
     let p = c.args.present.now in
     let answer : Ticket → Option Reply = λ ticket. Some (replies.Ticket ticket) in
     steps_at kept kept (table_of p) (table_of c.open.new.self) _ Opens (answer c.in_ok-ticket.ticket) c.in_ok-ticket.ensures.ok
-    (opens_steps kept p.standings.entries p.locks.items p.alive p.life p.number fits (let n : p.alive + 1 ≤ 1024 = c.in_ok-ticket.ensures.room in omega (arith, n)) (let n : p.number + 2 ≤ 2 ^ 63 = c.in_ok-ticket.ensures.last in omega (arith, n)) (answer c.in_ok-ticket.ticket) (ap answer c.in_ok-ticket.ensures.ticket))
+    (opens_steps kept p.standings p.locks.items p.alive p.life p.number fits (let n : p.alive + 1 ≤ 1024 = c.in_ok-ticket.ensures.room in omega (arith, n)) (let n : p.number + 2 ≤ 2 ^ 63 = c.in_ok-ticket.ensures.last in omega (arith, n)) (answer c.in_ok-ticket.ticket) (ap answer c.in_ok-ticket.ensures.ticket))

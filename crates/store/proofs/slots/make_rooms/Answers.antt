@@ -2,6 +2,7 @@
 use Rattle.std.proofs.Common.{◌∙◌, rules}
 use Rattle.std.proofs.lemmas.Map.Iter.{btree_map_turn, rest_more}
 use Rattle.std.specs.Map.Iter.{deref_pair}
+use Rattle.store.specs.Entries.{entry_at}
 use Rattle.store.specs.Orders.{slot_cmp_total}
 use Rattle.store.proofs.Rooms.{rooms_more}
 use Rattle.store.proofs.slots.make_rooms.Goals as goal
@@ -11,5 +12,5 @@ loop-slot-preserved c =
     let turn = btree_map_turn deref_pair c.loop-slot.yielded c.into_iter-slot-iterator.result c.loop-slot.slot-iterator c.next.new.self c.next.result (c.in-Some.slot, c.in-Some.part) c.loop-slot.yielded_by c.in-Some.is c.next.ensures.steps slot_cmp_total c.args.changes.now (search rules) (search rules) in
     let step = rest_more deref_pair c.loop-slot.slot-iterator c.next.new.self c.next.result (c.in-Some.slot, c.in-Some.part) c.in-Some.is c.next.ensures.steps in (
       λ q. c.make_room.ensures.parts q ∙ c.loop-slot.invariant.0 q,
-      rooms_more c.args.changes.now.entries c.loop-slot.slots.entries c.make_room.new.slots.entries c.loop-slot.slot-iterator c.next.new.self c.in-Some.slot.now c.in-Some.part.now c.loop-slot.invariant.1 step turn.1 c.make_room.ensures.grows c.in_ok-make_room.ensures.ok,
+      rooms_more c.args.changes.now.entries c.loop-slot.slot-iterator c.next.new.self (entry_at c.loop-slot.slots.entries) (entry_at c.make_room.new.slots.entries) c.in-Some.slot.now c.in-Some.part.now c.loop-slot.invariant.1 step turn.1 c.make_room.ensures.grows c.in_ok-make_room.ensures.ok,
     )

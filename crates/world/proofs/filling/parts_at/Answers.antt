@@ -1,5 +1,5 @@
 -- Why `parts_at` meets its contract.
-use Rattle.std.proofs.Common.{◌≡◌, ◌∙◌, ap, List}
+use Rattle.std.proofs.Common.{◌∙◌, ap, List}
 use Rattle.std.specs.FinMap as fin
 use Rattle.catalog.specs.declared.fragment_leaf.FragmentLeaf.{FragmentLeaf}
 use Rattle.catalog.specs.FragmentLeaf.{catalogue_leaves}

@@ -1,5 +1,5 @@
 -- Why `start_sites` meets its contract.
-use Rattle.std.proofs.Common.{◌≡◌, [], ◌∷◌, sym, subst}
+use Rattle.std.proofs.Common.{sym, subst}
 use Rattle.std.specs.List.{AllByRecursion}
 use Rattle.catalog.specs.Relation.{catalogue_of}
 use Rattle.store.specs.PlainSite.{IsSound, kept_of}

@@ -1,5 +1,5 @@
 -- Why `do_at` meets its contract.
-use Rattle.std.proofs.Common.{◌≡◌, ◌∙◌, ap, sym}
+use Rattle.std.proofs.Common.{◌∙◌, ap, sym}
 use Rattle.world.specs.Seated.{seat_from}
 use Rattle.world.specs.Seats.{is_called}
 use Rattle.world.proofs.Moving.{all_there, first_seated, first_takes, other_takes, rest_seated}

@@ -1,5 +1,4 @@
 -- Why `do_one` meets its contract.
-use Rattle.std.proofs.Common.{◌≡◌}
 use Rattle.world.proofs.Moving.{on_err, seat_same, unchanged}
 use Rattle.world.specs.Seated.{seat_from}
 use Rattle.world.proofs.seats.do_one.Goals as goal

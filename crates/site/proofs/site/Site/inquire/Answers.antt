@@ -9,5 +9,5 @@ pub returns : goal.returns
 returns g c = λ fits.
     let p = c.args.self.now.present in
     let kept = g.S.SiteStore.kept c.args.self.now.store in
-    if_inquires (λ letters. letters.items) c.inquire.result (inquiries_of p.name p.standings.entries) (inquiries p.name (state_of kept (table_of p)))
-    c.inquire.ensures.letters (inquires p.name kept p.standings.entries p.locks.items p.alive p.life p.number c.inquire.ensures.ordered fits)
+    if_inquires (λ letters. letters.items) c.inquire.result (inquiries_of p.name p.standings) (inquiries p.name (state_of kept (table_of p)))
+    c.inquire.ensures.letters (inquires p.name kept p.standings p.locks.items p.alive p.life p.number c.inquire.ensures.ordered fits)

@@ -2,7 +2,7 @@
 use Rattle.std.proofs.Common.{map, refl, ap, sym, ◌∙◌, subst}
 use Rattle.std.specs.List.Sorted.{IsStrictlySortedBy}
 use Rattle.store.specs.declared.prepared.PreparedRow.{PreparedRow}
-use Rattle.store.specs.Content.{made_by}
+use Rattle.store.specs.ContentLaws.{same_made}
 use Rattle.store.specs.Name.{ticket_cmp}
 use Rattle.store.specs.SiteContent.{row_of}
 use Rattle.store.proofs.RowLists.{row_found, tickets_listed}
@@ -13,7 +13,7 @@ returns-clause-all c = λ clean.
     let entries = c.args.self.now.prepared.entries in
     let listed = c.in_ok-list_rows.ensures.rows in
     record {
-      fragments = λ leaf. ap (λ changes. made_by changes leaf) c.in_ok-copy.ensures.equal;
+      fragments = same_made c.in_ok-changes.field-0 c.args.self.now.parts c.in_ok-changes.ensures.same;
       rows = λ ticket. ap (row_of ticket) listed ∙ row_found entries ticket;
       ascend = subst (IsStrictlySortedBy ticket_cmp) (sym (ap (map (λ (row : PreparedRow). row.ticket)) listed ∙ tickets_listed entries)) c.list_rows.ensures.ordered;
       incarnation = refl;

@@ -1,5 +1,4 @@
 -- Why `at_site` meets its contract.
-use Rattle.std.proofs.Common.{◌≡◌}
 use Rattle.world.specs.Held.{held}
 use Rattle.world.specs.Seated.{seats_in}
 use Rattle.world.proofs.Machinery.{put_out_leads}

@@ -1,5 +1,4 @@
 -- Why `begin` meets its contract.
-use Rattle.std.proofs.Common.{◌≡◌}
 use Rattle.desk.specs.State.{table_of}
 use Rattle.world.specs.Held.{held}
 use Rattle.world.proofs.Machinery.{begin_leads}

@@ -1,5 +1,5 @@
 -- Why `rollback` meets its contract.
-use Rattle.std.proofs.Common.{◌≡◌, refl}
+use Rattle.std.proofs.Common.{refl}
 use Rattle.protocol.specs.Desk.{Rollback, on_request}
 use Rattle.protocol.specs.Letters.{txn_name}
 use Rattle.protocol.specs.World.{called}
