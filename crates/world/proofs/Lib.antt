@@ -7,3 +7,7 @@ pub mod Filled
 pub mod Opened
 pub mod FilledLeaves
 pub mod Openings
+pub mod BaseStored
+pub mod BaseWritten
+pub mod BaseLawful
+pub mod BaseSites

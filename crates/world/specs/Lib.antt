@@ -6,3 +6,4 @@ pub mod Held
 pub mod Filling
 pub mod Opening
 pub mod Placed
+pub mod Base

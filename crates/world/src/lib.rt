@@ -4,6 +4,7 @@
 mod doing;
 pub mod fault;
 mod filling;
+pub mod laws;
 mod machines;
 mod opening;
 mod seats;

@@ -1,0 +1,101 @@
+//! The laws of the protocol, of the language of each catalogue's database: each as the contract of a function
+//! that changes nothing.
+
+ghost use Rattle.catalog.specs.Catalogue.{Catalogue};
+ghost use Rattle.catalog.specs.Relation.{catalogue_of};
+ghost use Rattle.protocol.specs.Client.{ReachedLaw, RoundsLaw};
+ghost use Rattle.protocol.specs.ClientLaw.{LetterByLetter};
+ghost use Rattle.protocol.specs.Fitting.{StaysFitting};
+ghost use Rattle.protocol.specs.Language.{IsLawful};
+ghost use Rattle.protocol.specs.OneClient.{OneAtATime};
+ghost use Rattle.protocol.specs.Rounds.{RoundByLetter};
+ghost use Rattle.protocol.specs.Serial.{SerialLaw};
+ghost use Rattle.protocol.specs.Whole.{AppliedWholeAndOnce};
+ghost use Rattle.desk.specs.Database.{language};
+ghost use Rattle.world.specs.Base.{IsBase, database};
+
+use answers::laws::writes_lead;
+use catalog::catalogue::Catalog;
+use catalog::laws::leaf_names_are_unique;
+use plan::laws::{contents_ascend, fetches_are_told};
+use store::laws::{nothing_changes, one_change_more, one_touch_more};
+
+/// Each catalogue has a database: its sites, leaves, statements and writes are those of the catalogue.
+pub fn database_is_of_catalogue(catalog: &Catalog)
+    ensures { IsBase (database (catalogue_of catalog.now)) }
+{
+    catalog.relations();
+    leaf_names_are_unique();
+    contents_ascend();
+    fetches_are_told();
+}
+
+/// The language of this database is lawful: a statement leaves a whole database of the schema, and its
+/// writes lead from the contents of the leaves before it to those after it.
+pub fn language_is_lawful(catalog: &Catalog)
+    ensures { IsLawful (language (database (catalogue_of catalog.now))) }
+{
+    catalog.relations();
+    contents_ascend();
+    writes_lead();
+    nothing_changes();
+    one_change_more();
+    one_touch_more();
+}
+
+/// The serial law: of each catalogue and after each list of events the committed transactions, run one after
+/// another over whole relations in the order of their first phases, give the answers that were given and
+/// what the settled fragments rebuild.
+pub fn serial_law(catalog: &Catalog)
+    ensures { SerialLaw (language (database (catalogue_of catalog.now))) }
+{
+    language_is_lawful(catalog);
+}
+
+/// A committed transaction is applied whole and once, after every list of events.
+pub fn applied_whole_and_once(catalog: &Catalog)
+    ensures { AppliedWholeAndOnce (language (database (catalogue_of catalog.now))) }
+{
+    language_is_lawful(catalog);
+}
+
+/// One client alone, whose delivered letters are forgotten, goes from a world of a run to a world of a run.
+pub fn one_client_is_a_run(catalog: &Catalog)
+    ensures { ReachedLaw (language (database (catalogue_of catalog.now))) }
+{
+    language_is_lawful(catalog);
+}
+
+/// One client alone, letter by letter, and where something is refused: only a store that refuses is an
+/// excuse of a commit that aborts.
+pub fn one_client_letter_by_letter(catalog: &Catalog)
+    ensures { LetterByLetter (language (database (catalogue_of catalog.now))) }
+{
+    catalog.relations();
+    language_is_lawful(catalog);
+}
+
+/// One transaction at a time: each that commits answers as its statements in turn over the whole database
+/// that the fragments were before it, and each other changes nothing.
+pub fn one_client_is_serial(catalog: &Catalog)
+    ensures { OneAtATime (language (database (catalogue_of catalog.now))) }
+{
+    language_is_lawful(catalog);
+}
+
+/// Nine rounds of deliveries are enough until no letter waits.
+pub fn nine_rounds_are_enough()
+    ensures { (catalogue : Catalogue) → RoundsLaw (language (database catalogue)) }
+{}
+
+/// The same letter by letter.
+pub fn rounds_letter_by_letter()
+    ensures { (catalogue : Catalogue) → RoundByLetter (language (database catalogue)) }
+{}
+
+/// Contents that fit their leaves stay so, as long as what is written keeps them fitting.
+pub fn contents_stay_fitting(catalog: &Catalog)
+    ensures { StaysFitting (language (database (catalogue_of catalog.now))) }
+{
+    language_is_lawful(catalog);
+}
