@@ -70,7 +70,7 @@ pub entries_stored : (parts : List (List Value)) → Ascends parts → fin.entri
 entries_stored parts up =
     let sorted : T (fin.is_sorted int_cmp (under parts)) = subst T (sym (rising parts up)) tt in
     let same : stored parts ≡ fin.from_sorted (under parts) = fin.same_map int_cmp_total fin.int_cmp-IsAntisymmetric (stored parts) (fin.from_sorted (under parts))
-        (λ key. get_stored parts key up ∙ sym (fin.get-from_sorted int_cmp (under parts) key sorted ∙ find_under key parts)) in
+    (λ key. get_stored parts key up ∙ sym (fin.get-from_sorted int_cmp (under parts) key sorted ∙ find_under key parts)) in
     ap (λ (kept : Content). fin.entries kept) same ∙ fin.entries-from_sorted int_cmp (under parts) sorted
 
 parts_under : (parts : List (List Value)) → map (λ (entry : ℤ × List Value). entry.1) (under parts) ≡ parts

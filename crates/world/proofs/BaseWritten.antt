@@ -114,9 +114,9 @@ elsewhere before after name key (leaf ∷ leaves) others =
     let second = content (unnamed leaf) (rows_of after leaf.name.relation) in
     all_both (Leaves name key None) (leaf_writes leaf.name first second) _
     (all_given (Leaves name key None) (λ at. write_between leaf.name at (row_at at first) (row_at at second)) (map key_of (merged_rows first second)) (λ at write is touched.
-      let there : same_leaf (leaf_of write) name ≡ true = left_true (same_leaf (leaf_of write) name) (int_eq (key_written write) key) touched in
-      let other : same_leaf (leaf_of write) name ≡ false = ap (λ (l : Leaf). same_leaf l name) (to_leaf leaf.name at (row_at at first) (row_at at second) write is) ∙ others.0 in
-      absurd cc))
+    let there : same_leaf (leaf_of write) name ≡ true = left_true (same_leaf (leaf_of write) name) (int_eq (key_written write) key) touched in
+    let other : same_leaf (leaf_of write) name ≡ false = ap (λ (l : Leaf). same_leaf l name) (to_leaf leaf.name at (row_at at first) (row_at at second) write is) ∙ others.0 in
+    absurd cc))
     (elsewhere before after name key leaves others.1)
 
 -- the laws that other crates prove of catalogues

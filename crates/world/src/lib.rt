@@ -1,4 +1,8 @@
-//! A database in one process.
+//! A database in one process: its coordinator and its sites together.
+//!
+//! It stands on all crates below it. Public are the laws of the protocol of each catalogue's database
+//! (`laws`), the serial law among them, and `fault`. Inside, `opening::start` makes the machines over lists,
+//! and each call of `machines::Machines` is a step of the protocol's world of them.
 #![tactic(auto)]
 
 mod doing;
