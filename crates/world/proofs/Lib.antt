@@ -11,3 +11,4 @@ pub mod BaseStored
 pub mod BaseWritten
 pub mod BaseLawful
 pub mod BaseSites
+pub mod Running

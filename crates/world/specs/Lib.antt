@@ -6,4 +6,6 @@ pub mod Held
 pub mod Filling
 pub mod Opening
 pub mod Placed
+pub mod Posted
+pub mod Runs
 pub mod Base

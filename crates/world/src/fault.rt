@@ -1,15 +1,18 @@
-//! Why a machine refused.
+//! Why nothing has happened.
 
 use desk::refusal::Refusal;
 use site::fault::SiteFault;
+use terms::memory::Memory;
 
-/// Which machine refused, and why. After any of these all machines are as they were.
+/// Why nothing has happened. All machines are as they were.
 #[derive(Clone, Copy, Debug, PartialEq, Eq)]
 pub enum Fault {
-    /// The coordinator.
+    /// The coordinator refused.
     Desk(Refusal),
-    /// A site.
+    /// A site refused.
     Site(SiteFault),
+    /// No letter has the number, or no site the name.
+    Unsent,
 }
 
 impl From<Refusal> for Fault {
@@ -31,5 +34,17 @@ impl From<SiteFault> for Fault {
 
     fn from(fault: SiteFault) -> Fault {
         Fault::Site(fault)
+    }
+}
+
+impl From<Memory> for Fault {
+    ghost use Rattle.std.specs.Prelude.{◌≡◌};
+    ghost use Rattle.desk.specs.declared.refusal.Refusal.TheVariants as refusals;
+    ghost use Rattle.world.specs.declared.fault.Fault.TheVariants as faults;
+
+    ghost from_gives = { λ _ fault. fault ≡ faults.Desk refusals.Memory };
+
+    fn from(_error: Memory) -> Fault {
+        Fault::Desk(Refusal::Memory)
     }
 }

@@ -6,9 +6,12 @@
 #![tactic(auto)]
 
 mod doing;
+pub mod event;
 pub mod fault;
 mod filling;
 pub mod laws;
+mod happening;
 mod machines;
 mod opening;
+mod posted;
 mod seats;

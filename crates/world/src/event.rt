@@ -1,0 +1,38 @@
+//! What happens to a world, and what came of it.
+
+use desk::reply::Out;
+use store::name::{Ticket, Txn};
+use terms::text::Text;
+
+/// Something that happens. Where a flag `kept` is false, the store call that the event makes isn't made,
+/// and counts as refused.
+#[derive(Debug, Drop)]
+pub enum Event {
+    /// A transaction begins.
+    Begin,
+    /// A statement of a transaction, by its text.
+    State(Txn, Text),
+    /// The commit of a transaction is asked for.
+    Commit(Txn),
+    /// Its client rolls it back.
+    Rollback(Txn),
+    /// It is given up.
+    GiveUp(Txn),
+    /// The letter of this number comes, counted from 0 in the order in which letters were sent.
+    Deliver(usize, bool),
+    /// A site gives a visit up.
+    SiteGivesUp(Text, Ticket),
+    /// A site asks about its prepared rows.
+    SiteInquires(Text),
+    /// A site restarts.
+    SiteRestarts(Text, bool),
+    /// The coordinator restarts.
+    DeskRestarts(bool),
+}
+
+/// An event that has happened, with the letters that were put out and what clients heard.
+#[derive(Debug, Drop)]
+pub struct Entry {
+    pub event: Event,
+    pub out: Out,
+}

@@ -1,0 +1,67 @@
+//! Events happen.
+
+ghost use Rattle.std.specs.Prelude.{◌≡◌, ◌++◌, List, IfOk, OnErr};
+ghost use Rattle.std.specs.Cmp.Lexicographic.{pointwise};
+ghost use Rattle.std.specs.List.{list_any};
+ghost use Rattle.std.specs.Prelude.{nat_eq};
+ghost use Rattle.meaning.specs.Whole.{Relations};
+ghost use Rattle.catalog.specs.Relation.{catalogue_of};
+ghost use Rattle.protocol.specs.Desk.{Deed};
+ghost use Rattle.desk.specs.Database.{Database, language};
+ghost use Rattle.desk.specs.OfCatalogue.{IsOfCatalogue};
+ghost use Rattle.world.specs.Held.{OfStores, held};
+ghost use Rattle.world.specs.Posted.{letters_in};
+ghost use Rattle.world.specs.Runs.{IsRun, RunsOn};
+
+use crate::event::{Entry, Event};
+use crate::fault::Fault;
+use crate::machines::Machines;
+use crate::posted::letter_at;
+use catalog::catalogue::Catalog;
+use desk::reply::Out;
+use store::desk_store::DeskStore;
+use store::site_store::SiteStore;
+use terms::copy::TryCopy;
+use terms::text::Text;
+
+/// Whether one of the sites has this name.
+fn is_among(sites: &[Text], name: &Text) -> bool
+    ensures { result ≡ list_any (λ site. pointwise nat_eq site name.now) sites.now }
+{
+    for site in sites {
+        if *site == *name {
+            return true;
+        }
+    }
+    false
+}
+
+/// Whether a catalogue has a site of this name.
+fn has_site(catalog: &Catalog, name: &Text) -> bool
+    ensures { result ≡ list_any (λ site. pointwise nat_eq site name.now) catalog.now.0 }
+{
+    is_among(catalog.sites(), name)
+}
+
+/// A letter that was sent comes again, or for the first time.
+fn deliver<D: DeskStore, S: SiteStore>(
+    machines: &mut Machines<D, S>,
+    entries: &[Entry],
+    number: usize,
+    kept: bool,
+) -> Result<Out, Fault>
+    ensures clean { OfStores D.is_clean S.is_clean machines.new → OfStores D.is_clean S.is_clean machines.old }
+    ensures sound { OfStores D.is_clean S.is_clean machines.new → OfStores D.is_sound S.is_sound machines.old → OfStores D.is_sound S.is_sound machines.new }
+    ensures ok { (db : Database) (whole : Relations) (past : List (Deed (language db))) → IsOfCatalogue db → db.catalogue ≡ catalogue_of machines.old.desk.catalog → OfStores D.is_clean S.is_clean machines.new → OfStores D.is_sound S.is_sound machines.old
+        → IsRun db whole (held D.kept S.kept machines.old) (letters_in entries.now) past → IfOk result (λ out. RunsOn db whole (held D.kept S.kept machines.new) (letters_in entries.now ++ out.letters) past out.replies) }
+    ensures err { OfStores D.is_clean S.is_clean machines.new → OfStores D.is_sound S.is_sound machines.old → OnErr result (held D.kept S.kept machines.new ≡ held D.kept S.kept machines.old) }
+{
+    let Some(letter) = letter_at(entries, number) else {
+        return Err(Fault::Unsent);
+    };
+    if !has_site(machines.desk.catalog(), &letter.site) {
+        return Err(Fault::Unsent);
+    }
+    let again = letter.copy()?;
+    machines.deliver(again, kept)
+}

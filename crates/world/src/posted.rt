@@ -1,0 +1,20 @@
+//! The letters that were ever sent.
+
+ghost use Rattle.std.specs.Prelude.{◌≡◌, slice_get};
+ghost use Rattle.std.specs.Option.{option_copied};
+ghost use Rattle.world.specs.Posted.{letters_in};
+
+use crate::event::Entry;
+use store::letter::Letter;
+
+/// The letter of this number, counted from 0, if so many were sent.
+pub(crate) fn letter_at<'a>(entries: &'a [Entry], number: usize) -> Option<&'a Letter>
+    ensures { option_copied result ≡ slice_get (letters_in entries.now) number }
+{
+    let (first, rest) = entries.split_first()?;
+    let letters = first.out.letters.as_slice();
+    if number < letters.len() {
+        return letters.get(number);
+    }
+    letter_at(rest, number - letters.len())
+}
