@@ -8,4 +8,5 @@ pub mod Opening
 pub mod Placed
 pub mod Posted
 pub mod Runs
+pub mod Happening
 pub mod Base

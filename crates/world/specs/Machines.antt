@@ -52,6 +52,13 @@ is_for_site (GiveUp site ticket) = true
 is_for_site (Inquire site) = true
 is_for_site (Restart site) = true
 
+-- whether a letter comes
+abbrev pub is_letter : doing.Doing → Bool
+is_letter (Take letter) = true
+is_letter (GiveUp site ticket) = false
+is_letter (Inquire site) = false
+is_letter (Restart site) = false
+
 -- what is done at a site, as a step of the world; kept: whether the store call that it makes is kept
 abbrev pub happens_at : (db : Database) → doing.Doing → Bool → Choice (language db) → World (language db) → World (language db)
 happens_at db (Take letter) kept choice w = comes w kept choice (sent db letter)

@@ -4,20 +4,27 @@ use desk::reply::Out;
 use store::name::{Ticket, Txn};
 use terms::text::Text;
 
-/// Something that happens. Where a flag `kept` is false, the store call that the event makes isn't made,
-/// and counts as refused.
+/// What a client asks for.
 #[derive(Debug, Drop)]
-pub enum Event {
+pub enum Call {
     /// A transaction begins.
     Begin,
     /// A statement of a transaction, by its text.
     State(Txn, Text),
     /// The commit of a transaction is asked for.
     Commit(Txn),
-    /// Its client rolls it back.
+    /// A transaction is rolled back.
     Rollback(Txn),
-    /// It is given up.
+    /// A transaction is given up.
     GiveUp(Txn),
+}
+
+/// Something that happens. Where a flag `kept` is false, the store call that the event makes isn't made,
+/// and counts as refused.
+#[derive(Debug, Drop)]
+pub enum Event {
+    /// A client asks for something.
+    Call(Call),
     /// The letter of this number comes, counted from 0 in the order in which letters were sent.
     Deliver(usize, bool),
     /// A site gives a visit up.

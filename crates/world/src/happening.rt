@@ -1,23 +1,28 @@
 //! Events happen.
 
-ghost use Rattle.std.specs.Prelude.{◌≡◌, ◌++◌, List, IfOk, OnErr};
+ghost use Rattle.std.specs.Prelude.{◌≡◌, ◌++◌, false, List, IfOk, OnErr};
 ghost use Rattle.std.specs.Cmp.Lexicographic.{pointwise};
 ghost use Rattle.std.specs.List.{list_any};
 ghost use Rattle.std.specs.Prelude.{nat_eq};
 ghost use Rattle.meaning.specs.Whole.{Relations};
 ghost use Rattle.catalog.specs.Relation.{catalogue_of};
+ghost use Rattle.store.specs.declared.letter.Letter.{Letter as LetterNow};
 ghost use Rattle.protocol.specs.Desk.{Deed};
 ghost use Rattle.desk.specs.Database.{Database, language};
 ghost use Rattle.desk.specs.OfCatalogue.{IsOfCatalogue};
 ghost use Rattle.world.specs.Held.{OfStores, held};
 ghost use Rattle.world.specs.Posted.{letters_in};
+ghost use Rattle.world.specs.Machines.{is_letter};
+ghost use Rattle.world.specs.Happening.{told_by_desk};
 ghost use Rattle.world.specs.Runs.{IsRun, RunsOn};
 
-use crate::event::{Entry, Event};
+use crate::doing::Doing;
+use crate::event::{Call, Entry, Event};
 use crate::fault::Fault;
 use crate::machines::Machines;
 use crate::posted::letter_at;
 use catalog::catalogue::Catalog;
+use desk::refusal::Refusal;
 use desk::reply::Out;
 use store::desk_store::DeskStore;
 use store::site_store::SiteStore;
@@ -64,4 +69,87 @@ fn deliver<D: DeskStore, S: SiteStore>(
     }
     let again = letter.copy()?;
     machines.deliver(again, kept)
+}
+
+/// A client's call is made.
+fn call<D: DeskStore, S: SiteStore>(
+    machines: &mut Machines<D, S>,
+    call: &Call,
+) -> Result<Out, Refusal>
+    ensures clean { OfStores D.is_clean S.is_clean machines.new → OfStores D.is_clean S.is_clean machines.old }
+    ensures sound { OfStores D.is_clean S.is_clean machines.new → OfStores D.is_sound S.is_sound machines.old → OfStores D.is_sound S.is_sound machines.new }
+    ensures ok { (db : Database) (whole : Relations) (posted : List LetterNow) (past : List (Deed (language db))) → IsOfCatalogue db → db.catalogue ≡ catalogue_of machines.old.desk.catalog
+        → IsRun db whole (held D.kept S.kept machines.old) posted past → IfOk result (λ out. RunsOn db whole (held D.kept S.kept machines.new) (posted ++ out.letters) past out.replies) }
+    ensures err { OnErr result (held D.kept S.kept machines.new ≡ held D.kept S.kept machines.old) }
+{
+    match call {
+        Call::Begin => machines.begin(),
+        Call::State(txn, text) => machines.statement(*txn, text.as_str()),
+        Call::Commit(txn) => machines.commit(*txn),
+        Call::Rollback(txn) => machines.rollback(*txn),
+        Call::GiveUp(txn) => machines.give_up(*txn),
+    }
+}
+
+/// Something happens at a site but for letters, if the catalogue has it.
+fn happen_at<D: DeskStore, S: SiteStore>(
+    machines: &mut Machines<D, S>,
+    what: Doing,
+    kept: bool,
+) -> Result<Out, Fault>
+    requires { is_letter what ≡ false }
+    ensures clean { OfStores D.is_clean S.is_clean machines.new → OfStores D.is_clean S.is_clean machines.old }
+    ensures sound { OfStores D.is_clean S.is_clean machines.new → OfStores D.is_sound S.is_sound machines.old → OfStores D.is_sound S.is_sound machines.new }
+    ensures ok { (db : Database) (whole : Relations) (posted : List LetterNow) (past : List (Deed (language db))) → IsOfCatalogue db → db.catalogue ≡ catalogue_of machines.old.desk.catalog → OfStores D.is_clean S.is_clean machines.new → OfStores D.is_sound S.is_sound machines.old
+        → IsRun db whole (held D.kept S.kept machines.old) posted past → IfOk result (λ out. RunsOn db whole (held D.kept S.kept machines.new) (posted ++ out.letters) past out.replies) }
+    ensures err { OfStores D.is_clean S.is_clean machines.new → OfStores D.is_sound S.is_sound machines.old → OnErr result (held D.kept S.kept machines.new ≡ held D.kept S.kept machines.old) }
+{
+    if !has_site(machines.desk.catalog(), what.site()) {
+        return Err(Fault::Unsent);
+    }
+    match machines.at_site(what, kept) {
+        Ok(out) => Ok(out),
+        Err(fault) => Err(Fault::Site(fault)),
+    }
+}
+
+/// An event happens. Where it is refused nothing has changed.
+pub(crate) fn happen<D: DeskStore, S: SiteStore>(
+    machines: &mut Machines<D, S>,
+    entries: &[Entry],
+    event: &Event,
+) -> Result<Out, Fault>
+    ensures clean { OfStores D.is_clean S.is_clean machines.new → OfStores D.is_clean S.is_clean machines.old }
+    ensures sound { OfStores D.is_clean S.is_clean machines.new → OfStores D.is_sound S.is_sound machines.old → OfStores D.is_sound S.is_sound machines.new }
+    ensures ok { (db : Database) (whole : Relations) (past : List (Deed (language db))) → IsOfCatalogue db → db.catalogue ≡ catalogue_of machines.old.desk.catalog → OfStores D.is_clean S.is_clean machines.new → OfStores D.is_sound S.is_sound machines.old
+        → IsRun db whole (held D.kept S.kept machines.old) (letters_in entries.now) past → IfOk result (λ out. RunsOn db whole (held D.kept S.kept machines.new) (letters_in entries.now ++ out.letters) past out.replies) }
+    ensures err { OfStores D.is_clean S.is_clean machines.new → OfStores D.is_sound S.is_sound machines.old → OnErr result (held D.kept S.kept machines.new ≡ held D.kept S.kept machines.old) }
+{
+    match event {
+        Event::Call(asked) => by_desk(call(machines, asked)),
+        Event::Deliver(number, kept) => deliver(machines, entries, *number, *kept),
+        Event::SiteGivesUp(site, ticket) => {
+            let what = Doing::GiveUp(site.copy()?, *ticket);
+            happen_at(machines, what, true)
+        }
+        Event::SiteInquires(site) => {
+            let what = Doing::Inquire(site.copy()?);
+            happen_at(machines, what, true)
+        }
+        Event::SiteRestarts(site, kept) => {
+            let what = Doing::Restart(site.copy()?);
+            happen_at(machines, what, *kept)
+        }
+        Event::DeskRestarts(kept) => by_desk(machines.restart(*kept)),
+    }
+}
+
+/// A refusal of the coordinator as a fault.
+fn by_desk(done: Result<Out, Refusal>) -> Result<Out, Fault>
+    ensures { result ≡ told_by_desk done }
+{
+    match done {
+        Ok(out) => Ok(out),
+        Err(refusal) => Err(Fault::Desk(refusal)),
+    }
 }

@@ -140,7 +140,7 @@ impl<D: DeskStore, S: SiteStore> Machines<D, S> {
     }
 
     /// Something is done at its site. A letter that comes there is an order.
-    fn at_site(&mut self, what: Doing, kept: bool) -> Result<Out, SiteFault>
+    pub(crate) fn at_site(&mut self, what: Doing, kept: bool) -> Result<Out, SiteFault>
         requires { is_for_site what ≡ true }
         ensures clean { OfStores D.is_clean S.is_clean self.new → OfStores D.is_clean S.is_clean self.old }
         ensures sound { OfStores D.is_clean S.is_clean self.new → OfStores D.is_sound S.is_sound self.old → OfStores D.is_sound S.is_sound self.new }
