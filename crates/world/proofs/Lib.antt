@@ -12,3 +12,4 @@ pub mod BaseWritten
 pub mod BaseLawful
 pub mod BaseSites
 pub mod Running
+pub mod BaseOpened

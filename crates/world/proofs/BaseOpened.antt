@@ -1,0 +1,28 @@
+-- A catalogue's database has each leaf at its site, so machines that start are a run of nothing.
+use Rattle.std.proofs.Common.{◌≡◌, refl, sym, ap, ◌∙◌, ◌<◌, length, List, [], Some}
+use Rattle.meaning.specs.Whole.{FitsSchema, Relations}
+use Rattle.catalog.specs.declared.fragment_leaf.FragmentLeaf.{FragmentLeaf}
+use Rattle.catalog.specs.Catalogue.{Catalogue}
+use Rattle.catalog.specs.Formed.{IsFormed}
+use Rattle.catalog.specs.FragmentLeaf.{catalogue_leaves, schemas_of}
+use Rattle.world.specs.Base.{IsBase, content_of, database, site_of}
+use Rattle.world.specs.Machines.{Machines, world_of}
+use Rattle.world.specs.Placed.{IsPlaced, Opens}
+use Rattle.world.specs.Runs.{IsRun}
+use Rattle.catalog.proofs.FormedCatalogues.{sited}
+use Rattle.world.proofs.BaseLawful.{site_there}
+use Rattle.world.proofs.BaseWritten.{found_has}
+
+placed : (c : Catalogue) (whole : Relations) → IsFormed c → FitsSchema (schemas_of c) whole → IsPlaced (database c) c whole
+placed c whole formed fits = record {
+  sites = refl;
+  fits = fits;
+  home = λ name leaf there. site_there c.sites leaf.site (found_has (λ l. l.site < length c.sites) name leaf (catalogue_leaves c) (sited c (catalogue_leaves c) refl formed) there) ∙ ap (λ o. Some (site_of c.sites o)) (sym there);
+  has = λ name leaf there. ap (λ o. content_of o whole) there;
+  nowhere = λ name none. ap (λ o. content_of o whole) none;
+}
+
+pub opens_run : (c : Catalogue) (whole : Relations) (machines : Machines) → IsFormed c → FitsSchema (schemas_of c) whole → (IsPlaced (database c) c whole → Opens (database c) whole machines) → IsRun (database c) whole machines [] []
+opens_run c whole machines formed fits starts =
+    let opens = starts (placed c whole formed fits) in
+    record { opening = world_of (database c) machines [] []; opens = opens.opening; events = []; is = refl; explained = tt; fit = opens.fit }

@@ -1,0 +1,96 @@
+//! Worlds: the machines of a database, and every event that has happened with the letters that it put out.
+
+ghost use Rattle.std.specs.Prelude.{◌≡◌, ◌++◌, ◌∷◌, [], List, OnOk, OnErr, IfOk};
+ghost use Rattle.meaning.specs.Whole.{FitsSchema, Relations};
+ghost use Rattle.catalog.specs.FragmentLeaf.{schemas_of};
+ghost use Rattle.catalog.specs.Relation.{catalogue_of};
+ghost use Rattle.protocol.specs.Desk.{Deed};
+ghost use Rattle.store.specs.PlainDesk.{kept_of as desk_kept};
+ghost use Rattle.store.specs.PlainSite.{IsSound, kept_of};
+ghost use Rattle.desk.specs.Database.{language};
+ghost use Rattle.world.specs.Base.{database};
+ghost use Rattle.world.specs.declared.event.Entry.{Entry as EntryNow};
+ghost use Rattle.world.specs.Held.{OfStores, held};
+ghost use Rattle.world.specs.Posted.{letters_in};
+ghost use Rattle.world.specs.Runs.{IsRun, RunsOn};
+
+use crate::event::{Entry, Event};
+use crate::fault::Fault;
+use crate::happening::happen;
+use crate::laws::database_is_of_catalogue;
+use crate::machines::Machines;
+use crate::opening::start;
+use catalog::catalogue::Catalog;
+use desk::refusal::Refusal;
+use meaning::whole::Whole;
+use std::alloc::Global;
+use store::desk_store::DeskStore;
+use store::plain_desk::PlainDesk;
+use store::plain_site::PlainSite;
+use store::site_store::SiteStore;
+
+/// A coordinator, its sites, and what has happened, oldest first.
+#[derive(Drop)]
+pub struct World<D: DeskStore, S: SiteStore> {
+    machines: Machines<D, S>,
+    entries: Vec<Entry>,
+}
+
+/// A world over lists is opened: the fragments rebuild these whole relations, and nothing has happened.
+pub fn open(
+    alloc: Global,
+    catalog: Catalog,
+    whole: &Whole,
+) -> Result<World<PlainDesk, PlainSite>, Fault>
+    ensures ok { FitsSchema (schemas_of (catalogue_of catalog)) whole.now
+        → IfOk result (λ world. IsRun (database (catalogue_of catalog)) whole.now (held desk_kept kept_of world.machines) [] []) }
+    ensures none { IfOk result (λ world. world.entries.items ≡ []) }
+    ensures catalog { IfOk result (λ world. world.machines.desk.catalog ≡ catalog) }
+    ensures sound { IfOk result (λ world. OfStores (λ _. Unit {0}) IsSound world.machines) }
+{
+    database_is_of_catalogue(&catalog);
+    match start(alloc, catalog, whole) {
+        Ok(machines) => Ok(World {
+            machines,
+            entries: Vec::new(alloc),
+        }),
+        Err(fault) => Err(fault),
+    }
+}
+
+impl<D: DeskStore, S: SiteStore> World<D, S> {
+    /// An event happens. On a fault nothing has changed.
+    pub fn step(&mut self, event: Event) -> Result<(), Fault>
+        ensures clean { OfStores D.is_clean S.is_clean self.new.machines → OfStores D.is_clean S.is_clean self.old.machines }
+        ensures sound { OfStores D.is_clean S.is_clean self.new.machines → OfStores D.is_sound S.is_sound self.old.machines → OfStores D.is_sound S.is_sound self.new.machines }
+        ensures ok { (whole : Relations) (past : List (Deed (language (database (catalogue_of self.old.machines.desk.catalog)))))
+            → OfStores D.is_clean S.is_clean self.new.machines → OfStores D.is_sound S.is_sound self.old.machines
+            → IsRun (database (catalogue_of self.old.machines.desk.catalog)) whole (held D.kept S.kept self.old.machines) (letters_in self.old.entries.items) past
+            → OnOk result ((entry : EntryNow) × ((self.new.entries.items ≡ self.old.entries.items ++ entry ∷ [])
+            × RunsOn (database (catalogue_of self.old.machines.desk.catalog)) whole (held D.kept S.kept self.new.machines) (letters_in self.new.entries.items) past entry.out.replies)) }
+        ensures err { OfStores D.is_clean S.is_clean self.new.machines → OfStores D.is_sound S.is_sound self.old.machines → OnErr result (held D.kept S.kept self.new.machines ≡ held D.kept S.kept self.old.machines) }
+        ensures same { OnErr result (self.new.entries.items ≡ self.old.entries.items) }
+    {
+        database_is_of_catalogue(self.machines.desk.catalog());
+        if self.entries.try_reserve(1).is_err() {
+            return Err(Fault::Desk(Refusal::Memory));
+        }
+        let out = happen(&mut self.machines, self.entries.as_slice(), &event)?;
+        self.entries.push_reserved(Entry { event, out });
+        Ok(())
+    }
+
+    /// What has happened, oldest first.
+    pub fn entries(&self) -> &[Entry]
+        ensures { result.now ≡ self.now.entries.items }
+    {
+        self.entries.as_slice()
+    }
+
+    /// The catalogue.
+    pub fn catalog(&self) -> &Catalog
+        ensures { result.now ≡ self.now.machines.desk.catalog }
+    {
+        self.machines.desk.catalog()
+    }
+}
