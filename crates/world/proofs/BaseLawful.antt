@@ -1,8 +1,7 @@
 -- The database of a catalogue is that of the catalogue, and its language is lawful.
-use Rattle.std.proofs.Common.{◌≡◌, ◌<◌, refl, sym, ap, ◌∙◌, subst, ℕ, zero, suc, List, [], ◌∷◌, map, length, Option, Some, None, unwrap_or, arith}
+use Rattle.std.proofs.Common.{◌≡◌, ◌<◌, refl, sym, ap, ◌∙◌, ℕ, zero, suc, List, [], ◌∷◌, map, length, Option, Some, None, unwrap_or, arith}
 use Rattle.std.specs.FinMap as fin
 use Rattle.std.specs.List.{AllByRecursion, slice_get}
-use Rattle.terms.specs.declared.leaf.Leaf.{Leaf}
 use Rattle.meaning.specs.Whole.{FitsSchema, Relations, rows_of}
 use Rattle.meaning.proofs.Kept.{meaning_fits}
 use Rattle.catalog.specs.declared.fragment_leaf.FragmentLeaf.{FragmentLeaf}
@@ -21,7 +20,7 @@ use Rattle.answers.proofs.Climbing.{parts_are}
 use Rattle.store.specs.Laws.{NothingChanges, OneChangeMore, OneTouchMore}
 use Rattle.protocol.specs.Language.{IsLawful}
 use Rattle.site.proofs.Lawful.{lawful}
-use Rattle.desk.specs.Database.{Database, language, statements}
+use Rattle.desk.specs.Database.{language, statements}
 use Rattle.desk.specs.OfCatalogue.{FormsParts, HasContent}
 use Rattle.world.specs.Base.{IsBase, content_of, database, found, site_of, width_of}
 use Rattle.world.proofs.BaseStored.{values_stored}

@@ -1,14 +1,15 @@
 -- A catalogue's database has each leaf at its site, so machines that start are a run of nothing.
-use Rattle.std.proofs.Common.{◌≡◌, refl, sym, ap, ◌∙◌, ◌<◌, length, List, [], Some}
+use Rattle.std.proofs.Common.{refl, sym, subst, ap, ◌∙◌, ◌<◌, length, [], Some}
 use Rattle.meaning.specs.Whole.{FitsSchema, Relations}
-use Rattle.catalog.specs.declared.fragment_leaf.FragmentLeaf.{FragmentLeaf}
 use Rattle.catalog.specs.Catalogue.{Catalogue}
 use Rattle.catalog.specs.Formed.{IsFormed}
 use Rattle.catalog.specs.FragmentLeaf.{catalogue_leaves, schemas_of}
-use Rattle.world.specs.Base.{IsBase, content_of, database, site_of}
+use Rattle.world.specs.Base.{content_of, database, site_of}
 use Rattle.world.specs.Machines.{Machines, world_of}
 use Rattle.world.specs.Placed.{IsPlaced, Opens}
-use Rattle.world.specs.Runs.{IsRun}
+use Rattle.world.specs.Runs.{IsRun, RunsAreSerial}
+use Rattle.protocol.specs.Serial.{AllExplained, IsSerial, SerialLaw}
+use Rattle.desk.specs.Database.{Database, language}
 use Rattle.catalog.proofs.FormedCatalogues.{sited}
 use Rattle.world.proofs.BaseLawful.{site_there}
 use Rattle.world.proofs.BaseWritten.{found_has}
@@ -26,3 +27,7 @@ pub opens_run : (c : Catalogue) (whole : Relations) (machines : Machines) → Is
 opens_run c whole machines formed fits starts =
     let opens = starts (placed c whole formed fits) in
     record { opening = world_of (database c) machines [] []; opens = opens.opening; events = []; is = refl; explained = tt; fit = opens.fit }
+
+pub runs_serial : (db : Database) → SerialLaw (language db) → RunsAreSerial db
+runs_serial db law whole machines posted past run =
+    subst (IsSerial whole) run.is (law whole run.opening run.events run.opens (subst (λ v. AllExplained v.past) (sym run.is) run.explained))

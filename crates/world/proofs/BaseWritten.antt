@@ -1,9 +1,9 @@
 -- The writes between whole databases lead from what a leaf has of the one to what it has of the other.
-use Rattle.std.proofs.Common.{◌≡◌, ◌≢◌, refl, sym, ap, ap₂, ◌∙◌, subst, ℤ, Bool, true, false, cond, ◌&&◌, if◌then◌else◌, List, [], ◌∷◌, ◌++◌, map, flat_map, Option, Some, None, option_map}
+use Rattle.std.proofs.Common.{◌≡◌, refl, sym, ap, ◌∙◌, subst, ℤ, Bool, true, false, cond, ◌&&◌, if◌then◌else◌, List, [], ◌∷◌, map, flat_map, Option, Some, None}
 use Rattle.std.specs.Cmp.{int_cmp_total}
 use Rattle.std.specs.FinMap as fin
-use Rattle.std.specs.List.{AllByRecursion, filter_map}
-use Rattle.std.specs.Ordering.{eq_by_cmp, int_cmp, int_eq, is_eq}
+use Rattle.std.specs.List.{AllByRecursion}
+use Rattle.std.specs.Ordering.{int_cmp, int_eq, is_eq}
 use Rattle.terms.specs.declared.leaf.Leaf.{Leaf}
 use Rattle.terms.specs.declared.value.Value.{Value}
 use Rattle.terms.specs.declared.write.Write.{Write}

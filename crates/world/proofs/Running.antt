@@ -1,5 +1,5 @@
 -- A step of the machines is one event more of a run.
-use Rattle.std.proofs.Common.{◌≡◌, refl, sym, ap, ◌∙◌, subst, ℕ, zero, suc, nat_eq, Bool, true, false, List, [], ◌∷◌, ◌++◌, map, Option, Some, None, slice_get, if◌then◌else◌, Result, Ok, Err, IfOk}
+use Rattle.std.proofs.Common.{◌≡◌, refl, sym, ap, ◌∙◌, subst, ℕ, zero, suc, nat_eq, Bool, true, false, List, [], ◌∷◌, ◌++◌, map, Some, slice_get, Result, Ok, Err, IfOk}
 use Rattle.std.proofs.lemmas.List.{map-append}
 use Rattle.std.specs.Cmp.Lexicographic.{pointwise}
 use Rattle.std.specs.List.{AllByRecursion, list_any}
@@ -14,7 +14,7 @@ use Rattle.protocol.specs.Desk.{Choice, Deed, Request}
 use Rattle.protocol.specs.Language.{Lang, Name}
 use Rattle.protocol.specs.Letter.{Letter}
 use Rattle.protocol.specs.Letters.{name_of}
-use Rattle.protocol.specs.Serial.{AllExplained, Explained}
+use Rattle.protocol.specs.Serial.{Explained}
 use Rattle.protocol.specs.World.{Call, Deliver, Event, called, Site_gives_up, Site_inquires, Site_restarts, World, comes, delivered, gives_up, happens, inquires, restarts, run}
 use Rattle.desk.specs.declared.reply.Notice.{Notice}
 use Rattle.desk.specs.Calls.{IsOver}
@@ -23,7 +23,7 @@ use Rattle.desk.specs.OfCatalogue.{IsOfCatalogue}
 use Rattle.protocol.proofs.Basics.{if_true, some_is}
 use Rattle.world.specs.declared.doing.Doing as doing
 use Rattle.world.specs.declared.doing.Doing.TheVariants.{GiveUp, Inquire, Restart, Take}
-use Rattle.world.specs.Machines.{AreFit, Came, Leads, Machines, happens_at, is_letter, world_of}
+use Rattle.world.specs.Machines.{Came, Leads, Machines, happens_at, is_letter, world_of}
 use Rattle.world.specs.Seated.{place_of}
 use Rattle.desk.specs.declared.refusal.Refusal.{Refusal}
 use Rattle.desk.specs.declared.reply.Out.{Out}

@@ -4,7 +4,7 @@ use Rattle.std.specs.List.{filter_map}
 use Rattle.meaning.specs.Whole.{Relations}
 use Rattle.store.specs.declared.letter.Letter as letters
 use Rattle.protocol.specs.Desk.{Deed}
-use Rattle.protocol.specs.Serial.{AllExplained, IsOpening}
+use Rattle.protocol.specs.Serial.{AllExplained, IsOpening, IsSerial}
 use Rattle.protocol.specs.World.{Event, World, run}
 use Rattle.desk.specs.declared.reply.Notice.{Notice}
 use Rattle.desk.specs.Database.{Database, language, sent}
@@ -26,3 +26,7 @@ pub record RunsOn (db : Database) (whole : Relations) (machines : Machines) (pos
   pub deeds : List (Deed (language db))
   pub run_on : IsRun db whole machines posted (past ++ deeds)
   pub replies : map notice_of notices ≡ filter_map (told db) deeds
+
+-- the serial law of the machines at hand: after each run of them the committed transactions, one after another over whole relations, give the answers that were given and what the settled fragments rebuild
+abbrev pub RunsAreSerial : Database → Type 0
+RunsAreSerial db = (whole : Relations) (machines : Machines) (posted : List letters.Letter) (past : List (Deed (language db))) → IsRun db whole machines posted past → IsSerial whole (world_of db machines (map (sent db) posted) past)

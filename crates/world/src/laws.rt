@@ -13,6 +13,7 @@ ghost use Rattle.protocol.specs.Serial.{SerialLaw};
 ghost use Rattle.protocol.specs.Whole.{AppliedWholeAndOnce};
 ghost use Rattle.desk.specs.Database.{language};
 ghost use Rattle.world.specs.Base.{IsBase, database};
+ghost use Rattle.world.specs.Runs.{RunsAreSerial};
 
 use answers::laws::writes_lead;
 use catalog::catalogue::Catalog;
@@ -50,6 +51,13 @@ pub fn serial_law(catalog: &Catalog)
     ensures { SerialLaw (language (database (catalogue_of catalog.now))) }
 {
     language_is_lawful(catalog);
+}
+
+/// The serial law of the machines at hand: after each run of them, with the letters that they put out.
+pub fn runs_are_serial(catalog: &Catalog)
+    ensures { RunsAreSerial (database (catalogue_of catalog.now)) }
+{
+    serial_law(catalog);
 }
 
 /// A committed transaction is applied whole and once, after every list of events.

@@ -1,5 +1,5 @@
 -- Why `call` meets its contract.
-use Rattle.std.proofs.Common.{◌≡◌, refl}
+use Rattle.std.proofs.Common.{refl}
 use Rattle.protocol.specs.Desk.{Commit_call, Give_up, Rollback, State}
 use Rattle.protocol.specs.Letters.{txn_name}
 use Rattle.protocol.specs.World.{Begin, begins}

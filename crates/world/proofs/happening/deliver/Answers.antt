@@ -5,7 +5,6 @@ use Rattle.std.specs.List.{list_any}
 use Rattle.std.specs.Option.{option_copied}
 use Rattle.catalog.specs.Catalogue.{Catalogue}
 use Rattle.world.specs.Held.{held}
-use Rattle.world.specs.Machines.{is_of_site}
 use Rattle.world.specs.Posted.{letters_in}
 use Rattle.world.proofs.Moving.{if_ok}
 use Rattle.world.proofs.Running.{comes_on}

@@ -1,5 +1,5 @@
 -- Why `happen` meets its contract.
-use Rattle.std.proofs.Common.{◌≡◌, ◌++◌, refl}
+use Rattle.std.proofs.Common.{◌++◌, refl}
 use Rattle.protocol.specs.World.{Desk_restarts, desk_restarts}
 use Rattle.world.specs.Held.{held}
 use Rattle.world.specs.Posted.{letters_in}

@@ -1,5 +1,4 @@
 -- Why `open` meets its contract.
-use Rattle.std.proofs.Common.{◌≡◌}
 use Rattle.catalog.specs.Relation.{catalogue_of}
 use Rattle.store.specs.PlainDesk.{kept_of as desk_kept}
 use Rattle.store.specs.PlainSite.{kept_of}

@@ -1,5 +1,5 @@
 -- Why `deliver` meets its contract.
-use Rattle.std.proofs.Common.{◌≡◌, nat_eq, true, [], List, sym, subst}
+use Rattle.std.proofs.Common.{◌≡◌, nat_eq, true, [], sym, subst}
 use Rattle.std.specs.Cmp.Lexicographic.{pointwise}
 use Rattle.std.specs.List.{list_any}
 use Rattle.meaning.specs.declared.answer.Answer.TheVariants.{Exists}

@@ -1,5 +1,4 @@
 -- Why `reply` meets its contract.
-use Rattle.std.proofs.Common.{◌≡◌}
 use Rattle.desk.specs.State.{table_of}
 use Rattle.world.specs.Held.{held}
 use Rattle.world.proofs.Machinery.{reply_leads, reply_of}

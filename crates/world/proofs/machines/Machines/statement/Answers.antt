@@ -1,5 +1,5 @@
 -- Why `statement` meets its contract.
-use Rattle.std.proofs.Common.{◌≡◌, refl}
+use Rattle.std.proofs.Common.{refl}
 use Rattle.protocol.specs.Desk.{State, on_request}
 use Rattle.protocol.specs.Letters.{txn_name}
 use Rattle.protocol.specs.World.{called}
