@@ -1,8 +1,10 @@
 //! A database in one process: its coordinator and its sites together.
 //!
-//! It stands on all crates below it. Public are the laws of the protocol of each catalogue's database
-//! (`laws`), the serial law among them, and `fault`. Inside, `opening::start` makes the machines over lists,
-//! and each call of `machines::Machines` is a step of the protocol's world of them.
+//! It stands on all crates below it. Public are a `world` that is opened over whole relations and takes one
+//! `event` after another, as a run of the protocol; the laws of the protocol of each catalogue's database
+//! (`laws`), the serial law among them; and `fault`. Inside, `opening::start` makes the machines over lists,
+//! each call of `machines::Machines` is a step of the protocol's world of them, and `happening::happen` is one
+//! event.
 #![tactic(auto)]
 
 mod doing;
