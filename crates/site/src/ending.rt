@@ -41,6 +41,7 @@ pub(crate) fn prepare<S: SiteStore>(
     prepare: Prepare,
     kept: bool,
 ) -> Result<Option<Reply>, SiteFault>
+    ensures uncalled { kept ≡ false → store.new ≡ store.old }
     ensures name { present.new.name ≡ present.old.name }
     ensures leaves { leaves_in present.new.locks.items ≡ leaves_in present.old.locks.items }
     ensures own { result ≢ Err faults.Stranger }
@@ -74,6 +75,7 @@ fn keep<S: SiteStore>(
     ticket: Ticket,
     kept: bool,
 ) -> Result<Option<Reply>, SiteFault>
+    ensures uncalled { kept ≡ false → store.new ≡ store.old }
     ensures name { present.new.name ≡ present.old.name }
     ensures leaves { leaves_in present.new.locks.items ≡ leaves_in present.old.locks.items }
     ensures own { result ≢ Err faults.Stranger }
@@ -118,6 +120,7 @@ pub(crate) fn commit<S: SiteStore>(
     ticket: Ticket,
     kept: bool,
 ) -> Result<Option<Reply>, SiteFault>
+    ensures uncalled { kept ≡ false → store.new ≡ store.old }
     ensures name { present.new.name ≡ present.old.name }
     ensures leaves { leaves_in present.new.locks.items ≡ leaves_in present.old.locks.items }
     ensures own { result ≢ Err faults.Stranger }
@@ -153,6 +156,7 @@ pub(crate) fn abort<S: SiteStore>(
     ticket: Ticket,
     kept: bool,
 ) -> Result<Option<Reply>, SiteFault>
+    ensures uncalled { kept ≡ false → store.new ≡ store.old }
     ensures name { present.new.name ≡ present.old.name }
     ensures leaves { leaves_in present.new.locks.items ≡ leaves_in present.old.locks.items }
     ensures own { result ≢ Err faults.Stranger }

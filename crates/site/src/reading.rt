@@ -31,6 +31,7 @@ pub(crate) fn fetch<S: SiteStore>(
     fetch: Fetch,
     kept: bool,
 ) -> Result<Option<Reply>, SiteFault>
+    ensures uncalled { kept ≡ false → store.new ≡ store.old }
     ensures elsewhere { place_in fetch.leaf present.old.locks.items ≡ None → result ≡ Err faults.Stranger }
     ensures name { present.new.name ≡ present.old.name }
     ensures leaves { leaves_in present.new.locks.items ≡ leaves_in present.old.locks.items }

@@ -1,6 +1,6 @@
 //! The subordinate's machine.
 
-ghost use Rattle.std.specs.Prelude.{◌≡◌, ◌≢◌, ◌<◌, ◌≤◌, ◌+◌, ◌^◌, [], None, Err, IfOk, IfErr, OnOk, OnErr, map, vec_len, ◌⊎◌, false};
+ghost use Rattle.std.specs.Prelude.{◌≡◌, ◌≢◌, ◌<◌, ◌≤◌, ◌+◌, ◌^◌, [], None, Err, IfOk, IfErr, OnOk, OnErr, map, vec_len, ◌⊎◌, false, true};
 ghost use Rattle.store.specs.Fault.{HasRefused};
 ghost use Rattle.store.specs.declared.fault.StoreFault.TheVariants as store_faults;
 ghost use Rattle.site.specs.declared.fault.SiteFault.TheVariants as faults;
@@ -109,6 +109,7 @@ impl<S: SiteStore> Site<S> {
 
     /// So, but where `kept` is false the store isn't called, and counts as having refused.
     pub fn restart_kept(&mut self, kept: bool) -> Result<(), SiteFault>
+        ensures called { OnOk result (kept ≡ true) }
         ensures clean { S.is_clean self.new.store → S.is_clean self.old.store }
         ensures sound { S.is_clean self.new.store → OnOk result (S.is_sound self.new.store) }
         ensures keeps { S.is_clean self.new.store → S.is_sound self.old.store → S.is_sound self.new.store }
@@ -187,6 +188,7 @@ impl<S: SiteStore> Site<S> {
 
     /// So, but where `kept` is false the store isn't called, and counts as having refused.
     pub fn take_kept(&mut self, letter: Letter, kept: bool) -> Result<Vec<Letter>, SiteFault>
+        ensures uncalled { kept ≡ false → self.new.store ≡ self.old.store }
         ensures turned_away { AsksElsewhere self.old.present.locks.items letter.body → (result ≡ Err faults.Stranger) ⊎ (result ≡ Err faults.Memory) }
         ensures name { self.new.present.name ≡ self.old.present.name }
         ensures leaves { leaves_in self.new.present.locks.items ≡ leaves_in self.old.present.locks.items }
@@ -282,6 +284,7 @@ fn obey<S: SiteStore>(
     order: Order,
     kept: bool,
 ) -> Result<Option<Reply>, SiteFault>
+    ensures uncalled { kept ≡ false → store.new ≡ store.old }
     ensures elsewhere { IsElsewhere present.old.locks.items order → result ≡ Err faults.Stranger }
     ensures name { present.new.name ≡ present.old.name }
     ensures leaves { leaves_in present.new.locks.items ≡ leaves_in present.old.locks.items }

@@ -1,0 +1,60 @@
+-- The events of a world as the protocol's.
+use Rattle.std.specs.Prelude.{◌≡◌, ℕ, nat_eq, Bool, true, false, not, List, [], ◌∷◌, Option, Some, None, slice_get, ⊥}
+use Rattle.std.specs.Cmp.Lexicographic.{pointwise}
+use Rattle.std.specs.List.{list_any}
+use Rattle.meaning.specs.declared.statement.Statement.{Statement}
+use Rattle.reader.specs.declared.command.Command.TheVariants as command
+use Rattle.reader.specs.Command.{IsTextOf}
+use Rattle.store.specs.declared.letter.Letter.{Letter}
+use Rattle.protocol.specs.Desk as protocol
+use Rattle.protocol.specs.Letters.{name_of, txn_name}
+use Rattle.protocol.specs.World as world
+use Rattle.desk.specs.Database.{Database, language}
+use Rattle.world.specs.declared.event.Call as calls
+use Rattle.world.specs.declared.event.Call.TheVariants as call
+use Rattle.world.specs.declared.event.Entry.{Entry}
+use Rattle.world.specs.declared.event.Event as events
+use Rattle.world.specs.declared.event.Event.TheVariants as event
+use Rattle.world.specs.Posted.{letters_in}
+
+-- a call of a client; a statement's text is that of the statement
+abbrev pub IsCall : (db : Database) → calls.Call → world.Event (language db) → Type 0
+IsCall db call.Begin e = e ≡ world.Begin
+IsCall db (call.State txn text) e = (statement : Statement) × (choice : protocol.Choice (language db)) × (IsTextOf db.schemas text (command.Run statement) × (e ≡ world.Call (txn_name txn) (protocol.State statement) choice))
+IsCall db (call.Commit txn) e = (choice : protocol.Choice (language db)) × (e ≡ world.Call (txn_name txn) protocol.Commit_call choice)
+IsCall db (call.Rollback txn) e = (choice : protocol.Choice (language db)) × (e ≡ world.Call (txn_name txn) protocol.Rollback choice)
+IsCall db (call.GiveUp txn) e = (choice : protocol.Choice (language db)) × (e ≡ world.Call (txn_name txn) protocol.Give_up choice)
+
+-- an event; kept: whether the store did not refuse
+abbrev pub IsEvent : (db : Database) → events.Event → Bool → world.Event (language db) → Type 0
+IsEvent db (event.Call asked) kept e = IsCall db asked e
+IsEvent db (event.Deliver number whether) kept e = (choice : protocol.Choice (language db)) × (e ≡ world.Deliver number kept choice)
+IsEvent db (event.SiteGivesUp site ticket) kept e = e ≡ world.Site_gives_up site (name_of ticket)
+IsEvent db (event.SiteInquires site) kept e = e ≡ world.Site_inquires site
+IsEvent db (event.SiteRestarts site whether) kept e = e ≡ world.Site_restarts site whether
+IsEvent db (event.DeskRestarts whether) kept e = e ≡ world.Desk_restarts whether
+
+-- entries are these events of the protocol, one by one
+abbrev pub AreEvents : (db : Database) → List Entry → List (world.Event (language db)) → Type 0
+AreEvents db [] [] = Unit
+AreEvents db [] (e ∷ es) = ⊥
+AreEvents db (entry ∷ entries) [] = ⊥
+AreEvents db (entry ∷ entries) (e ∷ es) = IsEvent db entry.event entry.out.kept e × AreEvents db entries es
+
+-- whether no site has the name
+abbrev pub is_nowhere : List (List ℕ) → List ℕ → Bool
+is_nowhere sites name = not (list_any (λ site. pointwise nat_eq site name) sites)
+
+-- whether there is no such letter, or no such site of it
+abbrev pub is_none_of : List (List ℕ) → Option Letter → Bool
+is_none_of sites None = true
+is_none_of sites (Some letter) = is_nowhere sites letter.site
+
+-- whether an event is of a letter that wasn't sent, or of a site that is none of these
+abbrev pub is_unsent : List (List ℕ) → List Entry → events.Event → Bool
+is_unsent sites entries (event.Call asked) = false
+is_unsent sites entries (event.Deliver number whether) = is_none_of sites (slice_get (letters_in entries) number)
+is_unsent sites entries (event.SiteGivesUp site ticket) = is_nowhere sites site
+is_unsent sites entries (event.SiteInquires site) = is_nowhere sites site
+is_unsent sites entries (event.SiteRestarts site whether) = is_nowhere sites site
+is_unsent sites entries (event.DeskRestarts whether) = false
