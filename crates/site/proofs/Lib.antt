@@ -20,3 +20,4 @@ pub mod Restarting
 pub mod Inquired
 pub mod Limited
 pub mod OldestFirst
+pub mod SettledRows

@@ -71,11 +71,11 @@ listed_some (x ∷ entries) j here = go (listed_some entries j) (is_ticket j x.0
 abbrev tickets_of : List PreparedRow → List Ticket
 tickets_of rows = map (λ row. row.ticket) rows
 
-none_below : (k : Ticket) (rows : List PreparedRow) → AllByRecursion (λ j. ticket_cmp k j ≡ Less) (tickets_of rows) → row_of k rows ≡ None
+pub none_below : (k : Ticket) (rows : List PreparedRow) → AllByRecursion (λ j. ticket_cmp k j ≡ Less) (tickets_of rows) → row_of k rows ≡ None
 none_below k [] below = refl
 none_below k (row ∷ rows) below = if_false (is_ticket k row.ticket) (Some row.prepared) (row_of k rows) (ap is_eq below.0) ∙ none_below k rows below.1
 
-none_after : (j : Ticket) (row : PreparedRow) (rows : List PreparedRow) → IsStrictlySortedBy ticket_cmp (tickets_of (row ∷ rows)) → is_ticket j row.ticket ≡ true → row_of j rows ≡ None
+pub none_after : (j : Ticket) (row : PreparedRow) (rows : List PreparedRow) → IsStrictlySortedBy ticket_cmp (tickets_of (row ∷ rows)) → is_ticket j row.ticket ≡ true → row_of j rows ≡ None
 none_after j row rows sorted is = ap (λ k. row_of k rows) (ticket_is j row.ticket is) ∙ none_below row.ticket rows (sorted_head ticket_cmp row.ticket (tickets_of rows) sorted)
 
 -- a row as it stands, or else what stood before

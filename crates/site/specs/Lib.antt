@@ -10,4 +10,5 @@ pub mod Moves
 pub mod Starting
 pub mod Inquiries
 pub mod Youngest
+pub mod Settled
 pub mod Refusals

@@ -26,6 +26,7 @@ mod rows;
 pub mod site;
 mod standing;
 mod standings;
+mod settling;
 mod starting;
 mod turn;
 mod writing;

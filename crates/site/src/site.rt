@@ -10,15 +10,18 @@ ghost use Rattle.store.specs.SiteContent.{IsUnchanged, BeginsLife, Lists};
 ghost use Rattle.protocol.specs.Letters.{name_of, letter_of, order_body, txn_name, kept_by, kept_in, letters_of};
 ghost use Rattle.site.specs.Refusals.{IsElsewhere, IsTooMuch, IsToKeep, IsBeyond, AsksElsewhere, AsksTooMuch, AsksToKeep, AsksBeyond};
 ghost use Rattle.site.specs.Starting.{Begins, Restarts, IsStrange, leaves_in};
+ghost use Rattle.site.specs.Settled.{AreSettled};
 ghost use Rattle.site.specs.State.{Fits, Steps, Takes, state_of, table_of};
 
 use crate::ending::{abort, commit, give_up, prepare};
 use crate::fault::{SiteFault, site_fault};
 use crate::present::Present;
 use crate::reading::fetch;
+use crate::settling::settle;
 use crate::starting::{begin, leaves_of};
 use crate::writing::{intend, open};
 use std::alloc::Global;
+use store::changes::Changes;
 use store::fault::StoreFault;
 use store::letter::{Body, Letter};
 use store::name::{Ticket, Txn};
@@ -162,6 +165,23 @@ impl<S: SiteStore> Site<S> {
             Ok(all) => Ok(all),
             Err(fault) => Err(site_fault(fault)),
         }
+    }
+
+    /// The fragments with the intentions of those prepared rows whose transactions are decided: the changes
+    /// that make them of nothing. Nothing is changed by this.
+    pub fn settled(&mut self, decided: &[Txn]) -> Result<Changes, SiteFault>
+        ensures clean { S.is_clean self.new.store → S.is_clean self.old.store }
+        ensures sound { S.is_clean self.new.store → S.is_sound self.old.store → S.is_sound self.new.store }
+        ensures ok { S.is_clean self.new.store → S.is_sound self.old.store → Fits (S.kept self.old.store) (table_of self.old.present)
+            → IfOk result (AreSettled decided.now (S.kept self.old.store) (table_of self.old.present).tickets) }
+        ensures same { S.is_clean self.new.store → S.is_sound self.old.store → IsUnchanged (S.kept self.old.store) (S.kept self.new.store) }
+        ensures memory { self.new.present ≡ self.old.present }
+        ensures refusal { result ≡ Err (faults.Store store_faults.Refused) → HasRefused (S.refused self.old.store) (S.refused self.new.store) }
+        ensures intact { S.is_clean self.new.store → S.is_sound self.old.store → result ≢ Err (faults.Store store_faults.Damaged) }
+    {
+        let _tickets = self.present.standings.len();
+        let all = self.kept()?;
+        Ok(settle(all, decided)?)
     }
 
     /// Takes a letter, and answers the letters that the site puts out. On a fault nothing has changed.

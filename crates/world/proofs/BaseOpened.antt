@@ -13,6 +13,7 @@ use Rattle.desk.specs.Database.{Database, language}
 use Rattle.catalog.proofs.FormedCatalogues.{sited}
 use Rattle.world.proofs.BaseLawful.{site_there}
 use Rattle.world.proofs.BaseWritten.{found_has}
+use Rattle.world.proofs.Heard.{serial_run}
 
 placed : (c : Catalogue) (whole : Relations) → IsFormed c → FitsSchema (schemas_of c) whole → IsPlaced (database c) c whole
 placed c whole formed fits = record {
@@ -26,8 +27,8 @@ placed c whole formed fits = record {
 pub opens_run : (c : Catalogue) (whole : Relations) (machines : Machines) → IsFormed c → FitsSchema (schemas_of c) whole → (IsPlaced (database c) c whole → Opens (database c) whole machines) → IsRun (database c) whole machines [] []
 opens_run c whole machines formed fits starts =
     let opens = starts (placed c whole formed fits) in
-    record { opening = world_of (database c) machines [] []; opens = opens.opening; events = []; is = refl; explained = tt; fit = opens.fit }
+    record { opening = world_of (database c) machines [] []; opens = opens.opening; events = []; are = tt; is = refl; explained = tt; tells = record { phased = refl; stated = tt; heard = refl }; fit = opens.fit }
 
 pub runs_serial : (db : Database) → SerialLaw (language db) → RunsAreSerial db
-runs_serial db law whole machines posted past run =
-    subst (IsSerial whole) run.is (law whole run.opening run.events run.opens (subst (λ v. AllExplained v.past) (sym run.is) run.explained))
+runs_serial db law whole machines entries past run =
+    serial_run db whole machines entries past run.tells (subst (IsSerial whole) run.is (law whole run.opening run.events run.opens (subst (λ v. AllExplained v.past) (sym run.is) run.explained)))

@@ -11,5 +11,8 @@ pub mod BaseStored
 pub mod BaseWritten
 pub mod BaseLawful
 pub mod BaseSites
+pub mod Shown
+pub mod Told
 pub mod Running
+pub mod Heard
 pub mod BaseOpened

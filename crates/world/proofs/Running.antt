@@ -5,53 +5,65 @@ use Rattle.std.specs.Cmp.Lexicographic.{pointwise}
 use Rattle.std.specs.List.{AllByRecursion, list_any}
 use Rattle.meaning.specs.Whole.{Relations}
 use Rattle.store.specs.declared.letter.Letter as letters
+use Rattle.store.specs.declared.name.Txn as names
 use Rattle.meaning.specs.declared.answer.Answer.TheVariants.{Exists}
 use Rattle.reader.specs.Printable.{AreDistinct}
 use Rattle.catalog.specs.declared.relation.SplitRelation.{SplitRelation}
 use Rattle.catalog.specs.Catalogue.{Catalogue}
 use Rattle.catalog.specs.Relation.{catalogue_of}
 use Rattle.protocol.specs.Desk.{Choice, Deed, Request}
-use Rattle.protocol.specs.Language.{Lang, Name}
+use Rattle.protocol.specs.Language.{Lang}
 use Rattle.protocol.specs.Letter.{Letter}
-use Rattle.protocol.specs.Letters.{name_of}
+use Rattle.protocol.specs.Letters.{name_of, txn_name}
 use Rattle.protocol.specs.Serial.{Explained}
-use Rattle.protocol.specs.World.{Call, Deliver, Event, called, Site_gives_up, Site_inquires, Site_restarts, World, comes, delivered, gives_up, happens, inquires, restarts, run}
-use Rattle.desk.specs.declared.reply.Notice.{Notice}
+use Rattle.protocol.specs.Site.{on_give_up, site_after, site_restarted}
+use Rattle.protocol.specs.World as world
+use Rattle.protocol.specs.World.{World, called, comes, delivered, gives_up, happens, inquires, restarts, run}
 use Rattle.desk.specs.Calls.{IsOver}
 use Rattle.desk.specs.Database.{Database, language, sent}
 use Rattle.desk.specs.OfCatalogue.{IsOfCatalogue}
+use Rattle.desk.specs.declared.refusal.Refusal.{Refusal}
+use Rattle.desk.specs.declared.reply.Out.{Out}
 use Rattle.protocol.proofs.Basics.{if_true, some_is}
 use Rattle.world.specs.declared.doing.Doing as doing
 use Rattle.world.specs.declared.doing.Doing.TheVariants.{GiveUp, Inquire, Restart, Take}
-use Rattle.world.specs.Machines.{Came, Leads, Machines, happens_at, is_letter, world_of}
-use Rattle.world.specs.Seated.{place_of}
-use Rattle.desk.specs.declared.refusal.Refusal.{Refusal}
-use Rattle.desk.specs.declared.reply.Out.{Out}
+use Rattle.world.specs.declared.event.Entry.{Entry}
+use Rattle.world.specs.declared.event.Event as events
+use Rattle.world.specs.declared.event.Event.TheVariants as event
 use Rattle.world.specs.declared.fault.Fault.{Fault}
-use Rattle.world.specs.Happening.{told_by_desk}
-use Rattle.world.specs.Runs.{IsRun, RunsOn}
+use Rattle.world.specs.Events.{IsEvent}
+use Rattle.world.specs.Happening.{IsAtSite, told_by_desk}
+use Rattle.world.specs.Machines.{Asked, Came, Leads, Machines, happens_at, world_of}
+use Rattle.world.specs.Posted.{letters_in}
+use Rattle.world.specs.Runs.{IsRun, RunsOn, entry_of}
+use Rattle.world.specs.Seated.{place_of}
+use Rattle.world.specs.Telling.{Shows}
+use Rattle.world.proofs.Told.{at_site_silent, comes_silent, events_both, one_more, silent_step, tells_more}
 
-one_more : {L : Lang} (events : List (Event L)) (e : Event L) (w : World L) → run (events ++ e ∷ []) w ≡ happens (run events w) e
-one_more [] e w = refl
-one_more (first ∷ events) e w = one_more events e (happens w first)
+one_event_more : {L : Lang} (es : List (world.Event L)) (e : world.Event L) (w : World L) → run (es ++ e ∷ []) w ≡ happens (run es w) e
+one_event_more [] e w = refl
+one_event_more (first ∷ es) e w = one_event_more es e (happens w first)
 
 all_both : {A : Type 0} (P : A → Type 0) (xs ys : List A) → AllByRecursion P xs → AllByRecursion P ys → AllByRecursion P (xs ++ ys)
 all_both P [] ys one other = other
 all_both P (x ∷ xs) ys one other = (one.0, all_both P xs ys one.1 other)
 
-pub runs_on : (db : Database) (whole : Relations) (before after : Machines) (posted out : List letters.Letter) (past : List (Deed (language db))) (notices : List Notice) (step : World (language db) → World (language db)) (e : Event (language db)) →
-    IsRun db whole before posted past → Leads db step before after out notices → happens (world_of db before (map (sent db) posted) past) e ≡ step (world_of db before (map (sent db) posted) past) → RunsOn db whole after (posted ++ out) past notices
-runs_on db whole before after posted out past notices step e so leads event = record {
+pub runs_on : (db : Database) (whole : Relations) (before after : Machines) (entries : List Entry) (past : List (Deed (language db))) (what : events.Event) (out : Out) (step : World (language db) → World (language db)) (e : world.Event (language db)) →
+    IsRun db whole before entries past → (leads : Leads db step before after out.letters out.replies) → happens (world_of db before (map (sent db) (letters_in entries)) past) e ≡ step (world_of db before (map (sent db) (letters_in entries)) past) →
+    IsEvent db what out.kept e → Shows db what leads.deeds → RunsOn db whole after (entries ++ entry_of what out ∷ []) past
+runs_on db whole before after entries past what out step e so leads event is_event shows = record {
   deeds = leads.deeds;
   run_on = record {
     opening = so.opening;
     opens = so.opens;
     events = so.events ++ e ∷ [];
-    is = one_more so.events e so.opening ∙ ap (λ w. happens w e) so.is ∙ event ∙ leads.is (map (sent db) posted) past ∙ ap (λ (all : List (Letter (language db))). world_of db after all (past ++ leads.deeds)) (sym (map-append (sent db) posted out));
+    are = events_both db entries (entry_of what out ∷ []) so.events (e ∷ []) so.are (is_event, tt);
+    is = one_event_more so.events e so.opening ∙ ap (λ w. happens w e) so.is ∙ event ∙ leads.is (map (sent db) (letters_in entries)) past ∙
+        ap (λ (all : List (Letter (language db))). world_of db after all (past ++ leads.deeds)) (sym (map-append (sent db) (letters_in entries) out.letters) ∙ ap (map (sent db)) (sym (one_more (λ (entry : Entry). entry.out.letters) entries (entry_of what out))));
     explained = all_both Explained past leads.deeds so.explained leads.explained;
+    tells = tells_more db entries (entry_of what out) past leads.deeds so.tells shows leads.replies;
     fit = leads.fit;
   };
-  replies = leads.replies;
 }
 
 -- ---- the events
@@ -61,11 +73,13 @@ sent_at db [] (suc n) letter e = cc
 sent_at db (l ∷ posted) zero letter e = ap (λ x. Some (sent db x)) (some_is e)
 sent_at db (l ∷ posted) (suc n) letter e = sent_at db posted n letter e
 
-pub comes_on : (db : Database) (whole : Relations) (before after : Machines) (posted out : List letters.Letter) (past : List (Deed (language db))) (notices : List Notice) (n : ℕ) (letter : letters.Letter) (kept : Bool) →
-    IsRun db whole before posted past → slice_get posted n ≡ Some letter → Came db letter kept before after out notices → RunsOn db whole after (posted ++ out) past notices
-comes_on db whole before after posted out past notices n letter kept so there came =
-    runs_on db whole before after posted out past notices (λ w. comes w kept came.choice (sent db letter)) (Deliver n kept came.choice) so came.leads
-    (ap (delivered (world_of db before (map (sent db) posted) past) kept came.choice) (sent_at db posted n letter there))
+pub comes_on : (db : Database) (whole : Relations) (before after : Machines) (entries : List Entry) (past : List (Deed (language db))) (out : Out) (n : ℕ) (letter : letters.Letter) (kept : Bool) →
+    IsRun db whole before entries past → slice_get (letters_in entries) n ≡ Some letter → Came db letter out.kept before after out.letters out.replies → RunsOn db whole after (entries ++ entry_of (event.Deliver n kept) out ∷ []) past
+comes_on db whole before after entries past out n letter kept so there came =
+    let step : World (language db) → World (language db) = λ w. comes w out.kept came.choice (sent db letter) in
+    runs_on db whole before after entries past (event.Deliver n kept) out step (world.Deliver n out.kept came.choice) so came.leads
+    (ap (delivered (world_of db before (map (sent db) (letters_in entries)) past) out.kept came.choice) (sent_at db (letters_in entries) n letter there)) (came.choice, refl)
+    (silent_step db before after out.letters out.replies (event.Deliver n kept) step came.leads refl refl (comes_silent (world_of db before [] []) out.kept came.choice (sent db letter) refl))
 
 -- ---- what clients ask for
 pub over_of : (db : Database) (catalog : List (List ℕ) × List SplitRelation) → IsOfCatalogue db → db.catalogue ≡ catalogue_of catalog → IsOver db catalog.0
@@ -77,23 +91,37 @@ over_of db catalog of is =
 abbrev pub no_choice : (db : Database) → Choice (language db)
 no_choice db = (Exists, [])
 
-pub called_on : (db : Database) (whole : Relations) (before after : Machines) (posted out : List letters.Letter) (past : List (Deed (language db))) (notices : List Notice) (t : Name) (choice : Choice (language db)) (request : Request (language db)) →
-    IsRun db whole before posted past → Leads db (λ w. called w t choice request) before after out notices → RunsOn db whole after (posted ++ out) past notices
-called_on db whole before after posted out past notices t choice request so leads = runs_on db whole before after posted out past notices (λ w. called w t choice request) (Call t request choice) so leads refl
+pub called_on : (db : Database) (whole : Relations) (before after : Machines) (entries : List Entry) (past : List (Deed (language db))) (what : events.Event) (out : Out) (txn : names.Txn) (choice : Choice (language db)) (request : Request (language db)) →
+    IsRun db whole before entries past → (asked : Asked db txn choice request before after out.letters out.replies) → IsEvent db what out.kept (world.Call (txn_name txn) request choice) → Shows db what asked.leads.deeds → RunsOn db whole after (entries ++ entry_of what out ∷ []) past
+called_on db whole before after entries past what out txn choice request so asked is shows =
+    runs_on db whole before after entries past what out (λ w. called w (txn_name txn) choice request) (world.Call (txn_name txn) request choice) so asked.leads refl is shows
 
 -- ---- what happens at a site
-pub done_on : (db : Database) (whole : Relations) (before after : Machines) (posted out : List letters.Letter) (past : List (Deed (language db))) (notices : List Notice) (what : doing.Doing) (kept : Bool) (choice : Choice (language db)) →
-    is_letter what ≡ false → list_any (λ site. pointwise nat_eq site (place_of what)) db.sites ≡ true → IsRun db whole before posted past → Leads db (happens_at db what kept choice) before after out notices → RunsOn db whole after (posted ++ out) past notices
-done_on db whole before after posted out past notices (Take letter) kept choice letterless there so leads = absurd cc
-done_on db whole before after posted out past notices (GiveUp site ticket) kept choice letterless there so leads =
-    let w = world_of db before (map (sent db) posted) past in
-    runs_on db whole before after posted out past notices (λ w. gives_up w site (name_of ticket)) (Site_gives_up site (name_of ticket)) so leads (if_true (list_any (λ b. pointwise nat_eq b site) db.sites) (gives_up w site (name_of ticket)) w there)
-done_on db whole before after posted out past notices (Inquire site) kept choice letterless there so leads =
-    let w = world_of db before (map (sent db) posted) past in
-    runs_on db whole before after posted out past notices (λ w. inquires w site) (Site_inquires site) so leads (if_true (list_any (λ b. pointwise nat_eq b site) db.sites) (inquires w site) w there)
-done_on db whole before after posted out past notices (Restart site) kept choice letterless there so leads =
-    let w = world_of db before (map (sent db) posted) past in
-    runs_on db whole before after posted out past notices (λ w. restarts w site) (Site_restarts site true) so leads (if_true (list_any (λ b. pointwise nat_eq b site) db.sites) (restarts w site) w there)
+pub done_on : (db : Database) (whole : Relations) (before after : Machines) (entries : List Entry) (past : List (Deed (language db))) (what : doing.Doing) (at : events.Event) (kept : Bool) (out : Out) (choice : Choice (language db)) →
+    IsAtSite what kept at → ((site : List ℕ) → what ≡ Restart site → kept ≡ true) → list_any (λ site. pointwise nat_eq site (place_of what)) db.sites ≡ true → IsRun db whole before entries past → Leads db (happens_at db what out.kept choice) before after out.letters out.replies →
+    RunsOn db whole after (entries ++ entry_of at out ∷ []) past
+done_on db whole before after entries past (Take letter) at kept out choice is called there so leads = absurd is
+done_on db whole before after entries past (GiveUp site ticket) at kept out choice is called there so leads =
+    let w = world_of db before (map (sent db) (letters_in entries)) past in
+    let bare = world_of db before [] [] in
+    let step : World (language db) → World (language db) = λ w. gives_up w site (name_of ticket) in
+    subst (λ e. RunsOn db whole after (entries ++ entry_of e out ∷ []) past) (sym is)
+    (runs_on db whole before after entries past (event.SiteGivesUp site ticket) out step (world.Site_gives_up site (name_of ticket)) so leads (if_true (list_any (λ b. pointwise nat_eq b site) db.sites) (step w) w there) refl
+    (silent_step db before after out.letters out.replies (event.SiteGivesUp site ticket) step leads refl refl (at_site_silent bare site (site_after (bare.sites site) (on_give_up (name_of ticket) ((bare.sites site).status (name_of ticket)))) [] refl)))
+done_on db whole before after entries past (Inquire site) at kept out choice is called there so leads =
+    let w = world_of db before (map (sent db) (letters_in entries)) past in
+    let step : World (language db) → World (language db) = λ w. inquires w site in
+    subst (λ e. RunsOn db whole after (entries ++ entry_of e out ∷ []) past) (sym is)
+    (runs_on db whole before after entries past (event.SiteInquires site) out step (world.Site_inquires site) so leads (if_true (list_any (λ b. pointwise nat_eq b site) db.sites) (step w) w there) refl
+    (silent_step db before after out.letters out.replies (event.SiteInquires site) step leads refl refl (refl, refl)))
+done_on db whole before after entries past (Restart site) at kept out choice is called there so leads =
+    let w = world_of db before (map (sent db) (letters_in entries)) past in
+    let bare = world_of db before [] [] in
+    let step : World (language db) → World (language db) = λ w. restarts w site in
+    let restarted : at ≡ event.SiteRestarts site true = is ∙ ap (event.SiteRestarts site) (called site refl) in
+    subst (λ e. RunsOn db whole after (entries ++ entry_of e out ∷ []) past) (sym restarted)
+    (runs_on db whole before after entries past (event.SiteRestarts site true) out step (world.Site_restarts site true) so leads (if_true (list_any (λ b. pointwise nat_eq b site) db.sites) (step w) w there) refl
+    (silent_step db before after out.letters out.replies (event.SiteRestarts site true) step leads refl refl (at_site_silent bare site (site_restarted (bare.sites site)) [] refl)))
 
 -- what the coordinator answers is answered on
 pub by_desk_ok : (P : Out → Type 0) (done : Result Out Refusal) (result : Result Out Fault) → result ≡ told_by_desk done → IfOk done P → IfOk result P

@@ -7,6 +7,9 @@ pub mod Filling
 pub mod Opening
 pub mod Placed
 pub mod Posted
+pub mod Telling
+pub mod Events
+pub mod Refused
 pub mod Runs
 pub mod Happening
 pub mod Base

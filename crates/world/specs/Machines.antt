@@ -1,5 +1,5 @@
 -- The machines of a database together, as the protocol's world.
-use Rattle.std.specs.Prelude.{◌≡◌, ℕ, nat_eq, Bool, true, false, List, ◌++◌, map}
+use Rattle.std.specs.Prelude.{◌≡◌, ℕ, nat_eq, Bool, true, false, List, ◌++◌, map, None}
 use Rattle.std.specs.Cmp.Lexicographic.{pointwise}
 use Rattle.std.specs.List.{filter_map, list_any}
 use Rattle.meaning.specs.declared.statement.Statement.{Statement}
@@ -10,12 +10,13 @@ use Rattle.store.specs.declared.letter.Body.TheVariants as body
 use Rattle.store.specs.declared.letter.Letter as letters
 use Rattle.store.specs.declared.name.Txn.{Txn}
 use Rattle.store.specs.DeskContent.{DeskContent}
-use Rattle.protocol.specs.Desk.{Choice, Deed, State, is_desk_within}
+use Rattle.protocol.specs.Desk.{Choice, Deed, Request, State, is_desk_within, on_request, refusal}
 use Rattle.protocol.specs.Letter.{Letter}
 use Rattle.protocol.specs.Serial.{AllExplained}
 use Rattle.protocol.specs.Letters.{name_of, txn_name}
 use Rattle.protocol.specs.World.{World, called, comes, gives_up, inquires, restarts}
 use Rattle.desk.specs.declared.reply.Notice.{Notice}
+use Rattle.desk.specs.Calls.{txn_in}
 use Rattle.desk.specs.Database.{Database, language, sent, statements}
 use Rattle.desk.specs.State.{Fits, Table, desk_of, notice_of}
 use Rattle.desk.specs.Turn.{told}
@@ -75,12 +76,18 @@ pub record Leads (db : Database) (step : World (language db) → World (language
   pub explained : AllExplained deeds
   pub replies : map notice_of notices ≡ filter_map (told db) deeds
 
+-- what a client asks for is accepted, and done
+pub record Asked (db : Database) (txn : Txn) (choice : Choice (language db)) (request : Request (language db)) (before after : Machines) (out : List letters.Letter) (notices : List Notice) : Type 0 where
+  pub leads : Leads db (λ w. called w (txn_name txn) choice request) before after out notices
+  pub accepted : refusal request (txn_in db before.table txn) ≡ None
+  pub all : leads.deeds ≡ (on_request (txn_name txn) choice request (txn_in db before.table txn)).deeds
+
 -- a statement of a transaction is stated: the text is its text
 pub record Stated (db : Database) (txn : Txn) (text : List ℕ) (before after : Machines) (out : List letters.Letter) (notices : List Notice) : Type 0 where
   pub statement : Statement
   pub choice : Choice (language db)
   pub spelled : IsTextOf db.schemas text (command.Run statement)
-  pub leads : Leads db (λ w. called w (txn_name txn) choice (State statement)) before after out notices
+  pub asked : Asked db txn choice (State statement) before after out notices
 
 -- a letter comes to the machine that it is for; kept: whether the store call that it makes is kept
 pub record Came (db : Database) (letter : letters.Letter) (kept : Bool) (before after : Machines) (out : List letters.Letter) (notices : List Notice) : Type 0 where

@@ -1,8 +1,13 @@
 -- The machines and the entries of a world are those of a run of the protocol.
-use Rattle.std.specs.Prelude.{◌≡◌, List, ◌++◌, ◌∷◌, [], map}
+use Rattle.std.specs.Prelude.{◌≡◌, ℕ, List, ◌++◌, ◌∷◌, [], map, ⊥}
+use Rattle.terms.specs.declared.leaf.Leaf.{Leaf}
+use Rattle.meaning.specs.declared.statement.Statement.{Statement}
+use Rattle.reader.specs.declared.command.Command.TheVariants as command
+use Rattle.reader.specs.Command.{IsTextOf}
+use Rattle.store.specs.declared.name.Txn.{Txn}
 use Rattle.meaning.specs.Whole.{Relations}
 use Rattle.protocol.specs.Desk.{Deed}
-use Rattle.protocol.specs.Serial.{AllExplained, IsOpening, IsSerial}
+use Rattle.protocol.specs.Serial.{AllExplained, IsOpening, serial_answers, serial_whole, settled}
 use Rattle.protocol.specs.World.{Event, World, run}
 use Rattle.desk.specs.declared.reply.Out.{Out}
 use Rattle.desk.specs.Database.{Database, language, sent}
@@ -11,7 +16,7 @@ use Rattle.world.specs.declared.event.Event as events
 use Rattle.world.specs.Events.{AreEvents}
 use Rattle.world.specs.Machines.{AreFit, Machines, world_of}
 use Rattle.world.specs.Posted.{letters_in}
-use Rattle.world.specs.Telling.{Tells}
+use Rattle.world.specs.Telling.{Tells, answers_to, committed_in, texts_of}
 
 -- from an opening over whole relations the events of the entries lead to the world of these machines, of the letters that the entries put out, and of deeds that they tell
 pub record IsRun (db : Database) (whole : Relations) (machines : Machines) (entries : List Entry) (past : List (Deed (language db))) : Type 0 where
@@ -33,6 +38,20 @@ pub record RunsOn (db : Database) (whole : Relations) (machines : Machines) (ent
 abbrev pub entry_of : events.Event → Out → Entry
 entry_of what out = record { event = what; out = out }
 
--- the serial law of the machines at hand: after each run of them the committed transactions, one after another over whole relations, give the answers that were given and what the settled fragments rebuild
+-- texts are those of statements, one by one
+abbrev pub AreTexts : Database → List (List ℕ) → List Statement → Type 0
+AreTexts db [] [] = Unit
+AreTexts db [] (s ∷ ss) = ⊥
+AreTexts db (text ∷ texts) [] = ⊥
+AreTexts db (text ∷ texts) (s ∷ ss) = IsTextOf db.schemas text (command.Run s) × AreTexts db texts ss
+
+-- the committed transactions, run one after another over whole relations in the order in which their commits were asked for, give the answers that their clients heard and what the settled fragments rebuild; statements: those of the texts that they stated
+pub record IsSerialRun (db : Database) (whole : Relations) (machines : Machines) (entries : List Entry) : Type 0 where
+  pub statements : Txn → List Statement
+  pub spelled : (txn : Txn) → AreTexts db (texts_of entries txn) (statements txn)
+  pub answers : map (answers_to entries) (committed_in entries) ≡ serial_answers (language db) (map statements (committed_in entries)) whole
+  pub rebuilt : (leaf : Leaf) → settled (world_of db machines [] []) leaf ≡ db.content leaf (serial_whole (language db) (map statements (committed_in entries)) whole)
+
+-- the serial law of the machines at hand: each run of them is serial
 abbrev pub RunsAreSerial : Database → Type 0
-RunsAreSerial db = (whole : Relations) (machines : Machines) (entries : List Entry) (past : List (Deed (language db))) → IsRun db whole machines entries past → IsSerial whole (world_of db machines (map (sent db) (letters_in entries)) past)
+RunsAreSerial db = (whole : Relations) (machines : Machines) (entries : List Entry) (past : List (Deed (language db))) → IsRun db whole machines entries past → IsSerialRun db whole machines entries

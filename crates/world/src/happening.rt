@@ -1,20 +1,28 @@
 //! Events happen.
 
-ghost use Rattle.std.specs.Prelude.{◌≡◌, ◌++◌, false, List, IfOk, OnErr};
+ghost use Rattle.std.specs.Prelude.{◌≡◌, ◌≢◌, ◌⊎◌, ◌++◌, ◌∷◌, [], false, true, List, Err, IfOk, IfErr, OnErr};
 ghost use Rattle.std.specs.Cmp.Lexicographic.{pointwise};
 ghost use Rattle.std.specs.List.{list_any};
 ghost use Rattle.std.specs.Prelude.{nat_eq};
 ghost use Rattle.meaning.specs.Whole.{Relations};
 ghost use Rattle.catalog.specs.Relation.{catalogue_of};
-ghost use Rattle.store.specs.declared.letter.Letter.{Letter as LetterNow};
 ghost use Rattle.protocol.specs.Desk.{Deed};
 ghost use Rattle.desk.specs.Database.{Database, language};
 ghost use Rattle.desk.specs.OfCatalogue.{IsOfCatalogue};
 ghost use Rattle.world.specs.Held.{OfStores, held};
-ghost use Rattle.world.specs.Posted.{letters_in};
-ghost use Rattle.world.specs.Machines.{is_letter};
-ghost use Rattle.world.specs.Happening.{told_by_desk};
-ghost use Rattle.world.specs.Runs.{IsRun, RunsOn};
+ghost use Rattle.desk.specs.State.{table_of};
+ghost use Rattle.desk.specs.declared.refusal.Refusal.TheVariants as refusals;
+ghost use Rattle.world.specs.declared.event.Call.{Call as CallNow};
+ghost use Rattle.world.specs.declared.event.Entry.{Entry as EntryNow};
+ghost use Rattle.world.specs.declared.event.Event.{Event as EventNow};
+ghost use Rattle.world.specs.declared.event.Event.TheVariants as events;
+ghost use Rattle.world.specs.declared.fault.Fault.TheVariants as faults;
+ghost use Rattle.world.specs.Events.{is_nowhere, is_unsent};
+ghost use Rattle.world.specs.Happening.{IsAtSite, told_by_desk};
+ghost use Rattle.world.specs.Machines.{AreFit, is_letter};
+ghost use Rattle.world.specs.Refused.{IsRefused, IsToldOf};
+ghost use Rattle.world.specs.Runs.{IsRun, RunsOn, entry_of};
+ghost use Rattle.world.specs.Seated.{place_of};
 
 use crate::doing::Doing;
 use crate::event::{Call, Entry, Event};
@@ -58,7 +66,10 @@ fn deliver<D: DeskStore, S: SiteStore>(
     ensures clean { OfStores D.is_clean S.is_clean machines.new → OfStores D.is_clean S.is_clean machines.old }
     ensures sound { OfStores D.is_clean S.is_clean machines.new → OfStores D.is_sound S.is_sound machines.old → OfStores D.is_sound S.is_sound machines.new }
     ensures ok { (db : Database) (whole : Relations) (past : List (Deed (language db))) → IsOfCatalogue db → db.catalogue ≡ catalogue_of machines.old.desk.catalog → OfStores D.is_clean S.is_clean machines.new → OfStores D.is_sound S.is_sound machines.old
-        → IsRun db whole (held D.kept S.kept machines.old) (letters_in entries.now) past → IfOk result (λ out. RunsOn db whole (held D.kept S.kept machines.new) (letters_in entries.now ++ out.letters) past out.replies) }
+        → IsRun db whole (held D.kept S.kept machines.old) entries.now past → IfOk result (λ out. RunsOn db whole (held D.kept S.kept machines.new) (entries.now ++ entry_of (events.Deliver number kept) out ∷ []) past) }
+    ensures unsent { result ≡ Err faults.Unsent → is_unsent machines.old.desk.catalog.0 entries.now (events.Deliver number kept) ≡ true }
+    ensures nowhere { is_unsent machines.old.desk.catalog.0 entries.now (events.Deliver number kept) ≡ true → result ≡ Err faults.Unsent }
+    ensures catalog { machines.new.desk.catalog ≡ machines.old.desk.catalog }
     ensures err { OfStores D.is_clean S.is_clean machines.new → OfStores D.is_sound S.is_sound machines.old → OnErr result (held D.kept S.kept machines.new ≡ held D.kept S.kept machines.old) }
 {
     let Some(letter) = letter_at(entries, number) else {
@@ -78,8 +89,11 @@ fn call<D: DeskStore, S: SiteStore>(
 ) -> Result<Out, Refusal>
     ensures clean { OfStores D.is_clean S.is_clean machines.new → OfStores D.is_clean S.is_clean machines.old }
     ensures sound { OfStores D.is_clean S.is_clean machines.new → OfStores D.is_sound S.is_sound machines.old → OfStores D.is_sound S.is_sound machines.new }
-    ensures ok { (db : Database) (whole : Relations) (posted : List LetterNow) (past : List (Deed (language db))) → IsOfCatalogue db → db.catalogue ≡ catalogue_of machines.old.desk.catalog
-        → IsRun db whole (held D.kept S.kept machines.old) posted past → IfOk result (λ out. RunsOn db whole (held D.kept S.kept machines.new) (posted ++ out.letters) past out.replies) }
+    ensures ok { (db : Database) (whole : Relations) (entries : List EntryNow) (past : List (Deed (language db))) → IsOfCatalogue db → db.catalogue ≡ catalogue_of machines.old.desk.catalog
+        → IsRun db whole (held D.kept S.kept machines.old) entries past → IfOk result (λ out. RunsOn db whole (held D.kept S.kept machines.new) (entries ++ entry_of (events.Call call.now) out ∷ []) past) }
+    ensures refused { (db : Database) → IsOfCatalogue db → db.catalogue ≡ catalogue_of machines.old.desk.catalog → AreFit db (held D.kept S.kept machines.old)
+        → IfErr result (λ told. (told ≡ refusals.Memory) ⊎ IsRefused db (table_of machines.old.desk.present) call.now told) }
+    ensures catalog { machines.new.desk.catalog ≡ machines.old.desk.catalog }
     ensures err { OnErr result (held D.kept S.kept machines.new ≡ held D.kept S.kept machines.old) }
 {
     match call {
@@ -100,8 +114,11 @@ fn happen_at<D: DeskStore, S: SiteStore>(
     requires { is_letter what ≡ false }
     ensures clean { OfStores D.is_clean S.is_clean machines.new → OfStores D.is_clean S.is_clean machines.old }
     ensures sound { OfStores D.is_clean S.is_clean machines.new → OfStores D.is_sound S.is_sound machines.old → OfStores D.is_sound S.is_sound machines.new }
-    ensures ok { (db : Database) (whole : Relations) (posted : List LetterNow) (past : List (Deed (language db))) → IsOfCatalogue db → db.catalogue ≡ catalogue_of machines.old.desk.catalog → OfStores D.is_clean S.is_clean machines.new → OfStores D.is_sound S.is_sound machines.old
-        → IsRun db whole (held D.kept S.kept machines.old) posted past → IfOk result (λ out. RunsOn db whole (held D.kept S.kept machines.new) (posted ++ out.letters) past out.replies) }
+    ensures ok { (db : Database) (whole : Relations) (entries : List EntryNow) (at : EventNow) (past : List (Deed (language db))) → IsOfCatalogue db → db.catalogue ≡ catalogue_of machines.old.desk.catalog → OfStores D.is_clean S.is_clean machines.new → OfStores D.is_sound S.is_sound machines.old
+        → IsAtSite what kept at → IsRun db whole (held D.kept S.kept machines.old) entries past → IfOk result (λ out. RunsOn db whole (held D.kept S.kept machines.new) (entries ++ entry_of at out ∷ []) past) }
+    ensures unsent { result ≡ Err faults.Unsent → is_nowhere machines.old.desk.catalog.0 (place_of what) ≡ true }
+    ensures nowhere { is_nowhere machines.old.desk.catalog.0 (place_of what) ≡ true → result ≡ Err faults.Unsent }
+    ensures catalog { machines.new.desk.catalog ≡ machines.old.desk.catalog }
     ensures err { OfStores D.is_clean S.is_clean machines.new → OfStores D.is_sound S.is_sound machines.old → OnErr result (held D.kept S.kept machines.new ≡ held D.kept S.kept machines.old) }
 {
     if !has_site(machines.desk.catalog(), what.site()) {
@@ -122,7 +139,12 @@ pub(crate) fn happen<D: DeskStore, S: SiteStore>(
     ensures clean { OfStores D.is_clean S.is_clean machines.new → OfStores D.is_clean S.is_clean machines.old }
     ensures sound { OfStores D.is_clean S.is_clean machines.new → OfStores D.is_sound S.is_sound machines.old → OfStores D.is_sound S.is_sound machines.new }
     ensures ok { (db : Database) (whole : Relations) (past : List (Deed (language db))) → IsOfCatalogue db → db.catalogue ≡ catalogue_of machines.old.desk.catalog → OfStores D.is_clean S.is_clean machines.new → OfStores D.is_sound S.is_sound machines.old
-        → IsRun db whole (held D.kept S.kept machines.old) (letters_in entries.now) past → IfOk result (λ out. RunsOn db whole (held D.kept S.kept machines.new) (letters_in entries.now ++ out.letters) past out.replies) }
+        → IsRun db whole (held D.kept S.kept machines.old) entries.now past → IfOk result (λ out. RunsOn db whole (held D.kept S.kept machines.new) (entries.now ++ entry_of event.now out ∷ []) past) }
+    ensures unsent { result ≡ Err faults.Unsent → is_unsent machines.old.desk.catalog.0 entries.now event.now ≡ true }
+    ensures nowhere { is_unsent machines.old.desk.catalog.0 entries.now event.now ≡ true → (result ≡ Err faults.Unsent) ⊎ (result ≡ Err (faults.Desk refusals.Memory)) }
+    ensures refused { (db : Database) (asked : CallNow) → IsOfCatalogue db → db.catalogue ≡ catalogue_of machines.old.desk.catalog → AreFit db (held D.kept S.kept machines.old) → event.now ≡ events.Call asked
+        → IfErr result (λ fault. (fault ≡ faults.Desk refusals.Memory) ⊎ IsToldOf db (table_of machines.old.desk.present) asked fault) }
+    ensures catalog { machines.new.desk.catalog ≡ machines.old.desk.catalog }
     ensures err { OfStores D.is_clean S.is_clean machines.new → OfStores D.is_sound S.is_sound machines.old → OnErr result (held D.kept S.kept machines.new ≡ held D.kept S.kept machines.old) }
 {
     match event {

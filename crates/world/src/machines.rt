@@ -29,14 +29,19 @@ pub(crate) struct Machines<D: DeskStore, S: SiteStore> {
 }
 
 impl<D: DeskStore, S: SiteStore> Machines<D, S> {
-    ghost use Rattle.std.specs.Prelude.{◌≡◌, false, true, Some, IfOk, OnErr};
+    ghost use Rattle.std.specs.Prelude.{◌≡◌, ◌≢◌, ◌⊎◌, ℕ, List, false, true, Some, Err, IfOk, IfErr, OnOk, OnErr};
     ghost use Rattle.protocol.specs.Desk.{Choice, Commit_call, Give_up, Rollback};
-    ghost use Rattle.protocol.specs.Letters.{txn_name};
-    ghost use Rattle.protocol.specs.World.{begins, called, desk_restarts};
+    ghost use Rattle.desk.specs.State.{table_of};
+    ghost use Rattle.desk.specs.declared.refusal.Refusal.TheVariants as refusals;
+    ghost use Rattle.world.specs.declared.doing.Doing.TheVariants as things;
+    ghost use Rattle.world.specs.declared.event.Call.TheVariants as calls;
+    ghost use Rattle.world.specs.declared.fault.Fault.TheVariants as faults;
+    ghost use Rattle.world.specs.Refused.{IsRefused};
+    ghost use Rattle.protocol.specs.World.{begins, desk_restarts};
     ghost use Rattle.desk.specs.Calls.{IsOver};
     ghost use Rattle.desk.specs.Database.{Database, language};
     ghost use Rattle.world.specs.Held.{OfStores, held};
-    ghost use Rattle.world.specs.Machines.{AreFit, Came, Leads, Stated, happens_at, is_for_site, is_of_site, is_order};
+    ghost use Rattle.world.specs.Machines.{AreFit, Asked, Came, Leads, Stated, happens_at, is_for_site, is_of_site, is_order};
     ghost use Rattle.catalog.specs.Relation.{catalogue_of};
     ghost use Rattle.desk.specs.OfCatalogue.{IsOfCatalogue};
     ghost use Rattle.world.specs.Seated.{place_of};
@@ -48,6 +53,9 @@ impl<D: DeskStore, S: SiteStore> Machines<D, S> {
         ensures sound { OfStores D.is_clean S.is_clean self.new → OfStores D.is_sound S.is_sound self.old → OfStores D.is_sound S.is_sound self.new }
         ensures ok { (db : Database) → IsOver db self.old.desk.catalog.0 → AreFit db (held D.kept S.kept self.old)
             → IfOk result (λ out. Leads db begins (held D.kept S.kept self.old) (held D.kept S.kept self.new) out.letters out.replies) }
+        ensures full { (db : Database) → IsOver db self.old.desk.catalog.0 → AreFit db (held D.kept S.kept self.old)
+            → IfErr result (λ told. (told ≡ refusals.Memory) ⊎ IsRefused db (table_of self.old.desk.present) calls.Begin told) }
+        ensures catalog { self.new.desk.catalog ≡ self.old.desk.catalog }
         ensures err { OnErr result (held D.kept S.kept self.new ≡ held D.kept S.kept self.old) }
     {
         self.desk.begin()
@@ -58,7 +66,9 @@ impl<D: DeskStore, S: SiteStore> Machines<D, S> {
         ensures clean { OfStores D.is_clean S.is_clean self.new → OfStores D.is_clean S.is_clean self.old }
         ensures sound { OfStores D.is_clean S.is_clean self.new → OfStores D.is_sound S.is_sound self.old → OfStores D.is_sound S.is_sound self.new }
         ensures ok { (db : Database) (choice : Choice (language db)) → IsOver db self.old.desk.catalog.0 → AreFit db (held D.kept S.kept self.old)
-            → IfOk result (λ out. Leads db (λ w. called w (txn_name txn) choice Commit_call) (held D.kept S.kept self.old) (held D.kept S.kept self.new) out.letters out.replies) }
+            → IfOk result (λ out. Asked db txn choice Commit_call (held D.kept S.kept self.old) (held D.kept S.kept self.new) out.letters out.replies) }
+        ensures told { (db : Database) → IfErr result (λ told. (told ≡ refusals.Memory) ⊎ IsRefused db (table_of self.old.desk.present) (calls.Commit txn) told) }
+        ensures catalog { self.new.desk.catalog ≡ self.old.desk.catalog }
         ensures err { OnErr result (held D.kept S.kept self.new ≡ held D.kept S.kept self.old) }
     {
         self.desk.commit(txn)
@@ -69,7 +79,9 @@ impl<D: DeskStore, S: SiteStore> Machines<D, S> {
         ensures clean { OfStores D.is_clean S.is_clean self.new → OfStores D.is_clean S.is_clean self.old }
         ensures sound { OfStores D.is_clean S.is_clean self.new → OfStores D.is_sound S.is_sound self.old → OfStores D.is_sound S.is_sound self.new }
         ensures ok { (db : Database) (choice : Choice (language db)) → IsOver db self.old.desk.catalog.0 → AreFit db (held D.kept S.kept self.old)
-            → IfOk result (λ out. Leads db (λ w. called w (txn_name txn) choice Rollback) (held D.kept S.kept self.old) (held D.kept S.kept self.new) out.letters out.replies) }
+            → IfOk result (λ out. Asked db txn choice Rollback (held D.kept S.kept self.old) (held D.kept S.kept self.new) out.letters out.replies) }
+        ensures told { (db : Database) → IfErr result (λ told. (told ≡ refusals.Memory) ⊎ IsRefused db (table_of self.old.desk.present) (calls.Rollback txn) told) }
+        ensures catalog { self.new.desk.catalog ≡ self.old.desk.catalog }
         ensures err { OnErr result (held D.kept S.kept self.new ≡ held D.kept S.kept self.old) }
     {
         self.desk.rollback(txn)
@@ -80,7 +92,9 @@ impl<D: DeskStore, S: SiteStore> Machines<D, S> {
         ensures clean { OfStores D.is_clean S.is_clean self.new → OfStores D.is_clean S.is_clean self.old }
         ensures sound { OfStores D.is_clean S.is_clean self.new → OfStores D.is_sound S.is_sound self.old → OfStores D.is_sound S.is_sound self.new }
         ensures ok { (db : Database) (choice : Choice (language db)) → IsOver db self.old.desk.catalog.0 → AreFit db (held D.kept S.kept self.old)
-            → IfOk result (λ out. Leads db (λ w. called w (txn_name txn) choice Give_up) (held D.kept S.kept self.old) (held D.kept S.kept self.new) out.letters out.replies) }
+            → IfOk result (λ out. Asked db txn choice Give_up (held D.kept S.kept self.old) (held D.kept S.kept self.new) out.letters out.replies) }
+        ensures own { IfErr result (λ told. told ≡ refusals.Memory) }
+        ensures catalog { self.new.desk.catalog ≡ self.old.desk.catalog }
         ensures err { OnErr result (held D.kept S.kept self.new ≡ held D.kept S.kept self.old) }
     {
         self.desk.give_up(txn)
@@ -92,6 +106,7 @@ impl<D: DeskStore, S: SiteStore> Machines<D, S> {
         ensures sound { OfStores D.is_clean S.is_clean self.new → OfStores D.is_sound S.is_sound self.old → OfStores D.is_sound S.is_sound self.new }
         ensures ok { (db : Database) → OfStores D.is_clean S.is_clean self.new → OfStores D.is_sound S.is_sound self.old → AreFit db (held D.kept S.kept self.old)
             → IfOk result (λ out. Leads db desk_restarts (held D.kept S.kept self.old) (held D.kept S.kept self.new) out.letters out.replies) }
+        ensures catalog { self.new.desk.catalog ≡ self.old.desk.catalog }
         ensures err { OfStores D.is_clean S.is_clean self.new → OfStores D.is_sound S.is_sound self.old → OnErr result (held D.kept S.kept self.new ≡ held D.kept S.kept self.old) }
     {
         self.desk.restart_kept(kept)
@@ -103,6 +118,8 @@ impl<D: DeskStore, S: SiteStore> Machines<D, S> {
         ensures sound { OfStores D.is_clean S.is_clean self.new → OfStores D.is_sound S.is_sound self.old → OfStores D.is_sound S.is_sound self.new }
         ensures ok { (db : Database) → IsOfCatalogue db → db.catalogue ≡ catalogue_of self.old.desk.catalog → AreFit db (held D.kept S.kept self.old)
             → IfOk result (λ out. Stated db txn text.now (held D.kept S.kept self.old) (held D.kept S.kept self.new) out.letters out.replies) }
+        ensures told { (db : Database) → db.catalogue ≡ catalogue_of self.old.desk.catalog → IfErr result (λ told. (told ≡ refusals.Memory) ⊎ IsRefused db (table_of self.old.desk.present) (calls.State txn text.now) told) }
+        ensures catalog { self.new.desk.catalog ≡ self.old.desk.catalog }
         ensures err { OnErr result (held D.kept S.kept self.new ≡ held D.kept S.kept self.old) }
     {
         self.desk.statement(txn, text)
@@ -114,6 +131,7 @@ impl<D: DeskStore, S: SiteStore> Machines<D, S> {
         ensures sound { OfStores D.is_clean S.is_clean self.new → OfStores D.is_sound S.is_sound self.old → OfStores D.is_sound S.is_sound self.new }
         ensures ok { (db : Database) → IsOfCatalogue db → db.catalogue ≡ catalogue_of self.old.desk.catalog → OfStores D.is_clean S.is_clean self.new → OfStores D.is_sound S.is_sound self.old → AreFit db (held D.kept S.kept self.old) → is_order letter.now.body ≡ false → is_of_site db letter.now ≡ true
             → IfOk result (λ out. Came db letter.now out.kept (held D.kept S.kept self.old) (held D.kept S.kept self.new) out.letters out.replies) }
+        ensures catalog { self.new.desk.catalog ≡ self.old.desk.catalog }
         ensures err { OfStores D.is_clean S.is_clean self.new → OfStores D.is_sound S.is_sound self.old → OnErr result (held D.kept S.kept self.new ≡ held D.kept S.kept self.old) }
     {
         self.desk.take_kept(letter, kept)
@@ -125,6 +143,8 @@ impl<D: DeskStore, S: SiteStore> Machines<D, S> {
         ensures sound { OfStores D.is_clean S.is_clean self.new → OfStores D.is_sound S.is_sound self.old → OfStores D.is_sound S.is_sound self.new }
         ensures ok { (db : Database) → IsOfCatalogue db → db.catalogue ≡ catalogue_of self.old.desk.catalog → OfStores D.is_clean S.is_clean self.new → OfStores D.is_sound S.is_sound self.old → AreFit db (held D.kept S.kept self.old) → is_of_site db letter ≡ true
             → IfOk result (λ out. Came db letter out.kept (held D.kept S.kept self.old) (held D.kept S.kept self.new) out.letters out.replies) }
+        ensures sent { result ≢ Err faults.Unsent }
+        ensures catalog { self.new.desk.catalog ≡ self.old.desk.catalog }
         ensures err { OfStores D.is_clean S.is_clean self.new → OfStores D.is_sound S.is_sound self.old → OnErr result (held D.kept S.kept self.new ≡ held D.kept S.kept self.old) }
     {
         if !is_order(&letter.body) {
@@ -146,6 +166,8 @@ impl<D: DeskStore, S: SiteStore> Machines<D, S> {
         ensures sound { OfStores D.is_clean S.is_clean self.new → OfStores D.is_sound S.is_sound self.old → OfStores D.is_sound S.is_sound self.new }
         ensures ok { (db : Database) (choice : Choice (language db)) (seat : Seat) → OfStores D.is_clean S.is_clean self.new → OfStores D.is_sound S.is_sound self.old → AreFit db (held D.kept S.kept self.old) → seat_of (place_of what) (held D.kept S.kept self.old).seats ≡ Some seat
             → IfOk result (λ out. Leads db (happens_at db what out.kept choice) (held D.kept S.kept self.old) (held D.kept S.kept self.new) out.letters out.replies) }
+        ensures called { (site : List ℕ) → what ≡ things.Restart site → OnOk result (kept ≡ true) }
+        ensures catalog { self.new.desk.catalog ≡ self.old.desk.catalog }
         ensures err { OfStores D.is_clean S.is_clean self.new → OfStores D.is_sound S.is_sound self.old → OnErr result (held D.kept S.kept self.new ≡ held D.kept S.kept self.old) }
     {
         match do_among(self.alloc, &mut self.sites, what, kept) {

@@ -11,10 +11,13 @@ use store::letter::Letter;
 pub(crate) fn letter_at<'a>(entries: &'a [Entry], number: usize) -> Option<&'a Letter>
     ensures { option_copied result ≡ slice_get (letters_in entries.now) number }
 {
-    let (first, rest) = entries.split_first()?;
-    let letters = first.out.letters.as_slice();
-    if number < letters.len() {
-        return letters.get(number);
+    let mut left = number;
+    for entry in entries {
+        let letters = entry.out.letters.as_slice();
+        if left < letters.len() {
+            return letters.get(left);
+        }
+        left -= letters.len();
     }
-    letter_at(rest, number - letters.len())
+    None
 }

@@ -1,6 +1,7 @@
 //! The sites of a database, each under its name.
 
-ghost use Rattle.std.specs.Prelude.{◌≡◌, Some, IfOk, OnErr};
+ghost use Rattle.std.specs.Prelude.{◌≡◌, ℕ, List, Some, IfOk, OnErr, OnOk, true};
+ghost use Rattle.world.specs.declared.doing.Doing.TheVariants as things;
 ghost use Rattle.std.specs.List.{AllByRecursion};
 ghost use Rattle.world.specs.Seats.{AreSeated, IsSeated, Seat, is_called, seat_of};
 ghost use Rattle.world.specs.Seated.{SeatDoes, SomeSeatDoes, place_of, seat_from, seats_in};
@@ -31,6 +32,7 @@ fn do_one<S: SiteStore>(
     ensures sound { S.is_clean site.new.store → S.is_sound site.old.store → S.is_sound site.new.store }
     ensures ok { S.is_clean site.new.store → S.is_sound site.old.store → IsSeated (seat_from S.kept site.old)
         → IfOk result (λ letters. SeatDoes what (seat_from S.kept site.old) (seat_from S.kept site.new) letters.items) }
+    ensures called { (site : List ℕ) → what ≡ things.Restart site → OnOk result (kept ≡ true) }
     ensures err { S.is_clean site.new.store → S.is_sound site.old.store → OnErr result (seat_from S.kept site.new ≡ seat_from S.kept site.old) }
 {
     match what {
@@ -50,7 +52,7 @@ fn do_one<S: SiteStore>(
     }
 }
 
-/// Something is done at the site that it names. Where there is none, nothing is done.
+/// Something is done at the site that it names. Where there is none, it is a stranger's.
 fn do_at<S: SiteStore>(
     alloc: Global,
     sites: &mut [Site<S>],
@@ -61,10 +63,11 @@ fn do_at<S: SiteStore>(
     ensures sound { AllByRecursion (λ site. S.is_clean site.store) sites.new → AllByRecursion (λ site. S.is_sound site.store) sites.old → AllByRecursion (λ site. S.is_sound site.store) sites.new }
     ensures ok { (seat : Seat) → AllByRecursion (λ site. S.is_clean site.store) sites.new → AllByRecursion (λ site. S.is_sound site.store) sites.old → AreSeated (seats_in S.kept sites.old) → seat_of (place_of what) (seats_in S.kept sites.old) ≡ Some seat
         → IfOk result (λ letters. SomeSeatDoes what seat (seats_in S.kept sites.old) (seats_in S.kept sites.new) letters.items) }
+    ensures called { (site : List ℕ) → what ≡ things.Restart site → OnOk result (kept ≡ true) }
     ensures err { AllByRecursion (λ site. S.is_clean site.store) sites.new → AllByRecursion (λ site. S.is_sound site.store) sites.old → OnErr result (seats_in S.kept sites.new ≡ seats_in S.kept sites.old) }
 {
     let Some((site, rest)) = sites.split_first_mut() else {
-        return Ok(Vec::new(alloc));
+        return Err(SiteFault::Stranger);
     };
     if !is_called(site, what.site()) {
         return do_at(alloc, rest, what, kept);
@@ -83,6 +86,7 @@ pub(crate) fn do_among<S: SiteStore>(
     ensures sound { AllByRecursion (λ site. S.is_clean site.store) sites.new.items → AllByRecursion (λ site. S.is_sound site.store) sites.old.items → AllByRecursion (λ site. S.is_sound site.store) sites.new.items }
     ensures ok { (seat : Seat) → AllByRecursion (λ site. S.is_clean site.store) sites.new.items → AllByRecursion (λ site. S.is_sound site.store) sites.old.items → AreSeated (seats_in S.kept sites.old.items) → seat_of (place_of what) (seats_in S.kept sites.old.items) ≡ Some seat
         → IfOk result (λ letters. SomeSeatDoes what seat (seats_in S.kept sites.old.items) (seats_in S.kept sites.new.items) letters.items) }
+    ensures called { (site : List ℕ) → what ≡ things.Restart site → OnOk result (kept ≡ true) }
     ensures err { AllByRecursion (λ site. S.is_clean site.store) sites.new.items → AllByRecursion (λ site. S.is_sound site.store) sites.old.items → OnErr result (seats_in S.kept sites.new.items ≡ seats_in S.kept sites.old.items) }
 {
     do_at(alloc, sites.as_mut_slice(), what, kept)

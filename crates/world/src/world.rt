@@ -1,6 +1,6 @@
 //! Worlds: the machines of a database, and every event that has happened with the letters that it put out.
 
-ghost use Rattle.std.specs.Prelude.{◌≡◌, ◌++◌, ◌∷◌, [], List, OnOk, OnErr, IfOk};
+ghost use Rattle.std.specs.Prelude.{◌≡◌, ◌⊎◌, ◌++◌, ◌∷◌, [], true, List, Err, OnOk, OnErr, IfOk, IfErr};
 ghost use Rattle.meaning.specs.Whole.{FitsSchema, Relations};
 ghost use Rattle.catalog.specs.FragmentLeaf.{schemas_of};
 ghost use Rattle.catalog.specs.Relation.{catalogue_of};
@@ -9,9 +9,14 @@ ghost use Rattle.store.specs.PlainDesk.{kept_of as desk_kept};
 ghost use Rattle.store.specs.PlainSite.{IsSound, kept_of};
 ghost use Rattle.desk.specs.Database.{language};
 ghost use Rattle.world.specs.Base.{database};
-ghost use Rattle.world.specs.declared.event.Entry.{Entry as EntryNow};
+ghost use Rattle.desk.specs.State.{table_of};
+ghost use Rattle.desk.specs.declared.refusal.Refusal.TheVariants as refusals;
+ghost use Rattle.world.specs.declared.event.Call.{Call as CallNow};
+ghost use Rattle.world.specs.declared.event.Event.TheVariants as events;
+ghost use Rattle.world.specs.declared.fault.Fault.TheVariants as faults;
+ghost use Rattle.world.specs.Events.{is_unsent};
 ghost use Rattle.world.specs.Held.{OfStores, held};
-ghost use Rattle.world.specs.Posted.{letters_in};
+ghost use Rattle.world.specs.Refused.{IsToldOf};
 ghost use Rattle.world.specs.Runs.{IsRun, RunsOn};
 
 use crate::event::{Entry, Event};
@@ -59,16 +64,23 @@ pub fn open(
 }
 
 impl<D: DeskStore, S: SiteStore> World<D, S> {
-    /// An event happens. On a fault nothing has changed.
-    pub fn step(&mut self, event: Event) -> Result<(), Fault>
+    /// An event happens, and its entry is answered. On a fault nothing has changed: `Unsent` where no letter has
+    /// the number, or no site the name; else why the machine refused, or want of memory.
+    pub fn step(&mut self, event: Event) -> Result<&Entry, Fault>
         ensures clean { OfStores D.is_clean S.is_clean self.new.machines → OfStores D.is_clean S.is_clean self.old.machines }
         ensures sound { OfStores D.is_clean S.is_clean self.new.machines → OfStores D.is_sound S.is_sound self.old.machines → OfStores D.is_sound S.is_sound self.new.machines }
         ensures ok { (whole : Relations) (past : List (Deed (language (database (catalogue_of self.old.machines.desk.catalog)))))
             → OfStores D.is_clean S.is_clean self.new.machines → OfStores D.is_sound S.is_sound self.old.machines
-            → IsRun (database (catalogue_of self.old.machines.desk.catalog)) whole (held D.kept S.kept self.old.machines) (letters_in self.old.entries.items) past
-            → OnOk result ((entry : EntryNow) × ((self.new.entries.items ≡ self.old.entries.items ++ entry ∷ [])
-            × RunsOn (database (catalogue_of self.old.machines.desk.catalog)) whole (held D.kept S.kept self.new.machines) (letters_in self.new.entries.items) past entry.out.replies)) }
+            → IsRun (database (catalogue_of self.old.machines.desk.catalog)) whole (held D.kept S.kept self.old.machines) self.old.entries.items past
+            → OnOk result (RunsOn (database (catalogue_of self.old.machines.desk.catalog)) whole (held D.kept S.kept self.new.machines) self.new.entries.items past) }
+        ensures entry { IfOk result (λ entry. (entry.now.event ≡ event) × (self.new.entries.items ≡ self.old.entries.items ++ entry.now ∷ [])) }
+        ensures unsent { result ≡ Err faults.Unsent → is_unsent self.old.machines.desk.catalog.0 self.old.entries.items event ≡ true }
+        ensures nowhere { is_unsent self.old.machines.desk.catalog.0 self.old.entries.items event ≡ true → (result ≡ Err faults.Unsent) ⊎ (result ≡ Err (faults.Desk refusals.Memory)) }
+        ensures refused { (whole : Relations) (past : List (Deed (language (database (catalogue_of self.old.machines.desk.catalog))))) (asked : CallNow)
+            → IsRun (database (catalogue_of self.old.machines.desk.catalog)) whole (held D.kept S.kept self.old.machines) self.old.entries.items past → event ≡ events.Call asked
+            → IfErr result (λ fault. (fault ≡ faults.Desk refusals.Memory) ⊎ IsToldOf (database (catalogue_of self.old.machines.desk.catalog)) (table_of self.old.machines.desk.present) asked fault) }
         ensures err { OfStores D.is_clean S.is_clean self.new.machines → OfStores D.is_sound S.is_sound self.old.machines → OnErr result (held D.kept S.kept self.new.machines ≡ held D.kept S.kept self.old.machines) }
+        ensures catalog { self.new.machines.desk.catalog ≡ self.old.machines.desk.catalog }
         ensures same { OnErr result (self.new.entries.items ≡ self.old.entries.items) }
     {
         database_is_of_catalogue(self.machines.desk.catalog());
@@ -77,7 +89,10 @@ impl<D: DeskStore, S: SiteStore> World<D, S> {
         }
         let out = happen(&mut self.machines, self.entries.as_slice(), &event)?;
         self.entries.push_reserved(Entry { event, out });
-        Ok(())
+        match self.entries.last() {
+            Some(entry) => Ok(entry),
+            None => unreachable!(),
+        }
     }
 
     /// What has happened, oldest first.

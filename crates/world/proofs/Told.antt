@@ -1,0 +1,131 @@
+-- What the entries of a run tell, event by event.
+use Rattle.std.proofs.Common.{◌≡◌, refl, sym, ap, ◌∙◌, subst, ℕ, Bool, true, false, List, [], ◌∷◌, ◌++◌, map, filter_map, flat_map, None, if◌then◌else◌}
+use Rattle.std.proofs.lemmas.List.{append-nil, map-append}
+use Rattle.std.proofs.lemmas.List.Elements.{filter_map-append}
+use Rattle.std.proofs.lemmas.Grind.{flat_map-append}
+use Rattle.meaning.specs.declared.statement.Statement.{Statement}
+use Rattle.reader.specs.declared.command.Command.TheVariants as command
+use Rattle.reader.specs.Command.{IsTextOf}
+use Rattle.store.specs.declared.letter.Letter as letters
+use Rattle.store.specs.declared.name.Txn as names
+use Rattle.protocol.specs.Desk.{Choice, Commit_call, Deed, Desk, Give_up, Request, Rollback, State, Turn, Txn, desk_after, desk_began, desk_restarted, is_desk_within, next_txn, on_desk_letter, on_request, Began}
+use Rattle.protocol.specs.Language.{Lang, Name}
+use Rattle.protocol.specs.Letter.{Letter, is_for_desk}
+use Rattle.protocol.specs.Letters.{txn_name}
+use Rattle.protocol.specs.Serial.{phased_of, phases_of}
+use Rattle.protocol.specs.Site.{SiteState, is_within, on_letter, said, site_after}
+use Rattle.protocol.specs.World as world
+use Rattle.protocol.specs.World.{World, addressed, begins, begun, called, comes, comes_to, desk_lives, desk_restarts, gives_up, inquires, restarts, site_steps, turned, turns, with_site}
+use Rattle.protocol.proofs.Basics.{either}
+use Rattle.desk.specs.declared.reply.Notice.{Notice}
+use Rattle.desk.specs.Calls.{txn_in}
+use Rattle.desk.specs.Database.{Database, language}
+use Rattle.desk.specs.State.{notice_of}
+use Rattle.desk.specs.Turn.{told}
+use Rattle.world.specs.declared.doing.Doing as doing
+use Rattle.world.specs.declared.doing.Doing.TheVariants.{GiveUp, Inquire, Restart, Take}
+use Rattle.world.specs.declared.event.Entry.{Entry}
+use Rattle.world.specs.declared.event.Event as events
+use Rattle.world.specs.Events.{AreEvents, IsEvent}
+use Rattle.world.specs.Machines.{Asked, Leads, Machines, happens_at, world_of}
+use Rattle.world.specs.Telling.{AreStated, Shows, Tells, notices_in, phased_by, phased_in, stated_by, stated_of, text_by, texts_in}
+use Rattle.world.proofs.Shown.{IsSilent, came_silent, commit_shows, give_up_silent, restarted_silent, rollback_silent, state_shows}
+
+-- ---- an entry more
+pub one_more : {X A : Type 0} (f : X → List A) (xs : List X) (x : X) → flat_map f (xs ++ x ∷ []) ≡ flat_map f xs ++ f x
+one_more f xs x = flat_map-append f xs (x ∷ []) ∙ ap (λ rest. flat_map f xs ++ rest) (append-nil (f x))
+
+stated_both : (db : Database) (xs us : List (names.Txn × List ℕ)) (ys vs : List (Name × Statement)) → AreStated db xs ys → AreStated db us vs → AreStated db (xs ++ us) (ys ++ vs)
+stated_both db [] us [] vs one other = other
+stated_both db [] us (y ∷ ys) vs one other = absurd one
+stated_both db (x ∷ xs) us [] vs one other = absurd one
+stated_both db (x ∷ xs) us (y ∷ ys) vs one other = (one.0, one.1, stated_both db xs us ys vs one.2 other)
+
+pub events_both : (db : Database) (xs us : List Entry) (ys vs : List (world.Event (language db))) → AreEvents db xs ys → AreEvents db us vs → AreEvents db (xs ++ us) (ys ++ vs)
+events_both db [] us [] vs one other = other
+events_both db [] us (y ∷ ys) vs one other = absurd one
+events_both db (x ∷ xs) us [] vs one other = absurd one
+events_both db (x ∷ xs) us (y ∷ ys) vs one other = (one.0, events_both db xs us ys vs one.1 other)
+
+pub tells_more : (db : Database) (entries : List Entry) (entry : Entry) (past deeds : List (Deed (language db))) → Tells db entries past → Shows db entry.event deeds → map notice_of entry.out.replies ≡ filter_map (told db) deeds →
+    Tells db (entries ++ entry ∷ []) (past ++ deeds)
+tells_more db entries entry past deeds so shows heard = record {
+  phased =
+      ap (map txn_name) (one_more (λ (e : Entry). phased_by e.event) entries entry) ∙ map-append txn_name (phased_in entries) (phased_by entry.event) ∙ ap (λ front. front ++ map txn_name (phased_by entry.event)) so.phased ∙
+      ap (λ back. phases_of past ++ back) shows.phased ∙ sym (flat_map-append phased_of past deeds);
+  stated = subst (λ texts. AreStated db texts (stated_of (past ++ deeds))) (sym (one_more (λ (e : Entry). text_by e.event) entries entry))
+      (subst (AreStated db (texts_in entries ++ text_by entry.event)) (sym (flat_map-append stated_by past deeds)) (stated_both db (texts_in entries) (text_by entry.event) (stated_of past) (stated_of deeds) so.stated shows.stated));
+  heard =
+      ap (map notice_of) (one_more (λ (e : Entry). e.out.replies) entries entry) ∙ map-append notice_of (notices_in entries) entry.out.replies ∙ ap (λ front. front ++ map notice_of entry.out.replies) so.heard ∙
+      ap (λ back. filter_map (told db) past ++ back) heard ∙ sym (filter_map-append (told db) past deeds);
+}
+
+-- ---- which steps of the world show nothing
+module _ {L : Lang} where
+  turn_silent : (w : World L) (t : Name) (turn : Turn L) → w.past ≡ [] → IsSilent turn.deeds → IsSilent (turns w t turn).past
+  turn_silent w t turn none silent = either (λ (v : World L). IsSilent v.past) (is_desk_within (desk_after w.desk t turn.txn)) (turned w t turn) w (subst (λ past. IsSilent (past ++ turn.deeds)) (sym none) silent) (subst IsSilent (sym none) (refl, refl))
+
+  site_silent : (w : World L) (a : L.Site) (s : SiteState L) (out : List (Letter L)) → w.past ≡ [] → IsSilent (site_steps w a s out).past
+  site_silent w a s out none = either (λ (v : World L). IsSilent v.past) (is_within s) (with_site w a s out) w (subst IsSilent (sym none) (refl, refl)) (subst IsSilent (sym none) (refl, refl))
+
+  pub comes_silent : (w : World L) (kept : Bool) (choice : Choice L) (l : Letter L) → w.past ≡ [] → IsSilent (comes w kept choice l).past
+  comes_silent w kept choice l none = go (is_for_desk l.body)
+    where
+      go : (b : Bool) → IsSilent (comes_to b w kept choice l).past
+      go false =
+          let act = on_letter (w.sites l.site) l.txn kept l.body in
+          site_silent w l.site (site_after (w.sites l.site) act) (addressed l.site l.txn (said (w.sites l.site) act)) none
+      go true = turn_silent w l.txn (on_desk_letter l.txn l.site kept choice l.body (w.desk.txn l.txn)) none (came_silent l.txn l.site kept choice l.body (w.desk.txn l.txn))
+
+  pub begins_silent : (w : World L) → w.past ≡ [] → IsSilent (begins w).past
+  begins_silent w none = either (λ (v : World L). IsSilent v.past) (is_desk_within (desk_began w.desk)) (begun w) w (subst (λ past. IsSilent (past ++ Began (next_txn w.desk) ∷ [])) (sym none) (refl, refl)) (subst IsSilent (sym none) (refl, refl))
+
+  pub desk_restarts_silent : (w : World L) → w.past ≡ [] → IsSilent (desk_restarts w).past
+  desk_restarts_silent w none = either (λ (v : World L). IsSilent v.past) (is_desk_within (desk_restarted w.desk)) (desk_lives w) w (subst (λ past. IsSilent (past ++ (desk_lives w_bare).past)) (sym none) (restarted_silent w.desk w.desk.known)) (subst IsSilent (sym none) (refl, refl))
+    where
+      w_bare : World L
+      w_bare = record w { past = [] }
+
+  pub at_site_silent : (w : World L) (a : L.Site) (s : SiteState L) (out : List (Letter L)) → w.past ≡ [] → IsSilent (site_steps w a s out).past
+  at_site_silent w a s out none = site_silent w a s out none
+
+-- ---- what each event shows
+-- the deeds of a step are those of the step where nothing has happened before
+deeds_of : (db : Database) (before after : Machines) (out : List letters.Letter) (notices : List Notice) (step : World (language db) → World (language db)) (leads : Leads db step before after out notices) → (step (world_of db before [] [])).past ≡ leads.deeds
+deeds_of db before after out notices step leads = ap (λ (w : World (language db)). w.past) (leads.is [] [])
+
+quiet_step : (db : Database) (what : events.Event) (deeds : List (Deed (language db))) → phased_by what ≡ [] → text_by what ≡ [] → IsSilent deeds → Shows db what deeds
+quiet_step db what deeds no_phase no_text silent = record {
+  phased = ap (map txn_name) no_phase ∙ sym silent.0;
+  stated = subst (λ texts. AreStated db texts (stated_of deeds)) (sym no_text) (subst (AreStated db []) (sym silent.1) tt);
+}
+
+pub silent_step : (db : Database) (before after : Machines) (out : List letters.Letter) (notices : List Notice) (what : events.Event) (step : World (language db) → World (language db)) (leads : Leads db step before after out notices) →
+    phased_by what ≡ [] → text_by what ≡ [] → IsSilent (step (world_of db before [] [])).past → Shows db what leads.deeds
+silent_step db before after out notices what step leads no_phase no_text silent = quiet_step db what leads.deeds no_phase no_text (subst IsSilent (deeds_of db before after out notices step leads) silent)
+
+pub rollback_step : (db : Database) (before after : Machines) (out : List letters.Letter) (notices : List Notice) (txn : names.Txn) (choice : Choice (language db)) (what : events.Event) (asked : Asked db txn choice Rollback before after out notices) →
+    phased_by what ≡ [] → text_by what ≡ [] → Shows db what asked.leads.deeds
+rollback_step db before after out notices txn choice what asked no_phase no_text = quiet_step db what asked.leads.deeds no_phase no_text (subst IsSilent (sym asked.all) (rollback_silent (txn_name txn) choice (txn_in db before.table txn)))
+
+pub give_up_step : (db : Database) (before after : Machines) (out : List letters.Letter) (notices : List Notice) (txn : names.Txn) (choice : Choice (language db)) (what : events.Event) (asked : Asked db txn choice Give_up before after out notices) →
+    phased_by what ≡ [] → text_by what ≡ [] → Shows db what asked.leads.deeds
+give_up_step db before after out notices txn choice what asked no_phase no_text = quiet_step db what asked.leads.deeds no_phase no_text (subst IsSilent (sym asked.all) (give_up_silent (txn_name txn) choice (txn_in db before.table txn)))
+
+pub commit_step : (db : Database) (before after : Machines) (out : List letters.Letter) (notices : List Notice) (txn : names.Txn) (choice : Choice (language db)) (what : events.Event) (asked : Asked db txn choice Commit_call before after out notices) →
+    phased_by what ≡ txn ∷ [] → text_by what ≡ [] → Shows db what asked.leads.deeds
+commit_step db before after out notices txn choice what asked phase no_text =
+    let shown = commit_shows (txn_name txn) choice (txn_in db before.table txn) asked.accepted in
+    record {
+      phased = ap (map txn_name) phase ∙ sym shown.0 ∙ ap phases_of (sym asked.all);
+      stated = subst (λ texts. AreStated db texts (stated_of asked.leads.deeds)) (sym no_text) (subst (AreStated db []) (sym (ap stated_of asked.all ∙ shown.1)) tt);
+    }
+
+pub state_step : (db : Database) (before after : Machines) (out : List letters.Letter) (notices : List Notice) (txn : names.Txn) (text : List ℕ) (statement : Statement) (choice : Choice (language db)) (what : events.Event) (asked : Asked db txn choice (State statement) before after out notices) →
+    IsTextOf db.schemas text (command.Run statement) → phased_by what ≡ [] → text_by what ≡ (txn, text) ∷ [] → Shows db what asked.leads.deeds
+state_step db before after out notices txn text statement choice what asked spelled no_phase is =
+    let shown = state_shows (txn_name txn) statement choice (txn_in db before.table txn) asked.accepted in
+    record {
+      phased = ap (map txn_name) no_phase ∙ sym shown.0 ∙ ap phases_of (sym asked.all);
+      stated = subst (λ texts. AreStated db texts (stated_of asked.leads.deeds)) (sym is) (subst (AreStated db ((txn, text) ∷ [])) (sym (ap stated_of asked.all ∙ shown.1)) (refl, spelled, tt));
+    }
