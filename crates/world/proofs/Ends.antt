@@ -1,7 +1,7 @@
 -- What a client asks for, statements aside, evaluates nothing; so each statement that it evaluates is explained.
-use Rattle.std.proofs.Common.{Bool, true, false, List, [], ◌∷◌, Option, None, if◌then◌else◌}
+use Rattle.std.proofs.Common.{◌≡◌, refl, Bool, true, false, List, [], ◌∷◌, Option, None, if◌then◌else◌}
 use Rattle.protocol.specs.Language.{Lang, Name}
-use Rattle.protocol.specs.Desk.{Choice, Commit_call, Give_up, Idle, Known, Reading, Rollback, Row, Stage, Txn, Undecided, Unknown, Voting, Writing, are_all_in, decides, on_commit_call, on_request, on_rollback, stays, voters_of, votes_go}
+use Rattle.protocol.specs.Desk.{Choice, Commit_call, Give_up, Idle, Known, Reading, Rollback, Row, Stage, Txn, Undecided, Unknown, Voting, Writing, are_all_in, decides, on_commit_call, on_request, on_rollback, refusal, refusal_at, stays, voters_of, votes_go}
 use Rattle.protocol.specs.Letter.{Vote}
 use Rattle.protocol.specs.Serial.{AllExplained}
 
@@ -44,3 +44,15 @@ module _ {L : Lang} (t : Name) (choice : Choice L) where
   give_up_explained Unknown = tt
   give_up_explained (Known u) = (tt, tt)
   give_up_explained (Row voters acked) = tt
+
+-- and a giving up is never refused
+still : {L : Lang} (stage : Stage L) → refusal_at Give_up stage ≡ None
+still Idle = refl
+still (Reading s asks) = refl
+still (Writing answer ws) = refl
+still (Voting votes) = refl
+
+pub give_up_accepted : {L : Lang} (txn : Txn L) → refusal Give_up txn ≡ None
+give_up_accepted Unknown = refl
+give_up_accepted (Known u) = still u.stage
+give_up_accepted (Row voters acked) = refl

@@ -13,6 +13,8 @@ pub mod BaseLawful
 pub mod BaseSites
 pub mod Shown
 pub mod Told
+pub mod LettersAt
+pub mod Refusing
 pub mod Running
 pub mod Heard
 pub mod BaseOpened

@@ -1,5 +1,5 @@
 -- A step of one machine is one of the world.
-use Rattle.std.proofs.Common.{◌≡◌, refl, sym, ap, ap₂, ◌∙◌, subst, ℕ, Bool, true, false, List, [], ◌∷◌, ◌++◌, map}
+use Rattle.std.proofs.Common.{◌≡◌, refl, sym, ap, ap₂, ◌∙◌, subst, ℕ, Bool, true, false, List, [], ◌∷◌, ◌++◌, map, None}
 use Rattle.std.specs.List.{flat_map}
 use Rattle.std.proofs.lemmas.List.{append-nil}
 use Rattle.store.specs.declared.letter.Body as bodies
@@ -14,20 +14,20 @@ use Rattle.desk.specs.Calls.{txn_in}
 use Rattle.desk.specs.Does.{Takes}
 use Rattle.desk.specs.Starting.{Restarts}
 use Rattle.protocol.specs.Language.{Name}
-use Rattle.protocol.specs.Desk.{Began, Choice, Desk, Known, Row, Txn, Unknown, desk_restarted, next_txn, txn_restarted, Deed, Turn, desk_after, desk_began, is_desk_within, on_desk_letter}
+use Rattle.protocol.specs.Desk.{Began, Choice, Desk, Known, Row, Txn, Unknown, desk_restarted, next_txn, txn_restarted, Deed, Request, Turn, desk_after, desk_began, is_desk_within, on_desk_letter, on_request, refusal}
 use Rattle.protocol.specs.Letter.{Letter, is_for_desk}
 use Rattle.protocol.specs.Letters.{body_of, kept_in, letter_of, name_of, txn_name}
 use Rattle.protocol.specs.Serial.{AllExplained}
 use Rattle.protocol.specs.Site.{Act, SiteState, inquiries, is_within, on_give_up, on_letter, said, site_after, site_restarted}
 use Rattle.protocol.specs.Statements.{body_with, letter_with, site_with}
-use Rattle.protocol.specs.World.{World, addressed, desk_lives, desk_restarts, begins, begun, comes, comes_to, gives_up, inquires, restarts, site_steps, turned, turns, with_site}
+use Rattle.protocol.specs.World.{World, addressed, called, desk_lives, desk_restarts, begins, begun, comes, comes_to, gives_up, inquires, restarts, site_steps, turned, turns, with_site}
 use Rattle.protocol.proofs.Basics.{if_true}
 use Rattle.desk.specs.declared.reply.Notice.{Notice}
 use Rattle.desk.specs.Database.{Database, language, replied, sent, statements}
 use Rattle.desk.specs.State.{Begins, Steps, Table, desk_of}
 use Rattle.site.specs.State.{state_of}
 use Rattle.site.proofs.Limited.{fits_within}
-use Rattle.world.specs.Machines.{AreFit, Came, Leads, Machines, happens_at, is_for_site, is_order, world_of}
+use Rattle.world.specs.Machines.{AreFit, Asked, Came, Leads, Machines, happens_at, is_for_site, is_order, world_of}
 use Rattle.world.specs.Seated.{SomeSeatDoes}
 use Rattle.world.specs.declared.doing.Doing as doing
 use Rattle.world.specs.declared.doing.Doing.TheVariants.{GiveUp, Inquire, Restart, Take}
@@ -59,6 +59,17 @@ module _ (db : Database) (before : Machines) (kept : DeskContent) (after : Table
     explained = explained;
     replies = steps.replies;
   }
+
+-- what a client asks for, as the coordinator's turn
+pub asked_leads : (db : Database) (before : Machines) (kept : DeskContent) (after : Table) (txn : names.Txn) (choice : Choice (language db)) (request : Request (language db)) (out : List letters.Letter) (notices : List Notice) → AreFit db before →
+    Steps db before.table kept after txn (on_request (txn_name txn) choice request (txn_in db before.table txn)) out notices → AllExplained (on_request (txn_name txn) choice request (txn_in db before.table txn)).deeds → refusal request (txn_in db before.table txn) ≡ None →
+    Asked db txn choice request before (with_desk before kept after) out notices
+unfolding turn_leads
+asked_leads db before kept after txn choice request out notices fit steps explained accepted = record {
+  leads = turn_leads db before kept after txn (on_request (txn_name txn) choice request (txn_in db before.table txn)) out notices fit steps (λ w. called w (txn_name txn) choice request) (λ waiting past. refl) explained;
+  accepted = accepted;
+  all = refl;
+}
 
 -- a transaction begins
 module _ (db : Database) (before : Machines) (kept : DeskContent) (after : Table) (out : List letters.Letter) (notices : List Notice) (fit : AreFit db before) (begun_so : Begins db before.table kept after out notices) where

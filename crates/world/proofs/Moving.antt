@@ -1,5 +1,5 @@
 -- A site of the code that makes a step, alone and among the others.
-use Rattle.std.proofs.Common.{◌≡◌, sym, ap, ◌∙◌, subst, ℕ, Bool, true, false, List, ◌∷◌, Some, Result, Ok, Err, IfOk, OnErr, if◌then◌else◌}
+use Rattle.std.proofs.Common.{◌≡◌, sym, ap, ◌∙◌, subst, ℕ, Bool, true, false, List, ◌∷◌, Some, Result, Ok, Err, IfOk, OnErr, OnOk, if◌then◌else◌}
 use Rattle.std.specs.List.{AllByRecursion}
 use Rattle.store.specs.declared.letter.Letter.{Letter}
 use Rattle.store.specs.SiteContent.{IsUnchanged, SiteContent}
@@ -17,6 +17,14 @@ on_err (Err e) both p q = both p q
 pub if_ok : {T E : Type 0} {P Q : T → Type 0} (result : Result T E) → ((x : T) → P x → Q x) → IfOk result P → IfOk result Q
 if_ok (Ok x) to p = to x p
 if_ok (Err e) to p = tt
+
+pub if_ok_too : {T E R : Type 0} {P Q : T → Type 0} (result : Result T E) → ((x : T) → R → P x → Q x) → OnOk result R → IfOk result P → IfOk result Q
+if_ok_too (Ok x) to r p = to x r p
+if_ok_too (Err e) to r p = tt
+
+pub if_ok_all : {T E A : Type 0} {P Q : T → Type 0} (result : Result T E) (R : A → Type 0) → ((x : T) → ((a : A) → R a) → P x → Q x) → ((a : A) → OnOk result (R a)) → IfOk result P → IfOk result Q
+if_ok_all (Ok x) R to r p = to x r p
+if_ok_all (Err e) R to r p = tt
 
 -- a store that has not changed keeps the same
 pub unchanged : (old new : SiteContent) → IsUnchanged old new → new ≡ old

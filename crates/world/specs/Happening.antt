@@ -1,5 +1,5 @@
 -- An event as what is done at a site, and a refusal of the coordinator as a world tells it.
-use Rattle.std.specs.Prelude.{◌≡◌, Bool, Result, Ok, Err, ⊥}
+use Rattle.std.specs.Prelude.{◌≡◌, Bool, Result, Ok, Err}
 use Rattle.desk.specs.declared.refusal.Refusal.{Refusal}
 use Rattle.desk.specs.declared.reply.Out.{Out}
 use Rattle.world.specs.declared.doing.Doing as doing

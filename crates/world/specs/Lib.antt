@@ -11,5 +11,6 @@ pub mod Telling
 pub mod Events
 pub mod Refused
 pub mod Runs
+pub mod History
 pub mod Happening
 pub mod Base

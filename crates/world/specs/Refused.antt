@@ -1,5 +1,5 @@
 -- Why the coordinator refuses a call of a client.
-use Rattle.std.specs.Prelude.{◌≡◌, ◌⊎◌, false, Some, None, ⊥}
+use Rattle.std.specs.Prelude.{◌≡◌, ◌⊎◌, false, Some, None}
 use Rattle.std.specs.Option.{option_map}
 use Rattle.meaning.specs.declared.statement.Statement.{Statement}
 use Rattle.catalog.specs.FragmentLeaf.{schemas_of}

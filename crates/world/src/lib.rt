@@ -12,6 +12,7 @@ pub mod event;
 pub mod fault;
 mod filling;
 mod happening;
+pub mod history;
 pub mod laws;
 mod machines;
 mod opening;

@@ -106,6 +106,7 @@ impl<D: DeskStore, S: SiteStore> Machines<D, S> {
         ensures sound { OfStores D.is_clean S.is_clean self.new → OfStores D.is_sound S.is_sound self.old → OfStores D.is_sound S.is_sound self.new }
         ensures ok { (db : Database) → OfStores D.is_clean S.is_clean self.new → OfStores D.is_sound S.is_sound self.old → AreFit db (held D.kept S.kept self.old)
             → IfOk result (λ out. Leads db desk_restarts (held D.kept S.kept self.old) (held D.kept S.kept self.new) out.letters out.replies) }
+        ensures called { OnOk result (kept ≡ true) }
         ensures catalog { self.new.desk.catalog ≡ self.old.desk.catalog }
         ensures err { OfStores D.is_clean S.is_clean self.new → OfStores D.is_sound S.is_sound self.old → OnErr result (held D.kept S.kept self.new ≡ held D.kept S.kept self.old) }
     {

@@ -1,13 +1,11 @@
 -- Why `give_up` meets its contract.
-use Rattle.std.proofs.Common.{refl}
-use Rattle.protocol.specs.Desk.{Give_up, on_request}
+use Rattle.protocol.specs.Desk.{Give_up}
 use Rattle.protocol.specs.Letters.{txn_name}
-use Rattle.protocol.specs.World.{called}
 use Rattle.desk.specs.Calls.{txn_in}
 use Rattle.desk.specs.State.{table_of}
 use Rattle.world.specs.Held.{held}
-use Rattle.world.proofs.Ends.{give_up_explained}
-use Rattle.world.proofs.Machinery.{turn_leads}
+use Rattle.world.proofs.Ends.{give_up_accepted, give_up_explained}
+use Rattle.world.proofs.Machinery.{asked_leads}
 use Rattle.world.proofs.Moving.{if_ok}
 use Rattle.world.proofs.machines.Machines.give_up.Goals as goal
 
@@ -15,7 +13,6 @@ pub returns-clause-ok : goal.returns-clause-ok
 returns-clause-ok g c = λ db choice over fit.
     let before = held g.D.DeskStore.kept g.S.SiteStore.kept c.args.self.now in
     let new = c.give_up.new.self in
-    let t = txn_name c.args.txn in
     let txn = txn_in db before.table c.args.txn in
-    if_ok c.give_up.result (λ out steps. turn_leads db before (g.D.DeskStore.kept new.store) (table_of new.present) c.args.txn (on_request t choice Give_up txn) out.letters out.replies fit steps
-    (λ w. called w t choice Give_up) (λ waiting past. refl) (give_up_explained t choice txn)) (c.give_up.ensures.ok db choice over fit.desk)
+    if_ok c.give_up.result (λ out steps. asked_leads db before (g.D.DeskStore.kept new.store) (table_of new.present) c.args.txn choice Give_up out.letters out.replies fit steps (give_up_explained (txn_name c.args.txn) choice txn) (give_up_accepted txn))
+    (c.give_up.ensures.ok db choice over fit.desk)

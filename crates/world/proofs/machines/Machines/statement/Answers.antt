@@ -1,25 +1,27 @@
 -- Why `statement` meets its contract.
-use Rattle.std.proofs.Common.{refl}
-use Rattle.protocol.specs.Desk.{State, on_request}
+use Rattle.std.proofs.Common.{◌≡◌, None, sym}
+use Rattle.protocol.specs.Desk.{State, refusal}
 use Rattle.protocol.specs.Letters.{txn_name}
-use Rattle.protocol.specs.World.{called}
+use Rattle.meaning.specs.declared.statement.Statement.{Statement}
 use Rattle.desk.specs.Calls.{txn_in}
 use Rattle.desk.specs.State.{table_of}
 use Rattle.world.specs.Held.{held}
-use Rattle.world.proofs.Machinery.{turn_leads}
-use Rattle.world.proofs.Moving.{if_ok}
+use Rattle.world.proofs.Machinery.{asked_leads}
+use Rattle.world.proofs.Moving.{if_ok_all}
+use Rattle.world.proofs.Refusing.{statement_refused}
 use Rattle.world.proofs.machines.Machines.statement.Goals as goal
 
 pub returns-clause-ok : goal.returns-clause-ok
 returns-clause-ok g c = λ db of is fit.
     let before = held g.D.DeskStore.kept g.S.SiteStore.kept c.args.self.now in
     let new = c.statement.new.self in
-    let t = txn_name c.args.txn in
     let txn = txn_in db before.table c.args.txn in
-    if_ok c.statement.result (λ out states. record {
+    if_ok_all c.statement.result (λ (s : Statement). refusal (State s) txn ≡ None) (λ out accepted states. record {
       statement = states.statement;
       choice = states.choice;
       spelled = states.spelled;
-      leads = turn_leads db before (g.D.DeskStore.kept new.store) (table_of new.present) c.args.txn (on_request t states.choice (State states.statement) txn) out.letters out.replies fit states.steps
-          (λ w. called w t states.choice (State states.statement)) (λ waiting past. refl) states.explained;
-    }) (c.statement.ensures.ok db of is fit.desk)
+      asked = asked_leads db before (g.D.DeskStore.kept new.store) (table_of new.present) c.args.txn states.choice (State states.statement) out.letters out.replies fit states.steps states.explained (accepted states.statement);
+    }) (λ s. c.statement.ensures.accepted db s) (c.statement.ensures.ok db of is fit.desk)
+
+pub returns-clause-told : goal.returns-clause-told
+returns-clause-told g c = λ db is. statement_refused db (table_of c.args.self.now.desk.present) c.args.txn c.args.text.now c.args.self.now.desk.catalog is c.statement.result (c.statement.ensures.told db)

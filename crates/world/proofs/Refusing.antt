@@ -1,0 +1,53 @@
+-- Why the coordinator refuses a statement doesn't hang on the statement.
+use Rattle.std.proofs.Common.{◌≡◌, refl, sym, ap, ◌∙◌, subst, ℕ, List, [], Option, Some, None, Result, Ok, Err, IfErr, ◌⊎◌, inl, inr}
+use Rattle.std.specs.Option.{option_map}
+use Rattle.meaning.specs.declared.statement.Statement.{Statement}
+use Rattle.meaning.specs.declared.statement.Statement.TheVariants as statements
+use Rattle.catalog.specs.declared.relation.SplitRelation.{SplitRelation}
+use Rattle.catalog.specs.Catalogue.{Catalogue}
+use Rattle.catalog.specs.FragmentLeaf.{schemas_of}
+use Rattle.catalog.specs.Relation.{catalogue_of}
+use Rattle.store.specs.declared.name.Txn as names
+use Rattle.protocol.specs.Desk.{Idle, Known, Reading, Row, Stage, State, Txn, Unknown, Voting, Writing, refusal, refusal_at}
+use Rattle.protocol.specs.Language.{Lang}
+use Rattle.desk.specs.declared.refusal.Refusal.{Refusal}
+use Rattle.desk.specs.declared.refusal.Refusal.TheVariants.{Full, Memory}
+use Rattle.desk.specs.Calls.{refused_as, txn_in}
+use Rattle.desk.specs.Database.{Database}
+use Rattle.desk.specs.Does.{IsUnread}
+use Rattle.desk.specs.State.{Table}
+use Rattle.world.specs.declared.event.Call.TheVariants as call
+use Rattle.world.specs.Refused.{IsRefused}
+
+same_at : {L : Lang} (s other : L.Statement) (stage : Stage L) → refusal_at (State s) stage ≡ refusal_at (State other) stage
+same_at s other Idle = refl
+same_at s other (Reading r asks) = refl
+same_at s other (Writing answer ws) = refl
+same_at s other (Voting votes) = refl
+
+same_refusal : {L : Lang} (s other : L.Statement) (txn : Txn L) → refusal (State s) txn ≡ refusal (State other) txn
+same_refusal s other Unknown = refl
+same_refusal s other (Known u) = same_at s other u.stage
+same_refusal s other (Row voters acked) = refl
+
+pub if_err : {T E : Type 0} {P Q : E → Type 0} (result : Result T E) → ((e : E) → P e → Q e) → IfErr result P → IfErr result Q
+if_err (Ok x) to p = tt
+if_err (Err e) to p = to e p
+
+-- some statement
+some : Statement
+some = statements.Insert (record { into = []; row = [] })
+
+-- why a statement is refused, as the coordinator's contract says it
+abbrev Told : (db : Database) → Table → names.Txn → List ℕ → List (List ℕ) × List SplitRelation → Statement → Refusal → Type 0
+Told db table txn text catalog s told = (told ≡ Memory) ⊎ (option_map refused_as (refusal (State s) (txn_in db table txn)) ≡ Some told)
+    ⊎ ((refusal (State s) (txn_in db table txn) ≡ None) × (IsUnread (schemas_of (catalogue_of catalog)) text told ⊎ (told ≡ Full)))
+
+pub statement_refused : {T : Type 0} (db : Database) (table : Table) (txn : names.Txn) (text : List ℕ) (catalog : List (List ℕ) × List SplitRelation) → db.catalogue ≡ catalogue_of catalog → (result : Result T Refusal) →
+    ((s : Statement) → IfErr result (Told db table txn text catalog s)) → IfErr result (λ told. (told ≡ Memory) ⊎ IsRefused db table (call.State txn text) told)
+statement_refused db table txn text catalog is result all = if_err result (λ told at. go told at) (all some)
+  where
+    go : (told : Refusal) → Told db table txn text catalog some told → (told ≡ Memory) ⊎ IsRefused db table (call.State txn text) told
+    go told (inl memory) = inl memory
+    go told (inr (inl refused)) = inr (λ s. inl (ap (option_map refused_as) (same_refusal s some (txn_in db table txn)) ∙ refused))
+    go told (inr (inr late)) = inr (λ s. inr (same_refusal s some (txn_in db table txn) ∙ late.0, subst (λ (c : Catalogue). IsUnread (schemas_of c) text told ⊎ (told ≡ Full)) (sym is) late.1))
