@@ -1,5 +1,5 @@
 -- How many of a list pass a test: no more than pass a wider one, and fewer where one passed that one alone.
-use Rattle.std.proofs.Common.{◌≡◌, refl, sym, ap, ◌∙◌, subst, ℕ, zero, suc, ◌≤◌, Bool, true, false, List, [], ◌∷◌, ◌++◌, filter, length, cond, inl, inr, arith}
+use Rattle.std.proofs.Common.{◌≡◌, refl, sym, ap, ◌∙◌, subst, suc, ◌≤◌, Bool, true, false, List, [], ◌∷◌, ◌++◌, filter, length, cond, inl, inr, arith}
 use Rattle.protocol.specs.Parts.{In}
 use Rattle.protocol.proofs.Basics.{clash}
 

@@ -1,5 +1,5 @@
 -- What settled fragments are, row by row.
-use Rattle.std.proofs.Common.{◌≡◌, refl, sym, ap, ◌∙◌, subst, Bool, true, false, cond, List, [], ◌∷◌, map, Option, Some, None, is_some, if◌then◌else◌, option_map, unwrap_or, ◌⊎◌, inl, inr, IsTrue}
+use Rattle.std.proofs.Common.{◌≡◌, refl, sym, ap, ◌∙◌, subst, Bool, true, false, List, [], ◌∷◌, map, Option, Some, None, is_some, if◌then◌else◌, option_map, unwrap_or, ◌⊎◌, inl, inr, IsTrue}
 use Rattle.std.specs.FinMap as fin
 use Rattle.std.specs.List.{AllByRecursion}
 use Rattle.std.specs.List.Sorted.{IsStrictlySortedBy}
@@ -25,8 +25,8 @@ use Rattle.protocol.proofs.Basics.{clash, if_false, if_true}
 use Rattle.site.specs.Settled.{AreSettled, with_all, with_row, with_rows, with_some}
 use Rattle.site.specs.declared.standing.Standing as standings
 use Rattle.site.specs.State.{Fits, Table, txn_in}
-use Rattle.site.proofs.PreparedRows.{none_after, none_below}
-use Rattle.site.proofs.Tickets.{ticket_is, ticket_same, ticket_self, ticket_sym}
+use Rattle.site.proofs.PreparedRows.{none_below}
+use Rattle.site.proofs.Tickets.{ticket_is, ticket_same, ticket_sym}
 
 -- changes that are made over others, room for them made first
 pub made_more : (old mid new changes : Changes) → ((slot : Slot) → put_at mid slot ≡ put_at old slot) → ((slot : Slot) → put_at new slot ≡ unwrap_or (fin.get changes slot) (put_at mid slot)) → (leaf : Leaf) → made_by new leaf ≡ changed leaf changes (made_by old leaf)

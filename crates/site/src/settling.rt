@@ -45,7 +45,9 @@ pub(crate) fn settle(kept: SiteKept, decided: &[Txn]) -> Result<Changes, Memory>
     ensures { (leaf : Leaf) → IfOk result (λ made. made_by made leaf ≡ with_rows decided.now leaf kept.prepared (made_by kept.parts leaf)) }
 {
     let SiteKept {
-        parts, prepared, ..
+        parts,
+        prepared,
+        ..
     } = kept;
     let mut parts = parts;
     for row in prepared.into_vec() {

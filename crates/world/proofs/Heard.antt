@@ -1,27 +1,23 @@
 -- What the entries of a run tell is what happened: who committed, what was answered, and to which statements.
-use Rattle.std.proofs.Common.{◌≡◌, refl, sym, ap, ap₂, ◌∙◌, subst, ℕ, ◌&&◌, ◌||◌, Bool, true, false, List, [], ◌∷◌, ◌++◌, map, filter, filter_map, flat_map, if◌then◌else◌, Option, Some, None}
+use Rattle.std.proofs.Common.{◌≡◌, refl, sym, ap, ap₂, ◌∙◌, subst, ℕ, ◌&&◌, ◌||◌, Bool, true, false, List, [], ◌∷◌, ◌++◌, map, filter, filter_map, flat_map, if◌then◌else◌}
 use Rattle.std.specs.List.{list_any}
 use Rattle.meaning.specs.declared.answer.Answer.{Answer}
 use Rattle.meaning.specs.declared.statement.Statement.{Statement}
 use Rattle.meaning.specs.Whole.{Relations}
-use Rattle.reader.specs.declared.command.Command.TheVariants as command
-use Rattle.reader.specs.Command.{IsTextOf}
 use Rattle.store.specs.declared.name.Txn.{Txn}
 use Rattle.protocol.specs.Desk.{Aborted, Answered, Began, Committed, Deed, Phased, Rolled_back, Stated, Worked}
 use Rattle.protocol.specs.Language.{Name, same}
 use Rattle.protocol.specs.Letters.{txn_name}
-use Rattle.protocol.specs.Serial.{IsSerial, answer_in, answers_of, committed, commits_it, is_committed, phases_of, serial_answers, serial_whole, statement_in, statements_of}
-use Rattle.desk.specs.declared.reply.Notice.{Notice}
+use Rattle.protocol.specs.Serial.{IsSerial, answers_of, committed, is_committed, serial_answers, serial_whole, statements_of}
 use Rattle.desk.specs.declared.reply.Reply as replies
-use Rattle.desk.specs.declared.reply.Reply.TheVariants as reply
 use Rattle.desk.specs.Database.{Database, language, sent}
 use Rattle.desk.specs.State.{notice_of}
-use Rattle.desk.specs.Turn.{told, why_of}
+use Rattle.desk.specs.Turn.{told}
 use Rattle.world.specs.declared.event.Entry.{Entry}
 use Rattle.world.specs.Machines.{Machines, world_of}
 use Rattle.world.specs.Posted.{letters_in}
-use Rattle.world.specs.Runs.{AreTexts, IsRun, IsSerialRun}
-use Rattle.world.specs.Telling.{AreStated, Tells, answer_of, answers_to, committed_in, is_told_committed, is_txn, notices_in, phased_in, says_committed, stated_by, stated_of, texts_in, texts_of}
+use Rattle.world.specs.Runs.{AreTexts, IsSerialRun}
+use Rattle.world.specs.Telling.{AreStated, Tells, answer_of, answers_to, committed_in, is_told_committed, is_txn, notices_in, phased_in, says_committed, stated_of, texts_in, texts_of}
 
 -- ---- small lemmas
 and_true : (b : Bool) → (b && true) ≡ b
@@ -32,9 +28,9 @@ and_false : (b : Bool) → (b && false) ≡ false
 and_false true = refl
 and_false false = refl
 
-either_none : {A : Type 0} (b : Bool) → (if b then [] else ([] : List A)) ≡ []
-either_none true = refl
-either_none false = refl
+either_none : {A : Type 0} (none : List A) (b : Bool) → (if b then none else none) ≡ none
+either_none none true = refl
+either_none none false = refl
 
 any_map : {A B : Type 0} (p : B → Bool) (f : A → B) (xs : List A) → list_any (λ x. p (f x)) xs ≡ list_any p (map f xs)
 any_map p f [] = refl
@@ -58,13 +54,13 @@ map_alike : {A B : Type 0} (f g : A → B) (xs : List A) → ((x : A) → f x �
 map_alike f g [] alike = refl
 map_alike f g (x ∷ xs) alike = ap₂ (λ y ys. y ∷ ys) (alike x) (map_alike f g xs alike)
 
-map_twice : {A B C : Type 0} (g : B → C) (f : A → B) (xs : List A) → map g (map f xs) ≡ map (λ x. g (f x)) xs
+pub map_twice : {A B C : Type 0} (g : B → C) (f : A → B) (xs : List A) → map g (map f xs) ≡ map (λ x. g (f x)) xs
 map_twice g f [] = refl
 map_twice g f (x ∷ xs) = ap (λ rest. g (f x) ∷ rest) (map_twice g f xs)
 
 module _ (db : Database) where
   -- ---- who committed
-  tells_commit : Name → Name × replies.Reply → Bool
+  abbrev tells_commit : Name → Name × replies.Reply → Bool
   tells_commit n heard = same heard.0 n && says_committed heard.1
 
   told_commit : (n : Name) (past : List (Deed (language db))) → list_any (tells_commit n) (filter_map (told db) past) ≡ is_committed past n
@@ -79,22 +75,22 @@ module _ (db : Database) where
   told_commit n (Rolled_back t ∷ ds) = ap₂ (λ a rest. a || rest) (and_false (same t n)) (told_commit n ds)
 
   -- ---- what was answered
-  told_answer : Name → Name × replies.Reply → List Answer
+  abbrev told_answer : Name → Name × replies.Reply → List Answer
   told_answer n heard = if same heard.0 n then answer_of heard.1 else []
 
   told_answers : (n : Name) (past : List (Deed (language db))) → flat_map (told_answer n) (filter_map (told db) past) ≡ answers_of past n
   told_answers n [] = refl
-  told_answers n (Began t ∷ ds) = ap₂ (λ (a rest : List Answer). a ++ rest) (either_none (same t n)) (told_answers n ds)
+  told_answers n (Began t ∷ ds) = ap₂ (λ (a rest : List Answer). a ++ rest) (either_none [] (same t n)) (told_answers n ds)
   told_answers n (Stated t s ∷ ds) = told_answers n ds
   told_answers n (Worked t s asks choice ∷ ds) = told_answers n ds
   told_answers n (Answered t x ∷ ds) = ap (λ (rest : List Answer). (if same t n then x ∷ [] else []) ++ rest) (told_answers n ds)
   told_answers n (Phased t ∷ ds) = told_answers n ds
-  told_answers n (Committed t ∷ ds) = ap₂ (λ (a rest : List Answer). a ++ rest) (either_none (same t n)) (told_answers n ds)
-  told_answers n (Aborted t why ∷ ds) = ap₂ (λ (a rest : List Answer). a ++ rest) (either_none (same t n)) (told_answers n ds)
-  told_answers n (Rolled_back t ∷ ds) = ap₂ (λ (a rest : List Answer). a ++ rest) (either_none (same t n)) (told_answers n ds)
+  told_answers n (Committed t ∷ ds) = ap₂ (λ (a rest : List Answer). a ++ rest) (either_none [] (same t n)) (told_answers n ds)
+  told_answers n (Aborted t why ∷ ds) = ap₂ (λ (a rest : List Answer). a ++ rest) (either_none [] (same t n)) (told_answers n ds)
+  told_answers n (Rolled_back t ∷ ds) = ap₂ (λ (a rest : List Answer). a ++ rest) (either_none [] (same t n)) (told_answers n ds)
 
   -- ---- which statements were accepted
-  of_statement : Name → Name × Statement → List Statement
+  abbrev of_statement : Name → Name × Statement → List Statement
   of_statement n stated = if same stated.0 n then stated.1 ∷ [] else []
 
   of_statements : (n : Name) (past : List (Deed (language db))) → flat_map (of_statement n) (stated_of past) ≡ statements_of past n

@@ -1,5 +1,5 @@
 -- Letters by their numbers, entry after entry.
-use Rattle.std.proofs.Common.{◌≡◌, refl, sym, ap, ◌∙◌, subst, ℕ, zero, suc, ◌+◌, ◌-◌, ◌<◌, ◌≤◌, List, [], ◌∷◌, ◌++◌, length, drop, get_or, slice_get, arith}
+use Rattle.std.proofs.Common.{◌≡◌, refl, sym, ap, ◌∙◌, ℕ, zero, suc, ◌+◌, ◌-◌, ◌<◌, ◌≤◌, List, [], ◌∷◌, ◌++◌, length, drop, get_or, slice_get, arith}
 use Rattle.std.proofs.lemmas.List.{at_drop_more}
 use Rattle.world.specs.declared.event.Entry.{Entry}
 use Rattle.world.specs.Posted.{letters_in}

@@ -18,3 +18,5 @@ pub mod Refusing
 pub mod Running
 pub mod Heard
 pub mod BaseOpened
+pub mod InTurn
+pub mod Follow

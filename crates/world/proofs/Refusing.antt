@@ -1,5 +1,5 @@
 -- Why the coordinator refuses a statement doesn't hang on the statement.
-use Rattle.std.proofs.Common.{◌≡◌, refl, sym, ap, ◌∙◌, subst, ℕ, List, [], Option, Some, None, Result, Ok, Err, IfErr, ◌⊎◌, inl, inr}
+use Rattle.std.proofs.Common.{◌≡◌, refl, sym, ap, ◌∙◌, subst, ℕ, List, [], Some, None, Result, Ok, Err, IfErr, ◌⊎◌, inl, inr}
 use Rattle.std.specs.Option.{option_map}
 use Rattle.meaning.specs.declared.statement.Statement.{Statement}
 use Rattle.meaning.specs.declared.statement.Statement.TheVariants as statements

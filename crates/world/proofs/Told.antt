@@ -1,5 +1,5 @@
 -- What the entries of a run tell, event by event.
-use Rattle.std.proofs.Common.{◌≡◌, refl, sym, ap, ◌∙◌, subst, ℕ, Bool, true, false, List, [], ◌∷◌, ◌++◌, map, filter_map, flat_map, None, if◌then◌else◌}
+use Rattle.std.proofs.Common.{◌≡◌, refl, sym, ap, ◌∙◌, subst, ℕ, Bool, true, false, List, [], ◌∷◌, ◌++◌, map, filter_map, flat_map}
 use Rattle.std.proofs.lemmas.List.{append-nil, map-append}
 use Rattle.std.proofs.lemmas.List.Elements.{filter_map-append}
 use Rattle.std.proofs.lemmas.Grind.{flat_map-append}
@@ -8,7 +8,7 @@ use Rattle.reader.specs.declared.command.Command.TheVariants as command
 use Rattle.reader.specs.Command.{IsTextOf}
 use Rattle.store.specs.declared.letter.Letter as letters
 use Rattle.store.specs.declared.name.Txn as names
-use Rattle.protocol.specs.Desk.{Choice, Commit_call, Deed, Desk, Give_up, Request, Rollback, State, Turn, Txn, desk_after, desk_began, desk_restarted, is_desk_within, next_txn, on_desk_letter, on_request, Began}
+use Rattle.protocol.specs.Desk.{Choice, Commit_call, Deed, Give_up, Rollback, State, Turn, desk_after, desk_began, desk_restarted, is_desk_within, next_txn, on_desk_letter, Began}
 use Rattle.protocol.specs.Language.{Lang, Name}
 use Rattle.protocol.specs.Letter.{Letter, is_for_desk}
 use Rattle.protocol.specs.Letters.{txn_name}
@@ -22,12 +22,10 @@ use Rattle.desk.specs.Calls.{txn_in}
 use Rattle.desk.specs.Database.{Database, language}
 use Rattle.desk.specs.State.{notice_of}
 use Rattle.desk.specs.Turn.{told}
-use Rattle.world.specs.declared.doing.Doing as doing
-use Rattle.world.specs.declared.doing.Doing.TheVariants.{GiveUp, Inquire, Restart, Take}
 use Rattle.world.specs.declared.event.Entry.{Entry}
 use Rattle.world.specs.declared.event.Event as events
-use Rattle.world.specs.Events.{AreEvents, IsEvent}
-use Rattle.world.specs.Machines.{Asked, Leads, Machines, happens_at, world_of}
+use Rattle.world.specs.Events.{AreEvents}
+use Rattle.world.specs.Machines.{Asked, Leads, Machines, world_of}
 use Rattle.world.specs.Telling.{AreStated, Shows, Tells, notices_in, phased_by, phased_in, stated_by, stated_of, text_by, texts_in}
 use Rattle.world.proofs.Shown.{IsSilent, came_silent, commit_shows, give_up_silent, restarted_silent, rollback_silent, state_shows}
 

@@ -1,4 +1,5 @@
 -- A database in one process: its machines together as the protocol's world.
+pub mod Fault
 pub mod Seats
 pub mod Seated
 pub mod Machines
@@ -12,5 +13,6 @@ pub mod Events
 pub mod Refused
 pub mod Runs
 pub mod History
+pub mod Following
 pub mod Happening
 pub mod Base

@@ -2,6 +2,8 @@
 
 use desk::reply::Out;
 use store::name::{Ticket, Txn};
+use terms::copy::TryCopy;
+use terms::memory::Memory;
 use terms::text::Text;
 
 /// What a client asks for.
@@ -42,4 +44,29 @@ pub enum Event {
 pub struct Entry {
     pub event: Event,
     pub out: Out,
+}
+
+impl TryCopy for Call {
+    fn copy(&self) -> Result<Call, Memory> {
+        match self {
+            Call::Begin => Ok(Call::Begin),
+            Call::State(txn, text) => Ok(Call::State(*txn, text.copy()?)),
+            Call::Commit(txn) => Ok(Call::Commit(*txn)),
+            Call::Rollback(txn) => Ok(Call::Rollback(*txn)),
+            Call::GiveUp(txn) => Ok(Call::GiveUp(*txn)),
+        }
+    }
+}
+
+impl TryCopy for Event {
+    fn copy(&self) -> Result<Event, Memory> {
+        match self {
+            Event::Call(call) => Ok(Event::Call(call.copy()?)),
+            Event::Deliver(number, kept) => Ok(Event::Deliver(*number, *kept)),
+            Event::SiteGivesUp(site, ticket) => Ok(Event::SiteGivesUp(site.copy()?, *ticket)),
+            Event::SiteInquires(site) => Ok(Event::SiteInquires(site.copy()?)),
+            Event::SiteRestarts(site, kept) => Ok(Event::SiteRestarts(site.copy()?, *kept)),
+            Event::DeskRestarts(kept) => Ok(Event::DeskRestarts(*kept)),
+        }
+    }
 }

@@ -1,5 +1,8 @@
 //! Why nothing has happened.
 
+ghost use Rattle.std.specs.Prelude.{◌≡◌};
+ghost use Rattle.world.specs.Fault.{is_memory};
+
 use desk::refusal::Refusal;
 use site::fault::SiteFault;
 use terms::memory::Memory;
@@ -13,6 +16,18 @@ pub enum Fault {
     Site(SiteFault),
     /// No letter has the number, or no site the name.
     Unsent,
+}
+
+impl Fault {
+    /// Whether there was no memory.
+    pub(crate) fn is_memory(self) -> bool
+        ensures { result ≡ is_memory self }
+    {
+        matches!(
+            self,
+            Fault::Desk(Refusal::Memory) | Fault::Site(SiteFault::Memory)
+        )
+    }
 }
 
 impl From<Refusal> for Fault {

@@ -1,6 +1,6 @@
 //! Worlds: the machines of a database, and every event that has happened with the letters that it put out.
 
-ghost use Rattle.std.specs.Prelude.{◌≡◌, ◌⊎◌, ◌++◌, ◌∷◌, [], true, List, Err, OnOk, OnErr, IfOk, IfErr};
+ghost use Rattle.std.specs.Prelude.{◌≡◌, ◌⊎◌, ◌++◌, ◌∷◌, [], true, List, Err, OnOk, OnErr, IfOk, IfErr, map, take};
 ghost use Rattle.meaning.specs.Whole.{FitsSchema, Relations};
 ghost use Rattle.catalog.specs.FragmentLeaf.{schemas_of};
 ghost use Rattle.catalog.specs.Relation.{catalogue_of};
@@ -12,17 +12,22 @@ ghost use Rattle.world.specs.Base.{database};
 ghost use Rattle.desk.specs.State.{table_of};
 ghost use Rattle.desk.specs.declared.refusal.Refusal.TheVariants as refusals;
 ghost use Rattle.world.specs.declared.event.Call.{Call as CallNow};
+ghost use Rattle.world.specs.declared.event.Entry.{Entry as EntryNow};
 ghost use Rattle.world.specs.declared.event.Event.TheVariants as events;
 ghost use Rattle.world.specs.declared.fault.Fault.TheVariants as faults;
 ghost use Rattle.world.specs.Events.{is_unsent};
+ghost use Rattle.world.specs.Following.{Follows, Passes};
 ghost use Rattle.world.specs.Held.{OfStores, held};
+ghost use Rattle.world.specs.History.{AnswerInTurn, committed_of};
 ghost use Rattle.world.specs.Refused.{IsToldOf};
 ghost use Rattle.world.specs.Runs.{IsRun, RunsOn};
+ghost use Rattle.world.specs.Telling.{committed_in};
 
 use crate::event::{Entry, Event};
 use crate::fault::Fault;
 use crate::happening::happen;
-use crate::laws::database_is_of_catalogue;
+use crate::history::{Committed, committed_in};
+use crate::laws::{database_is_of_catalogue, runs_are_serial};
 use crate::machines::Machines;
 use crate::opening::start;
 use catalog::catalogue::Catalog;
@@ -33,6 +38,8 @@ use store::desk_store::DeskStore;
 use store::plain_desk::PlainDesk;
 use store::plain_site::PlainSite;
 use store::site_store::SiteStore;
+use terms::copy::TryCopy;
+use terms::memory::Memory;
 
 /// A coordinator, its sites, and what has happened, oldest first.
 #[derive(Drop)]
@@ -64,16 +71,16 @@ pub fn open(
 }
 
 impl<D: DeskStore, S: SiteStore> World<D, S> {
-    /// An event happens, and its entry is answered. On a fault nothing has changed: `Unsent` where no letter has
-    /// the number, or no site the name; else why the machine refused, or want of memory.
-    pub fn step(&mut self, event: Event) -> Result<&Entry, Fault>
+    /// An event happens, and has an entry, the last one from now on. On a fault nothing has changed: `Unsent` where
+    /// no letter has the number, or no site the name; else why the machine refused, or want of memory.
+    pub fn step(&mut self, event: Event) -> Result<(), Fault>
         ensures clean { OfStores D.is_clean S.is_clean self.new.machines → OfStores D.is_clean S.is_clean self.old.machines }
         ensures sound { OfStores D.is_clean S.is_clean self.new.machines → OfStores D.is_sound S.is_sound self.old.machines → OfStores D.is_sound S.is_sound self.new.machines }
         ensures ok { (whole : Relations) (past : List (Deed (language (database (catalogue_of self.old.machines.desk.catalog)))))
             → OfStores D.is_clean S.is_clean self.new.machines → OfStores D.is_sound S.is_sound self.old.machines
             → IsRun (database (catalogue_of self.old.machines.desk.catalog)) whole (held D.kept S.kept self.old.machines) self.old.entries.items past
             → OnOk result (RunsOn (database (catalogue_of self.old.machines.desk.catalog)) whole (held D.kept S.kept self.new.machines) self.new.entries.items past) }
-        ensures entry { IfOk result (λ entry. (entry.now.event ≡ event) × (self.new.entries.items ≡ self.old.entries.items ++ entry.now ∷ [])) }
+        ensures entry { OnOk result ((entry : EntryNow) × ((entry.event ≡ event) × (self.new.entries.items ≡ self.old.entries.items ++ entry ∷ []))) }
         ensures unsent { result ≡ Err faults.Unsent → is_unsent self.old.machines.desk.catalog.0 self.old.entries.items event ≡ true }
         ensures nowhere { is_unsent self.old.machines.desk.catalog.0 self.old.entries.items event ≡ true → (result ≡ Err faults.Unsent) ⊎ (result ≡ Err (faults.Desk refusals.Memory)) }
         ensures refused { (whole : Relations) (past : List (Deed (language (database (catalogue_of self.old.machines.desk.catalog))))) (asked : CallNow)
@@ -87,12 +94,78 @@ impl<D: DeskStore, S: SiteStore> World<D, S> {
         if self.entries.try_reserve(1).is_err() {
             return Err(Fault::Desk(Refusal::Memory));
         }
-        let out = happen(&mut self.machines, self.entries.as_slice(), &event)?;
-        self.entries.push_reserved(Entry { event, out });
-        match self.entries.last() {
-            Some(entry) => Ok(entry),
-            None => unreachable!(),
+        match happen(&mut self.machines, self.entries.as_slice(), &event) {
+            Ok(out) => {
+                self.entries.push_reserved(Entry { event, out });
+                Ok(())
+            }
+            Err(fault) => Err(fault),
         }
+    }
+
+    /// Events happen one after another; one that is refused is passed over. Want of memory ends it: the answer is
+    /// then how many events came before.
+    pub fn run(&mut self, events: &[Event]) -> Result<(), usize>
+        ensures clean { OfStores D.is_clean S.is_clean self.new.machines → OfStores D.is_clean S.is_clean self.old.machines }
+        ensures sound { OfStores D.is_clean S.is_clean self.new.machines → OfStores D.is_sound S.is_sound self.old.machines → OfStores D.is_sound S.is_sound self.new.machines }
+        ensures catalog { self.new.machines.desk.catalog ≡ self.old.machines.desk.catalog }
+        ensures runs { (whole : Relations) (past : List (Deed (language (database (catalogue_of self.old.machines.desk.catalog)))))
+            → OfStores D.is_clean S.is_clean self.new.machines → OfStores D.is_sound S.is_sound self.old.machines
+            → IsRun (database (catalogue_of self.old.machines.desk.catalog)) whole (held D.kept S.kept self.old.machines) self.old.entries.items past
+            → RunsOn (database (catalogue_of self.old.machines.desk.catalog)) whole (held D.kept S.kept self.new.machines) self.new.entries.items past }
+        ensures all { (whole : Relations) (past : List (Deed (language (database (catalogue_of self.old.machines.desk.catalog)))))
+            → OfStores D.is_clean S.is_clean self.new.machines → OfStores D.is_sound S.is_sound self.old.machines
+            → IsRun (database (catalogue_of self.old.machines.desk.catalog)) whole (held D.kept S.kept self.old.machines) self.old.entries.items past
+            → OnOk result (Follows (database (catalogue_of self.old.machines.desk.catalog)) events.now (held D.kept S.kept self.old.machines) self.old.entries.items (held D.kept S.kept self.new.machines) self.new.entries.items) }
+        ensures some { (whole : Relations) (past : List (Deed (language (database (catalogue_of self.old.machines.desk.catalog)))))
+            → OfStores D.is_clean S.is_clean self.new.machines → OfStores D.is_sound S.is_sound self.old.machines
+            → IsRun (database (catalogue_of self.old.machines.desk.catalog)) whole (held D.kept S.kept self.old.machines) self.old.entries.items past
+            → IfErr result (λ done. Follows (database (catalogue_of self.old.machines.desk.catalog)) (take done events.now) (held D.kept S.kept self.old.machines) self.old.entries.items (held D.kept S.kept self.new.machines) self.new.entries.items) }
+    {
+        let mut done = 0;
+        for event in events {
+            match self.pass(event) {
+                Ok(()) => done += 1,
+                Err(_) => return Err(done),
+            }
+        }
+        Ok(())
+    }
+
+    /// An event happens, or is refused. Without memory nothing has changed.
+    fn pass(&mut self, event: &Event) -> Result<(), Memory>
+        ensures clean { OfStores D.is_clean S.is_clean self.new.machines → OfStores D.is_clean S.is_clean self.old.machines }
+        ensures sound { OfStores D.is_clean S.is_clean self.new.machines → OfStores D.is_sound S.is_sound self.old.machines → OfStores D.is_sound S.is_sound self.new.machines }
+        ensures catalog { self.new.machines.desk.catalog ≡ self.old.machines.desk.catalog }
+        ensures ok { (whole : Relations) (past : List (Deed (language (database (catalogue_of self.old.machines.desk.catalog)))))
+            → OfStores D.is_clean S.is_clean self.new.machines → OfStores D.is_sound S.is_sound self.old.machines
+            → IsRun (database (catalogue_of self.old.machines.desk.catalog)) whole (held D.kept S.kept self.old.machines) self.old.entries.items past
+            → OnOk result (Passes (database (catalogue_of self.old.machines.desk.catalog)) whole event.now (held D.kept S.kept self.old.machines) self.old.entries.items (held D.kept S.kept self.new.machines) self.new.entries.items past) }
+        ensures err { OfStores D.is_clean S.is_clean self.new.machines → OfStores D.is_sound S.is_sound self.old.machines → OnErr result (held D.kept S.kept self.new.machines ≡ held D.kept S.kept self.old.machines) }
+        ensures same { OnErr result (self.new.entries.items ≡ self.old.entries.items) }
+    {
+        let again = event.copy()?;
+        match self.step(again) {
+            Ok(()) => Ok(()),
+            Err(fault) => {
+                if fault.is_memory() {
+                    return Err(Memory);
+                }
+                Ok(())
+            }
+        }
+    }
+
+    /// The committed transactions, in the order in which their commits were asked for, each with the texts of its
+    /// statements and what they answered.
+    pub fn committed(&self) -> Result<Vec<Committed>, Memory>
+        ensures all { IfOk result (λ all. all.items ≡ map (committed_of self.now.entries.items) (committed_in self.now.entries.items)) }
+        ensures serial { (whole : Relations) (past : List (Deed (language (database (catalogue_of self.now.machines.desk.catalog)))))
+            → IsRun (database (catalogue_of self.now.machines.desk.catalog)) whole (held D.kept S.kept self.now.machines) self.now.entries.items past
+            → IfOk result (λ all. AnswerInTurn (database (catalogue_of self.now.machines.desk.catalog)) whole all.items) }
+    {
+        runs_are_serial(self.machines.desk.catalog());
+        committed_in(self.machines.alloc, self.entries.as_slice())
     }
 
     /// What has happened, oldest first.

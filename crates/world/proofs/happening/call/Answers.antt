@@ -3,7 +3,6 @@ use Rattle.std.proofs.Common.{◌≡◌, ◌⊎◌, ◌++◌, ◌∷◌, [], ref
 use Rattle.reader.specs.declared.command.Command.TheVariants.{Run}
 use Rattle.reader.specs.Command.{IsTextOf}
 use Rattle.protocol.specs.Desk.{Commit_call, Give_up, Rollback, State}
-use Rattle.protocol.specs.Letters.{txn_name}
 use Rattle.protocol.specs.World.{Begin, begins}
 use Rattle.desk.specs.declared.refusal.Refusal.TheVariants as refusals
 use Rattle.desk.specs.State.{table_of}

@@ -1,5 +1,5 @@
 -- Why `happen` meets its contract.
-use Rattle.std.proofs.Common.{◌≡◌, ◌++◌, ◌∷◌, [], refl, sym, ap, subst, true, IfOk}
+use Rattle.std.proofs.Common.{◌++◌, ◌∷◌, [], refl, sym, ap, subst, true, IfOk}
 use Rattle.protocol.specs.World.{Desk_restarts, desk_restarts}
 use Rattle.world.specs.declared.event.Event as events
 use Rattle.world.specs.declared.event.Event.TheVariants as event

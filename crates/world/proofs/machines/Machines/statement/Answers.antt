@@ -1,7 +1,6 @@
 -- Why `statement` meets its contract.
-use Rattle.std.proofs.Common.{◌≡◌, None, sym}
+use Rattle.std.proofs.Common.{◌≡◌, None}
 use Rattle.protocol.specs.Desk.{State, refusal}
-use Rattle.protocol.specs.Letters.{txn_name}
 use Rattle.meaning.specs.declared.statement.Statement.{Statement}
 use Rattle.desk.specs.Calls.{txn_in}
 use Rattle.desk.specs.State.{table_of}
