@@ -32,3 +32,4 @@ pub mod Doing
 pub mod Unread
 pub mod Quiet
 pub mod PastLimit
+pub mod Full
