@@ -33,3 +33,4 @@ pub mod Unread
 pub mod Quiet
 pub mod PastLimit
 pub mod Full
+pub mod Arriving

@@ -24,9 +24,8 @@ ghost use Rattle.desk.specs.State.{Fits, IsIn, table_of};
 ghost use Rattle.desk.specs.Taking.{goes_on, may_send};
 ghost use Rattle.desk.specs.Turn.{AreSpots};
 
-use crate::ask::Ask;
 use crate::ballots::gave_first;
-use crate::bringing::{all_with_rows, are_in};
+use crate::bringing::{all_with_rows, are_in_with, bring};
 use crate::evaluating::{Worked, evaluate};
 use crate::made::room;
 use crate::present::Present;
@@ -35,7 +34,7 @@ use crate::reply::Out;
 use crate::standing::Standing;
 use crate::statements::{limited, put_out};
 use crate::stepping::{Step, nothing, ticket_goes};
-use crate::undecided::{Reading, Stage, Undecided};
+use crate::undecided::{Stage, Undecided};
 use crate::working::works;
 use catalog::catalogue::Catalog;
 use catalog::laws::leaf_names_are_unique;
@@ -44,15 +43,6 @@ use store::name::Txn;
 use store::reply::{Reply, Rows};
 use terms::seq::Seq;
 use terms::text::Text;
-
-/// A statement waits on, with these fetches.
-fn waits(reading: &mut Reading, asks: Vec<Ask>)
-    ensures statement { reading.new.statement ≡ reading.old.statement }
-    ensures plan { reading.new.plan ≡ reading.old.plan }
-    ensures asks { reading.new.asks.items ≡ asks.items }
-{
-    reading.asks = asks;
-}
 
 /// Rows of a site come. Those that a fetch waits for are kept until all are in; then the statement is evaluated.
 fn rows_come(
@@ -77,11 +67,11 @@ fn rows_come(
     let Stage::Reading(reading) = &mut undecided.stage else {
         return Ok(nothing(alloc));
     };
-    let asks = all_with_rows(alloc, catalog, site, rows, reading.asks.as_slice())?;
-    if !are_in(asks.as_slice()) {
-        waits(reading, asks);
+    if !are_in_with(catalog, site, rows, reading.asks.as_slice()) {
+        bring(alloc, catalog, site, rows, &mut reading.asks)?;
         return Ok(nothing(alloc));
     }
+    let asks = all_with_rows(alloc, catalog, site, rows, reading.asks.as_slice())?;
     let worked = evaluate(
         alloc,
         catalog,
