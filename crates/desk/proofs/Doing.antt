@@ -91,7 +91,7 @@ step_as : (db : Database) (txn : Txn) (new : Undecided) (step : Step) (one other
 step_as db txn new step one other same is = subst (IsStep db txn new step) (sym same) is
 
 -- ---- a statement is stated
-module _ (db : Database) (of : IsOfCatalogue db) (txn : Txn) (u new : Undecided) (idle : u.stage ≡ stage.Idle) (stated : Statement) (plan : Reduced) (planned : IsOfPlan db stated plan (map (ask_from db.catalogue) plan.fetches.items)) (step : Step) where
+module _ (db : Database) (of : IsOfCatalogue db) (txn : Txn) (u : Undecided) (idle : u.stage ≡ stage.Idle) (stated : Statement) (plan : Reduced) (planned : IsOfPlan db stated plan (map (ask_from db.catalogue) plan.fetches.items)) where
   abbrev asks : List Ask
   asks = map (ask_from db.catalogue) plan.fetches.items
 
@@ -101,35 +101,36 @@ module _ (db : Database) (of : IsOfCatalogue db) (txn : Txn) (u new : Undecided)
   abbrev begun : desk.Choice (language db) → List (desk.Ask (language db)) → desk.Turn (language db)
   begun choice list = desk.after_deed (desk.Stated (txn_name txn) stated) (desk.states (txn_name txn) (undecided_of db u) stated list choice)
 
-  wanted_is : (choice : desk.Choice (language db)) → wanted choice ≡ begun choice (map (ask_of db) asks)
+  pub wanted_is : (choice : desk.Choice (language db)) → wanted choice ≡ begun choice (map (ask_of db) asks)
   wanted_is choice =
       ap (λ st. desk.on_state {L = language db} (txn_name txn) (undecided_of db u) stated choice (stage_of db u.spots st)) idle
       ∙ ap (λ (list : List (desk.Ask (language db))). begun choice list) (ap (map (desk.ask_of {L = language db})) (of.fetches stated plan.fetches.items planned.statement planned.fetches) ∙ sym (asks_fresh db plan.fetches.items))
 
-  pub states_reads : (first : Ask) (rest : List Ask) → asks ≡ first ∷ rest → ((choice : desk.Choice (language db)) → IsStep db txn new step (desk.states (txn_name txn) (undecided_of db u) stated (map (ask_of db) asks) choice)) → IsIn db (standing.Undecided new) → Does db txn new step wanted
-  states_reads first rest some is within =
-      let choice : desk.Choice (language db) = (answer.Changed 0, []) in
-      let one = is choice in
-      record {
-        choice = choice;
-        step = step_as db txn new step (wanted choice) (begun choice (map (ask_of db) asks)) (wanted_is choice) (record { stands = one.stands; letters = one.letters; replies = one.replies });
-        explained = subst (λ (turn : desk.Turn (language db)). AllExplained turn.deeds) (sym (wanted_is choice ∙ ap (λ (list : List Ask). begun choice (map (ask_of db) list)) some)) (tt, tt);
-        within = within;
-      }
+  module _ (new : Undecided) (step : Step) where
+    pub states_reads : (first : Ask) (rest : List Ask) → asks ≡ first ∷ rest → ((choice : desk.Choice (language db)) → IsStep db txn new step (desk.states (txn_name txn) (undecided_of db u) stated (map (ask_of db) asks) choice)) → IsIn db (standing.Undecided new) → Does db txn new step wanted
+    states_reads first rest some is within =
+        let choice : desk.Choice (language db) = (answer.Changed 0, []) in
+        let one = is choice in
+        record {
+          choice = choice;
+          step = step_as db txn new step (wanted choice) (begun choice (map (ask_of db) asks)) (wanted_is choice) (record { stands = one.stands; letters = one.letters; replies = one.replies });
+          explained = subst (λ (turn : desk.Turn (language db)). AllExplained turn.deeds) (sym (wanted_is choice ∙ ap (λ (list : List Ask). begun choice (map (ask_of db) list)) some)) (tt, tt);
+          within = within;
+        }
 
-  pub states_works : asks ≡ [] → (told : Answer) (unsent : List Unsent) → Explained {L = language db} (desk.Worked (txn_name txn) stated (map (ask_of db) asks) (told, map write_of unsent)) →
-      ((list : List (desk.Ask (language db))) → IsStep db txn new step (desk.works (txn_name txn) (undecided_of db u) stated list (told, map write_of unsent))) → IsIn db (standing.Undecided new) → Does db txn new step wanted
-  states_works none told unsent why is within =
-      let choice : desk.Choice (language db) = (told, map write_of unsent) in
-      let one = is [] in
-      let same : wanted choice ≡ begun choice [] = wanted_is choice ∙ ap (λ (list : List Ask). begun choice (map (ask_of db) list)) none in
-      record {
-        choice = choice;
-        step = step_as db txn new step (wanted choice) (begun choice []) same (record { stands = one.stands; letters = one.letters; replies = one.replies });
-        explained = subst (λ (turn : desk.Turn (language db)). AllExplained turn.deeds) (sym same)
-            (tt, (subst (λ (list : List Ask). Explained {L = language db} (desk.Worked (txn_name txn) stated (map (ask_of db) list) choice)) none why, writes_explained (language db) (txn_name txn) (desk.visits (undecided_of db u) (map (λ w. w.0) choice.1)) told choice.1));
-        within = within;
-      }
+    pub states_works : asks ≡ [] → (told : Answer) (unsent : List Unsent) → Explained {L = language db} (desk.Worked (txn_name txn) stated (map (ask_of db) asks) (told, map write_of unsent)) →
+        ((list : List (desk.Ask (language db))) → IsStep db txn new step (desk.works (txn_name txn) (undecided_of db u) stated list (told, map write_of unsent))) → IsIn db (standing.Undecided new) → Does db txn new step wanted
+    states_works none told unsent why is within =
+        let choice : desk.Choice (language db) = (told, map write_of unsent) in
+        let one = is [] in
+        let same : wanted choice ≡ begun choice [] = wanted_is choice ∙ ap (λ (list : List Ask). begun choice (map (ask_of db) list)) none in
+        record {
+          choice = choice;
+          step = step_as db txn new step (wanted choice) (begun choice []) same (record { stands = one.stands; letters = one.letters; replies = one.replies });
+          explained = subst (λ (turn : desk.Turn (language db)). AllExplained turn.deeds) (sym same)
+              (tt, (subst (λ (list : List Ask). Explained {L = language db} (desk.Worked (txn_name txn) stated (map (ask_of db) list) choice)) none why, writes_explained (language db) (txn_name txn) (desk.visits (undecided_of db u) (map (λ w. w.0) choice.1)) told choice.1));
+          within = within;
+        }
 
 -- ---- a first ticket comes
 pub ticket_does : (db : Database) (txn : Txn) (u new : Undecided) (site : List ℕ) (ticket : Ticket) (step : Step) → (spot_in site u.spots).ticket ≡ None →
@@ -146,7 +147,7 @@ ticket_does db txn u new site ticket step none is within =
     }
 
 -- ---- rows come
-module _ (db : Database) (txn : Txn) (u new : Undecided) (site : List ℕ) (rows : Rows) (step : Step) where
+module _ (db : Database) (txn : Txn) (u : Undecided) (site : List ℕ) (rows : Rows) where
   abbrev rowed : desk.Choice (language db) → desk.Turn (language db)
   rowed choice = desk.on_known {L = language db} (txn_name txn) (undecided_of db u) site true choice (replied db (replies.Rows rows))
 
@@ -156,30 +157,31 @@ module _ (db : Database) (txn : Txn) (u new : Undecided) (site : List ℕ) (rows
   rowed_is : (choice : desk.Choice (language db)) (first : Bool) (st : Stage) → is_first rows.ticket (spot_in site u.spots).ticket ≡ first → u.stage ≡ st → rowed choice ≡ rowed_if choice first st
   rowed_is choice first st is here = ap (λ b. rowed_if choice b u.stage) (named_is rows.ticket (spot_in site u.spots).ticket ∙ is) ∙ ap (rowed_if choice first) here
 
-  -- nothing changes
-  still : (choice : desk.Choice (language db)) → rowed choice ≡ desk.stays (desk.Known (undecided_of db u)) → new ≡ u → step.letters.items ≡ [] → step.reply ≡ None → IsIn db (standing.Undecided u) → Does db txn new step rowed
-  still choice same is none quiet within = record {
-    choice = choice;
-    step = step_as db txn new step (rowed choice) (desk.stays (desk.Known (undecided_of db u))) same (record { stands = ap (λ x. desk.Known (undecided_of db x)) is; letters = ap (map (sent db)) none; replies = ap (told_to (txn_name txn)) quiet });
-    explained = subst (λ (turn : desk.Turn (language db)). AllExplained turn.deeds) (sym same) tt;
-    within = subst (λ x. IsIn db (standing.Undecided x)) (sym is) within;
-  }
+  module _ (new : Undecided) (step : Step) where
+    -- nothing changes
+    still : (choice : desk.Choice (language db)) → rowed choice ≡ desk.stays (desk.Known (undecided_of db u)) → new ≡ u → step.letters.items ≡ [] → step.reply ≡ None → IsIn db (standing.Undecided u) → Does db txn new step rowed
+    still choice same is none quiet within = record {
+      choice = choice;
+      step = step_as db txn new step (rowed choice) (desk.stays (desk.Known (undecided_of db u))) same (record { stands = ap (λ x. desk.Known (undecided_of db x)) is; letters = ap (map (sent db)) none; replies = ap (told_to (txn_name txn)) quiet });
+      explained = subst (λ (turn : desk.Turn (language db)). AllExplained turn.deeds) (sym same) tt;
+      within = subst (λ x. IsIn db (standing.Undecided x)) (sym is) within;
+    }
 
-  pub rows_strange : is_first rows.ticket (spot_in site u.spots).ticket ≡ false → new ≡ u → step.letters.items ≡ [] → step.reply ≡ None → IsIn db (standing.Undecided u) → Does db txn new step rowed
-  rows_strange other is none quiet within = let choice : desk.Choice (language db) = (answer.Changed 0, []) in still choice (rowed_is choice false u.stage other refl) is none quiet within
+    pub rows_strange : is_first rows.ticket (spot_in site u.spots).ticket ≡ false → new ≡ u → step.letters.items ≡ [] → step.reply ≡ None → IsIn db (standing.Undecided u) → Does db txn new step rowed
+    rows_strange other is none quiet within = let choice : desk.Choice (language db) = (answer.Changed 0, []) in still choice (rowed_is choice false u.stage other refl) is none quiet within
 
-  pub rows_unread : is_reading u.stage ≡ false → new ≡ u → step.letters.items ≡ [] → step.reply ≡ None → IsIn db (standing.Undecided u) → Does db txn new step rowed
-  rows_unread other is none quiet within = let choice : desk.Choice (language db) = (answer.Changed 0, []) in still choice (go choice (is_first rows.ticket (spot_in site u.spots).ticket) refl ∙ refl) is none quiet within
-    where
-      stays_at : (choice : desk.Choice (language db)) (st : Stage) → is_reading st ≡ false → rowed_if choice true st ≡ desk.stays (desk.Known (undecided_of db u))
-      stays_at choice stage.Idle e = refl
-      stays_at choice (stage.Reading reading) e = cc
-      stays_at choice (stage.Writing writing) e = refl
-      stays_at choice stage.Voting e = refl
+    pub rows_unread : is_reading u.stage ≡ false → new ≡ u → step.letters.items ≡ [] → step.reply ≡ None → IsIn db (standing.Undecided u) → Does db txn new step rowed
+    rows_unread other is none quiet within = let choice : desk.Choice (language db) = (answer.Changed 0, []) in still choice (go choice (is_first rows.ticket (spot_in site u.spots).ticket) refl ∙ refl) is none quiet within
+      where
+        stays_at : (choice : desk.Choice (language db)) (st : Stage) → is_reading st ≡ false → rowed_if choice true st ≡ desk.stays (desk.Known (undecided_of db u))
+        stays_at choice stage.Idle e = refl
+        stays_at choice (stage.Reading reading) e = cc
+        stays_at choice (stage.Writing writing) e = refl
+        stays_at choice stage.Voting e = refl
 
-      go : (choice : desk.Choice (language db)) (b : Bool) → is_first rows.ticket (spot_in site u.spots).ticket ≡ b → rowed choice ≡ desk.stays (desk.Known (undecided_of db u))
-      go choice true e = rowed_is choice true u.stage e refl ∙ stays_at choice u.stage other
-      go choice false e = rowed_is choice false u.stage e refl
+        go : (choice : desk.Choice (language db)) (b : Bool) → is_first rows.ticket (spot_in site u.spots).ticket ≡ b → rowed choice ≡ desk.stays (desk.Known (undecided_of db u))
+        go choice true e = rowed_is choice true u.stage e refl ∙ stays_at choice u.stage other
+        go choice false e = rowed_is choice false u.stage e refl
 
   -- they are put where they are waited for
   module _ (of : IsOfCatalogue db) (unique : LeafNamesAreUnique) (reading : Reading) (here : u.stage ≡ stage.Reading reading) (first : is_first rows.ticket (spot_in site u.spots).ticket ≡ true) (known_in : IsIn db (standing.Undecided u)) where
@@ -195,7 +197,7 @@ module _ (db : Database) (txn : Txn) (u new : Undecided) (site : List ℕ) (rows
     pub planned_given : IsOfPlan db reading.statement reading.plan given
     planned_given = same_plan db reading.statement reading.plan reading.asks.items given (rows_order db.catalogue site rows.op rows.parts reading.asks.items) planned
 
-    turn_is : (choice : desk.Choice (language db)) → rowed choice ≡ desk.rows_go {L = language db} (txn_name txn) (undecided_of db u) reading.statement (map (ask_of db) given) choice
+    pub turn_is : (choice : desk.Choice (language db)) → rowed choice ≡ desk.rows_go {L = language db} (txn_name txn) (undecided_of db u) reading.statement (map (ask_of db) given) choice
     turn_is choice =
         let all = known db of unique reading.statement reading.plan reading.asks.items planned in
         rowed_is choice true (stage.Reading reading) first here
@@ -204,36 +206,37 @@ module _ (db : Database) (txn : Txn) (u new : Undecided) (site : List ℕ) (rows
     abbrev go_if : desk.Choice (language db) → Bool → desk.Turn (language db)
     go_if choice b = if b then desk.works {L = language db} (txn_name txn) (undecided_of db u) reading.statement (map (ask_of db) given) choice else desk.stays (desk.Known (record (undecided_of db u) { stage = desk.Reading reading.statement (map (ask_of db) given) }))
 
-    pub rows_wait : are_in given ≡ false → (after : Reading) → after.statement ≡ reading.statement → after.plan ≡ reading.plan → after.asks.items ≡ given → new.spots ≡ u.spots → new.stage ≡ stage.Reading after → step.letters.items ≡ [] → step.reply ≡ None → Does db txn new step rowed
-    rows_wait more after statement plan items spots now none quiet =
-        let choice : desk.Choice (language db) = (answer.Changed 0, []) in
-        let same : rowed choice ≡ go_if choice false = turn_is choice ∙ ap (go_if choice) (all_in db given ∙ more) in
-        record {
-          choice = choice;
-          step = step_as db txn new step (rowed choice) (go_if choice false) same (record {
-            stands = λ i. desk.Known (record (undecided_of db (record { spots = spots i; stage = u.stage })) { stage = (ap (stage_of db new.spots) now ∙ (λ j. desk.Reading (statement j) (map (ask_of db) (items j)))) i });
-            letters = ap (map (sent db)) none;
-            replies = ap (told_to (txn_name txn)) quiet;
-          });
-          explained = subst (λ (turn : desk.Turn (language db)). AllExplained turn.deeds) (sym same) tt;
-          within = (
-            ap sites_of spots ∙ known_in.0,
-            subst (IsAtHome db) (sym now) (subst (AsksAtHome db) (sym items) (rows_home db.catalogue site rows.op rows.parts db reading.asks.items home)),
-            subst (IsPlanned db) (sym now) (subst (λ s. IsOfPlan db s after.plan after.asks.items) (sym statement) (subst (λ p. IsOfPlan db reading.statement p after.asks.items) (sym plan) (subst (IsOfPlan db reading.statement reading.plan) (sym items) planned_given))),
-          );
-        }
+    module _ (new : Undecided) (step : Step) where
+      pub rows_wait : are_in given ≡ false → (after : Reading) → after.statement ≡ reading.statement → after.plan ≡ reading.plan → after.asks.items ≡ given → new.spots ≡ u.spots → new.stage ≡ stage.Reading after → step.letters.items ≡ [] → step.reply ≡ None → Does db txn new step rowed
+      rows_wait more after statement plan items spots now none quiet =
+          let choice : desk.Choice (language db) = (answer.Changed 0, []) in
+          let same : rowed choice ≡ go_if choice false = turn_is choice ∙ ap (go_if choice) (all_in db given ∙ more) in
+          record {
+            choice = choice;
+            step = step_as db txn new step (rowed choice) (go_if choice false) same (record {
+              stands = λ i. desk.Known (record (undecided_of db (record { spots = spots i; stage = u.stage })) { stage = (ap (stage_of db new.spots) now ∙ (λ j. desk.Reading (statement j) (map (ask_of db) (items j)))) i });
+              letters = ap (map (sent db)) none;
+              replies = ap (told_to (txn_name txn)) quiet;
+            });
+            explained = subst (λ (turn : desk.Turn (language db)). AllExplained turn.deeds) (sym same) tt;
+            within = (
+              ap sites_of spots ∙ known_in.0,
+              subst (IsAtHome db) (sym now) (subst (AsksAtHome db) (sym items) (rows_home db.catalogue site rows.op rows.parts db reading.asks.items home)),
+              subst (IsPlanned db) (sym now) (subst (λ s. IsOfPlan db s after.plan after.asks.items) (sym statement) (subst (λ p. IsOfPlan db reading.statement p after.asks.items) (sym plan) (subst (IsOfPlan db reading.statement reading.plan) (sym items) planned_given))),
+            );
+          }
 
-    pub rows_work : are_in given ≡ true → (told : Answer) (unsent : List Unsent) → Explained {L = language db} (desk.Worked (txn_name txn) reading.statement (map (ask_of db) given) (told, map write_of unsent)) →
-        IsStep db txn new step (desk.works (txn_name txn) (undecided_of db u) reading.statement (map (ask_of db) given) (told, map write_of unsent)) → IsIn db (standing.Undecided new) → Does db txn new step rowed
-    rows_work all told unsent why is within =
-        let choice : desk.Choice (language db) = (told, map write_of unsent) in
-        let same : rowed choice ≡ go_if choice true = turn_is choice ∙ ap (go_if choice) (all_in db given ∙ all) in
-        record {
-          choice = choice;
-          step = step_as db txn new step (rowed choice) (go_if choice true) same is;
-          explained = subst (λ (turn : desk.Turn (language db)). AllExplained turn.deeds) (sym same) (why, writes_explained (language db) (txn_name txn) (desk.visits (undecided_of db u) (map (λ w. w.0) choice.1)) told choice.1);
-          within = within;
-        }
+      pub rows_work : are_in given ≡ true → (told : Answer) (unsent : List Unsent) → Explained {L = language db} (desk.Worked (txn_name txn) reading.statement (map (ask_of db) given) (told, map write_of unsent)) →
+          IsStep db txn new step (desk.works (txn_name txn) (undecided_of db u) reading.statement (map (ask_of db) given) (told, map write_of unsent)) → IsIn db (standing.Undecided new) → Does db txn new step rowed
+      rows_work all told unsent why is within =
+          let choice : desk.Choice (language db) = (told, map write_of unsent) in
+          let same : rowed choice ≡ go_if choice true = turn_is choice ∙ ap (go_if choice) (all_in db given ∙ all) in
+          record {
+            choice = choice;
+            step = step_as db txn new step (rowed choice) (go_if choice true) same is;
+            explained = subst (λ (turn : desk.Turn (language db)). AllExplained turn.deeds) (sym same) (why, writes_explained (language db) (txn_name txn) (desk.visits (undecided_of db u) (map (λ w. w.0) choice.1)) told choice.1);
+            within = within;
+          }
 
 -- ---- where a call may fail
 module _ (db : Database) (of : IsOfCatalogue db) (txn : Txn) (u new : Undecided) (idle : u.stage ≡ stage.Idle) (stated : Statement) (plan : Reduced) (list : List Ask) (of_plan : IsOfPlan db stated plan list) (same : list ≡ map (ask_from db.catalogue) plan.fetches.items) {E : Type 0} (result : Result Step E) (within : OnOk result (IsIn db (standing.Undecided new))) where
@@ -245,7 +248,7 @@ module _ (db : Database) (of : IsOfCatalogue db) (txn : Txn) (u new : Undecided)
   works_once none told unsent why is = go result within is
     where
       go : (result : Result Step E) → OnOk result (IsIn db (standing.Undecided new)) → ((others : List (desk.Ask (language db))) → IfOk result (λ step. IsStep db txn new step (desk.works (txn_name txn) (undecided_of db u) stated others (told, map write_of unsent)))) → IfOk result (λ step. Does db txn new step (λ choice. desk.on_request (txn_name txn) choice (desk.State stated) (desk.Known (undecided_of db u))))
-      go (Ok step) within is = states_works db of txn u new idle stated plan planned_so step (sym same ∙ none) told unsent (subst (λ (l : List Ask). Explained {L = language db} (desk.Worked (txn_name txn) stated (map (ask_of db) l) (told, map write_of unsent))) same why) is within
+      go (Ok step) within is = states_works db of txn u idle stated plan planned_so new step (sym same ∙ none) told unsent (subst (λ (l : List Ask). Explained {L = language db} (desk.Worked (txn_name txn) stated (map (ask_of db) l) (told, map write_of unsent))) same why) is within
       go (Err e) within is = tt
 
   pub reads_on : nat_eq (length list) 0 ≡ false → ((choice : desk.Choice (language db)) (first : Ask) (rest : List Ask) → list ≡ first ∷ rest → IfOk result (λ step. IsStep db txn new step (desk.states (txn_name txn) (undecided_of db u) stated (map (ask_of db) list) choice))) →
@@ -255,7 +258,7 @@ module _ (db : Database) (of : IsOfCatalogue db) (txn : Txn) (u new : Undecided)
       at : (l : List Ask) → list ≡ l → (result : Result Step E) → OnOk result (IsIn db (standing.Undecided new)) → ((choice : desk.Choice (language db)) (first : Ask) (rest : List Ask) → list ≡ first ∷ rest → IfOk result (λ step. IsStep db txn new step (desk.states (txn_name txn) (undecided_of db u) stated (map (ask_of db) list) choice))) →
           IfOk result (λ step. Does db txn new step (λ choice. desk.on_request (txn_name txn) choice (desk.State stated) (desk.Known (undecided_of db u))))
       at [] e result within is = let f : true ≡ false = sym (ap (λ (l : List Ask). nat_eq (length l) 0) e) ∙ some in cc
-      at (first ∷ rest) e (Ok step) within is = states_reads db of txn u new idle stated plan planned_so step first rest (sym same ∙ e)
+      at (first ∷ rest) e (Ok step) within is = states_reads db of txn u idle stated plan planned_so new step first rest (sym same ∙ e)
           (λ choice. subst (λ (l : List Ask). IsStep db txn new step (desk.states (txn_name txn) (undecided_of db u) stated (map (ask_of db) l) choice)) same (is choice first rest e)) within
       at (first ∷ rest) e (Err x) within is = tt
 
@@ -266,7 +269,7 @@ pub works_rows : (db : Database) (txn : Txn) (u new : Undecided) (site : List �
     IfOk result (λ step. Does db txn new step (λ choice. desk.on_known {L = language db} (txn_name txn) (undecided_of db u) site true choice (replied db (replies.Rows rows))))
 works_rows db txn u new site rows of unique reading here first known_in list same all told unsent why (Err e) is within = tt
 works_rows db txn u new site rows of unique reading here first known_in list same all told unsent why (Ok step) is within =
-    rows_work db txn u new site rows step of unique reading here first known_in (sym (ap are_in same) ∙ all) told unsent
+    rows_work db txn u site rows of unique reading here first known_in new step (sym (ap are_in same) ∙ all) told unsent
     (subst (λ (l : List Ask). Explained {L = language db} (desk.Worked (txn_name txn) reading.statement (map (ask_of db) l) (told, map write_of unsent))) same why)
     (subst (λ (l : List Ask). IsStep db txn new step (desk.works (txn_name txn) (undecided_of db u) reading.statement (map (ask_of db) l) (told, map write_of unsent))) same is) within
 
@@ -386,4 +389,4 @@ pub rows_wait_by : (db : Database) (txn : Txn) (u new : Undecided) (site : List 
     Does db txn new step (λ choice. desk.on_known {L = language db} (txn_name txn) (undecided_of db u) site true choice (replied db (replies.Rows rows)))
 rows_wait_by db txn u new site rows of unique reading here first known_in catalogue same list list_is more after statement plan items spots now step none quiet =
     let there = list_is ∙ ap (λ cat. map (with_rows cat site rows.op rows.parts) reading.asks.items) (sym same) in
-    rows_wait db txn u new site rows step of unique reading here first known_in (sym (ap are_in there) ∙ more) after statement plan (items ∙ there) spots now none quiet
+    rows_wait db txn u site rows of unique reading here first known_in new step (sym (ap are_in there) ∙ more) after statement plan (items ∙ there) spots now none quiet

@@ -32,3 +32,5 @@ pub mod Doing
 pub mod Unread
 pub mod Quiet
 pub mod PastLimit
+pub mod Full
+pub mod Arriving

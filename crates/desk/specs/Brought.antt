@@ -1,5 +1,5 @@
 -- Rows that come, and what is evaluated once all are in.
-use Rattle.std.specs.Prelude.{ℕ, nat_eq, Bool, false, ◌&&◌, if◌then◌else◌, List, Option, Some, None, is_none, is_some, length}
+use Rattle.std.specs.Prelude.{ℕ, nat_eq, Bool, false, ◌&&◌, ◌||◌, if◌then◌else◌, List, [], ◌∷◌, Option, Some, None, is_none, is_some, length}
 use Rattle.std.specs.Cmp.Lexicographic.{pointwise}
 use Rattle.std.specs.List.{filter_map, list_all}
 use Rattle.std.specs.Option.{option_map}
@@ -25,6 +25,24 @@ awaits catalogue site number rows ask =
 -- the fetch with its rows, if these are they
 abbrev pub with_rows : Catalogue → List ℕ → ℕ → List (List Value) → Ask → Ask
 with_rows catalogue site number rows ask = if awaits catalogue site number rows ask then record ask { rows = Some rows } else ask
+
+-- whether a fetch, and whether each, has its rows once these have come
+abbrev pub has_rows_with : Catalogue → List ℕ → ℕ → List (List Value) → Ask → Bool
+has_rows_with catalogue site number rows ask = is_some ask.rows || awaits catalogue site number rows ask
+
+abbrev pub are_in_with : Catalogue → List ℕ → ℕ → List (List Value) → List Ask → Bool
+are_in_with catalogue site number rows asks = list_all (has_rows_with catalogue site number rows) asks
+
+-- the rows that a fetch gets, if it waits for these
+abbrev pub rows_for : Catalogue → List ℕ → ℕ → List (List Value) → Ask → Option (List (List Value))
+rows_for catalogue site number rows ask = if awaits catalogue site number rows ask then Some rows else None
+
+-- fetches with the rows that each of them gets
+abbrev pub with_found : List Ask → List (Option (List (List Value))) → List Ask
+with_found [] found = []
+with_found (ask ∷ asks) [] = ask ∷ asks
+with_found (ask ∷ asks) (None ∷ found) = ask ∷ with_found asks found
+with_found (ask ∷ asks) (Some rows ∷ found) = record ask { rows = Some rows } ∷ with_found asks found
 
 -- whether all rows are in
 abbrev pub are_in : List Ask → Bool

@@ -1,5 +1,5 @@
 -- What is done of a statement.
-use Rattle.std.specs.Prelude.{◌≡◌, ◌⊎◌, ℕ, true, List}
+use Rattle.std.specs.Prelude.{◌≡◌, ◌⊎◌, ℕ, true, false, List}
 use Rattle.std.specs.BTreeMap.{is_at}
 use Rattle.std.specs.Map.{set_value}
 use Rattle.meaning.specs.declared.schema.RelationSchema.{RelationSchema}
@@ -29,7 +29,7 @@ use Rattle.desk.specs.declared.undecided.Undecided.{Undecided}
 use Rattle.desk.specs.Calls.{txn_in}
 use Rattle.desk.specs.Database.{Database, language}
 use Rattle.desk.specs.Sending.{AreShort}
-use Rattle.desk.specs.State.{IsIn, Steps, Table, table_from}
+use Rattle.desk.specs.State.{IsIn, Steps, Table, desk_of, table_from}
 use Rattle.desk.specs.Stepped.{IsStep}
 
 -- a step is the protocol's for one answer and its writes, and these are explained
@@ -77,3 +77,22 @@ pub record GoesOn (db : Database) (old : Present) (after : Table) (txn : Txn) (m
   pub moved : after ≡ table_from (set_value (is_at (txn_cmp txn)) old.standings.entries (standing.Undecided new)) old.undecided old.life old.number
   pub does : Does db txn new made wanted
   pub short : protocol.is_short_txn (wanted does.choice).txn ≡ true
+
+-- for one answer and its writes, which are explained, the step sends a site more operations than the limit allows
+pub record IsLong (db : Database) (wanted : protocol.Choice (language db) → protocol.Turn (language db)) : Type 0 where
+  pub choice : protocol.Choice (language db)
+  pub explained : AllExplained (wanted choice).deeds
+  pub long : protocol.is_short_txn (wanted choice).txn ≡ false
+
+-- so the step would lead past the coordinator's limits
+pub record IsPastLimits (db : Database) (before : Table) (txn : Txn) (wanted : protocol.Choice (language db) → protocol.Turn (language db)) : Type 0 where
+  pub choice : protocol.Choice (language db)
+  pub explained : AllExplained (wanted choice).deeds
+  pub past : protocol.is_desk_within (protocol.desk_after (desk_of db before) (txn_name txn) (wanted choice).txn) ≡ false
+
+-- a text is a statement's, and to state it would lead past them
+pub record StatesPastLimits (db : Database) (before : Table) (txn : Txn) (text : List ℕ) : Type 0 where
+  pub statement : Statement
+  pub spelled : IsTextOf db.schemas text (command.Run statement)
+  pub fits : IsStatementOf db.schemas statement
+  pub past : IsPastLimits db before txn (λ choice. protocol.on_request (txn_name txn) choice (protocol.State statement) (txn_in db before txn))

@@ -1,9 +1,9 @@
 //! Rows that come.
 
-ghost use Rattle.std.specs.Prelude.{◌≡◌, map, IfOk};
+ghost use Rattle.std.specs.Prelude.{◌≡◌, map, IfOk, OnErr, OnOk};
 ghost use Rattle.catalog.specs.FragmentLeaf.{catalogue_leaves, leaf_named};
 ghost use Rattle.catalog.specs.Relation.{catalogue_of};
-ghost use Rattle.desk.specs.Brought.{are_in, awaits, brought, fits_leaf, with_rows};
+ghost use Rattle.desk.specs.Brought.{are_in_with, awaits, brought, fits_leaf, has_rows_with, rows_for, with_found, with_rows};
 
 use crate::ask::Ask;
 use answers::table::{FetchRows, are_parts};
@@ -14,6 +14,7 @@ use terms::copy::TryCopy;
 use terms::leaf::Leaf;
 use terms::memory::Memory;
 use terms::part::Part;
+use terms::seq::Seq;
 use terms::text::Text;
 
 /// Whether rows can be parts of a leaf.
@@ -64,11 +65,83 @@ pub(crate) fn all_with_rows(
     Ok(others)
 }
 
-/// Whether all rows are in.
-pub(crate) fn are_in(asks: &[Ask]) -> bool
-    ensures { result ≡ are_in asks.now }
+/// The rows that a fetch gets, if it waits for these.
+fn rows_for(
+    catalog: &Catalog,
+    site: &Text,
+    rows: &Rows,
+    ask: &Ask,
+) -> Result<Option<Seq<Part>>, Memory>
+    ensures { IfOk result (λ found. found ≡ rows_for (catalogue_of catalog.now) site.now rows.now.op rows.now.parts ask.now) }
 {
-    asks.iter().all(|ask| ask.rows.is_some())
+    if awaits(catalog, site, rows, ask) {
+        return Ok(Some(rows.parts.copy()?));
+    }
+    Ok(None)
+}
+
+/// The rows that each fetch gets.
+fn all_rows_for(
+    alloc: Global,
+    catalog: &Catalog,
+    site: &Text,
+    rows: &Rows,
+    asks: &[Ask],
+) -> Result<Vec<Option<Seq<Part>>>, Memory>
+    ensures { IfOk result (λ found. found.items ≡ map (rows_for (catalogue_of catalog.now) site.now rows.now.op rows.now.parts) asks.now) }
+{
+    let mut found = Vec::new(alloc);
+    for ask in asks {
+        found.push(rows_for(catalog, site, rows, ask)?)?;
+    }
+    Ok(found)
+}
+
+/// Fetches get these rows.
+fn put_rows(asks: &mut [Ask], found: &mut [Option<Seq<Part>>])
+    ensures { asks.new ≡ with_found asks.old found.old }
+{
+    let Some((ask, asks)) = asks.split_first_mut() else {
+        return;
+    };
+    let Some((first, found)) = found.split_first_mut() else {
+        return;
+    };
+    if let Some(rows) = first.take() {
+        ask.rows = Some(rows);
+    }
+    put_rows(asks, found);
+}
+
+/// The fetches that wait for these rows get them. What came before stays where it is.
+pub(crate) fn bring(
+    alloc: Global,
+    catalog: &Catalog,
+    site: &Text,
+    rows: &Rows,
+    asks: &mut Vec<Ask>,
+) -> Result<(), Memory>
+    ensures ok { OnOk result (asks.new.items ≡ map (with_rows (catalogue_of catalog.now) site.now rows.now.op rows.now.parts) asks.old.items) }
+    ensures same { OnErr result (asks.new ≡ asks.old) }
+{
+    let mut found = all_rows_for(alloc, catalog, site, rows, asks.as_slice())?;
+    put_rows(asks.as_mut_slice(), found.as_mut_slice());
+    Ok(())
+}
+
+/// Whether a fetch has its rows once these have come.
+fn has_rows_with(catalog: &Catalog, site: &Text, rows: &Rows, ask: &Ask) -> bool
+    ensures { result ≡ has_rows_with (catalogue_of catalog.now) site.now rows.now.op rows.now.parts ask.now }
+{
+    ask.rows.is_some() || awaits(catalog, site, rows, ask)
+}
+
+/// Whether all rows are in once these have come.
+pub(crate) fn are_in_with(catalog: &Catalog, site: &Text, rows: &Rows, asks: &[Ask]) -> bool
+    ensures { result ≡ are_in_with (catalogue_of catalog.now) site.now rows.now.op rows.now.parts asks.now }
+{
+    asks.iter()
+        .all(|ask| has_rows_with(catalog, site, rows, ask))
 }
 
 /// What fetches brought.

@@ -17,9 +17,9 @@ ghost use Rattle.store.specs.declared.reply.Reply.{Reply};
 ghost use Rattle.desk.specs.declared.refusal.Refusal.TheVariants as refusals;
 ghost use Rattle.desk.specs.Calls.{IsOver, refused_as, txn_in};
 ghost use Rattle.desk.specs.Database.{Database, language, replied};
-ghost use Rattle.desk.specs.Does.{IsUnread, States, Takes};
+ghost use Rattle.desk.specs.Does.{IsPastLimits, IsUnread, States, StatesPastLimits, Takes};
 ghost use Rattle.desk.specs.OfCatalogue.{IsOfCatalogue};
-ghost use Rattle.desk.specs.Taking.{is_strange};
+ghost use Rattle.desk.specs.Taking.{is_strange, may_send};
 ghost use Rattle.desk.specs.Starting.{IsStrange, Restarts, Rises};
 ghost use Rattle.desk.specs.State.{Begins, Fits, Steps, desk_of, table_of};
 
@@ -158,6 +158,8 @@ impl<S: DeskStore> Desk<S> {
         ensures accepted { (db : Database) (statement : Statement) → OnOk result (refusal (State statement) (txn_in db (table_of self.old.present) txn) ≡ None) }
         ensures told { (db : Database) (statement : Statement) → IfErr result (λ told. (told ≡ refusals.Memory) ⊎ (option_map refused_as (refusal (State statement) (txn_in db (table_of self.old.present) txn)) ≡ Some told)
             ⊎ ((refusal (State statement) (txn_in db (table_of self.old.present) txn) ≡ None) × (IsUnread (schemas_of (catalogue_of self.old.catalog)) text.now told ⊎ (told ≡ refusals.Full)))) }
+        ensures full { (db : Database) → IsOfCatalogue db → db.catalogue ≡ catalogue_of self.old.catalog → Fits db (S.kept self.old.store) (table_of self.old.present) → result ≡ Err refusals.Full
+            → StatesPastLimits db (table_of self.old.present) txn text.now }
         ensures err { OnErr result (table_of self.new.present ≡ table_of self.old.present) }
         ensures store { self.new.store ≡ self.old.store }
         ensures catalog { self.new.catalog ≡ self.old.catalog }
@@ -177,6 +179,10 @@ impl<S: DeskStore> Desk<S> {
         ensures silent { is_strange self.old.catalog.0 letter.now ≡ true → IfOk result (λ out. (out.letters ≡ []) × (out.replies ≡ []) × (out.kept ≡ true)) }
         ensures refusal { IfOk result (λ out. out.kept ≡ false → HasRefused (S.refused self.old.store) (S.refused self.new.store)) }
         ensures own { IfErr result (λ told. (told ≡ refusals.Memory) ⊎ (told ≡ refusals.Full)) }
+        ensures full { (db : Database) (reply : Reply) → IsOfCatalogue db → db.catalogue ≡ catalogue_of self.old.catalog → Fits db (S.kept self.old.store) (table_of self.old.present)
+            → letter.now.body ≡ bodies.Reply reply → list_any (λ site. pointwise nat_eq site letter.now.site) db.sites ≡ true → result ≡ Err refusals.Full
+            → IsPastLimits db (table_of self.old.present) letter.now.txn (λ choice. on_desk_letter (txn_name letter.now.txn) letter.now.site true choice (replied db reply) (txn_in db (table_of self.old.present) letter.now.txn)) }
+        ensures full_at { (reply : Reply) → letter.now.body ≡ bodies.Reply reply → result ≡ Err refusals.Full → may_send ((table_of self.old.present).standing letter.now.txn) letter.now.site reply ≡ true }
         ensures err { OnErr result (table_of self.new.present ≡ table_of self.old.present) }
         ensures same { S.is_clean self.new.store → S.is_sound self.old.store → OnErr result (IsUnchanged (S.kept self.old.store) (S.kept self.new.store)) }
         ensures catalog { self.new.catalog ≡ self.old.catalog }
@@ -196,6 +202,10 @@ impl<S: DeskStore> Desk<S> {
         ensures silent { is_strange self.old.catalog.0 letter.now ≡ true → IfOk result (λ out. (out.letters ≡ []) × (out.replies ≡ []) × (out.kept ≡ true)) }
         ensures refusal { IfOk result (λ out. out.kept ≡ false → (kept ≡ false) ⊎ HasRefused (S.refused self.old.store) (S.refused self.new.store)) }
         ensures own { IfErr result (λ told. (told ≡ refusals.Memory) ⊎ (told ≡ refusals.Full)) }
+        ensures full { (db : Database) (reply : Reply) → IsOfCatalogue db → db.catalogue ≡ catalogue_of self.old.catalog → Fits db (S.kept self.old.store) (table_of self.old.present)
+            → letter.now.body ≡ bodies.Reply reply → list_any (λ site. pointwise nat_eq site letter.now.site) db.sites ≡ true → result ≡ Err refusals.Full
+            → IsPastLimits db (table_of self.old.present) letter.now.txn (λ choice. on_desk_letter (txn_name letter.now.txn) letter.now.site true choice (replied db reply) (txn_in db (table_of self.old.present) letter.now.txn)) }
+        ensures full_at { (reply : Reply) → letter.now.body ≡ bodies.Reply reply → result ≡ Err refusals.Full → may_send ((table_of self.old.present).standing letter.now.txn) letter.now.site reply ≡ true }
         ensures err { OnErr result (table_of self.new.present ≡ table_of self.old.present) }
         ensures same { S.is_clean self.new.store → S.is_sound self.old.store → OnErr result (IsUnchanged (S.kept self.old.store) (S.kept self.new.store)) }
         ensures catalog { self.new.catalog ≡ self.old.catalog }

@@ -1,6 +1,6 @@
 //! Letters of sites by which a statement goes on.
 
-ghost use Rattle.std.specs.Prelude.{◌≡◌, ◌⊎◌, [], None, Some, nat_eq, true, IfOk, IfErr, OnOk, OnErr};
+ghost use Rattle.std.specs.Prelude.{◌≡◌, ◌⊎◌, [], None, Some, Err, nat_eq, true, IfOk, IfErr, OnOk, OnErr};
 ghost use Rattle.std.specs.Cmp.Lexicographic.{pointwise};
 ghost use Rattle.std.specs.BTreeMap.{IsOrdered};
 ghost use Rattle.std.specs.List.{list_any};
@@ -15,7 +15,7 @@ ghost use Rattle.desk.specs.declared.standing.Standing.TheVariants as standings;
 ghost use Rattle.desk.specs.declared.undecided.Undecided.{Undecided as UndecidedNow};
 ghost use Rattle.desk.specs.Calls.{txn_in};
 ghost use Rattle.desk.specs.Database.{Database, language, replied};
-ghost use Rattle.desk.specs.Does.{Does, DoesIn, GoesOn, IsShort, Takes};
+ghost use Rattle.desk.specs.Does.{Does, DoesIn, GoesOn, IsLong, IsPastLimits, IsShort, Takes};
 ghost use Rattle.desk.specs.OfCatalogue.{IsOfCatalogue};
 ghost use Rattle.desk.specs.Sending.{AreShort};
 ghost use Rattle.desk.specs.Spots.{is_at, spot_in};
@@ -24,9 +24,8 @@ ghost use Rattle.desk.specs.State.{Fits, IsIn, table_of};
 ghost use Rattle.desk.specs.Taking.{goes_on, may_send};
 ghost use Rattle.desk.specs.Turn.{AreSpots};
 
-use crate::ask::Ask;
 use crate::ballots::gave_first;
-use crate::bringing::{all_with_rows, are_in};
+use crate::bringing::{all_with_rows, are_in_with, bring};
 use crate::evaluating::{Worked, evaluate};
 use crate::made::room;
 use crate::present::Present;
@@ -35,7 +34,7 @@ use crate::reply::Out;
 use crate::standing::Standing;
 use crate::statements::{limited, put_out};
 use crate::stepping::{Step, nothing, ticket_goes};
-use crate::undecided::{Reading, Stage, Undecided};
+use crate::undecided::{Stage, Undecided};
 use crate::working::works;
 use catalog::catalogue::Catalog;
 use catalog::laws::leaf_names_are_unique;
@@ -44,15 +43,6 @@ use store::name::Txn;
 use store::reply::{Reply, Rows};
 use terms::seq::Seq;
 use terms::text::Text;
-
-/// A statement waits on, with these fetches.
-fn waits(reading: &mut Reading, asks: Vec<Ask>)
-    ensures statement { reading.new.statement ≡ reading.old.statement }
-    ensures plan { reading.new.plan ≡ reading.old.plan }
-    ensures asks { reading.new.asks.items ≡ asks.items }
-{
-    reading.asks = asks;
-}
 
 /// Rows of a site come. Those that a fetch waits for are kept until all are in; then the statement is evaluated.
 fn rows_come(
@@ -66,6 +56,8 @@ fn rows_come(
     ensures does { (db : Database) → IsOfCatalogue db → db.catalogue ≡ catalogue_of catalog.now → AreSpots db undecided.old.spots → IsIn db (standings.Undecided undecided.old)
         → IfOk result (λ step. Does db txn undecided.new step (λ choice. on_known (txn_name txn) (undecided_of db undecided.old) site.now true choice (replied db (replies.Rows rows.now)))) }
     ensures short { AreShort undecided.old.spots → OnOk result (AreShort undecided.new.spots) }
+    ensures full { (db : Database) → IsOfCatalogue db → db.catalogue ≡ catalogue_of catalog.now → AreSpots db undecided.old.spots → IsIn db (standings.Undecided undecided.old) → result ≡ Err refusals.Full
+        → IsLong db (λ choice. on_known (txn_name txn) (undecided_of db undecided.old) site.now true choice (replied db (replies.Rows rows.now))) }
     ensures same { OnErr result (undecided.new ≡ undecided.old) }
 {
     leaf_names_are_unique();
@@ -75,11 +67,11 @@ fn rows_come(
     let Stage::Reading(reading) = &mut undecided.stage else {
         return Ok(nothing(alloc));
     };
-    let asks = all_with_rows(alloc, catalog, site, rows, reading.asks.as_slice())?;
-    if !are_in(asks.as_slice()) {
-        waits(reading, asks);
+    if !are_in_with(catalog, site, rows, reading.asks.as_slice()) {
+        bring(alloc, catalog, site, rows, &mut reading.asks)?;
         return Ok(nothing(alloc));
     }
+    let asks = all_with_rows(alloc, catalog, site, rows, reading.asks.as_slice())?;
     let worked = evaluate(
         alloc,
         catalog,
@@ -104,6 +96,8 @@ fn goes(
     ensures does { (db : Database) → IsOfCatalogue db → db.catalogue ≡ catalogue_of catalog.now → list_any (is_at site.now) undecided.old.spots ≡ true → AreSpots db undecided.old.spots → IsIn db (standings.Undecided undecided.old)
         → IfOk result (λ step. Does db txn undecided.new step (λ choice. on_known (txn_name txn) (undecided_of db undecided.old) site.now true choice (replied db reply.now))) }
     ensures short { AreShort undecided.old.spots → OnOk result (AreShort undecided.new.spots) }
+    ensures full { (db : Database) → IsOfCatalogue db → db.catalogue ≡ catalogue_of catalog.now → list_any (is_at site.now) undecided.old.spots ≡ true → AreSpots db undecided.old.spots → IsIn db (standings.Undecided undecided.old) → result ≡ Err refusals.Full
+        → IsLong db (λ choice. on_known (txn_name txn) (undecided_of db undecided.old) site.now true choice (replied db reply.now)) }
     ensures same { OnErr result (undecided.new ≡ undecided.old) }
 {
     match reply {
@@ -126,6 +120,8 @@ fn standing_goes(
     ensures does { (db : Database) (old : UndecidedNow) → IsOfCatalogue db → db.catalogue ≡ catalogue_of catalog.now → standing.old ≡ standings.Undecided old → list_any (is_at site.now) old.spots ≡ true → AreSpots db old.spots → IsIn db (standings.Undecided old)
         → IfOk result (λ step. DoesIn db txn standing.new step (λ choice. on_known (txn_name txn) (undecided_of db old) site.now true choice (replied db reply.now))) }
     ensures short { IsShort standing.old → OnOk result (IsShort standing.new) }
+    ensures full { (db : Database) (old : UndecidedNow) → IsOfCatalogue db → db.catalogue ≡ catalogue_of catalog.now → standing.old ≡ standings.Undecided old → list_any (is_at site.now) old.spots ≡ true → AreSpots db old.spots → IsIn db (standings.Undecided old) → result ≡ Err refusals.Full
+        → IsLong db (λ choice. on_known (txn_name txn) (undecided_of db old) site.now true choice (replied db reply.now)) }
     ensures same { OnErr result (standing.new ≡ standing.old) }
 {
     match standing {
@@ -146,6 +142,9 @@ fn gone_on(
     ensures goes { (db : Database) (kept : DeskContent) (old : UndecidedNow) → IsOfCatalogue db → db.catalogue ≡ catalogue_of catalog.now → Fits db kept (table_of present.old)
         → (table_of present.old).standing txn ≡ Some (standings.Undecided old) → list_any (is_at site.now) old.spots ≡ true
         → IfOk result (λ step. GoesOn db present.old (table_of present.new) txn step (λ choice. on_desk_letter (txn_name txn) site.now true choice (replied db reply.now) (txn_in db (table_of present.old) txn))) }
+    ensures full { (db : Database) (kept : DeskContent) (old : UndecidedNow) → IsOfCatalogue db → db.catalogue ≡ catalogue_of catalog.now → Fits db kept (table_of present.old)
+        → (table_of present.old).standing txn ≡ Some (standings.Undecided old) → list_any (is_at site.now) old.spots ≡ true → result ≡ Err refusals.Full
+        → IsLong db (λ choice. on_desk_letter (txn_name txn) site.now true choice (replied db reply.now) (txn_in db (table_of present.old) txn)) }
     ensures err { OnErr result (table_of present.new ≡ table_of present.old) }
     ensures ordered { IsOrdered txn_cmp present.old.standings }
 {
@@ -183,6 +182,8 @@ pub(crate) fn take_on(
         → IfOk result (λ out. Takes db (table_of present.old) kept (table_of present.new) txn (λ choice. on_desk_letter (txn_name txn) site.now true choice (replied db reply.now) (txn_in db (table_of present.old) txn)) out.letters out.replies) }
     ensures kept { IfOk result (λ out. out.kept ≡ true) }
     ensures own { IfErr result (λ told. (told ≡ refusals.Memory) ⊎ (told ≡ refusals.Full)) }
+    ensures full { (db : Database) (kept : DeskContent) → IsOfCatalogue db → db.catalogue ≡ catalogue_of catalog.now → Fits db kept (table_of present.old) → list_any (λ other. pointwise nat_eq other site.now) db.sites ≡ true → result ≡ Err refusals.Full
+        → IsPastLimits db (table_of present.old) txn (λ choice. on_desk_letter (txn_name txn) site.now true choice (replied db reply.now) (txn_in db (table_of present.old) txn)) }
     ensures err { OnErr result (table_of present.new ≡ table_of present.old) }
 {
     let room = room(present.alloc)?;

@@ -21,7 +21,7 @@ ghost use Rattle.desk.specs.declared.undecided.Stage.TheVariants as stages;
 ghost use Rattle.desk.specs.declared.undecided.Undecided.{Undecided as UndecidedNow};
 ghost use Rattle.desk.specs.Calls.{notices, open_in, refused_as, txn_in};
 ghost use Rattle.desk.specs.Database.{Database, language};
-ghost use Rattle.desk.specs.Does.{Does, DoesIn, GoesOn, IsShort, IsUnread, States};
+ghost use Rattle.desk.specs.Does.{Does, DoesIn, GoesOn, IsLong, IsShort, IsUnread, States, StatesPastLimits};
 ghost use Rattle.desk.specs.OfCatalogue.{IsOfCatalogue};
 ghost use Rattle.desk.specs.Planned.{IsOfPlan, ask_from};
 ghost use Rattle.desk.specs.Sending.{AreShort};
@@ -68,6 +68,9 @@ fn at_once(
         → IsOfPlan db statement.now plan.now asks.now → asks.now ≡ map (ask_from db.catalogue) plan.now.fetches.items → asks.now ≡ []
         → IfOk result (λ step. Does db txn undecided.new step (λ choice. on_request (txn_name txn) choice (State statement.now) (Known (undecided_of db undecided.old)))) }
     ensures short { AreShort undecided.old.spots → OnOk result (AreShort undecided.new.spots) }
+    ensures full { (db : Database) → IsOfCatalogue db → db.catalogue ≡ catalogue_of catalog.now → AreSpots db undecided.old.spots → undecided.old.stage ≡ stages.Idle
+        → IsOfPlan db statement.now plan.now asks.now → asks.now ≡ map (ask_from db.catalogue) plan.now.fetches.items → asks.now ≡ [] → result ≡ Err refusals.Full
+        → IsLong db (λ choice. on_request (txn_name txn) choice (State statement.now) (Known (undecided_of db undecided.old))) }
     ensures same { OnErr result (undecided.new ≡ undecided.old) }
 {
     let worked = evaluate(alloc, catalog, statement, plan, asks)?;
@@ -89,6 +92,9 @@ fn states(
         → IsOfPlan db statement plan asks.items → asks.items ≡ map (ask_from db.catalogue) plan.fetches.items
         → IfOk result (λ step. Does db txn undecided.new step (λ choice. on_request (txn_name txn) choice (State statement) (Known (undecided_of db undecided.old)))) }
     ensures short { AreShort undecided.old.spots → OnOk result (AreShort undecided.new.spots) }
+    ensures full { (db : Database) → IsOfCatalogue db → db.catalogue ≡ catalogue_of catalog.now → AreSpots db undecided.old.spots → undecided.old.stage ≡ stages.Idle
+        → IsOfPlan db statement plan asks.items → asks.items ≡ map (ask_from db.catalogue) plan.fetches.items → result ≡ Err refusals.Full
+        → IsLong db (λ choice. on_request (txn_name txn) choice (State statement) (Known (undecided_of db undecided.old))) }
     ensures same { OnErr result (undecided.new ≡ undecided.old) }
 {
     leaf_names_are_unique();
@@ -113,6 +119,9 @@ fn standing_states(
         → IsOfPlan db statement plan asks.items → asks.items ≡ map (ask_from db.catalogue) plan.fetches.items
         → IfOk result (λ step. DoesIn db txn standing.new step (λ choice. on_request (txn_name txn) choice (State statement) (Known (undecided_of db old)))) }
     ensures short { IsShort standing.old → OnOk result (IsShort standing.new) }
+    ensures full { (db : Database) (old : UndecidedNow) → IsOfCatalogue db → db.catalogue ≡ catalogue_of catalog.now → standing.old ≡ standings.Undecided old → AreSpots db old.spots → old.stage ≡ stages.Idle
+        → IsOfPlan db statement plan asks.items → asks.items ≡ map (ask_from db.catalogue) plan.fetches.items → result ≡ Err refusals.Full
+        → IsLong db (λ choice. on_request (txn_name txn) choice (State statement) (Known (undecided_of db old))) }
     ensures same { OnErr result (standing.new ≡ standing.old) }
 {
     match standing {
@@ -135,6 +144,9 @@ fn stated(
     ensures goes { (db : Database) (kept : DeskContent) (old : UndecidedNow) → IsOfCatalogue db → db.catalogue ≡ catalogue_of catalog.now → Fits db kept (table_of present.old)
         → (table_of present.old).standing txn ≡ Some (standings.Undecided old) → old.stage ≡ stages.Idle → IsOfPlan db statement plan asks.items → asks.items ≡ map (ask_from db.catalogue) plan.fetches.items
         → IfOk result (λ step. GoesOn db present.old (table_of present.new) txn step (λ choice. on_request (txn_name txn) choice (State statement) (txn_in db (table_of present.old) txn))) }
+    ensures full { (db : Database) (kept : DeskContent) (old : UndecidedNow) → IsOfCatalogue db → db.catalogue ≡ catalogue_of catalog.now → Fits db kept (table_of present.old)
+        → (table_of present.old).standing txn ≡ Some (standings.Undecided old) → old.stage ≡ stages.Idle → IsOfPlan db statement plan asks.items → asks.items ≡ map (ask_from db.catalogue) plan.fetches.items → result ≡ Err refusals.Full
+        → IsLong db (λ choice. on_request (txn_name txn) choice (State statement) (txn_in db (table_of present.old) txn)) }
     ensures err { OnErr result (table_of present.new ≡ table_of present.old) }
     ensures ordered { IsOrdered txn_cmp present.old.standings }
 {
@@ -151,6 +163,7 @@ fn may_state(present: &Present, txn: &Txn) -> Result<(), Refusal>
     ensures accepted { (db : Database) (statement : StatementNow) → OnOk result (refusal (State statement) (txn_in db (table_of present.now) txn.now) ≡ None) }
     ensures idle { OnOk result (option_map (λ found. found.stage) (open_in ((table_of present.now).standing txn.now)) ≡ Some stages.Idle) }
     ensures told { (db : Database) (statement : StatementNow) → IfErr result (λ told. option_map refused_as (refusal (State statement) (txn_in db (table_of present.now) txn.now)) ≡ Some told) }
+    ensures own { result ≢ Err refusals.Full }
 {
     let Some(undecided) = open(present, txn) else {
         return Err(Refusal::NoTransaction);
@@ -238,6 +251,8 @@ pub(crate) fn call_statement(
     ensures accepted { (db : Database) (statement : StatementNow) → OnOk result (refusal (State statement) (txn_in db (table_of present.old) txn) ≡ None) }
     ensures told { (db : Database) (statement : StatementNow) → IfErr result (λ told. (told ≡ refusals.Memory) ⊎ (option_map refused_as (refusal (State statement) (txn_in db (table_of present.old) txn)) ≡ Some told)
         ⊎ ((refusal (State statement) (txn_in db (table_of present.old) txn) ≡ None) × (IsUnread (schemas_of (catalogue_of catalog.now)) text.now told ⊎ (told ≡ refusals.Full)))) }
+    ensures full { (db : Database) (kept : DeskContent) → IsOfCatalogue db → db.catalogue ≡ catalogue_of catalog.now → Fits db kept (table_of present.old) → result ≡ Err refusals.Full
+        → StatesPastLimits db (table_of present.old) txn text.now }
 {
     let room = room(present.alloc)?;
     may_state(present, &txn)?;

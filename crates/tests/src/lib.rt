@@ -1,12 +1,14 @@
 //! Tests of what no row under `tests/rows` can show yet: statements over several relations, by `read` and `run`
-//! on a whole database, public calls that the program doesn't make, and the letters of a site. Each call is
-//! made once more where memory ran out, so the tests pass with any one allocation refused too.
+//! on a whole database, public calls that the program doesn't make, and the letters of a site and of the
+//! coordinator. Each call is made once more where memory ran out, so the tests pass with any one allocation refused too.
 #![tactic(auto)]
 
 #[cfg(test)]
 mod calls;
 #[cfg(test)]
 mod catalogues;
+#[cfg(test)]
+mod desks;
 #[cfg(test)]
 mod letters;
 #[cfg(test)]

@@ -1,6 +1,6 @@
 //! What a site answers to the letters of a script, line by line.
 
-use crate::letters::{leaf, letter, part_of};
+use crate::letters::{leaf, letter, part_of, text_of};
 use crate::refusing::Refusing;
 use reader::print_statement::print_part;
 use site::fault::SiteFault;
@@ -10,7 +10,6 @@ use std::fmt::Write;
 use std::test::*;
 use store::changes::Changes;
 use store::letter::Letter;
-use store::letter_text::letter_text;
 use store::plain_site::PlainSite;
 use store::site_store::SiteStore;
 use terms::copy::TryCopy;
@@ -21,12 +20,10 @@ use terms::text::Text;
 /// How often a call is made: once more after memory ran out, and once more after the store refused.
 const TRIES: usize = 3;
 
-/// The leaves of the site, north.
-const LEAVES: [&str; 2] = ["emp.1", "emp.2"];
-
-fn leaves(alloc: Global) -> Result<Vec<Leaf>, Memory> {
+/// The leaves that a line's words from the third on name.
+fn leaves(alloc: Global, line: &str) -> Result<Vec<Leaf>, Memory> {
     let mut leaves = Vec::new(alloc);
-    for word in LEAVES {
+    for word in line.split(' ').skip(2) {
         leaves.push(leaf(alloc, word)?)?;
     }
     Ok(leaves)
@@ -68,10 +65,7 @@ impl Told {
 }
 
 fn put_letter(alloc: Global, told: &mut Told, letter: &Letter) -> Result<(), Memory> {
-    let txn = format!(in alloc; "T{}", letter.txn.number)?;
-    let mut columns = Vec::new(alloc);
-    columns.push(Text::copy_of(alloc, "id")?)?;
-    told.line(letter_text(alloc, letter, txn.as_str(), columns.as_slice())?.as_str())
+    told.line(text_of(alloc, letter)?.as_str())
 }
 
 fn put_letters(alloc: Global, told: &mut Told, letters: &[Letter]) -> Result<(), Memory> {
@@ -81,13 +75,18 @@ fn put_letters(alloc: Global, told: &mut Told, letters: &[Letter]) -> Result<(),
     Ok(())
 }
 
-/// Starts the site.
-fn start<S: SiteStore + Drop>(alloc: Global, told: &mut Told, store: S) -> Result<Site<S>, Memory> {
-    told.line("start")?;
-    let leaves = leaves(alloc)?;
+/// Starts the site that a line such as `start north emp.1 emp.2` names, with its leaves.
+fn start<S: SiteStore + Drop>(
+    alloc: Global,
+    told: &mut Told,
+    store: S,
+    line: &str,
+) -> Result<Site<S>, Memory> {
+    told.line(line)?;
+    let leaves = leaves(alloc, line)?;
     let mut store = store;
     for _ in 0..TRIES {
-        let name = Text::copy_of(alloc, "north")?;
+        let name = Text::copy_of(alloc, line.split(' ').nth(1).unwrap_or(""))?;
         match Site::start(alloc, name, store, leaves.as_slice()) {
             Ok(site) => return Ok(site),
             Err(Unstarted { fault, store: back }) => {
@@ -191,7 +190,8 @@ fn played<S: SiteStore + Drop>(
 ) -> Result<String, Memory> {
     let text = String::new(alloc);
     let mut told = Told { text, again };
-    let mut site = start(alloc, &mut told, store)?;
+    let first = script.lines().next().unwrap_or("");
+    let mut site = start(alloc, &mut told, store, first)?;
     for line in script.split('\n') {
         play_line(alloc, &mut told, &mut site, line)?;
     }
@@ -199,7 +199,7 @@ fn played<S: SiteStore + Drop>(
 }
 
 /// Visits that are lost, a prepared row that a restart keeps, and letters that go elsewhere.
-const WORKED: &str = "start
+const WORKED: &str = "start north emp.1 emp.2
 desk>north Open T1
 north>desk Ticket T1 1.1
 desk>north Open T1
@@ -237,7 +237,7 @@ desk>north Fetch T4 2.2 1 emp.3
 ";
 
 /// A site's half of a moved row, whose old part is deleted; then its letters come again.
-const MOVED: &str = "start
+const MOVED: &str = "start north emp.1 emp.2
 desk>north Open T1
 north>desk Ticket T1 1.1
 desk>north Fetch T1 1.1 1 emp.1 where id = 1
@@ -265,8 +265,52 @@ leaf emp.1
 leaf emp.2
 ";
 
-/// The same where the store doesn't keep the prepared row.
-const UNKEPT: &str = "start
+/// The other site's half, which gets the new part. Its leaf is as it was until the Commit comes.
+const MOVED_IN: &str = "start south emp.3
+desk>south Open T1
+south>desk Ticket T1 1.1
+desk>south Fetch T1 1.1 1 emp.3 where id = 1
+south>desk Rows T1 1.1 1 0
+desk>south Put T1 1.1 2 emp.3 1, 12, 100
+desk>south Prepare T1 1.1 2
+south>desk Vote T1 1.1 YES
+leaf emp.3
+desk>south Commit T1 1.1
+south>desk Ack T1 1.1
+leaf emp.3
+1, 12, 100
+";
+
+/// The same where the Put is lost, and comes after the vote.
+const LOST: &str = "start south emp.3
+desk>south Open T1
+south>desk Ticket T1 1.1
+desk>south Fetch T1 1.1 1 emp.3 where id = 1
+south>desk Rows T1 1.1 1 0
+desk>south Prepare T1 1.1 2
+south>desk Vote T1 1.1 NO
+desk>south Put T1 1.1 2 emp.3 1, 12, 100
+leaf emp.3
+";
+
+/// The first site's half then: the old part stays.
+const STAYS: &str = "start north emp.1 emp.2
+desk>north Open T1
+north>desk Ticket T1 1.1
+desk>north Fetch T1 1.1 1 emp.1 where id = 1
+north>desk Rows T1 1.1 1 1
+desk>north Fetch T1 1.1 2 emp.2 where id = 1
+north>desk Rows T1 1.1 2 1
+desk>north Del T1 1.1 3 emp.2 1
+desk>north Prepare T1 1.1 3
+north>desk Vote T1 1.1 YES
+desk>north Abort T1 1.1
+leaf emp.2
+1, 7, 100
+";
+
+/// The moved row's first half where the store doesn't keep the prepared row.
+const UNKEPT: &str = "start north emp.1 emp.2
 desk>north Open T1
 north>desk Ticket T1 1.1
 desk>north Fetch T1 1.1 1 emp.1 where id = 1
@@ -284,7 +328,7 @@ leaf emp.2
 ";
 
 /// A prepared row that a restart finds again, and an abort throws away. A visit reads what it intends itself.
-const ABORTED: &str = "start
+const ABORTED: &str = "start north emp.1 emp.2
 desk>north Open T1
 north>desk Ticket T1 1.1
 desk>north Fetch T1 1.1 1 emp.2
@@ -307,7 +351,7 @@ leaf emp.2
 1, 7, 100
 ";
 
-/// What the site has at first.
+/// What north has at first.
 const PARTS: [&str; 2] = ["emp.1 1, 'Ada'", "emp.2 1, 7, 100"];
 
 /// Whether a site over lists answers to the lines of a script what the script says.
@@ -322,6 +366,9 @@ fn letters_of_a_site(rt: HostRuntime) {
     let cases = [
         ("worked", &nothing[..], WORKED),
         ("moved", &PARTS[..], MOVED),
+        ("moved in", &nothing[..], MOVED_IN),
+        ("lost", &nothing[..], LOST),
+        ("stays", &PARTS[..], STAYS),
         ("aborted", &PARTS[..], ABORTED),
     ];
     for (name, parts, script) in cases {
@@ -346,30 +393,55 @@ fn with_refusal(alloc: Global, script: &str, line: &str) -> Result<String, Memor
 
 /// Whether a site whose store refuses its call of this number answers what the script says, with the
 /// refusal behind this line: the letter that met it does, given again, what it does without.
-fn refuses(alloc: Global, script: &str, call: u64, line: &str) -> Result<bool, Memory> {
-    let store = Refusing::new(opening(alloc, &PARTS)?, call);
+fn refuses(
+    alloc: Global,
+    parts: &[&str],
+    script: &str,
+    call: u64,
+    line: &str,
+) -> Result<bool, Memory> {
+    let store = Refusing::new(opening(alloc, parts)?, call);
     let told = played(alloc, store, script, false)?;
     Ok(told.as_str() == with_refusal(alloc, script, line)?.as_str())
 }
 
 #[test]
 fn refused_calls(rt: HostRuntime) {
+    let nothing: [&str; 0] = [];
     let cases = [
-        (MOVED, 1, "start"),
-        (MOVED, 2, "start"),
-        (MOVED, 3, "desk>north Fetch T1 1.1 1 emp.1 where id = 1"),
-        (MOVED, 4, "desk>north Fetch T1 1.1 2 emp.2 where id = 1"),
-        (UNKEPT, 5, "no refusal is told"),
-        (MOVED, 6, "desk>north Commit T1 1.1"),
-        (MOVED, 7, "leaf emp.1"),
-        (ABORTED, 3, "desk>north Fetch T1 1.1 1 emp.2"),
-        (ABORTED, 7, "restart"),
-        (ABORTED, 8, "restart"),
-        (ABORTED, 9, "desk>north Abort T1 1.1"),
+        (&PARTS[..], MOVED, 1, "start north emp.1 emp.2"),
+        (&PARTS[..], MOVED, 2, "start north emp.1 emp.2"),
+        (
+            &PARTS[..],
+            MOVED,
+            3,
+            "desk>north Fetch T1 1.1 1 emp.1 where id = 1",
+        ),
+        (
+            &PARTS[..],
+            MOVED,
+            4,
+            "desk>north Fetch T1 1.1 2 emp.2 where id = 1",
+        ),
+        (&PARTS[..], UNKEPT, 5, "no refusal is told"),
+        (&PARTS[..], MOVED, 6, "desk>north Commit T1 1.1"),
+        (&PARTS[..], MOVED, 7, "leaf emp.1"),
+        (
+            &nothing[..],
+            MOVED_IN,
+            3,
+            "desk>south Fetch T1 1.1 1 emp.3 where id = 1",
+        ),
+        (&nothing[..], MOVED_IN, 6, "desk>south Commit T1 1.1"),
+        (&PARTS[..], ABORTED, 3, "desk>north Fetch T1 1.1 1 emp.2"),
+        (&PARTS[..], ABORTED, 7, "restart"),
+        (&PARTS[..], ABORTED, 8, "restart"),
+        (&PARTS[..], ABORTED, 9, "desk>north Abort T1 1.1"),
     ];
-    for (script, call, line) in cases {
-        let same = refuses(rt.alloc(), script, call, line).or_else(|_| refuses(
+    for (parts, script, call, line) in cases {
+        let same = refuses(rt.alloc(), parts, script, call, line).or_else(|_| refuses(
             rt.alloc(),
+            parts,
             script,
             call,
             line,

@@ -1,5 +1,5 @@
 -- Why `take_on` meets its contract.
-use Rattle.std.proofs.Common.{true, nat_eq, sym, ap, ◌∙◌}
+use Rattle.std.proofs.Common.{rules, true, nat_eq, sym, ap, ◌∙◌}
 use Rattle.std.specs.Cmp.Lexicographic.{pointwise}
 use Rattle.std.specs.List.{list_any}
 use Rattle.protocol.specs.Desk.{on_desk_letter}
@@ -9,6 +9,7 @@ use Rattle.desk.specs.Database.{replied}
 use Rattle.desk.specs.State.{table_of}
 use Rattle.desk.proofs.Doing.{known_there, sending_there, takes_on}
 use Rattle.desk.proofs.Opened.{any_mapped}
+use Rattle.desk.proofs.Full.{past_limits}
 use Rattle.desk.proofs.receiving.take_on.Goals as goal
 
 pub returns-in-Ok-clause-ok : goal.returns-in-Ok-clause-ok
@@ -19,3 +20,12 @@ returns-in-Ok-clause-ok c = λ db kept of same fits among.
     let at = sym (any_mapped (λ other. pointwise nat_eq other c.args.site.now) (λ s. s.site) stands.0.spots) ∙ ap (list_any (λ other. pointwise nat_eq other c.args.site.now)) known.0 ∙ among in
     takes_on db kept present c.gone_on.ensures.ordered fits c.args.txn stands.0 stands.1 (λ choice. on_desk_letter (txn_name c.args.txn) c.args.site.now true choice (replied db c.args.reply.now) (txn_in db (table_of present) c.args.txn)) (table_of c.gone_on.new.present) c.in-Ok.step
     (c.in-Ok.ensures.goes db kept stands.0 of same fits stands.1 at) c.put_out.result.letters c.put_out.result.replies c.put_out.ensures.letters (c.put_out.ensures.replies c.in_ok-room.ensures.empty)
+
+pub returns-in-Err-clause-full : goal.returns-in-Err-clause-full
+returns-in-Err-clause-full c = λ db kept of same fits among full.
+    let present = c.args.present.now in
+    let stands = sending_there ((table_of present).standing c.args.txn) c.args.site.now c.args.reply.now c.requires in
+    let known = known_there db kept (table_of present) fits c.args.txn stands.0 stands.1 in
+    let at = sym (any_mapped (λ other. pointwise nat_eq other c.args.site.now) (λ s. s.site) stands.0.spots) ∙ ap (list_any (λ other. pointwise nat_eq other c.args.site.now)) known.0 ∙ among in
+    past_limits db kept present fits c.args.txn stands.0 stands.1 (λ choice. on_desk_letter (txn_name c.args.txn) c.args.site.now true choice (replied db c.args.reply.now) (txn_in db (table_of present) c.args.txn))
+    (c.in-Err.ensures.full db kept stands.0 of same fits stands.1 at (search rules))

@@ -13,6 +13,7 @@ use Rattle.desk.specs.Planned.{ask_from}
 use Rattle.desk.specs.State.{table_of}
 use Rattle.desk.proofs.Doing.{idle_there, plan_made, steps_on}
 use Rattle.desk.proofs.Unread.{told_by}
+use Rattle.desk.proofs.Full.{past_limits}
 use Rattle.desk.proofs.statements.call_statement.Goals as goal
 
 pub returns-in-Ok-clause-ok : goal.returns-in-Ok-clause-ok
@@ -41,3 +42,25 @@ pub returns-in_err-may_state-clause-told : goal.returns-in_err-may_state-clause-
 returns-in_err-may_state-clause-told c = λ db statement.
     let is : c.from_residual-in_err-may_state.result ≡ Err c.in_err-may_state.field-0.0 = search rules in
     told_by _ _ _ _ _ is (c.in_err-may_state.ensures.told db statement)
+
+pub returns-in-Err-clause-full : goal.returns-in-Err-clause-full
+returns-in-Err-clause-full c = λ db kept of same fits full.
+    let present = c.args.present.now in
+    let catalogue = catalogue_of c.args.catalog.now in
+    let statement = c.in_ok-statement.statement in
+    let plan = c.in_ok-plan.plan in
+    let asks = c.in_ok-asks.asks.items in
+    let list : asks ≡ map (ask_from catalogue) plan.fetches.items = search rules in
+    let stands = idle_there ((table_of present).standing c.args.txn) c.in_ok-may_state.ensures.idle in
+    let planned = plan_made db of catalogue same statement plan asks c.in_ok-statement.ensures.fits c.in_ok-plan.ensures.fetches c.in_ok-plan.ensures.finds list in
+    let schemas = of.schemas ∙ ap schemas_of same in
+    record {
+      statement = statement;
+      spelled = subst (λ (ss : List RelationSchema). IsTextOf ss c.args.text.now (Run statement)) (sym schemas) c.in_ok-statement.ensures.spelled;
+      fits = subst (λ (ss : List RelationSchema). IsStatementOf ss statement) (sym schemas) c.in_ok-statement.ensures.fits;
+      past = past_limits db kept present fits c.args.txn stands.0 stands.1 (λ choice. on_request (txn_name c.args.txn) choice (State statement) (txn_in db (table_of present) c.args.txn))
+          (c.in-Err.ensures.full db kept stands.0 of same fits stands.1 stands.2 planned (list ∙ ap (λ cat. map (ask_from cat) plan.fetches.items) (sym same)) (search rules));
+    }
+
+pub returns-in_err-may_state-clause-full : goal.returns-in_err-may_state-clause-full
+returns-in_err-may_state-clause-full c = λ db kept of same fits full. absurd (c.in_err-may_state.ensures.own (search rules))

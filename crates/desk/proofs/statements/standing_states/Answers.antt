@@ -4,7 +4,7 @@ use Rattle.protocol.specs.Desk.{Known, State, on_request}
 use Rattle.protocol.specs.Letters.{txn_name}
 use Rattle.desk.specs.declared.standing.Standing.TheVariants as standing
 use Rattle.desk.specs.declared.undecided.Undecided.{Undecided}
-use Rattle.desk.specs.Does.{Does}
+use Rattle.desk.specs.Does.{Does, IsLong}
 use Rattle.desk.specs.Standing.{undecided_of}
 use Rattle.desk.specs.Turn.{AreSpots}
 use Rattle.desk.proofs.Doing.{undecided_is}
@@ -17,3 +17,11 @@ returns-in-Undecided-clause-does c = λ db old of same here are idle planned lis
     let is : old ≡ now = undecided_is (sym here ∙ there) in
     subst (λ (x : Undecided). IfOk c.states.result (λ step. Does db c.args.txn c.states.new.undecided step (λ choice. on_request (txn_name c.args.txn) choice (State c.args.statement) (Known (undecided_of db x))))) (sym is)
     (c.states.ensures.does db of same (subst (λ (x : Undecided). AreSpots db x.spots) is are) (sym (ap (λ (x : Undecided). x.stage) is) ∙ idle) planned list)
+
+pub returns-in-Undecided-clause-full : goal.returns-in-Undecided-clause-full
+returns-in-Undecided-clause-full c = λ db old of same here are idle planned list full.
+    let now = c.in-Undecided.undecided in
+    let there : c.args.standing.now ≡ standing.Undecided now = search rules in
+    let is : old ≡ now = undecided_is (sym here ∙ there) in
+    subst (λ (x : Undecided). IsLong db (λ choice. on_request (txn_name c.args.txn) choice (State c.args.statement) (Known (undecided_of db x)))) (sym is)
+    (c.states.ensures.full db of same (subst (λ (x : Undecided). AreSpots db x.spots) is are) (sym (ap (λ (x : Undecided). x.stage) is) ∙ idle) planned list full)

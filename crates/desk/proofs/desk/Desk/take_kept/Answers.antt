@@ -9,7 +9,7 @@ use Rattle.protocol.specs.Desk.{on_desk_letter}
 use Rattle.protocol.specs.Letters.{txn_name}
 use Rattle.desk.specs.Calls.{txn_in}
 use Rattle.desk.specs.Database.{replied}
-use Rattle.desk.specs.Does.{Takes}
+use Rattle.desk.specs.Does.{IsPastLimits, Takes}
 use Rattle.desk.specs.State.{table_of}
 use Rattle.desk.specs.Taking.{may_send}
 use Rattle.desk.proofs.Quiet.{among_there, loud_takes, not_strange, quiet_takes, said_is}
@@ -62,3 +62,22 @@ returns-clause-strange g c = λ strange.
     let here : letter.body ≡ body.Reply said = search rules in
     let among : list_any (λ other. pointwise nat_eq other letter.site) c.args.self.now.catalog.0 ≡ true = search rules in
     absurd (not_strange c.args.self.now.catalog.0 letter said here among strange)
+
+pub returns-then-may_send-clause-full : goal.returns-then-may_send-clause-full
+returns-then-may_send-clause-full g c = λ db reply of same fits says among full.
+    let letter = c.args.letter.now in
+    let said = c.in-Reply.reply in
+    let present = c.args.self.now.present in
+    let here : letter.body ≡ body.Reply said = search rules in
+    let is : said ≡ reply = said_is (sym here ∙ says) in
+    subst (λ x. IsPastLimits db (table_of present) letter.txn (λ choice. on_desk_letter (txn_name letter.txn) letter.site true choice (replied db x) (txn_in db (table_of present) letter.txn))) is
+    (c.take_on.ensures.full db (g.S.DeskStore.kept c.args.self.now.store) of same fits among full)
+
+pub returns-then-may_send-clause-full_at : goal.returns-then-may_send-clause-full_at
+returns-then-may_send-clause-full_at g c = λ reply says full.
+    let letter = c.args.letter.now in
+    let said = c.in-Reply.reply in
+    let here : letter.body ≡ body.Reply said = search rules in
+    let is : said ≡ reply = said_is (sym here ∙ says) in
+    let sends : may_send ((table_of c.args.self.now.present).standing letter.txn) letter.site said ≡ true = search rules in
+    subst (λ x. may_send ((table_of c.args.self.now.present).standing letter.txn) letter.site x ≡ true) is sends
