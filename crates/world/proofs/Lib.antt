@@ -13,3 +13,6 @@ pub mod BaseLawful
 pub mod BaseSites
 pub mod Running
 pub mod BaseOpened
+pub mod Deliveries
+pub mod Reaching
+pub mod Beginning

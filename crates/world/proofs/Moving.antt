@@ -1,5 +1,5 @@
 -- A site of the code that makes a step, alone and among the others.
-use Rattle.std.proofs.Common.{◌≡◌, sym, ap, ◌∙◌, subst, ℕ, Bool, true, false, List, ◌∷◌, Some, Result, Ok, Err, IfOk, OnErr, if◌then◌else◌}
+use Rattle.std.proofs.Common.{◌≡◌, sym, ap, ◌∙◌, subst, ℕ, Bool, true, false, List, ◌∷◌, Some, Result, Ok, Err, IfOk, OnErr, OnOk, if◌then◌else◌}
 use Rattle.std.specs.List.{AllByRecursion}
 use Rattle.store.specs.declared.letter.Letter.{Letter}
 use Rattle.store.specs.SiteContent.{IsUnchanged, SiteContent}
@@ -17,6 +17,22 @@ on_err (Err e) both p q = both p q
 pub if_ok : {T E : Type 0} {P Q : T → Type 0} (result : Result T E) → ((x : T) → P x → Q x) → IfOk result P → IfOk result Q
 if_ok (Ok x) to p = to x p
 if_ok (Err e) to p = tt
+
+pub on_any_err : {T E Q : Type 0} (result : Result T E) → Q → OnErr result Q
+on_any_err (Ok x) q = tt
+on_any_err (Err e) q = q
+
+pub on_ok : {T E P Q : Type 0} (result : Result T E) → (P → Q) → OnOk result P → OnOk result Q
+on_ok (Ok x) to p = to p
+on_ok (Err e) to p = tt
+
+pub on_both : {T E P Q R : Type 0} (result : Result T E) → (P → Q → R) → OnOk result P → OnOk result Q → OnOk result R
+on_both (Ok x) to p q = to p q
+on_both (Err e) to p q = tt
+
+pub if_both : {T E : Type 0} {P Q R : T → Type 0} (result : Result T E) → ((x : T) → P x → Q x → R x) → IfOk result P → IfOk result Q → IfOk result R
+if_both (Ok x) to p q = to x p q
+if_both (Err e) to p q = tt
 
 -- a store that has not changed keeps the same
 pub unchanged : (old new : SiteContent) → IsUnchanged old new → new ≡ old

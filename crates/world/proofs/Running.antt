@@ -35,7 +35,7 @@ one_more : {L : Lang} (events : List (Event L)) (e : Event L) (w : World L) → 
 one_more [] e w = refl
 one_more (first ∷ events) e w = one_more events e (happens w first)
 
-all_both : {A : Type 0} (P : A → Type 0) (xs ys : List A) → AllByRecursion P xs → AllByRecursion P ys → AllByRecursion P (xs ++ ys)
+pub all_both : {A : Type 0} (P : A → Type 0) (xs ys : List A) → AllByRecursion P xs → AllByRecursion P ys → AllByRecursion P (xs ++ ys)
 all_both P [] ys one other = other
 all_both P (x ∷ xs) ys one other = (one.0, all_both P xs ys one.1 other)
 

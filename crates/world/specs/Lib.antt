@@ -10,3 +10,7 @@ pub mod Posted
 pub mod Runs
 pub mod Happening
 pub mod Base
+pub mod Delivering
+pub mod Taking
+pub mod Serving
+pub mod Stopping

@@ -7,6 +7,8 @@
 //! event.
 #![tactic(auto)]
 
+mod alone;
+mod delivering;
 mod doing;
 pub mod event;
 pub mod fault;
@@ -17,4 +19,6 @@ mod machines;
 mod opening;
 mod posted;
 mod seats;
+mod serving;
+pub mod solo;
 pub mod world;

@@ -29,7 +29,7 @@ pub(crate) struct Machines<D: DeskStore, S: SiteStore> {
 }
 
 impl<D: DeskStore, S: SiteStore> Machines<D, S> {
-    ghost use Rattle.std.specs.Prelude.{◌≡◌, false, true, Some, IfOk, OnErr};
+    ghost use Rattle.std.specs.Prelude.{◌≡◌, false, true, Some, IfErr, IfOk, OnErr};
     ghost use Rattle.protocol.specs.Desk.{Choice, Commit_call, Give_up, Rollback};
     ghost use Rattle.protocol.specs.Letters.{txn_name};
     ghost use Rattle.protocol.specs.World.{begins, called, desk_restarts};
@@ -38,6 +38,7 @@ impl<D: DeskStore, S: SiteStore> Machines<D, S> {
     ghost use Rattle.world.specs.Held.{OfStores, held};
     ghost use Rattle.world.specs.Machines.{AreFit, Came, Leads, Stated, happens_at, is_for_site, is_of_site, is_order};
     ghost use Rattle.catalog.specs.Relation.{catalogue_of};
+    ghost use Rattle.desk.specs.declared.refusal.Refusal.TheVariants as refusals;
     ghost use Rattle.desk.specs.OfCatalogue.{IsOfCatalogue};
     ghost use Rattle.world.specs.Seated.{place_of};
     ghost use Rattle.world.specs.Seats.{Seat, seat_of};
@@ -46,6 +47,7 @@ impl<D: DeskStore, S: SiteStore> Machines<D, S> {
     pub(crate) fn begin(&mut self) -> Result<Out, Refusal>
         ensures clean { OfStores D.is_clean S.is_clean self.new → OfStores D.is_clean S.is_clean self.old }
         ensures sound { OfStores D.is_clean S.is_clean self.new → OfStores D.is_sound S.is_sound self.old → OfStores D.is_sound S.is_sound self.new }
+        ensures catalog { self.new.desk.catalog ≡ self.old.desk.catalog }
         ensures ok { (db : Database) → IsOver db self.old.desk.catalog.0 → AreFit db (held D.kept S.kept self.old)
             → IfOk result (λ out. Leads db begins (held D.kept S.kept self.old) (held D.kept S.kept self.new) out.letters out.replies) }
         ensures err { OnErr result (held D.kept S.kept self.new ≡ held D.kept S.kept self.old) }
@@ -57,6 +59,7 @@ impl<D: DeskStore, S: SiteStore> Machines<D, S> {
     pub(crate) fn commit(&mut self, txn: Txn) -> Result<Out, Refusal>
         ensures clean { OfStores D.is_clean S.is_clean self.new → OfStores D.is_clean S.is_clean self.old }
         ensures sound { OfStores D.is_clean S.is_clean self.new → OfStores D.is_sound S.is_sound self.old → OfStores D.is_sound S.is_sound self.new }
+        ensures catalog { self.new.desk.catalog ≡ self.old.desk.catalog }
         ensures ok { (db : Database) (choice : Choice (language db)) → IsOver db self.old.desk.catalog.0 → AreFit db (held D.kept S.kept self.old)
             → IfOk result (λ out. Leads db (λ w. called w (txn_name txn) choice Commit_call) (held D.kept S.kept self.old) (held D.kept S.kept self.new) out.letters out.replies) }
         ensures err { OnErr result (held D.kept S.kept self.new ≡ held D.kept S.kept self.old) }
@@ -68,6 +71,7 @@ impl<D: DeskStore, S: SiteStore> Machines<D, S> {
     pub(crate) fn rollback(&mut self, txn: Txn) -> Result<Out, Refusal>
         ensures clean { OfStores D.is_clean S.is_clean self.new → OfStores D.is_clean S.is_clean self.old }
         ensures sound { OfStores D.is_clean S.is_clean self.new → OfStores D.is_sound S.is_sound self.old → OfStores D.is_sound S.is_sound self.new }
+        ensures catalog { self.new.desk.catalog ≡ self.old.desk.catalog }
         ensures ok { (db : Database) (choice : Choice (language db)) → IsOver db self.old.desk.catalog.0 → AreFit db (held D.kept S.kept self.old)
             → IfOk result (λ out. Leads db (λ w. called w (txn_name txn) choice Rollback) (held D.kept S.kept self.old) (held D.kept S.kept self.new) out.letters out.replies) }
         ensures err { OnErr result (held D.kept S.kept self.new ≡ held D.kept S.kept self.old) }
@@ -79,8 +83,10 @@ impl<D: DeskStore, S: SiteStore> Machines<D, S> {
     pub(crate) fn give_up(&mut self, txn: Txn) -> Result<Out, Refusal>
         ensures clean { OfStores D.is_clean S.is_clean self.new → OfStores D.is_clean S.is_clean self.old }
         ensures sound { OfStores D.is_clean S.is_clean self.new → OfStores D.is_sound S.is_sound self.old → OfStores D.is_sound S.is_sound self.new }
+        ensures catalog { self.new.desk.catalog ≡ self.old.desk.catalog }
         ensures ok { (db : Database) (choice : Choice (language db)) → IsOver db self.old.desk.catalog.0 → AreFit db (held D.kept S.kept self.old)
             → IfOk result (λ out. Leads db (λ w. called w (txn_name txn) choice Give_up) (held D.kept S.kept self.old) (held D.kept S.kept self.new) out.letters out.replies) }
+        ensures own { IfErr result (λ told. told ≡ refusals.Memory) }
         ensures err { OnErr result (held D.kept S.kept self.new ≡ held D.kept S.kept self.old) }
     {
         self.desk.give_up(txn)
@@ -90,6 +96,7 @@ impl<D: DeskStore, S: SiteStore> Machines<D, S> {
     pub(crate) fn restart(&mut self, kept: bool) -> Result<Out, Refusal>
         ensures clean { OfStores D.is_clean S.is_clean self.new → OfStores D.is_clean S.is_clean self.old }
         ensures sound { OfStores D.is_clean S.is_clean self.new → OfStores D.is_sound S.is_sound self.old → OfStores D.is_sound S.is_sound self.new }
+        ensures catalog { self.new.desk.catalog ≡ self.old.desk.catalog }
         ensures ok { (db : Database) → OfStores D.is_clean S.is_clean self.new → OfStores D.is_sound S.is_sound self.old → AreFit db (held D.kept S.kept self.old)
             → IfOk result (λ out. Leads db desk_restarts (held D.kept S.kept self.old) (held D.kept S.kept self.new) out.letters out.replies) }
         ensures err { OfStores D.is_clean S.is_clean self.new → OfStores D.is_sound S.is_sound self.old → OnErr result (held D.kept S.kept self.new ≡ held D.kept S.kept self.old) }
@@ -101,6 +108,7 @@ impl<D: DeskStore, S: SiteStore> Machines<D, S> {
     pub(crate) fn statement(&mut self, txn: Txn, text: &str) -> Result<Out, Refusal>
         ensures clean { OfStores D.is_clean S.is_clean self.new → OfStores D.is_clean S.is_clean self.old }
         ensures sound { OfStores D.is_clean S.is_clean self.new → OfStores D.is_sound S.is_sound self.old → OfStores D.is_sound S.is_sound self.new }
+        ensures catalog { self.new.desk.catalog ≡ self.old.desk.catalog }
         ensures ok { (db : Database) → IsOfCatalogue db → db.catalogue ≡ catalogue_of self.old.desk.catalog → AreFit db (held D.kept S.kept self.old)
             → IfOk result (λ out. Stated db txn text.now (held D.kept S.kept self.old) (held D.kept S.kept self.new) out.letters out.replies) }
         ensures err { OnErr result (held D.kept S.kept self.new ≡ held D.kept S.kept self.old) }
@@ -112,6 +120,7 @@ impl<D: DeskStore, S: SiteStore> Machines<D, S> {
     fn reply(&mut self, letter: &Letter, kept: bool) -> Result<Out, Refusal>
         ensures clean { OfStores D.is_clean S.is_clean self.new → OfStores D.is_clean S.is_clean self.old }
         ensures sound { OfStores D.is_clean S.is_clean self.new → OfStores D.is_sound S.is_sound self.old → OfStores D.is_sound S.is_sound self.new }
+        ensures catalog { self.new.desk.catalog ≡ self.old.desk.catalog }
         ensures ok { (db : Database) → IsOfCatalogue db → db.catalogue ≡ catalogue_of self.old.desk.catalog → OfStores D.is_clean S.is_clean self.new → OfStores D.is_sound S.is_sound self.old → AreFit db (held D.kept S.kept self.old) → is_order letter.now.body ≡ false → is_of_site db letter.now ≡ true
             → IfOk result (λ out. Came db letter.now out.kept (held D.kept S.kept self.old) (held D.kept S.kept self.new) out.letters out.replies) }
         ensures err { OfStores D.is_clean S.is_clean self.new → OfStores D.is_sound S.is_sound self.old → OnErr result (held D.kept S.kept self.new ≡ held D.kept S.kept self.old) }
@@ -123,6 +132,7 @@ impl<D: DeskStore, S: SiteStore> Machines<D, S> {
     pub(crate) fn deliver(&mut self, letter: Letter, kept: bool) -> Result<Out, Fault>
         ensures clean { OfStores D.is_clean S.is_clean self.new → OfStores D.is_clean S.is_clean self.old }
         ensures sound { OfStores D.is_clean S.is_clean self.new → OfStores D.is_sound S.is_sound self.old → OfStores D.is_sound S.is_sound self.new }
+        ensures catalog { self.new.desk.catalog ≡ self.old.desk.catalog }
         ensures ok { (db : Database) → IsOfCatalogue db → db.catalogue ≡ catalogue_of self.old.desk.catalog → OfStores D.is_clean S.is_clean self.new → OfStores D.is_sound S.is_sound self.old → AreFit db (held D.kept S.kept self.old) → is_of_site db letter ≡ true
             → IfOk result (λ out. Came db letter out.kept (held D.kept S.kept self.old) (held D.kept S.kept self.new) out.letters out.replies) }
         ensures err { OfStores D.is_clean S.is_clean self.new → OfStores D.is_sound S.is_sound self.old → OnErr result (held D.kept S.kept self.new ≡ held D.kept S.kept self.old) }
@@ -144,6 +154,7 @@ impl<D: DeskStore, S: SiteStore> Machines<D, S> {
         requires { is_for_site what ≡ true }
         ensures clean { OfStores D.is_clean S.is_clean self.new → OfStores D.is_clean S.is_clean self.old }
         ensures sound { OfStores D.is_clean S.is_clean self.new → OfStores D.is_sound S.is_sound self.old → OfStores D.is_sound S.is_sound self.new }
+        ensures catalog { self.new.desk.catalog ≡ self.old.desk.catalog }
         ensures ok { (db : Database) (choice : Choice (language db)) (seat : Seat) → OfStores D.is_clean S.is_clean self.new → OfStores D.is_sound S.is_sound self.old → AreFit db (held D.kept S.kept self.old) → seat_of (place_of what) (held D.kept S.kept self.old).seats ≡ Some seat
             → IfOk result (λ out. Leads db (happens_at db what out.kept choice) (held D.kept S.kept self.old) (held D.kept S.kept self.new) out.letters out.replies) }
         ensures err { OfStores D.is_clean S.is_clean self.new → OfStores D.is_sound S.is_sound self.old → OnErr result (held D.kept S.kept self.new ≡ held D.kept S.kept self.old) }
@@ -156,7 +167,7 @@ impl<D: DeskStore, S: SiteStore> Machines<D, S> {
 }
 
 /// What a site puts out. A vote NO may come of a store that refused.
-fn put_out(alloc: Global, letters: Vec<Letter>) -> Out
+pub(crate) fn put_out(alloc: Global, letters: Vec<Letter>) -> Out
     ensures letters { result.letters ≡ letters.items }
     ensures replies { result.replies ≡ [] }
     ensures kept { result.kept ≡ kept_in letters.items }
