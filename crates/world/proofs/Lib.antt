@@ -20,3 +20,6 @@ pub mod Heard
 pub mod BaseOpened
 pub mod InTurn
 pub mod Follow
+pub mod Deliveries
+pub mod Reaching
+pub mod Beginning

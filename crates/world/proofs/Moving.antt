@@ -26,6 +26,22 @@ pub if_ok_all : {T E A : Type 0} {P Q : T → Type 0} (result : Result T E) (R :
 if_ok_all (Ok x) R to r p = to x r p
 if_ok_all (Err e) R to r p = tt
 
+pub on_any_err : {T E Q : Type 0} (result : Result T E) → Q → OnErr result Q
+on_any_err (Ok x) q = tt
+on_any_err (Err e) q = q
+
+pub on_ok : {T E P Q : Type 0} (result : Result T E) → (P → Q) → OnOk result P → OnOk result Q
+on_ok (Ok x) to p = to p
+on_ok (Err e) to p = tt
+
+pub on_both : {T E P Q R : Type 0} (result : Result T E) → (P → Q → R) → OnOk result P → OnOk result Q → OnOk result R
+on_both (Ok x) to p q = to p q
+on_both (Err e) to p q = tt
+
+pub if_both : {T E : Type 0} {P Q R : T → Type 0} (result : Result T E) → ((x : T) → P x → Q x → R x) → IfOk result P → IfOk result Q → IfOk result R
+if_both (Ok x) to p q = to x p q
+if_both (Err e) to p q = tt
+
 -- a store that has not changed keeps the same
 pub unchanged : (old new : SiteContent) → IsUnchanged old new → new ≡ old
 unchanged old new same i = record { content = λ leaf. same.content leaf i; prepared = λ ticket. same.prepared ticket i; life = same.life i }

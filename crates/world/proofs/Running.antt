@@ -44,7 +44,7 @@ one_event_more : {L : Lang} (es : List (world.Event L)) (e : world.Event L) (w :
 one_event_more [] e w = refl
 one_event_more (first ∷ es) e w = one_event_more es e (happens w first)
 
-all_both : {A : Type 0} (P : A → Type 0) (xs ys : List A) → AllByRecursion P xs → AllByRecursion P ys → AllByRecursion P (xs ++ ys)
+pub all_both : {A : Type 0} (P : A → Type 0) (xs ys : List A) → AllByRecursion P xs → AllByRecursion P ys → AllByRecursion P (xs ++ ys)
 all_both P [] ys one other = other
 all_both P (x ∷ xs) ys one other = (one.0, all_both P xs ys one.1 other)
 

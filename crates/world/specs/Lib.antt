@@ -16,3 +16,7 @@ pub mod History
 pub mod Following
 pub mod Happening
 pub mod Base
+pub mod Delivering
+pub mod Taking
+pub mod Serving
+pub mod Stopping

@@ -50,7 +50,7 @@ fn is_among(sites: &[Text], name: &Text) -> bool
 }
 
 /// Whether a catalogue has a site of this name.
-fn has_site(catalog: &Catalog, name: &Text) -> bool
+pub(crate) fn has_site(catalog: &Catalog, name: &Text) -> bool
     ensures { result ≡ list_any (λ site. pointwise nat_eq site name.now) catalog.now.0 }
 {
     is_among(catalog.sites(), name)

@@ -14,6 +14,7 @@ ghost use Rattle.protocol.specs.Whole.{AppliedWholeAndOnce};
 ghost use Rattle.desk.specs.Database.{language};
 ghost use Rattle.world.specs.Base.{IsBase, database};
 ghost use Rattle.world.specs.Runs.{RunsAreSerial};
+ghost use Rattle.world.specs.Serving.{ServedIsSerial};
 
 use answers::laws::writes_lead;
 use catalog::catalogue::Catalog;
@@ -106,4 +107,12 @@ pub fn contents_stay_fitting(catalog: &Catalog)
     ensures { StaysFitting (language (database (catalogue_of catalog.now))) }
 {
     language_is_lawful(catalog);
+}
+
+/// The serial law of a client's database: the committed transactions, one after another over whole relations, give the answers that were
+/// given and what the settled fragments rebuild.
+pub fn served_is_serial(catalog: &Catalog)
+    ensures { ServedIsSerial (database (catalogue_of catalog.now)) }
+{
+    one_client_is_a_run(catalog);
 }

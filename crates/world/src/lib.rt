@@ -2,11 +2,13 @@
 //!
 //! It stands on all crates below it. Public are a `world` that is opened over whole relations and takes one
 //! `event` after another, as a run of the protocol; the laws of the protocol of each catalogue's database
-//! (`laws`), the serial law among them; and `fault`. Inside, `opening::start` makes the machines over lists,
-//! each call of `machines::Machines` is a step of the protocol's world of them, and `happening::happen` is one
-//! event.
+//! (`laws`), the serial law among them; `fault`; and `solo`, a database for one client at a time. Inside,
+//! `opening::start` makes the machines over lists, each call of `machines::Machines` is a step of the protocol's
+//! world of them, `happening::happen` is one event, and `delivering::settle` has all letters of a call come.
 #![tactic(auto)]
 
+mod alone;
+mod delivering;
 mod doing;
 pub mod event;
 pub mod fault;
@@ -18,4 +20,6 @@ mod machines;
 mod opening;
 mod posted;
 mod seats;
+mod serving;
+pub mod solo;
 pub mod world;

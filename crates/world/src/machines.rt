@@ -179,7 +179,7 @@ impl<D: DeskStore, S: SiteStore> Machines<D, S> {
 }
 
 /// What a site puts out. A vote NO may come of a store that refused.
-fn put_out(alloc: Global, letters: Vec<Letter>) -> Out
+pub(crate) fn put_out(alloc: Global, letters: Vec<Letter>) -> Out
     ensures letters { result.letters ≡ letters.items }
     ensures replies { result.replies ≡ [] }
     ensures kept { result.kept ≡ kept_in letters.items }

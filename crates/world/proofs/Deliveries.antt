@@ -1,0 +1,230 @@
+-- Steps of one client's machines, one after another.
+use Rattle.std.proofs.Common.{◌≡◌, ◌≤◌, ◌<◌, ◌-◌, nat_eq, arith, refl, sym, ap, ◌∙◌, subst, ℕ, suc, Bool, true, false, List, [], ◌∷◌, ◌++◌, map, length, append_assoc, Some, inr}
+use Rattle.std.proofs.lemmas.Bool.Decides.{nat_tests}
+use Rattle.std.proofs.lemmas.List.{append-nil, length-map, map-append}
+use Rattle.std.proofs.lemmas.List.Elements.{filter_map-append}
+use Rattle.std.specs.List.{filter_map}
+use Rattle.store.specs.declared.letter.Letter as letters
+use Rattle.protocol.specs.Desk.{Choice, Deed, Give_up}
+use Rattle.protocol.specs.Language.{Lang}
+use Rattle.protocol.specs.Rounds.{InRound, RanksUnder}
+use Rattle.protocol.specs.Serial.{Explained}
+use Rattle.protocol.specs.Letters.{txn_name}
+use Rattle.protocol.specs.World.{World, called}
+use Rattle.protocol.proofs.Basics.{some_is}
+use Rattle.protocol.proofs.Rounds.{round_law}
+use Rattle.desk.specs.declared.refusal.Refusal.{Refusal}
+use Rattle.desk.specs.declared.refusal.Refusal.TheVariants as refusals
+use Rattle.desk.specs.declared.reply.Notice.{Notice}
+use Rattle.desk.specs.declared.reply.Out.{Out}
+use Rattle.desk.specs.Database.{Database, language, sent}
+use Rattle.desk.specs.State.{desk_of, notice_of}
+use Rattle.desk.specs.Turn.{told}
+use Rattle.site.specs.declared.fault.SiteFault.TheVariants as site_faults
+use Rattle.world.specs.declared.fault.Fault.{Fault}
+use Rattle.world.specs.declared.fault.Fault.TheVariants as faults
+use Rattle.world.specs.Delivering.{Ask, Breaks, Coming, Fails, Goes, Passed_over, Scene, Serves, Taken, Turned_away, all_come, asked, at_rest, come, done_with, settled}
+use Rattle.world.specs.Machines.{AreFit, Leads, Machines, world_of}
+use Rattle.world.specs.Taking.{IsDone, IsInRound, gives_up, put_out_by, stop_of, world_at}
+use Rattle.world.specs.Stopping.{is_stop}
+use Rattle.world.proofs.Running.{all_both}
+
+pub all_come_append : {L : Lang} (one other : List (Coming L)) (w : World L) → all_come (one ++ other) w ≡ all_come other (all_come one w)
+all_come_append [] other w = refl
+all_come_append (c ∷ one) other w = all_come_append one other (come w c)
+
+-- no letter comes
+pub nothing_goes : (db : Database) (here : Scene) → AreFit db here.machines → Goes db (λ w. w) here here
+nothing_goes db here fit = record {
+  comings = [];
+  deeds = [];
+  fit = fit;
+  is = λ past. ap (world_of db here.machines (map (sent db) here.waiting)) (sym (append-nil past));
+  explained = tt;
+  replies = sym (append-nil (map notice_of here.heard));
+}
+
+pub nothing_breaks : (db : Database) (here : Scene) (after : Machines) → after ≡ here.machines → AreFit db here.machines → Breaks db (λ w. w) here after
+nothing_breaks db here after same fit = record {
+  comings = [];
+  deeds = [];
+  left = map (sent db) here.waiting;
+  fit = subst (AreFit db) (sym same) fit;
+  is = λ past i. world_of db (sym same i) (map (sent db) here.waiting) (sym (append-nil past) i);
+  explained = tt;
+}
+
+-- one step after another
+module _ (db : Database) (step : World (language db) → World (language db)) (first second : Scene) (one : Goes db step first second) where
+  pub then_goes : (third : Scene) → Goes db (λ w. w) second third → Goes db step first third
+  then_goes third other = record {
+    comings = one.comings ++ other.comings;
+    deeds = one.deeds ++ other.deeds;
+    fit = other.fit;
+    is = λ past.
+        all_come_append one.comings other.comings (step (world_of db first.machines (map (sent db) first.waiting) past))
+        ∙ ap (all_come other.comings) (one.is past)
+        ∙ other.is (past ++ one.deeds)
+        ∙ ap (world_of db third.machines (map (sent db) third.waiting)) (append_assoc past one.deeds other.deeds);
+    explained = all_both Explained one.deeds other.deeds one.explained other.explained;
+    replies = other.replies
+        ∙ ap (λ heard. heard ++ filter_map (told db) other.deeds) one.replies
+        ∙ append_assoc (map notice_of first.heard) (filter_map (told db) one.deeds) (filter_map (told db) other.deeds)
+        ∙ ap (λ more. map notice_of first.heard ++ more) (sym (filter_map-append (told db) one.deeds other.deeds));
+  }
+
+  pub then_breaks : (after : Machines) → Breaks db (λ w. w) second after → Breaks db step first after
+  then_breaks after other = record {
+    comings = one.comings ++ other.comings;
+    deeds = one.deeds ++ other.deeds;
+    left = other.left;
+    fit = other.fit;
+    is = λ past.
+        all_come_append one.comings other.comings (step (world_of db first.machines (map (sent db) first.waiting) past))
+        ∙ ap (all_come other.comings) (one.is past)
+        ∙ other.is (past ++ one.deeds)
+        ∙ ap (world_of db after other.left) (append_assoc past one.deeds other.deeds);
+    explained = all_both Explained one.deeds other.deeds one.explained other.explained;
+  }
+
+  -- what has gone well may also be said of a break
+  pub goes_breaks : Breaks db step first second.machines
+  goes_breaks = record {
+    comings = one.comings;
+    deeds = one.deeds;
+    left = map (sent db) second.waiting;
+    fit = one.fit;
+    is = one.is;
+    explained = one.explained;
+  }
+
+-- a letter that is in front comes
+module _ (db : Database) (last : Bool) (letter : letters.Letter) (here : Scene) (after : Machines) (rest out : List letters.Letter) (notices : List Notice) (in_front : here.waiting ≡ letter ∷ rest) (done : IsDone db last letter here.machines after out notices) where
+  is_next : (past : List (Deed (language db))) → come (world_of db here.machines (map (sent db) here.waiting) past) done.coming ≡ world_of db after (map (sent db) (rest ++ out)) (past ++ done.leads.deeds)
+  is_next past =
+      ap (λ waiting. come (world_of db here.machines (map (sent db) waiting) past) done.coming) in_front
+      ∙ done.leads.is (map (sent db) rest) past
+      ∙ ap (λ waiting. world_of db after waiting (past ++ done.leads.deeds)) (sym (map-append (sent db) rest out))
+
+  pub comes_goes : (there : Scene) → there.machines ≡ after → there.waiting ≡ rest ++ out → there.heard ≡ here.heard ++ notices → Goes db (λ w. w) here there
+  comes_goes there machines waiting heard = record {
+    comings = done.coming ∷ [];
+    deeds = done.leads.deeds;
+    fit = subst (AreFit db) (sym machines) done.leads.fit;
+    is = λ past. is_next past ∙ (λ i. world_of db (sym machines i) (map (sent db) (sym waiting i)) (past ++ done.leads.deeds));
+    explained = done.leads.explained;
+    replies = ap (map notice_of) heard ∙ map-append notice_of here.heard notices ∙ ap (λ more. map notice_of here.heard ++ more) done.leads.replies;
+  }
+
+  pub comes_breaks : Breaks db (λ w. w) here after
+  comes_breaks = record {
+    comings = done.coming ∷ [];
+    deeds = done.leads.deeds;
+    left = map (sent db) (rest ++ out);
+    fit = done.leads.fit;
+    is = is_next;
+    explained = done.leads.explained;
+  }
+
+  -- and the letters of the round grow fewer
+  pub comes_ranked : (n i : ℕ) → (last ≡ false → 1 ≤ n) → (there : Scene) → there.machines ≡ after → there.waiting ≡ rest ++ out → InRound (desk_of db here.machines.table).txn n (suc i) (map (sent db) here.waiting) → InRound (desk_of db there.machines.table).txn n i (map (sent db) there.waiting)
+  comes_ranked n i early there machines waiting ranked =
+      let w = world_of db here.machines (map (sent db) rest) [] in
+      let in_front_ranked : InRound w.desk.txn n (suc i) (sent db letter ∷ map (sent db) rest) = subst (λ (all : List letters.Letter). InRound w.desk.txn n (suc i) (map (sent db) all)) in_front ranked in
+      let Ranked : World (language db) → Type 0 = λ v. InRound v.desk.txn n i v.letters in
+      subst (λ (m : Machines). InRound (desk_of db m.table).txn n i (map (sent db) there.waiting)) (sym machines)
+      (subst (λ (all : List letters.Letter). InRound (desk_of db after.table).txn n i (map (sent db) all)) (sym waiting)
+      (subst Ranked (done.leads.is (map (sent db) rest) [] ∙ ap (λ waiting. world_of db after waiting ([] ++ done.leads.deeds)) (sym (map-append (sent db) rest out)))
+      (after_letter done.coming done.early in_front_ranked)))
+    where
+      after_letter : (coming : Coming (language db)) → (gives_up coming ≡ true → last ≡ false) → InRound (desk_of db here.machines.table).txn n (suc i) (sent db letter ∷ map (sent db) rest) →
+          InRound (done_with (sent db letter) coming (world_of db here.machines (map (sent db) rest) [])).desk.txn n i (done_with (sent db letter) coming (world_of db here.machines (map (sent db) rest) [])).letters
+      after_letter (Taken kept choice) mild all = (round_law {L = language db}).goes_on (world_of db here.machines (sent db letter ∷ map (sent db) rest) []) n i kept choice all
+      after_letter (Turned_away choice) mild all = (round_law {L = language db}).given_up (world_of db here.machines (map (sent db) rest) []) n i (sent db letter).txn choice (early (mild refl)) all.1
+      after_letter Passed_over mild all = all.1
+
+-- a call, and then its letters
+module _ (db : Database) (ask : Ask (language db)) (before mid : Machines) (out : Out) (leads : Leads db (asked ask) before mid out.letters out.replies) where
+  called_goes : Goes db (asked ask) (at_rest before) (put_out_by mid out)
+  called_goes = record {
+    comings = [];
+    deeds = leads.deeds;
+    fit = leads.fit;
+    is = λ past. leads.is [] past;
+    explained = leads.explained;
+    replies = leads.replies;
+  }
+
+  pub call_serves : (after : Machines) (heard : List Notice) → Goes db (λ w. w) (put_out_by mid out) (settled after heard) → Serves db ask before after heard
+  call_serves after heard goes = then_goes db (asked ask) (at_rest before) (put_out_by mid out) called_goes (settled after heard) goes
+
+  pub call_fails : (after : Machines) → Breaks db (λ w. w) (put_out_by mid out) after → Fails db before after
+  call_fails after breaks = inr (ask, then_breaks db (asked ask) (at_rest before) (put_out_by mid out) called_goes after breaks)
+
+-- a call that went well may be said of as one that failed
+pub serves_fails : (db : Database) (ask : Ask (language db)) (before after : Machines) (heard : List Notice) → Serves db ask before after heard → Fails db before after
+serves_fails db ask before after heard serves = inr (ask, goes_breaks db (asked ask) (at_rest before) (settled after heard) serves)
+
+-- ---- rounds
+pub all_in_round : (db : Database) (n count : ℕ) (here : Scene) → count ≡ length here.waiting → RanksUnder (suc n) (world_at db here) → IsInRound db n count here
+all_in_round db n count here counted ranks = subst (λ k. IsInRound db n k here) (length-map here.waiting (sent db) ∙ sym counted) ((round_law {L = language db}).starts (world_at db here) n ranks)
+
+-- the last round leaves nothing
+pub none_left : (db : Database) (here : Scene) → RanksUnder 0 (world_at db here) → here.waiting ≡ []
+none_left db here ranks = go here.waiting ((round_law {L = language db}).over (world_at db here) ranks)
+  where
+    go : (waiting : List letters.Letter) → map (sent db) waiting ≡ [] → waiting ≡ []
+    go [] e = refl
+    go (l ∷ waiting) e = cc
+
+pub all_nine : (db : Database) (here : Scene) → RanksUnder 9 (world_at db here)
+all_nine db here = (round_law {L = language db}).nine (world_at db here)
+
+-- with nothing left all have come
+pub goes_settled : (db : Database) (step : World (language db) → World (language db)) (first here : Scene) → Goes db step first here → here.waiting ≡ [] → Goes db step first (settled here.machines here.heard)
+goes_settled db step first here goes none = subst (λ (waiting : List letters.Letter). Goes db step first (record { machines = here.machines; waiting = waiting; heard = here.heard })) none goes
+
+-- ---- what becomes of a letter that isn't taken
+pub passed_over : (db : Database) (last : Bool) (letter : letters.Letter) (before after : Machines) (out : List letters.Letter) (notices : List Notice) → AreFit db before → after ≡ before → out ≡ [] → notices ≡ [] → IsDone db last letter before after out notices
+passed_over db last letter before after out notices fit same none silent = record {
+  coming = Passed_over;
+  early = λ gives. cc;
+  leads = record {
+    deeds = [];
+    fit = subst (AreFit db) (sym same) fit;
+    is = λ waiting past i. world_of db (sym same i) ((sym (append-nil waiting) ∙ ap (λ (put : List letters.Letter). waiting ++ map (sent db) put) (sym none)) i) (sym (append-nil past) i);
+    explained = tt;
+    replies = ap (map notice_of) silent;
+  };
+}
+
+pub turned_away : (db : Database) (last : Bool) (letter : letters.Letter) (before mid after : Machines) (out : List letters.Letter) (notices : List Notice) (choice : Choice (language db)) → mid ≡ before → last ≡ false →
+    Leads db (λ w. called w (txn_name letter.txn) choice Give_up) mid after out notices → IsDone db last letter before after out notices
+turned_away db last letter before mid after out notices choice same early leads = record {
+  coming = Turned_away choice;
+  early = λ gives. early;
+  leads = subst (λ (m : Machines). Leads db (λ w. called w (txn_name letter.txn) choice Give_up) m after out notices) same leads;
+}
+
+pub stop_stops : (fault : Fault) (refusal : Refusal) → stop_of fault ≡ Some refusal → is_stop refusal ≡ true
+stop_stops (faults.Desk refusals.NoTransaction) refusal e = cc
+stop_stops (faults.Desk refusals.Busy) refusal e = cc
+stop_stops (faults.Desk refusals.Ended) refusal e = cc
+stop_stops (faults.Desk refusals.Full) refusal e = cc
+stop_stops (faults.Desk (refusals.Read fault)) refusal e = cc
+stop_stops (faults.Desk (refusals.Aborted why)) refusal e = cc
+stop_stops (faults.Desk refusals.Memory) refusal e = ap is_stop (sym (some_is e))
+stop_stops (faults.Desk (refusals.Store fault)) refusal e = ap is_stop (sym (some_is e))
+stop_stops (faults.Site site_faults.Memory) refusal e = ap is_stop (sym (some_is e))
+stop_stops (faults.Site (site_faults.Store fault)) refusal e = ap is_stop (sym (some_is e))
+stop_stops (faults.Site site_faults.Full) refusal e = cc
+stop_stops (faults.Site site_faults.Stranger) refusal e = cc
+stop_stops faults.Unsent refusal e = cc
+
+-- the same scene
+pub alike_goes : (db : Database) (here there : Scene) → there.machines ≡ here.machines → there.waiting ≡ here.waiting → there.heard ≡ here.heard → AreFit db here.machines → Goes db (λ w. w) here there
+alike_goes db here there machines waiting heard fit = subst (Goes db (λ w. w) here) (λ i. record { machines = sym machines i; waiting = sym waiting i; heard = sym heard i }) (nothing_goes db here fit)
+
+-- before the last round some rank is left
+pub early_round : (r : ℕ) → r < 9 → nat_eq r 8 ≡ false → 1 ≤ 8 - r
+early_round r below apart = grind (arith, nat_tests)

@@ -1,0 +1,22 @@
+-- Why `decide` meets its contract.
+use Rattle.std.proofs.Common.{◌≡◌, ◌∙◌, refl, sym, ap, true, false, inl, inr}
+use Rattle.world.specs.Held.{held}
+use Rattle.world.specs.Serving.{is_end, tells}
+use Rattle.world.proofs.Moving.{if_ok}
+use Rattle.world.proofs.Reaching.{same_on}
+use Rattle.world.proofs.alone.decide.Goals as goal
+
+pub returns-then-tells_end-clause-ok : goal.returns-then-tells_end-clause-ok
+returns-then-tells_end-clause-ok g c = λ db of is clean sound fit.
+    let ended : tells is_end c.args.told.items ≡ true = ap (tells is_end) (sym c.as_slice.ensures.value) ∙ sym c.tells_end.ensures ∙ c.if-tells_end.true in
+    inl (ended, refl, c.told_alone.ensures)
+
+pub returns-then-tells_end-clause-served : goal.returns-then-tells_end-clause-served
+returns-then-tells_end-clause-served g c = λ db whole past of law is clean sound served.
+    let here = held g.D.DeskStore.kept g.S.SiteStore.kept c.args.machines.now in
+    same_on db law whole here here past served refl
+
+pub returns-clause-ok : goal.returns-clause-ok
+returns-clause-ok g c = λ db of is clean sound fit.
+    let goes_on : tells is_end c.args.told.items ≡ false = ap (tells is_end) (sym c.as_slice.ensures.value) ∙ sym c.tells_end.ensures ∙ c.if-tells_end.false in
+    if_ok c.commit_alone.result (λ heard commits. inr (goes_on, commits)) (c.commit_alone.ensures.ok db of is clean sound fit)

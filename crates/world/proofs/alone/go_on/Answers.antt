@@ -1,0 +1,18 @@
+-- Why `go_on` meets its contract.
+use Rattle.std.proofs.Common.{refl, subst, List}
+use Rattle.desk.specs.declared.reply.Notice.{Notice}
+use Rattle.world.specs.Held.{held}
+use Rattle.world.specs.Serving.{DoesDecide}
+use Rattle.world.proofs.Moving.{if_ok}
+use Rattle.world.proofs.Reaching.{same_on}
+use Rattle.world.proofs.alone.go_on.Goals as goal
+
+pub returns-in-Ok-clause-ok : goal.returns-in-Ok-clause-ok
+returns-in-Ok-clause-ok g c = λ db of is clean sound fit.
+    if_ok c.decide.result (λ heard decides. subst (λ (told : List Notice). DoesDecide db c.args.txn told (held g.D.DeskStore.kept g.S.SiteStore.kept c.args.machines.now) (held g.D.DeskStore.kept g.S.SiteStore.kept c.decide.new.machines) heard.items) c.in-Ok.ensures decides)
+    (c.decide.ensures.ok db of is clean sound fit)
+
+pub returns-in-Err-clause-served : goal.returns-in-Err-clause-served
+returns-in-Err-clause-served g c = λ db whole past of law is clean sound served.
+    let here = held g.D.DeskStore.kept g.S.SiteStore.kept c.args.machines.now in
+    same_on db law whole here here past served refl

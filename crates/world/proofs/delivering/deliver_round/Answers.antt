@@ -1,0 +1,54 @@
+-- Why `deliver_round` meets its contract.
+use Rattle.std.proofs.Common.{◌≡◌, ◌∙◌, ◌+◌, ◌-◌, ℕ, suc, length, refl, sym, ap, subst, arith}
+use Rattle.catalog.specs.Relation.{catalogue_of}
+use Rattle.world.specs.Held.{held}
+use Rattle.world.specs.Taking.{IsInRound, scene}
+use Rattle.world.proofs.Deliveries.{all_in_round, nothing_goes, then_breaks, then_goes}
+use Rattle.world.proofs.Moving.{on_any_err}
+use Rattle.world.proofs.delivering.deliver_round.Goals as goal
+
+pub loop-init : goal.loop-init
+loop-init g c =
+    let here = scene (held g.D.DeskStore.kept g.S.SiteStore.kept c.args.machines.now) c.args.post.now in
+    let count : c.len-end.result - 0 ≡ length c.args.post.now.waiting.items = omega (arith, c.len-end.ensures, c.args.post.now.waiting.ok.0) in
+    record {
+      clean = λ x. x;
+      sound = λ x s. s;
+      catalog = refl;
+      goes = λ db of is clean sound fit. nothing_goes db here fit;
+      ranks = λ db n of is clean sound fit early ranks. all_in_round db n (c.len-end.result - 0) here count ranks;
+    }
+
+pub loop-preserved : goal.loop-preserved
+loop-preserved g c =
+    let first = scene (held g.D.DeskStore.kept g.S.SiteStore.kept c.args.machines.now) c.args.post.now in
+    let here = scene (held g.D.DeskStore.kept g.S.SiteStore.kept c.loop.machines) c.loop.post in
+    let there = scene (held g.D.DeskStore.kept g.S.SiteStore.kept c.deliver_next.new.machines) c.deliver_next.new.post in
+    let one_less : c.len-end.result - c.loop.counter ≡ suc (c.len-end.result - (c.loop.counter + 1)) = omega (arith, c.loop-test.true) in
+    record {
+      clean = λ x. c.loop.invariant.clean (c.deliver_next.ensures.clean x);
+      sound = λ x s. c.deliver_next.ensures.sound x (c.loop.invariant.sound (c.deliver_next.ensures.clean x) s);
+      catalog = c.deliver_next.ensures.catalog ∙ c.loop.invariant.catalog;
+      goes = λ db of is clean sound fit.
+          let so_far = c.loop.invariant.goes db of is (c.deliver_next.ensures.clean clean) sound fit in
+          then_goes db (λ w. w) first here so_far there (c.in_ok-deliver_next.ensures.ok db of (is ∙ ap catalogue_of (sym c.loop.invariant.catalog)) clean (c.loop.invariant.sound (c.deliver_next.ensures.clean clean) sound) so_far.fit);
+      ranks = λ db n of is clean sound fit early ranks.
+          let so_far = c.loop.invariant.goes db of is (c.deliver_next.ensures.clean clean) sound fit in
+          let ranked = c.loop.invariant.ranks db n of is (c.deliver_next.ensures.clean clean) sound fit early ranks in
+          c.in_ok-deliver_next.ensures.ranks db n (c.len-end.result - (c.loop.counter + 1)) of (is ∙ ap catalogue_of (sym c.loop.invariant.catalog)) clean (c.loop.invariant.sound (c.deliver_next.ensures.clean clean) sound) so_far.fit early
+          (subst (λ (k : ℕ). IsInRound db n k here) one_less ranked);
+    }
+
+pub returns-clause-ranks : goal.returns-clause-ranks
+returns-clause-ranks g c = λ db n of is clean sound fit early ranks.
+    let here = scene (held g.D.DeskStore.kept g.S.SiteStore.kept c.loop.machines) c.loop.post in
+    let over : c.len-end.result - c.loop.counter ≡ 0 = omega (arith, c.loop-test.false) in
+    subst (λ (k : ℕ). IsInRound db n k here) over (c.loop.invariant.ranks db n of is clean sound fit early ranks)
+
+pub returns-in_err-deliver_next-clause-err : goal.returns-in_err-deliver_next-clause-err
+returns-in_err-deliver_next-clause-err g c = λ db of is clean sound fit.
+    let first = scene (held g.D.DeskStore.kept g.S.SiteStore.kept c.args.machines.now) c.args.post.now in
+    let here = scene (held g.D.DeskStore.kept g.S.SiteStore.kept c.loop.machines) c.loop.post in
+    let so_far = c.loop.invariant.goes db of is (c.deliver_next.ensures.clean clean) sound fit in
+    on_any_err c.from_residual.result (then_breaks db (λ w. w) first here so_far (held g.D.DeskStore.kept g.S.SiteStore.kept c.deliver_next.new.machines)
+    (c.in_err-deliver_next.ensures.err db of (is ∙ ap catalogue_of (sym c.loop.invariant.catalog)) clean (c.loop.invariant.sound (c.deliver_next.ensures.clean clean) sound) so_far.fit))

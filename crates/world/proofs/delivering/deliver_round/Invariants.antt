@@ -1,0 +1,23 @@
+-- What each letter of a round keeps.
+use Rattle.std.proofs.Common.{◌≡◌, ◌≤◌, ◌-◌, ℕ, suc, false}
+use Rattle.catalog.specs.Relation.{catalogue_of}
+use Rattle.protocol.specs.Rounds.{RanksUnder}
+use Rattle.desk.specs.Database.{Database}
+use Rattle.desk.specs.OfCatalogue.{IsOfCatalogue}
+use Rattle.world.specs.Delivering.{Goes}
+use Rattle.world.specs.Held.{OfStores, held}
+use Rattle.world.specs.Machines.{AreFit}
+use Rattle.world.specs.Taking.{IsInRound, scene, world_at}
+use Rattle.world.proofs.delivering.deliver_round.Given as goal
+
+abbrev pub invariant-loop : goal.invariant-loop
+invariant-loop g l = record {
+  clean : OfStores g.D.DeskStore.is_clean g.S.SiteStore.is_clean l.machines → OfStores g.D.DeskStore.is_clean g.S.SiteStore.is_clean l.fn.machines;
+  sound : OfStores g.D.DeskStore.is_clean g.S.SiteStore.is_clean l.machines → OfStores g.D.DeskStore.is_sound g.S.SiteStore.is_sound l.fn.machines → OfStores g.D.DeskStore.is_sound g.S.SiteStore.is_sound l.machines;
+  catalog : l.machines.desk.catalog ≡ l.fn.machines.desk.catalog;
+  goes : (db : Database) → IsOfCatalogue db → db.catalogue ≡ catalogue_of l.fn.machines.desk.catalog → OfStores g.D.DeskStore.is_clean g.S.SiteStore.is_clean l.machines → OfStores g.D.DeskStore.is_sound g.S.SiteStore.is_sound l.fn.machines
+      → AreFit db (held g.D.DeskStore.kept g.S.SiteStore.kept l.fn.machines) → Goes db (λ w. w) (scene (held g.D.DeskStore.kept g.S.SiteStore.kept l.fn.machines) l.fn.post) (scene (held g.D.DeskStore.kept g.S.SiteStore.kept l.machines) l.post);
+  ranks : (db : Database) (n : ℕ) → IsOfCatalogue db → db.catalogue ≡ catalogue_of l.fn.machines.desk.catalog → OfStores g.D.DeskStore.is_clean g.S.SiteStore.is_clean l.machines → OfStores g.D.DeskStore.is_sound g.S.SiteStore.is_sound l.fn.machines
+      → AreFit db (held g.D.DeskStore.kept g.S.SiteStore.kept l.fn.machines) → (l.fn.last ≡ false → 1 ≤ n) → RanksUnder (suc n) (world_at db (scene (held g.D.DeskStore.kept g.S.SiteStore.kept l.fn.machines) l.fn.post))
+      → IsInRound db n (l.end - l.counter) (scene (held g.D.DeskStore.kept g.S.SiteStore.kept l.machines) l.post);
+}

@@ -1,0 +1,10 @@
+-- Why `begin` meets its contract.
+use Rattle.world.specs.Held.{held}
+use Rattle.world.proofs.Beginning.{begin_done}
+use Rattle.world.proofs.Moving.{if_both}
+use Rattle.world.proofs.serving.begin.Goals as goal
+
+pub returns-in-Ok-clause-ok : goal.returns-in-Ok-clause-ok
+returns-in-Ok-clause-ok g c = λ db of is clean sound fit.
+    if_both c.named.result (λ begun same first. begin_done db (held g.D.DeskStore.kept g.S.SiteStore.kept c.args.machines.now) (held g.D.DeskStore.kept g.S.SiteStore.kept c.greet.new.machines) c.in-Ok.heard.items (c.in-Ok.ensures.ok db of is clean sound fit) begun.txn begun.heard.items same first)
+    c.named.ensures.same c.named.ensures.first

@@ -1,0 +1,37 @@
+-- Why `roll_back` meets its contract.
+use Rattle.std.proofs.Common.{◌∙◌, sym, ap}
+use Rattle.catalog.specs.Relation.{catalogue_of}
+use Rattle.protocol.specs.Desk.{Rollback}
+use Rattle.protocol.specs.Letters.{txn_name}
+use Rattle.world.specs.Delivering.{To_do}
+use Rattle.world.specs.Held.{held}
+use Rattle.world.proofs.Deliveries.{call_serves}
+use Rattle.world.proofs.Moving.{if_ok}
+use Rattle.world.proofs.Reaching.{call_served, same_on}
+use Rattle.world.proofs.Running.{no_choice, over_of}
+use Rattle.world.proofs.serving.roll_back.Goals as goal
+
+pub returns-in-Ok-clause-ok : goal.returns-in-Ok-clause-ok
+returns-in-Ok-clause-ok g c = λ db of is clean sound fit.
+    let before = held g.D.DeskStore.kept g.S.SiteStore.kept c.args.machines.now in
+    let mid = held g.D.DeskStore.kept g.S.SiteStore.kept c.rollback.new.self in
+    let after = held g.D.DeskStore.kept g.S.SiteStore.kept c.settle.new.machines in
+    let made = (c.in-Ok.ensures.ok db (no_choice db) (over_of db c.args.machines.now.desk.catalog of is) fit).leads in
+    if_ok c.settle.result (λ heard goes. record { choice = no_choice db; serves = call_serves db (To_do (txn_name c.args.txn) Rollback (no_choice db)) before mid c.in-Ok.out made after heard.items goes })
+    (c.settle.ensures.ok db of (is ∙ ap catalogue_of (sym c.rollback.ensures.catalog)) clean (c.rollback.ensures.sound (c.settle.ensures.clean clean) sound) made.fit)
+
+pub returns-in-Ok-clause-served : goal.returns-in-Ok-clause-served
+returns-in-Ok-clause-served g c = λ db whole past of law is clean sound served.
+    let before = held g.D.DeskStore.kept g.S.SiteStore.kept c.args.machines.now in
+    let mid = held g.D.DeskStore.kept g.S.SiteStore.kept c.rollback.new.self in
+    let after = held g.D.DeskStore.kept g.S.SiteStore.kept c.settle.new.machines in
+    let fit = served.fit in
+    let made = (c.in-Ok.ensures.ok db (no_choice db) (over_of db c.args.machines.now.desk.catalog of is) fit).leads in
+    let is_mid = is ∙ ap catalogue_of (sym c.rollback.ensures.catalog) in
+    let sound_mid = c.rollback.ensures.sound (c.settle.ensures.clean clean) sound in
+    call_served db law whole (To_do (txn_name c.args.txn) Rollback (no_choice db)) before mid after c.in-Ok.out past c.settle.result (λ heard. heard.items) served made
+    (c.settle.ensures.ok db of is_mid clean sound_mid made.fit) (c.settle.ensures.err db of is_mid clean sound_mid made.fit)
+
+pub returns-in-Err-clause-served : goal.returns-in-Err-clause-served
+returns-in-Err-clause-served g c = λ db whole past of law is clean sound served.
+    same_on db law whole (held g.D.DeskStore.kept g.S.SiteStore.kept c.args.machines.now) (held g.D.DeskStore.kept g.S.SiteStore.kept c.rollback.new.self) past served c.in-Err.ensures.err

@@ -1,0 +1,11 @@
+-- Why `states` meets its contract.
+use Rattle.std.proofs.Common.{◌∙◌, sym}
+use Rattle.world.specs.Serving.{did_run, did_state, still_open}
+use Rattle.world.proofs.Moving.{if_ok}
+use Rattle.world.proofs.solo.Solo.states.Goals as goal
+
+pub returns-in-None-clause-ok : goal.returns-in-None-clause-ok
+returns-in-None-clause-ok g c = λ db of is clean sound fit. if_ok c.run_alone.result (λ heard does. did_run c.in-None.is c.in-None.is does) (c.run_alone.ensures.ok db of is clean sound fit)
+
+pub returns-in-Ok-clause-ok : goal.returns-in-Ok-clause-ok
+returns-in-Ok-clause-ok g c = λ db of is clean sound fit. did_state c.in-Some.txn c.in-Some.is (c.still_open-self.ensures ∙ (λ i. still_open (sym c.in-Some.is i) (c.as_slice.ensures.value i))) (c.in-Ok.ensures.ok db of is clean sound fit)

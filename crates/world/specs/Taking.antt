@@ -1,0 +1,83 @@
+-- One letter of one client's machines.
+use Rattle.std.specs.Prelude.{◌≡◌, ℕ, Bool, true, false, List, [], map, Option, Some, None}
+use Rattle.site.specs.declared.fault.SiteFault.TheVariants as site_faults
+use Rattle.store.specs.declared.letter.Letter as letters
+use Rattle.protocol.specs.Language.{Lang}
+use Rattle.protocol.specs.Rounds.{InRound}
+use Rattle.protocol.specs.World.{World}
+use Rattle.desk.specs.declared.refusal.Refusal.{Refusal}
+use Rattle.desk.specs.declared.refusal.Refusal.TheVariants as refusals
+use Rattle.desk.specs.declared.reply.Notice.{Notice}
+use Rattle.desk.specs.declared.reply.Out.{Out}
+use Rattle.desk.specs.Database.{Database, language, sent}
+use Rattle.world.specs.declared.delivering.Post.{Post}
+use Rattle.world.specs.declared.fault.Fault.{Fault}
+use Rattle.world.specs.declared.fault.Fault.TheVariants.{Desk, Site, Unsent}
+use Rattle.world.specs.Delivering.{Coming, Passed_over, Scene, Taken, Turned_away, done_with}
+use Rattle.world.specs.Machines.{Leads, Machines, world_of}
+
+-- the refusal that stops one client's machines, if the fault is one that does
+abbrev pub stop_of_desk : Refusal → Option Refusal
+stop_of_desk refusals.NoTransaction = None
+stop_of_desk refusals.Busy = None
+stop_of_desk refusals.Ended = None
+stop_of_desk refusals.Full = None
+stop_of_desk (refusals.Read fault) = None
+stop_of_desk (refusals.Aborted why) = None
+stop_of_desk refusals.Memory = Some refusals.Memory
+stop_of_desk (refusals.Store fault) = Some (refusals.Store fault)
+
+abbrev pub stop_of : Fault → Option Refusal
+stop_of (Desk refusal) = stop_of_desk refusal
+stop_of (Site site_faults.Memory) = Some refusals.Memory
+stop_of (Site (site_faults.Store fault)) = Some (refusals.Store fault)
+stop_of (Site site_faults.Full) = None
+stop_of (Site site_faults.Stranger) = None
+stop_of Unsent = None
+
+-- machines, and the post of the code
+abbrev pub scene : Machines → Post → Scene
+scene machines post = record { machines = machines; waiting = post.waiting.items; heard = post.heard.items }
+
+-- machines that have just put something out
+abbrev pub put_out_by : Machines → Out → Scene
+put_out_by machines out = record { machines = machines; waiting = out.letters; heard = out.replies }
+
+-- its world; what happened before doesn't matter to ranks
+abbrev pub world_at : (db : Database) → Scene → World (language db)
+world_at db here = world_of db here.machines (map (sent db) here.waiting) []
+
+-- the first i letters that wait are those of the round, and what they bring about ranks at most n
+abbrev pub IsInRound : Database → ℕ → ℕ → Scene → Type 0
+IsInRound db n i here = InRound (world_at db here).desk.txn n i (world_at db here).letters
+
+-- whether a machine is at a limit
+abbrev pub is_limit_of_desk : Refusal → Bool
+is_limit_of_desk refusals.NoTransaction = false
+is_limit_of_desk refusals.Busy = false
+is_limit_of_desk refusals.Ended = false
+is_limit_of_desk refusals.Full = true
+is_limit_of_desk (refusals.Read fault) = false
+is_limit_of_desk (refusals.Aborted why) = false
+is_limit_of_desk refusals.Memory = false
+is_limit_of_desk (refusals.Store fault) = false
+
+abbrev pub is_limit : Fault → Bool
+is_limit (Desk refusal) = is_limit_of_desk refusal
+is_limit (Site site_faults.Memory) = false
+is_limit (Site (site_faults.Store fault)) = false
+is_limit (Site site_faults.Full) = true
+is_limit (Site site_faults.Stranger) = false
+is_limit Unsent = false
+
+-- whether a letter was let go and its transaction given up
+abbrev pub gives_up : {L : Lang} → Coming L → Bool
+gives_up (Taken kept choice) = false
+gives_up (Turned_away choice) = true
+gives_up Passed_over = false
+
+-- something becomes of a letter. last: whether it comes in the last round, when nobody is given up
+pub record IsDone (db : Database) (last : Bool) (letter : letters.Letter) (before after : Machines) (out : List letters.Letter) (notices : List Notice) : Type 0 where
+  pub coming : Coming (language db)
+  pub early : gives_up coming ≡ true → last ≡ false
+  pub leads : Leads db (done_with (sent db letter) coming) before after out notices

@@ -1,0 +1,247 @@
+//! A statement that is a transaction of its own.
+
+ghost use Rattle.std.specs.Prelude.{◌≡◌, ◌++◌, List, filter, IfErr, IfOk, OnOk};
+ghost use Rattle.meaning.specs.Whole.{Relations};
+ghost use Rattle.catalog.specs.Relation.{catalogue_of};
+ghost use Rattle.protocol.specs.Client.{ReachedLaw};
+ghost use Rattle.protocol.specs.Desk.{Deed};
+ghost use Rattle.desk.specs.Database.{Database, language};
+ghost use Rattle.desk.specs.OfCatalogue.{IsOfCatalogue};
+ghost use Rattle.desk.specs.declared.refusal.Refusal.TheVariants as refusals;
+ghost use Rattle.world.specs.Held.{OfStores, held};
+ghost use Rattle.world.specs.Machines.{AreFit};
+ghost use Rattle.world.specs.Serving.{DoesAlone, DoesCommit, DoesDecide, DoesRun, IsServed, IsServedOn, is_answer, is_commit, is_end, tells, told_alone};
+ghost use Rattle.world.specs.Stopping.{is_stop};
+
+use crate::machines::Machines;
+use crate::serving::{Begun, begin, commit, roll_back, state};
+use desk::refusal::Refusal;
+use desk::reply::{Notice, Reply};
+use store::desk_store::DeskStore;
+use store::name::Txn;
+use store::site_store::SiteStore;
+
+/// Whether a refusal stops a client's database: memory ran out, or a store failed.
+pub(crate) fn is_stop(refusal: &Refusal) -> bool
+    ensures { result ≡ is_stop refusal.now }
+{
+    matches!(refusal, Refusal::Memory | Refusal::Store(_))
+}
+
+/// Whether a reply tells that a transaction has ended.
+fn is_end(reply: &Reply) -> bool
+    ensures { result ≡ is_end reply.now }
+{
+    matches!(
+        reply,
+        Reply::Committed | Reply::RolledBack | Reply::Aborted(_)
+    )
+}
+
+/// Whether one of these notices tells that a transaction has ended.
+pub(crate) fn tells_end(heard: &[Notice]) -> bool
+    ensures { result ≡ tells is_end heard.now }
+{
+    heard.iter().any(|notice| is_end(&notice.reply))
+}
+
+/// Whether a reply is a statement's answer.
+fn is_answer(reply: &Reply) -> bool
+    ensures { result ≡ is_answer reply.now }
+{
+    matches!(reply, Reply::Answer(_))
+}
+
+/// The answers among these notices.
+fn answers(heard: Vec<Notice>) -> Vec<Notice>
+    ensures { result.items ≡ filter (λ notice. is_answer notice.reply) heard.items }
+{
+    let mut heard = heard;
+    heard.retain(|notice| is_answer(&notice.reply));
+    heard
+}
+
+/// The ends among these notices.
+fn ends(heard: Vec<Notice>) -> Vec<Notice>
+    ensures { result.items ≡ filter (λ notice. is_end notice.reply) heard.items }
+{
+    let mut heard = heard;
+    heard.retain(|notice| is_end(&notice.reply));
+    heard
+}
+
+/// What the client of a lone statement hears of all that was told: the answer where it was committed, and else how it ended.
+fn told_alone(heard: Vec<Notice>) -> Vec<Notice>
+    ensures { result.items ≡ told_alone heard.items }
+{
+    if tells_commit(heard.as_slice()) {
+        answers(heard)
+    } else {
+        ends(heard)
+    }
+}
+
+/// What was told before and since.
+fn joined(told: Vec<Notice>, since: Vec<Notice>) -> Result<Vec<Notice>, Refusal>
+    ensures { IfOk result (λ all. all.items ≡ told.items ++ since.items) }
+{
+    let mut told = told;
+    match add(&mut told, since) {
+        Ok(()) => Ok(told),
+        Err(refusal) => Err(refusal),
+    }
+}
+
+/// What the client of a lone statement hears, of what was told before and since.
+fn hears(told: Vec<Notice>, since: Vec<Notice>) -> Result<Vec<Notice>, Refusal>
+    ensures { IfOk result (λ heard. heard.items ≡ told_alone (told.items ++ since.items)) }
+{
+    match joined(told, since) {
+        Ok(all) => Ok(told_alone(all)),
+        Err(refusal) => Err(refusal),
+    }
+}
+
+/// More is heard.
+pub(crate) fn add(heard: &mut Vec<Notice>, more: Vec<Notice>) -> Result<(), Refusal>
+    ensures ok { OnOk result (heard.new.items ≡ heard.old.items ++ more.items) }
+    ensures own { IfErr result (λ refusal. refusal ≡ refusals.Memory) }
+{
+    let mut more = more;
+    match heard.append(&mut more) {
+        Ok(()) => Ok(()),
+        Err(_) => Err(Refusal::Memory),
+    }
+}
+
+/// Whether one of these notices tells that a transaction was committed.
+fn tells_commit(heard: &[Notice]) -> bool
+    ensures { result ≡ tells is_commit heard.now }
+{
+    heard
+        .iter()
+        .any(|notice| matches!(&notice.reply, Reply::Committed))
+}
+
+/// A transaction whose call was refused is rolled back. Says what was refused.
+fn take_back<D: DeskStore, S: SiteStore>(
+    machines: &mut Machines<D, S>,
+    txn: Txn,
+    refusal: Refusal,
+) -> Refusal
+    ensures clean { OfStores D.is_clean S.is_clean machines.new → OfStores D.is_clean S.is_clean machines.old }
+    ensures sound { OfStores D.is_clean S.is_clean machines.new → OfStores D.is_sound S.is_sound machines.old → OfStores D.is_sound S.is_sound machines.new }
+    ensures catalog { machines.new.desk.catalog ≡ machines.old.desk.catalog }
+    ensures served { (db : Database) (whole : Relations) (past : List (Deed (language db))) → IsOfCatalogue db → ReachedLaw (language db) → db.catalogue ≡ catalogue_of machines.old.desk.catalog → OfStores D.is_clean S.is_clean machines.new → OfStores D.is_sound S.is_sound machines.old
+        → IsServed db whole (held D.kept S.kept machines.old) past → IsServedOn db whole (held D.kept S.kept machines.new) past }
+{
+    if is_stop(&refusal) {
+        return refusal;
+    }
+    match roll_back(machines, txn) {
+        Ok(_heard) => refusal,
+        Err(other) => other,
+    }
+}
+
+/// The commit of a lone statement is asked for.
+fn commit_alone<D: DeskStore, S: SiteStore>(
+    machines: &mut Machines<D, S>,
+    txn: Txn,
+    told: Vec<Notice>,
+) -> Result<Vec<Notice>, Refusal>
+    ensures clean { OfStores D.is_clean S.is_clean machines.new → OfStores D.is_clean S.is_clean machines.old }
+    ensures sound { OfStores D.is_clean S.is_clean machines.new → OfStores D.is_sound S.is_sound machines.old → OfStores D.is_sound S.is_sound machines.new }
+    ensures catalog { machines.new.desk.catalog ≡ machines.old.desk.catalog }
+    ensures ok { (db : Database) → IsOfCatalogue db → db.catalogue ≡ catalogue_of machines.old.desk.catalog → OfStores D.is_clean S.is_clean machines.new → OfStores D.is_sound S.is_sound machines.old → AreFit db (held D.kept S.kept machines.old)
+        → IfOk result (λ heard. DoesCommit db txn told.items (held D.kept S.kept machines.old) (held D.kept S.kept machines.new) heard.items) }
+    ensures served { (db : Database) (whole : Relations) (past : List (Deed (language db))) → IsOfCatalogue db → ReachedLaw (language db) → db.catalogue ≡ catalogue_of machines.old.desk.catalog → OfStores D.is_clean S.is_clean machines.new → OfStores D.is_sound S.is_sound machines.old
+        → IsServed db whole (held D.kept S.kept machines.old) past → IsServedOn db whole (held D.kept S.kept machines.new) past }
+{
+    match commit(machines, txn) {
+        Ok(decided) => hears(told, decided),
+        Err(refusal) => Err(take_back(machines, txn, refusal)),
+    }
+}
+
+/// Of a lone statement this was told: its commit is asked for, unless it has ended by itself.
+fn decide<D: DeskStore, S: SiteStore>(
+    machines: &mut Machines<D, S>,
+    txn: Txn,
+    told: Vec<Notice>,
+) -> Result<Vec<Notice>, Refusal>
+    ensures clean { OfStores D.is_clean S.is_clean machines.new → OfStores D.is_clean S.is_clean machines.old }
+    ensures sound { OfStores D.is_clean S.is_clean machines.new → OfStores D.is_sound S.is_sound machines.old → OfStores D.is_sound S.is_sound machines.new }
+    ensures catalog { machines.new.desk.catalog ≡ machines.old.desk.catalog }
+    ensures ok { (db : Database) → IsOfCatalogue db → db.catalogue ≡ catalogue_of machines.old.desk.catalog → OfStores D.is_clean S.is_clean machines.new → OfStores D.is_sound S.is_sound machines.old → AreFit db (held D.kept S.kept machines.old)
+        → IfOk result (λ heard. DoesDecide db txn told.items (held D.kept S.kept machines.old) (held D.kept S.kept machines.new) heard.items) }
+    ensures served { (db : Database) (whole : Relations) (past : List (Deed (language db))) → IsOfCatalogue db → ReachedLaw (language db) → db.catalogue ≡ catalogue_of machines.old.desk.catalog → OfStores D.is_clean S.is_clean machines.new → OfStores D.is_sound S.is_sound machines.old
+        → IsServed db whole (held D.kept S.kept machines.old) past → IsServedOn db whole (held D.kept S.kept machines.new) past }
+{
+    if tells_end(told.as_slice()) {
+        return Ok(told_alone(told));
+    }
+    commit_alone(machines, txn, told)
+}
+
+/// A lone statement was answered so, after its transaction had begun.
+fn go_on<D: DeskStore, S: SiteStore>(
+    machines: &mut Machines<D, S>,
+    txn: Txn,
+    greeted: Vec<Notice>,
+    answered: Vec<Notice>,
+) -> Result<Vec<Notice>, Refusal>
+    ensures clean { OfStores D.is_clean S.is_clean machines.new → OfStores D.is_clean S.is_clean machines.old }
+    ensures sound { OfStores D.is_clean S.is_clean machines.new → OfStores D.is_sound S.is_sound machines.old → OfStores D.is_sound S.is_sound machines.new }
+    ensures catalog { machines.new.desk.catalog ≡ machines.old.desk.catalog }
+    ensures ok { (db : Database) → IsOfCatalogue db → db.catalogue ≡ catalogue_of machines.old.desk.catalog → OfStores D.is_clean S.is_clean machines.new → OfStores D.is_sound S.is_sound machines.old → AreFit db (held D.kept S.kept machines.old)
+        → IfOk result (λ heard. DoesDecide db txn (greeted.items ++ answered.items) (held D.kept S.kept machines.old) (held D.kept S.kept machines.new) heard.items) }
+    ensures served { (db : Database) (whole : Relations) (past : List (Deed (language db))) → IsOfCatalogue db → ReachedLaw (language db) → db.catalogue ≡ catalogue_of machines.old.desk.catalog → OfStores D.is_clean S.is_clean machines.new → OfStores D.is_sound S.is_sound machines.old
+        → IsServed db whole (held D.kept S.kept machines.old) past → IsServedOn db whole (held D.kept S.kept machines.new) past }
+{
+    match joined(greeted, answered) {
+        Ok(told) => decide(machines, txn, told),
+        Err(refusal) => Err(refusal),
+    }
+}
+
+/// A transaction that has begun is that of a lone statement, by its text.
+fn run_begun<D: DeskStore, S: SiteStore>(
+    machines: &mut Machines<D, S>,
+    begun: Begun,
+    text: &str,
+) -> Result<Vec<Notice>, Refusal>
+    ensures clean { OfStores D.is_clean S.is_clean machines.new → OfStores D.is_clean S.is_clean machines.old }
+    ensures sound { OfStores D.is_clean S.is_clean machines.new → OfStores D.is_sound S.is_sound machines.old → OfStores D.is_sound S.is_sound machines.new }
+    ensures catalog { machines.new.desk.catalog ≡ machines.old.desk.catalog }
+    ensures ok { (db : Database) → IsOfCatalogue db → db.catalogue ≡ catalogue_of machines.old.desk.catalog → OfStores D.is_clean S.is_clean machines.new → OfStores D.is_sound S.is_sound machines.old → AreFit db (held D.kept S.kept machines.old)
+        → IfOk result (λ heard. DoesRun db text.now begun.txn begun.heard.items (held D.kept S.kept machines.old) (held D.kept S.kept machines.new) heard.items) }
+    ensures served { (db : Database) (whole : Relations) (past : List (Deed (language db))) → IsOfCatalogue db → ReachedLaw (language db) → db.catalogue ≡ catalogue_of machines.old.desk.catalog → OfStores D.is_clean S.is_clean machines.new → OfStores D.is_sound S.is_sound machines.old
+        → IsServed db whole (held D.kept S.kept machines.old) past → IsServedOn db whole (held D.kept S.kept machines.new) past }
+{
+    let Begun { txn, heard } = begun;
+    match state(machines, txn, text) {
+        Ok(answered) => go_on(machines, txn, heard, answered),
+        Err(refusal) => Err(take_back(machines, txn, refusal)),
+    }
+}
+
+/// A statement is a transaction of its own, by its text: its commit is asked for, unless it has ended by itself. Its client hears the
+/// answer where it was committed, and else why not.
+pub(crate) fn run_alone<D: DeskStore, S: SiteStore>(
+    machines: &mut Machines<D, S>,
+    text: &str,
+) -> Result<Vec<Notice>, Refusal>
+    ensures clean { OfStores D.is_clean S.is_clean machines.new → OfStores D.is_clean S.is_clean machines.old }
+    ensures sound { OfStores D.is_clean S.is_clean machines.new → OfStores D.is_sound S.is_sound machines.old → OfStores D.is_sound S.is_sound machines.new }
+    ensures catalog { machines.new.desk.catalog ≡ machines.old.desk.catalog }
+    ensures ok { (db : Database) → IsOfCatalogue db → db.catalogue ≡ catalogue_of machines.old.desk.catalog → OfStores D.is_clean S.is_clean machines.new → OfStores D.is_sound S.is_sound machines.old → AreFit db (held D.kept S.kept machines.old)
+        → IfOk result (λ heard. DoesAlone db text.now (held D.kept S.kept machines.old) (held D.kept S.kept machines.new) heard.items) }
+    ensures served { (db : Database) (whole : Relations) (past : List (Deed (language db))) → IsOfCatalogue db → ReachedLaw (language db) → db.catalogue ≡ catalogue_of machines.old.desk.catalog → OfStores D.is_clean S.is_clean machines.new → OfStores D.is_sound S.is_sound machines.old
+        → IsServed db whole (held D.kept S.kept machines.old) past → IsServedOn db whole (held D.kept S.kept machines.new) past }
+{
+    match begin(machines) {
+        Ok(begun) => run_begun(machines, begun, text),
+        Err(refusal) => Err(refusal),
+    }
+}

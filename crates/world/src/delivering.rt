@@ -1,0 +1,200 @@
+//! The letters of one client's machines come, each once, the oldest first.
+
+ghost use Rattle.std.specs.Prelude.{◌≡◌, ◌≤◌, ◌++◌, ℕ, suc, Bool, false, true, IfErr, IfOk, OnErr, OnOk};
+ghost use Rattle.catalog.specs.Relation.{catalogue_of};
+ghost use Rattle.desk.specs.Database.{Database};
+ghost use Rattle.desk.specs.OfCatalogue.{IsOfCatalogue};
+ghost use Rattle.protocol.specs.Rounds.{RanksUnder};
+ghost use Rattle.desk.specs.declared.refusal.Refusal.TheVariants as refusals;
+ghost use Rattle.world.specs.Delivering.{Breaks, Goes, settled};
+ghost use Rattle.world.specs.Held.{OfStores, held};
+ghost use Rattle.world.specs.Machines.{AreFit};
+ghost use Rattle.world.specs.Stopping.{is_stop};
+ghost use Rattle.world.specs.Taking.{IsDone, IsInRound, is_limit, put_out_by, scene, stop_of, world_at};
+
+use crate::fault::Fault;
+use crate::happening::has_site;
+use crate::machines::{Machines, put_out};
+use desk::refusal::Refusal;
+use desk::reply::{Notice, Out};
+use site::fault::SiteFault;
+use std::collections::VecDeque;
+use store::desk_store::DeskStore;
+use store::letter::Letter;
+use store::site_store::SiteStore;
+
+/// The letters that wait, oldest first, and what the client has heard.
+#[derive(Drop)]
+pub(crate) struct Post {
+    pub(crate) waiting: VecDeque<Letter>,
+    pub(crate) heard: Vec<Notice>,
+}
+
+/// The refusal that stops a client's machines, if the fault is one that does: memory ran out, or a store failed.
+fn stopping(fault: &Fault) -> Option<Refusal>
+    ensures { result ≡ stop_of fault.now }
+{
+    match fault {
+        Fault::Desk(Refusal::Memory) => Some(Refusal::Memory),
+        Fault::Desk(Refusal::Store(fault)) => Some(Refusal::Store(*fault)),
+        Fault::Site(SiteFault::Memory) => Some(Refusal::Memory),
+        Fault::Site(SiteFault::Store(fault)) => Some(Refusal::Store(*fault)),
+        _ => None,
+    }
+}
+
+/// A letter comes to the machine that it is for.
+fn take<D: DeskStore, S: SiteStore>(
+    machines: &mut Machines<D, S>,
+    letter: Letter,
+) -> Result<Out, Fault>
+    ensures clean { OfStores D.is_clean S.is_clean machines.new → OfStores D.is_clean S.is_clean machines.old }
+    ensures sound { OfStores D.is_clean S.is_clean machines.new → OfStores D.is_sound S.is_sound machines.old → OfStores D.is_sound S.is_sound machines.new }
+    ensures catalog { machines.new.desk.catalog ≡ machines.old.desk.catalog }
+    ensures ok { (db : Database) (last : Bool) → IsOfCatalogue db → db.catalogue ≡ catalogue_of machines.old.desk.catalog → OfStores D.is_clean S.is_clean machines.new → OfStores D.is_sound S.is_sound machines.old → AreFit db (held D.kept S.kept machines.old)
+        → IfOk result (λ out. IsDone db last letter (held D.kept S.kept machines.old) (held D.kept S.kept machines.new) out.letters out.replies) }
+    ensures err { OfStores D.is_clean S.is_clean machines.new → OfStores D.is_sound S.is_sound machines.old → OnErr result (held D.kept S.kept machines.new ≡ held D.kept S.kept machines.old) }
+{
+    if !has_site(machines.desk.catalog(), &letter.site) {
+        return Err(Fault::Unsent);
+    }
+    machines.deliver(letter, true)
+}
+
+/// A letter comes. Where a machine is at a limit the letter is let go, and its transaction given up; one that nobody sent is let go.
+/// In the last round no letter meets a limit.
+fn deliver_one<D: DeskStore, S: SiteStore>(
+    machines: &mut Machines<D, S>,
+    letter: Letter,
+    last: bool,
+) -> Result<Out, Refusal>
+    ensures clean { OfStores D.is_clean S.is_clean machines.new → OfStores D.is_clean S.is_clean machines.old }
+    ensures sound { OfStores D.is_clean S.is_clean machines.new → OfStores D.is_sound S.is_sound machines.old → OfStores D.is_sound S.is_sound machines.new }
+    ensures catalog { machines.new.desk.catalog ≡ machines.old.desk.catalog }
+    ensures ok { (db : Database) → IsOfCatalogue db → db.catalogue ≡ catalogue_of machines.old.desk.catalog → OfStores D.is_clean S.is_clean machines.new → OfStores D.is_sound S.is_sound machines.old → AreFit db (held D.kept S.kept machines.old)
+        → IfOk result (λ out. IsDone db last letter (held D.kept S.kept machines.old) (held D.kept S.kept machines.new) out.letters out.replies) }
+    ensures err { OfStores D.is_clean S.is_clean machines.new → OfStores D.is_sound S.is_sound machines.old → OnErr result (held D.kept S.kept machines.new ≡ held D.kept S.kept machines.old) }
+    ensures own { IfErr result (λ refusal. is_stop refusal ≡ true) }
+{
+    let txn = letter.txn;
+    let fault = match take(machines, letter) {
+        Ok(out) => return Ok(out),
+        Err(fault) => fault,
+    };
+    let limited = is_limit(&fault);
+    match stopping(&fault) {
+        Some(refusal) => Err(refusal),
+        None if limited && !last => machines.give_up(txn),
+        None => Ok(put_out(machines.alloc, Vec::new(machines.alloc))),
+    }
+}
+
+/// Whether a machine is at a limit.
+fn is_limit(fault: &Fault) -> bool
+    ensures { result ≡ is_limit fault.now }
+{
+    matches!(
+        fault,
+        Fault::Desk(Refusal::Full) | Fault::Site(SiteFault::Full)
+    )
+}
+
+impl Post {
+    /// What a call has put out.
+    fn of(out: Out) -> Post
+        ensures waiting { result.waiting.items ≡ out.letters }
+        ensures heard { result.heard.items ≡ out.replies }
+    {
+        Post {
+            waiting: VecDeque::from_vec(out.letters.into_vec()),
+            heard: out.replies.into_vec(),
+        }
+    }
+
+    /// What a letter has brought about. Its letters wait behind the others.
+    fn add(&mut self, out: Out) -> Result<(), Refusal>
+        ensures waiting { OnOk result (self.new.waiting.items ≡ self.old.waiting.items ++ out.letters) }
+        ensures heard { OnOk result (self.new.heard.items ≡ self.old.heard.items ++ out.replies) }
+        ensures own { IfErr result (λ refusal. refusal ≡ refusals.Memory) }
+    {
+        let mut letters = VecDeque::from_vec(out.letters.into_vec());
+        if self.waiting.append(&mut letters).is_err() {
+            return Err(Refusal::Memory);
+        }
+        if self.heard.append(&mut out.replies.into_vec()).is_err() {
+            return Err(Refusal::Memory);
+        }
+        Ok(())
+    }
+}
+
+/// The oldest letter that waits comes, if one does.
+fn deliver_next<D: DeskStore, S: SiteStore>(
+    machines: &mut Machines<D, S>,
+    post: &mut Post,
+    last: bool,
+) -> Result<(), Refusal>
+    ensures clean { OfStores D.is_clean S.is_clean machines.new → OfStores D.is_clean S.is_clean machines.old }
+    ensures sound { OfStores D.is_clean S.is_clean machines.new → OfStores D.is_sound S.is_sound machines.old → OfStores D.is_sound S.is_sound machines.new }
+    ensures catalog { machines.new.desk.catalog ≡ machines.old.desk.catalog }
+    ensures ok { (db : Database) → IsOfCatalogue db → db.catalogue ≡ catalogue_of machines.old.desk.catalog → OfStores D.is_clean S.is_clean machines.new → OfStores D.is_sound S.is_sound machines.old → AreFit db (held D.kept S.kept machines.old)
+        → OnOk result (Goes db (λ w. w) (scene (held D.kept S.kept machines.old) post.old) (scene (held D.kept S.kept machines.new) post.new)) }
+    ensures ranks { (db : Database) (n i : ℕ) → IsOfCatalogue db → db.catalogue ≡ catalogue_of machines.old.desk.catalog → OfStores D.is_clean S.is_clean machines.new → OfStores D.is_sound S.is_sound machines.old → AreFit db (held D.kept S.kept machines.old)
+        → (last ≡ false → 1 ≤ n) → IsInRound db n (suc i) (scene (held D.kept S.kept machines.old) post.old) → OnOk result (IsInRound db n i (scene (held D.kept S.kept machines.new) post.new)) }
+    ensures err { (db : Database) → IsOfCatalogue db → db.catalogue ≡ catalogue_of machines.old.desk.catalog → OfStores D.is_clean S.is_clean machines.new → OfStores D.is_sound S.is_sound machines.old → AreFit db (held D.kept S.kept machines.old)
+        → OnErr result (Breaks db (λ w. w) (scene (held D.kept S.kept machines.old) post.old) (held D.kept S.kept machines.new)) }
+    ensures own { IfErr result (λ refusal. is_stop refusal ≡ true) }
+{
+    let Some(letter) = post.waiting.pop_front() else {
+        return Ok(());
+    };
+    match deliver_one(machines, letter, last) {
+        Ok(out) => post.add(out),
+        Err(refusal) => Err(refusal),
+    }
+}
+
+/// The letters that wait come, one after another. What they bring about waits.
+fn deliver_round<D: DeskStore, S: SiteStore>(
+    machines: &mut Machines<D, S>,
+    post: &mut Post,
+    last: bool,
+) -> Result<(), Refusal>
+    ensures clean { OfStores D.is_clean S.is_clean machines.new → OfStores D.is_clean S.is_clean machines.old }
+    ensures sound { OfStores D.is_clean S.is_clean machines.new → OfStores D.is_sound S.is_sound machines.old → OfStores D.is_sound S.is_sound machines.new }
+    ensures catalog { machines.new.desk.catalog ≡ machines.old.desk.catalog }
+    ensures ok { (db : Database) → IsOfCatalogue db → db.catalogue ≡ catalogue_of machines.old.desk.catalog → OfStores D.is_clean S.is_clean machines.new → OfStores D.is_sound S.is_sound machines.old → AreFit db (held D.kept S.kept machines.old)
+        → OnOk result (Goes db (λ w. w) (scene (held D.kept S.kept machines.old) post.old) (scene (held D.kept S.kept machines.new) post.new)) }
+    ensures ranks { (db : Database) (n : ℕ) → IsOfCatalogue db → db.catalogue ≡ catalogue_of machines.old.desk.catalog → OfStores D.is_clean S.is_clean machines.new → OfStores D.is_sound S.is_sound machines.old → AreFit db (held D.kept S.kept machines.old)
+        → (last ≡ false → 1 ≤ n) → RanksUnder (suc n) (world_at db (scene (held D.kept S.kept machines.old) post.old)) → OnOk result (RanksUnder n (world_at db (scene (held D.kept S.kept machines.new) post.new))) }
+    ensures err { (db : Database) → IsOfCatalogue db → db.catalogue ≡ catalogue_of machines.old.desk.catalog → OfStores D.is_clean S.is_clean machines.new → OfStores D.is_sound S.is_sound machines.old → AreFit db (held D.kept S.kept machines.old)
+        → OnErr result (Breaks db (λ w. w) (scene (held D.kept S.kept machines.old) post.old) (held D.kept S.kept machines.new)) }
+    ensures own { IfErr result (λ refusal. is_stop refusal ≡ true) }
+{
+    for _ in 0..post.waiting.len() {
+        deliver_next(machines, post, last)?;
+    }
+    Ok(())
+}
+
+/// All letters that a call has put out come, and all that these bring about. Says what the client hears.
+pub(crate) fn settle<D: DeskStore, S: SiteStore>(
+    machines: &mut Machines<D, S>,
+    out: Out,
+) -> Result<Vec<Notice>, Refusal>
+    ensures clean { OfStores D.is_clean S.is_clean machines.new → OfStores D.is_clean S.is_clean machines.old }
+    ensures sound { OfStores D.is_clean S.is_clean machines.new → OfStores D.is_sound S.is_sound machines.old → OfStores D.is_sound S.is_sound machines.new }
+    ensures catalog { machines.new.desk.catalog ≡ machines.old.desk.catalog }
+    ensures ok { (db : Database) → IsOfCatalogue db → db.catalogue ≡ catalogue_of machines.old.desk.catalog → OfStores D.is_clean S.is_clean machines.new → OfStores D.is_sound S.is_sound machines.old → AreFit db (held D.kept S.kept machines.old)
+        → IfOk result (λ heard. Goes db (λ w. w) (put_out_by (held D.kept S.kept machines.old) out) (settled (held D.kept S.kept machines.new) heard.items)) }
+    ensures err { (db : Database) → IsOfCatalogue db → db.catalogue ≡ catalogue_of machines.old.desk.catalog → OfStores D.is_clean S.is_clean machines.new → OfStores D.is_sound S.is_sound machines.old → AreFit db (held D.kept S.kept machines.old)
+        → OnErr result (Breaks db (λ w. w) (put_out_by (held D.kept S.kept machines.old) out) (held D.kept S.kept machines.new)) }
+    ensures own { IfErr result (λ refusal. is_stop refusal ≡ true) }
+{
+    let mut post = Post::of(out);
+    // Each letter has a rank of at most nine, and what it brings about ranks lower.
+    for round in 0..9usize {
+        deliver_round(machines, &mut post, round == 8)?;
+    }
+    Ok(post.heard)
+}

@@ -1,0 +1,136 @@
+//! Calls of one client, each with all letters that it brings about.
+
+ghost use Rattle.std.specs.Prelude.{◌≡◌, List, [], Some, slice_get, IfOk, OnErr};
+ghost use Rattle.std.specs.Option.{option_map};
+ghost use Rattle.meaning.specs.Whole.{Relations};
+ghost use Rattle.catalog.specs.Relation.{catalogue_of};
+ghost use Rattle.protocol.specs.Client.{ReachedLaw};
+ghost use Rattle.protocol.specs.Desk.{Commit_call, Deed, Rollback};
+ghost use Rattle.desk.specs.Database.{Database, language};
+ghost use Rattle.desk.specs.OfCatalogue.{IsOfCatalogue};
+ghost use Rattle.world.specs.Delivering.{Serves, To_begin};
+ghost use Rattle.world.specs.Held.{OfStores, held};
+ghost use Rattle.world.specs.Machines.{AreFit};
+ghost use Rattle.world.specs.Serving.{DoesAsk, DoesBegin, DoesState, IsServed, IsServedOn};
+
+use crate::delivering::settle;
+use crate::machines::Machines;
+use desk::refusal::Refusal;
+use desk::reply::Notice;
+use store::desk_store::DeskStore;
+use store::name::Txn;
+use store::site_store::SiteStore;
+
+/// A transaction that has begun, and what its client heard.
+#[derive(Drop)]
+pub(crate) struct Begun {
+    pub(crate) txn: Txn,
+    pub(crate) heard: Vec<Notice>,
+}
+
+/// The transaction that the first notice names.
+fn named(heard: Vec<Notice>) -> Result<Begun, Refusal>
+    ensures same { IfOk result (λ begun. begun.heard.items ≡ heard.items) }
+    ensures first { IfOk result (λ begun. option_map (λ notice. notice.txn) (slice_get heard.items 0) ≡ Some begun.txn) }
+    ensures none { OnErr result (heard.items ≡ []) }
+{
+    match heard.first() {
+        Some(first) => Ok(Begun {
+            txn: first.txn,
+            heard,
+        }),
+        None => Err(Refusal::NoTransaction),
+    }
+}
+
+/// A transaction begins. Its client hears of it.
+fn greet<D: DeskStore, S: SiteStore>(machines: &mut Machines<D, S>) -> Result<Vec<Notice>, Refusal>
+    ensures clean { OfStores D.is_clean S.is_clean machines.new → OfStores D.is_clean S.is_clean machines.old }
+    ensures sound { OfStores D.is_clean S.is_clean machines.new → OfStores D.is_sound S.is_sound machines.old → OfStores D.is_sound S.is_sound machines.new }
+    ensures catalog { machines.new.desk.catalog ≡ machines.old.desk.catalog }
+    ensures ok { (db : Database) → IsOfCatalogue db → db.catalogue ≡ catalogue_of machines.old.desk.catalog → OfStores D.is_clean S.is_clean machines.new → OfStores D.is_sound S.is_sound machines.old → AreFit db (held D.kept S.kept machines.old)
+        → IfOk result (λ heard. Serves db To_begin (held D.kept S.kept machines.old) (held D.kept S.kept machines.new) heard.items) }
+    ensures served { (db : Database) (whole : Relations) (past : List (Deed (language db))) → IsOfCatalogue db → ReachedLaw (language db) → db.catalogue ≡ catalogue_of machines.old.desk.catalog → OfStores D.is_clean S.is_clean machines.new → OfStores D.is_sound S.is_sound machines.old
+        → IsServed db whole (held D.kept S.kept machines.old) past → IsServedOn db whole (held D.kept S.kept machines.new) past }
+{
+    match machines.begin() {
+        Ok(out) => settle(machines, out),
+        Err(refusal) => Err(refusal),
+    }
+}
+
+/// A transaction begins.
+pub(crate) fn begin<D: DeskStore, S: SiteStore>(
+    machines: &mut Machines<D, S>,
+) -> Result<Begun, Refusal>
+    ensures clean { OfStores D.is_clean S.is_clean machines.new → OfStores D.is_clean S.is_clean machines.old }
+    ensures sound { OfStores D.is_clean S.is_clean machines.new → OfStores D.is_sound S.is_sound machines.old → OfStores D.is_sound S.is_sound machines.new }
+    ensures catalog { machines.new.desk.catalog ≡ machines.old.desk.catalog }
+    ensures ok { (db : Database) → IsOfCatalogue db → db.catalogue ≡ catalogue_of machines.old.desk.catalog → OfStores D.is_clean S.is_clean machines.new → OfStores D.is_sound S.is_sound machines.old → AreFit db (held D.kept S.kept machines.old)
+        → IfOk result (λ begun. DoesBegin db (held D.kept S.kept machines.old) begun.txn (held D.kept S.kept machines.new) begun.heard.items) }
+    ensures served { (db : Database) (whole : Relations) (past : List (Deed (language db))) → IsOfCatalogue db → ReachedLaw (language db) → db.catalogue ≡ catalogue_of machines.old.desk.catalog → OfStores D.is_clean S.is_clean machines.new → OfStores D.is_sound S.is_sound machines.old
+        → IsServed db whole (held D.kept S.kept machines.old) past → IsServedOn db whole (held D.kept S.kept machines.new) past }
+{
+    match greet(machines) {
+        Ok(heard) => named(heard),
+        Err(refusal) => Err(refusal),
+    }
+}
+
+/// A statement of a transaction is stated, by its text.
+pub(crate) fn state<D: DeskStore, S: SiteStore>(
+    machines: &mut Machines<D, S>,
+    txn: Txn,
+    text: &str,
+) -> Result<Vec<Notice>, Refusal>
+    ensures clean { OfStores D.is_clean S.is_clean machines.new → OfStores D.is_clean S.is_clean machines.old }
+    ensures sound { OfStores D.is_clean S.is_clean machines.new → OfStores D.is_sound S.is_sound machines.old → OfStores D.is_sound S.is_sound machines.new }
+    ensures catalog { machines.new.desk.catalog ≡ machines.old.desk.catalog }
+    ensures ok { (db : Database) → IsOfCatalogue db → db.catalogue ≡ catalogue_of machines.old.desk.catalog → OfStores D.is_clean S.is_clean machines.new → OfStores D.is_sound S.is_sound machines.old → AreFit db (held D.kept S.kept machines.old)
+        → IfOk result (λ heard. DoesState db text.now txn (held D.kept S.kept machines.old) (held D.kept S.kept machines.new) heard.items) }
+    ensures served { (db : Database) (whole : Relations) (past : List (Deed (language db))) → IsOfCatalogue db → ReachedLaw (language db) → db.catalogue ≡ catalogue_of machines.old.desk.catalog → OfStores D.is_clean S.is_clean machines.new → OfStores D.is_sound S.is_sound machines.old
+        → IsServed db whole (held D.kept S.kept machines.old) past → IsServedOn db whole (held D.kept S.kept machines.new) past }
+{
+    match machines.statement(txn, text) {
+        Ok(out) => settle(machines, out),
+        Err(refusal) => Err(refusal),
+    }
+}
+
+/// The commit of a transaction is asked for.
+pub(crate) fn commit<D: DeskStore, S: SiteStore>(
+    machines: &mut Machines<D, S>,
+    txn: Txn,
+) -> Result<Vec<Notice>, Refusal>
+    ensures clean { OfStores D.is_clean S.is_clean machines.new → OfStores D.is_clean S.is_clean machines.old }
+    ensures sound { OfStores D.is_clean S.is_clean machines.new → OfStores D.is_sound S.is_sound machines.old → OfStores D.is_sound S.is_sound machines.new }
+    ensures catalog { machines.new.desk.catalog ≡ machines.old.desk.catalog }
+    ensures ok { (db : Database) → IsOfCatalogue db → db.catalogue ≡ catalogue_of machines.old.desk.catalog → OfStores D.is_clean S.is_clean machines.new → OfStores D.is_sound S.is_sound machines.old → AreFit db (held D.kept S.kept machines.old)
+        → IfOk result (λ heard. DoesAsk db Commit_call txn (held D.kept S.kept machines.old) (held D.kept S.kept machines.new) heard.items) }
+    ensures served { (db : Database) (whole : Relations) (past : List (Deed (language db))) → IsOfCatalogue db → ReachedLaw (language db) → db.catalogue ≡ catalogue_of machines.old.desk.catalog → OfStores D.is_clean S.is_clean machines.new → OfStores D.is_sound S.is_sound machines.old
+        → IsServed db whole (held D.kept S.kept machines.old) past → IsServedOn db whole (held D.kept S.kept machines.new) past }
+{
+    match machines.commit(txn) {
+        Ok(out) => settle(machines, out),
+        Err(refusal) => Err(refusal),
+    }
+}
+
+/// A transaction is rolled back.
+pub(crate) fn roll_back<D: DeskStore, S: SiteStore>(
+    machines: &mut Machines<D, S>,
+    txn: Txn,
+) -> Result<Vec<Notice>, Refusal>
+    ensures clean { OfStores D.is_clean S.is_clean machines.new → OfStores D.is_clean S.is_clean machines.old }
+    ensures sound { OfStores D.is_clean S.is_clean machines.new → OfStores D.is_sound S.is_sound machines.old → OfStores D.is_sound S.is_sound machines.new }
+    ensures catalog { machines.new.desk.catalog ≡ machines.old.desk.catalog }
+    ensures ok { (db : Database) → IsOfCatalogue db → db.catalogue ≡ catalogue_of machines.old.desk.catalog → OfStores D.is_clean S.is_clean machines.new → OfStores D.is_sound S.is_sound machines.old → AreFit db (held D.kept S.kept machines.old)
+        → IfOk result (λ heard. DoesAsk db Rollback txn (held D.kept S.kept machines.old) (held D.kept S.kept machines.new) heard.items) }
+    ensures served { (db : Database) (whole : Relations) (past : List (Deed (language db))) → IsOfCatalogue db → ReachedLaw (language db) → db.catalogue ≡ catalogue_of machines.old.desk.catalog → OfStores D.is_clean S.is_clean machines.new → OfStores D.is_sound S.is_sound machines.old
+        → IsServed db whole (held D.kept S.kept machines.old) past → IsServedOn db whole (held D.kept S.kept machines.new) past }
+{
+    match machines.rollback(txn) {
+        Ok(out) => settle(machines, out),
+        Err(refusal) => Err(refusal),
+    }
+}

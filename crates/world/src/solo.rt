@@ -1,0 +1,282 @@
+//! A database for one client at a time.
+
+ghost use Rattle.std.specs.Prelude.{◌≡◌, ◌≢◌, ℕ, List, [], None, Some, Err, IfOk, OnErr};
+ghost use Rattle.meaning.specs.Whole.{FitsSchema, Relations};
+ghost use Rattle.catalog.specs.FragmentLeaf.{schemas_of};
+ghost use Rattle.catalog.specs.Relation.{catalogue_of};
+ghost use Rattle.reader.specs.declared.command.Command.TheVariants.{Begin, Commit, Rollback};
+ghost use Rattle.reader.specs.Command.{IsTextOf};
+ghost use Rattle.protocol.specs.Client.{ReachedLaw};
+ghost use Rattle.protocol.specs.Desk.{Deed};
+ghost use Rattle.store.specs.PlainDesk.{kept_of as desk_kept};
+ghost use Rattle.store.specs.PlainSite.{IsSound, kept_of};
+ghost use Rattle.desk.specs.Database.{Database, language};
+ghost use Rattle.desk.specs.OfCatalogue.{IsOfCatalogue};
+ghost use Rattle.desk.specs.declared.refusal.Refusal.{Refusal as RefusalNow};
+ghost use Rattle.desk.specs.declared.refusal.Refusal.TheVariants as refusals;
+ghost use Rattle.world.specs.Base.{database};
+ghost use Rattle.world.specs.Held.{OfStores, held};
+ghost use Rattle.world.specs.Machines.{AreFit};
+ghost use Rattle.world.specs.Serving.{Executes, IsServed, IsServedOn, still_open};
+ghost use Rattle.world.specs.Stopping.{stopped_by};
+
+use crate::alone::{is_stop, run_alone, tells_end};
+use crate::fault::Fault;
+use crate::laws::{database_is_of_catalogue, one_client_is_a_run};
+use crate::machines::Machines;
+use crate::opening::start;
+use crate::serving::{begin, commit, roll_back, state};
+use catalog::catalogue::Catalog;
+use desk::refusal::Refusal;
+use desk::reply::Notice;
+use meaning::whole::Whole;
+use reader::command::Command;
+use reader::fault::{ReadFault, Rule};
+use reader::read::read;
+use std::alloc::Global;
+use store::desk_store::DeskStore;
+use store::name::Txn;
+use store::plain_desk::PlainDesk;
+use store::plain_site::PlainSite;
+use store::site_store::SiteStore;
+
+/// A coordinator and its sites, which serve one client: each letter comes once, the oldest first, before the
+/// next command.
+#[derive(Drop)]
+pub struct Solo<D: DeskStore, S: SiteStore> {
+    machines: Machines<D, S>,
+    /// The transaction that the client has begun, and that has not ended.
+    current: Option<Txn>,
+    /// What has stopped it: memory ran out, or a store failed.
+    stopped: Option<Refusal>,
+}
+
+/// A database over lists is opened: the fragments rebuild these whole relations.
+pub fn open(
+    alloc: Global,
+    catalog: Catalog,
+    whole: &Whole,
+) -> Result<Solo<PlainDesk, PlainSite>, Fault>
+    ensures served { FitsSchema (schemas_of (catalogue_of catalog)) whole.now
+        → IfOk result (λ solo. IsServed (database (catalogue_of catalog)) whole.now (held desk_kept kept_of solo.machines) []) }
+    ensures catalog { IfOk result (λ solo. solo.machines.desk.catalog ≡ catalog) }
+    ensures sound { IfOk result (λ solo. OfStores (λ _. Unit {0}) IsSound solo.machines) }
+    ensures idle { IfOk result (λ solo. (solo.current ≡ None) × (solo.stopped ≡ None)) }
+{
+    database_is_of_catalogue(&catalog);
+    match start(alloc, catalog, whole) {
+        Ok(machines) => Ok(Solo {
+            machines,
+            current: None,
+            stopped: None,
+        }),
+        Err(fault) => Err(fault),
+    }
+}
+
+/// What the reader says of a text.
+fn unread(fault: ReadFault) -> Refusal
+    ensures memory { fault.rule ≡ Rule.Memory → result ≡ refusals.Memory }
+    ensures read { fault.rule ≢ Rule.Memory → result ≡ refusals.Read fault }
+{
+    if fault.rule() == Rule::Memory {
+        Refusal::Memory
+    } else {
+        Refusal::Read(fault)
+    }
+}
+
+/// The command of a text, under the catalogue's schema.
+fn command_of(alloc: Global, catalog: &Catalog, text: &str) -> Result<Command, Refusal>
+    ensures { IfOk result (λ command. IsTextOf (schemas_of (catalogue_of catalog.now)) text.now command) }
+{
+    match read(alloc, text, catalog.schema()) {
+        Ok(command) => Ok(command),
+        Err(fault) => Err(unread(fault)),
+    }
+}
+
+/// What has stopped a client's database after a command.
+fn stopped_by<T>(done: &Result<T, Refusal>) -> Option<Refusal>
+    ensures { result ≡ stopped_by done.now }
+{
+    match done {
+        Ok(_) => None,
+        Err(refusal) => {
+            if is_stop(refusal) {
+                Some(*refusal)
+            } else {
+                None
+            }
+        }
+    }
+}
+
+/// The transaction that is open after these notices, if this one was.
+fn still_open(txn: Txn, heard: &[Notice]) -> Option<Txn>
+    ensures { result ≡ still_open (Some txn) heard.now }
+{
+    if tells_end(heard) { None } else { Some(txn) }
+}
+
+impl<D: DeskStore, S: SiteStore> Solo<D, S> {
+    /// BEGIN: a transaction begins, if none is open.
+    fn begins(&mut self) -> Result<Vec<Notice>, Refusal>
+        ensures clean { OfStores D.is_clean S.is_clean self.new.machines → OfStores D.is_clean S.is_clean self.old.machines }
+        ensures sound { OfStores D.is_clean S.is_clean self.new.machines → OfStores D.is_sound S.is_sound self.old.machines → OfStores D.is_sound S.is_sound self.new.machines }
+        ensures catalog { self.new.machines.desk.catalog ≡ self.old.machines.desk.catalog }
+        ensures ok { (db : Database) (text : List ℕ) → IsOfCatalogue db → db.catalogue ≡ catalogue_of self.old.machines.desk.catalog → OfStores D.is_clean S.is_clean self.new.machines → OfStores D.is_sound S.is_sound self.old.machines → AreFit db (held D.kept S.kept self.old.machines)
+            → IsTextOf db.schemas text Begin → IfOk result (λ heard. Executes db text self.old.current (held D.kept S.kept self.old.machines) self.new.current (held D.kept S.kept self.new.machines) heard.items) }
+        ensures served { (db : Database) (whole : Relations) (past : List (Deed (language db))) → IsOfCatalogue db → ReachedLaw (language db) → db.catalogue ≡ catalogue_of self.old.machines.desk.catalog → OfStores D.is_clean S.is_clean self.new.machines → OfStores D.is_sound S.is_sound self.old.machines
+            → IsServed db whole (held D.kept S.kept self.old.machines) past → IsServedOn db whole (held D.kept S.kept self.new.machines) past }
+        ensures still { OnErr result (self.new.current ≡ self.old.current) }
+    {
+        match self.current {
+            None => match begin(&mut self.machines) {
+                Ok(begun) => {
+                    self.current = Some(begun.txn);
+                    Ok(begun.heard)
+                }
+                Err(refusal) => Err(refusal),
+            },
+            Some(_) => Err(Refusal::Busy),
+        }
+    }
+
+    /// COMMIT: the commit of the open transaction is asked for.
+    fn commits(&mut self) -> Result<Vec<Notice>, Refusal>
+        ensures clean { OfStores D.is_clean S.is_clean self.new.machines → OfStores D.is_clean S.is_clean self.old.machines }
+        ensures sound { OfStores D.is_clean S.is_clean self.new.machines → OfStores D.is_sound S.is_sound self.old.machines → OfStores D.is_sound S.is_sound self.new.machines }
+        ensures catalog { self.new.machines.desk.catalog ≡ self.old.machines.desk.catalog }
+        ensures ok { (db : Database) (text : List ℕ) → IsOfCatalogue db → db.catalogue ≡ catalogue_of self.old.machines.desk.catalog → OfStores D.is_clean S.is_clean self.new.machines → OfStores D.is_sound S.is_sound self.old.machines → AreFit db (held D.kept S.kept self.old.machines)
+            → IsTextOf db.schemas text Commit → IfOk result (λ heard. Executes db text self.old.current (held D.kept S.kept self.old.machines) self.new.current (held D.kept S.kept self.new.machines) heard.items) }
+        ensures served { (db : Database) (whole : Relations) (past : List (Deed (language db))) → IsOfCatalogue db → ReachedLaw (language db) → db.catalogue ≡ catalogue_of self.old.machines.desk.catalog → OfStores D.is_clean S.is_clean self.new.machines → OfStores D.is_sound S.is_sound self.old.machines
+            → IsServed db whole (held D.kept S.kept self.old.machines) past → IsServedOn db whole (held D.kept S.kept self.new.machines) past }
+        ensures still { OnErr result (self.new.current ≡ self.old.current) }
+    {
+        let Some(txn) = self.current else {
+            return Err(Refusal::NoTransaction);
+        };
+        match commit(&mut self.machines, txn) {
+            Ok(heard) => {
+                self.current = None;
+                Ok(heard)
+            }
+            Err(refusal) => Err(refusal),
+        }
+    }
+
+    /// ROLLBACK: the open transaction is rolled back.
+    fn rolls_back(&mut self) -> Result<Vec<Notice>, Refusal>
+        ensures clean { OfStores D.is_clean S.is_clean self.new.machines → OfStores D.is_clean S.is_clean self.old.machines }
+        ensures sound { OfStores D.is_clean S.is_clean self.new.machines → OfStores D.is_sound S.is_sound self.old.machines → OfStores D.is_sound S.is_sound self.new.machines }
+        ensures catalog { self.new.machines.desk.catalog ≡ self.old.machines.desk.catalog }
+        ensures ok { (db : Database) (text : List ℕ) → IsOfCatalogue db → db.catalogue ≡ catalogue_of self.old.machines.desk.catalog → OfStores D.is_clean S.is_clean self.new.machines → OfStores D.is_sound S.is_sound self.old.machines → AreFit db (held D.kept S.kept self.old.machines)
+            → IsTextOf db.schemas text Rollback → IfOk result (λ heard. Executes db text self.old.current (held D.kept S.kept self.old.machines) self.new.current (held D.kept S.kept self.new.machines) heard.items) }
+        ensures served { (db : Database) (whole : Relations) (past : List (Deed (language db))) → IsOfCatalogue db → ReachedLaw (language db) → db.catalogue ≡ catalogue_of self.old.machines.desk.catalog → OfStores D.is_clean S.is_clean self.new.machines → OfStores D.is_sound S.is_sound self.old.machines
+            → IsServed db whole (held D.kept S.kept self.old.machines) past → IsServedOn db whole (held D.kept S.kept self.new.machines) past }
+        ensures still { OnErr result (self.new.current ≡ self.old.current) }
+    {
+        let Some(txn) = self.current else {
+            return Err(Refusal::NoTransaction);
+        };
+        match roll_back(&mut self.machines, txn) {
+            Ok(heard) => {
+                self.current = None;
+                Ok(heard)
+            }
+            Err(refusal) => Err(refusal),
+        }
+    }
+
+    /// A statement: of the open transaction, or a transaction of its own.
+    fn states(&mut self, text: &str) -> Result<Vec<Notice>, Refusal>
+        ensures clean { OfStores D.is_clean S.is_clean self.new.machines → OfStores D.is_clean S.is_clean self.old.machines }
+        ensures sound { OfStores D.is_clean S.is_clean self.new.machines → OfStores D.is_sound S.is_sound self.old.machines → OfStores D.is_sound S.is_sound self.new.machines }
+        ensures catalog { self.new.machines.desk.catalog ≡ self.old.machines.desk.catalog }
+        ensures ok { (db : Database) → IsOfCatalogue db → db.catalogue ≡ catalogue_of self.old.machines.desk.catalog → OfStores D.is_clean S.is_clean self.new.machines → OfStores D.is_sound S.is_sound self.old.machines → AreFit db (held D.kept S.kept self.old.machines)
+            → IfOk result (λ heard. Executes db text.now self.old.current (held D.kept S.kept self.old.machines) self.new.current (held D.kept S.kept self.new.machines) heard.items) }
+        ensures served { (db : Database) (whole : Relations) (past : List (Deed (language db))) → IsOfCatalogue db → ReachedLaw (language db) → db.catalogue ≡ catalogue_of self.old.machines.desk.catalog → OfStores D.is_clean S.is_clean self.new.machines → OfStores D.is_sound S.is_sound self.old.machines
+            → IsServed db whole (held D.kept S.kept self.old.machines) past → IsServedOn db whole (held D.kept S.kept self.new.machines) past }
+        ensures still { OnErr result (self.new.current ≡ self.old.current) }
+    {
+        match self.current {
+            None => run_alone(&mut self.machines, text),
+            Some(txn) => match state(&mut self.machines, txn, text) {
+                Ok(heard) => {
+                    self.current = still_open(txn, heard.as_slice());
+                    Ok(heard)
+                }
+                Err(refusal) => Err(refusal),
+            },
+        }
+    }
+
+    /// This is the command of the text.
+    fn obey(&mut self, command: &Command, text: &str) -> Result<Vec<Notice>, Refusal>
+        ensures clean { OfStores D.is_clean S.is_clean self.new.machines → OfStores D.is_clean S.is_clean self.old.machines }
+        ensures sound { OfStores D.is_clean S.is_clean self.new.machines → OfStores D.is_sound S.is_sound self.old.machines → OfStores D.is_sound S.is_sound self.new.machines }
+        ensures catalog { self.new.machines.desk.catalog ≡ self.old.machines.desk.catalog }
+        ensures ok { (db : Database) → IsOfCatalogue db → db.catalogue ≡ catalogue_of self.old.machines.desk.catalog → OfStores D.is_clean S.is_clean self.new.machines → OfStores D.is_sound S.is_sound self.old.machines → AreFit db (held D.kept S.kept self.old.machines)
+            → IsTextOf db.schemas text.now command.now → IfOk result (λ heard. Executes db text.now self.old.current (held D.kept S.kept self.old.machines) self.new.current (held D.kept S.kept self.new.machines) heard.items) }
+        ensures served { (db : Database) (whole : Relations) (past : List (Deed (language db))) → IsOfCatalogue db → ReachedLaw (language db) → db.catalogue ≡ catalogue_of self.old.machines.desk.catalog → OfStores D.is_clean S.is_clean self.new.machines → OfStores D.is_sound S.is_sound self.old.machines
+            → IsServed db whole (held D.kept S.kept self.old.machines) past → IsServedOn db whole (held D.kept S.kept self.new.machines) past }
+        ensures still { OnErr result (self.new.current ≡ self.old.current) }
+    {
+        match command {
+            Command::Begin => self.begins(),
+            Command::Commit => self.commits(),
+            Command::Rollback => self.rolls_back(),
+            Command::Run(_) => self.states(text),
+        }
+    }
+
+    /// The command of a text.
+    fn command(&mut self, text: &str) -> Result<Vec<Notice>, Refusal>
+        ensures clean { OfStores D.is_clean S.is_clean self.new.machines → OfStores D.is_clean S.is_clean self.old.machines }
+        ensures sound { OfStores D.is_clean S.is_clean self.new.machines → OfStores D.is_sound S.is_sound self.old.machines → OfStores D.is_sound S.is_sound self.new.machines }
+        ensures catalog { self.new.machines.desk.catalog ≡ self.old.machines.desk.catalog }
+        ensures ok { (db : Database) → IsOfCatalogue db → db.catalogue ≡ catalogue_of self.old.machines.desk.catalog → OfStores D.is_clean S.is_clean self.new.machines → OfStores D.is_sound S.is_sound self.old.machines → AreFit db (held D.kept S.kept self.old.machines)
+            → IfOk result (λ heard. Executes db text.now self.old.current (held D.kept S.kept self.old.machines) self.new.current (held D.kept S.kept self.new.machines) heard.items) }
+        ensures served { (db : Database) (whole : Relations) (past : List (Deed (language db))) → IsOfCatalogue db → ReachedLaw (language db) → db.catalogue ≡ catalogue_of self.old.machines.desk.catalog → OfStores D.is_clean S.is_clean self.new.machines → OfStores D.is_sound S.is_sound self.old.machines
+            → IsServed db whole (held D.kept S.kept self.old.machines) past → IsServedOn db whole (held D.kept S.kept self.new.machines) past }
+        ensures still { OnErr result (self.new.current ≡ self.old.current) }
+    {
+        match command_of(self.machines.alloc, self.machines.desk.catalog(), text) {
+            Ok(command) => self.obey(&command, text),
+            Err(refusal) => Err(refusal),
+        }
+    }
+
+    /// A command is executed: BEGIN, COMMIT, ROLLBACK or a statement, which outside BEGIN is a transaction of its own. All letters that it
+    /// brings about come, each once, the oldest first. Says what the client hears. A refusal that stops the database is the answer of every
+    /// later command.
+    pub fn execute(&mut self, text: &str) -> Result<Vec<Notice>, Refusal>
+        ensures clean { OfStores D.is_clean S.is_clean self.new.machines → OfStores D.is_clean S.is_clean self.old.machines }
+        ensures sound { OfStores D.is_clean S.is_clean self.new.machines → OfStores D.is_sound S.is_sound self.old.machines → OfStores D.is_sound S.is_sound self.new.machines }
+        ensures catalog { self.new.machines.desk.catalog ≡ self.old.machines.desk.catalog }
+        ensures executes { self.old.stopped ≡ None → OfStores D.is_clean S.is_clean self.new.machines → OfStores D.is_sound S.is_sound self.old.machines → AreFit (database (catalogue_of self.old.machines.desk.catalog)) (held D.kept S.kept self.old.machines)
+            → IfOk result (λ heard. Executes (database (catalogue_of self.old.machines.desk.catalog)) text.now self.old.current (held D.kept S.kept self.old.machines) self.new.current (held D.kept S.kept self.new.machines) heard.items) }
+        ensures served { (whole : Relations) (past : List (Deed (language (database (catalogue_of self.old.machines.desk.catalog))))) → OfStores D.is_clean S.is_clean self.new.machines → OfStores D.is_sound S.is_sound self.old.machines
+            → IsServed (database (catalogue_of self.old.machines.desk.catalog)) whole (held D.kept S.kept self.old.machines) past → IsServedOn (database (catalogue_of self.old.machines.desk.catalog)) whole (held D.kept S.kept self.new.machines) past }
+        ensures still { OnErr result (self.new.current ≡ self.old.current) }
+        ensures stops { self.old.stopped ≡ None → self.new.stopped ≡ stopped_by result }
+        ensures stopped { (refusal : RefusalNow) → self.old.stopped ≡ Some refusal → (result ≡ Err refusal) × (self.new ≡ self.old) }
+    {
+        if let Some(refusal) = self.stopped {
+            return Err(refusal);
+        }
+        database_is_of_catalogue(self.machines.desk.catalog());
+        one_client_is_a_run(self.machines.desk.catalog());
+        let done = self.command(text);
+        self.stopped = stopped_by(&done);
+        done
+    }
+
+    /// The catalogue.
+    pub fn catalog(&self) -> &Catalog
+        ensures { result.now ≡ self.now.machines.desk.catalog }
+    {
+        self.machines.desk.catalog()
+    }
+}
