@@ -11,3 +11,7 @@ pub mod InputLemmas
 pub mod CatalogFileLemmas
 pub mod CheckLemmas
 pub mod PlanLemmas
+pub mod PlayScriptLemmas
+pub mod PlayItemsLemmas
+pub mod PlayTextLemmas
+pub mod PlayLoadLemmas

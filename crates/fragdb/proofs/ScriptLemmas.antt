@@ -26,7 +26,7 @@ reading_of_text-first (byte ∷ bytes) = refl
 pub reading_of-text : (line : List ℕ) → IsUtf8 line → reading_of line ≡ reading_by_first (slice_get line 0) line
 reading_of-text line h = let e = is_utf8-from_IsUtf8 line h in rw (e, reading_of_text-first line) refl
 
-is_utf8-false : (line : List ℕ) (b : Bool) → is_utf8 line ≡ b → ¬ (IsUtf8 line) → is_utf8 line ≡ false
+pub is_utf8-false : (line : List ℕ) (b : Bool) → is_utf8 line ≡ b → ¬ (IsUtf8 line) → is_utf8 line ≡ false
 is_utf8-false line true e h = absurd (h (IsUtf8-from_is_utf8 line e))
 is_utf8-false line false e h = e
 

@@ -4,6 +4,12 @@ pub mod Small
 pub mod Reply
 pub mod Line
 pub mod Script
+pub mod Cut
+pub mod PlayScript
+pub mod PlayItems
+pub mod PlayLoad
+pub mod Cast
+pub mod PlayText
 pub mod Solo
 pub mod CatalogFile
 pub mod Check

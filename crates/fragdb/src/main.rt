@@ -6,9 +6,11 @@
 //! comes of each request.
 #![tactic(auto)]
 
+mod cast;
 mod catalog_file;
 mod change;
 mod check;
+mod cut;
 mod fault;
 mod gather;
 mod input;
@@ -17,6 +19,10 @@ mod merge;
 mod outcome;
 mod perform;
 mod plan_text;
+mod play_items;
+mod play_load;
+mod play_script;
+mod play_text;
 mod reply;
 mod script;
 mod small;

@@ -8,6 +8,7 @@ ghost use Rattle.fragdb.specs.declared.script.ScriptFault.TheVariants.{Memory};
 use reader::alone::keyword_alone;
 use reader::keyword::Keyword;
 use std::alloc::{AllocFailed, Global};
+use terms::memory::Memory as OutOfMemory;
 
 /// One thing that a script asks for.
 #[derive(Clone, Copy, Debug, PartialEq, Eq)]
@@ -32,6 +33,14 @@ impl<T: Drop> From<AllocFailed<T>> for ScriptFault {
     ghost from_gives = { λ _ fault. fault ≡ Memory };
 
     fn from(_error: AllocFailed<T>) -> ScriptFault {
+        ScriptFault::Memory
+    }
+}
+
+impl From<OutOfMemory> for ScriptFault {
+    ghost from_gives = { λ _ fault. fault ≡ Memory };
+
+    fn from(_error: OutOfMemory) -> ScriptFault {
         ScriptFault::Memory
     }
 }
@@ -107,7 +116,7 @@ fn argument<'a>(line: &'a str, command: &str) -> Option<&'a str>
 }
 
 /// Whether the text is not empty and has no blank.
-fn is_word(text: &str) -> bool
+pub fn is_word(text: &str) -> bool
     ensures { result ≡ spec.is_word text.now }
 {
     !text.is_empty()

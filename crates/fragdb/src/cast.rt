@@ -1,0 +1,51 @@
+//! How the transactions of a schedule are named.
+
+ghost use Rattle.std.specs.Prelude.{◌≡◌};
+ghost use Rattle.fragdb.specs.Cast.{name_of, txn_of};
+
+use std::alloc::Global;
+use std::collections::BTreeMap;
+use store::name::Txn;
+use terms::copy::TryCopy;
+use terms::memory::Memory;
+use terms::text::Text;
+
+/// Which transaction was begun under which name.
+#[derive(Drop)]
+pub struct Cast {
+    txns: BTreeMap<Text, Txn>,
+    names: BTreeMap<Txn, Text>,
+}
+
+impl Cast {
+    pub fn new(alloc: Global) -> Cast {
+        Cast {
+            txns: BTreeMap::new(alloc),
+            names: BTreeMap::new(alloc),
+        }
+    }
+
+    /// The transaction that was begun under this name, if one was.
+    pub fn txn(&self, name: &Text) -> Option<Txn>
+        ensures { result ≡ txn_of self.now name.now }
+    {
+        self.txns.get(name).copied()
+    }
+
+    /// The name of a transaction, nothing where it was not begun by a line.
+    pub fn name(&self, txn: Txn) -> &str
+        ensures { result.now ≡ name_of self.now txn }
+    {
+        match self.names.get(&txn) {
+            Some(name) => name.as_str(),
+            None => "",
+        }
+    }
+
+    /// A transaction was begun under this name.
+    pub fn put(&mut self, name: &Text, txn: Txn) -> Result<(), Memory> {
+        self.txns.insert(name.copy()?, txn)?;
+        self.names.insert(txn, name.copy()?)?;
+        Ok(())
+    }
+}
