@@ -71,7 +71,7 @@ fn name(why: Why) -> &'static str {
 }
 
 /// Tells what a client hears, each line after its transaction's name.
-fn put_notice(alloc: Global, told: &mut String, notice: &Notice) -> Result<(), Memory> {
+pub(crate) fn put_notice(alloc: Global, told: &mut String, notice: &Notice) -> Result<(), Memory> {
     let number = notice.txn.number;
     match &notice.reply {
         Reply::Begun => writeln!(told, "T{number}: begun")?,

@@ -1,6 +1,6 @@
 //! Tests of what no row under `tests/rows` can show yet: statements over several relations, by `read` and `run`
-//! on a whole database, public calls that the program doesn't make, and the letters of a site and of the
-//! coordinator. Each call is made once more where memory ran out, so the tests pass with any one allocation refused too.
+//! on a whole database, public calls that the program doesn't make, the letters of a site and of the
+//! coordinator, and the events of a world. Each call is made once more where memory ran out, so the tests pass with any one allocation refused too.
 #![tactic(auto)]
 
 #[cfg(test)]
@@ -19,3 +19,5 @@ mod refusing;
 mod sites;
 #[cfg(test)]
 mod statements;
+#[cfg(test)]
+mod worlds;

@@ -17,12 +17,12 @@ use terms::copy::TryCopy;
 use terms::memory::Memory;
 
 /// The catalogue of a text that is accepted.
-fn catalog(alloc: Global, text: &str) -> Result<Catalog, Memory> {
+pub(crate) fn catalog(alloc: Global, text: &str) -> Result<Catalog, Memory> {
     Catalog::read(alloc, text).map_err(|_| Memory)
 }
 
 /// A database of a schema's relations, each without rows.
-fn empty(alloc: Global, schema: &Schema) -> Result<Whole, Memory> {
+pub(crate) fn empty(alloc: Global, schema: &Schema) -> Result<Whole, Memory> {
     let mut whole = Whole::new(alloc);
     for relation in schema.relations.as_slice() {
         whole.put(relation.name.copy()?, Relation::new(alloc))?;
@@ -31,7 +31,7 @@ fn empty(alloc: Global, schema: &Schema) -> Result<Whole, Memory> {
 }
 
 /// The line of an answer or of a refusal, or the printed statement where `prints`.
-fn line(
+pub(crate) fn line(
     alloc: Global,
     schema: &Schema,
     whole: &mut Whole,
