@@ -11,11 +11,13 @@ use std::alloc::Global;
 use std::fmt::Write;
 use std::test::*;
 use store::name::Txn;
+use store::plain_desk::PlainDesk;
+use store::plain_site::PlainSite;
 use terms::memory::Memory;
 use terms::text::Text;
 use world::event::{Call, Event};
-use world::solo::open as open_client;
-use world::world::open;
+use world::solo::{Solo, open as open_client};
+use world::world::{World, open};
 
 /// Whole relations as these statements leave them.
 fn loaded(alloc: Global, catalog: &Catalog, script: &str) -> Result<Whole, Memory> {
@@ -59,14 +61,32 @@ fn events(alloc: Global, steps: &[Step]) -> Result<Vec<Event>, Memory> {
     Ok(events)
 }
 
-/// The committed transactions, each with its texts and answers.
-fn committed(alloc: Global, load: &str, steps: &[Step]) -> Result<String, Memory> {
+/// A world over these relations.
+fn opened(alloc: Global, load: &str) -> Result<World<PlainDesk, PlainSite>, Memory> {
     let catalog = catalog(alloc, EMP_AND_DEPT)?;
     let whole = loaded(alloc, &catalog, load)?;
-    let mut world = open(alloc, catalog, &whole).map_err(|_| Memory)?;
-    world
-        .run(events(alloc, steps)?.as_slice())
-        .map_err(|_| Memory)?;
+    match open(alloc, catalog, &whole) {
+        Ok(world) => Ok(world),
+        Err(_) => Err(Memory),
+    }
+}
+
+/// A client's database, without rows.
+fn opened_for_one(alloc: Global) -> Result<Solo<PlainDesk, PlainSite>, Memory> {
+    let catalog = catalog(alloc, EMP_AND_DEPT)?;
+    let whole = empty(alloc, catalog.schema())?;
+    match open_client(alloc, catalog, &whole) {
+        Ok(client) => Ok(client),
+        Err(_) => Err(Memory),
+    }
+}
+
+/// The committed transactions, each with its texts and answers.
+fn committed(alloc: Global, load: &str, steps: &[Step]) -> Result<String, Memory> {
+    let mut world = opened(alloc, load)?;
+    if world.run(events(alloc, steps)?.as_slice()).is_err() {
+        return Err(Memory);
+    }
     let mut told = String::new(alloc);
     for one in world.committed()?.as_slice() {
         writeln!(told, "T{}", one.txn.number)?;
@@ -82,9 +102,7 @@ fn committed(alloc: Global, load: &str, steps: &[Step]) -> Result<String, Memory
 
 /// What a client alone hears, command by command.
 fn heard(alloc: Global, script: &str) -> Result<String, Memory> {
-    let catalog = catalog(alloc, EMP_AND_DEPT)?;
-    let whole = empty(alloc, catalog.schema())?;
-    let mut client = open_client(alloc, catalog, &whole).map_err(|_| Memory)?;
+    let mut client = opened_for_one(alloc)?;
     let mut told = String::new(alloc);
     for text in script.lines() {
         match client.execute(text) {
