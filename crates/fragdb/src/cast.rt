@@ -1,6 +1,10 @@
 //! How the transactions of a schedule are named.
 
-ghost use Rattle.std.specs.Prelude.{◌≡◌};
+ghost use Rattle.std.specs.Prelude.{◌≡◌, [], OnOk, OnErr};
+ghost use Rattle.std.specs.BTreeMap.{insert_entry};
+ghost use Rattle.std.specs.Cmp.Lexicographic.{slice_cmp};
+ghost use Rattle.std.specs.Ordering.{nat_cmp};
+ghost use Rattle.store.specs.Name.{txn_cmp};
 ghost use Rattle.fragdb.specs.Cast.{name_of, txn_of};
 
 use std::alloc::Global;
@@ -18,7 +22,11 @@ pub struct Cast {
 }
 
 impl Cast {
-    pub fn new(alloc: Global) -> Cast {
+    /// Nobody was named yet.
+    pub fn new(alloc: Global) -> Cast
+        ensures txns { result.txns.entries ≡ [] }
+        ensures names { result.names.entries ≡ [] }
+    {
         Cast {
             txns: BTreeMap::new(alloc),
             names: BTreeMap::new(alloc),
@@ -42,8 +50,13 @@ impl Cast {
         }
     }
 
-    /// A transaction was begun under this name.
-    pub fn put(&mut self, name: &Text, txn: Txn) -> Result<(), Memory> {
+    /// A transaction was begun under this name. Without memory it may be found under the name already, and no
+    /// transaction's name has changed.
+    pub fn put(&mut self, name: &Text, txn: Txn) -> Result<(), Memory>
+        ensures txns { OnOk result (self.new.txns.entries ≡ insert_entry (slice_cmp nat_cmp) self.old.txns.entries name.now txn) }
+        ensures names { OnOk result (self.new.names.entries ≡ insert_entry txn_cmp self.old.names.entries txn name.now) }
+        ensures err { OnErr result (self.new.names.entries ≡ self.old.names.entries) }
+    {
         self.txns.insert(name.copy()?, txn)?;
         self.names.insert(txn, name.copy()?)?;
         Ok(())
