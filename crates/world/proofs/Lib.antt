@@ -1,6 +1,7 @@
 -- What proves the contracts of the crate.
 pub mod Seating
 pub mod Moving
+pub mod SettledSites
 pub mod Machinery
 pub mod Ends
 pub mod Filled

@@ -13,6 +13,7 @@ pub mod Events
 pub mod Refused
 pub mod Runs
 pub mod History
+pub mod Settled
 pub mod Following
 pub mod Happening
 pub mod Base

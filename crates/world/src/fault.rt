@@ -5,6 +5,7 @@ ghost use Rattle.world.specs.Fault.{is_memory};
 
 use desk::refusal::Refusal;
 use site::fault::SiteFault;
+use std::alloc::AllocFailed;
 use terms::memory::Memory;
 
 /// Why nothing has happened. All machines are as they were.
@@ -60,6 +61,18 @@ impl From<Memory> for Fault {
     ghost from_gives = { λ _ fault. fault ≡ faults.Desk refusals.Memory };
 
     fn from(_error: Memory) -> Fault {
+        Fault::Desk(Refusal::Memory)
+    }
+}
+
+impl<T: Drop> From<AllocFailed<T>> for Fault {
+    ghost use Rattle.std.specs.Prelude.{◌≡◌};
+    ghost use Rattle.desk.specs.declared.refusal.Refusal.TheVariants as refusals;
+    ghost use Rattle.world.specs.declared.fault.Fault.TheVariants as faults;
+
+    ghost from_gives = { λ _ fault. fault ≡ faults.Desk refusals.Memory };
+
+    fn from(_error: AllocFailed<T>) -> Fault {
         Fault::Desk(Refusal::Memory)
     }
 }

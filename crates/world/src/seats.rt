@@ -15,7 +15,7 @@ use store::site_store::SiteStore;
 use terms::text::Text;
 
 /// Whether it is the site of this name.
-fn is_called<S: SiteStore>(site: &Site<S>, name: &Text) -> bool
+pub(crate) fn is_called<S: SiteStore>(site: &Site<S>, name: &Text) -> bool
     ensures { result ≡ is_called name.now (seat_from S.kept site.now) }
 {
     *name == *site.name()

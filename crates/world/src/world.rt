@@ -1,6 +1,7 @@
 //! Worlds: the machines of a database, and every event that has happened with the letters that it put out.
 
-ghost use Rattle.std.specs.Prelude.{◌≡◌, ◌⊎◌, ◌++◌, ◌∷◌, [], true, List, Err, OnOk, OnErr, IfOk, IfErr, map, take};
+ghost use Rattle.std.specs.Prelude.{◌≡◌, ◌⊎◌, ◌++◌, ◌∷◌, [], true, List, Err, OnOk, OnErr, IfOk, IfErr, map, slice_get, take};
+ghost use Rattle.std.specs.Option.{option_copied, option_map};
 ghost use Rattle.meaning.specs.Whole.{FitsSchema, Relations};
 ghost use Rattle.catalog.specs.FragmentLeaf.{schemas_of};
 ghost use Rattle.catalog.specs.Relation.{catalogue_of};
@@ -19,8 +20,11 @@ ghost use Rattle.world.specs.Events.{is_unsent};
 ghost use Rattle.world.specs.Following.{Follows, Passes};
 ghost use Rattle.world.specs.Held.{OfStores, held};
 ghost use Rattle.world.specs.History.{AnswerInTurn, committed_of};
+ghost use Rattle.world.specs.Machines.{AreFit};
+ghost use Rattle.world.specs.Posted.{letters_in};
 ghost use Rattle.world.specs.Refused.{IsToldOf};
 ghost use Rattle.world.specs.Runs.{IsRun, RunsOn};
+ghost use Rattle.world.specs.Settled.{AreThoseOf, ShowsSerial, parts_kept, rows_shown};
 ghost use Rattle.world.specs.Telling.{committed_in};
 
 use crate::event::{Entry, Event};
@@ -30,16 +34,24 @@ use crate::history::{Committed, committed_in};
 use crate::laws::{database_is_of_catalogue, runs_are_serial};
 use crate::machines::Machines;
 use crate::opening::start;
+use crate::posted::letter_at;
+use crate::rebuilding::rebuilt;
+use crate::settled::settled_parts;
 use catalog::catalogue::Catalog;
 use desk::refusal::Refusal;
 use meaning::whole::Whole;
 use std::alloc::Global;
 use store::desk_store::DeskStore;
+use store::letter::Letter;
 use store::plain_desk::PlainDesk;
 use store::plain_site::PlainSite;
 use store::site_store::SiteStore;
 use terms::copy::TryCopy;
+use terms::leaf::Leaf;
 use terms::memory::Memory;
+use terms::part::Part;
+use terms::row::Row;
+use terms::text::Text;
 
 /// A coordinator, its sites, and what has happened, oldest first.
 #[derive(Drop)]
@@ -166,6 +178,48 @@ impl<D: DeskStore, S: SiteStore> World<D, S> {
     {
         runs_are_serial(self.machines.desk.catalog());
         committed_in(self.machines.alloc, self.entries.as_slice())
+    }
+
+    /// The letter of this number, counted from 0 in the order in which letters were sent, if so many were.
+    pub fn letter(&self, number: usize) -> Option<&Letter>
+        ensures { option_copied result ≡ slice_get (letters_in self.now.entries.items) number }
+    {
+        letter_at(self.entries.as_slice(), number)
+    }
+
+    /// The parts that are kept of a leaf, by their keys; none of a leaf that the catalogue doesn't have. Nothing
+    /// has changed by this.
+    pub fn parts(&mut self, leaf: &Leaf) -> Result<Option<Vec<Part>>, Fault>
+        ensures clean { OfStores D.is_clean S.is_clean self.new.machines → OfStores D.is_clean S.is_clean self.old.machines }
+        ensures sound { OfStores D.is_clean S.is_clean self.new.machines → OfStores D.is_sound S.is_sound self.old.machines → OfStores D.is_sound S.is_sound self.new.machines }
+        ensures parts { OfStores D.is_clean S.is_clean self.new.machines → OfStores D.is_sound S.is_sound self.old.machines → AreFit (database (catalogue_of self.old.machines.desk.catalog)) (held D.kept S.kept self.old.machines)
+            → IfOk result (λ shown. option_map (λ parts. parts.items) shown ≡ parts_kept (database (catalogue_of self.old.machines.desk.catalog)) (held D.kept S.kept self.old.machines) leaf.now) }
+        ensures same { OfStores D.is_clean S.is_clean self.new.machines → OfStores D.is_sound S.is_sound self.old.machines → held D.kept S.kept self.new.machines ≡ held D.kept S.kept self.old.machines }
+        ensures entries { self.new.entries ≡ self.old.entries }
+        ensures catalog { self.new.machines.desk.catalog ≡ self.old.machines.desk.catalog }
+    {
+        settled_parts(&mut self.machines, &[], leaf)
+    }
+
+    /// The rows of a relation, by their keys, as the fragments rebuild it with the intentions of committed
+    /// transactions; none of a relation that there isn't. They are what the committed transactions make of it,
+    /// one after another. Nothing has changed by this.
+    pub fn rebuilt(&mut self, relation: &Text) -> Result<Option<Vec<Row>>, Fault>
+        ensures clean { OfStores D.is_clean S.is_clean self.new.machines → OfStores D.is_clean S.is_clean self.old.machines }
+        ensures sound { OfStores D.is_clean S.is_clean self.new.machines → OfStores D.is_sound S.is_sound self.old.machines → OfStores D.is_sound S.is_sound self.new.machines }
+        ensures rows { (whole : Relations) → OfStores D.is_clean S.is_clean self.new.machines → OfStores D.is_sound S.is_sound self.old.machines → AreFit (database (catalogue_of self.old.machines.desk.catalog)) (held D.kept S.kept self.old.machines)
+            → AreThoseOf (database (catalogue_of self.old.machines.desk.catalog)) (held D.kept S.kept self.old.machines) whole → FitsSchema (schemas_of (catalogue_of self.old.machines.desk.catalog)) whole
+            → IfOk result (λ shown. option_map (λ rows. rows.items) shown ≡ rows_shown (database (catalogue_of self.old.machines.desk.catalog)) whole relation.now) }
+        ensures serial { (whole : Relations) (past : List (Deed (language (database (catalogue_of self.old.machines.desk.catalog)))))
+            → OfStores D.is_clean S.is_clean self.new.machines → OfStores D.is_sound S.is_sound self.old.machines
+            → IsRun (database (catalogue_of self.old.machines.desk.catalog)) whole (held D.kept S.kept self.old.machines) self.old.entries.items past
+            → IfOk result (λ shown. ShowsSerial (database (catalogue_of self.old.machines.desk.catalog)) whole self.old.entries.items relation.now (option_map (λ rows. rows.items) shown)) }
+        ensures same { OfStores D.is_clean S.is_clean self.new.machines → OfStores D.is_sound S.is_sound self.old.machines → held D.kept S.kept self.new.machines ≡ held D.kept S.kept self.old.machines }
+        ensures entries { self.new.entries ≡ self.old.entries }
+        ensures catalog { self.new.machines.desk.catalog ≡ self.old.machines.desk.catalog }
+    {
+        runs_are_serial(self.machines.desk.catalog());
+        rebuilt(&mut self.machines, relation)
     }
 
     /// What has happened, oldest first.

@@ -1,0 +1,123 @@
+-- The settled fragments of the machines are those of the protocol's world.
+use Rattle.std.proofs.Common.{◌≡◌, refl, sym, ap, ◌∙◌, subst, ℕ, Bool, true, false, ◌||◌, List, [], ◌∷◌, map, Option, Some, None, is_some, if◌then◌else◌, option_map}
+use Rattle.std.specs.List.{list_any}
+use Rattle.terms.specs.declared.leaf.Leaf.{Leaf}
+use Rattle.store.specs.declared.commit.CommitRow.{CommitRow}
+use Rattle.store.specs.declared.commit.DeskKept.{DeskKept}
+use Rattle.store.specs.declared.name.Ticket.{Ticket}
+use Rattle.store.specs.declared.name.Txn.{Txn}
+use Rattle.store.specs.declared.prepared.Prepared.{Prepared}
+use Rattle.store.specs.Content.{Content, changed}
+use Rattle.store.specs.DeskContent as of_desk
+use Rattle.store.specs.SiteContent as of_site
+use Rattle.protocol.specs.Desk as protocol
+use Rattle.protocol.specs.Letters.{name_of, txn_name}
+use Rattle.protocol.specs.Local.{local}
+use Rattle.protocol.specs.Serial as serial
+use Rattle.protocol.specs.Site as protocol_site
+use Rattle.protocol.specs.Statements.{status_with}
+use Rattle.protocol.proofs.Basics.{some_is}
+use Rattle.site.specs.declared.site.Site.{Site}
+use Rattle.site.specs.declared.standing.Standing as site_standings
+use Rattle.site.specs.declared.standing.Standing.TheVariants as at_site
+use Rattle.site.specs.Settled.{is_among, is_txn, with_all, with_row, with_some}
+use Rattle.site.specs.Starting.{leaves_in}
+use Rattle.site.specs.State as site_state
+use Rattle.desk.specs.declared.standing.Standing as desk_standings
+use Rattle.desk.specs.declared.standing.Standing.TheVariants as at_desk
+use Rattle.desk.specs.Database.{Database, language, statements}
+use Rattle.desk.specs.Standing.{txn_of}
+use Rattle.desk.specs.State as desk_state
+use Rattle.desk.specs.Voters.{kept_voters}
+use Rattle.desk.proofs.Txns.{same_txn, txn_sym}
+use Rattle.world.specs.Machines.{Machines, world_of}
+use Rattle.world.specs.Seated.{seat_from}
+use Rattle.world.specs.Seats.{Seat, is_called, seat_of, state_at, states_of}
+use Rattle.world.specs.Settled.{AreDecided, settled_at, settled_in}
+use Rattle.world.proofs.Moving.{seat_same, unchanged}
+
+-- a site whose memory and whose store have not changed
+pub seat_stays : {S : Type 0} (content : S → of_site.SiteContent) (old new : Site S) → new.present ≡ old.present → of_site.IsUnchanged (content old.store) (content new.store) → seat_from content new ≡ seat_from content old
+seat_stays content old new memory same = seat_same (seat_from content old) (seat_from content new) (ap (λ p. p.name) memory) (ap (λ p. leaves_in p.locks.items) memory) (ap site_state.table_of memory) (unchanged (content old.store) (content new.store) same)
+
+-- ---- the transactions that have a commit row
+txns_of : List CommitRow → List Txn
+txns_of rows = map (λ row. row.txn) rows
+
+listed_among : (rows : List CommitRow) (txn : Txn) → is_among (map (λ row. row.txn) rows) txn ≡ is_some (of_desk.voters_in txn rows)
+listed_among [] txn = refl
+listed_among (row ∷ rows) txn =
+    ap (λ b. b || is_among (map (λ (r : CommitRow). r.txn) rows) txn) (same_txn row.txn txn ∙ txn_sym row.txn txn)
+    ∙ go (of_desk.is_txn txn row.txn) (listed_among rows txn)
+  where
+    go : (b : Bool) → is_among (map (λ (r : CommitRow). r.txn) rows) txn ≡ is_some (of_desk.voters_in txn rows) → (b || is_among (map (λ (r : CommitRow). r.txn) rows) txn) ≡ is_some (if b then Some row.voters else of_desk.voters_in txn rows)
+    go true later = refl
+    go false later = later
+
+pub decided_are : (db : Database) (kept after : of_desk.DeskContent) (table : desk_state.Table) (all : DeskKept) → desk_state.Fits db kept table → of_desk.IsUnchanged kept after → of_desk.Lists after all → AreDecided table (map (λ row. row.txn) all.commits)
+decided_are db kept after table all fits same lists = λ txn. listed_among all.commits txn ∙ ap is_some (lists.rows txn ∙ same.commits txn ∙ sym (fits.rows txn))
+
+-- ---- the settled fragments of a site
+module _ (db : Database) (table : desk_state.Table) (decided : List Txn) (are : AreDecided table decided) (leaf : Leaf) where
+  row_settled : (txn : Txn) (row : Prepared) (content : Content) (standing : Option desk_standings.Standing) (b : Bool) → b ≡ is_some (kept_voters standing) →
+      serial.with_row {L = language db} leaf row.changes (txn_of db standing) content ≡ (if b then changed leaf row.changes content else content)
+  row_settled txn row content None b is = sym (ap (λ c. if c then changed leaf row.changes content else content) is)
+  row_settled txn row content (Some (at_desk.Undecided undecided)) b is = sym (ap (λ c. if c then changed leaf row.changes content else content) is)
+  row_settled txn row content (Some (at_desk.Committed committed)) b is = sym (ap (λ c. if c then changed leaf row.changes content else content) is)
+
+  some_settled : (memory : site_state.Table) (ticket : Ticket) (row : Option Prepared) (content : Content) →
+      serial.with_decided {L = language db} (desk_state.desk_of db table) leaf (status_with (statements db) (site_state.stands memory ticket row)) content ≡ with_some decided leaf row content
+  some_settled memory ticket (Some row) content = row_settled row.txn row content (table.standing row.txn) (is_among decided row.txn) (are row.txn)
+  some_settled memory ticket None content = go (memory.standing ticket)
+    where
+      go : (standing : Option site_standings.Standing) → serial.with_decided {L = language db} (desk_state.desk_of db table) leaf (status_with (statements db) (site_state.visiting memory.locks ticket standing)) content ≡ content
+      go None = refl
+      go (Some (at_site.Alive visit)) = refl
+      go (Some (at_site.Prepared txn)) = refl
+
+  all_settled : (kept : of_site.SiteContent) (memory : site_state.Table) (tickets : List Ticket) (content : Content) →
+      serial.with_all_decided {L = language db} (desk_state.desk_of db table) leaf (λ name. status_with (statements db) ((site_state.state_of kept memory).status name)) (map name_of tickets) content ≡ with_all decided leaf kept.prepared tickets content
+  all_settled kept memory [] content = refl
+  all_settled kept memory (ticket ∷ tickets) content =
+      ap (serial.with_all_decided {L = language db} (desk_state.desk_of db table) leaf (λ name. status_with (statements db) ((site_state.state_of kept memory).status name)) (map name_of tickets)) (some_settled memory ticket (kept.prepared ticket) content)
+      ∙ all_settled kept memory tickets (with_some decided leaf (kept.prepared ticket) content)
+
+-- the state of the site of a name
+pub state_there : (db : Database) (name : List ℕ) (seats : List Seat) (seat : Seat) → seat_of name seats ≡ Some seat → states_of (statements db) seats name ≡ state_at (statements db) seat
+state_there db name [] seat there = absurd cc
+state_there db name (first ∷ seats) seat there = go (is_called name first) there (state_there db name seats seat)
+  where
+    go : (b : Bool) → (if b then Some first else seat_of name seats) ≡ Some seat → (seat_of name seats ≡ Some seat → states_of (statements db) seats name ≡ state_at (statements db) seat) → (if b then state_at (statements db) first else states_of (statements db) seats name) ≡ state_at (statements db) seat
+    go true is later = ap (state_at (statements db)) (some_is is)
+    go false is later = later is
+
+-- what is settled at the site of a name
+seat_settled : (seats : List Seat) (name : List ℕ) (decided : List Txn) (leaf : Leaf) (content : Content) → settled_at decided leaf seats name ≡ Some content → (seat : Seat) × (seat_of name seats ≡ Some seat) × (settled_in decided leaf seat ≡ content)
+seat_settled seats name decided leaf content is = go (seat_of name seats) refl is
+  where
+    go : (found : Option Seat) → seat_of name seats ≡ found → option_map (settled_in decided leaf) found ≡ Some content → (seat : Seat) × (seat_of name seats ≡ Some seat) × (settled_in decided leaf seat ≡ content)
+    go None there is = absurd cc
+    go (Some seat) there is = (seat, there, some_is is)
+
+pub settled_there : (db : Database) (machines : Machines) (decided : List Txn) (leaf : Leaf) (content : Content) → AreDecided machines.table decided → settled_at decided leaf machines.seats (db.home leaf) ≡ Some content → serial.settled (world_of db machines [] []) leaf ≡ content
+settled_there db machines decided leaf content are is =
+    let one = seat_settled machines.seats (db.home leaf) decided leaf content is in
+    ap (λ (s : protocol_site.SiteState (language db)). serial.with_all_decided {L = language db} (desk_state.desk_of db machines.table) leaf s.status s.known (s.kept leaf)) (state_there db (db.home leaf) machines.seats one.0 one.1)
+    ∙ all_settled db machines.table decided are leaf one.0.kept one.0.table one.0.table.tickets (one.0.kept.content leaf)
+    ∙ one.2
+
+-- ---- what is kept
+none_decided : (leaf : Leaf) (rows : Ticket → Option Prepared) (tickets : List Ticket) (content : Content) → with_all [] leaf rows tickets content ≡ content
+none_decided leaf rows [] content = refl
+none_decided leaf rows (ticket ∷ tickets) content = ap (with_all [] leaf rows tickets) (go (rows ticket)) ∙ none_decided leaf rows tickets content
+  where
+    go : (row : Option Prepared) → with_some [] leaf row content ≡ content
+    go None = refl
+    go (Some row) = refl
+
+pub kept_there : (db : Database) (machines : Machines) (leaf : Leaf) (name : List ℕ) (content : Content) → settled_at [] leaf machines.seats name ≡ Some content → (states_of (statements db) machines.seats name).kept leaf ≡ content
+kept_there db machines leaf name content is =
+    let one = seat_settled machines.seats name [] leaf content is in
+    ap (λ (s : protocol_site.SiteState (language db)). s.kept leaf) (state_there db name machines.seats one.0 one.1)
+    ∙ sym (none_decided leaf one.0.kept.prepared one.0.table.tickets (one.0.kept.content leaf))
+    ∙ one.2

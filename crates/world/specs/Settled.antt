@@ -1,0 +1,65 @@
+-- What sites keep of leaves, and the settled fragments: kept, with the intentions of decided transactions.
+use Rattle.std.specs.Prelude.{◌≡◌, ℕ, List, [], map, length, is_some, Option, None}
+use Rattle.std.specs.FinMap as fin
+use Rattle.std.specs.Option.{option_map}
+use Rattle.terms.specs.declared.leaf.Leaf.{Leaf}
+use Rattle.terms.specs.declared.value.Value.{Value}
+use Rattle.meaning.specs.declared.schema.RelationSchema.{RelationSchema}
+use Rattle.meaning.specs.declared.statement.Select.{Select}
+use Rattle.meaning.specs.declared.statement.Statement.{Statement}
+use Rattle.meaning.specs.Schema.{names_of, relation_named}
+use Rattle.meaning.specs.Whole.{Relations, rows_of}
+use Rattle.plan.specs.declared.fetch.Fetch.{Fetch}
+use Rattle.plan.specs.Need.{places_to}
+use Rattle.answers.specs.declared.table.FetchRows.{FetchRows}
+use Rattle.store.specs.declared.name.Txn.{Txn}
+use Rattle.store.specs.Content.{Content, parts}
+use Rattle.protocol.specs.Serial.{serial_whole, settled}
+use Rattle.site.specs.Settled.{is_among, with_all}
+use Rattle.desk.specs.Database.{Database, language, statements}
+use Rattle.desk.specs.Planned.{site_in}
+use Rattle.desk.specs.State.{Table}
+use Rattle.desk.specs.Voters.{kept_voters}
+use Rattle.world.specs.declared.event.Entry.{Entry}
+use Rattle.world.specs.Machines.{Machines, world_of}
+use Rattle.world.specs.Runs.{AreTexts}
+use Rattle.world.specs.Seats.{Seat, seat_of, states_of}
+use Rattle.world.specs.Telling.{committed_in, texts_of}
+
+-- what a site has of a leaf, with the intentions of those prepared rows whose transactions are these
+abbrev pub settled_in : List Txn → Leaf → Seat → Content
+settled_in decided leaf seat = with_all decided leaf seat.kept.prepared seat.table.tickets (seat.kept.content leaf)
+
+-- so at the site of a name, if there is one
+abbrev pub settled_at : List Txn → Leaf → List Seat → List ℕ → Option Content
+settled_at decided leaf seats place = option_map (settled_in decided leaf) (seat_of place seats)
+
+-- these are the transactions that have a commit row
+abbrev pub AreDecided : Table → List Txn → Type 0
+AreDecided table decided = (txn : Txn) → is_among decided txn ≡ is_some (kept_voters (table.standing txn))
+
+-- the parts that are kept of a leaf at its site, by key; none of a leaf that the catalogue doesn't have
+abbrev pub parts_kept : Database → Machines → Leaf → Option (List (List Value))
+parts_kept db machines leaf = option_map (λ site. fin.values ((states_of (statements db) machines.seats site).kept leaf)) (site_in db.catalogue leaf)
+
+-- the settled fragments are those of this whole database
+abbrev pub AreThoseOf : Database → Machines → Relations → Type 0
+AreThoseOf db machines whole = (leaf : Leaf) → settled (world_of db machines [] []) leaf ≡ db.content leaf whole
+
+-- what a fetch brings of a whole database
+abbrev pub brought_of : Database → Relations → Fetch → FetchRows
+brought_of db whole fetch = record { leaf = fetch.leaf; parts = parts fetch.conds (db.content fetch.leaf whole) }
+
+-- the SELECT of all columns of a relation
+abbrev pub everything : RelationSchema → Select
+everything relation = record { from = record { name = relation.name; columns = names_of relation }; join = None; columns = places_to (length relation.columns); conds = [] }
+
+-- the rows of a relation of the database, by key; none of a relation that there isn't
+abbrev pub rows_shown : Database → Relations → List ℕ → Option (List (List Value))
+rows_shown db whole name = option_map (λ relation. rows_of whole name) (relation_named name db.schemas)
+
+-- rows are those of a relation after the committed transactions, one after another over whole relations; statements: those of the texts that they stated
+pub record ShowsSerial (db : Database) (whole : Relations) (entries : List Entry) (name : List ℕ) (shown : Option (List (List Value))) : Type 0 where
+  pub statements : Txn → List Statement
+  pub spelled : (txn : Txn) → AreTexts db (texts_of entries txn) (statements txn)
+  pub rows : shown ≡ rows_shown db (serial_whole (language db) (map statements (committed_in entries)) whole) name

@@ -1,0 +1,241 @@
+//! Relations, rebuilt from the settled fragments as a SELECT of all their columns.
+
+ghost use Rattle.std.specs.Prelude.{◌≡◌, ℕ, List, map, IfOk, IfSome};
+ghost use Rattle.std.specs.List.{Contains, filter};
+ghost use Rattle.std.specs.Option.{option_map};
+ghost use Rattle.terms.specs.declared.value.Value.{Value};
+ghost use Rattle.terms.specs.Cond.{conds_hold};
+ghost use Rattle.meaning.specs.declared.answer.Answer.TheVariants as answers;
+ghost use Rattle.meaning.specs.declared.statement.Statement.TheVariants as statements;
+ghost use Rattle.meaning.specs.Meaning.{meaning};
+ghost use Rattle.meaning.specs.Schema.{relation_named};
+ghost use Rattle.meaning.specs.Statement.{IsStatementOf};
+ghost use Rattle.meaning.specs.Whole.{FitsSchema, Relations};
+ghost use Rattle.catalog.specs.FragmentLeaf.{schemas_of};
+ghost use Rattle.catalog.specs.Relation.{catalogue_of};
+ghost use Rattle.plan.specs.Given.{AreBrought};
+ghost use Rattle.plan.specs.Need.{places_to};
+ghost use Rattle.plan.specs.Reduced.{FindsAll};
+ghost use Rattle.plan.specs.Shape.{shape};
+ghost use Rattle.plan.specs.Stated.{AreFetchesOf};
+ghost use Rattle.plan.specs.Uniform.{EachRead, IsUniform};
+ghost use Rattle.answers.specs.Table.{given};
+ghost use Rattle.world.specs.Base.{database};
+ghost use Rattle.world.specs.Held.{OfStores, held};
+ghost use Rattle.world.specs.Machines.{AreFit};
+ghost use Rattle.world.specs.Settled.{AreDecided, AreThoseOf, brought_of, everything, rows_shown};
+
+use crate::fault::Fault;
+use crate::machines::Machines;
+use crate::settled::{decided, settled_parts};
+use answers::table::{FetchRows, are_all_parts};
+use answers::work::work;
+use catalog::catalogue::Catalog;
+use meaning::answer::Answer;
+use meaning::schema::{Column, RelationSchema};
+use meaning::statement::{Select, Source, Statement};
+use plan::fetch::Fetch;
+use plan::localize::localize;
+use plan::reduce::{Reduced, fetches, reduce};
+use site::fault::SiteFault;
+use std::alloc::Global;
+use store::desk_store::DeskStore;
+use store::fault::StoreFault;
+use store::name::Txn;
+use store::site_store::SiteStore;
+use terms::cond::Conds;
+use terms::copy::TryCopy;
+use terms::memory::Memory;
+use terms::part::Part;
+use terms::row::Row;
+use terms::seq::Seq;
+use terms::text::Text;
+
+/// The names of columns.
+fn names_of(alloc: Global, columns: &[Column]) -> Result<Vec<Text>, Memory>
+    ensures { IfOk result (λ names. names.items ≡ map (λ column. column.name) columns.now) }
+{
+    let mut names = Vec::new(alloc);
+    for column in columns {
+        names.push(column.name.copy()?)?;
+    }
+    Ok(names)
+}
+
+/// The numbers below this one.
+fn places_to(alloc: Global, width: usize) -> Result<Vec<usize>, Memory>
+    ensures { IfOk result (λ places. places.items ≡ places_to width) }
+{
+    let mut places = Vec::new(alloc);
+    for place in 0..width {
+        places.push(place)?;
+    }
+    Ok(places)
+}
+
+/// The SELECT of all columns of a relation.
+fn everything(alloc: Global, relation: &RelationSchema) -> Result<Select, Memory>
+    ensures { IfOk result (λ select. select ≡ everything relation.now) }
+{
+    let columns = relation.columns.as_slice();
+    Ok(Select {
+        from: Source {
+            name: relation.name.copy()?,
+            columns: Seq::new(names_of(alloc, columns)?),
+        },
+        join: None,
+        columns: Seq::new(places_to(alloc, columns.len())?),
+        conds: Conds::new(Vec::new(alloc)),
+    })
+}
+
+/// The parts that meet conditions.
+fn meeting(parts: Vec<Part>, conds: &Conds) -> Vec<Part>
+    ensures { result.items ≡ filter (conds_hold conds.now) parts.items }
+{
+    let mut parts = parts;
+    parts.retain(|part| part.meets(conds.as_slice()));
+    parts
+}
+
+/// What a fetch brings of the settled fragments; nothing of a leaf that the catalogue doesn't have.
+fn bring_one<D: DeskStore, S: SiteStore>(
+    machines: &mut Machines<D, S>,
+    decided: &[Txn],
+    fetch: &Fetch,
+) -> Result<FetchRows, Fault>
+    ensures clean { OfStores D.is_clean S.is_clean machines.new → OfStores D.is_clean S.is_clean machines.old }
+    ensures sound { OfStores D.is_clean S.is_clean machines.new → OfStores D.is_sound S.is_sound machines.old → OfStores D.is_sound S.is_sound machines.new }
+    ensures same { OfStores D.is_clean S.is_clean machines.new → OfStores D.is_sound S.is_sound machines.old → held D.kept S.kept machines.new ≡ held D.kept S.kept machines.old }
+    ensures catalog { machines.new.desk.catalog ≡ machines.old.desk.catalog }
+    ensures brought { (whole : Relations) → OfStores D.is_clean S.is_clean machines.new → OfStores D.is_sound S.is_sound machines.old → AreFit (database (catalogue_of machines.old.desk.catalog)) (held D.kept S.kept machines.old) → AreThoseOf (database (catalogue_of machines.old.desk.catalog)) (held D.kept S.kept machines.old) whole → AreDecided (held D.kept S.kept machines.old).table decided.now
+        → IfOk result (λ rows. rows ≡ brought_of (database (catalogue_of machines.old.desk.catalog)) whole fetch.now) }
+{
+    let leaf = fetch.leaf.copy()?;
+    let parts = match settled_parts(machines, decided, &leaf)? {
+        Some(parts) => meeting(parts, &fetch.conds),
+        None => Vec::new(machines.alloc),
+    };
+    Ok(FetchRows {
+        leaf,
+        parts: Seq::new(parts),
+    })
+}
+
+/// What fetches bring of the settled fragments.
+fn bring<D: DeskStore, S: SiteStore>(
+    machines: &mut Machines<D, S>,
+    decided: &[Txn],
+    fetches: &[Fetch],
+) -> Result<Vec<FetchRows>, Fault>
+    ensures clean { OfStores D.is_clean S.is_clean machines.new → OfStores D.is_clean S.is_clean machines.old }
+    ensures sound { OfStores D.is_clean S.is_clean machines.new → OfStores D.is_sound S.is_sound machines.old → OfStores D.is_sound S.is_sound machines.new }
+    ensures same { OfStores D.is_clean S.is_clean machines.new → OfStores D.is_sound S.is_sound machines.old → held D.kept S.kept machines.new ≡ held D.kept S.kept machines.old }
+    ensures catalog { machines.new.desk.catalog ≡ machines.old.desk.catalog }
+    ensures brought { (whole : Relations) → OfStores D.is_clean S.is_clean machines.new → OfStores D.is_sound S.is_sound machines.old → AreFit (database (catalogue_of machines.old.desk.catalog)) (held D.kept S.kept machines.old) → AreThoseOf (database (catalogue_of machines.old.desk.catalog)) (held D.kept S.kept machines.old) whole → AreDecided (held D.kept S.kept machines.old).table decided.now
+        → IfOk result (λ rows. rows.items ≡ map (brought_of (database (catalogue_of machines.old.desk.catalog)) whole) fetches.now) }
+{
+    let mut brought = Vec::new(machines.alloc);
+    for fetch in fetches {
+        brought.push(bring_one(machines, decided, fetch)?)?;
+    }
+    Ok(brought)
+}
+
+/// The reduced plan of a statement.
+fn planned(alloc: Global, catalog: &Catalog, statement: &Statement) -> Result<Reduced, Memory>
+    requires { IsStatementOf (schemas_of (catalogue_of catalog.now)) statement.now }
+    ensures fetches { IfOk result (λ less. AreFetchesOf (catalogue_of catalog.now) statement.now less.fetches.items) }
+    ensures finds { IfOk result (λ less. FindsAll (catalogue_of catalog.now) statement.now less.fetches.items (shape less.plan)) }
+    ensures fetched { IfOk result (λ less. EachRead (λ read. Contains less.fetches.items read) (shape less.plan)) }
+    ensures uniform { IfOk result (λ less. IsUniform (shape less.plan)) }
+{
+    let plan = localize(alloc, catalog, statement)?;
+    reduce(alloc, catalog, statement, plan)
+}
+
+/// What a statement answers by what its fetches brought.
+fn answer(
+    alloc: Global,
+    catalog: &Catalog,
+    statement: &Statement,
+    reduced: &Reduced,
+    brought: &[FetchRows],
+) -> Result<Answer, Fault>
+    requires fetched { EachRead (λ read. Contains reduced.now.fetches.items read) (shape reduced.now.plan) }
+    requires uniform { IsUniform (shape reduced.now.plan) }
+    ensures { IsStatementOf (schemas_of (catalogue_of catalog.now)) statement.now → AreFetchesOf (catalogue_of catalog.now) statement.now reduced.now.fetches.items → FindsAll (catalogue_of catalog.now) statement.now reduced.now.fetches.items (shape reduced.now.plan)
+        → IfOk result (λ answer. (whole : Relations) → FitsSchema (schemas_of (catalogue_of catalog.now)) whole → AreBrought (catalogue_of catalog.now) whole reduced.now.fetches.items (given brought.now) → answer ≡ (meaning statement.now whole).0) }
+{
+    if !are_all_parts(fetches(reduced), brought) {
+        return Err(Fault::Site(SiteFault::Store(StoreFault::Damaged)));
+    }
+    Ok(work(alloc, catalog, statement, reduced, brought)?.answer)
+}
+
+/// The rows of an answer.
+fn rows_of(alloc: Global, answer: Answer) -> Vec<Row>
+    ensures { (names : List (List ℕ)) (rows : List (List Value)) → answer ≡ answers.Rows names rows → result.items ≡ rows }
+{
+    match answer {
+        Answer::Rows(_, rows) => rows.into_vec(),
+        _ => Vec::new(alloc),
+    }
+}
+
+/// What a statement answers over the settled fragments.
+fn answer_settled<D: DeskStore, S: SiteStore>(
+    machines: &mut Machines<D, S>,
+    statement: &Statement,
+) -> Result<Answer, Fault>
+    requires { IsStatementOf (schemas_of (catalogue_of machines.old.desk.catalog)) statement.now }
+    ensures clean { OfStores D.is_clean S.is_clean machines.new → OfStores D.is_clean S.is_clean machines.old }
+    ensures sound { OfStores D.is_clean S.is_clean machines.new → OfStores D.is_sound S.is_sound machines.old → OfStores D.is_sound S.is_sound machines.new }
+    ensures same { OfStores D.is_clean S.is_clean machines.new → OfStores D.is_sound S.is_sound machines.old → held D.kept S.kept machines.new ≡ held D.kept S.kept machines.old }
+    ensures catalog { machines.new.desk.catalog ≡ machines.old.desk.catalog }
+    ensures answer { (whole : Relations) → OfStores D.is_clean S.is_clean machines.new → OfStores D.is_sound S.is_sound machines.old → AreFit (database (catalogue_of machines.old.desk.catalog)) (held D.kept S.kept machines.old) → AreThoseOf (database (catalogue_of machines.old.desk.catalog)) (held D.kept S.kept machines.old) whole → FitsSchema (schemas_of (catalogue_of machines.old.desk.catalog)) whole
+        → IfOk result (λ answer. answer ≡ (meaning statement.now whole).0) }
+{
+    let alloc = machines.alloc;
+    let reduced = planned(alloc, machines.desk.catalog(), statement)?;
+    let decided = decided(alloc, &mut machines.desk)?;
+    let brought = bring(machines, decided.as_slice(), fetches(&reduced))?;
+    answer(
+        alloc,
+        machines.desk.catalog(),
+        statement,
+        &reduced,
+        brought.as_slice(),
+    )
+}
+
+/// The SELECT of all columns of the relation of this name, if there is one.
+fn everything_of(alloc: Global, catalog: &Catalog, name: &Text) -> Result<Option<Statement>, Memory>
+    ensures statement { IfOk result (λ found. found ≡ option_map (λ relation. statements.Select (everything relation)) (relation_named name.now (schemas_of (catalogue_of catalog.now)))) }
+    ensures fits { IfOk result (λ found. IfSome found (IsStatementOf (schemas_of (catalogue_of catalog.now)))) }
+{
+    match catalog.schema().relation(name.as_str().as_bytes()) {
+        Some(relation) => Ok(Some(Statement::Select(everything(alloc, relation)?))),
+        None => Ok(None),
+    }
+}
+
+/// The rows of a relation in the settled fragments; none of a relation that there isn't.
+pub(crate) fn rebuilt<D: DeskStore, S: SiteStore>(
+    machines: &mut Machines<D, S>,
+    name: &Text,
+) -> Result<Option<Vec<Row>>, Fault>
+    ensures clean { OfStores D.is_clean S.is_clean machines.new → OfStores D.is_clean S.is_clean machines.old }
+    ensures sound { OfStores D.is_clean S.is_clean machines.new → OfStores D.is_sound S.is_sound machines.old → OfStores D.is_sound S.is_sound machines.new }
+    ensures same { OfStores D.is_clean S.is_clean machines.new → OfStores D.is_sound S.is_sound machines.old → held D.kept S.kept machines.new ≡ held D.kept S.kept machines.old }
+    ensures catalog { machines.new.desk.catalog ≡ machines.old.desk.catalog }
+    ensures rows { (whole : Relations) → OfStores D.is_clean S.is_clean machines.new → OfStores D.is_sound S.is_sound machines.old → AreFit (database (catalogue_of machines.old.desk.catalog)) (held D.kept S.kept machines.old) → AreThoseOf (database (catalogue_of machines.old.desk.catalog)) (held D.kept S.kept machines.old) whole → FitsSchema (schemas_of (catalogue_of machines.old.desk.catalog)) whole
+        → IfOk result (λ shown. option_map (λ rows. rows.items) shown ≡ rows_shown (database (catalogue_of machines.old.desk.catalog)) whole name.now) }
+{
+    let alloc = machines.alloc;
+    let Some(statement) = everything_of(alloc, machines.desk.catalog(), name)? else {
+        return Ok(None);
+    };
+    let answer = answer_settled(machines, &statement)?;
+    Ok(Some(rows_of(alloc, answer)))
+}
