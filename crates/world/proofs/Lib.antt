@@ -11,6 +11,7 @@ pub mod Openings
 pub mod BaseStored
 pub mod BaseWritten
 pub mod BaseLawful
+pub mod Rebuilt
 pub mod BaseSites
 pub mod Shown
 pub mod Told

@@ -1,6 +1,6 @@
 //! Relations, rebuilt from the settled fragments as a SELECT of all their columns.
 
-ghost use Rattle.std.specs.Prelude.{◌≡◌, ℕ, List, map, IfOk, IfSome};
+ghost use Rattle.std.specs.Prelude.{◌≡◌, ℕ, List, [], map, IfOk, IfSome, unwrap_or};
 ghost use Rattle.std.specs.List.{Contains, filter};
 ghost use Rattle.std.specs.Option.{option_map};
 ghost use Rattle.terms.specs.declared.value.Value.{Value};
@@ -26,11 +26,13 @@ ghost use Rattle.world.specs.Machines.{AreFit};
 ghost use Rattle.world.specs.Settled.{AreDecided, AreThoseOf, brought_of, everything, rows_shown};
 
 use crate::fault::Fault;
+use crate::laws::database_is_of_catalogue;
 use crate::machines::Machines;
 use crate::settled::{decided, settled_parts};
 use answers::table::{FetchRows, are_all_parts};
 use answers::work::work;
 use catalog::catalogue::Catalog;
+use catalog::laws::leaf_names_are_unique;
 use meaning::answer::Answer;
 use meaning::schema::{Column, RelationSchema};
 use meaning::statement::{Select, Source, Statement};
@@ -98,6 +100,16 @@ fn meeting(parts: Vec<Part>, conds: &Conds) -> Vec<Part>
     parts
 }
 
+/// These parts, or none.
+fn or_none(alloc: Global, found: Option<Vec<Part>>) -> Vec<Part>
+    ensures { result.items ≡ unwrap_or (option_map (λ parts. parts.items) found) [] }
+{
+    match found {
+        Some(parts) => parts,
+        None => Vec::new(alloc),
+    }
+}
+
 /// What a fetch brings of the settled fragments; nothing of a leaf that the catalogue doesn't have.
 fn bring_one<D: DeskStore, S: SiteStore>(
     machines: &mut Machines<D, S>,
@@ -111,13 +123,11 @@ fn bring_one<D: DeskStore, S: SiteStore>(
     ensures brought { (whole : Relations) → OfStores D.is_clean S.is_clean machines.new → OfStores D.is_sound S.is_sound machines.old → AreFit (database (catalogue_of machines.old.desk.catalog)) (held D.kept S.kept machines.old) → AreThoseOf (database (catalogue_of machines.old.desk.catalog)) (held D.kept S.kept machines.old) whole → AreDecided (held D.kept S.kept machines.old).table decided.now
         → IfOk result (λ rows. rows ≡ brought_of (database (catalogue_of machines.old.desk.catalog)) whole fetch.now) }
 {
-    let leaf = fetch.leaf.copy()?;
-    let parts = match settled_parts(machines, decided, &leaf)? {
-        Some(parts) => meeting(parts, &fetch.conds),
-        None => Vec::new(machines.alloc),
-    };
+    database_is_of_catalogue(machines.desk.catalog());
+    let found = settled_parts(machines, decided, &fetch.leaf)?;
+    let parts = meeting(or_none(machines.alloc, found), &fetch.conds);
     Ok(FetchRows {
-        leaf,
+        leaf: fetch.leaf.copy()?,
         parts: Seq::new(parts),
     })
 }
@@ -196,9 +206,11 @@ fn answer_settled<D: DeskStore, S: SiteStore>(
     ensures answer { (whole : Relations) → OfStores D.is_clean S.is_clean machines.new → OfStores D.is_sound S.is_sound machines.old → AreFit (database (catalogue_of machines.old.desk.catalog)) (held D.kept S.kept machines.old) → AreThoseOf (database (catalogue_of machines.old.desk.catalog)) (held D.kept S.kept machines.old) whole → FitsSchema (schemas_of (catalogue_of machines.old.desk.catalog)) whole
         → IfOk result (λ answer. answer ≡ (meaning statement.now whole).0) }
 {
+    leaf_names_are_unique();
+    database_is_of_catalogue(machines.desk.catalog());
     let alloc = machines.alloc;
     let reduced = planned(alloc, machines.desk.catalog(), statement)?;
-    let decided = decided(alloc, &mut machines.desk)?;
+    let decided = decided(machines)?;
     let brought = bring(machines, decided.as_slice(), fetches(&reduced))?;
     answer(
         alloc,
@@ -214,6 +226,7 @@ fn everything_of(alloc: Global, catalog: &Catalog, name: &Text) -> Result<Option
     ensures statement { IfOk result (λ found. found ≡ option_map (λ relation. statements.Select (everything relation)) (relation_named name.now (schemas_of (catalogue_of catalog.now)))) }
     ensures fits { IfOk result (λ found. IfSome found (IsStatementOf (schemas_of (catalogue_of catalog.now)))) }
 {
+    let _relations = catalog.relations();
     match catalog.schema().relation(name.as_str().as_bytes()) {
         Some(relation) => Ok(Some(Statement::Select(everything(alloc, relation)?))),
         None => Ok(None),

@@ -7,8 +7,8 @@ ghost use Rattle.std.specs.Option.{option_and_then, option_copied, option_map};
 ghost use Rattle.catalog.specs.Relation.{catalogue_of};
 ghost use Rattle.desk.specs.Database.{Database};
 ghost use Rattle.desk.specs.Planned.{site_in};
-ghost use Rattle.desk.specs.State.{Fits, table_of};
 ghost use Rattle.world.specs.Held.{OfStores, held};
+ghost use Rattle.world.specs.Machines.{AreFit};
 ghost use Rattle.world.specs.Seats.{AreSeated, IsSeated};
 ghost use Rattle.world.specs.Seated.{seat_from, seats_in};
 ghost use Rattle.world.specs.Settled.{AreDecided, settled_at, settled_in};
@@ -17,8 +17,6 @@ use crate::fault::Fault;
 use crate::machines::Machines;
 use crate::seats::is_called;
 use catalog::catalogue::Catalog;
-use desk::desk::Desk;
-use desk::refusal::Refusal;
 use site::fault::SiteFault;
 use site::site::Site;
 use std::alloc::Global;
@@ -81,16 +79,17 @@ fn txns_of(alloc: Global, rows: &[CommitRow]) -> Result<Vec<Txn>, Memory>
 }
 
 /// The transactions that have a commit row.
-pub(crate) fn decided<D: DeskStore>(alloc: Global, desk: &mut Desk<D>) -> Result<Vec<Txn>, Refusal>
-    ensures clean { D.is_clean desk.new.store → D.is_clean desk.old.store }
-    ensures sound { D.is_clean desk.new.store → D.is_sound desk.old.store → D.is_sound desk.new.store }
-    ensures all { (db : Database) → D.is_clean desk.new.store → D.is_sound desk.old.store → Fits db (D.kept desk.old.store) (table_of desk.old.present) → IfOk result (λ all. AreDecided (table_of desk.old.present) all.items) }
-    ensures same { D.is_clean desk.new.store → D.is_sound desk.old.store → D.kept desk.new.store ≡ D.kept desk.old.store }
-    ensures memory { desk.new.present ≡ desk.old.present }
-    ensures catalog { desk.new.catalog ≡ desk.old.catalog }
+pub(crate) fn decided<D: DeskStore, S: SiteStore>(
+    machines: &mut Machines<D, S>,
+) -> Result<Vec<Txn>, Fault>
+    ensures clean { OfStores D.is_clean S.is_clean machines.new → OfStores D.is_clean S.is_clean machines.old }
+    ensures sound { OfStores D.is_clean S.is_clean machines.new → OfStores D.is_sound S.is_sound machines.old → OfStores D.is_sound S.is_sound machines.new }
+    ensures all { (db : Database) → OfStores D.is_clean S.is_clean machines.new → OfStores D.is_sound S.is_sound machines.old → AreFit db (held D.kept S.kept machines.old) → IfOk result (λ all. AreDecided (held D.kept S.kept machines.old).table all.items) }
+    ensures same { OfStores D.is_clean S.is_clean machines.new → OfStores D.is_sound S.is_sound machines.old → held D.kept S.kept machines.new ≡ held D.kept S.kept machines.old }
+    ensures catalog { machines.new.desk.catalog ≡ machines.old.desk.catalog }
 {
-    let kept = desk.kept()?;
-    Ok(txns_of(alloc, kept.commits.as_slice())?)
+    let kept = machines.desk.kept()?;
+    Ok(txns_of(machines.alloc, kept.commits.as_slice())?)
 }
 
 /// The site of a leaf, if the catalogue has the leaf.

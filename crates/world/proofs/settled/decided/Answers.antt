@@ -6,8 +6,9 @@ use Rattle.world.proofs.SettledSites.{decided_are}
 use Rattle.world.proofs.settled.decided.Goals as goal
 
 pub returns-clause-all : goal.returns-clause-all
-returns-clause-all g c = λ db clean sound fits.
+returns-clause-all g c = λ db clean sound fit.
     let kept = g.D.DeskStore.kept in
+    let desk = c.args.machines.now.desk in
     let all : c.in_ok-txns_of.field-0.items ≡ map (λ row. row.txn) c.in_ok-kept.kept.commits = c.in_ok-txns_of.ensures ∙ ap (map (λ row. row.txn)) c.as_slice.ensures in
-    subst (AreDecided (table_of c.args.desk.now.present)) (sym all)
-    (decided_are db (kept c.args.desk.now.store) (kept c.kept.new.self.store) (table_of c.args.desk.now.present) c.in_ok-kept.kept fits (c.kept.ensures.same clean sound) (c.in_ok-kept.ensures.all clean))
+    subst (AreDecided (table_of desk.present)) (sym all)
+    (decided_are db (kept desk.store) (kept c.kept.new.self.store) (table_of desk.present) c.in_ok-kept.kept fit.desk (c.kept.ensures.same clean.0 sound.0) (c.in_ok-kept.ensures.all clean.0))

@@ -1,0 +1,50 @@
+-- Why `answer_settled` meets its contract.
+use Rattle.std.proofs.Common.{◌≡◌, ◌∙◌, ℕ, ap, sym, subst, List, map, IfOk}
+use Rattle.meaning.specs.Meaning.{meaning}
+use Rattle.meaning.specs.Statement.{IsStatementOf}
+use Rattle.meaning.specs.Whole.{FitsSchema, Relations}
+use Rattle.catalog.specs.declared.relation.SplitRelation.{SplitRelation}
+use Rattle.catalog.specs.FragmentLeaf.{schemas_of}
+use Rattle.catalog.specs.Relation.{catalogue_of}
+use Rattle.plan.specs.Given.{AreBrought}
+use Rattle.plan.specs.Reduced.{FindsAll}
+use Rattle.plan.specs.Shape.{shape}
+use Rattle.plan.specs.Stated.{AreFetchesOf}
+use Rattle.answers.specs.Table.{given}
+use Rattle.world.specs.Base.{IsBase, database}
+use Rattle.world.specs.Held.{OfStores, held}
+use Rattle.world.specs.Machines.{AreFit, Machines}
+use Rattle.world.specs.Settled.{AreDecided, AreThoseOf, brought_of}
+use Rattle.world.proofs.Moving.{if_ok}
+use Rattle.world.proofs.Rebuilt.{are_all_brought}
+use Rattle.world.proofs.rebuilding.answer_settled.Goals as goal
+
+pub returns-clause-answer : goal.returns-clause-answer
+returns-clause-answer g c = λ whole clean sound fit those fits.
+    let D = g.D.DeskStore in
+    let S = g.S.SiteStore in
+    let of = held D.kept S.kept in
+    let start = c.args.machines.now in
+    let mid = c.decided.new.machines in
+    let now = c.bring.new.machines in
+    let catalogue = catalogue_of start.desk.catalog in
+    let stated = c.args.statement.now in
+    let reduced = c.in_ok-reduced.reduced in
+    let rows = c.as_slice-2.result.now in
+    let decided = c.as_slice.result.now in
+    let fetches = c.fetches.result.now in
+    let clean_mid = c.in_ok-brought.ensures.clean clean in
+    let sound_mid = c.in_ok-decided.ensures.sound clean_mid sound in
+    let base = subst (λ x. IsBase (database (catalogue_of x))) c.catalog.ensures c.database_is_of_catalogue.ensures in
+    let Brings : List (List ℕ) × List SplitRelation → Machines → Type 0 = λ x machines. (whole : Relations) → OfStores D.is_clean S.is_clean now → OfStores D.is_sound S.is_sound mid → AreFit (database (catalogue_of x)) machines → AreThoseOf (database (catalogue_of x)) machines whole →
+    AreDecided machines.table decided → c.in_ok-brought.brought.items ≡ map (brought_of (database (catalogue_of x)) whole) fetches in
+    let brings = subst (Brings start.desk.catalog) (c.in_ok-decided.ensures.same clean_mid sound) (subst (λ x. Brings x (of mid)) c.in_ok-decided.ensures.catalog c.in_ok-brought.ensures.brought) in
+    let are = subst (AreDecided (of start).table) (sym c.as_slice.ensures.value) (c.in_ok-decided.ensures.all (database catalogue) clean_mid sound fit) in
+    let came = c.as_slice-2.ensures.value ∙ brings whole clean sound_mid fit those are ∙ ap (map (brought_of (database catalogue) whole)) c.fetches.ensures in
+    let stated_fetches = subst (λ x. AreFetchesOf (catalogue_of x) stated reduced.fetches.items) c.catalog-2.ensures c.in_ok-reduced.ensures.fetches in
+    let finds = subst (λ x. FindsAll (catalogue_of x) stated reduced.fetches.items (shape reduced.plan)) c.catalog-2.ensures c.in_ok-reduced.ensures.finds in
+    let brought = are_all_brought catalogue base c.leaf_names_are_unique.ensures stated reduced whole c.requires stated_fetches finds fits rows came in
+    let Answers : List (List ℕ) × List SplitRelation → Type 0 = λ x. IsStatementOf (schemas_of (catalogue_of x)) stated → AreFetchesOf (catalogue_of x) stated reduced.fetches.items → FindsAll (catalogue_of x) stated reduced.fetches.items (shape reduced.plan) →
+    IfOk c.answer.result (λ answer. (whole : Relations) → FitsSchema (schemas_of (catalogue_of x)) whole → AreBrought (catalogue_of x) whole reduced.fetches.items (given rows) → answer ≡ (meaning stated whole).0) in
+    let answers = subst Answers (c.catalog-3.ensures ∙ c.in_ok-brought.ensures.catalog ∙ c.in_ok-decided.ensures.catalog) c.answer.ensures in
+    if_ok c.answer.result (λ answer is. is whole fits brought) (answers c.requires stated_fetches finds)
