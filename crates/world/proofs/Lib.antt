@@ -21,6 +21,7 @@ pub mod Running
 pub mod Heard
 pub mod BaseOpened
 pub mod InTurn
+pub mod InSerial
 pub mod Follow
 pub mod Deliveries
 pub mod Reaching

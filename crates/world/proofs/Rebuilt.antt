@@ -1,8 +1,8 @@
 -- What the settled fragments bring to the SELECT of all columns of a relation, and what it answers.
-use Rattle.std.proofs.Common.{◌≡◌, ◌<◌, ◌≤◌, refl, sym, ap, ap₂, ◌∙◌, subst, ℕ, zero, suc, ◌+◌, nat_eq, Bool, true, false, ◌||◌, List, [], ◌∷◌, ◌++◌, map, filter, length, Option, Some, None, unwrap_or, option_map, if◌then◌else◌, arith}
+use Rattle.std.proofs.Common.{◌≡◌, ◌<◌, ◌≤◌, refl, sym, ap, ap₂, ◌∙◌, subst, ℕ, zero, suc, ◌+◌, nat_eq, Bool, true, false, ◌||◌, List, [], ◌∷◌, map, filter, length, Option, Some, None, unwrap_or, option_map, arith}
 use Rattle.std.specs.Cmp.Lexicographic.{pointwise}
 use Rattle.std.specs.FinMap as fin
-use Rattle.std.specs.List.{AllByRecursion, filter_map, list_any, range_with_len, slice_get}
+use Rattle.std.specs.List.{AllByRecursion, list_any, range_with_len, slice_get}
 use Rattle.std.specs.Option.{option_and_then}
 use Rattle.std.proofs.lemmas.List.{length-append, length-map}
 use Rattle.std.proofs.lemmas.List.FromFn.{length-range_with_len}
@@ -20,7 +20,7 @@ use Rattle.meaning.specs.declared.statement.Statement.TheVariants as statement
 use Rattle.meaning.specs.Listed.{listed}
 use Rattle.meaning.specs.Meaning.{meaning}
 use Rattle.meaning.specs.Schema.{kinds_of, names_of, relation_named}
-use Rattle.meaning.specs.Statement.{IsSelectOf, IsStatementOf}
+use Rattle.meaning.specs.Statement.{IsStatementOf}
 use Rattle.meaning.specs.Whole.{FitsSchema, Relations, rows_of}
 use Rattle.meaning.proofs.ListedLemmas.{listed_all}
 use Rattle.catalog.specs.declared.fragment_leaf.FragmentLeaf.{FragmentLeaf}
@@ -41,20 +41,19 @@ use Rattle.answers.specs.declared.table.FetchRows.{FetchRows}
 use Rattle.answers.specs.Table.{given}
 use Rattle.store.specs.declared.name.Txn.{Txn}
 use Rattle.store.specs.Content.{Content, parts}
-use Rattle.protocol.specs.Serial.{Gives, settled}
+use Rattle.protocol.specs.Serial.{Gives}
 use Rattle.protocol.proofs.Basics.{some_is}
 use Rattle.desk.specs.declared.ask.Ask.{Ask}
 use Rattle.desk.specs.Brought.{brought}
 use Rattle.desk.specs.Database.{Database, language, statements}
-use Rattle.desk.specs.OfCatalogue.{IsOfCatalogue}
 use Rattle.desk.specs.Planned.{IsOfPlan, asked, fetched, site_in}
 use Rattle.desk.specs.Standing.{ask_of}
 use Rattle.desk.proofs.AtHomes.{found_so}
 use Rattle.desk.proofs.Explaining.{are_brought}
 use Rattle.world.specs.Base.{IsBase, content_of, database, found, site_of}
-use Rattle.world.specs.Machines.{AreFit, Machines, world_of}
+use Rattle.world.specs.Machines.{AreFit, Machines}
 use Rattle.world.specs.Seats.{Seat, seat_of, states_of}
-use Rattle.world.specs.Settled.{AreDecided, AreThoseOf, brought_of, everything, parts_kept, rows_shown, settled_at, settled_in}
+use Rattle.world.specs.Settled.{AreDecided, AreThoseOf, brought_of, everything, parts_kept, settled_at, settled_in}
 use Rattle.world.proofs.BaseLawful.{site_there}
 use Rattle.world.proofs.BaseStored.{values_stored}
 use Rattle.world.proofs.Seating.{name_is, name_self, seat_there}
@@ -95,7 +94,7 @@ module _ (catalogue : Catalogue) (formed : IsFormed catalogue) where
         settled_in decided leaf one.0,
         settled_so,
         so ∙ ap (option_and_then (λ place. option_map (λ content. fin.values content) (settled_at decided leaf machines.seats place))) (ap (option_and_then (λ (l : FragmentLeaf). slice_get catalogue.sites l.site)) is ∙ homed leaf there is)
-        ∙ ap (option_map (λ (content : Content). fin.values content)) settled_so,
+            ∙ ap (option_map (λ (content : Content). fin.values content)) settled_so,
       )
 
   not_there : (machines : Machines) (decided : List Txn) (leaf : Leaf) (shown : Option (List (List Value))) → leaf_named leaf (catalogue_leaves catalogue) ≡ None → Found machines decided leaf shown → shown ≡ None

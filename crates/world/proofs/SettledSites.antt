@@ -1,6 +1,5 @@
 -- The settled fragments of the machines are those of the protocol's world.
-use Rattle.std.proofs.Common.{◌≡◌, refl, sym, ap, ◌∙◌, subst, ℕ, Bool, true, false, ◌||◌, List, [], ◌∷◌, map, Option, Some, None, is_some, if◌then◌else◌, option_map}
-use Rattle.std.specs.List.{list_any}
+use Rattle.std.proofs.Common.{◌≡◌, refl, sym, ap, ◌∙◌, ℕ, Bool, true, false, ◌||◌, List, [], ◌∷◌, map, Option, Some, None, is_some, if◌then◌else◌, option_map}
 use Rattle.terms.specs.declared.leaf.Leaf.{Leaf}
 use Rattle.store.specs.declared.commit.CommitRow.{CommitRow}
 use Rattle.store.specs.declared.commit.DeskKept.{DeskKept}
@@ -10,9 +9,7 @@ use Rattle.store.specs.declared.prepared.Prepared.{Prepared}
 use Rattle.store.specs.Content.{Content, changed}
 use Rattle.store.specs.DeskContent as of_desk
 use Rattle.store.specs.SiteContent as of_site
-use Rattle.protocol.specs.Desk as protocol
-use Rattle.protocol.specs.Letters.{name_of, txn_name}
-use Rattle.protocol.specs.Local.{local}
+use Rattle.protocol.specs.Letters.{name_of}
 use Rattle.protocol.specs.Serial as serial
 use Rattle.protocol.specs.Site as protocol_site
 use Rattle.protocol.specs.Statements.{status_with}
@@ -20,7 +17,7 @@ use Rattle.protocol.proofs.Basics.{some_is}
 use Rattle.site.specs.declared.site.Site.{Site}
 use Rattle.site.specs.declared.standing.Standing as site_standings
 use Rattle.site.specs.declared.standing.Standing.TheVariants as at_site
-use Rattle.site.specs.Settled.{is_among, is_txn, with_all, with_row, with_some}
+use Rattle.site.specs.Settled.{is_among, with_all, with_some}
 use Rattle.site.specs.Starting.{leaves_in}
 use Rattle.site.specs.State as site_state
 use Rattle.desk.specs.declared.standing.Standing as desk_standings

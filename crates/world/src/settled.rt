@@ -7,11 +7,12 @@ ghost use Rattle.std.specs.Option.{option_and_then, option_copied, option_map};
 ghost use Rattle.catalog.specs.Relation.{catalogue_of};
 ghost use Rattle.desk.specs.Database.{Database};
 ghost use Rattle.desk.specs.Planned.{site_in};
+ghost use Rattle.world.specs.Base.{database};
 ghost use Rattle.world.specs.Held.{OfStores, held};
 ghost use Rattle.world.specs.Machines.{AreFit};
 ghost use Rattle.world.specs.Seats.{AreSeated, IsSeated};
 ghost use Rattle.world.specs.Seated.{seat_from, seats_in};
-ghost use Rattle.world.specs.Settled.{AreDecided, settled_at, settled_in};
+ghost use Rattle.world.specs.Settled.{AreDecided, parts_kept, settled_at, settled_in};
 
 use crate::fault::Fault;
 use crate::machines::Machines;
@@ -121,4 +122,20 @@ pub(crate) fn settled_parts<D: DeskStore, S: SiteStore>(
         Ok(parts) => Ok(Some(parts)),
         Err(fault) => Err(Fault::Site(fault)),
     }
+}
+
+/// The parts that are kept of a leaf, by key. None of a leaf that the catalogue doesn't have.
+pub(crate) fn kept_parts<D: DeskStore, S: SiteStore>(
+    machines: &mut Machines<D, S>,
+    leaf: &Leaf,
+) -> Result<Option<Vec<Part>>, Fault>
+    ensures clean { OfStores D.is_clean S.is_clean machines.new → OfStores D.is_clean S.is_clean machines.old }
+    ensures sound { OfStores D.is_clean S.is_clean machines.new → OfStores D.is_sound S.is_sound machines.old → OfStores D.is_sound S.is_sound machines.new }
+    ensures parts { OfStores D.is_clean S.is_clean machines.new → OfStores D.is_sound S.is_sound machines.old → AreFit (database (catalogue_of machines.old.desk.catalog)) (held D.kept S.kept machines.old)
+        → IfOk result (λ shown. option_map (λ parts. parts.items) shown ≡ parts_kept (database (catalogue_of machines.old.desk.catalog)) (held D.kept S.kept machines.old) leaf.now) }
+    ensures same { OfStores D.is_clean S.is_clean machines.new → OfStores D.is_sound S.is_sound machines.old → held D.kept S.kept machines.new ≡ held D.kept S.kept machines.old }
+    ensures catalog { machines.new.desk.catalog ≡ machines.old.desk.catalog }
+{
+    let _relations = machines.desk.catalog().relations();
+    settled_parts(machines, &[], leaf)
 }

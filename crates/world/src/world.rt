@@ -31,12 +31,12 @@ use crate::event::{Entry, Event};
 use crate::fault::Fault;
 use crate::happening::happen;
 use crate::history::{Committed, committed_in};
-use crate::laws::{database_is_of_catalogue, runs_are_serial};
+use crate::laws::{database_is_of_catalogue, language_is_lawful, runs_are_serial};
 use crate::machines::Machines;
 use crate::opening::start;
 use crate::posted::letter_at;
 use crate::rebuilding::rebuilt;
-use crate::settled::settled_parts;
+use crate::settled::kept_parts;
 use catalog::catalogue::Catalog;
 use desk::refusal::Refusal;
 use meaning::whole::Whole;
@@ -198,7 +198,7 @@ impl<D: DeskStore, S: SiteStore> World<D, S> {
         ensures entries { self.new.entries ≡ self.old.entries }
         ensures catalog { self.new.machines.desk.catalog ≡ self.old.machines.desk.catalog }
     {
-        settled_parts(&mut self.machines, &[], leaf)
+        kept_parts(&mut self.machines, leaf)
     }
 
     /// The rows of a relation, by their keys, as the fragments rebuild it with the intentions of committed
@@ -219,6 +219,7 @@ impl<D: DeskStore, S: SiteStore> World<D, S> {
         ensures catalog { self.new.machines.desk.catalog ≡ self.old.machines.desk.catalog }
     {
         runs_are_serial(self.machines.desk.catalog());
+        language_is_lawful(self.machines.desk.catalog());
         rebuilt(&mut self.machines, relation)
     }
 

@@ -1,0 +1,54 @@
+-- The relations that a serial run makes, and what is shown of them.
+use Rattle.std.proofs.Common.{◌≡◌, ℕ, List, [], ◌∷◌, map, Option, Result, Ok, Err, IfOk}
+use Rattle.std.specs.List.{AllByRecursion}
+use Rattle.terms.specs.declared.value.Value.{Value}
+use Rattle.meaning.specs.declared.statement.Statement.{Statement}
+use Rattle.meaning.specs.Statement.{IsStatementOf}
+use Rattle.meaning.specs.Whole.{FitsSchema, Relations}
+use Rattle.reader.specs.declared.command.Command.TheVariants as command
+use Rattle.reader.proofs.FitsCommand.{text_fits}
+use Rattle.store.specs.declared.name.Txn.{Txn}
+use Rattle.protocol.specs.Desk.{Deed}
+use Rattle.protocol.specs.Language.{IsLawful}
+use Rattle.protocol.specs.Serial.{serial_whole, whole_after}
+use Rattle.desk.specs.Database.{Database, language}
+use Rattle.world.specs.declared.event.Entry.{Entry}
+use Rattle.world.specs.Machines.{Machines}
+use Rattle.world.specs.Runs.{AreTexts, IsRun, RunsAreSerial}
+use Rattle.world.specs.Settled.{AreThoseOf, ShowsSerial, rows_shown}
+use Rattle.world.specs.Telling.{committed_in, texts_of}
+
+module _ (db : Database) (lawful : IsLawful (language db)) where
+  -- what texts say are statements of the schema
+  statements_fit : (texts : List (List ℕ)) (statements : List Statement) → AreTexts db texts statements → AllByRecursion (IsStatementOf db.schemas) statements
+  statements_fit [] [] spelled = tt
+  statements_fit [] (s ∷ statements) spelled = absurd spelled
+  statements_fit (text ∷ texts) [] spelled = absurd spelled
+  statements_fit (text ∷ texts) (s ∷ statements) spelled = (text_fits db.schemas text (command.Run s) spelled.0, statements_fit texts statements spelled.1)
+
+  -- they lead from whole relations to whole relations, one after another
+  after_fits : (statements : List Statement) (whole : Relations) → AllByRecursion (IsStatementOf db.schemas) statements → FitsSchema db.schemas whole → FitsSchema db.schemas (whole_after (language db) statements whole)
+  after_fits [] whole all fits = fits
+  after_fits (s ∷ statements) whole all fits = after_fits statements _ all.1 (lawful.keeps_whole s whole all.0 fits)
+
+  serial_fits : (txns : List Txn) (texts : Txn → List (List ℕ)) (statements : Txn → List Statement) (whole : Relations) → ((txn : Txn) → AreTexts db (texts txn) (statements txn)) → FitsSchema db.schemas whole →
+      FitsSchema db.schemas (serial_whole (language db) (map statements txns) whole)
+  serial_fits [] texts statements whole spelled fits = fits
+  serial_fits (txn ∷ txns) texts statements whole spelled fits = serial_fits txns texts statements _ spelled (after_fits (statements txn) whole (statements_fit (texts txn) (statements txn) (spelled txn)) fits)
+
+  -- what is shown of each whole database that the fragments come to is shown of that of the serial run
+  pub shows_serial : (whole : Relations) (machines : Machines) (entries : List Entry) (past : List (Deed (language db))) (name : List ℕ) (shown : Option (List (List Value))) → RunsAreSerial db → IsRun db whole machines entries past →
+      ((after : Relations) → AreThoseOf db machines after → FitsSchema db.schemas after → shown ≡ rows_shown db after name) → ShowsSerial db whole entries name shown
+  shows_serial whole machines entries past name shown serial run shows =
+      let so = serial whole machines entries past run in
+      record {
+        statements = so.statements;
+        spelled = so.spelled;
+        rows = shows (serial_whole (language db) (map so.statements (committed_in entries)) whole) so.rebuilt (serial_fits (committed_in entries) (texts_of entries) so.statements whole so.spelled run.opens.is_whole);
+      }
+
+  -- so of what a call shows, where it shows something
+  pub serial_shown : {T E : Type 0} (result : Result T E) (items : T → Option (List (List Value))) (whole : Relations) (machines : Machines) (entries : List Entry) (past : List (Deed (language db))) (name : List ℕ) → RunsAreSerial db → IsRun db whole machines entries past →
+      ((after : Relations) → AreThoseOf db machines after → FitsSchema db.schemas after → IfOk result (λ shown. items shown ≡ rows_shown db after name)) → IfOk result (λ shown. ShowsSerial db whole entries name (items shown))
+  serial_shown (Ok shown) items whole machines entries past name serial run shows = shows_serial whole machines entries past name (items shown) serial run shows
+  serial_shown (Err fault) items whole machines entries past name serial run shows = tt
