@@ -15,7 +15,7 @@ pub mod Rebuilt
 pub mod BaseSites
 pub mod Shown
 pub mod Told
-pub mod LettersAt
+pub mod Numbered
 pub mod Refusing
 pub mod Running
 pub mod Heard
