@@ -227,7 +227,7 @@ fn ballot_of(standing: &Standing, count: u64) -> Ballot
         Standing::Alive(visit) => {
             if visit.done != count {
                 Ballot::Ends(Vote::No)
-            } else if visit.changes.len() == 0 {
+            } else if visit.changes.is_empty() {
                 Ballot::Ends(Vote::Read)
             } else {
                 Ballot::Keeps
