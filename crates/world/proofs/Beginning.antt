@@ -18,7 +18,7 @@ use Rattle.world.specs.Machines.{Machines, world_of}
 use Rattle.world.specs.Serving.{DoesBegin}
 
 -- where no letter waits none comes
-all_silent : {L : Lang} (cs : List (Coming L)) (w : World L) → w.letters ≡ [] → all_come cs w ≡ w
+pub all_silent : {L : Lang} (cs : List (Coming L)) (w : World L) → w.letters ≡ [] → all_come cs w ≡ w
 all_silent [] w e = refl
 all_silent (c ∷ cs) w e = ap (all_come cs) (ap (first_comes w c) e) ∙ all_silent cs w e
 

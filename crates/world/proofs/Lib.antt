@@ -23,3 +23,4 @@ pub mod Follow
 pub mod Deliveries
 pub mod Reaching
 pub mod Beginning
+pub mod Smoothly

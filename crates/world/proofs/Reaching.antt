@@ -77,7 +77,7 @@ module _ {L : Lang} where
 
 -- ---- machines that serve
 module _ (db : Database) (law : ReachedLaw (language db)) (whole : Relations) where
-  asked_reached : (w : World (language db)) (ask : Ask (language db)) → IsReached whole w → AllExplained (asked ask w).past → IsReached whole (asked ask w)
+  pub asked_reached : (w : World (language db)) (ask : Ask (language db)) → IsReached whole w → AllExplained (asked ask w).past → IsReached whole (asked ask w)
   asked_reached w To_begin reached all = law.begun whole w reached
   asked_reached w (To_do t request choice) reached all = law.asked whole w t choice request reached all
 

@@ -20,3 +20,4 @@ pub mod Delivering
 pub mod Taking
 pub mod Serving
 pub mod Stopping
+pub mod Smoothly
