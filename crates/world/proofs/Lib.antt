@@ -20,6 +20,7 @@ pub mod Heard
 pub mod BaseOpened
 pub mod InTurn
 pub mod Follow
+pub mod Reasoned
 pub mod Deliveries
 pub mod Reaching
 pub mod Beginning

@@ -17,6 +17,7 @@ pub mod Following
 pub mod Happening
 pub mod Base
 pub mod Delivering
+pub mod Reasons
 pub mod Taking
 pub mod Serving
 pub mod Stopping

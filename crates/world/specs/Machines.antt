@@ -1,5 +1,5 @@
 -- The machines of a database together, as the protocol's world.
-use Rattle.std.specs.Prelude.{◌≡◌, ℕ, nat_eq, Bool, true, false, List, ◌++◌, map, None}
+use Rattle.std.specs.Prelude.{◌≡◌, ℕ, nat_eq, Bool, true, false, List, [], ◌++◌, map, None}
 use Rattle.std.specs.Cmp.Lexicographic.{pointwise}
 use Rattle.std.specs.List.{filter_map, list_any}
 use Rattle.meaning.specs.declared.statement.Statement.{Statement}
@@ -10,6 +10,7 @@ use Rattle.store.specs.declared.letter.Body.TheVariants as body
 use Rattle.store.specs.declared.letter.Letter as letters
 use Rattle.store.specs.declared.name.Txn.{Txn}
 use Rattle.store.specs.DeskContent.{DeskContent}
+use Rattle.protocol.specs.Course.{passes}
 use Rattle.protocol.specs.Desk.{Choice, Deed, Request, State, is_desk_within, on_request, refusal}
 use Rattle.protocol.specs.Letter.{Letter}
 use Rattle.protocol.specs.Serial.{AllExplained}
@@ -89,9 +90,10 @@ pub record Stated (db : Database) (txn : Txn) (text : List ℕ) (before after : 
   pub spelled : IsTextOf db.schemas text (command.Run statement)
   pub asked : Asked db txn choice (State statement) before after out notices
 
--- a letter comes to the machine that it is for; kept: whether the store call that it makes is kept
+-- a letter comes to the machine that it is for, and its step is within the limits; kept: whether the store call that it makes is kept
 pub record Came (db : Database) (letter : letters.Letter) (kept : Bool) (before after : Machines) (out : List letters.Letter) (notices : List Notice) : Type 0 where
   pub choice : Choice (language db)
+  pub within : passes (world_of db before [] []) kept choice (sent db letter) ≡ true
   pub leads : Leads db (λ w. comes w kept choice (sent db letter)) before after out notices
 
 -- a letter is to or from a site of the database
