@@ -25,3 +25,4 @@ pub mod Deliveries
 pub mod Reaching
 pub mod Beginning
 pub mod Smoothly
+pub mod BaseHoused

@@ -1,8 +1,6 @@
 //! The laws of the protocol, of the language of each catalogue's database: each as the contract of a function
 //! that changes nothing.
 
-ghost use Rattle.std.specs.Prelude.{Bool};
-ghost use Rattle.terms.specs.declared.leaf.Leaf.{Leaf};
 ghost use Rattle.catalog.specs.Catalogue.{Catalogue};
 ghost use Rattle.catalog.specs.Relation.{catalogue_of};
 ghost use Rattle.protocol.specs.Client.{ReachedLaw, RoundsLaw};
@@ -12,11 +10,9 @@ ghost use Rattle.protocol.specs.Language.{IsLawful};
 ghost use Rattle.protocol.specs.OneClient.{OneAtATime};
 ghost use Rattle.protocol.specs.Rounds.{RoundByLetter};
 ghost use Rattle.protocol.specs.Serial.{SerialLaw};
-ghost use Rattle.protocol.specs.Smooth.{IsHoused};
 ghost use Rattle.protocol.specs.Whole.{AppliedWholeAndOnce};
-ghost use Rattle.store.specs.Content.{Content};
 ghost use Rattle.desk.specs.Database.{language};
-ghost use Rattle.world.specs.Base.{IsBase, database};
+ghost use Rattle.world.specs.Base.{IsBase, database, fits};
 ghost use Rattle.world.specs.Runs.{RunsAreSerial};
 ghost use Rattle.world.specs.Serving.{ServedIsSerial};
 ghost use Rattle.world.specs.Smoothly.{ServesSmoothly};
@@ -125,8 +121,10 @@ pub fn served_is_serial(catalog: &Catalog)
 /// A client's database whose letters all come smoothly: a transaction that begins where all is quiet is ready,
 /// each statement of a ready one is answered, and the commit of a ready one is told, after which all is quiet.
 pub fn served_smoothly(catalog: &Catalog)
-    ensures { (fits : Leaf → Content → Bool) → IsHoused (language (database (catalogue_of catalog.now))) fits → ServesSmoothly (database (catalogue_of catalog.now)) fits }
+    ensures { ServesSmoothly (database (catalogue_of catalog.now)) (fits (catalogue_of catalog.now)) }
 {
     catalog.relations();
+    leaf_names_are_unique();
+    contents_ascend();
     language_is_lawful(catalog);
 }
