@@ -25,7 +25,7 @@ use Rattle.world.specs.declared.fault.Fault.TheVariants as faults
 use Rattle.world.specs.Delivering.{Ask, Breaks, Coming, Fails, Goes, Passed_over, Scene, Serves, Taken, Turned_away, all_come, asked, at_rest, come, done_with, settled}
 use Rattle.world.specs.Machines.{AreFit, Leads, Machines, world_of}
 use Rattle.world.specs.Taking.{IsDone, IsInRound, put_out_by, stop_of, world_at}
-use Rattle.world.specs.Reasons.{HasReason, IsAstray, IsAtLimit}
+use Rattle.world.specs.Reasons.{AllFounded, FirstIsFounded, HasReason, IsAstray, IsAtLimit}
 use Rattle.world.specs.Stopping.{is_stop}
 use Rattle.world.proofs.Reasoned.{limit_ranks}
 use Rattle.world.proofs.Running.{all_both}
@@ -34,6 +34,10 @@ pub all_come_append : {L : Lang} (one other : List (Coming L)) (w : World L) →
 all_come_append [] other w = refl
 all_come_append (c ∷ one) other w = all_come_append one other (come w c)
 
+founded_append : (db : Database) (one other : List (Coming (language db))) (w : World (language db)) → AllFounded db one w → AllFounded db other (all_come one w) → AllFounded db (one ++ other) w
+founded_append db [] other w first second = second
+founded_append db (c ∷ one) other w first second = (first.0, founded_append db one other (come w c) first.1 second)
+
 -- no letter comes
 pub nothing_goes : (db : Database) (here : Scene) → AreFit db here.machines → Goes db (λ w. w) here here
 nothing_goes db here fit = record {
@@ -41,6 +45,7 @@ nothing_goes db here fit = record {
   deeds = [];
   fit = fit;
   is = λ past. ap (world_of db here.machines (map (sent db) here.waiting)) (sym (append-nil past));
+  founded = λ past. tt;
   explained = tt;
   replies = sym (append-nil (map notice_of here.heard));
 }
@@ -67,6 +72,7 @@ module _ (db : Database) (step : World (language db) → World (language db)) (f
         ∙ ap (all_come other.comings) (one.is past)
         ∙ other.is (past ++ one.deeds)
         ∙ ap (world_of db third.machines (map (sent db) third.waiting)) (append_assoc past one.deeds other.deeds);
+    founded = λ past. founded_append db one.comings other.comings (step (world_of db first.machines (map (sent db) first.waiting) past)) (one.founded past) (subst (AllFounded db other.comings) (sym (one.is past)) (other.founded (past ++ one.deeds)));
     explained = all_both Explained one.deeds other.deeds one.explained other.explained;
     replies = other.replies
         ∙ ap (λ heard. heard ++ filter_map (told db) other.deeds) one.replies
@@ -117,6 +123,11 @@ module _ (db : Database) (letter : letters.Letter) (here : Scene) (after : Machi
     deeds = done.leads.deeds;
     fit = subst (AreFit db) (sym machines) done.leads.fit;
     is = λ past. is_next past ∙ (λ i. world_of db (sym machines i) (map (sent db) (sym waiting i)) (past ++ done.leads.deeds));
+    founded = λ past. (
+      subst (λ (waiting : List letters.Letter). FirstIsFounded db (world_of db here.machines (map (sent db) waiting) past) done.coming (map (sent db) waiting)) (sym in_front)
+          (record { machines = here.machines; letter = letter; desk = refl; sites = refl; is = refl; reason = done.reason }),
+      tt,
+    );
     explained = done.leads.explained;
     replies = ap (map notice_of) heard ∙ map-append notice_of here.heard notices ∙ ap (λ more. map notice_of here.heard ++ more) done.leads.replies;
   }
@@ -159,6 +170,7 @@ module _ (db : Database) (ask : Ask (language db)) (before mid : Machines) (out 
     deeds = leads.deeds;
     fit = leads.fit;
     is = λ past. leads.is [] past;
+    founded = λ past. tt;
     explained = leads.explained;
     replies = leads.replies;
   }

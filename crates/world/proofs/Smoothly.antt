@@ -1,5 +1,5 @@
 -- What served machines do where all letters come smoothly.
-use Rattle.std.proofs.Common.{◌≡◌, refl, sym, ap, ◌∙◌, subst, ℕ, Bool, true, false, List, [], ◌∷◌, ◌++◌, map, if◌then◌else◌}
+use Rattle.std.proofs.Common.{◌≡◌, refl, sym, ap, ◌∙◌, subst, ℕ, Bool, true, false, List, [], ◌∷◌, ◌++◌, map, if◌then◌else◌, ◌⊎◌, inl, inr, ⊎_elim}
 use Rattle.std.specs.List.{filter_map}
 use Rattle.terms.specs.declared.leaf.Leaf.{Leaf}
 use Rattle.store.specs.Content.{Content}
@@ -9,11 +9,14 @@ use Rattle.protocol.specs.Committing.{Committing}
 use Rattle.protocol.specs.Desk.{Choice, Commit_call, Committed, Deed, Phased, State, desk_began, is_desk_within, next_txn}
 use Rattle.protocol.specs.Language.{IsLawful, Name}
 use Rattle.protocol.specs.Leaving.{Within}
-use Rattle.protocol.specs.Letter.{Letter}
+use Rattle.protocol.specs.Course.{Room, passes, passes_to}
+use Rattle.protocol.specs.Letter.{Body, Letter, Open, Fetch, Write, Prepare, Commit, Abort, Ticket, Rows, Refused, Voted, Ack, Inquire, is_for_desk}
+use Rattle.protocol.specs.Site.{Alive, Dead, Prepared, SiteState, Status, Visit}
 use Rattle.protocol.specs.Serial.{AllExplained, Explained}
 use Rattle.protocol.specs.Smooth.{InCourse, IsHoused, Ready, SmoothLaw}
 use Rattle.protocol.specs.World.{World, begins, begun, called}
-use Rattle.protocol.proofs.Basics.{if_true}
+use Rattle.protocol.proofs.Basics.{by_test, if_true}
+use Rattle.protocol.proofs.Data.{visit_is}
 use Rattle.protocol.proofs.Limits.{called_within, next_within}
 use Rattle.protocol.proofs.Locks.{Once}
 use Rattle.protocol.proofs.Reached.{reached_law}
@@ -22,14 +25,15 @@ use Rattle.protocol.proofs.OtherStatements.{within_same}
 use Rattle.site.specs.State.{state_of}
 use Rattle.site.proofs.Limited.{fits_within}
 use Rattle.desk.specs.declared.reply.Notice.{Notice}
-use Rattle.desk.specs.Database.{Database, language, statements}
+use Rattle.desk.specs.Database.{Database, language, sent, statements}
 use Rattle.desk.specs.State.{desk_of, notice_of}
 use Rattle.desk.specs.Turn.{told}
 use Rattle.world.specs.Delivering.{Ask, Coming, Passed_over, Serves, Taken, To_begin, To_do, Turned_away, all_come, asked, come, first_comes}
 use Rattle.world.specs.Machines.{AreFit, Machines, world_of}
 use Rattle.world.specs.Seats.{AreSeated, Seat, is_called, state_at, states_of}
 use Rattle.world.specs.Serving.{IsServed}
-use Rattle.world.specs.Smoothly.{AllSmooth, FirstIsSmooth, ServesSmoothly, rests}
+use Rattle.world.specs.Reasons.{AllFounded, FirstIsFounded, IsFounded}
+use Rattle.world.specs.Smoothly.{FindsNoRoom, FirstIsRefused, IsRefused, IsSmooth, ServesUnlessRefused, SomeRefused, AllSmooth, FirstIsSmooth, ServesSmoothly, rests}
 use Rattle.world.proofs.Beginning.{all_silent}
 use Rattle.world.proofs.Reaching.{all_explained, all_reached, asked_reached}
 use Rattle.world.proofs.Running.{all_both}
@@ -138,4 +142,61 @@ serves_smoothly db fits law once housed = record {
   commits = λ whole before after past txn choice heard served ready serves smooth_.
       let done = committed db fits law once housed whole before after past heard served txn choice ready serves smooth_ in
       (done.0, heard_of db fits law once housed whole before after past heard served (To_do txn Commit_call choice) serves _ done.1);
+}
+
+-- ---- each letter comes smoothly, or something is refused
+module _ (db : Database) where
+  room_or_full : (s : SiteState (language db)) (body : Body (language db)) → Room s body ⊎ FindsNoRoom db s body
+  room_or_full s (Write ticket op leaf write) = go (s.status ticket) refl
+    where
+      go : (status : Status (language db)) → s.status ticket ≡ status → ((v : Visit (language db)) → s.status ticket ≡ Alive v → (language db).is_full leaf write v.changes ≡ false) ⊎ ((v : Visit (language db)) × ((s.status ticket ≡ Alive v) × ((language db).is_full leaf write v.changes ≡ true)))
+      go Dead is = inl (λ v alive. let e = sym is ∙ alive in cc)
+      go (Prepared t i) is = inl (λ v alive. let e = sym is ∙ alive in cc)
+      go (Alive x) is = ⊎_elim (λ full. inr (x, (is, full))) (λ room. inl (λ v alive. ap (λ (y : Visit (language db)). (language db).is_full leaf write y.changes) (visit_is v x (sym alive ∙ is)) ∙ room)) (by_test ((language db).is_full leaf write x.changes))
+  room_or_full s Open = inl tt
+  room_or_full s (Fetch k op g q) = inl tt
+  room_or_full s (Prepare k n) = inl tt
+  room_or_full s (Commit k) = inl tt
+  room_or_full s (Abort k) = inl tt
+  room_or_full s (Ticket k) = inl tt
+  room_or_full s (Rows k n rows) = inl tt
+  room_or_full s (Refused k reason) = inl tt
+  room_or_full s (Voted k vote) = inl tt
+  room_or_full s (Ack k) = inl tt
+  room_or_full s (Inquire k) = inl tt
+
+  -- a step within the limits, as the world has it: what waits and what happened doesn't matter
+  same_passes : (b : Bool) (w : World (language db)) (choice : Choice (language db)) (l : Letter (language db)) → passes_to b w true choice l ≡ passes_to b (record w { letters = []; past = [] }) true choice l
+  same_passes true w choice l = refl
+  same_passes false w choice l = refl
+
+  passes_there : (w : World (language db)) (choice : Choice (language db)) (l : Letter (language db)) → IsFounded db w (Taken true choice) l → passes w true choice l ≡ true
+  passes_there w choice l founded =
+      let there : passes (record w { letters = []; past = [] }) true choice l ≡ passes (world_of db founded.machines [] []) true choice (sent db founded.letter) = λ i. passes (record { desk = founded.desk i; sites = founded.sites i; letters = []; past = [] }) true choice (founded.is i) in
+      same_passes (is_for_desk l.body) w choice l ∙ there ∙ founded.reason
+
+  one_smooth : (w : World (language db)) (c : Coming (language db)) (l : Letter (language db)) → IsFounded db w c l → IsSmooth db w c l ⊎ IsRefused db w c l
+  one_smooth w (Taken true choice) l founded = ⊎_elim (λ room. inl (record { is_kept = refl; within = passes_there w choice l founded; room = room })) (λ full. inr full) (room_or_full (w.sites l.site) l.body)
+  one_smooth w (Taken false choice) l founded = inr founded
+  one_smooth w (Turned_away choice) l founded = inr founded
+  one_smooth w Passed_over l founded = inr founded
+
+  first_smooth : (w : World (language db)) (c : Coming (language db)) (letters : List (Letter (language db))) → FirstIsFounded db w c letters → FirstIsSmooth db w c letters ⊎ FirstIsRefused db w c letters
+  first_smooth w c [] founded = inl tt
+  first_smooth w c (l ∷ q) founded = one_smooth w c l founded
+
+  all_smooth : (cs : List (Coming (language db))) (w : World (language db)) → AllFounded db cs w → AllSmooth db cs w ⊎ SomeRefused db cs w
+  all_smooth [] w founded = inl tt
+  all_smooth (c ∷ cs) w founded = ⊎_elim
+      (λ smooth. ⊎_elim (λ rest. inl (smooth, rest)) (λ refused. inr (inr refused)) (all_smooth cs (come w c) founded.1))
+      (λ refused. inr (inl refused)) (first_smooth w c w.letters founded.0)
+
+pub serves_unless_refused : (db : Database) (fits : Leaf → Content → Bool) → ServesSmoothly db fits → ServesUnlessRefused db fits
+serves_unless_refused db fits law = record {
+  answers = λ whole before after past txn statement choice heard served ready is room serves. ⊎_elim
+      (λ smooth. inl (law.answers whole before after past txn statement choice heard served ready is room serves smooth)) (λ refused. inr refused)
+      (all_smooth db serves.comings (called (rests db before past) txn choice (State statement)) (serves.founded past));
+  commits = λ whole before after past txn choice heard served ready serves. ⊎_elim
+      (λ smooth. inl (law.commits whole before after past txn choice heard served ready serves smooth)) (λ refused. inr refused)
+      (all_smooth db serves.comings (called (rests db before past) txn choice Commit_call) (serves.founded past));
 }

@@ -16,8 +16,9 @@ pub mod History
 pub mod Following
 pub mod Happening
 pub mod Base
-pub mod Delivering
+pub mod Coming
 pub mod Reasons
+pub mod Delivering
 pub mod Taking
 pub mod Serving
 pub mod Stopping

@@ -1,5 +1,5 @@
 -- Why a letter isn't taken: a machine is at a limit with it, or it is for no machine that there is.
-use Rattle.std.specs.Prelude.{◌≡◌, ◌⊎◌, ⊤, true, false, List, [], Some}
+use Rattle.std.specs.Prelude.{◌≡◌, ◌⊎◌, ⊤, true, false, List, [], ◌∷◌, Some}
 use Rattle.std.specs.List.{list_any}
 use Rattle.std.specs.Ordering.{is_eq}
 use Rattle.terms.specs.declared.leaf.Leaf.{Leaf}
@@ -11,18 +11,21 @@ use Rattle.store.specs.declared.order.Order as orders
 use Rattle.store.specs.declared.order.Order.TheVariants as order
 use Rattle.protocol.specs.Course.{passes}
 use Rattle.protocol.specs.Desk.{Choice}
+use Rattle.protocol.specs.Letter.{Letter}
 use Rattle.protocol.specs.Letters.{leaf_of}
+use Rattle.protocol.specs.World.{World}
 use Rattle.site.specs.declared.fault.SiteFault as site_faults
 use Rattle.site.specs.declared.fault.SiteFault.TheVariants as site_fault
 use Rattle.site.specs.Refusals.{AsksTooMuch}
 use Rattle.desk.specs.declared.refusal.Refusal as refusals
 use Rattle.desk.specs.declared.refusal.Refusal.TheVariants as refusal
-use Rattle.desk.specs.Database.{Database, language, sent}
+use Rattle.desk.specs.Database.{Database, language, sent, statements}
+use Rattle.desk.specs.State.{desk_of}
 use Rattle.world.specs.declared.fault.Fault as faults
 use Rattle.world.specs.declared.fault.Fault.TheVariants as fault
-use Rattle.world.specs.Delivering.{Coming, Passed_over, Taken, Turned_away}
+use Rattle.world.specs.Coming.{Coming, Passed_over, Taken, Turned_away, come}
 use Rattle.world.specs.Machines.{Machines, is_of_site, is_order, world_of}
-use Rattle.world.specs.Seats.{Seat, seat_of}
+use Rattle.world.specs.Seats.{Seat, seat_of, states_of}
 
 -- an operation on a leaf that isn't one of these
 abbrev pub IsElsewhere : List Leaf → orders.Order → Type 0
@@ -69,3 +72,23 @@ abbrev pub HasReason : (db : Database) → Machines → letters.Letter → Comin
 HasReason db machines letter (Taken kept choice) = passes (world_of db machines [] []) kept choice (sent db letter) ≡ true
 HasReason db machines letter (Turned_away choice) = IsAtLimit db machines letter
 HasReason db machines letter Passed_over = IsAstray db machines letter
+
+module _ (db : Database) where
+  -- a letter that comes in a world is one of machines, of which this is the world, and what becomes of it has its reason
+  pub record IsFounded (w : World (language db)) (coming : Coming (language db)) (l : Letter (language db)) : Type 0 where
+    pub machines : Machines
+    pub letter : letters.Letter
+    pub desk : w.desk ≡ desk_of db machines.table
+    pub sites : w.sites ≡ states_of (statements db) machines.seats
+    pub is : l ≡ sent db letter
+    pub reason : HasReason db machines letter coming
+
+  -- so of the first of these letters, if there is one
+  abbrev pub FirstIsFounded : World (language db) → Coming (language db) → List (Letter (language db)) → Type 0
+  FirstIsFounded w coming [] = ⊤
+  FirstIsFounded w coming (l ∷ q) = IsFounded w coming l
+
+  -- so of all letters, one after another
+  abbrev pub AllFounded : List (Coming (language db)) → World (language db) → Type 0
+  AllFounded [] w = ⊤
+  AllFounded (c ∷ cs) w = FirstIsFounded w c w.letters × AllFounded cs (come w c)

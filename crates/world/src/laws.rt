@@ -15,7 +15,7 @@ ghost use Rattle.desk.specs.Database.{language};
 ghost use Rattle.world.specs.Base.{IsBase, database, fits};
 ghost use Rattle.world.specs.Runs.{RunsAreSerial};
 ghost use Rattle.world.specs.Serving.{ServedIsSerial};
-ghost use Rattle.world.specs.Smoothly.{ServesSmoothly};
+ghost use Rattle.world.specs.Smoothly.{ServesSmoothly, ServesUnlessRefused};
 
 use answers::laws::writes_lead;
 use catalog::catalogue::Catalog;
@@ -127,4 +127,12 @@ pub fn served_smoothly(catalog: &Catalog)
     leaf_names_are_unique();
     contents_ascend();
     language_is_lawful(catalog);
+}
+
+/// A client's database, whatever becomes of its letters: a statement of a ready transaction is answered, and its
+/// commit told, after which all is quiet, unless something was refused on the way.
+pub fn served_unless_refused(catalog: &Catalog)
+    ensures { ServesUnlessRefused (database (catalogue_of catalog.now)) (fits (catalogue_of catalog.now)) }
+{
+    served_smoothly(catalog);
 }
