@@ -70,6 +70,7 @@ unfolding turn_leads
 asked_leads db before kept after txn choice request out notices fit steps explained accepted = record {
   leads = turn_leads db before kept after txn (on_request (txn_name txn) choice request (txn_in db before.table txn)) out notices fit steps (λ w. called w (txn_name txn) choice request) (λ waiting past. refl) explained;
   accepted = accepted;
+  within = ap is_desk_within (sym steps.state) ∙ steps.within;
   all = refl;
 }
 

@@ -6,9 +6,9 @@ use Rattle.store.specs.Content.{Content}
 use Rattle.meaning.specs.Whole.{Relations}
 use Rattle.protocol.specs.Client.{IsQuiet, IsReached, first}
 use Rattle.protocol.specs.Committing.{Committing}
-use Rattle.protocol.specs.Desk.{Choice, Commit_call, Committed, Deed, Phased, State, desk_began, is_desk_within, next_txn}
+use Rattle.protocol.specs.Desk.{Began, Choice, Commit_call, Committed, Deed, Phased, Rollback, Rolled_back, State, desk_began, is_desk_within, next_txn}
 use Rattle.protocol.specs.Language.{IsLawful, Name}
-use Rattle.protocol.specs.Leaving.{Within}
+use Rattle.protocol.specs.Leaving.{Ending, Within}
 use Rattle.protocol.specs.Course.{Room, passes, passes_to}
 use Rattle.protocol.specs.Letter.{Body, Letter, Open, Fetch, Write, Prepare, Commit, Abort, Ticket, Rows, Refused, Voted, Ack, Inquire, is_for_desk}
 use Rattle.protocol.specs.Site.{Alive, Dead, Prepared, SiteState, Status, Visit}
@@ -17,6 +17,8 @@ use Rattle.protocol.specs.Smooth.{InCourse, IsHoused, Ready, SmoothLaw}
 use Rattle.protocol.specs.World.{World, begins, begun, called}
 use Rattle.protocol.proofs.Basics.{by_test, if_true}
 use Rattle.protocol.proofs.Data.{visit_is}
+use Rattle.protocol.proofs.Ended.{ending_goes_on, ending_quiet, kept_end}
+use Rattle.protocol.proofs.Loose.{rollback_ends, steady_loose}
 use Rattle.protocol.proofs.Limits.{called_within, next_within}
 use Rattle.protocol.proofs.Locks.{Once}
 use Rattle.protocol.proofs.Reached.{reached_law}
@@ -25,6 +27,7 @@ use Rattle.protocol.proofs.OtherStatements.{within_same}
 use Rattle.site.specs.State.{state_of}
 use Rattle.site.proofs.Limited.{fits_within}
 use Rattle.desk.specs.declared.reply.Notice.{Notice}
+use Rattle.desk.specs.declared.reply.Reply.TheVariants.{Begun}
 use Rattle.desk.specs.Database.{Database, language, sent, statements}
 use Rattle.desk.specs.State.{desk_of, notice_of}
 use Rattle.desk.specs.Turn.{told}
@@ -98,6 +101,21 @@ module _ (db : Database) (fits : Leaf → Content → Bool) (law : IsLawful (lan
     all_voted [] w within is here = here
     all_voted (c ∷ cs) w within is here = let one = one_voted w c w.letters refl within is.0 here in all_voted cs (come w c) one.0 is.1 one.1
 
+  -- those of a rollback come
+  module _ (deeds : List (Deed (language db))) where
+    one_ended : (w : World (language db)) (c : Coming (language db)) (letters : List (Letter (language db))) → w.letters ≡ letters → Within w → FirstIsSmooth db w c letters → Ending deeds w → Within (first_comes w c letters) × Ending deeds (first_comes w c letters)
+    one_ended w c [] e within is here = (within, here)
+    one_ended w (Taken kept choice) (l ∷ q) e within is here = (
+      subst (λ (letters : List (Letter (language db))). Within (first w kept choice letters)) e (next_within law w kept choice within),
+      subst (λ (letters : List (Letter (language db))). Ending deeds (first w kept choice letters)) e (ending_goes_on law deeds w l q e here law.touches_none within kept choice (kept_end kept l.body is.is_kept)),
+    )
+    one_ended w (Turned_away choice) (l ∷ q) e within is here = absurd is
+    one_ended w Passed_over (l ∷ q) e within is here = absurd is
+
+    all_ended : (cs : List (Coming (language db))) (w : World (language db)) → Within w → AllSmooth db cs w → Ending deeds w → Ending deeds (all_come cs w)
+    all_ended [] w within is here = here
+    all_ended (c ∷ cs) w within is here = let one = one_ended w c w.letters refl within is.0 here in all_ended cs (come w c) one.0 is.1 one.1
+
   -- a call, and what it has come to
   module _ (before after : Machines) (past : List (Deed (language db))) (heard : List Notice) (served : IsServed db whole before past) where
     abbrev here : World (language db)
@@ -113,10 +131,24 @@ module _ (db : Database) (fits : Leaf → Content → Bool) (law : IsLawful (lan
       heard_of : (deeds : List (Deed (language db))) → past ++ serves.deeds ≡ past ++ deeds → map notice_of heard ≡ filter_map (told db) deeds
       heard_of deeds e = serves.replies ∙ ap (filter_map (told db)) (same_behind past serves.deeds deeds e)
 
-    began : IsQuiet here → is_desk_within (desk_began (desk_of db before.table)) ≡ true → (serves : Serves db To_begin before after heard) → Ready (language db) fits (next_txn (desk_of db before.table)) (rests db after (past ++ serves.deeds))
+    began : IsQuiet here → is_desk_within (desk_began (desk_of db before.table)) ≡ true → (serves : Serves db To_begin before after heard) →
+        Ready (language db) fits (next_txn (desk_of db before.table)) (rests db after (past ++ serves.deeds)) × (map notice_of heard ≡ (next_txn (desk_of db before.table), Begun) ∷ [])
     began quiet room serves =
+        let is_begun = if_true (is_desk_within (desk_began here.desk)) (begun here) here room in
         let silent : (begins here).letters ≡ [] = ap (λ (v : World (language db)). v.letters) (if_true (is_desk_within (desk_began here.desk)) (begun here) here room) in
-        subst (Ready (language db) fits (next_txn (desk_of db before.table))) (sym (all_silent serves.comings (begins here) silent) ∙ serves.is past) (smooth.begun whole here served.reached quiet room)
+        let same = sym (all_silent serves.comings (begins here) silent) ∙ serves.is past in (
+          subst (Ready (language db) fits (next_txn (desk_of db before.table))) same (smooth.begun whole here served.reached quiet room),
+          heard_of To_begin serves (Began (next_txn here.desk) ∷ []) (sym (ap (λ (v : World (language db)). v.past) same) ∙ ap (λ (v : World (language db)). v.past) is_begun),
+        )
+
+    -- a rollback
+    rolled_back : (txn : Name) (choice : Choice (language db)) → Ready (language db) fits txn here → (serves : Serves db (To_do txn Rollback choice) before after heard) → AllSmooth db serves.comings (called here txn choice Rollback) →
+        IsQuiet (rests db after (past ++ serves.deeds)) × (past ++ serves.deeds ≡ past ++ Rolled_back txn ∷ [])
+    rolled_back txn choice ready serves is =
+        let within = fit_within db before [] past served.fit in
+        let ended : Ending (past ++ Rolled_back txn ∷ []) (called here txn choice Rollback) = rollback_ends law once txn past here choice (steady_loose txn here ready.steady) within in
+        let ending = subst (Ending (past ++ Rolled_back txn ∷ [])) (serves.is past) (all_ended (past ++ Rolled_back txn ∷ []) serves.comings (called here txn choice Rollback) (called_within here txn choice Rollback within) is ended) in
+        (ending_quiet law (past ++ Rolled_back txn ∷ []) (rests db after (past ++ serves.deeds)) ending refl, ending.past)
 
     committed : (txn : Name) (choice : Choice (language db)) → Ready (language db) fits txn here → (serves : Serves db (To_do txn Commit_call choice) before after heard) → AllSmooth db serves.comings (called here txn choice Commit_call) →
         IsQuiet (rests db after (past ++ serves.deeds)) × (past ++ serves.deeds ≡ past ++ Phased txn ∷ Committed txn ∷ [])
@@ -142,6 +174,9 @@ serves_smoothly db fits law once housed = record {
   commits = λ whole before after past txn choice heard served ready serves smooth_.
       let done = committed db fits law once housed whole before after past heard served txn choice ready serves smooth_ in
       (done.0, heard_of db fits law once housed whole before after past heard served (To_do txn Commit_call choice) serves _ done.1);
+  rolls_back = λ whole before after past txn choice heard served ready serves smooth_.
+      let done = rolled_back db fits law once housed whole before after past heard served txn choice ready serves smooth_ in
+      (done.0, heard_of db fits law once housed whole before after past heard served (To_do txn Rollback choice) serves _ done.1);
 }
 
 -- ---- each letter comes smoothly, or something is refused
@@ -199,4 +234,7 @@ serves_unless_refused db fits law = record {
   commits = λ whole before after past txn choice heard served ready serves. ⊎_elim
       (λ smooth. inl (law.commits whole before after past txn choice heard served ready serves smooth)) (λ refused. inr refused)
       (all_smooth db serves.comings (called (rests db before past) txn choice Commit_call) (serves.founded past));
+  rolls_back = λ whole before after past txn choice heard served ready serves. ⊎_elim
+      (λ smooth. inl (law.rolls_back whole before after past txn choice heard served ready serves smooth)) (λ refused. inr refused)
+      (all_smooth db serves.comings (called (rests db before past) txn choice Rollback) (serves.founded past));
 }

@@ -7,14 +7,14 @@ use Rattle.meaning.specs.Whole.{Relations}
 use Rattle.terms.specs.declared.leaf.Leaf.{Leaf}
 use Rattle.store.specs.Content.{Content}
 use Rattle.protocol.specs.Client.{IsQuiet}
-use Rattle.protocol.specs.Desk.{Choice, Commit_call, Deed, State, desk_after, desk_began, is_desk_within, next_txn, on_request}
+use Rattle.protocol.specs.Desk.{Choice, Commit_call, Deed, Rollback, State, desk_after, desk_began, is_desk_within, next_txn, on_request}
 use Rattle.protocol.specs.Language.{Name}
 use Rattle.protocol.specs.Letter.{Body, Letter, Write}
 use Rattle.protocol.specs.Site.{Alive, SiteState, Visit}
 use Rattle.protocol.specs.Smooth.{Ready, Smooth}
 use Rattle.protocol.specs.World.{World}
 use Rattle.desk.specs.declared.reply.Notice.{Notice}
-use Rattle.desk.specs.declared.reply.Reply.TheVariants.{Answer, Committed}
+use Rattle.desk.specs.declared.reply.Reply.TheVariants.{Answer, Begun, Committed, RolledBack}
 use Rattle.desk.specs.Database.{Database, language}
 use Rattle.desk.specs.State.{desk_of, notice_of}
 use Rattle.world.specs.Delivering.{Ask, Coming, Passed_over, Serves, Taken, To_begin, To_do, Turned_away, asked, come}
@@ -76,7 +76,8 @@ module _ (db : Database) where
 -- served machines, call by call, where all letters come smoothly: a transaction begins where all is quiet, each statement is answered, and a commit is told, after which all is quiet again
 pub record ServesSmoothly (db : Database) (fits : Leaf → Content → Bool) : Type 0 where
   pub begins : (whole : Relations) (before after : Machines) (past : List (Deed (language db))) (heard : List Notice) → IsServed db whole before past → IsQuiet (rests db before past) →
-      is_desk_within (desk_began (desk_of db before.table)) ≡ true → (serves : Serves db To_begin before after heard) → Ready (language db) fits (next_txn (desk_of db before.table)) (rests db after (past ++ serves.deeds))
+      is_desk_within (desk_began (desk_of db before.table)) ≡ true → (serves : Serves db To_begin before after heard) →
+      Ready (language db) fits (next_txn (desk_of db before.table)) (rests db after (past ++ serves.deeds)) × (map notice_of heard ≡ (next_txn (desk_of db before.table), Begun) ∷ [])
   pub answers : (whole : Relations) (before after : Machines) (past : List (Deed (language db))) (txn : Name) (statement : Statement) (choice : Choice (language db)) (heard : List Notice) → IsServed db whole before past →
       Ready (language db) fits txn (rests db before past) → IsStatementOf db.schemas statement →
       is_desk_within (desk_after (desk_of db before.table) txn (on_request txn choice (State statement) ((desk_of db before.table).txn txn)).txn) ≡ true →
@@ -85,6 +86,9 @@ pub record ServesSmoothly (db : Database) (fits : Leaf → Content → Bool) : T
   pub commits : (whole : Relations) (before after : Machines) (past : List (Deed (language db))) (txn : Name) (choice : Choice (language db)) (heard : List Notice) → IsServed db whole before past →
       Ready (language db) fits txn (rests db before past) → (serves : Serves db (To_do txn Commit_call choice) before after heard) → AreSmooth db (To_do txn Commit_call choice) before past serves.comings →
       IsQuiet (rests db after (past ++ serves.deeds)) × (map notice_of heard ≡ (txn, Committed) ∷ [])
+  pub rolls_back : (whole : Relations) (before after : Machines) (past : List (Deed (language db))) (txn : Name) (choice : Choice (language db)) (heard : List Notice) → IsServed db whole before past →
+      Ready (language db) fits txn (rests db before past) → (serves : Serves db (To_do txn Rollback choice) before after heard) → AreSmooth db (To_do txn Rollback choice) before past serves.comings →
+      IsQuiet (rests db after (past ++ serves.deeds)) × (map notice_of heard ≡ (txn, RolledBack) ∷ [])
 
 -- so whatever comes: a statement is answered, and a commit told, unless something was refused on the way
 pub record ServesUnlessRefused (db : Database) (fits : Leaf → Content → Bool) : Type 0 where
@@ -96,3 +100,6 @@ pub record ServesUnlessRefused (db : Database) (fits : Leaf → Content → Bool
   pub commits : (whole : Relations) (before after : Machines) (past : List (Deed (language db))) (txn : Name) (choice : Choice (language db)) (heard : List Notice) → IsServed db whole before past →
       Ready (language db) fits txn (rests db before past) → (serves : Serves db (To_do txn Commit_call choice) before after heard) →
       (IsQuiet (rests db after (past ++ serves.deeds)) × (map notice_of heard ≡ (txn, Committed) ∷ [])) ⊎ WasRefused db (To_do txn Commit_call choice) before past serves.comings
+  pub rolls_back : (whole : Relations) (before after : Machines) (past : List (Deed (language db))) (txn : Name) (choice : Choice (language db)) (heard : List Notice) → IsServed db whole before past →
+      Ready (language db) fits txn (rests db before past) → (serves : Serves db (To_do txn Rollback choice) before after heard) →
+      (IsQuiet (rests db after (past ++ serves.deeds)) × (map notice_of heard ≡ (txn, RolledBack) ∷ [])) ⊎ WasRefused db (To_do txn Rollback choice) before past serves.comings
