@@ -26,3 +26,4 @@ pub mod Reaching
 pub mod Beginning
 pub mod Smoothly
 pub mod BaseHoused
+pub mod Obeying

@@ -23,3 +23,4 @@ pub mod Taking
 pub mod Serving
 pub mod Stopping
 pub mod Smoothly
+pub mod Obeying

@@ -13,6 +13,7 @@ ghost use Rattle.protocol.specs.Serial.{SerialLaw};
 ghost use Rattle.protocol.specs.Whole.{AppliedWholeAndOnce};
 ghost use Rattle.desk.specs.Database.{language};
 ghost use Rattle.world.specs.Base.{IsBase, database, fits};
+ghost use Rattle.world.specs.Obeying.{ObeysUnlessRefused};
 ghost use Rattle.world.specs.Runs.{RunsAreSerial};
 ghost use Rattle.world.specs.Serving.{ServedIsSerial};
 ghost use Rattle.world.specs.Smoothly.{ServesSmoothly, ServesUnlessRefused};
@@ -135,4 +136,15 @@ pub fn served_unless_refused(catalog: &Catalog)
     ensures { ServesUnlessRefused (database (catalogue_of catalog.now)) (fits (catalogue_of catalog.now)) }
 {
     served_smoothly(catalog);
+}
+
+/// The commands of a client's database that stands, all quiet or its open transaction ready: a transaction begins;
+/// unless something is refused on the way, a statement is answered, a commit and a rollback are told, after which
+/// all is quiet, and a lone statement is answered and committed.
+pub fn obeyed_unless_refused(catalog: &Catalog)
+    ensures { ObeysUnlessRefused (database (catalogue_of catalog.now)) (fits (catalogue_of catalog.now)) }
+{
+    one_client_is_a_run(catalog);
+    served_smoothly(catalog);
+    served_unless_refused(catalog);
 }
