@@ -18,8 +18,8 @@ use Rattle.desk.specs.Database.{Database, language}
 use Rattle.desk.specs.State.{notice_of}
 use Rattle.world.specs.Delivering.{Ask, Serves, To_begin, To_do}
 use Rattle.world.specs.Machines.{Machines}
-use Rattle.world.specs.Obeying.{DecisionWasRefused, ObeysUnlessRefused, RunWasRefused, Stands, StandsOn, WasAnswered}
-use Rattle.world.specs.Serving.{DoesAlone, DoesBegin, DoesDecide, IsServed, is_answer, is_commit, is_end, tells, told_alone}
+use Rattle.world.specs.Obeying.{DecisionWasRefused, Obeys, ObeysUnlessRefused, RunWasRefused, Stands, StandsOn, WasAnswered, commit_was_refused, has_answered, has_begun, has_committed, has_rolled_back, rollback_was_refused, run_was_refused, statement_was_refused}
+use Rattle.world.specs.Serving.{DoesAlone, DoesBegin, DoesDecide, Executes, IsServed, did_begin, did_commit, did_roll_back, did_run, did_state, is_answer, is_commit, is_end, still_open, tells, told_alone}
 use Rattle.world.specs.Smoothly.{ServesSmoothly, ServesUnlessRefused, rests}
 use Rattle.world.proofs.Reaching.{on_ask}
 
@@ -122,3 +122,27 @@ obeys db fits reached smooth law = record {
       (λ refused. inr refused) (law.rolls_back whole before after past (txn_name txn) does.choice heard served ready does.serves);
   runs = λ whole before after past text heard served quiet does. runs db fits reached smooth law whole before after past text heard served quiet does;
 }
+
+-- ---- a command
+still_there : (txn : Txn) (heard : List Notice) (answer : Rattle.meaning.specs.declared.answer.Answer.Answer) → map notice_of heard ≡ (txn_name txn, Answer answer) ∷ [] → still_open (Some txn) heard ≡ Some txn
+still_there txn heard answer is = ap (λ (b : Bool). if b then None else Some txn) (tells_by is_end heard ∙ ap (list_any (λ (x : Name × replies.Reply). is_end x.1)) is)
+
+module _ (db : Database) (fits : Leaf → Content → Bool) (law : ObeysUnlessRefused db fits) (whole : Relations) (text : List ℕ) (before after : Machines) (past : List (Deed (language db))) (heard : List Notice) (served : IsServed db whole before past) where
+  pub obeys_of : (current later : Option Txn) → Stands db fits current before past → Executes db text current before later after heard → Obeys db fits whole text current before later after past heard
+  obeys_of current later stands (did_begin txn spelled none some does) =
+      let done = law.begins whole before after past txn heard served (subst (λ (c : Option Txn). Stands db fits c before past) none stands) does in
+      has_begun txn spelled some (subst (λ (c : Option Txn). StandsOn db fits whole c after past) (sym some) done.0) done.1
+  obeys_of current later stands (did_commit txn spelled some none does) = ⊎_elim
+      (λ done. has_committed txn spelled some none (subst (λ (c : Option Txn). StandsOn db fits whole c after past) (sym none) done.0) done.1)
+      (λ refused. commit_was_refused txn does spelled refused) (law.commits whole before after past txn heard served (subst (λ (c : Option Txn). Stands db fits c before past) some stands) does)
+  obeys_of current later stands (did_roll_back txn spelled some none does) = ⊎_elim
+      (λ done. has_rolled_back txn spelled some none (subst (λ (c : Option Txn). StandsOn db fits whole c after past) (sym none) done.0) done.1)
+      (λ refused. rollback_was_refused txn does spelled refused) (law.rolls_back whole before after past txn heard served (subst (λ (c : Option Txn). Stands db fits c before past) some stands) does)
+  obeys_of current later stands (did_state txn some still does) = ⊎_elim
+      (λ (done : WasAnswered db fits whole (Some txn) txn after past heard).
+      let same : later ≡ Some txn = still ∙ ap (λ (c : Option Txn). still_open c heard) some ∙ still_there txn heard done.answer done.hears in
+      has_answered txn does.statement does.spelled (same ∙ sym some) (subst (λ (c : Option Txn). WasAnswered db fits whole c txn after past heard) (sym same) done))
+      (λ refused. statement_was_refused txn does refused) (law.states whole before after past text txn heard served (subst (λ (c : Option Txn). Stands db fits c before past) some stands) does)
+  obeys_of current later stands (did_run none after_none does) = ⊎_elim
+      (λ (done : WasAnswered db fits whole None does.txn after past heard). has_answered does.txn does.runs.stated.statement does.runs.stated.spelled (after_none ∙ sym none) (subst (λ (c : Option Txn). WasAnswered db fits whole c does.txn after past heard) (sym after_none) done))
+      (λ refused. run_was_refused does refused) (law.runs whole before after past text heard served (subst (λ (c : Option Txn). Stands db fits c before past) none stands) does)

@@ -2,7 +2,11 @@
 use Rattle.std.specs.Prelude.{◌≡◌, ◌⊎◌, ℕ, Bool, List, [], ◌∷◌, ◌++◌, map, Option, Some, None}
 use Rattle.terms.specs.declared.leaf.Leaf.{Leaf}
 use Rattle.meaning.specs.declared.answer.Answer.{Answer as AnswerNow}
+use Rattle.meaning.specs.declared.statement.Statement.{Statement}
 use Rattle.meaning.specs.Whole.{Relations}
+use Rattle.reader.specs.declared.command.Command.TheVariants as command
+use Rattle.reader.specs.declared.command.Command.TheVariants.{Begin, Commit, Run}
+use Rattle.reader.specs.Command.{IsTextOf}
 use Rattle.store.specs.Content.{Content}
 use Rattle.store.specs.declared.name.Txn.{Txn}
 use Rattle.protocol.specs.Client.{IsQuiet}
@@ -70,3 +74,14 @@ pub record ObeysUnlessRefused (db : Database) (fits : Leaf → Content → Bool)
       (does : DoesAsk db Rollback txn before after heard) → (StandsOn db fits whole None after past × (map notice_of heard ≡ (txn_name txn, RolledBack) ∷ [])) ⊎ RollbackWasRefused db txn before after heard past does
   pub runs : (whole : Relations) (before after : Machines) (past : List (Deed (language db))) (text : List ℕ) (heard : List Notice) → IsServed db whole before past → Stands db fits None before past →
       (does : DoesAlone db text before after heard) → WasAnswered db fits whole None does.txn after past heard ⊎ RunWasRefused db text before after heard past does
+
+-- what a command comes to. current, later: the transaction that is open before and after it
+pub data Obeys (db : Database) (fits : Leaf → Content → Bool) (whole : Relations) (text : List ℕ) (current : Option Txn) (before : Machines) (later : Option Txn) (after : Machines) (past : List (Deed (language db))) (heard : List Notice) : Type 0 where
+  has_begun : (txn : Txn) → IsTextOf db.schemas text Begin → later ≡ Some txn → StandsOn db fits whole later after past → map notice_of heard ≡ (txn_name txn, Begun) ∷ [] → Obeys db fits whole text current before later after past heard
+  has_committed : (txn : Txn) → IsTextOf db.schemas text Commit → current ≡ Some txn → later ≡ None → StandsOn db fits whole later after past → map notice_of heard ≡ (txn_name txn, Committed) ∷ [] → Obeys db fits whole text current before later after past heard
+  has_rolled_back : (txn : Txn) → IsTextOf db.schemas text command.Rollback → current ≡ Some txn → later ≡ None → StandsOn db fits whole later after past → map notice_of heard ≡ (txn_name txn, RolledBack) ∷ [] → Obeys db fits whole text current before later after past heard
+  has_answered : (txn : Txn) (statement : Statement) → IsTextOf db.schemas text (Run statement) → later ≡ current → WasAnswered db fits whole later txn after past heard → Obeys db fits whole text current before later after past heard
+  commit_was_refused : (txn : Txn) (does : DoesAsk db Commit_call txn before after heard) → IsTextOf db.schemas text Commit → CommitWasRefused db txn before after heard past does → Obeys db fits whole text current before later after past heard
+  rollback_was_refused : (txn : Txn) (does : DoesAsk db Rollback txn before after heard) → IsTextOf db.schemas text command.Rollback → RollbackWasRefused db txn before after heard past does → Obeys db fits whole text current before later after past heard
+  statement_was_refused : (txn : Txn) (does : DoesState db text txn before after heard) → StateWasRefused db text txn before after heard past does → Obeys db fits whole text current before later after past heard
+  run_was_refused : (does : DoesAlone db text before after heard) → RunWasRefused db text before after heard past does → Obeys db fits whole text current before later after past heard
