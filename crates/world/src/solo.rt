@@ -14,15 +14,16 @@ ghost use Rattle.desk.specs.Database.{Database, language};
 ghost use Rattle.desk.specs.OfCatalogue.{IsOfCatalogue};
 ghost use Rattle.desk.specs.declared.refusal.Refusal.{Refusal as RefusalNow};
 ghost use Rattle.desk.specs.declared.refusal.Refusal.TheVariants as refusals;
-ghost use Rattle.world.specs.Base.{database};
+ghost use Rattle.world.specs.Base.{database, fits};
 ghost use Rattle.world.specs.Held.{OfStores, held};
 ghost use Rattle.world.specs.Machines.{AreFit};
+ghost use Rattle.world.specs.Obeying.{Obeys, Stands};
 ghost use Rattle.world.specs.Serving.{Executes, IsServed, IsServedOn, still_open};
 ghost use Rattle.world.specs.Stopping.{stopped_by};
 
 use crate::alone::{is_stop, run_alone, tells_end};
 use crate::fault::Fault;
-use crate::laws::{database_is_of_catalogue, one_client_is_a_run};
+use crate::laws::{database_is_of_catalogue, obeyed_unless_refused, one_client_is_a_run};
 use crate::machines::Machines;
 use crate::opening::start;
 use crate::serving::{begin, commit, roll_back, state};
@@ -59,6 +60,8 @@ pub fn open(
 ) -> Result<Solo<PlainDesk, PlainSite>, Fault>
     ensures served { FitsSchema (schemas_of (catalogue_of catalog)) whole.now
         → IfOk result (λ solo. IsServed (database (catalogue_of catalog)) whole.now (held desk_kept kept_of solo.machines) []) }
+    ensures stands { FitsSchema (schemas_of (catalogue_of catalog)) whole.now
+        → IfOk result (λ solo. Stands (database (catalogue_of catalog)) (fits (catalogue_of catalog)) solo.current (held desk_kept kept_of solo.machines) []) }
     ensures catalog { IfOk result (λ solo. solo.machines.desk.catalog ≡ catalog) }
     ensures sound { IfOk result (λ solo. OfStores (λ _. Unit {0}) IsSound solo.machines) }
     ensures idle { IfOk result (λ solo. (solo.current ≡ None) × (solo.stopped ≡ None)) }
@@ -249,7 +252,8 @@ impl<D: DeskStore, S: SiteStore> Solo<D, S> {
     }
 
     /// A command is executed: BEGIN, COMMIT, ROLLBACK or a statement, which outside BEGIN is a transaction of its own. All letters that it
-    /// brings about come, each once, the oldest first. Says what the client hears. A refusal that stops the database is the answer of every
+    /// brings about come, each once, the oldest first. Says what the client hears: unless something is refused on the way, the answer of a
+    /// statement, or that its transaction has begun, was committed, or was rolled back. A refusal that stops the database is the answer of every
     /// later command.
     pub fn execute(&mut self, text: &str) -> Result<Vec<Notice>, Refusal>
         ensures clean { OfStores D.is_clean S.is_clean self.new.machines → OfStores D.is_clean S.is_clean self.old.machines }
@@ -259,6 +263,10 @@ impl<D: DeskStore, S: SiteStore> Solo<D, S> {
             → IfOk result (λ heard. Executes (database (catalogue_of self.old.machines.desk.catalog)) text.now self.old.current (held D.kept S.kept self.old.machines) self.new.current (held D.kept S.kept self.new.machines) heard.items) }
         ensures served { (whole : Relations) (past : List (Deed (language (database (catalogue_of self.old.machines.desk.catalog))))) → OfStores D.is_clean S.is_clean self.new.machines → OfStores D.is_sound S.is_sound self.old.machines
             → IsServed (database (catalogue_of self.old.machines.desk.catalog)) whole (held D.kept S.kept self.old.machines) past → IsServedOn (database (catalogue_of self.old.machines.desk.catalog)) whole (held D.kept S.kept self.new.machines) past }
+        ensures obeyed { (whole : Relations) (past : List (Deed (language (database (catalogue_of self.old.machines.desk.catalog))))) → self.old.stopped ≡ None → OfStores D.is_clean S.is_clean self.new.machines → OfStores D.is_sound S.is_sound self.old.machines
+            → IsServed (database (catalogue_of self.old.machines.desk.catalog)) whole (held D.kept S.kept self.old.machines) past
+            → Stands (database (catalogue_of self.old.machines.desk.catalog)) (fits (catalogue_of self.old.machines.desk.catalog)) self.old.current (held D.kept S.kept self.old.machines) past
+            → IfOk result (λ heard. Obeys (database (catalogue_of self.old.machines.desk.catalog)) (fits (catalogue_of self.old.machines.desk.catalog)) whole text.now self.old.current (held D.kept S.kept self.old.machines) self.new.current (held D.kept S.kept self.new.machines) past heard.items) }
         ensures still { OnErr result (self.new.current ≡ self.old.current) }
         ensures stops { self.old.stopped ≡ None → self.new.stopped ≡ stopped_by result }
         ensures stopped { (refusal : RefusalNow) → self.old.stopped ≡ Some refusal → (result ≡ Err refusal) × (self.new ≡ self.old) }
@@ -268,6 +276,7 @@ impl<D: DeskStore, S: SiteStore> Solo<D, S> {
         }
         database_is_of_catalogue(self.machines.desk.catalog());
         one_client_is_a_run(self.machines.desk.catalog());
+        obeyed_unless_refused(self.machines.desk.catalog());
         let done = self.command(text);
         self.stopped = stopped_by(&done);
         done
