@@ -1,6 +1,7 @@
 //! A database for one client at a time.
 
 ghost use Rattle.std.specs.Prelude.{◌≡◌, ◌≢◌, ℕ, List, [], None, Some, Err, IfOk, OnErr};
+ghost use Rattle.std.specs.Option.{option_map};
 ghost use Rattle.meaning.specs.Whole.{FitsSchema, Relations};
 ghost use Rattle.catalog.specs.FragmentLeaf.{schemas_of};
 ghost use Rattle.catalog.specs.Relation.{catalogue_of};
@@ -14,11 +15,13 @@ ghost use Rattle.desk.specs.Database.{Database, language};
 ghost use Rattle.desk.specs.OfCatalogue.{IsOfCatalogue};
 ghost use Rattle.desk.specs.declared.refusal.Refusal.{Refusal as RefusalNow};
 ghost use Rattle.desk.specs.declared.refusal.Refusal.TheVariants as refusals;
+ghost use Rattle.world.specs.declared.fault.Fault.TheVariants as faults;
 ghost use Rattle.world.specs.Base.{database, fits};
 ghost use Rattle.world.specs.Held.{OfStores, held};
 ghost use Rattle.world.specs.Machines.{AreFit};
 ghost use Rattle.world.specs.Obeying.{Obeys, Stands};
 ghost use Rattle.world.specs.Serving.{Executes, IsServed, IsServedOn, still_open};
+ghost use Rattle.world.specs.Settled.{AreThoseOf, parts_kept, rows_shown};
 ghost use Rattle.world.specs.Stopping.{stopped_by};
 
 use crate::alone::{is_stop, run_alone, tells_end};
@@ -26,7 +29,9 @@ use crate::fault::Fault;
 use crate::laws::{database_is_of_catalogue, obeyed_unless_refused, one_client_is_a_run};
 use crate::machines::Machines;
 use crate::opening::start;
+use crate::rebuilding::rebuilt;
 use crate::serving::{begin, commit, roll_back, state};
+use crate::settled::kept_parts;
 use catalog::catalogue::Catalog;
 use desk::refusal::Refusal;
 use desk::reply::Notice;
@@ -40,6 +45,10 @@ use store::name::Txn;
 use store::plain_desk::PlainDesk;
 use store::plain_site::PlainSite;
 use store::site_store::SiteStore;
+use terms::leaf::Leaf;
+use terms::part::Part;
+use terms::row::Row;
+use terms::text::Text;
 
 /// A coordinator and its sites, which serve one client: each letter comes once, the oldest first, before the
 /// next command.
@@ -287,5 +296,36 @@ impl<D: DeskStore, S: SiteStore> Solo<D, S> {
         ensures { result.now ≡ self.now.machines.desk.catalog }
     {
         self.machines.desk.catalog()
+    }
+
+    /// The parts that are kept of a leaf, by their keys; none of a leaf that the catalogue doesn't have. Nothing
+    /// has changed by this.
+    pub fn parts(&mut self, leaf: &Leaf) -> Result<Option<Vec<Part>>, Fault>
+        ensures sent { result ≢ Err faults.Unsent }
+        ensures clean { OfStores D.is_clean S.is_clean self.new.machines → OfStores D.is_clean S.is_clean self.old.machines }
+        ensures sound { OfStores D.is_clean S.is_clean self.new.machines → OfStores D.is_sound S.is_sound self.old.machines → OfStores D.is_sound S.is_sound self.new.machines }
+        ensures parts { OfStores D.is_clean S.is_clean self.new.machines → OfStores D.is_sound S.is_sound self.old.machines → AreFit (database (catalogue_of self.old.machines.desk.catalog)) (held D.kept S.kept self.old.machines)
+            → IfOk result (λ shown. option_map (λ parts. parts.items) shown ≡ parts_kept (database (catalogue_of self.old.machines.desk.catalog)) (held D.kept S.kept self.old.machines) leaf.now) }
+        ensures same { OfStores D.is_clean S.is_clean self.new.machines → OfStores D.is_sound S.is_sound self.old.machines → held D.kept S.kept self.new.machines ≡ held D.kept S.kept self.old.machines }
+        ensures still { (self.new.current ≡ self.old.current) × (self.new.stopped ≡ self.old.stopped) }
+        ensures catalog { self.new.machines.desk.catalog ≡ self.old.machines.desk.catalog }
+    {
+        kept_parts(&mut self.machines, leaf)
+    }
+
+    /// The rows of a relation, by their keys, as the fragments rebuild it with the intentions of committed
+    /// transactions; none of a relation that there isn't. Nothing has changed by this.
+    pub fn rebuilt(&mut self, relation: &Text) -> Result<Option<Vec<Row>>, Fault>
+        ensures sent { result ≢ Err faults.Unsent }
+        ensures clean { OfStores D.is_clean S.is_clean self.new.machines → OfStores D.is_clean S.is_clean self.old.machines }
+        ensures sound { OfStores D.is_clean S.is_clean self.new.machines → OfStores D.is_sound S.is_sound self.old.machines → OfStores D.is_sound S.is_sound self.new.machines }
+        ensures rows { (whole : Relations) → OfStores D.is_clean S.is_clean self.new.machines → OfStores D.is_sound S.is_sound self.old.machines → AreFit (database (catalogue_of self.old.machines.desk.catalog)) (held D.kept S.kept self.old.machines)
+            → AreThoseOf (database (catalogue_of self.old.machines.desk.catalog)) (held D.kept S.kept self.old.machines) whole → FitsSchema (schemas_of (catalogue_of self.old.machines.desk.catalog)) whole
+            → IfOk result (λ shown. option_map (λ rows. rows.items) shown ≡ rows_shown (database (catalogue_of self.old.machines.desk.catalog)) whole relation.now) }
+        ensures same { OfStores D.is_clean S.is_clean self.new.machines → OfStores D.is_sound S.is_sound self.old.machines → held D.kept S.kept self.new.machines ≡ held D.kept S.kept self.old.machines }
+        ensures still { (self.new.current ≡ self.old.current) × (self.new.stopped ≡ self.old.stopped) }
+        ensures catalog { self.new.machines.desk.catalog ≡ self.old.machines.desk.catalog }
+    {
+        rebuilt(&mut self.machines, relation)
     }
 }
