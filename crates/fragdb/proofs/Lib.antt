@@ -15,3 +15,6 @@ pub mod PlayScriptLemmas
 pub mod PlayItemsLemmas
 pub mod PlayTextLemmas
 pub mod PlayLoadLemmas
+pub mod DeliveringLemmas
+pub mod ShownLemmas
+pub mod PlayLemmas

@@ -22,9 +22,14 @@ command_is words (Some (entered_name, entered_rows)) name rows e n r =
     sym e ∙ rw (name_is, rows_is) refl
 
 -- a command with one argument, and one with two
-pub given_one : (words : List Text) (entered : Option (Text × List Row)) (name : Text) (rows : List Row) (argument value : Text) → entered ≡ subcommand_of usage words → Some name ≡ option_map (λ p. p.0) entered → Some rows ≡ option_map (λ p. p.1) entered → Some value ≡ first_of argument rows → IsGiven words (name, (argument, value) ∷ [])
+pub given_one : (words : List Text) (entered : Option (Text × List Row)) (name : Text) (rows : List Row) (argument value : Text) → entered ≡ subcommand_of usage words → Some name ≡ option_map (λ p. p.0) entered → Some rows ≡ option_map (λ p. p.1) entered → Some value ≡ first_of argument rows → IsGiven words (name, (argument, Some value) ∷ [])
 given_one words entered name rows argument value e n r s = record { rows = rows; command = command_is words entered name rows e n r; arguments = (sym s, tt) }
 
 pub given_two : (words : List Text) (entered : Option (Text × List Row)) (name : Text) (rows : List Row) (first one second two : Text) → entered ≡ subcommand_of usage words → Some name ≡ option_map (λ p. p.0) entered → Some rows ≡ option_map (λ p. p.1) entered →
-    Some one ≡ first_of first rows → Some two ≡ first_of second rows → IsGiven words (name, (first, one) ∷ (second, two) ∷ [])
+    Some one ≡ first_of first rows → Some two ≡ first_of second rows → IsGiven words (name, (first, Some one) ∷ (second, Some two) ∷ [])
 given_two words entered name rows first one second two e n r s t = record { rows = rows; command = command_is words entered name rows e n r; arguments = (sym s, (sym t, tt)) }
+
+-- a command with an argument that need not be given, and one that must
+pub given_perhaps : (words : List Text) (entered : Option (Text × List Row)) (name : Text) (rows : List Row) (first : Text) (one : Option Text) (second two : Text) → entered ≡ subcommand_of usage words → Some name ≡ option_map (λ p. p.0) entered → Some rows ≡ option_map (λ p. p.1) entered →
+    one ≡ first_of first rows → Some two ≡ first_of second rows → IsGiven words (name, (first, one) ∷ (second, Some two) ∷ [])
+given_perhaps words entered name rows first one second two e n r s t = record { rows = rows; command = command_is words entered name rows e n r; arguments = (sym s, (sym t, tt)) }

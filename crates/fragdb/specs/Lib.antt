@@ -10,7 +10,11 @@ pub mod PlayItems
 pub mod PlayLoad
 pub mod Cast
 pub mod PlayText
+pub mod Schedule
+pub mod Delivering
+pub mod Shown
 pub mod Solo
+pub mod Play
 pub mod CatalogFile
 pub mod Check
 pub mod Plan

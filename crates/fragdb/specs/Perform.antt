@@ -1,10 +1,10 @@
 -- What the program does of what the command line asks for.
-use Rattle.std.specs.Prelude.{ℕ, Bool, true, false, List, Option, Result, Ok, Err}
+use Rattle.std.specs.Prelude.{ℕ, Bool, true, false, List, Option, None, Result, Ok, Err, bytes_eq, codes}
 use Rattle.std.specs.Borrow.{Bor}
 use Rattle.fragdb.specs.declared.outcome.Outcome.{Outcome}
 use Rattle.fragdb.specs.declared.outcome.Outcome.TheVariants.{Done, SomeRefused, Refused, RefusedStatement, Stopped}
 use Rattle.fragdb.specs.declared.usage.Request.{Request}
-use Rattle.fragdb.specs.declared.usage.Request.TheVariants.{Solo, Check, Plan}
+use Rattle.fragdb.specs.declared.usage.Request.TheVariants.{Solo, Check, Plan, Play}
 use Rattle.fragdb.specs.Check.{ChecksFile}
 use Rattle.fragdb.specs.declared.catalog_file.CatalogFault.{CatalogFault}
 use Rattle.fragdb.specs.declared.catalog_file.CatalogFault.TheVariants as catalog
@@ -13,6 +13,7 @@ use Rattle.fragdb.specs.declared.plan_text.PlanFault.{PlanFault}
 use Rattle.fragdb.specs.declared.plan_text.PlanFault.TheVariants as plan
 use Rattle.fragdb.specs.Input.{IsOfInput}
 use Rattle.fragdb.specs.Plan.{PlansFile}
+use Rattle.fragdb.specs.Play.{PlaysFiles}
 use Rattle.fragdb.specs.Solo.{RunsScript}
 
 -- the file that a request names
@@ -20,6 +21,18 @@ abbrev pub file_of : Request → Bor (List ℕ)
 file_of (Solo file) = file
 file_of (Check file) = file
 file_of (Plan file statement) = file
+file_of (Play name file) = file
+
+-- the file of a catalogue that a request names besides, if it names one
+abbrev pub catalog_of : Request → Option (Bor (List ℕ))
+catalog_of (Play name file) = name
+catalog_of _ = None
+
+-- whether a script is read from standard input
+abbrev pub is_of_input : Request → Bool
+is_of_input (Solo file) = bytes_eq file.now (codes "-")
+is_of_input (Play name file) = bytes_eq file.now (codes "-")
+is_of_input _ = false
 
 -- what the end of a script comes to, and that of a check
 abbrev pub outcome_of_script : Result Bool ProgramFault → Outcome
@@ -65,16 +78,45 @@ PerformsPlan file statement bytes old new (Refused fault) = PlansFile file state
 PerformsPlan file statement bytes old new (RefusedStatement fault) = PlansFile file statement bytes old new (Err (plan.Statement fault))
 PerformsPlan file statement bytes old new (Stopped fault) = PlansFile file statement bytes old new (Err (plan.Program fault))
 
--- what is written from old to new, and the outcome, where the file has these bytes
+-- the outcome of a play over the catalogue of a file
+abbrev pub PerformsPlayOf : Bor (List ℕ) → List ℕ → Bor (List ℕ) → List ℕ → Option (List ℕ) → Option (List ℕ) → Outcome → Type 0
+PerformsPlayOf name bytes file script old new Done = PlaysFiles name bytes file script old new (Ok tt)
+PerformsPlayOf name bytes file script old new SomeRefused = ⊥
+PerformsPlayOf name bytes file script old new (Refused fault) = PlaysFiles name bytes file script old new (Err (catalog.Refused fault))
+PerformsPlayOf name bytes file script old new (RefusedStatement fault) = ⊥
+PerformsPlayOf name bytes file script old new (Stopped fault) = PlaysFiles name bytes file script old new (Err (catalog.Program fault))
+
+-- the same of a request
+abbrev pub PerformsPlay : Request → Bor (List ℕ) → List ℕ → List ℕ → Option (List ℕ) → Option (List ℕ) → Outcome → Type 0
+PerformsPlay (Play given file) name bytes script old new outcome = PerformsPlayOf name bytes file script old new outcome
+PerformsPlay other name bytes script old new outcome = Unit
+
+-- what is written from old to new, and the outcome, where the file has these bytes; of a play it is told apart
 abbrev pub Performs : Request → List ℕ → Option (List ℕ) → Option (List ℕ) → Outcome → Type 0
 Performs (Solo file) bytes old new outcome = PerformsScript file bytes old new outcome
 Performs (Check file) bytes old new outcome = PerformsCheck file bytes old new outcome
 Performs (Plan file statement) bytes old new outcome = PerformsPlan file statement.now bytes old new outcome
+Performs (Play name file) bytes old new outcome = Unit
 
--- the outcome where the file can't be opened
+-- the outcome where this file can't be opened
+abbrev pub IsUnread : Bor (List ℕ) → Outcome → Type 0
+IsUnread file Done = ⊥
+IsUnread file SomeRefused = ⊥
+IsUnread file (Refused fault) = ⊥
+IsUnread file (RefusedStatement fault) = ⊥
+IsUnread file (Stopped fault) = IsOfInput file fault
+
+-- an outcome of a play that was stopped, or whose catalogue was refused
+abbrev pub IsStopped : Outcome → Type 0
+IsStopped Done = ⊥
+IsStopped SomeRefused = ⊥
+IsStopped (Refused fault) = Unit
+IsStopped (RefusedStatement fault) = ⊥
+IsStopped (Stopped fault) = Unit
+
+-- the outcome where the file that is asked for can't be opened; a play may be stopped by its catalogue before
 abbrev pub StopsUnread : Request → Outcome → Type 0
-StopsUnread request Done = ⊥
-StopsUnread request SomeRefused = ⊥
-StopsUnread request (Refused fault) = ⊥
-StopsUnread request (RefusedStatement fault) = ⊥
-StopsUnread request (Stopped fault) = IsOfInput (file_of request) fault
+StopsUnread (Solo file) outcome = IsUnread file outcome
+StopsUnread (Check file) outcome = IsUnread file outcome
+StopsUnread (Plan file statement) outcome = IsUnread file outcome
+StopsUnread (Play name file) outcome = IsStopped outcome

@@ -1,5 +1,5 @@
 -- What the words of the command line ask for.
-use Rattle.std.specs.Prelude.{◌≡◌, true, List, [], ◌∷◌, Some, codes}
+use Rattle.std.specs.Prelude.{◌≡◌, true, List, [], ◌∷◌, Option, Some, codes, option_map}
 use Rattle.std.specs.List.{AllByRecursion}
 use Rattle.clap.specs.Words.{App, Row, Rule, Text, first_of, new_app, new_rule, subcommand_of, with_rule, with_subcommand}
 use Rattle.clap.specs.Simple.{new_shape}
@@ -8,7 +8,7 @@ use Rattle.clap.specs.declared.error.kind.ErrorKind.TheVariants.{DisplayHelp, Di
 use Rattle.fragdb.specs.declared.outcome.Status.{Status}
 use Rattle.fragdb.specs.declared.outcome.Status.TheVariants as status
 use Rattle.fragdb.specs.declared.usage.Request.{Request}
-use Rattle.fragdb.specs.declared.usage.Request.TheVariants.{Solo, Check, Plan}
+use Rattle.fragdb.specs.declared.usage.Request.TheVariants.{Solo, Check, Plan, Play}
 
 -- an argument that must be given
 abbrev pub argument : Text → Rule
@@ -22,7 +22,15 @@ command_with name argument_name = with_rule (new_app name) (argument argument_na
 abbrev pub command_with_two : Text → Text → Text → App
 command_with_two name first second = with_rule (command_with name first) (argument second)
 
--- the command line's grammar: `fragdb solo SCRIPT`, `fragdb check CATALOG` and `fragdb plan CATALOG STATEMENT`
+-- an argument that may be given behind this word
+abbrev pub option_argument : Text → Text → Rule
+option_argument name word = record (new_rule name) { long = Some word }
+
+-- the command `play [--catalog FILE] SCRIPT`
+abbrev pub play : App
+play = with_rule (with_rule (new_app (codes "play")) (option_argument (codes "CATALOG") (codes "catalog"))) (argument (codes "SCRIPT"))
+
+-- the command line's grammar: `fragdb solo SCRIPT`, `fragdb check CATALOG`, `fragdb plan CATALOG STATEMENT` and `play`
 abbrev pub program : App
 program = record {
   top = record (new_shape (codes "fragdb")) { has_version = true; subcommand_required = true };
@@ -31,20 +39,21 @@ program = record {
 
 abbrev pub usage : App
 usage =
-    with_subcommand (with_subcommand (with_subcommand program (command_with (codes "solo") (codes "SCRIPT")).top) (command_with (codes "check") (codes "CATALOG")).top)
-    (command_with_two (codes "plan") (codes "CATALOG") (codes "STATEMENT")).top
+    with_subcommand (with_subcommand (with_subcommand (with_subcommand program (command_with (codes "solo") (codes "SCRIPT")).top) (command_with (codes "check") (codes "CATALOG")).top)
+    (command_with_two (codes "plan") (codes "CATALOG") (codes "STATEMENT")).top) play.top
 
--- the words name this command, and give it these arguments, each under its name
-pub record IsGiven (words : List Text) (request : Text × List (Text × Text)) : Type 0 where
+-- the words name this command, and give it these arguments, each under its name; none stands for one that is not given
+pub record IsGiven (words : List Text) (request : Text × List (Text × Option Text)) : Type 0 where
   pub rows : List Row
   pub command : subcommand_of usage words ≡ Some (request.0, rows)
-  pub arguments : AllByRecursion (λ a. first_of a.0 rows ≡ Some a.1) request.1
+  pub arguments : AllByRecursion (λ a. first_of a.0 rows ≡ a.1) request.1
 
 -- a request in words: the command, and its arguments, each with its name
-abbrev pub asked : Request → Text × List (Text × Text)
-asked (Solo script) = (codes "solo", (codes "SCRIPT", script.now) ∷ [])
-asked (Check catalog) = (codes "check", (codes "CATALOG", catalog.now) ∷ [])
-asked (Plan catalog statement) = (codes "plan", (codes "CATALOG", catalog.now) ∷ (codes "STATEMENT", statement.now) ∷ [])
+abbrev pub asked : Request → Text × List (Text × Option Text)
+asked (Solo script) = (codes "solo", (codes "SCRIPT", Some script.now) ∷ [])
+asked (Check catalog) = (codes "check", (codes "CATALOG", Some catalog.now) ∷ [])
+asked (Plan catalog statement) = (codes "plan", (codes "CATALOG", Some catalog.now) ∷ (codes "STATEMENT", Some statement.now) ∷ [])
+asked (Play catalog script) = (codes "play", (codes "CATALOG", option_map (λ file. file.now) catalog) ∷ (codes "SCRIPT", Some script.now) ∷ [])
 
 -- the exit status where clap gives a text in place of a request
 abbrev pub usage_status : ErrorKind → Status

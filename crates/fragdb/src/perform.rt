@@ -2,7 +2,7 @@
 
 ghost use Rattle.std.specs.Prelude.{◌≡◌, IfErr, IfOk, IfSome};
 ghost use Rattle.std.specs.Io.KnownBytes.{Keeps};
-ghost use Rattle.fragdb.specs.Perform.{Performs, StopsUnread};
+ghost use Rattle.fragdb.specs.Perform.{IsStopped, IsUnread, Performs, PerformsCheck, PerformsPlan, PerformsPlay, PerformsPlayOf, PerformsScript, StopsUnread};
 ghost use Rattle.fragdb.specs.Perform as spec;
 
 use crate::catalog_file::CatalogFault;
@@ -10,6 +10,7 @@ use crate::check::check;
 use crate::fault::ProgramFault;
 use crate::outcome::Outcome;
 use crate::plan_text::{PlanFault, plan};
+use crate::play::play_files;
 use crate::solo::solo;
 use crate::usage::Request;
 use std::alloc::Global;
@@ -22,35 +23,137 @@ impl<'a> Request<'a> {
         ensures { result ≡ spec.file_of self.now }
     {
         match self {
-            Request::Solo { script } => script,
+            Request::Solo { script } | Request::Play { script, .. } => script,
             Request::Check { catalog } | Request::Plan { catalog, .. } => catalog,
+        }
+    }
+
+    /// The file of a catalogue that is to be read besides, if there is one.
+    pub fn catalog(&self) -> Option<&'a str>
+        ensures { result ≡ spec.catalog_of self.now }
+    {
+        match self {
+            Request::Play { catalog, .. } => *catalog,
+            _ => None,
+        }
+    }
+
+    /// Whether a script is to be read from standard input.
+    pub fn is_of_input(&self) -> bool
+        ensures { result ≡ spec.is_of_input self.now }
+    {
+        match self {
+            Request::Solo { script } | Request::Play { script, .. } => *script == "-",
+            _ => false,
         }
     }
 }
 
-/// Does what is asked for over `input`, which is the file that the request names, opened. Answers what it
-/// came to. Nothing is written to `output` where the file can't be opened.
-pub fn perform<'a, R: Read + Drop, W: Write>(
+/// Does what is asked for over `input`, which is the file that the request names, opened, and over `catalog`, the
+/// catalogue that it names besides, or the built-in one; `catalog_file` names it in a fault. Answers what it came
+/// to. Nothing is written to `output` where a file can't be opened.
+pub fn perform<'a, C: Read + Drop, R: Read + Drop, W: Write>(
     alloc: Global,
     request: Request<'a>,
+    catalog_file: &'a str,
+    catalog: io::Result<C>,
     input: io::Result<R>,
     output: &mut W,
 ) -> Outcome<'a>
     ensures opened { IfOk input (λ reader. IfSome (R.remaining reader) (λ bytes. Performs request.entry bytes (W.contents output.old) (W.contents output.new) result)) }
+    ensures played { IfOk catalog (λ opened. IfSome (C.remaining opened) (λ bytes. IfOk input (λ reader. IfSome (R.remaining reader) (λ script. PerformsPlay request.entry catalog_file.entry bytes script (W.contents output.old) (W.contents output.new) result)))) }
     ensures unread { IfErr input (λ error. StopsUnread request.entry result) }
     ensures quiet { IfErr input (λ error. Keeps (W.contents output.old) (W.contents output.new)) }
 {
-    let input = match input {
-        Ok(input) => input,
-        Err(error) => return Outcome::Stopped(ProgramFault::reading(request.file(), &error)),
-    };
     match request {
-        Request::Solo { script } => of_script(solo(alloc, script, input, output)),
-        Request::Check { catalog } => of_check(check(alloc, catalog, input, output)),
-        Request::Plan { catalog, statement } => {
-            of_plan(plan(alloc, catalog, statement, input, output))
+        Request::Solo { script } => perform_script(alloc, script, input, output),
+        Request::Check { catalog: file } => perform_check(alloc, file, input, output),
+        Request::Plan {
+            catalog: file,
+            statement,
+        } => perform_plan(alloc, file, statement, input, output),
+        Request::Play { script, .. } => {
+            perform_play(alloc, catalog_file, catalog, script, input, output)
         }
     }
+}
+
+/// Runs a script that was opened under this name.
+fn perform_script<'a, R: Read + Drop, W: Write>(
+    alloc: Global,
+    file: &'a str,
+    input: io::Result<R>,
+    output: &mut W,
+) -> Outcome<'a>
+    ensures opened { IfOk input (λ reader. IfSome (R.remaining reader) (λ bytes. PerformsScript file.entry bytes (W.contents output.old) (W.contents output.new) result)) }
+    ensures unread { IfErr input (λ error. IsUnread file.entry result) }
+    ensures quiet { IfErr input (λ error. Keeps (W.contents output.old) (W.contents output.new)) }
+{
+    match input {
+        Ok(input) => of_script(solo(alloc, file, input, output)),
+        Err(error) => unread(file, &error),
+    }
+}
+
+/// Checks a catalogue that was opened under this name.
+fn perform_check<'a, R: Read + Drop, W: Write>(
+    alloc: Global,
+    file: &'a str,
+    input: io::Result<R>,
+    output: &mut W,
+) -> Outcome<'a>
+    ensures opened { IfOk input (λ reader. IfSome (R.remaining reader) (λ bytes. PerformsCheck file.entry bytes (W.contents output.old) (W.contents output.new) result)) }
+    ensures unread { IfErr input (λ error. IsUnread file.entry result) }
+    ensures quiet { IfErr input (λ error. Keeps (W.contents output.old) (W.contents output.new)) }
+{
+    match input {
+        Ok(input) => of_check(check(alloc, file, input, output)),
+        Err(error) => unread(file, &error),
+    }
+}
+
+/// Plans a statement over a catalogue that was opened under this name.
+fn perform_plan<'a, R: Read + Drop, W: Write>(
+    alloc: Global,
+    file: &'a str,
+    statement: &'a str,
+    input: io::Result<R>,
+    output: &mut W,
+) -> Outcome<'a>
+    ensures opened { IfOk input (λ reader. IfSome (R.remaining reader) (λ bytes. PerformsPlan file.entry statement.now bytes (W.contents output.old) (W.contents output.new) result)) }
+    ensures unread { IfErr input (λ error. IsUnread file.entry result) }
+    ensures quiet { IfErr input (λ error. Keeps (W.contents output.old) (W.contents output.new)) }
+{
+    match input {
+        Ok(input) => of_plan(plan(alloc, file, statement, input, output)),
+        Err(error) => unread(file, &error),
+    }
+}
+
+/// Plays a script over a catalogue that was opened under this name.
+fn perform_play<'a, C: Read + Drop, R: Read + Drop, W: Write>(
+    alloc: Global,
+    file: &'a str,
+    catalog: io::Result<C>,
+    script: &'a str,
+    input: io::Result<R>,
+    output: &mut W,
+) -> Outcome<'a>
+    ensures played { IfOk catalog (λ opened. IfSome (C.remaining opened) (λ bytes. IfOk input (λ reader. IfSome (R.remaining reader) (λ text. PerformsPlayOf file.entry bytes script.entry text (W.contents output.old) (W.contents output.new) result)))) }
+    ensures unread { IfErr input (λ error. IsStopped result) }
+    ensures quiet { IfErr input (λ error. Keeps (W.contents output.old) (W.contents output.new)) }
+{
+    match catalog {
+        Ok(catalog) => of_check(play_files(alloc, file, catalog, script, input, output)),
+        Err(error) => unread(file, &error),
+    }
+}
+
+/// A file can't be opened.
+fn unread<'a>(file: &'a str, error: &io::Error) -> Outcome<'a>
+    ensures { IsUnread file.entry result }
+{
+    Outcome::Stopped(ProgramFault::reading(file, error))
 }
 
 /// What a script came to.

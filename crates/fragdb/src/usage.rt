@@ -1,11 +1,11 @@
 //! The words of the command line.
 
-ghost use Rattle.std.specs.Prelude.{◌≡◌, ◌≢◌, ◌≤◌, ◌<◌, ◌⊎◌, ◌∷◌, [], IfOk, IsOkAnd, codes, false, length, map};
+ghost use Rattle.std.specs.Prelude.{◌≡◌, ◌≢◌, ◌≤◌, ◌<◌, ◌⊎◌, ◌∷◌, [], IfOk, IsOkAnd, Some, codes, false, length, map};
 ghost use Rattle.std.specs.Io.KnownBytes.{Keeps};
 ghost use Rattle.std.specs.IoError.{error_kind};
 ghost use Rattle.clap.specs.declared.builder.command.Command.TheViews.{out-Command};
 ghost use Rattle.clap.specs.Words.{app_of, kind_of};
-ghost use Rattle.fragdb.specs.Usage.{asked, command_with, command_with_two, usage, usage_status, IsGiven};
+ghost use Rattle.fragdb.specs.Usage.{asked, command_with, command_with_two, play, usage, usage_status, IsGiven};
 
 use crate::fault::ProgramFault;
 use crate::outcome::{Outcome, Status, exit};
@@ -32,6 +32,12 @@ pub enum Request<'a> {
         catalog: &'a str,
         statement: &'a str,
     },
+    /// To play this script of schedules, a file's name, or `-` for standard input, over a world of this
+    /// catalogue, a file's name, or over one of the built-in catalogue.
+    Play {
+        catalog: Option<&'a str>,
+        script: &'a str,
+    },
 }
 
 /// What stands after the program's help.
@@ -44,7 +50,8 @@ Examples:
   echo \"INSERT INTO item VALUES (1, 3, 'a')\" | fragdb
   fragdb solo script.txt
   fragdb check catalogue.toml
-  fragdb plan catalogue.toml 'SELECT name FROM emp WHERE id = 7'";
+  fragdb plan catalogue.toml 'SELECT name FROM emp WHERE id = 7'
+  fragdb play --catalog catalogue.toml schedule.txt";
 
 /// What stands after the help of `solo`.
 const AFTER_SOLO: &str =
@@ -56,9 +63,29 @@ const AFTER_SOLO: &str =
 The relation item(id int, zone int, label text) is built in: rows with zone < 10 are kept in item.1,
 the others in item.2.";
 
+/// What stands after the help of `play`.
+const AFTER_PLAY: &str =
+    "A script has one item a line; empty lines and lines that begin with # are passed over:
+  load INSERT INTO item VALUES (1, 3, 'a')    a row of the opening; such lines stand above all others
+  begin T                                     a transaction begins, under a name of letters and digits
+  do T SELECT label FROM item                 a statement of the transaction
+  commit T                                    its commit is asked for
+  rollback T                                  it is rolled back
+  giveup T                                    it is given up
+  deliver 7                                   letter 7 comes, for the first time or again
+  deliver 7 refuse                            the same, and the store call that it leads to is refused
+  all                                         all letters that never came, and those that they lead to
+  all but 3 7                                 the same without these
+  giveup north 1.2                            a site gives a visit up, by its ticket
+  inquire north                               a site asks about its prepared rows
+  restart north                               a site restarts; restart desk: so does the coordinator
+  .show item                                  the rows of a relation
+  .leaf item.1                                the rows that a fragment keeps
+  .committed                                  which transactions are committed";
+
 /// What the words ask for, of which the first names the program. With no other word that is `solo -`.
 pub fn read_words<'a, S: AsStr>(alloc: Global, words: &'a [S]) -> Result<Request<'a>, Error>
-    ensures alone { length words.entry.now ≤ 1 → IsOkAnd result (λ request. asked request ≡ (codes "solo", (codes "SCRIPT", codes "-") ∷ [])) }
+    ensures alone { length words.entry.now ≤ 1 → IsOkAnd result (λ request. asked request ≡ (codes "solo", (codes "SCRIPT", Some (codes "-")) ∷ [])) }
     ensures given { IfOk result (λ request. 1 < length words.entry.now → IsGiven (map S.text words.entry.now) (asked request)) }
 {
     if words.len() <= 1 {
@@ -81,6 +108,12 @@ pub fn read_words<'a, S: AsStr>(alloc: Global, words: &'a [S]) -> Result<Request
         && let Some(statement) = plan.get_str("STATEMENT")
     {
         return Ok(Request::Plan { catalog, statement });
+    }
+    if let Some(("play", play)) = matches.subcommand()
+        && let Some(script) = play.get_str("SCRIPT")
+    {
+        let catalog = play.get_str("CATALOG");
+        return Ok(Request::Play { catalog, script });
     }
     Err(command.error(ErrorKind::MissingSubcommand, "a command is missing")?)
 }
@@ -113,7 +146,8 @@ fn command<'a>(alloc: Global) -> Result<Command<'a>, AllocError>
         .subcommand_required(true)
         .subcommand(solo_command(alloc)?)?
         .subcommand(check_command(alloc)?)?
-        .subcommand(plan_command(alloc)?)
+        .subcommand(plan_command(alloc)?)?
+        .subcommand(play_command(alloc)?)
 }
 
 fn solo_command<'a>(alloc: Global) -> Result<Command<'a>, AllocError>
@@ -155,6 +189,23 @@ fn plan_command<'a>(alloc: Global) -> Result<Command<'a>, AllocError>
         .about("Shows which fragments a statement reads, and with which conditions")
         .arg(catalog)?
         .arg(statement)
+}
+
+fn play_command<'a>(alloc: Global) -> Result<Command<'a>, AllocError>
+    ensures shape { IfOk result (λ command. app_of command ≡ play) }
+    ensures local { IfOk result (λ command. (out-Command command).has_globals ≡ false) }
+{
+    let catalog = Arg::new(alloc, "CATALOG").long("catalog").help(
+        "A file with a catalogue, in TOML, in place of the built-in one",
+    );
+    let script = Arg::new(alloc, "SCRIPT")
+        .required(true)
+        .help("A file with one item a line, or - for standard input");
+    Command::new(alloc, "play")
+        .about("Plays a script of schedules, event by event")
+        .after_help(AFTER_PLAY)
+        .arg(catalog)?
+        .arg(script)
 }
 
 /// Writes clap's text where it belongs, help to the output and a mistake to the errors, and answers the

@@ -1,7 +1,7 @@
 use Rattle.std.proofs.Common.{◌≡◌, ℕ, List, Some, ap, codes, map, ◌∙◌, sym}
 use Rattle.clap.specs.Words.{app_of, found_of, is_simple, subcommand_of}
 use Rattle.fragdb.specs.Usage.{usage}
-use Rattle.fragdb.proofs.UsageLemmas.{given_one, given_two, subcommand_name_of-rows}
+use Rattle.fragdb.proofs.UsageLemmas.{given_one, given_perhaps, given_two, subcommand_name_of-rows}
 use Rattle.clap.proofs.WalkLemmas.{first_value-rows}
 use Rattle.fragdb.proofs.usage.read_words.Goals as goal
 
@@ -34,3 +34,13 @@ returns-3-clause-given g c =
     λ _. given_two (map g.S.AsStr.text c.args.words.now) _ (codes "plan") _ (codes "CATALOG") c.in-Some-get_str-2.catalog.now (codes "STATEMENT") c.in-Some-get_str-3.statement.now entered
     (ap (λ (t : List ℕ). Some t) (sym c.in-Some-plan-default.is-plan) ∙ name) rows
     (c.in-Some-get_str-2.ensures ∙ first_value-rows (found_of c.in-Some-plan-default.plan.now) (codes "CATALOG")) (c.in-Some-get_str-3.ensures ∙ first_value-rows (found_of c.in-Some-plan-default.plan.now) (codes "STATEMENT"))
+
+pub returns-4-clause-given : goal.returns-4-clause-given
+returns-4-clause-given g c =
+    let usage_is : app_of c.in_ok-command.command ≡ usage = c.in_ok-command.ensures in
+    let entered = (c.in_ok-matches.ensures.ok.2 (ap is_simple usage_is)).1 ∙ ap (λ a. subcommand_of a (map g.S.AsStr.text c.args.words.now)) usage_is in
+    let name = c.in-Some-play-default.ensures.name ∙ subcommand_name_of-rows c.in_ok-matches.matches in
+    let rows = c.in-Some-play-default.ensures.rows in
+    λ _. given_perhaps (map g.S.AsStr.text c.args.words.now) _ (codes "play") _ (codes "CATALOG") _ (codes "SCRIPT") c.in-Some-get_str-4.script.now entered
+    (ap (λ (t : List ℕ). Some t) (sym c.in-Some-play-default.is-play) ∙ name) rows
+    (c.get_str-catalog.ensures ∙ first_value-rows (found_of c.in-Some-play-default.play.now) (codes "CATALOG")) (c.in-Some-get_str-4.ensures ∙ first_value-rows (found_of c.in-Some-play-default.play.now) (codes "SCRIPT"))

@@ -1,0 +1,35 @@
+use Rattle.std.proofs.Common.{◌≡◌, ◌++◌, ◌+◌, ◌∷◌, [], ℕ, List, Bool, Some, true, drop, length, string_bytes, ap, sym, subst, rules, arith, length-append, ◌∙◌}
+use Rattle.catalog.specs.Catalogue.{Catalogue}
+use Rattle.catalog.specs.Relation.{catalogue_of}
+use Rattle.fragdb.specs.Delivering.{DeliversAt, DeliversEach, first_due, first_due_from}
+use Rattle.fragdb.specs.Schedule.{stage_of}
+use Rattle.fragdb.proofs.DeliveringLemmas.{DeliversEach-more, next_behind}
+use Rattle.fragdb.proofs.schedule.Schedule.deliver_all.Goals as goal
+
+pub loop-preserved : goal.loop-preserved
+loop-preserved c =
+    let catalogue = catalogue_of c.args.self.now.world.machines.desk.catalog in
+    let but = c.args.but.now in
+    let so_far = c.loop.invariant in
+    let place = c.in-Some.place in
+    let before = stage_of c.args.self.now in
+    let middle = stage_of c.loop.self in
+    let after = stage_of c.deliver_at.new.self in
+    let due_here : first_due but middle ≡ Some place =
+    so_far.due ∙ ap (λ (came : List Bool). first_due_from c.loop.from but (drop c.loop.from came)) (sym c.as_slice.ensures.value) ∙ sym c.in-Some.ensures.due in
+    let delivered : DeliversAt catalogue place true middle after (string_bytes c.in_ok-told.told) =
+    subst (λ (over : Catalogue). DeliversAt over place true middle after (string_bytes c.in_ok-told.told)) (ap catalogue_of so_far.catalog) c.in_ok-told.ensures.delivers in
+    let wrote : string_bytes c.push_str.new.self ≡ string_bytes c.loop.text ++ string_bytes c.in_ok-told.told = search rules in
+    let went = so_far.went.0 in
+    let count : length (went ++ place ∷ []) ≡ c.loop.counter + 1 = simp length-append (omega (arith, so_far.went.2)) in
+    record {
+      went = (
+        went ++ place ∷ [],
+        subst (λ (text : List ℕ). DeliversEach catalogue but (went ++ place ∷ []) before after text) (sym wrote)
+            (DeliversEach-more catalogue but went place before middle after (string_bytes c.loop.text) (string_bytes c.in_ok-told.told) so_far.went.1 due_here delivered),
+        count,
+      );
+      due = next_behind catalogue but place middle after (string_bytes c.in_ok-told.told) due_here delivered;
+      counted = c.in_ok-told.ensures.counted;
+      catalog = c.deliver_at.ensures.catalog ∙ so_far.catalog;
+    }

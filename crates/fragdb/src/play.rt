@@ -1,0 +1,147 @@
+//! The command `play`: a script of schedules over a world of its own.
+
+ghost use Rattle.std.specs.Prelude.{◌≡◌, ◌≤◌, ℕ, List, [], IfErr, IfOk, IfSome, OnOk, is_err, true, length, string_bytes};
+ghost use Rattle.std.specs.Io.KnownBytes.{Appends, Keeps};
+ghost use Rattle.catalog.specs.Relation.{catalogue_of};
+ghost use Rattle.fragdb.specs.Play.{IsPlayedOver, IsUnplayed, Plays, PlaysAll, PlaysFiles, PlaysOrStops, PlaysScript};
+ghost use Rattle.fragdb.specs.Schedule.{IsCounted, stage_of};
+ghost use Rattle.fragdb.specs.Solo.{IsOfRun, longest};
+
+use crate::catalog_file::{CatalogFault, read_catalog};
+use crate::fault::ProgramFault;
+use crate::play_items::{Placed, read_items};
+use crate::play_load::loaded;
+use crate::play_script::Item;
+use crate::schedule::Schedule;
+use crate::solo::read_script;
+use catalog::catalogue::Catalog;
+use meaning::whole::Whole;
+use std::alloc::Global;
+use std::io;
+use std::io::{Read, Write};
+use terms::memory::Memory;
+use world::world::open;
+
+/// Plays the script that `input` gives, which `file` names in a fault, over the catalogue that `catalog` gives, which
+/// `catalog_file` names. The catalogue is read first.
+pub fn play_files<'a, C: Read + Drop, R: Read + Drop, W: Write>(
+    alloc: Global,
+    catalog_file: &'a str,
+    catalog: C,
+    file: &'a str,
+    input: io::Result<R>,
+    output: &mut W,
+) -> Result<(), CatalogFault<'a>>
+    ensures opened { IfSome (C.remaining catalog) (λ bytes. IfOk input (λ reader. IfSome (R.remaining reader) (λ script. PlaysFiles catalog_file.entry bytes file.entry script (W.contents output.old) (W.contents output.new) result))) }
+    ensures unread { IfErr input (λ error. IfSome (C.remaining catalog) (λ bytes. IsUnplayed catalog_file.entry bytes file.entry result)) }
+    ensures idle { IfErr input (λ error. is_err result ≡ true) }
+    ensures quiet { IfErr input (λ error. Keeps (W.contents output.old) (W.contents output.new)) }
+{
+    match read_catalog(alloc, catalog_file, catalog) {
+        Ok(catalog) => match input {
+            Ok(input) => match play(alloc, catalog, file, input, output) {
+                Ok(()) => Ok(()),
+                Err(fault) => Err(CatalogFault::Program(fault)),
+            },
+            Err(error) => Err(CatalogFault::Program(ProgramFault::reading(file, &error))),
+        },
+        Err(fault) => Err(fault),
+    }
+}
+
+/// Plays the script that `input` gives, which `file` names in a fault, over a new world of this catalogue: the
+/// whole script or none of it. Writes what is told of each item to `output`. It writes often, and flushes once:
+/// give it an output with a buffer.
+pub fn play<'a, R: Read + Drop, W: Write>(
+    alloc: Global,
+    catalog: Catalog,
+    file: &'a str,
+    input: R,
+    output: &mut W,
+) -> Result<(), ProgramFault<'a>>
+    ensures { IfSome (R.remaining input) (λ script. PlaysScript (catalogue_of catalog) file.entry script (W.contents output.old) (W.contents output.new) result) }
+{
+    let script = read_script(alloc, file, input)?;
+    play_script(alloc, catalog, script.as_slice(), output)
+}
+
+/// Plays a script of which all bytes were read.
+fn play_script<'a, W: Write>(
+    alloc: Global,
+    catalog: Catalog,
+    script: &[u8],
+    output: &mut W,
+) -> Result<(), ProgramFault<'a>>
+    ensures { PlaysOrStops (catalogue_of catalog) script.now (W.contents output.old) (W.contents output.new) result }
+{
+    let script = read_items(alloc, script)?;
+    match loaded(alloc, catalog.schema(), &script) {
+        Ok(whole) => play_over(alloc, catalog, &whole, script.items.as_slice(), output),
+        Err(fault) => Err(ProgramFault::from(fault)),
+    }
+}
+
+/// Plays items over a new world of these whole relations.
+fn play_over<'a, W: Write>(
+    alloc: Global,
+    catalog: Catalog,
+    whole: &Whole,
+    items: &[Placed],
+    output: &mut W,
+) -> Result<(), ProgramFault<'a>>
+    ensures ok { OnOk result (IsPlayedOver (catalogue_of catalog) items.now (W.contents output.old) (W.contents output.new)) }
+    ensures err { IfErr result IsOfRun }
+{
+    // Lists refuse for want of memory alone.
+    let Ok(world) = open(alloc, catalog, whole) else {
+        return Err(ProgramFault::Memory);
+    };
+    let mut schedule = Schedule::new(alloc, world);
+    let done = play_items(alloc, &mut schedule, items, output);
+    // What was told before a fault goes out too.
+    let flushed = output.flush();
+    done?;
+    flushed.map_err(|error| ProgramFault::writing(&error))?;
+    Ok(())
+}
+
+/// Plays items in order, and writes what is told of each.
+fn play_items<'a, W: Write>(
+    alloc: Global,
+    schedule: &mut Schedule,
+    items: &[Placed],
+    output: &mut W,
+) -> Result<(), ProgramFault<'a>>
+    requires { IsCounted (stage_of schedule.old) }
+    ensures ok { OnOk result ((told : List ℕ) × Appends (W.contents output.old) (W.contents output.new) told
+        × PlaysAll (catalogue_of schedule.old.world.machines.desk.catalog) items.now (stage_of schedule.old) (stage_of schedule.new) told) }
+    ensures err { IfErr result IsOfRun }
+{
+    for placed in items {
+        let told = play_item(alloc, schedule, &placed.item)?;
+        output
+            .write_all(told.as_str().as_bytes())
+            .map_err(|error| ProgramFault::writing(&error))?;
+    }
+    Ok(())
+}
+
+/// Plays one item. What is loaded stands in the world already.
+fn play_item(alloc: Global, schedule: &mut Schedule, item: &Item) -> Result<String, Memory>
+    requires { IsCounted (stage_of schedule.old) }
+    ensures plays { IfOk result (λ told. Plays (catalogue_of schedule.old.world.machines.desk.catalog) item.now (stage_of schedule.old) (stage_of schedule.new) (string_bytes told)) }
+    ensures counted { OnOk result (IsCounted (stage_of schedule.new)) }
+    ensures catalog { schedule.new.world.machines.desk.catalog ≡ schedule.old.world.machines.desk.catalog }
+{
+    match item {
+        Item::Load(_) => Ok(String::new(alloc)),
+        Item::Client(name, ask) => schedule.ask(alloc, name, ask),
+        Item::Deliver(number, kept) => schedule.deliver(alloc, *number, *kept),
+        Item::All(but) => schedule.deliver_all(alloc, but.as_slice()),
+        Item::Site(site, doing) => schedule.at_site(alloc, site, *doing),
+        Item::RestartDesk => schedule.restart_desk(alloc),
+        Item::Show(name) => schedule.show(alloc, name),
+        Item::Leaf(name) => schedule.leaf(alloc, name),
+        Item::Committed => schedule.committed(alloc),
+    }
+}

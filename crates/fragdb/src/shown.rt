@@ -1,0 +1,152 @@
+//! What is shown of a schedule: relations, leaves and which transactions are committed.
+
+ghost use Rattle.std.specs.Prelude.{◌≡◌, ◌++◌, ◌∷◌, [], IfOk, OnOk, string_bytes};
+ghost use Rattle.std.specs.List.{flat_map};
+ghost use Rattle.catalog.specs.Relation.{catalogue_of};
+ghost use Rattle.world.specs.Telling.{committed_in};
+ghost use Rattle.fragdb.specs.Cast.{name_of};
+ghost use Rattle.fragdb.specs.Schedule.{stage_of};
+ghost use Rattle.fragdb.specs.Shown as spec;
+ghost use Rattle.fragdb.specs.Shown.{IsShownLeaf, IsShownParts, IsShownRelation, failed_text, names_text, no_leaf_text, written_leaf};
+
+use crate::cast::Cast;
+use crate::check::columns_of;
+use crate::play_text::{column_names, leaf_columns};
+use crate::schedule::{Schedule, refusal};
+use catalog::fragment_leaf::FragmentLeaf;
+use desk::refusal::Refusal;
+use meaning::answer::Answer;
+use reader::print_answer::print_answer;
+use site::fault::SiteFault;
+use std::alloc::Global;
+use terms::copy::{TryCopy, copy_all};
+use terms::leaf::Leaf;
+use terms::memory::Memory;
+use terms::part::Part;
+use terms::row::Row;
+use terms::seq::Seq;
+use terms::text::Text;
+use world::fault::Fault;
+use world::history::Committed;
+
+/// Rows under the names of their columns.
+fn rows_text(alloc: Global, columns: Vec<Text>, rows: Vec<Row>) -> Result<String, Memory>
+    ensures { IfOk result (λ text. string_bytes text ≡ spec.rows_text columns.items rows.items) }
+{
+    let mut text = print_answer(alloc, &Answer::Rows(Seq::new(columns), Seq::new(rows)))?;
+    text.push('\n')?;
+    Ok(text)
+}
+
+/// Parts as rows.
+fn rows_of(alloc: Global, parts: &[Part]) -> Result<Vec<Row>, Memory>
+    ensures { IfOk result (λ rows. rows.items ≡ parts.now) }
+{
+    let mut rows = Vec::new(alloc);
+    for part in parts {
+        rows.push(Row::new(copy_all(alloc, part.values())?))?;
+    }
+    Ok(rows)
+}
+
+/// What is told where a store fails while this is shown.
+fn failed(alloc: Global, name: &str, fault: Fault) -> Result<String, Memory>
+    ensures { IfOk result (λ text. string_bytes text ≡ failed_text name.now fault) }
+{
+    match fault {
+        Fault::Desk(Refusal::Memory) | Fault::Site(SiteFault::Memory) => Err(Memory),
+        fault => refusal(alloc, name, name, "", fault),
+    }
+}
+
+/// The first of some leaves whose name is written so.
+fn leaf_written(alloc: Global, leaves: &[FragmentLeaf], name: &str) -> Result<Option<Leaf>, Memory>
+    ensures { IfOk result (λ leaf. leaf ≡ written_leaf name.now leaves.now) }
+{
+    for leaf in leaves {
+        let written = format!(in alloc; "{}", leaf.name)?;
+        if written.as_str() == name {
+            return Ok(Some(leaf.name.copy()?));
+        }
+    }
+    Ok(None)
+}
+
+fn no_leaf(alloc: Global, name: &str) -> Result<String, Memory>
+    ensures { IfOk result (λ text. string_bytes text ≡ no_leaf_text name.now) }
+{
+    Ok(format!(in alloc; "no leaf {name}\n")?)
+}
+
+/// Puts the name of each of these transactions in a line.
+fn put_names(out: &mut String, cast: &Cast, all: &[Committed]) -> Result<(), Memory>
+    ensures { OnOk result (string_bytes out.new ≡ string_bytes out.old ++ flat_map (λ one. name_of cast.now one.txn ++ 10 ∷ []) all.now) }
+{
+    for one in all {
+        put_name(out, cast, one)?;
+    }
+    Ok(())
+}
+
+fn put_name(out: &mut String, cast: &Cast, one: &Committed) -> Result<(), Memory>
+    ensures { OnOk result (string_bytes out.new ≡ string_bytes out.old ++ name_of cast.now one.now.txn ++ 10 ∷ []) }
+{
+    let name = cast.name(one.txn);
+    writeln!(out, "{name}")?;
+    Ok(())
+}
+
+impl Schedule {
+    /// A relation as the fragments rebuild it. Nothing has changed by this.
+    pub fn show(&mut self, alloc: Global, name: &Text) -> Result<String, Memory>
+        ensures shown { IfOk result (λ text. IsShownRelation (catalogue_of self.old.world.machines.desk.catalog) name.now (string_bytes text)) }
+        ensures same { stage_of self.new ≡ stage_of self.old }
+        ensures catalog { self.new.world.machines.desk.catalog ≡ self.old.world.machines.desk.catalog }
+    {
+        match self.world.rebuilt(name) {
+            Ok(Some(rows)) => {
+                let columns = columns_of(self.world.catalog().schema(), name);
+                rows_text(alloc, column_names(alloc, columns)?, rows)
+            }
+            Ok(None) => Ok(format!(in alloc; "no relation {name}\n")?),
+            Err(fault) => failed(alloc, name.as_str(), fault),
+        }
+    }
+
+    /// The parts that a leaf keeps, by the leaf's name. Nothing has changed by this.
+    pub fn leaf(&mut self, alloc: Global, name: &Text) -> Result<String, Memory>
+        ensures shown { IfOk result (λ text. IsShownLeaf (catalogue_of self.old.world.machines.desk.catalog) name.now (string_bytes text)) }
+        ensures same { stage_of self.new ≡ stage_of self.old }
+        ensures catalog { self.new.world.machines.desk.catalog ≡ self.old.world.machines.desk.catalog }
+    {
+        match leaf_written(alloc, self.world.catalog().leaves(), name.as_str())? {
+            Some(leaf) => self.parts(alloc, &leaf, name.as_str()),
+            None => no_leaf(alloc, name.as_str()),
+        }
+    }
+
+    fn parts(&mut self, alloc: Global, leaf: &Leaf, name: &str) -> Result<String, Memory>
+        ensures shown { IfOk result (λ text. IsShownParts (catalogue_of self.old.world.machines.desk.catalog) name.now leaf.now (string_bytes text)) }
+        ensures same { stage_of self.new ≡ stage_of self.old }
+        ensures catalog { self.new.world.machines.desk.catalog ≡ self.old.world.machines.desk.catalog }
+    {
+        match self.world.parts(leaf) {
+            Ok(Some(parts)) => {
+                let columns = leaf_columns(alloc, self.world.catalog(), leaf)?;
+                rows_text(alloc, columns, rows_of(alloc, parts.as_slice())?)
+            }
+            Ok(None) => no_leaf(alloc, name),
+            Err(fault) => failed(alloc, name, fault),
+        }
+    }
+
+    /// The names of the committed transactions, in the order in which their commits were asked for.
+    pub fn committed(&self, alloc: Global) -> Result<String, Memory>
+        ensures { IfOk result (λ text. string_bytes text ≡ names_text (name_of self.now.cast) (committed_in self.now.world.entries.items)) }
+    {
+        let mut text = String::new(alloc);
+        let all = self.world.committed()?;
+        put_names(&mut text, &self.cast, all.as_slice())?;
+        Ok(text)
+    }
+}
