@@ -43,7 +43,7 @@ class Statement:
         self.kind = chance.choice(["read", "read", "join", "move", "pay", "title", "add", "remove"])
         self.low, self.key = chance.randint(1, 20), chance.randint(1, 6)
         self.dept, self.name = chance.choice([1, 5, 7, 9, 10, 12, 15]), chance.choice(["Ada", "Bo", "Cy"])
-        self.whole = chance.random() < 0.4
+        self.whole = chance.random() < 0.2
 
     def text(self):
         where = "" if self.whole else f" WHERE id = {self.key}"
@@ -105,7 +105,9 @@ class Schedule:
         self.names = [f"T{n}" for n in range(1, self.chance.randint(5, 7))]
         self.left = {name: self.calls(name) for name in self.names}
         self.accepted = {name: [] for name in self.names}
-        self.slow = {(site, name): self.chance.random() < 0.35 for site in ("north", "south") for name in self.names}
+        self.slow = {(site, name): self.chance.random() < 0.3 for site in ("north", "south") for name in self.names}
+        # How often something breaks: in most schedules seldom, since little is committed where much does.
+        self.trouble = self.chance.choice([0.0, 0.0, 0.01, 0.03])
 
     def load(self, relation, row):
         self.start[relation][row[0]] = row
@@ -134,22 +136,30 @@ class Schedule:
         """One event of chance."""
         roll = self.chance.random()
         waiting = [name for name in self.names if self.left[name]]
-        if waiting and roll < 0.3:
-            return self.call(self.chance.choice(waiting))
-        if self.letters and roll < 0.93:
+        if roll < self.trouble:
+            return self.broken()
+        if waiting and roll < 0.2:
+            # Mostly the first ones, so that some have ended when others begin.
+            return self.call(self.chance.choice(waiting[:2]))
+        if self.letters:
             return self.delivery()
+        return "inquire north"
+
+    def broken(self):
+        """A site or the coordinator restarts, a site asks, a transaction or a visit is given up."""
         name, site = self.chance.choice(self.names), self.chance.choice(["north", "south"])
         if f"begin {name}" not in self.lines:
             return f"inquire {site}"
-        return self.chance.choice([f"giveup {name}", f"restart {site}", "restart desk", f"inquire {site}", f"inquire {site}"])
+        visit = f"giveup {site} 1.{self.chance.randint(1, 6)}"
+        return self.chance.choice([f"giveup {name}", visit, f"restart {site}", "restart desk", f"inquire {site}", f"inquire {site}"])
 
     def delivery(self):
         """A letter comes: mostly the oldest that never came and is of no slow link, sometimes any, sometimes refused."""
         fresh = [n for n in range(len(self.letters)) if n not in self.given]
         quick = [n for n in fresh if not self.slow[self.letters[n]]]
-        some = quick if quick and self.chance.random() < 0.9 else fresh
-        number = some[0] if some and self.chance.random() < 0.85 else self.chance.randrange(len(self.letters))
-        return f"deliver {number + 1}" + (" refuse" if self.chance.random() < 0.04 else "")
+        some = quick if quick and self.chance.random() < 0.95 else fresh
+        number = some[0] if some and self.chance.random() < 0.93 else self.chance.randrange(len(self.letters))
+        return f"deliver {number + 1}" + (" refuse" if self.chance.random() < self.trouble else "")
 
     def grow(self):
         """Some more events; calls of one transaction wait for what its last one printed."""
@@ -208,10 +218,15 @@ class Schedule:
         return None
 
 
-count = {"schedules": 0, "events": 0, "committed": 0, "aborted": 0}
+def told(schedule):
+    """The transactions in the order in which they were told that they are committed."""
+    return [text.split(":")[0] for out in schedule.printed for text in out if text.endswith(": committed")]
+
+
+count = {"schedules": 0, "events": 0, "committed": 0, "aborted": 0, "schedules told in another order than that of first phases": 0}
 for seed in range(FIRST, FIRST + HOW_MANY):
     schedule = Schedule(seed)
-    for _ in range(schedule.chance.randint(12, 24)):
+    for _ in range(schedule.chance.randint(25, 45)):
         schedule.grow()
     if schedule.chance.random() < 0.5:
         schedule.play(["all"])
@@ -223,5 +238,6 @@ for seed in range(FIRST, FIRST + HOW_MANY):
     count["events"] += len(schedule.lines)
     count["committed"] += len(schedule.printed[-3])
     count["aborted"] += sum(": aborted " in text for out in schedule.printed for text in out)
+    count["schedules told in another order than that of first phases"] += told(schedule) != schedule.printed[-3]
 print(", ".join(f"{number} {what}" for what, number in count.items()) + ", no difference")
 PYTHON
