@@ -40,7 +40,7 @@ class Statement:
     """A statement as text, and what it means over whole relations: {name: {key: row}}."""
 
     def __init__(self, chance):
-        self.kind = chance.choice(["read", "read", "join", "move", "pay", "title", "add", "remove"])
+        self.kind = chance.choice(["read", "names", "names", "names", "join", "move", "pay", "title", "title", "title", "rename", "rename", "add", "remove"])
         self.low, self.key = chance.randint(1, 20), chance.randint(1, 6)
         self.dept, self.name = chance.choice([1, 5, 7, 9, 10, 12, 15]), chance.choice(["Ada", "Bo", "Cy"])
         self.whole = chance.random() < 0.2
@@ -49,9 +49,11 @@ class Statement:
         where = "" if self.whole else f" WHERE id = {self.key}"
         return {
             "read": f"SELECT id, dept, pay FROM emp{where}",
+            "names": f"SELECT name FROM emp{where}",
             "join": f"SELECT emp.id, dept.title FROM emp JOIN dept ON emp.dept = dept.no WHERE emp.pay >= {self.low}",
             "move": f"UPDATE emp SET dept = {self.dept}{where}",
             "pay": f"UPDATE emp SET pay = pay + {self.low}{where}",
+            "rename": f"UPDATE emp SET name = '{self.name}'{where}",
             "title": f"UPDATE dept SET title = '{self.name}' WHERE no >= {self.dept}",
             "add": f"INSERT INTO emp VALUES ({self.key}, '{self.name}', {self.dept}, {self.low})",
             "remove": f"DELETE FROM emp WHERE dept < {self.dept} AND id = {self.key}",
@@ -63,6 +65,8 @@ class Statement:
         rows = [row for key, row in sorted(emp.items()) if self.whole or key == self.key]
         if self.kind == "read":
             return table(["id", "dept", "pay"], [[row[0], row[2], row[3]] for row in rows])
+        if self.kind == "names":
+            return table(["name"], [[row[1]] for row in rows])
         if self.kind == "join":
             found = [row for _, row in sorted(emp.items()) if row[3] >= self.low and row[2] in dept]
             return table(["emp.id", "dept.title"], [[row[0], dept[row[2]][1]] for row in found])
@@ -82,7 +86,12 @@ class Statement:
                 dept[key] = [key, self.name]
             return [f"changed {len(found)}"]
         for row in rows:
-            emp[row[0]] = [row[0], row[1], self.dept, row[3]] if self.kind == "move" else [*row[:3], row[3] + self.low]
+            key, name, number, pay = row
+            emp[key] = {
+                "move": [key, name, self.dept, pay],
+                "pay": [key, name, number, pay + self.low],
+                "rename": [key, self.name, number, pay],
+            }[self.kind]
         return [f"changed {len(rows)}"]
 
 
@@ -105,7 +114,7 @@ class Schedule:
         self.names = [f"T{n}" for n in range(1, self.chance.randint(5, 7))]
         self.left = {name: self.calls(name) for name in self.names}
         self.accepted = {name: [] for name in self.names}
-        self.slow = {(site, name): self.chance.random() < 0.3 for site in ("north", "south") for name in self.names}
+        self.slow = {(site, name): self.chance.random() < 0.4 for site in ("north", "south") for name in self.names}
         # How often something breaks: in most schedules seldom, since little is committed where much does.
         self.trouble = self.chance.choice([0.0, 0.0, 0.01, 0.03])
 
@@ -140,7 +149,7 @@ class Schedule:
             return self.broken()
         if waiting and roll < 0.2:
             # Mostly the first ones, so that some have ended when others begin.
-            return self.call(self.chance.choice(waiting[:2]))
+            return self.call(self.chance.choice(waiting[:3]))
         if self.letters:
             return self.delivery()
         return "inquire north"
@@ -157,7 +166,7 @@ class Schedule:
         """A letter comes: mostly the oldest that never came and is of no slow link, sometimes any, sometimes refused."""
         fresh = [n for n in range(len(self.letters)) if n not in self.given]
         quick = [n for n in fresh if not self.slow[self.letters[n]]]
-        some = quick if quick and self.chance.random() < 0.95 else fresh
+        some = quick if quick and self.chance.random() < 0.98 else fresh
         number = some[0] if some and self.chance.random() < 0.93 else self.chance.randrange(len(self.letters))
         return f"deliver {number + 1}" + (" refuse" if self.chance.random() < self.trouble else "")
 
