@@ -1,14 +1,14 @@
 -- A world without its delivered letters stays that of a run, through every step of one client.
-use Rattle.std.proofs.Common.{◌≡◌, refl, sym, ap, ◌∙◌, subst, Bool, true, false, List, [], ◌∷◌, ◌++◌, length, if◌then◌else◌, Some, slice_get, append_assoc}
+use Rattle.std.proofs.Common.{◌≡◌, refl, sym, ap, ◌∙◌, subst, Bool, true, false, List, [], ◌∷◌, ◌++◌, length, map, if◌then◌else◌, Some, slice_get, append_assoc}
 use Rattle.protocol.specs.Language.{Lang, IsLawful, Name}
 use Rattle.protocol.specs.Letter.{Letter, is_for_desk}
 use Rattle.protocol.specs.Site.{SiteState, is_within, on_letter, site_after, said}
 use Rattle.protocol.specs.Desk.{Choice, Began, Request, Turn, desk_after, desk_began, is_desk_within, next_txn}
 use Rattle.protocol.specs.World.{World, Event, Begin, Call, Deliver, begins, begun, called, comes, comes_to, delivered, happens, run, turns, turned, site_steps, with_site, addressed}
-use Rattle.protocol.specs.Serial.{Explained, AllExplained, IsOpening, IsSerial, SerialLaw}
+use Rattle.protocol.specs.Serial.{Explained, AllExplained, IsOpening, IsSerial, SerialLaw, committed, serial_whole, statements_of}
 use Rattle.protocol.specs.Client.{first, next, rest_of, loses, IsReached, ReachedLaw}
 use Rattle.protocol.proofs.Basics.{every_append}
-use Rattle.protocol.proofs.SerialLaw.{serial_law}
+use Rattle.protocol.proofs.SerialLaw.{run_whole, serial_law}
 
 module _ {L : Lang} where
   -- the letters that have gone, in front of those that wait
@@ -112,6 +112,11 @@ module _ {L : Lang} where
         let serial : IsSerial whole (behind reached.gone w) = subst (IsSerial whole) reached.is (law whole reached.opening reached.events reached.opens (subst (λ v. AllExplained v.past) (sym reached.is) reached.explained)) in
         record { answers = serial.answers; rebuilt = serial.rebuilt }
 
+    pub reached_whole : IsLawful L → L.IsWhole (serial_whole L (map (statements_of w.past) (committed w.past)) whole)
+    reached_whole law =
+        subst (λ (v : World L). L.IsWhole (serial_whole L (map (statements_of v.past) (committed v.past)) whole)) reached.is
+        (run_whole law whole reached.opening reached.events reached.opens (subst (λ v. AllExplained v.past) (sym reached.is) reached.explained))
+
   -- an opening is reached
   pub opening_reached : (whole : L.Whole) (w : World L) → IsOpening whole w → IsReached whole w
   opening_reached whole w opens = record { opening = w; opens = opens; events = []; gone = []; is = refl; explained = subst AllExplained (sym opens.past) tt }
@@ -123,4 +128,5 @@ reached_law law = record {
   came = λ whole w kept choice reached. next_reached whole w reached kept choice;
   lost = lost_reached;
   serial = λ whole w reached. reached_serial whole w reached (serial_law law);
+  is_whole = λ whole w reached. reached_whole whole w reached law;
 }

@@ -2,8 +2,8 @@
 use Rattle.std.proofs.Common.{◌≡◌, refl, sym, ap, ap₂, ◌∙◌, subst, List, [], ◌∷◌, map, filter, inl, ⊎_elim, Some, append-nil}
 use Rattle.protocol.specs.Language.{Lang, IsLawful, Name, same, written}
 use Rattle.protocol.specs.Desk.{Deed, Began, Stated, Worked, Answered, Phased, Committed, Aborted, Rolled_back, Idle}
-use Rattle.protocol.specs.World.{World, run}
-use Rattle.protocol.specs.Serial.{is_committed, phases_of, statements_of, answers_of, settled, Gives, Explained, AllExplained, whole_after, answers_in_turn, serial_whole, serial_answers, IsSerial, SerialLaw}
+use Rattle.protocol.specs.World.{Event, World, run}
+use Rattle.protocol.specs.Serial.{committed, is_committed, phases_of, statements_of, answers_of, settled, Gives, Explained, AllExplained, whole_after, answers_in_turn, serial_whole, serial_answers, IsOpening, IsSerial, SerialLaw}
 use Rattle.protocol.proofs.Basics.{Every, every_append, by_test, if_true, if_false, either}
 use Rattle.protocol.proofs.Fits.{IsCommitted}
 use Rattle.protocol.proofs.Ops.{written_append}
@@ -50,7 +50,8 @@ module _ {L : Lang} where
         (ts : List Name) (whole : L.Whole) (c : L.Leaf → L.Content) → L.IsWhole whole → ((g : L.Leaf) → c g ≡ L.content g whole) → Line (works past) (is_committed past) V last c ts →
         (map (answers_of past) (filter (is_committed past) ts) ≡ serial_answers L (map (statements_of past) (filter (is_committed past) ts)) whole)
         × ((g : L.Leaf) → last g ≡ L.content g (serial_whole L (map (statements_of past) (filter (is_committed past) ts)) whole))
-    serial_line past V last explained told counts [] whole c fits base line = (refl, λ g. line g ∙ base g)
+        × L.IsWhole (serial_whole L (map (statements_of past) (filter (is_committed past) ts)) whole)
+    serial_line past V last explained told counts [] whole c fits base line = (refl, λ g. line g ∙ base g, fits)
     serial_line past V last explained told counts (t ∷ ts) whole c fits base line = ⊎_elim
         (λ done.
         let its = told t done in
@@ -60,14 +61,15 @@ module _ {L : Lang} where
         let after_it = whole_after L (map (λ (x : Work L). x.statement) (works past t)) whole in
         let rest = serial_line past V last explained told counts ts after_it (after (is_committed past t) (works past t) c) one.0
         (λ g. if_true (is_committed past t) (written L g (own_of (works past t)) (c g)) (c g) done ∙ one.2 g) line.1 in
-        subst (λ l. (map (answers_of past) l ≡ serial_answers L (map (statements_of past) l) whole) × ((g : L.Leaf) → last g ≡ L.content g (serial_whole L (map (statements_of past) l) whole)))
+        subst (λ l. (map (answers_of past) l ≡ serial_answers L (map (statements_of past) l) whole) × ((g : L.Leaf) → last g ≡ L.content g (serial_whole L (map (statements_of past) l) whole)) × L.IsWhole (serial_whole L (map (statements_of past) l) whole))
         (sym (if_true (is_committed past t) (t ∷ filter (is_committed past) ts) (filter (is_committed past) ts) done)) (
           ap₂ (λ a l. a ∷ l) (answers ∙ one.1 ∙ ap (λ ss. answers_in_turn L ss whole) (sym statements)) (rest.0 ∙ ap (λ ss. serial_answers L (map (statements_of past) (filter (is_committed past) ts)) (whole_after L ss whole)) (sym statements)),
           λ g. rest.1 g ∙ ap (λ ss. L.content g (serial_whole L (map (statements_of past) (filter (is_committed past) ts)) (whole_after L ss whole))) (sym statements),
+          subst (λ ss. L.IsWhole (serial_whole L (map (statements_of past) (filter (is_committed past) ts)) (whole_after L ss whole))) (sym statements) rest.2,
         ))
         (λ not_.
         let rest = serial_line past V last explained told counts ts whole (after (is_committed past t) (works past t) c) fits (λ g. if_false (is_committed past t) (written L g (own_of (works past t)) (c g)) (c g) not_ ∙ base g) line.1 in
-        subst (λ l. (map (answers_of past) l ≡ serial_answers L (map (statements_of past) l) whole) × ((g : L.Leaf) → last g ≡ L.content g (serial_whole L (map (statements_of past) l) whole)))
+        subst (λ l. (map (answers_of past) l ≡ serial_answers L (map (statements_of past) l) whole) × ((g : L.Leaf) → last g ≡ L.content g (serial_whole L (map (statements_of past) l) whole)) × L.IsWhole (serial_whole L (map (statements_of past) l) whole))
         (sym (if_false (is_committed past t) (t ∷ filter (is_committed past) ts) (filter (is_committed past) ts) not_)) rest)
         (by_test (is_committed past t))
 
@@ -76,6 +78,15 @@ module _ {L : Lang} where
         let d = deep.2 in
         let both = serial_line w.past (Counts deep.1 w) (settled w) explained d.base.told (λ t done. inl done) (phases_of w.past) whole (λ g. L.content g whole) fits (λ g. refl) d.line in
         record { answers = both.0; rebuilt = both.1 }
+
+    -- and what they make of a whole database is one
+    pub whole_of_deep : (whole : L.Whole) (w : World L) → L.IsWhole whole → IsDeep law whole w → AllExplained w.past → L.IsWhole (serial_whole L (map (statements_of w.past) (committed w.past)) whole)
+    whole_of_deep whole w fits deep explained =
+        let d = deep.2 in
+        (serial_line w.past (Counts deep.1 w) (settled w) explained d.base.told (λ t done. inl done) (phases_of w.past) whole (λ g. L.content g whole) fits (λ g. refl) d.line).2
+
+    pub run_whole : (whole : L.Whole) (w : World L) (events : List (Event L)) → IsOpening whole w → AllExplained (run events w).past → L.IsWhole (serial_whole L (map (statements_of (run events w).past) (committed (run events w).past)) whole)
+    run_whole whole w events opening explained = whole_of_deep whole (run events w) opening.is_whole (run_deep law whole events w (opening_deep law whole w opening)) explained
 
     -- the serial law, for every lawful language
     pub serial_law : SerialLaw L

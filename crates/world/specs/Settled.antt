@@ -14,7 +14,8 @@ use Rattle.plan.specs.Need.{places_to}
 use Rattle.answers.specs.declared.table.FetchRows.{FetchRows}
 use Rattle.store.specs.declared.name.Txn.{Txn}
 use Rattle.store.specs.Content.{Content, parts}
-use Rattle.protocol.specs.Serial.{serial_whole, settled}
+use Rattle.protocol.specs.Desk.{Deed}
+use Rattle.protocol.specs.Serial.{committed, serial_whole, settled, statements_of}
 use Rattle.site.specs.Settled.{is_among, with_all}
 use Rattle.desk.specs.Database.{Database, language, statements}
 use Rattle.desk.specs.Planned.{site_in}
@@ -57,6 +58,10 @@ everything relation = record { from = record { name = relation.name; columns = n
 -- the rows of a relation of the database, by key; none of a relation that there isn't
 abbrev pub rows_shown : Database → Relations → List ℕ → Option (List (List Value))
 rows_shown db whole name = option_map (λ relation. rows_of whole name) (relation_named name db.schemas)
+
+-- the whole database after the committed transactions, one after another; whole: the one at the opening
+abbrev pub after_committed : (db : Database) → List (Deed (language db)) → Relations → Relations
+after_committed db past whole = serial_whole (language db) (map (statements_of past) (committed past)) whole
 
 -- rows are those of a relation after the committed transactions, one after another over whole relations; statements: those of the texts that they stated
 pub record ShowsSerial (db : Database) (whole : Relations) (entries : List Entry) (name : List ℕ) (shown : Option (List (List Value))) : Type 0 where

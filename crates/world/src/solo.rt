@@ -21,7 +21,7 @@ ghost use Rattle.world.specs.Held.{OfStores, held};
 ghost use Rattle.world.specs.Machines.{AreFit};
 ghost use Rattle.world.specs.Obeying.{Obeys, Stands};
 ghost use Rattle.world.specs.Serving.{Executes, IsServed, IsServedOn, still_open};
-ghost use Rattle.world.specs.Settled.{AreThoseOf, parts_kept, rows_shown};
+ghost use Rattle.world.specs.Settled.{AreThoseOf, after_committed, parts_kept, rows_shown};
 ghost use Rattle.world.specs.Stopping.{stopped_by};
 
 use crate::alone::{is_stop, run_alone, tells_end};
@@ -314,7 +314,8 @@ impl<D: DeskStore, S: SiteStore> Solo<D, S> {
     }
 
     /// The rows of a relation, by their keys, as the fragments rebuild it with the intentions of committed
-    /// transactions; none of a relation that there isn't. Nothing has changed by this.
+    /// transactions; none of a relation that there isn't. They are what the committed transactions make of it,
+    /// one after another. Nothing has changed by this.
     pub fn rebuilt(&mut self, relation: &Text) -> Result<Option<Vec<Row>>, Fault>
         ensures sent { result ≢ Err faults.Unsent }
         ensures clean { OfStores D.is_clean S.is_clean self.new.machines → OfStores D.is_clean S.is_clean self.old.machines }
@@ -322,10 +323,14 @@ impl<D: DeskStore, S: SiteStore> Solo<D, S> {
         ensures rows { (whole : Relations) → OfStores D.is_clean S.is_clean self.new.machines → OfStores D.is_sound S.is_sound self.old.machines → AreFit (database (catalogue_of self.old.machines.desk.catalog)) (held D.kept S.kept self.old.machines)
             → AreThoseOf (database (catalogue_of self.old.machines.desk.catalog)) (held D.kept S.kept self.old.machines) whole → FitsSchema (schemas_of (catalogue_of self.old.machines.desk.catalog)) whole
             → IfOk result (λ shown. option_map (λ rows. rows.items) shown ≡ rows_shown (database (catalogue_of self.old.machines.desk.catalog)) whole relation.now) }
+        ensures served { (whole : Relations) (past : List (Deed (language (database (catalogue_of self.old.machines.desk.catalog))))) → OfStores D.is_clean S.is_clean self.new.machines → OfStores D.is_sound S.is_sound self.old.machines
+            → IsServed (database (catalogue_of self.old.machines.desk.catalog)) whole (held D.kept S.kept self.old.machines) past
+            → IfOk result (λ shown. option_map (λ rows. rows.items) shown ≡ rows_shown (database (catalogue_of self.old.machines.desk.catalog)) (after_committed (database (catalogue_of self.old.machines.desk.catalog)) past whole) relation.now) }
         ensures same { OfStores D.is_clean S.is_clean self.new.machines → OfStores D.is_sound S.is_sound self.old.machines → held D.kept S.kept self.new.machines ≡ held D.kept S.kept self.old.machines }
         ensures still { (self.new.current ≡ self.old.current) × (self.new.stopped ≡ self.old.stopped) }
         ensures catalog { self.new.machines.desk.catalog ≡ self.old.machines.desk.catalog }
     {
+        one_client_is_a_run(self.machines.desk.catalog());
         rebuilt(&mut self.machines, relation)
     }
 }

@@ -1,0 +1,18 @@
+-- Why `Solo::rebuilt` meets its contract.
+use Rattle.std.proofs.Common.{subst, []}
+use Rattle.catalog.specs.Relation.{catalogue_of}
+use Rattle.protocol.specs.Client.{ReachedLaw}
+use Rattle.desk.specs.Database.{language}
+use Rattle.world.specs.Base.{database}
+use Rattle.world.specs.Held.{held}
+use Rattle.world.specs.Machines.{world_of}
+use Rattle.world.specs.Settled.{after_committed}
+use Rattle.world.proofs.solo.Solo.rebuilt.Goals as goal
+
+pub returns-clause-served : goal.returns-clause-served
+returns-clause-served g c = λ whole past clean sound served.
+    let db = database (catalogue_of c.args.self.now.machines.desk.catalog) in
+    let machines = held g.D.DeskStore.kept g.S.SiteStore.kept c.args.self.now.machines in
+    let law = subst (λ x. ReachedLaw (language (database (catalogue_of x)))) c.catalog.ensures c.one_client_is_a_run.ensures in
+    let rests = world_of db machines [] past in
+    c.rebuilt.ensures.rows (after_committed db past whole) clean sound served.fit (law.serial whole rests served.reached).rebuilt (law.is_whole whole rests served.reached)
