@@ -38,6 +38,7 @@ pub(crate) fn on_row<S: DeskStore>(
 ) -> Result<Turn, Memory>
     ensures clean { S.is_clean store.new → S.is_clean store.old }
     ensures sound { S.is_clean store.new → S.is_sound store.old → S.is_sound store.new }
+    ensures uncalled { kept ≡ false → store.new ≡ store.old }
     ensures turn { (db : Database) → IfOk result (λ turn. IsTurn db txn (Some (standing.Committed committed.now)) turn
         (on_row (txn_name txn) (map voter_of committed.now.voters) (map voter_of committed.now.acked) site.now turn.kept (replied db reply.now))) }
     ensures sites { (sites : List (List ℕ)) → IfOk result (λ turn. AtSites sites turn.after) }
@@ -99,6 +100,7 @@ fn on_ack<S: DeskStore>(
 ) -> Result<Turn, Memory>
     ensures clean { S.is_clean store.new → S.is_clean store.old }
     ensures sound { S.is_clean store.new → S.is_sound store.old → S.is_sound store.new }
+    ensures uncalled { kept ≡ false → store.new ≡ store.old }
     ensures turn { (db : Database) → IfOk result (λ turn. IsTurn db txn (Some (standing.Committed committed.now)) turn
         (on_ack {L = language db} (map voter_of committed.now.voters) (map voter_of committed.now.acked) (site.now, name_of ticket) turn.kept)) }
     ensures sites { (sites : List (List ℕ)) → IfOk result (λ turn. AtSites sites turn.after) }

@@ -194,6 +194,7 @@ impl<S: DeskStore> Desk<S> {
     pub fn take_kept(&mut self, letter: &Letter, kept: bool) -> Result<Out, Refusal>
         ensures clean { S.is_clean self.new.store → S.is_clean self.old.store }
         ensures keeps { S.is_clean self.new.store → S.is_sound self.old.store → S.is_sound self.new.store }
+        ensures uncalled { kept ≡ false → self.new.store ≡ self.old.store }
         ensures ok { (db : Database) (reply : Reply) → IsOfCatalogue db → db.catalogue ≡ catalogue_of self.old.catalog → S.is_clean self.new.store → S.is_sound self.old.store → Fits db (S.kept self.old.store) (table_of self.old.present)
             → letter.now.body ≡ bodies.Reply reply → list_any (λ site. pointwise nat_eq site letter.now.site) db.sites ≡ true
             → IfOk result (λ out. Takes db (table_of self.old.present) (S.kept self.new.store) (table_of self.new.present) letter.now.txn
@@ -250,6 +251,7 @@ impl<S: DeskStore> Desk<S> {
         ensures clean { S.is_clean self.new.store → S.is_clean self.old.store }
         ensures sound { S.is_clean self.new.store → OnOk result (S.is_sound self.new.store) }
         ensures keeps { S.is_clean self.new.store → S.is_sound self.old.store → S.is_sound self.new.store }
+        ensures uncalled { kept ≡ false → self.new.store ≡ self.old.store }
         ensures ok { (db : Database) → S.is_clean self.new.store → S.is_sound self.old.store → Fits db (S.kept self.old.store) (table_of self.old.present)
             → IfOk result (λ out. Restarts db (table_of self.old.present) (S.kept self.new.store) (table_of self.new.present) out.letters out.replies) }
         ensures rises { (db : Database) → S.is_clean self.new.store → OnOk result (Rises db (S.kept self.new.store) (table_of self.new.present)) }

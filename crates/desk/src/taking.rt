@@ -107,6 +107,7 @@ fn on_open<S: DeskStore>(
     requires { goes_on (spot_in site.now undecided.now.spots).ticket reply.now ≡ false }
     ensures clean { S.is_clean store.new → S.is_clean store.old }
     ensures sound { S.is_clean store.new → S.is_sound store.old → S.is_sound store.new }
+    ensures uncalled { kept ≡ false → store.new ≡ store.old }
     ensures turn { (db : Database) (choice : Choice (language db)) → AreSpots db undecided.now.spots
         → IfOk result (λ turn. IsTurn db txn (Some (standings.Undecided undecided.now)) turn
         (on_known (txn_name txn) (undecided_of db undecided.now) site.now turn.kept choice (replied db reply.now))) }
@@ -138,6 +139,7 @@ fn step<S: DeskStore>(
     requires { may_send ((table_of present.now).standing txn) site.now reply.now ≡ false }
     ensures clean { S.is_clean store.new → S.is_clean store.old }
     ensures sound { S.is_clean store.new → S.is_sound store.old → S.is_sound store.new }
+    ensures uncalled { kept ≡ false → store.new ≡ store.old }
     ensures turn { (db : Database) (choice : Choice (language db)) → IsAt db ((table_of present.now).standing txn)
         → IfOk result (λ turn. IsTurn db txn ((table_of present.now).standing txn) turn (on_desk_letter (txn_name txn) site.now turn.kept choice (replied db reply.now) (txn_in db (table_of present.now) txn))) }
     ensures sites { (db : Database) → IsAt db ((table_of present.now).standing txn) → IfOk result (λ turn. AtSites db.sites turn.after) }
@@ -171,6 +173,7 @@ pub(crate) fn take<S: DeskStore>(
     requires { may_send ((table_of present.old).standing txn) site.now reply.now ≡ false }
     ensures clean { S.is_clean store.new → S.is_clean store.old }
     ensures sound { S.is_clean store.new → S.is_sound store.old → S.is_sound store.new }
+    ensures uncalled { kept ≡ false → store.new ≡ store.old }
     ensures ok { (db : Database) (choice : Choice (language db)) → AreDistinct db.sites → S.is_clean store.new → S.is_sound store.old → Fits db (S.kept store.old) (table_of present.old)
         → IfOk result (λ out. Steps db (table_of present.old) (S.kept store.new) (table_of present.new) txn (on_desk_letter (txn_name txn) site.now out.kept choice (replied db reply.now) (txn_in db (table_of present.old) txn)) out.letters out.replies) }
     ensures refusal { IfOk result (λ out. out.kept ≡ false → (kept ≡ false) ⊎ HasRefused (S.refused store.old) (S.refused store.new)) }

@@ -42,6 +42,7 @@ pub(crate) fn votes_go<S: DeskStore>(
 ) -> Result<Turn, Memory>
     ensures clean { S.is_clean store.new → S.is_clean store.old }
     ensures sound { S.is_clean store.new → S.is_sound store.old → S.is_sound store.new }
+    ensures uncalled { kept ≡ false → store.new ≡ store.old }
     ensures turn { (db : Database) (old : Option StandingNow) → AreSpots db spots.items
         → IfOk result (λ turn. IsTurn db txn old turn (votes_go (txn_name txn) (undecided_of db (voting spots.items)) (votes_of spots.items) turn.kept)) }
     ensures sites { IfOk result (λ turn. AtSites (sites_of spots.items) turn.after) }
@@ -102,6 +103,7 @@ fn decides<S: DeskStore>(
 ) -> Result<Turn, Memory>
     ensures clean { S.is_clean store.new → S.is_clean store.old }
     ensures sound { S.is_clean store.new → S.is_sound store.old → S.is_sound store.new }
+    ensures uncalled { kept ≡ false → store.new ≡ store.old }
     ensures turn { (db : Database) (old : Option StandingNow) → AreSpots db spots.now → 0 < length voters.items
         → IfOk result (λ turn. IsTurn db txn old turn (decides (txn_name txn) (undecided_of db (voting spots.now)) turn.kept (map voter_of voters.items))) }
     ensures sites { (sites : List (List ℕ)) → IfOk result (λ turn. AtSites sites turn.after) }
