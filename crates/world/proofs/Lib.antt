@@ -31,3 +31,4 @@ pub mod Smoothly
 pub mod BaseHoused
 pub mod Obeying
 pub mod Denying
+pub mod EndsKept
