@@ -1,5 +1,5 @@
 -- A Commit or an Abort that a site takes was kept: of one that wasn't no vote comes.
-use Rattle.std.proofs.Common.{◌≡◌, refl, ap, Bool, true, false, List, [], ◌∷◌, map, Result, Ok, Err, IfOk}
+use Rattle.std.proofs.Common.{◌≡◌, refl, ap, ℕ, Bool, true, false, List, [], ◌∷◌, map, Result, Ok, Err, IfOk}
 use Rattle.store.specs.declared.letter.Body as bodies
 use Rattle.store.specs.declared.letter.Body.TheVariants as body
 use Rattle.store.specs.declared.letter.Letter as letters
@@ -33,7 +33,7 @@ none_kept : (out : List letters.Letter) → map letter_of out ≡ [] → kept_in
 none_kept [] is = refl
 none_kept (l ∷ out) is = cc
 
-module _ (site : List Rattle.std.specs.Prelude.ℕ) (txn : Name) (out : List letters.Letter) where
+module _ (site : List ℕ) (txn : Name) (out : List letters.Letter) where
   ack_kept : (k : Name) → map letter_of out ≡ addressed site txn (Ack k ∷ []) → kept_in out ≡ true
   ack_kept k is = go out is
     where
