@@ -60,6 +60,17 @@ module _ (db : Database) (before after : Machines) (heard : List Notice) (serves
       go true e = refl
       go false e = absurd (none_first heard notice there (serves.replies ∙ ap (filter_map (told db)) (sym e)))
 
+  first_there : (notices : List Notice) → map notice_of notices ≡ [] → (reply : Name × Reply) → map notice_of notices ≡ reply ∷ [] → ⊥
+  first_there notices none reply is = let e : [] ≡ reply ∷ [] = sym none ∙ is in cc
+
+  -- where nothing is heard none has begun, since the coordinator is at a limit
+  pub begin_unheard : heard ≡ [] → is_desk_within (desk_began (desk_of db before.table)) ≡ false
+  begin_unheard none = go (is_desk_within (desk_began here.desk)) done
+    where
+      go : (b : Bool) → (if b then begun here else here).past ≡ serves.deeds → b ≡ false
+      go true e = absurd (first_there heard (ap (map notice_of) none) _ (serves.replies ∙ ap (filter_map (told db)) (sym e)))
+      go false e = refl
+
   pub begin_done : (txn : Txn) (told : List Notice) → told ≡ heard → option_map (λ notice. notice.txn) (slice_get heard 0) ≡ Some txn → DoesBegin db before txn after told
   begin_done txn told same first = record { named = go (slice_get heard 0) refl first; within = room (slice_get heard 0) refl first; serves = subst (Serves db To_begin before after) (sym same) serves }
     where

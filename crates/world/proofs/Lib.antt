@@ -30,3 +30,5 @@ pub mod Beginning
 pub mod Smoothly
 pub mod BaseHoused
 pub mod Obeying
+pub mod Denying
+pub mod EndsKept

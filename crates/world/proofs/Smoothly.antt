@@ -208,7 +208,7 @@ module _ (db : Database) where
   passes_there : (w : World (language db)) (choice : Choice (language db)) (l : Letter (language db)) → IsFounded db w (Taken true choice) l → passes w true choice l ≡ true
   passes_there w choice l founded =
       let there : passes (record w { letters = []; past = [] }) true choice l ≡ passes (world_of db founded.machines [] []) true choice (sent db founded.letter) = λ i. passes (record { desk = founded.desk i; sites = founded.sites i; letters = []; past = [] }) true choice (founded.is i) in
-      same_passes (is_for_desk l.body) w choice l ∙ there ∙ founded.reason
+      same_passes (is_for_desk l.body) w choice l ∙ there ∙ founded.reason.0
 
   one_smooth : (w : World (language db)) (c : Coming (language db)) (l : Letter (language db)) → IsFounded db w c l → IsSmooth db w c l ⊎ IsRefused db w c l
   one_smooth w (Taken true choice) l founded = ⊎_elim (λ room. inl (record { is_kept = refl; within = passes_there w choice l founded; room = room })) (λ full. inr full) (room_or_full (w.sites l.site) l.body)

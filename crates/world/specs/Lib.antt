@@ -25,3 +25,4 @@ pub mod Serving
 pub mod Stopping
 pub mod Smoothly
 pub mod Obeying
+pub mod Denying

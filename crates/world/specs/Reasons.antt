@@ -11,6 +11,7 @@ use Rattle.store.specs.declared.order.Order as orders
 use Rattle.store.specs.declared.order.Order.TheVariants as order
 use Rattle.protocol.specs.Course.{passes}
 use Rattle.protocol.specs.Desk.{Choice}
+use Rattle.protocol.specs.Leaving.{EndKept}
 use Rattle.protocol.specs.Letter.{Letter}
 use Rattle.protocol.specs.Letters.{leaf_of}
 use Rattle.protocol.specs.World.{World}
@@ -67,9 +68,9 @@ Tells db machines letter (fault.Desk told) = DeskTells db machines letter told
 Tells db machines letter (fault.Site told) = (seat : Seat) × ((seat_of letter.site machines.seats ≡ Some seat) × SiteTells seat letter.body told)
 Tells db machines letter fault.Unsent = is_of_site db letter ≡ false
 
--- what becomes of a letter has its reason: one is taken where its step is within the limits, its transaction given up only where a machine is at a limit with it, and one is passed over only where it is for no machine
+-- what becomes of a letter has its reason: one is taken where its step is within the limits, and a Commit or an Abort where its store call was kept, its transaction given up only where a machine is at a limit with it, and one is passed over only where it is for no machine
 abbrev pub HasReason : (db : Database) → Machines → letters.Letter → Coming (language db) → Type 0
-HasReason db machines letter (Taken kept choice) = passes (world_of db machines [] []) kept choice (sent db letter) ≡ true
+HasReason db machines letter (Taken kept choice) = (passes (world_of db machines [] []) kept choice (sent db letter) ≡ true) × EndKept kept (sent db letter).body
 HasReason db machines letter (Turned_away choice) = IsAtLimit db machines letter
 HasReason db machines letter Passed_over = IsAstray db machines letter
 

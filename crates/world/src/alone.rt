@@ -1,6 +1,6 @@
 //! A statement that is a transaction of its own.
 
-ghost use Rattle.std.specs.Prelude.{◌≡◌, ◌++◌, List, filter, IfErr, IfOk, OnOk};
+ghost use Rattle.std.specs.Prelude.{◌≡◌, ◌⊎◌, ◌++◌, List, true, filter, IfErr, IfOk, OnOk};
 ghost use Rattle.meaning.specs.Whole.{Relations};
 ghost use Rattle.catalog.specs.Relation.{catalogue_of};
 ghost use Rattle.protocol.specs.Client.{ReachedLaw};
@@ -8,6 +8,8 @@ ghost use Rattle.protocol.specs.Desk.{Deed};
 ghost use Rattle.desk.specs.Database.{Database, language};
 ghost use Rattle.desk.specs.OfCatalogue.{IsOfCatalogue};
 ghost use Rattle.desk.specs.declared.refusal.Refusal.TheVariants as refusals;
+ghost use Rattle.world.specs.declared.event.Call.TheVariants as call;
+ghost use Rattle.world.specs.Denying.{CommitIsDenied, IsDenied, LoneIsDenied, RunIsDenied};
 ghost use Rattle.world.specs.Held.{OfStores, held};
 ghost use Rattle.world.specs.Machines.{AreFit};
 ghost use Rattle.world.specs.Serving.{DoesAlone, DoesCommit, DoesDecide, DoesRun, IsServed, IsServedOn, is_answer, is_commit, is_end, tells, told_alone};
@@ -83,7 +85,8 @@ fn told_alone(heard: Vec<Notice>) -> Vec<Notice>
 
 /// What was told before and since.
 fn joined(told: Vec<Notice>, since: Vec<Notice>) -> Result<Vec<Notice>, Refusal>
-    ensures { IfOk result (λ all. all.items ≡ told.items ++ since.items) }
+    ensures all { IfOk result (λ all. all.items ≡ told.items ++ since.items) }
+    ensures own { IfErr result (λ refusal. refusal ≡ refusals.Memory) }
 {
     let mut told = told;
     match add(&mut told, since) {
@@ -94,7 +97,8 @@ fn joined(told: Vec<Notice>, since: Vec<Notice>) -> Result<Vec<Notice>, Refusal>
 
 /// What the client of a lone statement hears, of what was told before and since.
 fn hears(told: Vec<Notice>, since: Vec<Notice>) -> Result<Vec<Notice>, Refusal>
-    ensures { IfOk result (λ heard. heard.items ≡ told_alone (told.items ++ since.items)) }
+    ensures heard { IfOk result (λ heard. heard.items ≡ told_alone (told.items ++ since.items)) }
+    ensures own { IfErr result (λ refusal. refusal ≡ refusals.Memory) }
 {
     match joined(told, since) {
         Ok(all) => Ok(told_alone(all)),
@@ -132,6 +136,7 @@ fn take_back<D: DeskStore, S: SiteStore>(
     ensures clean { OfStores D.is_clean S.is_clean machines.new → OfStores D.is_clean S.is_clean machines.old }
     ensures sound { OfStores D.is_clean S.is_clean machines.new → OfStores D.is_sound S.is_sound machines.old → OfStores D.is_sound S.is_sound machines.new }
     ensures catalog { machines.new.desk.catalog ≡ machines.old.desk.catalog }
+    ensures told { (is_stop result ≡ true) ⊎ (result ≡ refusal) }
     ensures served { (db : Database) (whole : Relations) (past : List (Deed (language db))) → IsOfCatalogue db → ReachedLaw (language db) → db.catalogue ≡ catalogue_of machines.old.desk.catalog → OfStores D.is_clean S.is_clean machines.new → OfStores D.is_sound S.is_sound machines.old
         → IsServed db whole (held D.kept S.kept machines.old) past → IsServedOn db whole (held D.kept S.kept machines.new) past }
 {
@@ -140,7 +145,7 @@ fn take_back<D: DeskStore, S: SiteStore>(
     }
     match roll_back(machines, txn) {
         Ok(_heard) => refusal,
-        Err(other) => other,
+        Err(other) => { if is_stop(&other) { other } else { refusal } }
     }
 }
 
@@ -155,6 +160,8 @@ fn commit_alone<D: DeskStore, S: SiteStore>(
     ensures catalog { machines.new.desk.catalog ≡ machines.old.desk.catalog }
     ensures ok { (db : Database) → IsOfCatalogue db → db.catalogue ≡ catalogue_of machines.old.desk.catalog → OfStores D.is_clean S.is_clean machines.new → OfStores D.is_sound S.is_sound machines.old → AreFit db (held D.kept S.kept machines.old)
         → IfOk result (λ heard. DoesCommit db txn told.items (held D.kept S.kept machines.old) (held D.kept S.kept machines.new) heard.items) }
+    ensures denied { (db : Database) → IsOfCatalogue db → db.catalogue ≡ catalogue_of machines.old.desk.catalog → OfStores D.is_clean S.is_clean machines.new → OfStores D.is_sound S.is_sound machines.old → AreFit db (held D.kept S.kept machines.old)
+        → IfErr result (IsDenied db (held D.kept S.kept machines.old) (call.Commit txn)) }
     ensures served { (db : Database) (whole : Relations) (past : List (Deed (language db))) → IsOfCatalogue db → ReachedLaw (language db) → db.catalogue ≡ catalogue_of machines.old.desk.catalog → OfStores D.is_clean S.is_clean machines.new → OfStores D.is_sound S.is_sound machines.old
         → IsServed db whole (held D.kept S.kept machines.old) past → IsServedOn db whole (held D.kept S.kept machines.new) past }
 {
@@ -175,6 +182,8 @@ fn decide<D: DeskStore, S: SiteStore>(
     ensures catalog { machines.new.desk.catalog ≡ machines.old.desk.catalog }
     ensures ok { (db : Database) → IsOfCatalogue db → db.catalogue ≡ catalogue_of machines.old.desk.catalog → OfStores D.is_clean S.is_clean machines.new → OfStores D.is_sound S.is_sound machines.old → AreFit db (held D.kept S.kept machines.old)
         → IfOk result (λ heard. DoesDecide db txn told.items (held D.kept S.kept machines.old) (held D.kept S.kept machines.new) heard.items) }
+    ensures denied { (db : Database) → IsOfCatalogue db → db.catalogue ≡ catalogue_of machines.old.desk.catalog → OfStores D.is_clean S.is_clean machines.new → OfStores D.is_sound S.is_sound machines.old → AreFit db (held D.kept S.kept machines.old)
+        → IfErr result (CommitIsDenied db txn told.items (held D.kept S.kept machines.old)) }
     ensures served { (db : Database) (whole : Relations) (past : List (Deed (language db))) → IsOfCatalogue db → ReachedLaw (language db) → db.catalogue ≡ catalogue_of machines.old.desk.catalog → OfStores D.is_clean S.is_clean machines.new → OfStores D.is_sound S.is_sound machines.old
         → IsServed db whole (held D.kept S.kept machines.old) past → IsServedOn db whole (held D.kept S.kept machines.new) past }
 {
@@ -196,6 +205,8 @@ fn go_on<D: DeskStore, S: SiteStore>(
     ensures catalog { machines.new.desk.catalog ≡ machines.old.desk.catalog }
     ensures ok { (db : Database) → IsOfCatalogue db → db.catalogue ≡ catalogue_of machines.old.desk.catalog → OfStores D.is_clean S.is_clean machines.new → OfStores D.is_sound S.is_sound machines.old → AreFit db (held D.kept S.kept machines.old)
         → IfOk result (λ heard. DoesDecide db txn (greeted.items ++ answered.items) (held D.kept S.kept machines.old) (held D.kept S.kept machines.new) heard.items) }
+    ensures denied { (db : Database) → IsOfCatalogue db → db.catalogue ≡ catalogue_of machines.old.desk.catalog → OfStores D.is_clean S.is_clean machines.new → OfStores D.is_sound S.is_sound machines.old → AreFit db (held D.kept S.kept machines.old)
+        → IfErr result (CommitIsDenied db txn (greeted.items ++ answered.items) (held D.kept S.kept machines.old)) }
     ensures served { (db : Database) (whole : Relations) (past : List (Deed (language db))) → IsOfCatalogue db → ReachedLaw (language db) → db.catalogue ≡ catalogue_of machines.old.desk.catalog → OfStores D.is_clean S.is_clean machines.new → OfStores D.is_sound S.is_sound machines.old
         → IsServed db whole (held D.kept S.kept machines.old) past → IsServedOn db whole (held D.kept S.kept machines.new) past }
 {
@@ -216,6 +227,8 @@ fn run_begun<D: DeskStore, S: SiteStore>(
     ensures catalog { machines.new.desk.catalog ≡ machines.old.desk.catalog }
     ensures ok { (db : Database) → IsOfCatalogue db → db.catalogue ≡ catalogue_of machines.old.desk.catalog → OfStores D.is_clean S.is_clean machines.new → OfStores D.is_sound S.is_sound machines.old → AreFit db (held D.kept S.kept machines.old)
         → IfOk result (λ heard. DoesRun db text.now begun.txn begun.heard.items (held D.kept S.kept machines.old) (held D.kept S.kept machines.new) heard.items) }
+    ensures denied { (db : Database) → IsOfCatalogue db → db.catalogue ≡ catalogue_of machines.old.desk.catalog → OfStores D.is_clean S.is_clean machines.new → OfStores D.is_sound S.is_sound machines.old → AreFit db (held D.kept S.kept machines.old)
+        → IfErr result (RunIsDenied db text.now begun.txn begun.heard.items (held D.kept S.kept machines.old)) }
     ensures served { (db : Database) (whole : Relations) (past : List (Deed (language db))) → IsOfCatalogue db → ReachedLaw (language db) → db.catalogue ≡ catalogue_of machines.old.desk.catalog → OfStores D.is_clean S.is_clean machines.new → OfStores D.is_sound S.is_sound machines.old
         → IsServed db whole (held D.kept S.kept machines.old) past → IsServedOn db whole (held D.kept S.kept machines.new) past }
 {
@@ -237,6 +250,8 @@ pub(crate) fn run_alone<D: DeskStore, S: SiteStore>(
     ensures catalog { machines.new.desk.catalog ≡ machines.old.desk.catalog }
     ensures ok { (db : Database) → IsOfCatalogue db → db.catalogue ≡ catalogue_of machines.old.desk.catalog → OfStores D.is_clean S.is_clean machines.new → OfStores D.is_sound S.is_sound machines.old → AreFit db (held D.kept S.kept machines.old)
         → IfOk result (λ heard. DoesAlone db text.now (held D.kept S.kept machines.old) (held D.kept S.kept machines.new) heard.items) }
+    ensures denied { (db : Database) → IsOfCatalogue db → db.catalogue ≡ catalogue_of machines.old.desk.catalog → OfStores D.is_clean S.is_clean machines.new → OfStores D.is_sound S.is_sound machines.old → AreFit db (held D.kept S.kept machines.old)
+        → IfErr result (LoneIsDenied db text.now (held D.kept S.kept machines.old)) }
     ensures served { (db : Database) (whole : Relations) (past : List (Deed (language db))) → IsOfCatalogue db → ReachedLaw (language db) → db.catalogue ≡ catalogue_of machines.old.desk.catalog → OfStores D.is_clean S.is_clean machines.new → OfStores D.is_sound S.is_sound machines.old
         → IsServed db whole (held D.kept S.kept machines.old) past → IsServedOn db whole (held D.kept S.kept machines.new) past }
 {

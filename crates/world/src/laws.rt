@@ -13,6 +13,7 @@ ghost use Rattle.protocol.specs.Serial.{SerialLaw};
 ghost use Rattle.protocol.specs.Whole.{AppliedWholeAndOnce};
 ghost use Rattle.desk.specs.Database.{language};
 ghost use Rattle.world.specs.Base.{IsBase, database, fits};
+ghost use Rattle.world.specs.Denying.{DeniesForAReason};
 ghost use Rattle.world.specs.Obeying.{ObeysUnlessRefused};
 ghost use Rattle.world.specs.Runs.{RunsAreSerial};
 ghost use Rattle.world.specs.Serving.{ServedIsSerial};
@@ -22,6 +23,7 @@ use answers::laws::writes_lead;
 use catalog::catalogue::Catalog;
 use catalog::laws::leaf_names_are_unique;
 use plan::laws::{contents_ascend, fetches_are_told};
+use reader::read::one_command;
 use store::laws::{nothing_changes, one_change_more, one_touch_more};
 
 /// Each catalogue has a database: its sites, leaves, statements and writes are those of the catalogue.
@@ -147,4 +149,14 @@ pub fn obeyed_unless_refused(catalog: &Catalog)
     one_client_is_a_run(catalog);
     served_smoothly(catalog);
     served_unless_refused(catalog);
+}
+
+/// A client's database that stands refuses a command only for a reason of the command's own, or for a limit, or since it stops; a lone
+/// statement also where something was refused while it was done.
+pub fn denied_for_a_reason(catalog: &Catalog)
+    ensures { DeniesForAReason (database (catalogue_of catalog.now)) (fits (catalogue_of catalog.now)) }
+{
+    one_command();
+    database_is_of_catalogue(catalog);
+    obeyed_unless_refused(catalog);
 }

@@ -1,6 +1,6 @@
 //! Calls of one client, each with all letters that it brings about.
 
-ghost use Rattle.std.specs.Prelude.{◌≡◌, List, [], Some, slice_get, IfOk, OnErr};
+ghost use Rattle.std.specs.Prelude.{◌≡◌, List, [], Some, slice_get, IfErr, IfOk, OnErr};
 ghost use Rattle.std.specs.Option.{option_map};
 ghost use Rattle.meaning.specs.Whole.{Relations};
 ghost use Rattle.catalog.specs.Relation.{catalogue_of};
@@ -8,6 +8,9 @@ ghost use Rattle.protocol.specs.Client.{ReachedLaw};
 ghost use Rattle.protocol.specs.Desk.{Commit_call, Deed, Rollback};
 ghost use Rattle.desk.specs.Database.{Database, language};
 ghost use Rattle.desk.specs.OfCatalogue.{IsOfCatalogue};
+ghost use Rattle.desk.specs.declared.refusal.Refusal.TheVariants as refusals;
+ghost use Rattle.world.specs.declared.event.Call.TheVariants as call;
+ghost use Rattle.world.specs.Denying.{IsDenied};
 ghost use Rattle.world.specs.Delivering.{Serves, To_begin};
 ghost use Rattle.world.specs.Held.{OfStores, held};
 ghost use Rattle.world.specs.Machines.{AreFit};
@@ -28,18 +31,19 @@ pub(crate) struct Begun {
     pub(crate) heard: Vec<Notice>,
 }
 
-/// The transaction that the first notice names.
+/// The transaction that the first notice names. None has begun where there is no notice, since the coordinator is at a limit.
 fn named(heard: Vec<Notice>) -> Result<Begun, Refusal>
     ensures same { IfOk result (λ begun. begun.heard.items ≡ heard.items) }
     ensures first { IfOk result (λ begun. option_map (λ notice. notice.txn) (slice_get heard.items 0) ≡ Some begun.txn) }
     ensures none { OnErr result (heard.items ≡ []) }
+    ensures full { IfErr result (λ refusal. refusal ≡ refusals.Full) }
 {
     match heard.first() {
         Some(first) => Ok(Begun {
             txn: first.txn,
             heard,
         }),
-        None => Err(Refusal::NoTransaction),
+        None => Err(Refusal::Full),
     }
 }
 
@@ -50,6 +54,8 @@ fn greet<D: DeskStore, S: SiteStore>(machines: &mut Machines<D, S>) -> Result<Ve
     ensures catalog { machines.new.desk.catalog ≡ machines.old.desk.catalog }
     ensures ok { (db : Database) → IsOfCatalogue db → db.catalogue ≡ catalogue_of machines.old.desk.catalog → OfStores D.is_clean S.is_clean machines.new → OfStores D.is_sound S.is_sound machines.old → AreFit db (held D.kept S.kept machines.old)
         → IfOk result (λ heard. Serves db To_begin (held D.kept S.kept machines.old) (held D.kept S.kept machines.new) heard.items) }
+    ensures denied { (db : Database) → IsOfCatalogue db → db.catalogue ≡ catalogue_of machines.old.desk.catalog → OfStores D.is_clean S.is_clean machines.new → OfStores D.is_sound S.is_sound machines.old → AreFit db (held D.kept S.kept machines.old)
+        → IfErr result (IsDenied db (held D.kept S.kept machines.old) call.Begin) }
     ensures served { (db : Database) (whole : Relations) (past : List (Deed (language db))) → IsOfCatalogue db → ReachedLaw (language db) → db.catalogue ≡ catalogue_of machines.old.desk.catalog → OfStores D.is_clean S.is_clean machines.new → OfStores D.is_sound S.is_sound machines.old
         → IsServed db whole (held D.kept S.kept machines.old) past → IsServedOn db whole (held D.kept S.kept machines.new) past }
 {
@@ -68,6 +74,8 @@ pub(crate) fn begin<D: DeskStore, S: SiteStore>(
     ensures catalog { machines.new.desk.catalog ≡ machines.old.desk.catalog }
     ensures ok { (db : Database) → IsOfCatalogue db → db.catalogue ≡ catalogue_of machines.old.desk.catalog → OfStores D.is_clean S.is_clean machines.new → OfStores D.is_sound S.is_sound machines.old → AreFit db (held D.kept S.kept machines.old)
         → IfOk result (λ begun. DoesBegin db (held D.kept S.kept machines.old) begun.txn (held D.kept S.kept machines.new) begun.heard.items) }
+    ensures denied { (db : Database) → IsOfCatalogue db → db.catalogue ≡ catalogue_of machines.old.desk.catalog → OfStores D.is_clean S.is_clean machines.new → OfStores D.is_sound S.is_sound machines.old → AreFit db (held D.kept S.kept machines.old)
+        → IfErr result (IsDenied db (held D.kept S.kept machines.old) call.Begin) }
     ensures served { (db : Database) (whole : Relations) (past : List (Deed (language db))) → IsOfCatalogue db → ReachedLaw (language db) → db.catalogue ≡ catalogue_of machines.old.desk.catalog → OfStores D.is_clean S.is_clean machines.new → OfStores D.is_sound S.is_sound machines.old
         → IsServed db whole (held D.kept S.kept machines.old) past → IsServedOn db whole (held D.kept S.kept machines.new) past }
 {
@@ -88,6 +96,8 @@ pub(crate) fn state<D: DeskStore, S: SiteStore>(
     ensures catalog { machines.new.desk.catalog ≡ machines.old.desk.catalog }
     ensures ok { (db : Database) → IsOfCatalogue db → db.catalogue ≡ catalogue_of machines.old.desk.catalog → OfStores D.is_clean S.is_clean machines.new → OfStores D.is_sound S.is_sound machines.old → AreFit db (held D.kept S.kept machines.old)
         → IfOk result (λ heard. DoesState db text.now txn (held D.kept S.kept machines.old) (held D.kept S.kept machines.new) heard.items) }
+    ensures denied { (db : Database) → IsOfCatalogue db → db.catalogue ≡ catalogue_of machines.old.desk.catalog → OfStores D.is_clean S.is_clean machines.new → OfStores D.is_sound S.is_sound machines.old → AreFit db (held D.kept S.kept machines.old)
+        → IfErr result (IsDenied db (held D.kept S.kept machines.old) (call.State txn text.now)) }
     ensures served { (db : Database) (whole : Relations) (past : List (Deed (language db))) → IsOfCatalogue db → ReachedLaw (language db) → db.catalogue ≡ catalogue_of machines.old.desk.catalog → OfStores D.is_clean S.is_clean machines.new → OfStores D.is_sound S.is_sound machines.old
         → IsServed db whole (held D.kept S.kept machines.old) past → IsServedOn db whole (held D.kept S.kept machines.new) past }
 {
@@ -107,6 +117,8 @@ pub(crate) fn commit<D: DeskStore, S: SiteStore>(
     ensures catalog { machines.new.desk.catalog ≡ machines.old.desk.catalog }
     ensures ok { (db : Database) → IsOfCatalogue db → db.catalogue ≡ catalogue_of machines.old.desk.catalog → OfStores D.is_clean S.is_clean machines.new → OfStores D.is_sound S.is_sound machines.old → AreFit db (held D.kept S.kept machines.old)
         → IfOk result (λ heard. DoesAsk db Commit_call txn (held D.kept S.kept machines.old) (held D.kept S.kept machines.new) heard.items) }
+    ensures denied { (db : Database) → IsOfCatalogue db → db.catalogue ≡ catalogue_of machines.old.desk.catalog → OfStores D.is_clean S.is_clean machines.new → OfStores D.is_sound S.is_sound machines.old → AreFit db (held D.kept S.kept machines.old)
+        → IfErr result (IsDenied db (held D.kept S.kept machines.old) (call.Commit txn)) }
     ensures served { (db : Database) (whole : Relations) (past : List (Deed (language db))) → IsOfCatalogue db → ReachedLaw (language db) → db.catalogue ≡ catalogue_of machines.old.desk.catalog → OfStores D.is_clean S.is_clean machines.new → OfStores D.is_sound S.is_sound machines.old
         → IsServed db whole (held D.kept S.kept machines.old) past → IsServedOn db whole (held D.kept S.kept machines.new) past }
 {
@@ -126,6 +138,8 @@ pub(crate) fn roll_back<D: DeskStore, S: SiteStore>(
     ensures catalog { machines.new.desk.catalog ≡ machines.old.desk.catalog }
     ensures ok { (db : Database) → IsOfCatalogue db → db.catalogue ≡ catalogue_of machines.old.desk.catalog → OfStores D.is_clean S.is_clean machines.new → OfStores D.is_sound S.is_sound machines.old → AreFit db (held D.kept S.kept machines.old)
         → IfOk result (λ heard. DoesAsk db Rollback txn (held D.kept S.kept machines.old) (held D.kept S.kept machines.new) heard.items) }
+    ensures denied { (db : Database) → IsOfCatalogue db → db.catalogue ≡ catalogue_of machines.old.desk.catalog → OfStores D.is_clean S.is_clean machines.new → OfStores D.is_sound S.is_sound machines.old → AreFit db (held D.kept S.kept machines.old)
+        → IfErr result (IsDenied db (held D.kept S.kept machines.old) (call.Rollback txn)) }
     ensures served { (db : Database) (whole : Relations) (past : List (Deed (language db))) → IsOfCatalogue db → ReachedLaw (language db) → db.catalogue ≡ catalogue_of machines.old.desk.catalog → OfStores D.is_clean S.is_clean machines.new → OfStores D.is_sound S.is_sound machines.old
         → IsServed db whole (held D.kept S.kept machines.old) past → IsServedOn db whole (held D.kept S.kept machines.new) past }
 {

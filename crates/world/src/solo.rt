@@ -1,11 +1,15 @@
 //! A database for one client at a time.
 
-ghost use Rattle.std.specs.Prelude.{◌≡◌, ◌≢◌, ℕ, List, [], None, Some, Err, IfOk, OnErr};
+ghost use Rattle.std.specs.Prelude.{◌≡◌, ◌≢◌, ◌⊎◌, ℕ, List, [], None, Some, Err, IfErr, IfOk, OnErr, OnOk};
 ghost use Rattle.std.specs.Option.{option_map};
 ghost use Rattle.meaning.specs.Whole.{FitsSchema, Relations};
 ghost use Rattle.catalog.specs.FragmentLeaf.{schemas_of};
 ghost use Rattle.catalog.specs.Relation.{catalogue_of};
-ghost use Rattle.reader.specs.declared.command.Command.TheVariants.{Begin, Commit, Rollback};
+ghost use Rattle.reader.specs.declared.command.Command.TheVariants.{Begin, Commit, Rollback, Run};
+ghost use Rattle.reader.specs.declared.command.Command.{Command as CommandNow};
+ghost use Rattle.meaning.specs.declared.statement.Statement.{Statement};
+ghost use Rattle.store.specs.declared.name.Txn.{Txn as TxnNow};
+ghost use Rattle.world.specs.Denying.{Declines, Denies, IsUnreadable};
 ghost use Rattle.reader.specs.Command.{IsTextOf};
 ghost use Rattle.protocol.specs.Client.{ReachedLaw};
 ghost use Rattle.protocol.specs.Desk.{Deed};
@@ -26,7 +30,9 @@ ghost use Rattle.world.specs.Stopping.{stopped_by};
 
 use crate::alone::{is_stop, run_alone, tells_end};
 use crate::fault::Fault;
-use crate::laws::{database_is_of_catalogue, obeyed_unless_refused, one_client_is_a_run};
+use crate::laws::{
+    database_is_of_catalogue, denied_for_a_reason, obeyed_unless_refused, one_client_is_a_run,
+};
 use crate::machines::Machines;
 use crate::opening::start;
 use crate::rebuilding::rebuilt;
@@ -38,7 +44,7 @@ use desk::reply::Notice;
 use meaning::whole::Whole;
 use reader::command::Command;
 use reader::fault::{ReadFault, Rule};
-use reader::read::read;
+use reader::read::{one_command, read};
 use std::alloc::Global;
 use store::desk_store::DeskStore;
 use store::name::Txn;
@@ -88,8 +94,7 @@ pub fn open(
 
 /// What the reader says of a text.
 fn unread(fault: ReadFault) -> Refusal
-    ensures memory { fault.rule ≡ Rule.Memory → result ≡ refusals.Memory }
-    ensures read { fault.rule ≢ Rule.Memory → result ≡ refusals.Read fault }
+    ensures { ((fault.rule ≡ Rule.Memory) × (result ≡ refusals.Memory)) ⊎ ((fault.rule ≢ Rule.Memory) × (result ≡ refusals.Read fault)) }
 {
     if fault.rule() == Rule::Memory {
         Refusal::Memory
@@ -100,7 +105,8 @@ fn unread(fault: ReadFault) -> Refusal
 
 /// The command of a text, under the catalogue's schema.
 fn command_of(alloc: Global, catalog: &Catalog, text: &str) -> Result<Command, Refusal>
-    ensures { IfOk result (λ command. IsTextOf (schemas_of (catalogue_of catalog.now)) text.now command) }
+    ensures read { IfOk result (λ command. IsTextOf (schemas_of (catalogue_of catalog.now)) text.now command) }
+    ensures unread { IfErr result (IsUnreadable (schemas_of (catalogue_of catalog.now)) text.now) }
 {
     match read(alloc, text, catalog.schema()) {
         Ok(command) => Ok(command),
@@ -139,6 +145,9 @@ impl<D: DeskStore, S: SiteStore> Solo<D, S> {
         ensures catalog { self.new.machines.desk.catalog ≡ self.old.machines.desk.catalog }
         ensures ok { (db : Database) (text : List ℕ) → IsOfCatalogue db → db.catalogue ≡ catalogue_of self.old.machines.desk.catalog → OfStores D.is_clean S.is_clean self.new.machines → OfStores D.is_sound S.is_sound self.old.machines → AreFit db (held D.kept S.kept self.old.machines)
             → IsTextOf db.schemas text Begin → IfOk result (λ heard. Executes db text self.old.current (held D.kept S.kept self.old.machines) self.new.current (held D.kept S.kept self.new.machines) heard.items) }
+        ensures denied { (db : Database) (text : List ℕ) → IsOfCatalogue db → db.catalogue ≡ catalogue_of self.old.machines.desk.catalog → OfStores D.is_clean S.is_clean self.new.machines → OfStores D.is_sound S.is_sound self.old.machines → AreFit db (held D.kept S.kept self.old.machines)
+            → IsTextOf db.schemas text Begin → IfErr result (Declines db text self.old.current (held D.kept S.kept self.old.machines)) }
+        ensures inside { (txn : TxnNow) → self.old.current ≡ Some txn → result ≡ Err refusals.Busy }
         ensures served { (db : Database) (whole : Relations) (past : List (Deed (language db))) → IsOfCatalogue db → ReachedLaw (language db) → db.catalogue ≡ catalogue_of self.old.machines.desk.catalog → OfStores D.is_clean S.is_clean self.new.machines → OfStores D.is_sound S.is_sound self.old.machines
             → IsServed db whole (held D.kept S.kept self.old.machines) past → IsServedOn db whole (held D.kept S.kept self.new.machines) past }
         ensures still { OnErr result (self.new.current ≡ self.old.current) }
@@ -162,6 +171,9 @@ impl<D: DeskStore, S: SiteStore> Solo<D, S> {
         ensures catalog { self.new.machines.desk.catalog ≡ self.old.machines.desk.catalog }
         ensures ok { (db : Database) (text : List ℕ) → IsOfCatalogue db → db.catalogue ≡ catalogue_of self.old.machines.desk.catalog → OfStores D.is_clean S.is_clean self.new.machines → OfStores D.is_sound S.is_sound self.old.machines → AreFit db (held D.kept S.kept self.old.machines)
             → IsTextOf db.schemas text Commit → IfOk result (λ heard. Executes db text self.old.current (held D.kept S.kept self.old.machines) self.new.current (held D.kept S.kept self.new.machines) heard.items) }
+        ensures denied { (db : Database) (text : List ℕ) → IsOfCatalogue db → db.catalogue ≡ catalogue_of self.old.machines.desk.catalog → OfStores D.is_clean S.is_clean self.new.machines → OfStores D.is_sound S.is_sound self.old.machines → AreFit db (held D.kept S.kept self.old.machines)
+            → IsTextOf db.schemas text Commit → IfErr result (Declines db text self.old.current (held D.kept S.kept self.old.machines)) }
+        ensures outside { self.old.current ≡ None → result ≡ Err refusals.NoTransaction }
         ensures served { (db : Database) (whole : Relations) (past : List (Deed (language db))) → IsOfCatalogue db → ReachedLaw (language db) → db.catalogue ≡ catalogue_of self.old.machines.desk.catalog → OfStores D.is_clean S.is_clean self.new.machines → OfStores D.is_sound S.is_sound self.old.machines
             → IsServed db whole (held D.kept S.kept self.old.machines) past → IsServedOn db whole (held D.kept S.kept self.new.machines) past }
         ensures still { OnErr result (self.new.current ≡ self.old.current) }
@@ -185,6 +197,9 @@ impl<D: DeskStore, S: SiteStore> Solo<D, S> {
         ensures catalog { self.new.machines.desk.catalog ≡ self.old.machines.desk.catalog }
         ensures ok { (db : Database) (text : List ℕ) → IsOfCatalogue db → db.catalogue ≡ catalogue_of self.old.machines.desk.catalog → OfStores D.is_clean S.is_clean self.new.machines → OfStores D.is_sound S.is_sound self.old.machines → AreFit db (held D.kept S.kept self.old.machines)
             → IsTextOf db.schemas text Rollback → IfOk result (λ heard. Executes db text self.old.current (held D.kept S.kept self.old.machines) self.new.current (held D.kept S.kept self.new.machines) heard.items) }
+        ensures denied { (db : Database) (text : List ℕ) → IsOfCatalogue db → db.catalogue ≡ catalogue_of self.old.machines.desk.catalog → OfStores D.is_clean S.is_clean self.new.machines → OfStores D.is_sound S.is_sound self.old.machines → AreFit db (held D.kept S.kept self.old.machines)
+            → IsTextOf db.schemas text Rollback → IfErr result (Declines db text self.old.current (held D.kept S.kept self.old.machines)) }
+        ensures outside { self.old.current ≡ None → result ≡ Err refusals.NoTransaction }
         ensures served { (db : Database) (whole : Relations) (past : List (Deed (language db))) → IsOfCatalogue db → ReachedLaw (language db) → db.catalogue ≡ catalogue_of self.old.machines.desk.catalog → OfStores D.is_clean S.is_clean self.new.machines → OfStores D.is_sound S.is_sound self.old.machines
             → IsServed db whole (held D.kept S.kept self.old.machines) past → IsServedOn db whole (held D.kept S.kept self.new.machines) past }
         ensures still { OnErr result (self.new.current ≡ self.old.current) }
@@ -208,6 +223,8 @@ impl<D: DeskStore, S: SiteStore> Solo<D, S> {
         ensures catalog { self.new.machines.desk.catalog ≡ self.old.machines.desk.catalog }
         ensures ok { (db : Database) → IsOfCatalogue db → db.catalogue ≡ catalogue_of self.old.machines.desk.catalog → OfStores D.is_clean S.is_clean self.new.machines → OfStores D.is_sound S.is_sound self.old.machines → AreFit db (held D.kept S.kept self.old.machines)
             → IfOk result (λ heard. Executes db text.now self.old.current (held D.kept S.kept self.old.machines) self.new.current (held D.kept S.kept self.new.machines) heard.items) }
+        ensures denied { (db : Database) (statement : Statement) → IsOfCatalogue db → db.catalogue ≡ catalogue_of self.old.machines.desk.catalog → OfStores D.is_clean S.is_clean self.new.machines → OfStores D.is_sound S.is_sound self.old.machines → AreFit db (held D.kept S.kept self.old.machines)
+            → IsTextOf db.schemas text.now (Run statement) → IfErr result (Declines db text.now self.old.current (held D.kept S.kept self.old.machines)) }
         ensures served { (db : Database) (whole : Relations) (past : List (Deed (language db))) → IsOfCatalogue db → ReachedLaw (language db) → db.catalogue ≡ catalogue_of self.old.machines.desk.catalog → OfStores D.is_clean S.is_clean self.new.machines → OfStores D.is_sound S.is_sound self.old.machines
             → IsServed db whole (held D.kept S.kept self.old.machines) past → IsServedOn db whole (held D.kept S.kept self.new.machines) past }
         ensures still { OnErr result (self.new.current ≡ self.old.current) }
@@ -231,6 +248,10 @@ impl<D: DeskStore, S: SiteStore> Solo<D, S> {
         ensures catalog { self.new.machines.desk.catalog ≡ self.old.machines.desk.catalog }
         ensures ok { (db : Database) → IsOfCatalogue db → db.catalogue ≡ catalogue_of self.old.machines.desk.catalog → OfStores D.is_clean S.is_clean self.new.machines → OfStores D.is_sound S.is_sound self.old.machines → AreFit db (held D.kept S.kept self.old.machines)
             → IsTextOf db.schemas text.now command.now → IfOk result (λ heard. Executes db text.now self.old.current (held D.kept S.kept self.old.machines) self.new.current (held D.kept S.kept self.new.machines) heard.items) }
+        ensures denied { (db : Database) → IsOfCatalogue db → db.catalogue ≡ catalogue_of self.old.machines.desk.catalog → OfStores D.is_clean S.is_clean self.new.machines → OfStores D.is_sound S.is_sound self.old.machines → AreFit db (held D.kept S.kept self.old.machines)
+            → IsTextOf db.schemas text.now command.now → IfErr result (Declines db text.now self.old.current (held D.kept S.kept self.old.machines)) }
+        ensures inside { (txn : TxnNow) → self.old.current ≡ Some txn → command.now ≡ Begin → result ≡ Err refusals.Busy }
+        ensures outside { self.old.current ≡ None → (command.now ≡ Commit) ⊎ (command.now ≡ Rollback) → result ≡ Err refusals.NoTransaction }
         ensures served { (db : Database) (whole : Relations) (past : List (Deed (language db))) → IsOfCatalogue db → ReachedLaw (language db) → db.catalogue ≡ catalogue_of self.old.machines.desk.catalog → OfStores D.is_clean S.is_clean self.new.machines → OfStores D.is_sound S.is_sound self.old.machines
             → IsServed db whole (held D.kept S.kept self.old.machines) past → IsServedOn db whole (held D.kept S.kept self.new.machines) past }
         ensures still { OnErr result (self.new.current ≡ self.old.current) }
@@ -250,10 +271,16 @@ impl<D: DeskStore, S: SiteStore> Solo<D, S> {
         ensures catalog { self.new.machines.desk.catalog ≡ self.old.machines.desk.catalog }
         ensures ok { (db : Database) → IsOfCatalogue db → db.catalogue ≡ catalogue_of self.old.machines.desk.catalog → OfStores D.is_clean S.is_clean self.new.machines → OfStores D.is_sound S.is_sound self.old.machines → AreFit db (held D.kept S.kept self.old.machines)
             → IfOk result (λ heard. Executes db text.now self.old.current (held D.kept S.kept self.old.machines) self.new.current (held D.kept S.kept self.new.machines) heard.items) }
+        ensures denied { (db : Database) → IsOfCatalogue db → db.catalogue ≡ catalogue_of self.old.machines.desk.catalog → OfStores D.is_clean S.is_clean self.new.machines → OfStores D.is_sound S.is_sound self.old.machines → AreFit db (held D.kept S.kept self.old.machines)
+            → IfErr result (Declines db text.now self.old.current (held D.kept S.kept self.old.machines)) }
+        ensures inside { (txn : TxnNow) → self.old.current ≡ Some txn → IsTextOf (schemas_of (catalogue_of self.old.machines.desk.catalog)) text.now Begin → (result ≡ Err refusals.Busy) ⊎ (result ≡ Err refusals.Memory) }
+        ensures outside { self.old.current ≡ None → IsTextOf (schemas_of (catalogue_of self.old.machines.desk.catalog)) text.now Commit ⊎ IsTextOf (schemas_of (catalogue_of self.old.machines.desk.catalog)) text.now Rollback → (result ≡ Err refusals.NoTransaction) ⊎ (result ≡ Err refusals.Memory) }
+        ensures unread { ((given : CommandNow) → IsTextOf (schemas_of (catalogue_of self.old.machines.desk.catalog)) text.now given → ⊥) → OnOk result ⊥ × IfErr result (IsUnreadable (schemas_of (catalogue_of self.old.machines.desk.catalog)) text.now) }
         ensures served { (db : Database) (whole : Relations) (past : List (Deed (language db))) → IsOfCatalogue db → ReachedLaw (language db) → db.catalogue ≡ catalogue_of self.old.machines.desk.catalog → OfStores D.is_clean S.is_clean self.new.machines → OfStores D.is_sound S.is_sound self.old.machines
             → IsServed db whole (held D.kept S.kept self.old.machines) past → IsServedOn db whole (held D.kept S.kept self.new.machines) past }
         ensures still { OnErr result (self.new.current ≡ self.old.current) }
     {
+        one_command();
         match command_of(self.machines.alloc, self.machines.desk.catalog(), text) {
             Ok(command) => self.obey(&command, text),
             Err(refusal) => Err(refusal),
@@ -276,6 +303,12 @@ impl<D: DeskStore, S: SiteStore> Solo<D, S> {
             → IsServed (database (catalogue_of self.old.machines.desk.catalog)) whole (held D.kept S.kept self.old.machines) past
             → Stands (database (catalogue_of self.old.machines.desk.catalog)) (fits (catalogue_of self.old.machines.desk.catalog)) self.old.current (held D.kept S.kept self.old.machines) past
             → IfOk result (λ heard. Obeys (database (catalogue_of self.old.machines.desk.catalog)) (fits (catalogue_of self.old.machines.desk.catalog)) whole text.now self.old.current (held D.kept S.kept self.old.machines) self.new.current (held D.kept S.kept self.new.machines) past heard.items) }
+        ensures denied { (whole : Relations) (past : List (Deed (language (database (catalogue_of self.old.machines.desk.catalog))))) → self.old.stopped ≡ None → OfStores D.is_clean S.is_clean self.new.machines → OfStores D.is_sound S.is_sound self.old.machines
+            → IsServed (database (catalogue_of self.old.machines.desk.catalog)) whole (held D.kept S.kept self.old.machines) past → Stands (database (catalogue_of self.old.machines.desk.catalog)) (fits (catalogue_of self.old.machines.desk.catalog)) self.old.current (held D.kept S.kept self.old.machines) past
+            → IfErr result (Denies (database (catalogue_of self.old.machines.desk.catalog)) text.now self.old.current (held D.kept S.kept self.old.machines) past) }
+        ensures inside { (txn : TxnNow) → self.old.stopped ≡ None → self.old.current ≡ Some txn → IsTextOf (schemas_of (catalogue_of self.old.machines.desk.catalog)) text.now Begin → (result ≡ Err refusals.Busy) ⊎ (result ≡ Err refusals.Memory) }
+        ensures outside { self.old.stopped ≡ None → self.old.current ≡ None → IsTextOf (schemas_of (catalogue_of self.old.machines.desk.catalog)) text.now Commit ⊎ IsTextOf (schemas_of (catalogue_of self.old.machines.desk.catalog)) text.now Rollback → (result ≡ Err refusals.NoTransaction) ⊎ (result ≡ Err refusals.Memory) }
+        ensures unread { self.old.stopped ≡ None → ((given : CommandNow) → IsTextOf (schemas_of (catalogue_of self.old.machines.desk.catalog)) text.now given → ⊥) → OnOk result ⊥ × IfErr result (IsUnreadable (schemas_of (catalogue_of self.old.machines.desk.catalog)) text.now) }
         ensures still { OnErr result (self.new.current ≡ self.old.current) }
         ensures stops { self.old.stopped ≡ None → self.new.stopped ≡ stopped_by result }
         ensures stopped { (refusal : RefusalNow) → self.old.stopped ≡ Some refusal → (result ≡ Err refusal) × (self.new ≡ self.old) }
@@ -286,6 +319,7 @@ impl<D: DeskStore, S: SiteStore> Solo<D, S> {
         database_is_of_catalogue(self.machines.desk.catalog());
         one_client_is_a_run(self.machines.desk.catalog());
         obeyed_unless_refused(self.machines.desk.catalog());
+        denied_for_a_reason(self.machines.desk.catalog());
         let done = self.command(text);
         self.stopped = stopped_by(&done);
         done

@@ -4,14 +4,25 @@ use Rattle.catalog.specs.Relation.{catalogue_of}
 use Rattle.world.specs.Held.{held}
 use Rattle.world.proofs.Moving.{if_ok}
 use Rattle.world.proofs.Reaching.{then_on}
+use Rattle.world.proofs.Refusing.{if_err}
+use Rattle.std.proofs.Common.{inl}
+use Rattle.world.proofs.Denying.{is_memory, taken_back}
+use Rattle.world.specs.declared.event.Call.TheVariants as call
+use Rattle.world.specs.Refused.{IsRefused}
 use Rattle.world.proofs.alone.commit_alone.Goals as goal
 
 pub returns-in-Ok-clause-ok : goal.returns-in-Ok-clause-ok
 returns-in-Ok-clause-ok g c = λ db of is clean sound fit.
-    if_ok c.hears.result (λ heard is_so. record { decided = c.in-Ok.decided.items; asks = c.in-Ok.ensures.ok db of is clean sound fit; hears = is_so }) c.hears.ensures
+    if_ok c.hears.result (λ heard is_so. record { decided = c.in-Ok.decided.items; asks = c.in-Ok.ensures.ok db of is clean sound fit; hears = is_so }) c.hears.ensures.heard
 
 pub returns-in-Err-clause-served : goal.returns-in-Err-clause-served
 returns-in-Err-clause-served g c = λ db whole past of law is clean sound served.
     then_on db law whole (held g.D.DeskStore.kept g.S.SiteStore.kept c.args.machines.now) (held g.D.DeskStore.kept g.S.SiteStore.kept c.commit.new.machines) (held g.D.DeskStore.kept g.S.SiteStore.kept c.take_back.new.machines) past
     (c.commit.ensures.served db whole past of law is (c.take_back.ensures.clean clean) sound served)
     (λ more so. c.take_back.ensures.served db whole more of law (is ∙ ap catalogue_of (sym c.commit.ensures.catalog)) clean (c.commit.ensures.sound (c.take_back.ensures.clean clean) sound) so)
+
+pub returns-in-Ok-clause-denied : goal.returns-in-Ok-clause-denied
+returns-in-Ok-clause-denied g c = λ db of is clean sound fit. if_err c.hears.result (λ told memory. inl (is_memory told memory)) c.hears.ensures.own
+
+pub returns-in-Err-clause-denied : goal.returns-in-Err-clause-denied
+returns-in-Err-clause-denied g c = λ db of is clean sound fit. taken_back (IsRefused db (held g.D.DeskStore.kept g.S.SiteStore.kept c.args.machines.now).table (call.Commit c.args.txn)) c.take_back.result c.in-Err.refusal c.take_back.ensures.told (c.in-Err.ensures.denied db of is (c.take_back.ensures.clean clean) sound fit)

@@ -1,9 +1,10 @@
 -- Why `decide` meets its contract.
-use Rattle.std.proofs.Common.{◌≡◌, ◌∙◌, refl, sym, ap, true, false, inl, inr}
+use Rattle.std.proofs.Common.{◌≡◌, ◌∙◌, refl, sym, ap, true, false, inl, inr, ⊎_elim}
 use Rattle.world.specs.Held.{held}
 use Rattle.world.specs.Serving.{is_end, tells}
 use Rattle.world.proofs.Moving.{if_ok}
 use Rattle.world.proofs.Reaching.{same_on}
+use Rattle.world.proofs.Refusing.{if_err}
 use Rattle.world.proofs.alone.decide.Goals as goal
 
 pub returns-then-tells_end-clause-ok : goal.returns-then-tells_end-clause-ok
@@ -20,3 +21,8 @@ pub returns-clause-ok : goal.returns-clause-ok
 returns-clause-ok g c = λ db of is clean sound fit.
     let goes_on : tells is_end c.args.told.items ≡ false = ap (tells is_end) (sym c.as_slice.ensures.value) ∙ sym c.tells_end.ensures ∙ c.if-tells_end.false in
     if_ok c.commit_alone.result (λ heard commits. inr (goes_on, commits)) (c.commit_alone.ensures.ok db of is clean sound fit)
+
+pub returns-clause-denied : goal.returns-clause-denied
+returns-clause-denied g c = λ db of is clean sound fit.
+    let goes_on : tells is_end c.args.told.items ≡ false = ap (tells is_end) (sym c.as_slice.ensures.value) ∙ sym c.tells_end.ensures ∙ c.if-tells_end.false in
+    if_err c.commit_alone.result (λ told denied. ⊎_elim (λ stops. inl stops) (λ refused. inr (goes_on, refused)) denied) (c.commit_alone.ensures.denied db of is clean sound fit)

@@ -4,6 +4,11 @@ use Rattle.catalog.specs.Relation.{catalogue_of}
 use Rattle.world.specs.Held.{held}
 use Rattle.world.proofs.Moving.{if_ok}
 use Rattle.world.proofs.Reaching.{then_on}
+use Rattle.world.proofs.Refusing.{if_err}
+use Rattle.world.proofs.Denying.{not_stated, taken_back}
+use Rattle.world.specs.Denying.{is_not_committed}
+use Rattle.world.specs.declared.event.Call.TheVariants as call
+use Rattle.world.specs.Refused.{IsRefused}
 use Rattle.world.proofs.alone.run_begun.Goals as goal
 
 pub returns-in-Ok-clause-ok : goal.returns-in-Ok-clause-ok
@@ -23,3 +28,13 @@ returns-in-Err-clause-served g c = λ db whole past of law is clean sound served
     then_on db law whole (held g.D.DeskStore.kept g.S.SiteStore.kept c.args.machines.now) (held g.D.DeskStore.kept g.S.SiteStore.kept c.state.new.machines) (held g.D.DeskStore.kept g.S.SiteStore.kept c.take_back.new.machines) past
     (c.state.ensures.served db whole past of law is (c.take_back.ensures.clean clean) sound served)
     (λ more so. c.take_back.ensures.served db whole more of law (is ∙ ap catalogue_of (sym c.state.ensures.catalog)) clean (c.state.ensures.sound (c.take_back.ensures.clean clean) sound) so)
+
+pub returns-in-Ok-clause-denied : goal.returns-in-Ok-clause-denied
+returns-in-Ok-clause-denied g c = λ db of is clean sound fit.
+    let stated = c.in-Ok.ensures.ok db of is (c.go_on.ensures.clean clean) sound fit in
+    if_err c.go_on.result (λ told denied. is_not_committed (held g.D.DeskStore.kept g.S.SiteStore.kept c.state.new.machines) c.in-Ok.answered.items stated denied)
+    (c.go_on.ensures.denied db of (is ∙ ap catalogue_of (sym c.state.ensures.catalog)) clean (c.state.ensures.sound (c.go_on.ensures.clean clean) sound) stated.asks.serves.fit)
+
+pub returns-in-Err-clause-denied : goal.returns-in-Err-clause-denied
+returns-in-Err-clause-denied g c = λ db of is clean sound fit. not_stated db c.args.text.now c.args.begun.txn c.args.begun.heard.items (held g.D.DeskStore.kept g.S.SiteStore.kept c.args.machines.now) c.take_back.result
+    (taken_back (IsRefused db (held g.D.DeskStore.kept g.S.SiteStore.kept c.args.machines.now).table (call.State c.args.begun.txn c.args.text.now)) c.take_back.result c.in-Err.refusal c.take_back.ensures.told (c.in-Err.ensures.denied db of is (c.take_back.ensures.clean clean) sound fit))

@@ -9,6 +9,9 @@ use Rattle.world.proofs.Deliveries.{call_serves}
 use Rattle.world.proofs.Moving.{if_ok}
 use Rattle.world.proofs.Reaching.{call_served, same_on}
 use Rattle.world.proofs.Running.{no_choice, over_of}
+use Rattle.world.proofs.Refusing.{if_err}
+use Rattle.std.proofs.Common.{inl}
+use Rattle.world.proofs.Denying.{memory_stops}
 use Rattle.world.proofs.serving.commit.Goals as goal
 
 pub returns-in-Ok-clause-ok : goal.returns-in-Ok-clause-ok
@@ -36,3 +39,9 @@ returns-in-Ok-clause-served g c = λ db whole past of law is clean sound served.
 pub returns-in-Err-clause-served : goal.returns-in-Err-clause-served
 returns-in-Err-clause-served g c = λ db whole past of law is clean sound served.
     same_on db law whole (held g.D.DeskStore.kept g.S.SiteStore.kept c.args.machines.now) (held g.D.DeskStore.kept g.S.SiteStore.kept c.commit.new.self) past served c.in-Err.ensures.err
+
+pub returns-in-Ok-clause-denied : goal.returns-in-Ok-clause-denied
+returns-in-Ok-clause-denied g c = λ db of is clean sound fit. if_err c.settle.result (λ told stops. inl stops) c.settle.ensures.own
+
+pub returns-in-Err-clause-denied : goal.returns-in-Err-clause-denied
+returns-in-Err-clause-denied g c = λ db of is clean sound fit. memory_stops c.in-Err.refusal (c.in-Err.ensures.told db)

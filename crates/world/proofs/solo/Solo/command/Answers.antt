@@ -1,5 +1,9 @@
 -- Why `command` meets its contract.
-use Rattle.std.proofs.Common.{◌∙◌, List, ap, subst, sym, ℕ}
+use Rattle.std.proofs.Common.{◌∙◌, List, ap, subst, sym, ℕ, inl, inr, ⊎_elim, Err}
+use Rattle.reader.specs.declared.command.Command.TheVariants.{Begin, Commit, Rollback}
+use Rattle.world.specs.Denying.{IsUnreadable}
+use Rattle.world.specs.Held.{held}
+use Rattle.world.proofs.Denying.{only_memory, text_declines}
 use Rattle.meaning.specs.declared.schema.RelationSchema.{RelationSchema}
 use Rattle.reader.specs.Command.{IsTextOf}
 use Rattle.catalog.specs.declared.relation.SplitRelation.{SplitRelation}
@@ -10,4 +14,45 @@ use Rattle.world.proofs.solo.Solo.command.Goals as goal
 pub returns-in-Ok-clause-ok : goal.returns-in-Ok-clause-ok
 returns-in-Ok-clause-ok g c = λ db of is clean sound fit.
     c.obey.ensures.ok db of is clean sound fit
-    (subst (λ (schemas : List RelationSchema). IsTextOf schemas c.args.text.now c.in-Ok.command) (ap (λ (x : List (List ℕ) × List SplitRelation). schemas_of (catalogue_of x)) c.catalog.ensures ∙ ap schemas_of (sym is) ∙ sym of.schemas) c.in-Ok.ensures)
+    (subst (λ (schemas : List RelationSchema). IsTextOf schemas c.args.text.now c.in-Ok.command) (ap (λ (x : List (List ℕ) × List SplitRelation). schemas_of (catalogue_of x)) c.catalog.ensures ∙ ap schemas_of (sym is) ∙ sym of.schemas) c.in-Ok.ensures.read)
+
+pub returns-in-Ok-clause-denied : goal.returns-in-Ok-clause-denied
+returns-in-Ok-clause-denied g c = λ db of is clean sound fit.
+    c.obey.ensures.denied db of is clean sound fit
+    (subst (λ (schemas : List RelationSchema). IsTextOf schemas c.args.text.now c.in-Ok.command) (ap (λ (x : List (List ℕ) × List SplitRelation). schemas_of (catalogue_of x)) c.catalog.ensures ∙ ap schemas_of (sym is) ∙ sym of.schemas) c.in-Ok.ensures.read)
+
+pub returns-in-Err-clause-denied : goal.returns-in-Err-clause-denied
+returns-in-Err-clause-denied g c = λ db of is clean sound fit.
+    text_declines db c.args.text.now c.args.self.now.current (held g.D.DeskStore.kept g.S.SiteStore.kept c.args.self.now.machines) c.in-Err.refusal
+    (subst (λ (schemas : List RelationSchema). IsUnreadable schemas c.args.text.now c.in-Err.refusal) (ap (λ (x : List (List ℕ) × List SplitRelation). schemas_of (catalogue_of x)) c.catalog.ensures ∙ ap schemas_of (sym is) ∙ sym of.schemas) c.in-Err.ensures.unread)
+
+pub returns-in-Ok-clause-inside : goal.returns-in-Ok-clause-inside
+returns-in-Ok-clause-inside g c = λ txn some spelled.
+    let here : IsTextOf (schemas_of (catalogue_of c.args.self.now.machines.desk.catalog)) c.args.text.now c.in-Ok.command = subst (λ (schemas : List RelationSchema). IsTextOf schemas c.args.text.now c.in-Ok.command) (ap (λ (x : List (List ℕ) × List SplitRelation). schemas_of (catalogue_of x)) c.catalog.ensures) c.in-Ok.ensures.read in
+    inl (c.obey.ensures.inside txn some (c.one_command.ensures (schemas_of (catalogue_of c.args.self.now.machines.desk.catalog)) c.args.text.now c.in-Ok.command Begin here spelled))
+
+pub returns-in-Err-clause-inside : goal.returns-in-Err-clause-inside
+returns-in-Err-clause-inside g c = λ txn some spelled.
+    let schemas = schemas_of (catalogue_of c.args.self.now.machines.desk.catalog) in
+    inr (ap Err (only_memory schemas c.args.text.now c.in-Err.refusal (subst (λ (schemas : List RelationSchema). IsUnreadable schemas c.args.text.now c.in-Err.refusal) (ap (λ (x : List (List ℕ) × List SplitRelation). schemas_of (catalogue_of x)) c.catalog.ensures) c.in-Err.ensures.unread) Begin spelled))
+
+pub returns-in-Ok-clause-outside : goal.returns-in-Ok-clause-outside
+returns-in-Ok-clause-outside g c = λ none spelled.
+    let schemas = schemas_of (catalogue_of c.args.self.now.machines.desk.catalog) in
+    let here : IsTextOf schemas c.args.text.now c.in-Ok.command = subst (λ (schemas : List RelationSchema). IsTextOf schemas c.args.text.now c.in-Ok.command) (ap (λ (x : List (List ℕ) × List SplitRelation). schemas_of (catalogue_of x)) c.catalog.ensures) c.in-Ok.ensures.read in
+    inl (c.obey.ensures.outside none (⊎_elim
+    (λ commits. inl (c.one_command.ensures schemas c.args.text.now c.in-Ok.command Commit here commits))
+    (λ rolls_back. inr (c.one_command.ensures schemas c.args.text.now c.in-Ok.command Rollback here rolls_back)) spelled))
+
+pub returns-in-Err-clause-outside : goal.returns-in-Err-clause-outside
+returns-in-Err-clause-outside g c = λ none spelled.
+    let schemas = schemas_of (catalogue_of c.args.self.now.machines.desk.catalog) in
+    let unread = subst (λ (schemas : List RelationSchema). IsUnreadable schemas c.args.text.now c.in-Err.refusal) (ap (λ (x : List (List ℕ) × List SplitRelation). schemas_of (catalogue_of x)) c.catalog.ensures) c.in-Err.ensures.unread in
+    inr (ap Err (⊎_elim (λ commits. only_memory schemas c.args.text.now c.in-Err.refusal unread Commit commits) (λ rolls_back. only_memory schemas c.args.text.now c.in-Err.refusal unread Rollback rolls_back) spelled))
+
+pub returns-in-Ok-clause-unread : goal.returns-in-Ok-clause-unread
+returns-in-Ok-clause-unread g c = λ none.
+    absurd (none c.in-Ok.command (subst (λ (schemas : List RelationSchema). IsTextOf schemas c.args.text.now c.in-Ok.command) (ap (λ (x : List (List ℕ) × List SplitRelation). schemas_of (catalogue_of x)) c.catalog.ensures) c.in-Ok.ensures.read))
+
+pub returns-in-Err-clause-unread : goal.returns-in-Err-clause-unread
+returns-in-Err-clause-unread g c = λ none. (tt, subst (λ (schemas : List RelationSchema). IsUnreadable schemas c.args.text.now c.in-Err.refusal) (ap (λ (x : List (List ℕ) × List SplitRelation). schemas_of (catalogue_of x)) c.catalog.ensures) c.in-Err.ensures.unread)

@@ -1,7 +1,12 @@
 -- Why `commits` meets its contract.
 use Rattle.std.proofs.Common.{refl}
 use Rattle.world.specs.Serving.{did_commit}
+use Rattle.world.specs.Held.{held}
+use Rattle.world.proofs.Denying.{commit_declines}
 use Rattle.world.proofs.solo.Solo.commits.Goals as goal
 
 pub returns-in-Ok-clause-ok : goal.returns-in-Ok-clause-ok
 returns-in-Ok-clause-ok g c = λ db text of is clean sound fit spelled. did_commit c.in-Some.txn spelled c.in-Some.is refl (c.in-Ok.ensures.ok db of is clean sound fit)
+
+pub returns-in-Err-clause-denied : goal.returns-in-Err-clause-denied
+returns-in-Err-clause-denied g c = λ db text of is clean sound fit spelled. commit_declines db text c.args.self.now.current (held g.D.DeskStore.kept g.S.SiteStore.kept c.args.self.now.machines) c.in-Err.refusal c.in-Some.txn c.in-Some.is spelled (c.in-Err.ensures.denied db of is clean sound fit)

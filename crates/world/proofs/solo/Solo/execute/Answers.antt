@@ -8,7 +8,9 @@ use Rattle.desk.specs.OfCatalogue.{IsOfCatalogue}
 use Rattle.world.specs.Base.{database, fits}
 use Rattle.world.specs.Held.{held}
 use Rattle.world.specs.Obeying.{ObeysUnlessRefused}
+use Rattle.world.specs.Denying.{DeniesForAReason}
 use Rattle.world.proofs.Moving.{if_ok}
+use Rattle.world.proofs.Refusing.{if_err}
 use Rattle.world.proofs.Obeying.{obeys_of}
 use Rattle.world.proofs.solo.Solo.execute.Goals as goal
 
@@ -28,3 +30,12 @@ returns-clause-obeyed g c = λ whole past going clean sound served stands.
     let law = subst (λ (x : List (List ℕ) × List SplitRelation). ObeysUnlessRefused (database (catalogue_of x)) (fits (catalogue_of x))) c.catalog-3.ensures c.obeyed_unless_refused.ensures in
     if_ok c.command-done.result (λ heard executes. obeys_of (database catalogue) (fits catalogue) law whole c.args.text.now before after past heard.items served c.args.self.now.current c.command-done.new.self.current stands executes)
     (c.command-done.ensures.ok (database catalogue) of refl clean sound served.fit)
+
+pub returns-clause-denied : goal.returns-clause-denied
+returns-clause-denied g c = λ whole past going clean sound served stands.
+    let catalogue = catalogue_of c.args.self.now.machines.desk.catalog in
+    let before = held g.D.DeskStore.kept g.S.SiteStore.kept c.args.self.now.machines in
+    let of = subst (λ (x : List (List ℕ) × List SplitRelation). IsOfCatalogue (database (catalogue_of x))) c.catalog.ensures c.database_is_of_catalogue.ensures.of_catalogue in
+    let law = subst (λ (x : List (List ℕ) × List SplitRelation). DeniesForAReason (database (catalogue_of x)) (fits (catalogue_of x))) c.catalog-4.ensures c.denied_for_a_reason.ensures in
+    if_err c.command-done.result (λ told declines. law whole c.args.text.now c.args.self.now.current before past told served stands declines)
+    (c.command-done.ensures.denied (database catalogue) of refl clean sound served.fit)

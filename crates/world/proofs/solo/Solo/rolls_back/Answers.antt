@@ -1,7 +1,12 @@
 -- Why `rolls_back` meets its contract.
 use Rattle.std.proofs.Common.{refl}
 use Rattle.world.specs.Serving.{did_roll_back}
+use Rattle.world.specs.Held.{held}
+use Rattle.world.proofs.Denying.{rollback_declines}
 use Rattle.world.proofs.solo.Solo.rolls_back.Goals as goal
 
 pub returns-in-Ok-clause-ok : goal.returns-in-Ok-clause-ok
 returns-in-Ok-clause-ok g c = λ db text of is clean sound fit spelled. did_roll_back c.in-Some.txn spelled c.in-Some.is refl (c.in-Ok.ensures.ok db of is clean sound fit)
+
+pub returns-in-Err-clause-denied : goal.returns-in-Err-clause-denied
+returns-in-Err-clause-denied g c = λ db text of is clean sound fit spelled. rollback_declines db text c.args.self.now.current (held g.D.DeskStore.kept g.S.SiteStore.kept c.args.self.now.machines) c.in-Err.refusal c.in-Some.txn c.in-Some.is spelled (c.in-Err.ensures.denied db of is clean sound fit)

@@ -2,6 +2,10 @@
 use Rattle.std.proofs.Common.{◌∙◌, sym}
 use Rattle.world.specs.Serving.{did_run, did_state, still_open}
 use Rattle.world.proofs.Moving.{if_ok}
+use Rattle.world.specs.Held.{held}
+use Rattle.world.proofs.Denying.{statement_declines}
+use Rattle.world.proofs.Refusing.{if_err}
+use Rattle.world.specs.Denying.{declines_lone}
 use Rattle.world.proofs.solo.Solo.states.Goals as goal
 
 pub returns-in-None-clause-ok : goal.returns-in-None-clause-ok
@@ -9,3 +13,9 @@ returns-in-None-clause-ok g c = λ db of is clean sound fit. if_ok c.run_alone.r
 
 pub returns-in-Ok-clause-ok : goal.returns-in-Ok-clause-ok
 returns-in-Ok-clause-ok g c = λ db of is clean sound fit. did_state c.in-Some.txn c.in-Some.is (c.still_open-self.ensures ∙ (λ i. still_open (sym c.in-Some.is i) (c.as_slice.ensures.value i))) (c.in-Ok.ensures.ok db of is clean sound fit)
+
+pub returns-in-None-clause-denied : goal.returns-in-None-clause-denied
+returns-in-None-clause-denied g c = λ db statement of is clean sound fit spelled. if_err c.run_alone.result (λ told denied. declines_lone statement c.in-None.is spelled denied) (c.run_alone.ensures.denied db of is clean sound fit)
+
+pub returns-in-Err-clause-denied : goal.returns-in-Err-clause-denied
+returns-in-Err-clause-denied g c = λ db statement of is clean sound fit spelled. statement_declines db c.args.text.now c.args.self.now.current (held g.D.DeskStore.kept g.S.SiteStore.kept c.args.self.now.machines) c.in-Err.refusal c.in-Some.txn statement c.in-Some.is spelled (c.in-Err.ensures.denied db of is clean sound fit)

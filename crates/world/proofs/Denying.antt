@@ -1,0 +1,170 @@
+-- Why a database that stands refuses a command.
+use Rattle.std.proofs.Common.{◌≡◌, ◌≢◌, refl, sym, ap, ◌∙◌, subst, ℕ, Bool, true, List, ◌++◌, ◌⊎◌, inl, inr, ⊎_elim, Option, Some, None, Result, Ok, Err, IfErr, OnErr}
+use Rattle.std.specs.Option.{option_map}
+use Rattle.meaning.specs.declared.schema.RelationSchema.{RelationSchema}
+use Rattle.meaning.specs.declared.statement.Statement.{Statement}
+use Rattle.meaning.specs.Whole.{Relations}
+use Rattle.terms.specs.declared.leaf.Leaf.{Leaf}
+use Rattle.catalog.specs.FragmentLeaf.{schemas_of}
+use Rattle.reader.specs.declared.command.Command.{Command}
+use Rattle.reader.specs.declared.command.Command.TheVariants.{Begin, Commit, Rollback as Rollback_command, Run}
+use Rattle.reader.specs.declared.fault.Rule.TheVariants as rules
+use Rattle.reader.specs.Breaks.{TextBreaks}
+use Rattle.reader.specs.Fault.{Fault}
+use Rattle.reader.specs.Command.{IsTextOf, OneCommandOfText}
+use Rattle.store.specs.Content.{Content}
+use Rattle.store.specs.declared.name.Txn.{Txn}
+use Rattle.protocol.specs.Desk.{Commit_call, Deed, Idle, Request, Rollback, State, refusal, refusal_at}
+use Rattle.protocol.specs.Letters.{txn_name}
+use Rattle.protocol.specs.Smooth.{Ready}
+use Rattle.desk.specs.declared.refusal.Refusal as refusals
+use Rattle.desk.specs.declared.refusal.Refusal.TheVariants as told_as
+use Rattle.desk.specs.declared.reply.Notice.{Notice}
+use Rattle.desk.specs.Calls.{refused_as, txn_in}
+use Rattle.desk.specs.Database.{Database, language}
+use Rattle.desk.specs.Does.{IsUnread}
+use Rattle.world.specs.declared.event.Call.TheVariants as call
+use Rattle.world.specs.Denying.{IsDenied, IsUnreadable, Declines, Denies, DeniesForAReason, LoneIsDenied, RunIsDenied, declines_all, declines_begin, declines_commit, declines_inside, declines_lone, declines_outside, declines_rollback, declines_statement, declines_text, finds_no_place, has_begun_but, has_not_begun, is_inside, is_no_command, is_not_committed, is_not_stated, is_outside, is_too_much, run_stops, stops, was_cut_off}
+use Rattle.world.specs.Machines.{Machines}
+use Rattle.world.specs.Obeying.{ObeysUnlessRefused, Stands, WasAnswered}
+use Rattle.world.specs.Refused.{IsRefused}
+use Rattle.world.specs.Serving.{DoesBegin, IsServed}
+use Rattle.world.specs.Smoothly.{rests}
+use Rattle.world.specs.Stopping.{is_stop}
+
+-- ---- what stops
+pub is_memory : (told : refusals.Refusal) → told ≡ told_as.Memory → is_stop told ≡ true
+is_memory told memory = ap is_stop memory
+
+pub memory_stops : {P : Type 0} (told : refusals.Refusal) → (told ≡ told_as.Memory) ⊎ P → (is_stop told ≡ true) ⊎ P
+memory_stops told (inl memory) = inl (is_memory told memory)
+memory_stops told (inr other) = inr other
+
+-- a refusal of a call that is taken back, unless taking it back stops
+pub taken_back : (P : refusals.Refusal → Type 0) (told first : refusals.Refusal) → (is_stop told ≡ true) ⊎ (told ≡ first) → (is_stop first ≡ true) ⊎ P first → (is_stop told ≡ true) ⊎ P told
+taken_back P told first (inl is) denied = inl is
+taken_back P told first (inr same) denied = subst (λ (r : refusals.Refusal). (is_stop r ≡ true) ⊎ P r) (sym same) denied
+
+pub if_errs : {T E : Type 0} {P R : E → Type 0} {Q : Type 0} (result : Result T E) → ((e : E) → P e → Q → R e) → IfErr result P → OnErr result Q → IfErr result R
+if_errs (Ok x) to p q = tt
+if_errs (Err e) to p q = to e p q
+
+pub not_stated : (db : Database) (text : List ℕ) (txn : Txn) (greeted : List Notice) (began : Machines) (told : refusals.Refusal) → (is_stop told ≡ true) ⊎ IsRefused db began.table (call.State txn text) told → RunIsDenied db text txn greeted began told
+not_stated db text txn greeted began told (inl stops_it) = run_stops stops_it
+not_stated db text txn greeted began told (inr refused) = is_not_stated refused
+
+-- ---- a ready transaction is refused nothing
+at_rest : (db : Database) (fits : Leaf → Content → Bool) (txn : Txn) (machines : Machines) (past : List (Deed (language db))) (request : Request (language db)) → refusal_at request Idle ≡ None → Ready (language db) fits (txn_name txn) (rests db machines past) →
+    refusal request (txn_in db machines.table txn) ≡ None
+at_rest db fits txn machines past request none ready = ap (refusal request) ready.steady.known ∙ ap (refusal_at request) ready.steady.idle ∙ none
+
+no_refusal : {A B : Type 0} (f : A → B) (found : Option A) (told : B) → found ≡ None → option_map f found ≡ Some told → ⊥
+no_refusal f None told none is = cc
+no_refusal f (Some x) told none is = cc
+
+module _ (db : Database) (fits : Leaf → Content → Bool) (same_schemas : db.schemas ≡ schemas_of db.catalogue) (one : OneCommandOfText) (law : ObeysUnlessRefused db fits) (whole : Relations) (text : List ℕ) where
+  -- a statement's text is no other command's
+  is_read : (statement : Statement) → IsTextOf db.schemas text (Run statement) → (told : refusals.Refusal) → IsUnread (schemas_of db.catalogue) text told → ⊥
+  is_read statement spelled told unread = ⊎_elim
+      (λ none. none.1 (Run statement) here)
+      (λ says. ⊎_elim (λ begins. not_begin (other Begin begins)) (λ ends. ⊎_elim (λ commits. not_commit (other Commit commits)) (λ rolls_back. not_rollback (other Rollback_command rolls_back)) ends) says.1)
+      unread.why
+    where
+      here : IsTextOf (schemas_of db.catalogue) text (Run statement)
+      here = subst (λ (schemas : List RelationSchema). IsTextOf schemas text (Run statement)) same_schemas spelled
+
+      other : (command : Command) → IsTextOf (schemas_of db.catalogue) text command → Run statement ≡ command
+      other command is = one (schemas_of db.catalogue) text (Run statement) command here is
+
+      not_begin : Run statement ≡ Begin → ⊥
+      not_begin e = cc
+
+      not_commit : Run statement ≡ Commit → ⊥
+      not_commit e = cc
+
+      not_rollback : Run statement ≡ Rollback_command → ⊥
+      not_rollback e = cc
+
+  -- the statement of a ready transaction meets a limit
+  is_full : (statement : Statement) → IsTextOf db.schemas text (Run statement) → (txn : Txn) (machines : Machines) (past : List (Deed (language db))) (told : refusals.Refusal) → Ready (language db) fits (txn_name txn) (rests db machines past) →
+      IsRefused db machines.table (call.State txn text) told → told ≡ told_as.Full
+  is_full statement spelled txn machines past told ready refused = ⊎_elim
+      (λ stays. absurd (no_refusal refused_as (refusal (State statement) (txn_in db machines.table txn)) told (at_rest db fits txn machines past (State statement) refl ready) stays))
+      (λ rest. ⊎_elim (λ unread. absurd (is_read statement spelled told unread)) (λ full. full) rest.1)
+      (refused statement)
+
+  no_commit : (txn : Txn) (machines : Machines) (past : List (Deed (language db))) (told : refusals.Refusal) → Ready (language db) fits (txn_name txn) (rests db machines past) → IsRefused db machines.table (call.Commit txn) told → ⊥
+  no_commit txn machines past told ready refused = no_refusal refused_as (refusal Commit_call (txn_in db machines.table txn)) told (at_rest db fits txn machines past Commit_call refl ready) refused
+
+  no_rollback : (txn : Txn) (machines : Machines) (past : List (Deed (language db))) (told : refusals.Refusal) → Ready (language db) fits (txn_name txn) (rests db machines past) → IsRefused db machines.table (call.Rollback txn) told → ⊥
+  no_rollback txn machines past told ready refused = no_refusal refused_as (refusal Rollback (txn_in db machines.table txn)) told (at_rest db fits txn machines past Rollback refl ready) refused
+
+  -- a lone statement
+  module _ (before : Machines) (past : List (Deed (language db))) (told : refusals.Refusal) (statement : Statement) (spelled : IsTextOf db.schemas text (Run statement)) (current : Option Txn) (none : current ≡ None) where
+    after_begin : (txn : Txn) (began : Machines) (greeted : List Notice) (deeds : List (Deed (language db))) → DoesBegin db before txn began greeted → IsServed db whole began (past ++ deeds) → Ready (language db) fits (txn_name txn) (rests db began (past ++ deeds)) →
+        RunIsDenied db text txn greeted began told → Denies db text current before past told
+    after_begin txn began greeted deeds begins served ready (run_stops is) = stops is
+    after_begin txn began greeted deeds begins served ready (is_not_stated refused) = is_too_much statement spelled (is_full statement spelled txn began (past ++ deeds) told ready refused)
+    after_begin txn began greeted deeds begins served ready (is_not_committed worked answered states (inl is)) = stops is
+    after_begin txn began greeted deeds begins served ready (is_not_committed worked answered states (inr refused)) = ⊎_elim
+        (λ (done : WasAnswered db fits whole (Some txn) txn worked (past ++ deeds) answered). absurd (no_commit txn worked ((past ++ deeds) ++ done.on.deeds) told done.on.stands refused.1))
+        (λ cut. was_cut_off txn began worked greeted answered deeds none begins states cut refused.1)
+        (law.states whole began worked (past ++ deeds) text txn answered served ready states)
+
+    lone : IsServed db whole before past → Stands db fits None before past → LoneIsDenied db text before told → Denies db text current before past told
+    lone served quiet (has_not_begun (inl is)) = stops is
+    lone served quiet (has_not_begun (inr refused)) = finds_no_place none (inr (statement, spelled)) refused.0 refused.1
+    lone served quiet (has_begun_but txn began greeted begins denied) =
+        let on = (law.begins whole before began past txn greeted served quiet begins).0 in
+        after_begin txn began greeted on.deeds begins on.served on.stands denied
+
+  -- a command
+  module _ (current : Option Txn) (before : Machines) (past : List (Deed (language db))) (told : refusals.Refusal) (served : IsServed db whole before past) (stands : Stands db fits current before past) where
+    stands_as : (other : Option Txn) → current ≡ other → Stands db fits other before past
+    stands_as other is = subst (λ (c : Option Txn). Stands db fits c before past) is stands
+
+    pub denies_of : Declines db text current before told → Denies db text current before past told
+    denies_of (declines_all is) = stops is
+    denies_of (declines_text none) = is_no_command none
+    denies_of (declines_inside txn some spelled is) = is_inside txn some spelled is
+    denies_of (declines_outside none spelled is) = is_outside none spelled is
+    denies_of (declines_begin none spelled refused) = finds_no_place none (inl spelled) refused.0 refused.1
+    denies_of (declines_commit txn some spelled refused) = absurd (no_commit txn before past told (stands_as (Some txn) some) refused)
+    denies_of (declines_rollback txn some spelled refused) = absurd (no_rollback txn before past told (stands_as (Some txn) some) refused)
+    denies_of (declines_statement txn statement some spelled refused) = is_too_much statement spelled (is_full statement spelled txn before past told (stands_as (Some txn) some) refused)
+    denies_of (declines_lone statement none spelled denied) = lone before past told statement spelled current none served (stands_as None none) denied
+
+pub denies : (db : Database) (fits : Leaf → Content → Bool) → db.schemas ≡ schemas_of db.catalogue → OneCommandOfText → ObeysUnlessRefused db fits → DeniesForAReason db fits
+denies db fits same_schemas one law whole text current before past told served stands declines = denies_of db fits same_schemas one law whole text current before past told served stands declines
+
+-- ---- a command, by what is refused of its call
+module _ (db : Database) (text : List ℕ) (current : Option Txn) (before : Machines) (told : refusals.Refusal) where
+  pub begin_declines : current ≡ None → IsTextOf db.schemas text Begin → IsDenied db before call.Begin told → Declines db text current before told
+  begin_declines none spelled (inl is) = declines_all is
+  begin_declines none spelled (inr refused) = declines_begin none spelled refused
+
+  pub commit_declines : (txn : Txn) → current ≡ Some txn → IsTextOf db.schemas text Commit → IsDenied db before (call.Commit txn) told → Declines db text current before told
+  commit_declines txn some spelled (inl is) = declines_all is
+  commit_declines txn some spelled (inr refused) = declines_commit txn some spelled refused
+
+  pub rollback_declines : (txn : Txn) → current ≡ Some txn → IsTextOf db.schemas text Rollback_command → IsDenied db before (call.Rollback txn) told → Declines db text current before told
+  rollback_declines txn some spelled (inl is) = declines_all is
+  rollback_declines txn some spelled (inr refused) = declines_rollback txn some spelled refused
+
+  pub statement_declines : (txn : Txn) (statement : Statement) → current ≡ Some txn → IsTextOf db.schemas text (Run statement) → IsDenied db before (call.State txn text) told → Declines db text current before told
+  statement_declines txn statement some spelled (inl is) = declines_all is
+  statement_declines txn statement some spelled (inr refused) = declines_statement txn statement some spelled refused
+
+  pub text_declines : IsUnreadable db.schemas text told → Declines db text current before told
+  text_declines (inl memory) = declines_all (is_memory told memory)
+  text_declines (inr none) = declines_text none
+
+-- ---- a text that is read as no other command's
+pub only_memory : (schema : List RelationSchema) (text : List ℕ) (told : refusals.Refusal) → IsUnreadable schema text told → (given : Command) → IsTextOf schema text given → told ≡ told_as.Memory
+only_memory schema text told (inl memory) given spelled = memory
+only_memory schema text told (inr none) given spelled = absurd (none.none given spelled)
+
+pub unreadable : (schema : List RelationSchema) (text : List ℕ) (fault : Fault) (told : refusals.Refusal) → ((fault.rule ≡ rules.Memory) × (told ≡ told_as.Memory)) ⊎ ((fault.rule ≢ rules.Memory) × (told ≡ told_as.Read fault)) →
+    (fault.rule ≢ rules.Memory → (given : Command) → IsTextOf schema text given → ⊥) → (fault.rule ≢ rules.Memory → TextBreaks fault.rule schema text) → IsUnreadable schema text told
+unreadable schema text fault told (inl memory) none breaks = inl memory.1
+unreadable schema text fault told (inr read) none breaks = inr (record { fault = fault; is = read.1; breaks = breaks read.0; none = none read.0 })

@@ -1,0 +1,86 @@
+-- Why a command of one client is refused.
+use Rattle.std.specs.Prelude.{◌≡◌, ◌⊎◌, ℕ, Bool, true, false, List, ◌++◌, Option, Some, None}
+use Rattle.meaning.specs.declared.schema.RelationSchema.{RelationSchema}
+use Rattle.meaning.specs.declared.statement.Statement.{Statement}
+use Rattle.meaning.specs.Whole.{Relations}
+use Rattle.terms.specs.declared.leaf.Leaf.{Leaf}
+use Rattle.reader.specs.declared.command.Command.{Command}
+use Rattle.reader.specs.declared.command.Command.TheVariants.{Begin, Commit, Rollback, Run}
+use Rattle.reader.specs.Breaks.{TextBreaks}
+use Rattle.reader.specs.Command.{IsTextOf}
+use Rattle.reader.specs.Fault.{Fault}
+use Rattle.store.specs.Content.{Content}
+use Rattle.store.specs.declared.name.Txn.{Txn}
+use Rattle.protocol.specs.Desk.{Deed, desk_began, is_desk_within}
+use Rattle.desk.specs.declared.refusal.Refusal as refusals
+use Rattle.desk.specs.declared.refusal.Refusal.TheVariants as refusal
+use Rattle.desk.specs.declared.reply.Notice.{Notice}
+use Rattle.desk.specs.Database.{Database, language}
+use Rattle.desk.specs.State.{desk_of}
+use Rattle.world.specs.declared.event.Call as calls
+use Rattle.world.specs.declared.event.Call.TheVariants as call
+use Rattle.world.specs.Machines.{Machines}
+use Rattle.world.specs.Obeying.{StateWasRefused, Stands}
+use Rattle.world.specs.Refused.{IsRefused}
+use Rattle.world.specs.Serving.{DoesBegin, DoesState, IsServed, is_end, tells}
+use Rattle.world.specs.Stopping.{is_stop}
+
+-- a call is refused: memory ran out or a store failed, which stops the database, or as the coordinator refuses it
+abbrev pub IsDenied : Database → Machines → calls.Call → refusals.Refusal → Type 0
+IsDenied db before asked told = (is_stop told ≡ true) ⊎ IsRefused db before.table asked told
+
+-- a text that is no command's, as the reader tells it: it breaks the rule that is named
+pub record IsNoCommand (schema : List RelationSchema) (text : List ℕ) (told : refusals.Refusal) : Type 0 where
+  pub fault : Fault
+  pub is : told ≡ refusal.Read fault
+  pub breaks : TextBreaks fault.rule schema text
+  pub none : (given : Command) → IsTextOf schema text given → ⊥
+
+-- memory ran out, or it is no command's
+abbrev pub IsUnreadable : List RelationSchema → List ℕ → refusals.Refusal → Type 0
+IsUnreadable schema text told = (told ≡ refusal.Memory) ⊎ IsNoCommand schema text told
+
+-- the commit of a lone statement of which this was told is refused
+abbrev pub CommitIsDenied : Database → Txn → List Notice → Machines → refusals.Refusal → Type 0
+CommitIsDenied db txn heard before told = (is_stop told ≡ true) ⊎ ((tells is_end heard ≡ false) × IsRefused db before.table (call.Commit txn) told)
+
+-- a lone statement is refused after its transaction has begun: the statement, or, once that was done, its commit
+pub data RunIsDenied (db : Database) (text : List ℕ) (txn : Txn) (greeted : List Notice) (began : Machines) (told : refusals.Refusal) : Type 0 where
+  run_stops : is_stop told ≡ true → RunIsDenied db text txn greeted began told
+  is_not_stated : IsRefused db began.table (call.State txn text) told → RunIsDenied db text txn greeted began told
+  is_not_committed : (worked : Machines) (answered : List Notice) → DoesState db text txn began worked answered → CommitIsDenied db txn (greeted ++ answered) worked told → RunIsDenied db text txn greeted began told
+
+-- so of a lone statement
+pub data LoneIsDenied (db : Database) (text : List ℕ) (before : Machines) (told : refusals.Refusal) : Type 0 where
+  has_not_begun : IsDenied db before call.Begin told → LoneIsDenied db text before told
+  has_begun_but : (txn : Txn) (began : Machines) (greeted : List Notice) → DoesBegin db before txn began greeted → RunIsDenied db text txn greeted began told → LoneIsDenied db text before told
+
+-- so of a command of this text. current: the transaction that is open before it
+pub data Declines (db : Database) (text : List ℕ) (current : Option Txn) (before : Machines) (told : refusals.Refusal) : Type 0 where
+  declines_all : is_stop told ≡ true → Declines db text current before told
+  declines_text : IsNoCommand db.schemas text told → Declines db text current before told
+  declines_inside : (txn : Txn) → current ≡ Some txn → IsTextOf db.schemas text Begin → told ≡ refusal.Busy → Declines db text current before told
+  declines_outside : current ≡ None → IsTextOf db.schemas text Commit ⊎ IsTextOf db.schemas text Rollback → told ≡ refusal.NoTransaction → Declines db text current before told
+  declines_begin : current ≡ None → IsTextOf db.schemas text Begin → IsRefused db before.table call.Begin told → Declines db text current before told
+  declines_commit : (txn : Txn) → current ≡ Some txn → IsTextOf db.schemas text Commit → IsRefused db before.table (call.Commit txn) told → Declines db text current before told
+  declines_rollback : (txn : Txn) → current ≡ Some txn → IsTextOf db.schemas text Rollback → IsRefused db before.table (call.Rollback txn) told → Declines db text current before told
+  declines_statement : (txn : Txn) (statement : Statement) → current ≡ Some txn → IsTextOf db.schemas text (Run statement) → IsRefused db before.table (call.State txn text) told → Declines db text current before told
+  declines_lone : (statement : Statement) → current ≡ None → IsTextOf db.schemas text (Run statement) → LoneIsDenied db text before told → Declines db text current before told
+
+-- why a database that stands refuses a command: memory ran out or a store failed, which stops it; the text is no command's; BEGIN comes inside a
+-- transaction, or COMMIT or ROLLBACK outside one; a transaction can't begin or a statement can't be stated within the limits; or something was
+-- refused while a lone statement was done, and its commit can't be asked for
+pub data Denies (db : Database) (text : List ℕ) (current : Option Txn) (before : Machines) (past : List (Deed (language db))) (told : refusals.Refusal) : Type 0 where
+  stops : is_stop told ≡ true → Denies db text current before past told
+  is_no_command : IsNoCommand db.schemas text told → Denies db text current before past told
+  is_inside : (txn : Txn) → current ≡ Some txn → IsTextOf db.schemas text Begin → told ≡ refusal.Busy → Denies db text current before past told
+  is_outside : current ≡ None → IsTextOf db.schemas text Commit ⊎ IsTextOf db.schemas text Rollback → told ≡ refusal.NoTransaction → Denies db text current before past told
+  finds_no_place : current ≡ None → IsTextOf db.schemas text Begin ⊎ ((statement : Statement) × IsTextOf db.schemas text (Run statement)) → told ≡ refusal.Full → is_desk_within (desk_began (desk_of db before.table)) ≡ false → Denies db text current before past told
+  is_too_much : (statement : Statement) → IsTextOf db.schemas text (Run statement) → told ≡ refusal.Full → Denies db text current before past told
+  was_cut_off : (txn : Txn) (began worked : Machines) (greeted answered : List Notice) (deeds : List (Deed (language db))) → current ≡ None → DoesBegin db before txn began greeted → (states : DoesState db text txn began worked answered) →
+      StateWasRefused db text txn began worked answered (past ++ deeds) states → IsRefused db worked.table (call.Commit txn) told → Denies db text current before past told
+
+-- a database that stands refuses a command for no other reason
+abbrev pub DeniesForAReason : (db : Database) → (Leaf → Content → Bool) → Type 0
+DeniesForAReason db fits = (whole : Relations) (text : List ℕ) (current : Option Txn) (before : Machines) (past : List (Deed (language db))) (told : refusals.Refusal) → IsServed db whole before past → Stands db fits current before past →
+    Declines db text current before told → Denies db text current before past told
