@@ -43,7 +43,7 @@ unloaded catalogue text output (script.Malformed line) why = (why line refl, Kee
 unloaded catalogue text output script.Memory why = inr (Keeps-same output)
 
 -- a script that is loaded is played to its end, or stopped
-pub played : (catalogue : Catalogue) (text : List ℕ) (old new : Option (List ℕ)) (result : Result Unit ProgramFault) → IsSound catalogue text → OnOk result (IsPlayedOver catalogue (items_of (lines_of text)).0 old new) → IfErr result IsOfRun → PlaysOrStops catalogue text old new result
+pub played : (catalogue : Catalogue) (text : List ℕ) (old new : Option (List ℕ)) (result : Result Unit ProgramFault) → (sound : IsSound catalogue text) → OnOk result (IsPlayedOver catalogue sound.0 (items_of (lines_of text)).0 old new) → IfErr result IsOfRun → PlaysOrStops catalogue text old new result
 played catalogue text old new (Ok done) sound ok err = record { sound = sound; played = ok }
 played catalogue text old new (Err Memory) sound ok err = inl sound
 played catalogue text old new (Err CannotWrite) sound ok err = sound

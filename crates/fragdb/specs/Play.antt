@@ -5,6 +5,7 @@ use Rattle.std.specs.Io.KnownBytes.{Appends, Keeps}
 use Rattle.meaning.specs.Whole.{Relations}
 use Rattle.catalog.specs.Catalogue.{Catalogue, IsValidCatalogue}
 use Rattle.catalog.specs.FragmentLeaf.{schemas_of}
+use Rattle.world.specs.Machines.{Machines}
 use Rattle.world.specs.Telling.{committed_in}
 use Rattle.fragdb.specs.declared.catalog_file.CatalogFault.{CatalogFault}
 use Rattle.fragdb.specs.declared.catalog_file.CatalogFault.TheVariants.{Program, Refused}
@@ -19,7 +20,7 @@ use Rattle.fragdb.specs.Delivering.{Delivers, DeliversAll}
 use Rattle.fragdb.specs.Input.{IsOfInput}
 use Rattle.fragdb.specs.PlayItems.{items_of}
 use Rattle.fragdb.specs.PlayLoad.{IsLoaded, IsMalformedAt}
-use Rattle.fragdb.specs.Schedule.{Asks, HappensAt, RestartsDesk, Stage}
+use Rattle.fragdb.specs.Schedule.{Asks, HappensAt, IsReached, RestartsDesk, Stage}
 use Rattle.fragdb.specs.Script.{lines_of}
 use Rattle.fragdb.specs.Shown.{IsShownLeaf, IsShownRelation, names_text}
 use Rattle.fragdb.specs.Solo.{longest}
@@ -53,19 +54,21 @@ pub record IsOpening (stage : Stage) : Type 0 where
 abbrev pub IsSound : Catalogue → List ℕ → Type 0
 IsSound catalogue script = (whole : Relations) × IsLoaded (schemas_of catalogue) (items_of (lines_of script)) whole
 
--- items were played to their end over a world in which nothing had happened, and all that is told of them was written
-pub record IsPlayedOver (catalogue : Catalogue) (items : List Placed) (old new : Option (List ℕ)) : Type 0 where
+-- Items were played to their end over a world in which nothing had happened, and all that is told of them was written. What happened are the entries of a run over these whole relations.
+pub record IsPlayedOver (catalogue : Catalogue) (whole : Relations) (items : List Placed) (old new : Option (List ℕ)) : Type 0 where
   pub opening : Stage
   pub opens : IsOpening opening
   pub end : Stage
   pub told : List ℕ
   pub plays : PlaysAll catalogue items opening end told
+  pub machines : Machines
+  pub run : IsReached catalogue whole machines end.entries
   pub said : Appends old new told
 
--- a script was played to its end, and all that is told of its items was written
+-- a script was played to its end over what it loads, and all that is told of its items was written
 pub record IsPlayed (catalogue : Catalogue) (script : List ℕ) (old new : Option (List ℕ)) : Type 0 where
   pub sound : IsSound catalogue script
-  pub played : IsPlayedOver catalogue (items_of (lines_of script)).0 old new
+  pub played : IsPlayedOver catalogue sound.0 (items_of (lines_of script)).0 old new
 
 -- what stopped a script, of which all bytes were read: a malformed one before anything was written
 abbrev pub StopsPlay : Catalogue → List ℕ → Option (List ℕ) → Option (List ℕ) → ProgramFault → Type 0

@@ -2,9 +2,11 @@
 
 ghost use Rattle.std.specs.Prelude.{◌≡◌, ◌≤◌, ℕ, List, [], IfErr, IfOk, IfSome, OnOk, is_err, true, length, string_bytes};
 ghost use Rattle.std.specs.Io.KnownBytes.{Appends, Keeps};
+ghost use Rattle.meaning.specs.Whole.{FitsSchema, Relations};
+ghost use Rattle.catalog.specs.FragmentLeaf.{schemas_of};
 ghost use Rattle.catalog.specs.Relation.{catalogue_of};
 ghost use Rattle.fragdb.specs.Play.{IsPlayedOver, IsUnplayed, Plays, PlaysAll, PlaysFiles, PlaysOrStops, PlaysScript};
-ghost use Rattle.fragdb.specs.Schedule.{IsCounted, stage_of};
+ghost use Rattle.fragdb.specs.Schedule.{HasRun, IsCounted, stage_of};
 ghost use Rattle.fragdb.specs.Solo.{IsOfRun, longest};
 
 use crate::catalog_file::{CatalogFault, read_catalog};
@@ -89,7 +91,8 @@ fn play_over<'a, W: Write>(
     items: &[Placed],
     output: &mut W,
 ) -> Result<(), ProgramFault<'a>>
-    ensures ok { OnOk result (IsPlayedOver (catalogue_of catalog) items.now (W.contents output.old) (W.contents output.new)) }
+    requires { FitsSchema (schemas_of (catalogue_of catalog)) whole.now }
+    ensures ok { OnOk result (IsPlayedOver (catalogue_of catalog) whole.now items.now (W.contents output.old) (W.contents output.new)) }
     ensures err { IfErr result IsOfRun }
 {
     // Lists refuse for want of memory alone.
@@ -115,6 +118,8 @@ fn play_items<'a, W: Write>(
     requires { IsCounted (stage_of schedule.old) }
     ensures ok { OnOk result ((told : List ℕ) × Appends (W.contents output.old) (W.contents output.new) told
         × PlaysAll (catalogue_of schedule.old.world.machines.desk.catalog) items.now (stage_of schedule.old) (stage_of schedule.new) told) }
+    ensures runs { (whole : Relations) → HasRun whole schedule.old.world → OnOk result (HasRun whole schedule.new.world) }
+    ensures catalog { OnOk result (schedule.new.world.machines.desk.catalog ≡ schedule.old.world.machines.desk.catalog) }
     ensures err { IfErr result IsOfRun }
 {
     for placed in items {
@@ -131,6 +136,7 @@ fn play_item(alloc: Global, schedule: &mut Schedule, item: &Item) -> Result<Stri
     requires { IsCounted (stage_of schedule.old) }
     ensures plays { IfOk result (λ told. Plays (catalogue_of schedule.old.world.machines.desk.catalog) item.now (stage_of schedule.old) (stage_of schedule.new) (string_bytes told)) }
     ensures counted { OnOk result (IsCounted (stage_of schedule.new)) }
+    ensures runs { (whole : Relations) → HasRun whole schedule.old.world → OnOk result (HasRun whole schedule.new.world) }
     ensures catalog { schedule.new.world.machines.desk.catalog ≡ schedule.old.world.machines.desk.catalog }
 {
     match item {

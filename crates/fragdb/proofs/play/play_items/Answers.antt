@@ -33,5 +33,6 @@ loop-placed-preserved g c =
         subst (λ (played : List Placed). PlaysAll catalogue played before after (so_far.written.0 ++ told)) (sym more) (PlaysAll-more catalogue (take index items) placed before middle after so_far.written.0 told so_far.written.2 next),
       );
       counted = c.in_ok-told.ensures.counted;
+      runs = λ whole has. c.in_ok-told.ensures.runs whole (so_far.runs whole has);
       catalog = c.play_item.ensures.catalog ∙ so_far.catalog;
     }
