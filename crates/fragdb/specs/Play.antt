@@ -25,23 +25,23 @@ use Rattle.fragdb.specs.Script.{lines_of}
 use Rattle.fragdb.specs.Shown.{IsShownLeaf, IsShownRelation, names_text}
 use Rattle.fragdb.specs.Solo.{longest}
 
--- an item of a script, and what is told of it; what is loaded stands in the fragments from the beginning, and what is shown changes nothing
-abbrev pub Plays : Catalogue → Item → Stage → Stage → List ℕ → Type 0
-Plays catalogue (item.Load text) before after told = (after ≡ before) × (told ≡ [])
-Plays catalogue (item.Client name asked) before after told = Asks catalogue name asked before after told
-Plays catalogue (item.Deliver number kept) before after told = Delivers catalogue number kept before after told
-Plays catalogue (item.All but) before after told = DeliversAll catalogue but before after told
-Plays catalogue (item.Site name doing) before after told = HappensAt catalogue name doing before after told
-Plays catalogue item.RestartDesk before after told = RestartsDesk catalogue before after told
-Plays catalogue (item.Show name) before after told = (after ≡ before) × IsShownRelation catalogue name told
-Plays catalogue (item.Leaf name) before after told = (after ≡ before) × IsShownLeaf catalogue name told
-Plays catalogue item.Committed before after told = (after ≡ before) × (told ≡ names_text (name_of before.cast) (committed_in before.entries))
+-- an item of a script that loads these whole relations, and what is told of it; what is loaded stands in the fragments from the beginning, and what is shown changes nothing
+abbrev pub Plays : Catalogue → Relations → Item → Stage → Stage → List ℕ → Type 0
+Plays catalogue whole (item.Load text) before after told = (after ≡ before) × (told ≡ [])
+Plays catalogue whole (item.Client name asked) before after told = Asks catalogue name asked before after told
+Plays catalogue whole (item.Deliver number kept) before after told = Delivers catalogue number kept before after told
+Plays catalogue whole (item.All but) before after told = DeliversAll catalogue but before after told
+Plays catalogue whole (item.Site name doing) before after told = HappensAt catalogue name doing before after told
+Plays catalogue whole item.RestartDesk before after told = RestartsDesk catalogue before after told
+Plays catalogue whole (item.Show name) before after told = (after ≡ before) × IsShownRelation catalogue whole before.entries name told
+Plays catalogue whole (item.Leaf name) before after told = (after ≡ before) × IsShownLeaf catalogue whole before.entries name told
+Plays catalogue whole item.Committed before after told = (after ≡ before) × (told ≡ names_text (name_of before.cast) (committed_in before.entries))
 
 -- items, one after another, with what is told of all
-abbrev pub PlaysAll : Catalogue → List Placed → Stage → Stage → List ℕ → Type 0
-PlaysAll catalogue [] before after told = (after ≡ before) × (told ≡ [])
-PlaysAll catalogue (placed ∷ rest) before after told =
-    (middle : Stage) × (first : List ℕ) × (others : List ℕ) × Plays catalogue placed.item before middle first × PlaysAll catalogue rest middle after others × (told ≡ first ++ others)
+abbrev pub PlaysAll : Catalogue → Relations → List Placed → Stage → Stage → List ℕ → Type 0
+PlaysAll catalogue whole [] before after told = (after ≡ before) × (told ≡ [])
+PlaysAll catalogue whole (placed ∷ rest) before after told =
+    (middle : Stage) × (first : List ℕ) × (others : List ℕ) × Plays catalogue whole placed.item before middle first × PlaysAll catalogue whole rest middle after others × (told ≡ first ++ others)
 
 -- nothing has happened yet
 pub record IsOpening (stage : Stage) : Type 0 where
@@ -60,7 +60,7 @@ pub record IsPlayedOver (catalogue : Catalogue) (whole : Relations) (items : Lis
   pub opens : IsOpening opening
   pub end : Stage
   pub told : List ℕ
-  pub plays : PlaysAll catalogue items opening end told
+  pub plays : PlaysAll catalogue whole items opening end told
   pub machines : Machines
   pub run : IsReached catalogue whole machines end.entries
   pub said : Appends old new told

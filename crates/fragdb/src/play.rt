@@ -117,7 +117,7 @@ fn play_items<'a, W: Write>(
 ) -> Result<(), ProgramFault<'a>>
     requires { IsCounted (stage_of schedule.old) }
     ensures ok { OnOk result ((told : List ℕ) × Appends (W.contents output.old) (W.contents output.new) told
-        × PlaysAll (catalogue_of schedule.old.world.machines.desk.catalog) items.now (stage_of schedule.old) (stage_of schedule.new) told) }
+        × ((whole : Relations) → HasRun whole schedule.old.world → PlaysAll (catalogue_of schedule.old.world.machines.desk.catalog) whole items.now (stage_of schedule.old) (stage_of schedule.new) told)) }
     ensures runs { (whole : Relations) → HasRun whole schedule.old.world → OnOk result (HasRun whole schedule.new.world) }
     ensures catalog { OnOk result (schedule.new.world.machines.desk.catalog ≡ schedule.old.world.machines.desk.catalog) }
     ensures err { IfErr result IsOfRun }
@@ -134,7 +134,7 @@ fn play_items<'a, W: Write>(
 /// Plays one item. What is loaded stands in the world already.
 fn play_item(alloc: Global, schedule: &mut Schedule, item: &Item) -> Result<String, Memory>
     requires { IsCounted (stage_of schedule.old) }
-    ensures plays { IfOk result (λ told. Plays (catalogue_of schedule.old.world.machines.desk.catalog) item.now (stage_of schedule.old) (stage_of schedule.new) (string_bytes told)) }
+    ensures plays { (whole : Relations) → HasRun whole schedule.old.world → IfOk result (λ told. Plays (catalogue_of schedule.old.world.machines.desk.catalog) whole item.now (stage_of schedule.old) (stage_of schedule.new) (string_bytes told)) }
     ensures counted { OnOk result (IsCounted (stage_of schedule.new)) }
     ensures runs { (whole : Relations) → HasRun whole schedule.old.world → OnOk result (HasRun whole schedule.new.world) }
     ensures catalog { schedule.new.world.machines.desk.catalog ≡ schedule.old.world.machines.desk.catalog }

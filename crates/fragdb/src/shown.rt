@@ -100,7 +100,7 @@ fn put_name(out: &mut String, cast: &Cast, one: &Committed) -> Result<(), Memory
 impl Schedule {
     /// A relation as the fragments rebuild it. Nothing has changed by this.
     pub fn show(&mut self, alloc: Global, name: &Text) -> Result<String, Memory>
-        ensures shown { IfOk result (λ text. IsShownRelation (catalogue_of self.old.world.machines.desk.catalog) name.now (string_bytes text)) }
+        ensures shown { (whole : Relations) → HasRun whole self.old.world → IfOk result (λ text. IsShownRelation (catalogue_of self.old.world.machines.desk.catalog) whole self.old.world.entries.items name.now (string_bytes text)) }
         ensures same { stage_of self.new ≡ stage_of self.old }
         ensures runs { (whole : Relations) → HasRun whole self.old.world → HasRun whole self.new.world }
         ensures catalog { self.new.world.machines.desk.catalog ≡ self.old.world.machines.desk.catalog }
@@ -117,7 +117,7 @@ impl Schedule {
 
     /// The parts that a leaf keeps, by the leaf's name. Nothing has changed by this.
     pub fn leaf(&mut self, alloc: Global, name: &Text) -> Result<String, Memory>
-        ensures shown { IfOk result (λ text. IsShownLeaf (catalogue_of self.old.world.machines.desk.catalog) name.now (string_bytes text)) }
+        ensures shown { (whole : Relations) → HasRun whole self.old.world → IfOk result (λ text. IsShownLeaf (catalogue_of self.old.world.machines.desk.catalog) whole self.old.world.entries.items name.now (string_bytes text)) }
         ensures same { stage_of self.new ≡ stage_of self.old }
         ensures runs { (whole : Relations) → HasRun whole self.old.world → HasRun whole self.new.world }
         ensures catalog { self.new.world.machines.desk.catalog ≡ self.old.world.machines.desk.catalog }
@@ -129,7 +129,7 @@ impl Schedule {
     }
 
     fn parts(&mut self, alloc: Global, leaf: &Leaf, name: &str) -> Result<String, Memory>
-        ensures shown { IfOk result (λ text. IsShownParts (catalogue_of self.old.world.machines.desk.catalog) name.now leaf.now (string_bytes text)) }
+        ensures shown { (whole : Relations) → HasRun whole self.old.world → IfOk result (λ text. IsShownParts (catalogue_of self.old.world.machines.desk.catalog) whole self.old.world.entries.items name.now leaf.now (string_bytes text)) }
         ensures same { stage_of self.new ≡ stage_of self.old }
         ensures runs { (whole : Relations) → HasRun whole self.old.world → HasRun whole self.new.world }
         ensures catalog { self.new.world.machines.desk.catalog ≡ self.old.world.machines.desk.catalog }

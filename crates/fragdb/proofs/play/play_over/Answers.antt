@@ -30,7 +30,7 @@ returns-clause-ok g c =
       opens = record { entries = ap (λ world. world.entries.items) c.new-schedule.ensures.world ∙ c.in-Ok.ensures.none; txns = c.new-schedule.ensures.txns; names = c.new-schedule.ensures.names; came = c.new-schedule.ensures.came };
       end = end;
       told = ran.0;
-      plays = subst (λ (catalogue : Catalogue). PlaysAll catalogue c.args.items.now opening end ran.0) over ran.2;
+      plays = subst (λ (catalogue : Catalogue). PlaysAll catalogue whole c.args.items.now opening end ran.0) over (ran.2 whole started);
       machines = held desk_kept kept_of c.play_items-done.new.schedule.world.machines;
       run = subst (λ (catalogue : Catalogue). IsReached catalogue c.args.whole.now (held desk_kept kept_of c.play_items-done.new.schedule.world.machines) end.entries) after ended.reached;
       said = Appends-kept (g.W.Write.contents c.args.output.now) (g.W.Write.contents c.play_items-done.new.output) (g.W.Write.contents c.flush-flushed.new.self) ran.0 ran.1 c.flush-flushed.ensures.bytes;
