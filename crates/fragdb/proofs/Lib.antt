@@ -17,4 +17,6 @@ pub mod PlayTextLemmas
 pub mod PlayLoadLemmas
 pub mod DeliveringLemmas
 pub mod ShownLemmas
+pub mod ReachedLemmas
+pub mod LoadedLemmas
 pub mod PlayLemmas

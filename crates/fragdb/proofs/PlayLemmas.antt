@@ -2,6 +2,7 @@
 use Rattle.std.proofs.Common.{◌≡◌, ◌≤◌, ◌++◌, ◌∷◌, [], ℕ, List, Option, Some, None, Result, Ok, Err, OnOk, IfErr, IfSome, ap, refl, sym, subst, inl, inr, append-nil, append_assoc, length, ◌∙◌}
 use Rattle.std.specs.Borrow.{Bor}
 use Rattle.std.specs.Io.KnownBytes.{Keeps}
+use Rattle.meaning.specs.Whole.{Relations}
 use Rattle.catalog.specs.Catalogue.{Catalogue}
 use Rattle.catalog.specs.FragmentLeaf.{schemas_of}
 use Rattle.fragdb.specs.declared.fault.ProgramFault.{ProgramFault}
@@ -18,17 +19,17 @@ use Rattle.fragdb.specs.Script.{lines_of}
 use Rattle.fragdb.specs.Solo.{IsOfRun, longest}
 
 -- one item more, after others
-pub PlaysAll-more : (catalogue : Catalogue) (items : List Placed) (placed : Placed) (before middle after : Stage) (told more : List ℕ) → PlaysAll catalogue items before middle told → Plays catalogue placed.item middle after more →
-    PlaysAll catalogue (items ++ placed ∷ []) before after (told ++ more)
-PlaysAll-more catalogue [] placed before middle after told more done next =
+pub PlaysAll-more : (catalogue : Catalogue) (whole : Relations) (items : List Placed) (placed : Placed) (before middle after : Stage) (told more : List ℕ) → PlaysAll catalogue whole items before middle told → Plays catalogue whole placed.item middle after more →
+    PlaysAll catalogue whole (items ++ placed ∷ []) before after (told ++ more)
+PlaysAll-more catalogue whole [] placed before middle after told more done next =
     let start : before ≡ middle = sym done.0 in
     rw (start, done.1) (after, more, [], next, (refl, refl), sym (append-nil more))
-PlaysAll-more catalogue (first ∷ items) placed before middle after told more done next = (
+PlaysAll-more catalogue whole (first ∷ items) placed before middle after told more done next = (
   done.0,
   done.1,
   done.2 ++ more,
   done.3,
-  PlaysAll-more catalogue items placed done.0 middle after done.2 more done.4 next,
+  PlaysAll-more catalogue whole items placed done.0 middle after done.2 more done.4 next,
   ap (λ (front : List ℕ). front ++ more) done.5 ∙ append_assoc done.1 done.2 more,
 )
 
@@ -43,7 +44,7 @@ unloaded catalogue text output (script.Malformed line) why = (why line refl, Kee
 unloaded catalogue text output script.Memory why = inr (Keeps-same output)
 
 -- a script that is loaded is played to its end, or stopped
-pub played : (catalogue : Catalogue) (text : List ℕ) (old new : Option (List ℕ)) (result : Result Unit ProgramFault) → IsSound catalogue text → OnOk result (IsPlayedOver catalogue (items_of (lines_of text)).0 old new) → IfErr result IsOfRun → PlaysOrStops catalogue text old new result
+pub played : (catalogue : Catalogue) (text : List ℕ) (old new : Option (List ℕ)) (result : Result Unit ProgramFault) → (sound : IsSound catalogue text) → OnOk result (IsPlayedOver catalogue sound.0 (items_of (lines_of text)).0 old new) → IfErr result IsOfRun → PlaysOrStops catalogue text old new result
 played catalogue text old new (Ok done) sound ok err = record { sound = sound; played = ok }
 played catalogue text old new (Err Memory) sound ok err = inl sound
 played catalogue text old new (Err CannotWrite) sound ok err = sound

@@ -5,6 +5,7 @@ use Rattle.std.specs.Io.KnownBytes.{Appends, Keeps}
 use Rattle.meaning.specs.Whole.{Relations}
 use Rattle.catalog.specs.Catalogue.{Catalogue, IsValidCatalogue}
 use Rattle.catalog.specs.FragmentLeaf.{schemas_of}
+use Rattle.world.specs.Machines.{Machines}
 use Rattle.world.specs.Telling.{committed_in}
 use Rattle.fragdb.specs.declared.catalog_file.CatalogFault.{CatalogFault}
 use Rattle.fragdb.specs.declared.catalog_file.CatalogFault.TheVariants.{Program, Refused}
@@ -19,28 +20,28 @@ use Rattle.fragdb.specs.Delivering.{Delivers, DeliversAll}
 use Rattle.fragdb.specs.Input.{IsOfInput}
 use Rattle.fragdb.specs.PlayItems.{items_of}
 use Rattle.fragdb.specs.PlayLoad.{IsLoaded, IsMalformedAt}
-use Rattle.fragdb.specs.Schedule.{Asks, HappensAt, RestartsDesk, Stage}
+use Rattle.fragdb.specs.Schedule.{Asks, HappensAt, IsReached, RestartsDesk, Stage}
 use Rattle.fragdb.specs.Script.{lines_of}
 use Rattle.fragdb.specs.Shown.{IsShownLeaf, IsShownRelation, names_text}
 use Rattle.fragdb.specs.Solo.{longest}
 
--- an item of a script, and what is told of it; what is loaded stands in the fragments from the beginning, and what is shown changes nothing
-abbrev pub Plays : Catalogue → Item → Stage → Stage → List ℕ → Type 0
-Plays catalogue (item.Load text) before after told = (after ≡ before) × (told ≡ [])
-Plays catalogue (item.Client name asked) before after told = Asks catalogue name asked before after told
-Plays catalogue (item.Deliver number kept) before after told = Delivers catalogue number kept before after told
-Plays catalogue (item.All but) before after told = DeliversAll catalogue but before after told
-Plays catalogue (item.Site name doing) before after told = HappensAt catalogue name doing before after told
-Plays catalogue item.RestartDesk before after told = RestartsDesk catalogue before after told
-Plays catalogue (item.Show name) before after told = (after ≡ before) × IsShownRelation catalogue name told
-Plays catalogue (item.Leaf name) before after told = (after ≡ before) × IsShownLeaf catalogue name told
-Plays catalogue item.Committed before after told = (after ≡ before) × (told ≡ names_text (name_of before.cast) (committed_in before.entries))
+-- an item of a script that loads these whole relations, and what is told of it; what is loaded stands in the fragments from the beginning, and what is shown changes nothing
+abbrev pub Plays : Catalogue → Relations → Item → Stage → Stage → List ℕ → Type 0
+Plays catalogue whole (item.Load text) before after told = (after ≡ before) × (told ≡ [])
+Plays catalogue whole (item.Client name asked) before after told = Asks catalogue name asked before after told
+Plays catalogue whole (item.Deliver number kept) before after told = Delivers catalogue number kept before after told
+Plays catalogue whole (item.All but) before after told = DeliversAll catalogue but before after told
+Plays catalogue whole (item.Site name doing) before after told = HappensAt catalogue name doing before after told
+Plays catalogue whole item.RestartDesk before after told = RestartsDesk catalogue before after told
+Plays catalogue whole (item.Show name) before after told = (after ≡ before) × IsShownRelation catalogue whole before.entries name told
+Plays catalogue whole (item.Leaf name) before after told = (after ≡ before) × IsShownLeaf catalogue whole before.entries name told
+Plays catalogue whole item.Committed before after told = (after ≡ before) × (told ≡ names_text (name_of before.cast) (committed_in before.entries))
 
 -- items, one after another, with what is told of all
-abbrev pub PlaysAll : Catalogue → List Placed → Stage → Stage → List ℕ → Type 0
-PlaysAll catalogue [] before after told = (after ≡ before) × (told ≡ [])
-PlaysAll catalogue (placed ∷ rest) before after told =
-    (middle : Stage) × (first : List ℕ) × (others : List ℕ) × Plays catalogue placed.item before middle first × PlaysAll catalogue rest middle after others × (told ≡ first ++ others)
+abbrev pub PlaysAll : Catalogue → Relations → List Placed → Stage → Stage → List ℕ → Type 0
+PlaysAll catalogue whole [] before after told = (after ≡ before) × (told ≡ [])
+PlaysAll catalogue whole (placed ∷ rest) before after told =
+    (middle : Stage) × (first : List ℕ) × (others : List ℕ) × Plays catalogue whole placed.item before middle first × PlaysAll catalogue whole rest middle after others × (told ≡ first ++ others)
 
 -- nothing has happened yet
 pub record IsOpening (stage : Stage) : Type 0 where
@@ -53,19 +54,21 @@ pub record IsOpening (stage : Stage) : Type 0 where
 abbrev pub IsSound : Catalogue → List ℕ → Type 0
 IsSound catalogue script = (whole : Relations) × IsLoaded (schemas_of catalogue) (items_of (lines_of script)) whole
 
--- items were played to their end over a world in which nothing had happened, and all that is told of them was written
-pub record IsPlayedOver (catalogue : Catalogue) (items : List Placed) (old new : Option (List ℕ)) : Type 0 where
+-- Items were played to their end over a world in which nothing had happened, and all that is told of them was written. What happened are the entries of a run over these whole relations.
+pub record IsPlayedOver (catalogue : Catalogue) (whole : Relations) (items : List Placed) (old new : Option (List ℕ)) : Type 0 where
   pub opening : Stage
   pub opens : IsOpening opening
   pub end : Stage
   pub told : List ℕ
-  pub plays : PlaysAll catalogue items opening end told
+  pub plays : PlaysAll catalogue whole items opening end told
+  pub machines : Machines
+  pub run : IsReached catalogue whole machines end.entries
   pub said : Appends old new told
 
--- a script was played to its end, and all that is told of its items was written
+-- a script was played to its end over what it loads, and all that is told of its items was written
 pub record IsPlayed (catalogue : Catalogue) (script : List ℕ) (old new : Option (List ℕ)) : Type 0 where
   pub sound : IsSound catalogue script
-  pub played : IsPlayedOver catalogue (items_of (lines_of script)).0 old new
+  pub played : IsPlayedOver catalogue sound.0 (items_of (lines_of script)).0 old new
 
 -- what stopped a script, of which all bytes were read: a malformed one before anything was written
 abbrev pub StopsPlay : Catalogue → List ℕ → Option (List ℕ) → Option (List ℕ) → ProgramFault → Type 0

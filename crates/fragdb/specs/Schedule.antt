@@ -4,10 +4,16 @@ use Rattle.std.specs.BTreeMap.{insert_entry}
 use Rattle.std.specs.Cmp.Lexicographic.{slice_cmp}
 use Rattle.std.specs.Fmt.{decimal}
 use Rattle.std.specs.Ordering.{nat_cmp}
+use Rattle.meaning.specs.Whole.{Relations}
 use Rattle.catalog.specs.Catalogue.{Catalogue}
+use Rattle.catalog.specs.Relation.{catalogue_of}
 use Rattle.store.specs.declared.letter.Letter.{Letter}
 use Rattle.store.specs.declared.name.Txn.{Txn}
+use Rattle.store.specs.declared.plain_desk.PlainDesk.{PlainDesk}
+use Rattle.store.specs.declared.plain_site.PlainSite.{PlainSite}
 use Rattle.store.specs.Name.{txn_cmp}
+use Rattle.store.specs.PlainDesk.{kept_of as desk_kept}
+use Rattle.store.specs.PlainSite.{IsSound, kept_of}
 use Rattle.desk.specs.declared.refusal.Refusal.TheVariants.{NoTransaction}
 use Rattle.desk.specs.declared.reply.Notice.{Notice}
 use Rattle.desk.specs.declared.reply.Out.{Out}
@@ -18,9 +24,13 @@ use Rattle.world.specs.declared.event.Event.{Event}
 use Rattle.world.specs.declared.event.Event.TheVariants as event
 use Rattle.world.specs.declared.fault.Fault.{Fault}
 use Rattle.world.specs.declared.fault.Fault.TheVariants as fault
+use Rattle.world.specs.declared.world.World.{World}
+use Rattle.world.specs.Base.{database}
 use Rattle.world.specs.Events.{is_unsent}
+use Rattle.world.specs.Held.{OfStores, held}
+use Rattle.world.specs.Machines.{Machines}
 use Rattle.world.specs.Posted.{letters_in}
-use Rattle.world.specs.Runs.{entry_of}
+use Rattle.world.specs.Runs.{IsRun, entry_of}
 use Rattle.fragdb.specs.declared.cast.Cast.{Cast}
 use Rattle.fragdb.specs.declared.play_script.Ask.{Ask}
 use Rattle.fragdb.specs.declared.play_script.Ask.TheVariants as ask
@@ -38,6 +48,15 @@ pub record Stage : Type 0 where
 
 abbrev pub stage_of : code.Schedule → Stage
 stage_of schedule = record { entries = schedule.world.entries.items; cast = schedule.cast; came = schedule.came.items }
+
+-- a run over whole relations has these entries, and leads to these machines
+abbrev pub IsReached : Catalogue → Relations → Machines → List Entry → Type 0
+IsReached catalogue whole machines entries = (past : _) × IsRun (database catalogue) whole machines entries past
+
+-- a world over lists, which are sound, has been led to by a run over whole relations
+pub record HasRun (whole : Relations) (world : World PlainDesk PlainSite) : Type 0 where
+  pub sound : OfStores (λ _. Unit {0}) IsSound world.machines
+  pub reached : IsReached (catalogue_of world.machines.desk.catalog) whole (held desk_kept kept_of world.machines) world.entries.items
 
 -- each letter that was sent is counted
 abbrev pub IsCounted : Stage → Type 0

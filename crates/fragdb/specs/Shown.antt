@@ -5,15 +5,20 @@ use Rattle.terms.specs.declared.leaf.Leaf.{Leaf}
 use Rattle.terms.specs.declared.value.Value.{Value}
 use Rattle.terms.specs.Leaf.{leaf_text}
 use Rattle.meaning.specs.declared.answer.Answer.TheVariants.{Rows}
+use Rattle.meaning.specs.Whole.{Relations}
 use Rattle.reader.specs.PrintAnswer.{answer_text}
 use Rattle.catalog.specs.declared.fragment_leaf.FragmentLeaf.{FragmentLeaf}
 use Rattle.catalog.specs.Catalogue.{Catalogue}
 use Rattle.catalog.specs.FragmentLeaf.{catalogue_leaves, leaf_named, schemas_of}
 use Rattle.store.specs.declared.name.Txn.{Txn}
+use Rattle.world.specs.declared.event.Entry.{Entry}
 use Rattle.world.specs.declared.fault.Fault.{Fault}
+use Rattle.world.specs.Base.{database}
+use Rattle.world.specs.Machines.{Machines}
+use Rattle.world.specs.Settled.{ShowsSerial, parts_kept}
 use Rattle.fragdb.specs.Check.{columns_of, names_of_columns}
 use Rattle.fragdb.specs.PlayText.{Naming, leaf_columns}
-use Rattle.fragdb.specs.Schedule.{refusal_text}
+use Rattle.fragdb.specs.Schedule.{IsReached, refusal_text}
 
 -- rows under the names of their columns
 abbrev pub rows_text : List (List ℕ) → List (List Value) → List ℕ
@@ -45,19 +50,19 @@ written_leaf name (leaf ∷ leaves) = if bytes_eq (leaf_text leaf.name) name the
 abbrev pub names_text : Naming → List Txn → List ℕ
 names_text named txns = flat_map (λ txn. named txn ++ 10 ∷ []) txns
 
--- what is shown of a relation, or why it is not
-abbrev pub IsShownRelation : Catalogue → List ℕ → List ℕ → Type 0
-IsShownRelation catalogue name text =
-    ((found : Option (List (List Value))) × (text ≡ relation_text catalogue name found)) ⊎ ((why : Fault) × (text ≡ failed_text name why))
+-- what is shown of a relation after a run over whole relations, or why it is not: the rows that the committed transactions make of it, one after another
+abbrev pub IsShownRelation : Catalogue → Relations → List Entry → List ℕ → List ℕ → Type 0
+IsShownRelation catalogue whole entries name text =
+    ((found : Option (List (List Value))) × ShowsSerial (database catalogue) whole entries name found × (text ≡ relation_text catalogue name found)) ⊎ ((why : Fault) × (text ≡ failed_text name why))
 
--- the same of the parts of a leaf
-abbrev pub IsShownParts : Catalogue → List ℕ → Leaf → List ℕ → Type 0
-IsShownParts catalogue name leaf text =
-    ((found : Option (List (List Value))) × (text ≡ parts_text catalogue name leaf found)) ⊎ ((why : Fault) × (text ≡ failed_text name why))
+-- the same of a leaf: the parts that are kept of it where a run with these entries leads to
+abbrev pub IsShownParts : Catalogue → Relations → List Entry → List ℕ → Leaf → List ℕ → Type 0
+IsShownParts catalogue whole entries name leaf text =
+    ((machines : Machines) × IsReached catalogue whole machines entries × (text ≡ parts_text catalogue name leaf (parts_kept (database catalogue) machines leaf))) ⊎ ((why : Fault) × (text ≡ failed_text name why))
 
-abbrev pub IsShownAs : Catalogue → List ℕ → Option Leaf → List ℕ → Type 0
-IsShownAs catalogue name None text = text ≡ no_leaf_text name
-IsShownAs catalogue name (Some leaf) text = IsShownParts catalogue name leaf text
+abbrev pub IsShownAs : Catalogue → Relations → List Entry → List ℕ → Option Leaf → List ℕ → Type 0
+IsShownAs catalogue whole entries name None text = text ≡ no_leaf_text name
+IsShownAs catalogue whole entries name (Some leaf) text = IsShownParts catalogue whole entries name leaf text
 
-abbrev pub IsShownLeaf : Catalogue → List ℕ → List ℕ → Type 0
-IsShownLeaf catalogue name text = IsShownAs catalogue name (written_leaf name (catalogue_leaves catalogue)) text
+abbrev pub IsShownLeaf : Catalogue → Relations → List Entry → List ℕ → List ℕ → Type 0
+IsShownLeaf catalogue whole entries name text = IsShownAs catalogue whole entries name (written_leaf name (catalogue_leaves catalogue)) text

@@ -3,9 +3,10 @@
 ghost use Rattle.std.specs.Prelude.{◌≡◌, ◌<◌, ◌+◌, ◌^◌, ◌==◌, true, slice_set, drop, length, IfOk, IfSome, OnOk, string_bytes};
 ghost use Rattle.std.specs.List.{list_any};
 ghost use Rattle.std.specs.Option.{option_copied};
+ghost use Rattle.meaning.specs.Whole.{Relations};
 ghost use Rattle.catalog.specs.Relation.{catalogue_of};
 ghost use Rattle.fragdb.specs.Delivering.{Delivers, DeliversAll, DeliversAt, first_due_from};
-ghost use Rattle.fragdb.specs.Schedule.{IsCounted, of_letter, refusal_text, stage_of};
+ghost use Rattle.fragdb.specs.Schedule.{HasRun, IsCounted, of_letter, refusal_text, stage_of};
 
 use crate::cast::Cast;
 use crate::schedule::{Schedule, refusal};
@@ -73,6 +74,7 @@ impl Schedule {
         requires { IsCounted (stage_of self.old) }
         ensures delivers { IfOk result (λ text. Delivers (catalogue_of self.old.world.machines.desk.catalog) number kept (stage_of self.old) (stage_of self.new) (string_bytes text)) }
         ensures counted { OnOk result (IsCounted (stage_of self.new)) }
+        ensures runs { (whole : Relations) → HasRun whole self.old.world → OnOk result (HasRun whole self.new.world) }
         ensures catalog { self.new.world.machines.desk.catalog ≡ self.old.world.machines.desk.catalog }
     {
         if number == 0 {
@@ -87,6 +89,7 @@ impl Schedule {
         requires within { place + 1 < 2 ^ 64 }
         ensures delivers { IfOk result (λ text. DeliversAt (catalogue_of self.old.world.machines.desk.catalog) place kept (stage_of self.old) (stage_of self.new) (string_bytes text)) }
         ensures counted { OnOk result (IsCounted (stage_of self.new)) }
+        ensures runs { (whole : Relations) → HasRun whole self.old.world → OnOk result (HasRun whole self.new.world) }
         ensures catalog { self.new.world.machines.desk.catalog ≡ self.old.world.machines.desk.catalog }
     {
         mark(self.came.as_mut_slice(), place);
@@ -106,6 +109,7 @@ impl Schedule {
         requires { IsCounted (stage_of self.old) }
         ensures delivers { IfOk result (λ text. DeliversAll (catalogue_of self.old.world.machines.desk.catalog) but.now (stage_of self.old) (stage_of self.new) (string_bytes text)) }
         ensures counted { OnOk result (IsCounted (stage_of self.new)) }
+        ensures runs { (whole : Relations) → HasRun whole self.old.world → OnOk result (HasRun whole self.new.world) }
         ensures catalog { self.new.world.machines.desk.catalog ≡ self.old.world.machines.desk.catalog }
     {
         let mut text = String::new(alloc);

@@ -2,9 +2,11 @@
 
 ghost use Rattle.std.specs.Prelude.{◌≡◌, ◌≤◌, ℕ, List, [], IfErr, IfOk, IfSome, OnOk, is_err, true, length, string_bytes};
 ghost use Rattle.std.specs.Io.KnownBytes.{Appends, Keeps};
+ghost use Rattle.meaning.specs.Whole.{FitsSchema, Relations};
+ghost use Rattle.catalog.specs.FragmentLeaf.{schemas_of};
 ghost use Rattle.catalog.specs.Relation.{catalogue_of};
 ghost use Rattle.fragdb.specs.Play.{IsPlayedOver, IsUnplayed, Plays, PlaysAll, PlaysFiles, PlaysOrStops, PlaysScript};
-ghost use Rattle.fragdb.specs.Schedule.{IsCounted, stage_of};
+ghost use Rattle.fragdb.specs.Schedule.{HasRun, IsCounted, stage_of};
 ghost use Rattle.fragdb.specs.Solo.{IsOfRun, longest};
 
 use crate::catalog_file::{CatalogFault, read_catalog};
@@ -89,7 +91,8 @@ fn play_over<'a, W: Write>(
     items: &[Placed],
     output: &mut W,
 ) -> Result<(), ProgramFault<'a>>
-    ensures ok { OnOk result (IsPlayedOver (catalogue_of catalog) items.now (W.contents output.old) (W.contents output.new)) }
+    requires { FitsSchema (schemas_of (catalogue_of catalog)) whole.now }
+    ensures ok { OnOk result (IsPlayedOver (catalogue_of catalog) whole.now items.now (W.contents output.old) (W.contents output.new)) }
     ensures err { IfErr result IsOfRun }
 {
     // Lists refuse for want of memory alone.
@@ -114,7 +117,9 @@ fn play_items<'a, W: Write>(
 ) -> Result<(), ProgramFault<'a>>
     requires { IsCounted (stage_of schedule.old) }
     ensures ok { OnOk result ((told : List ℕ) × Appends (W.contents output.old) (W.contents output.new) told
-        × PlaysAll (catalogue_of schedule.old.world.machines.desk.catalog) items.now (stage_of schedule.old) (stage_of schedule.new) told) }
+        × ((whole : Relations) → HasRun whole schedule.old.world → PlaysAll (catalogue_of schedule.old.world.machines.desk.catalog) whole items.now (stage_of schedule.old) (stage_of schedule.new) told)) }
+    ensures runs { (whole : Relations) → HasRun whole schedule.old.world → OnOk result (HasRun whole schedule.new.world) }
+    ensures catalog { OnOk result (schedule.new.world.machines.desk.catalog ≡ schedule.old.world.machines.desk.catalog) }
     ensures err { IfErr result IsOfRun }
 {
     for placed in items {
@@ -129,8 +134,9 @@ fn play_items<'a, W: Write>(
 /// Plays one item. What is loaded stands in the world already.
 fn play_item(alloc: Global, schedule: &mut Schedule, item: &Item) -> Result<String, Memory>
     requires { IsCounted (stage_of schedule.old) }
-    ensures plays { IfOk result (λ told. Plays (catalogue_of schedule.old.world.machines.desk.catalog) item.now (stage_of schedule.old) (stage_of schedule.new) (string_bytes told)) }
+    ensures plays { (whole : Relations) → HasRun whole schedule.old.world → IfOk result (λ told. Plays (catalogue_of schedule.old.world.machines.desk.catalog) whole item.now (stage_of schedule.old) (stage_of schedule.new) (string_bytes told)) }
     ensures counted { OnOk result (IsCounted (stage_of schedule.new)) }
+    ensures runs { (whole : Relations) → HasRun whole schedule.old.world → OnOk result (HasRun whole schedule.new.world) }
     ensures catalog { schedule.new.world.machines.desk.catalog ≡ schedule.old.world.machines.desk.catalog }
 {
     match item {

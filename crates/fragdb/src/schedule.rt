@@ -2,6 +2,7 @@
 
 ghost use Rattle.std.specs.Prelude.{◌≡◌, ◌++◌, ◌∷◌, [], List, Some, IfOk, IfSome, OnOk, length, option_map, string_bytes};
 ghost use Rattle.std.specs.Option.{option_copied};
+ghost use Rattle.meaning.specs.Whole.{Relations};
 ghost use Rattle.catalog.specs.Relation.{catalogue_of};
 ghost use Rattle.desk.specs.declared.reply.Out.{Out as OutNow};
 ghost use Rattle.world.specs.declared.event.Call.TheVariants as calls;
@@ -13,7 +14,7 @@ ghost use Rattle.world.specs.Runs.{entry_of};
 ghost use Rattle.fragdb.specs.Cast.{name_of};
 ghost use Rattle.fragdb.specs.PlayText.{out_text};
 ghost use Rattle.fragdb.specs.Schedule as spec;
-ghost use Rattle.fragdb.specs.Schedule.{Asks, HappensAt, IsCounted, IsNamedFirst, KeepsNames, Names, RestartsDesk, Stage, Steps, Tries, event_at, of_client, refusal_text, stage_of, unseen};
+ghost use Rattle.fragdb.specs.Schedule.{Asks, HappensAt, HasRun, IsCounted, IsNamedFirst, KeepsNames, Names, RestartsDesk, Stage, Steps, Tries, event_at, of_client, refusal_text, stage_of, unseen};
 
 use crate::cast::Cast;
 use crate::play_script::{Ask, AtSite};
@@ -115,6 +116,7 @@ impl Schedule {
     pub fn step(&mut self, event: Event) -> Result<Option<Fault>, Memory>
         ensures steps { IfOk result (λ why. Steps (catalogue_of self.old.world.machines.desk.catalog) event (stage_of self.old) (stage_of self.new) why) }
         ensures counted { IsCounted (stage_of self.old) → OnOk result (IsCounted (stage_of self.new)) }
+        ensures runs { (whole : Relations) → HasRun whole self.old.world → OnOk result (HasRun whole self.new.world) }
         ensures catalog { self.new.world.machines.desk.catalog ≡ self.old.world.machines.desk.catalog }
     {
         match self.world.step(event) {
@@ -147,6 +149,7 @@ impl Schedule {
         requires { IsCounted (stage_of self.old) }
         ensures asks { IfOk result (λ text. Asks (catalogue_of self.old.world.machines.desk.catalog) name.now ask.now (stage_of self.old) (stage_of self.new) (string_bytes text)) }
         ensures counted { OnOk result (IsCounted (stage_of self.new)) }
+        ensures runs { (whole : Relations) → HasRun whole self.old.world → OnOk result (HasRun whole self.new.world) }
         ensures catalog { self.new.world.machines.desk.catalog ≡ self.old.world.machines.desk.catalog }
     {
         match ask {
@@ -163,6 +166,7 @@ impl Schedule {
         requires { IsCounted (stage_of self.old) }
         ensures tries { IfOk result (λ text. Tries (catalogue_of self.old.world.machines.desk.catalog) (Names name.now) (of_client name.now) (events.Call calls.Begin) (stage_of self.old) (stage_of self.new) (string_bytes text)) }
         ensures counted { OnOk result (IsCounted (stage_of self.new)) }
+        ensures runs { (whole : Relations) → HasRun whole self.old.world → OnOk result (HasRun whole self.new.world) }
         ensures catalog { self.new.world.machines.desk.catalog ≡ self.old.world.machines.desk.catalog }
     {
         match self.step(Event::Call(Call::Begin)) {
@@ -182,6 +186,7 @@ impl Schedule {
         requires { IsCounted (stage_of self.old) }
         ensures tries { IfOk result (λ text. Tries (catalogue_of self.old.world.machines.desk.catalog) KeepsNames (of_client name.now) (events.Call call) (stage_of self.old) (stage_of self.new) (string_bytes text)) }
         ensures counted { OnOk result (IsCounted (stage_of self.new)) }
+        ensures runs { (whole : Relations) → HasRun whole self.old.world → OnOk result (HasRun whole self.new.world) }
         ensures catalog { self.new.world.machines.desk.catalog ≡ self.old.world.machines.desk.catalog }
     {
         match self.step(Event::Call(call)) {
@@ -196,6 +201,7 @@ impl Schedule {
         requires { IsCounted (stage_of self.old) }
         ensures happens { IfOk result (λ text. HappensAt (catalogue_of self.old.world.machines.desk.catalog) site.now doing (stage_of self.old) (stage_of self.new) (string_bytes text)) }
         ensures counted { OnOk result (IsCounted (stage_of self.new)) }
+        ensures runs { (whole : Relations) → HasRun whole self.old.world → OnOk result (HasRun whole self.new.world) }
         ensures catalog { self.new.world.machines.desk.catalog ≡ self.old.world.machines.desk.catalog }
     {
         match self.step(event_at(site.copy()?, doing)) {
@@ -213,6 +219,7 @@ impl Schedule {
         requires { IsCounted (stage_of self.old) }
         ensures restarts { IfOk result (λ text. RestartsDesk (catalogue_of self.old.world.machines.desk.catalog) (stage_of self.old) (stage_of self.new) (string_bytes text)) }
         ensures counted { OnOk result (IsCounted (stage_of self.new)) }
+        ensures runs { (whole : Relations) → HasRun whole self.old.world → OnOk result (HasRun whole self.new.world) }
         ensures catalog { self.new.world.machines.desk.catalog ≡ self.old.world.machines.desk.catalog }
     {
         match self.step(Event::DeskRestarts(true)) {

@@ -2,10 +2,11 @@
 
 ghost use Rattle.std.specs.Prelude.{◌≡◌, ◌++◌, ◌∷◌, [], IfOk, OnOk, string_bytes};
 ghost use Rattle.std.specs.List.{flat_map};
+ghost use Rattle.meaning.specs.Whole.{Relations};
 ghost use Rattle.catalog.specs.Relation.{catalogue_of};
 ghost use Rattle.world.specs.Telling.{committed_in};
 ghost use Rattle.fragdb.specs.Cast.{name_of};
-ghost use Rattle.fragdb.specs.Schedule.{stage_of};
+ghost use Rattle.fragdb.specs.Schedule.{HasRun, stage_of};
 ghost use Rattle.fragdb.specs.Shown as spec;
 ghost use Rattle.fragdb.specs.Shown.{IsShownLeaf, IsShownParts, IsShownRelation, failed_text, names_text, no_leaf_text, written_leaf};
 
@@ -99,8 +100,9 @@ fn put_name(out: &mut String, cast: &Cast, one: &Committed) -> Result<(), Memory
 impl Schedule {
     /// A relation as the fragments rebuild it. Nothing has changed by this.
     pub fn show(&mut self, alloc: Global, name: &Text) -> Result<String, Memory>
-        ensures shown { IfOk result (λ text. IsShownRelation (catalogue_of self.old.world.machines.desk.catalog) name.now (string_bytes text)) }
+        ensures shown { (whole : Relations) → HasRun whole self.old.world → IfOk result (λ text. IsShownRelation (catalogue_of self.old.world.machines.desk.catalog) whole self.old.world.entries.items name.now (string_bytes text)) }
         ensures same { stage_of self.new ≡ stage_of self.old }
+        ensures runs { (whole : Relations) → HasRun whole self.old.world → HasRun whole self.new.world }
         ensures catalog { self.new.world.machines.desk.catalog ≡ self.old.world.machines.desk.catalog }
     {
         match self.world.rebuilt(name) {
@@ -115,8 +117,9 @@ impl Schedule {
 
     /// The parts that a leaf keeps, by the leaf's name. Nothing has changed by this.
     pub fn leaf(&mut self, alloc: Global, name: &Text) -> Result<String, Memory>
-        ensures shown { IfOk result (λ text. IsShownLeaf (catalogue_of self.old.world.machines.desk.catalog) name.now (string_bytes text)) }
+        ensures shown { (whole : Relations) → HasRun whole self.old.world → IfOk result (λ text. IsShownLeaf (catalogue_of self.old.world.machines.desk.catalog) whole self.old.world.entries.items name.now (string_bytes text)) }
         ensures same { stage_of self.new ≡ stage_of self.old }
+        ensures runs { (whole : Relations) → HasRun whole self.old.world → HasRun whole self.new.world }
         ensures catalog { self.new.world.machines.desk.catalog ≡ self.old.world.machines.desk.catalog }
     {
         match leaf_written(alloc, self.world.catalog().leaves(), name.as_str())? {
@@ -126,8 +129,9 @@ impl Schedule {
     }
 
     fn parts(&mut self, alloc: Global, leaf: &Leaf, name: &str) -> Result<String, Memory>
-        ensures shown { IfOk result (λ text. IsShownParts (catalogue_of self.old.world.machines.desk.catalog) name.now leaf.now (string_bytes text)) }
+        ensures shown { (whole : Relations) → HasRun whole self.old.world → IfOk result (λ text. IsShownParts (catalogue_of self.old.world.machines.desk.catalog) whole self.old.world.entries.items name.now leaf.now (string_bytes text)) }
         ensures same { stage_of self.new ≡ stage_of self.old }
+        ensures runs { (whole : Relations) → HasRun whole self.old.world → HasRun whole self.new.world }
         ensures catalog { self.new.world.machines.desk.catalog ≡ self.old.world.machines.desk.catalog }
     {
         match self.world.parts(leaf) {

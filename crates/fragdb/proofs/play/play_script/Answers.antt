@@ -9,8 +9,15 @@ use Rattle.fragdb.specs.Play.{IsPlayedOver, IsSound, PlaysOrStops}
 use Rattle.fragdb.specs.PlayItems.{items_of}
 use Rattle.fragdb.specs.PlayLoad.{IsLoaded, IsMalformedAt}
 use Rattle.fragdb.specs.Script.{lines_of}
+use Rattle.fragdb.proofs.LoadedLemmas.{loaded_fits}
 use Rattle.fragdb.proofs.PlayLemmas.{played, unloaded}
 use Rattle.fragdb.proofs.play.play_script.Goals as goal
+
+pub play_over-requires : goal.play_over-requires
+play_over-requires g c =
+    let whole = c.in-Ok.whole in
+    let read : List Placed × Option ℕ = (c.in_ok-script.script.items.items, c.in_ok-script.script.malformed) in
+    loaded_fits (schemas_of (catalogue_of c.args.catalog)) read whole (subst (λ (schema : List RelationSchema). IsLoaded schema read whole) c.schema.ensures.schemas c.in-Ok.ensures.loaded)
 
 pub returns-in-Ok : goal.returns-in-Ok
 returns-in-Ok g c =
@@ -24,7 +31,7 @@ returns-in-Ok g c =
     let items = c.as_slice.ensures.value ∙ ap (λ (items : List Placed × Option ℕ). items.0) read in
     let old = g.W.Write.contents c.args.output.now in
     let new = g.W.Write.contents c.play_over.new.output in
-    played catalogue text old new c.play_over.result sound (subst (λ (items : List Placed). OnOk c.play_over.result (IsPlayedOver catalogue items old new)) items c.play_over.ensures.ok) c.play_over.ensures.err
+    played catalogue text old new c.play_over.result sound (subst (λ (items : List Placed). OnOk c.play_over.result (IsPlayedOver catalogue whole items old new)) items c.play_over.ensures.ok) c.play_over.ensures.err
 
 pub returns : goal.returns
 returns g c =

@@ -31,5 +31,6 @@ loop-preserved c =
       );
       due = next_behind catalogue but place middle after (string_bytes c.in_ok-told.told) due_here delivered;
       counted = c.in_ok-told.ensures.counted;
+      runs = λ whole has. c.in_ok-told.ensures.runs whole (so_far.runs whole has);
       catalog = c.deliver_at.ensures.catalog ∙ so_far.catalog;
     }
