@@ -5,7 +5,9 @@ use Rattle.std.specs.Io.KnownBytes.{Appends, Keeps}
 use Rattle.meaning.specs.Whole.{Relations}
 use Rattle.catalog.specs.Catalogue.{Catalogue, IsValidCatalogue}
 use Rattle.catalog.specs.FragmentLeaf.{schemas_of}
+use Rattle.world.specs.Base.{database}
 use Rattle.world.specs.Machines.{Machines}
+use Rattle.world.specs.Runs.{IsSerialRun}
 use Rattle.world.specs.Telling.{committed_in}
 use Rattle.fragdb.specs.declared.catalog_file.CatalogFault.{CatalogFault}
 use Rattle.fragdb.specs.declared.catalog_file.CatalogFault.TheVariants.{Program, Refused}
@@ -54,7 +56,7 @@ pub record IsOpening (stage : Stage) : Type 0 where
 abbrev pub IsSound : Catalogue → List ℕ → Type 0
 IsSound catalogue script = (whole : Relations) × IsLoaded (schemas_of catalogue) (items_of (lines_of script)) whole
 
--- Items were played to their end over a world in which nothing had happened, and all that is told of them was written. What happened are the entries of a run over these whole relations.
+-- Items were played to their end over a world in which nothing had happened, and all that is told of them was written. What happened are the entries of a run over these whole relations, and its committed transactions ran as if one after another.
 pub record IsPlayedOver (catalogue : Catalogue) (whole : Relations) (items : List Placed) (old new : Option (List ℕ)) : Type 0 where
   pub opening : Stage
   pub opens : IsOpening opening
@@ -63,6 +65,7 @@ pub record IsPlayedOver (catalogue : Catalogue) (whole : Relations) (items : Lis
   pub plays : PlaysAll catalogue whole items opening end told
   pub machines : Machines
   pub run : IsReached catalogue whole machines end.entries
+  pub serial : IsSerialRun (database catalogue) whole machines end.entries
   pub said : Appends old new told
 
 -- a script was played to its end over what it loads, and all that is told of its items was written

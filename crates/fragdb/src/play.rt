@@ -22,6 +22,7 @@ use std::alloc::Global;
 use std::io;
 use std::io::{Read, Write};
 use terms::memory::Memory;
+use world::laws::runs_are_serial;
 use world::world::open;
 
 /// Plays the script that `input` gives, which `file` names in a fault, over the catalogue that `catalog` gives, which
@@ -95,6 +96,7 @@ fn play_over<'a, W: Write>(
     ensures ok { OnOk result (IsPlayedOver (catalogue_of catalog) whole.now items.now (W.contents output.old) (W.contents output.new)) }
     ensures err { IfErr result IsOfRun }
 {
+    runs_are_serial(&catalog);
     // Lists refuse for want of memory alone.
     let Ok(world) = open(alloc, catalog, whole) else {
         return Err(ProgramFault::Memory);

@@ -25,6 +25,7 @@ returns-clause-ok g c =
     let started : HasRun whole c.new-schedule.result.world = subst (HasRun whole) (sym c.new-schedule.ensures.world) opened in
     let ended = c.in_ok-done.ensures.runs whole started in
     let after = ap catalogue_of c.in_ok-done.ensures.catalog ∙ over in
+    let reached = subst (λ (catalogue : Catalogue). IsReached catalogue c.args.whole.now (held desk_kept kept_of c.play_items-done.new.schedule.world.machines) end.entries) after ended.reached in
     record {
       opening = opening;
       opens = record { entries = ap (λ world. world.entries.items) c.new-schedule.ensures.world ∙ c.in-Ok.ensures.none; txns = c.new-schedule.ensures.txns; names = c.new-schedule.ensures.names; came = c.new-schedule.ensures.came };
@@ -32,6 +33,7 @@ returns-clause-ok g c =
       told = ran.0;
       plays = subst (λ (catalogue : Catalogue). PlaysAll catalogue whole c.args.items.now opening end ran.0) over (ran.2 whole started);
       machines = held desk_kept kept_of c.play_items-done.new.schedule.world.machines;
-      run = subst (λ (catalogue : Catalogue). IsReached catalogue c.args.whole.now (held desk_kept kept_of c.play_items-done.new.schedule.world.machines) end.entries) after ended.reached;
+      run = reached;
+      serial = c.runs_are_serial.ensures whole (held desk_kept kept_of c.play_items-done.new.schedule.world.machines) end.entries reached.0 reached.1;
       said = Appends-kept (g.W.Write.contents c.args.output.now) (g.W.Write.contents c.play_items-done.new.output) (g.W.Write.contents c.flush-flushed.new.self) ran.0 ran.1 c.flush-flushed.ensures.bytes;
     }
