@@ -2,8 +2,9 @@
 # Times a site over lists: a fetch by key, and preparing and applying one write, with 2,500 and with 20,000 parts in
 # the leaf, and with 10 and with 1,000 visits that have locks on another leaf. Fails where the larger number costs more
 # than 1.3 times the smaller. In each of these 500 keys are asked for in turn, which lie evenly all over the leaf: so
-# what is compared is what a site does, and not how much of the leaf the processor's caches hold. For who wants to know
-# that too, the times with all keys of the leaf in turn are told at the end, and no limit is set to them.
+# what is compared is what a site does, and not how much of the leaf the processor's caches hold. With all keys of the
+# leaf in turn the caches count: those times are told too, without a limit, and where valgrind is at hand the
+# instructions, with it.
 # Works on a copy of the repository with the work that earlier checks kept, so check the crate `site` first; the program
 # that it times is bench/site/main.rt.in. With a PROGRAM that was built so, it times that.
 #
@@ -12,6 +13,7 @@ set -eu
 top=$(cd "$(dirname "$0")/.." && pwd)
 exec python3 - "$top" "$@" <<'PYTHON'
 import os
+import re
 import shutil
 import subprocess
 import sys
@@ -45,7 +47,7 @@ def nanoseconds(program):
     """A fetch and a write at each size: the least of several runs, taken in turns, so that other work on the machine counts little."""
     best = {size: [1e9, 1e9] for pair in [*PAIRS.values(), *ALL_KEYS.values()] for size in pair}
     for done in range(MOST_ROUNDS):
-        if done >= LEAST_ROUNDS and not is_too_much(best):
+        if done >= LEAST_ROUNDS and not is_too_much(best, PAIRS):
             break
         for size in best:
             ran = subprocess.check_output([program, *map(str, size)], text=True)
@@ -53,24 +55,45 @@ def nanoseconds(program):
     return best
 
 
-def is_too_much(best):
-    """Whether a ratio that has a limit is past it."""
-    return any(then > MOST * first for before, after in PAIRS.values() for first, then in zip(best[before], best[after]))
+def instructions(program):
+    """How many instructions all fetches and all writes take, each write with its Open and its Put, by valgrind's count."""
+    counts = {}
+    for size in [size for pair in ALL_KEYS.values() for size in pair]:
+        for work in ("timed::fetches", "timed::writes"):
+            words = ["valgrind", "--tool=callgrind", "--callgrind-out-file=/dev/null", f"--toggle-collect={work}", program, *map(str, size)]
+            ran = subprocess.run(words, stdout=subprocess.DEVNULL, stderr=subprocess.PIPE, text=True, check=True)
+            counts.setdefault(size, []).append(int(re.search(r"Collected : (\d+)", ran.stderr).group(1)))
+    return counts
 
 
-def tell(best, pairs, most):
+def is_too_much(best, pairs):
+    """Whether one of these ratios is past the limit."""
+    return any(then > MOST * first for before, after in pairs.values() for first, then in zip(best[before], best[after]))
+
+
+def tell(best, pairs, unit, most):
     """Tells the ratios, and which of them are greater than they may be."""
     for name, (before, after) in pairs.items():
         for what, first, then in zip(("a fetch by key", "a write prepared and applied"), best[before], best[after]):
-            print(f"{name}: {what}: {then} ns after {first} ns, ratio {then / first:.2f}{' TOO MUCH' if then > most * first else ''}")
+            print(f"{name}: {what}: {then} {unit} after {first}, ratio {then / first:.2f}{' TOO MUCH' if then > most * first else ''}")
+
+
+def timed(program):
+    """Tells all times, and the instructions if they can be counted. Answers whether something is too much."""
+    best = nanoseconds(program)
+    tell(best, PAIRS, "ns", MOST)
+    tell(best, ALL_KEYS, "ns", float("inf"))
+    if not shutil.which("valgrind"):
+        return is_too_much(best, PAIRS)
+    counts = instructions(program)
+    tell(counts, ALL_KEYS, "instructions in all", MOST)
+    return is_too_much(best, PAIRS) or is_too_much(counts, ALL_KEYS)
 
 
 room = tempfile.mkdtemp(prefix="site-")
 try:
-    best = nanoseconds(sys.argv[2] if len(sys.argv) > 2 else built(room))
-    tell(best, PAIRS, MOST)
-    tell(best, ALL_KEYS, float("inf"))
+    too_much = timed(sys.argv[2] if len(sys.argv) > 2 else built(room))
 finally:
     shutil.rmtree(room, ignore_errors=True)
-sys.exit(1 if is_too_much(best) else 0)
+sys.exit(1 if too_much else 0)
 PYTHON

@@ -56,7 +56,7 @@ no_row = refl
 abbrev move : Doing toy
 move = record { statement = Move; choice = (0, []); takes = replicate 10 (true, moves) }
 
-at_sites : (leaves : List Bool) → AtSites toy leaves
+pub at_sites : (leaves : List Bool) → AtSites toy leaves
 at_sites leaves true here = inr (inl refl)
 at_sites leaves false here = inl refl
 

@@ -29,13 +29,13 @@ module _ {L : Lang} where
   explained_in t (Aborted u why) e = tt
   explained_in t (Rolled_back u) e = tt
 
-  explained_works : (t : Name) (past : List (Deed L)) → AllExplained past → Every IsExplained (works past t)
+  pub explained_works : (t : Name) (past : List (Deed L)) → AllExplained past → Every IsExplained (works past t)
   explained_works t [] all = tt
   explained_works t (d ∷ past) all = every_append IsExplained (work_in t d) (works past t) (explained_in t d all.0) (explained_works t past all.1)
 
   module _ (law : IsLawful L) where
     -- the works of one transaction, over contents of a whole database
-    serial_works : (xs : List (Work L)) (whole : L.Whole) (c : L.Leaf → L.Content) → L.IsWhole whole → ((g : L.Leaf) → c g ≡ L.content g whole) → RightFrom c xs → Every IsExplained xs →
+    pub serial_works : (xs : List (Work L)) (whole : L.Whole) (c : L.Leaf → L.Content) → L.IsWhole whole → ((g : L.Leaf) → c g ≡ L.content g whole) → RightFrom c xs → Every IsExplained xs →
         L.IsWhole (whole_after L (map (λ x. x.statement) xs) whole) × (map (λ x. x.choice.0) xs ≡ answers_in_turn L (map (λ x. x.statement) xs) whole) × ((g : L.Leaf) → written L g (own_of xs) (c g) ≡ L.content g (whole_after L (map (λ x. x.statement) xs) whole))
     serial_works [] whole c fits base right explained = (fits, refl, base)
     serial_works (x ∷ xs) whole c fits base right explained =

@@ -113,7 +113,7 @@ module _ {L : Lang} (law : IsLawful L) where
         go [] h = tt
         go (l ∷ q) h = to w x.0 x.1 l h
 
-    kept_commit : (kept : Bool) (c : Body L) → kept ≡ true → CommitKept ⊥ kept c
+    pub kept_commit : (kept : Bool) (c : Body L) → kept ≡ true → CommitKept ⊥ kept c
     kept_commit kept (Prepare k n) is = inl is
     kept_commit kept (Voted k x) is = inl is
     kept_commit kept (Commit k) is = is

@@ -18,4 +18,5 @@ pub mod Committing
 pub mod ClientLaw
 pub mod OneClient
 pub mod Fitting
+pub mod Smooth
 pub mod Toy

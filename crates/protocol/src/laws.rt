@@ -1,5 +1,6 @@
 //! The laws of the protocol, each as the contract of a function that does nothing.
 
+ghost use Rattle.std.specs.Prelude.{true};
 ghost use Rattle.protocol.specs.Client.{ReachedLaw, RoundsLaw};
 ghost use Rattle.protocol.specs.ClientLaw.{ClientLaw, LetterByLetter};
 ghost use Rattle.protocol.specs.Fitting.{StaysFitting};
@@ -7,6 +8,7 @@ ghost use Rattle.protocol.specs.OneClient.{OneAtATime};
 ghost use Rattle.protocol.specs.Parts.{PartsOneAndTwo, PartThree};
 ghost use Rattle.protocol.specs.Rounds.{RoundByLetter};
 ghost use Rattle.protocol.specs.Serial.{SerialLaw};
+ghost use Rattle.protocol.specs.Smooth.{SmoothLaw};
 ghost use Rattle.protocol.specs.Toy.{toy};
 ghost use Rattle.protocol.specs.Whole.{AppliedWholeAndOnce};
 
@@ -85,4 +87,12 @@ pub fn one_client_is_serial()
 /// those of every fitting content are.
 pub fn contents_stay_fitting()
     ensures { StaysFitting toy }
+{}
+
+/// One client alone, whose letters come smoothly, each store call kept, no limit met and no visit full: each
+/// statement is answered, and a transaction that asks for its commit is committed. That the writes are of
+/// leaves at the sites, and that rows fit, is no premise: where all that is evaluated is explained it follows,
+/// since what the statements wrote is what they mean over the whole database.
+pub fn one_client_smoothly()
+    ensures { SmoothLaw toy (λ leaf content. true) }
 {}

@@ -11,13 +11,9 @@ use Rattle.store.specs.SiteContent.{SiteContent}
 use Rattle.protocol.specs.Language.{same}
 use Rattle.protocol.specs.Letters.{txn_name}
 
--- whether it is this transaction
-abbrev pub is_txn : Txn → Txn → Bool
-is_txn one other = same (txn_name one) (txn_name other)
-
--- whether it is among these
+-- whether a transaction is among these
 abbrev pub is_among : List Txn → Txn → Bool
-is_among decided txn = list_any (λ one. is_txn one txn) decided
+is_among decided txn = list_any (λ one. same (txn_name one) (txn_name txn)) decided
 
 -- a leaf's content with a row's intentions, if its transaction is among the decided ones
 abbrev pub with_row : List Txn → Leaf → Prepared → Content → Content

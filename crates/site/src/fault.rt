@@ -7,7 +7,6 @@ use std::alloc::AllocFailed;
 use std::fmt;
 use store::fault::StoreFault;
 use terms::memory::Memory;
-use terms::same::Same;
 
 /// Why a site's call was refused. After any of these the site is as it was.
 #[derive(Clone, Copy, Debug, PartialEq, Eq)]
@@ -33,12 +32,6 @@ impl SiteFault {
             SiteFault::Full => 3,
             SiteFault::Stranger => 4,
         }
-    }
-}
-
-impl Same for SiteFault {
-    fn same(&self, other: &SiteFault) -> bool {
-        *self == *other
     }
 }
 

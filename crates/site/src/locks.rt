@@ -63,7 +63,7 @@ impl Locks {
     }
 
     /// Grants the shared lock.
-    pub(crate) fn share(&mut self, ticket: Ticket) -> Result<(), Memory>
+    fn share(&mut self, ticket: Ticket) -> Result<(), Memory>
         ensures ok { OnOk result (self.new ≡ with_reader ticket self.old) }
         ensures err { OnErr result (self.new ≡ self.old) }
         ensures leaf { self.new.leaf ≡ self.old.leaf }
@@ -73,7 +73,7 @@ impl Locks {
     }
 
     /// Grants the exclusive lock.
-    pub(crate) fn grant(&mut self, ticket: Ticket)
+    fn grant(&mut self, ticket: Ticket)
         ensures { self.new ≡ with_writer ticket self.old }
     {
         self.writer = Some(ticket);

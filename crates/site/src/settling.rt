@@ -3,31 +3,12 @@
 ghost use Rattle.std.specs.Prelude.{◌≡◌, IfOk, OnOk};
 ghost use Rattle.terms.specs.declared.leaf.Leaf.{Leaf};
 ghost use Rattle.store.specs.Content.{changed, made_by};
-ghost use Rattle.site.specs.Settled.{is_among, is_txn, with_rows};
+ghost use Rattle.site.specs.Settled.{with_rows};
 
 use store::changes::Changes;
 use store::name::Txn;
 use store::prepared::SiteKept;
 use terms::memory::Memory;
-
-/// Whether it is this transaction.
-fn is_txn(one: &Txn, other: &Txn) -> bool
-    ensures { result ≡ is_txn one.now other.now }
-{
-    one.life == other.life && one.number == other.number
-}
-
-/// Whether it is among these.
-fn is_among(decided: &[Txn], txn: &Txn) -> bool
-    ensures { result ≡ is_among decided.now txn.now }
-{
-    for one in decided {
-        if is_txn(one, txn) {
-            return true;
-        }
-    }
-    false
-}
 
 /// Changes are made to fragments that are kept as changes. Where there is no memory for them, the parts are as
 /// they were.
@@ -52,7 +33,7 @@ pub(crate) fn settle(kept: SiteKept, decided: &[Txn]) -> Result<Changes, Memory>
     let mut parts = parts;
     for row in prepared.into_vec() {
         let prepared = row.prepared;
-        if is_among(decided, &prepared.txn) {
+        if decided.contains(&prepared.txn) {
             make(&mut parts, prepared.changes)?;
         }
     }

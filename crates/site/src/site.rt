@@ -15,10 +15,12 @@ ghost use Rattle.site.specs.State.{Fits, Steps, Takes, state_of, table_of};
 
 use crate::ending::{abort, commit, give_up, prepare};
 use crate::fault::{SiteFault, site_fault};
+use crate::locks::Locks;
 use crate::present::Present;
 use crate::reading::fetch;
 use crate::settling::settle;
 use crate::starting::{begin, leaves_of};
+use crate::turn::is_elsewhere;
 use crate::writing::{intend, open};
 use std::alloc::Global;
 use store::changes::Changes;
@@ -176,6 +178,8 @@ impl<S: SiteStore> Site<S> {
             → IfOk result (AreSettled decided.now (S.kept self.old.store) (table_of self.old.present).tickets) }
         ensures same { S.is_clean self.new.store → S.is_sound self.old.store → IsUnchanged (S.kept self.old.store) (S.kept self.new.store) }
         ensures memory { self.new.present ≡ self.old.present }
+        ensures own { result ≢ Err faults.Stranger }
+        ensures within { result ≢ Err faults.Full }
         ensures refusal { result ≡ Err (faults.Store store_faults.Refused) → HasRefused (S.refused self.old.store) (S.refused self.new.store) }
         ensures intact { S.is_clean self.new.store → S.is_sound self.old.store → result ≢ Err (faults.Store store_faults.Damaged) }
     {
@@ -186,7 +190,7 @@ impl<S: SiteStore> Site<S> {
 
     /// Takes a letter, and answers the letters that the site puts out. On a fault nothing has changed.
     pub fn take(&mut self, letter: Letter) -> Result<Vec<Letter>, SiteFault>
-        ensures turned_away { AsksElsewhere self.old.present.locks.items letter.body → (result ≡ Err faults.Stranger) ⊎ (result ≡ Err faults.Memory) }
+        ensures turned_away { AsksElsewhere self.old.present.locks.items letter.body → result ≡ Err faults.Stranger }
         ensures name { self.new.present.name ≡ self.old.present.name }
         ensures leaves { leaves_in self.new.present.locks.items ≡ leaves_in self.old.present.locks.items }
         ensures elsewhere { result ≡ Err faults.Stranger → (letter.site ≢ self.old.present.name) ⊎ AsksElsewhere self.old.present.locks.items letter.body }
@@ -209,7 +213,7 @@ impl<S: SiteStore> Site<S> {
     /// So, but where `kept` is false the store isn't called, and counts as having refused.
     pub fn take_kept(&mut self, letter: Letter, kept: bool) -> Result<Vec<Letter>, SiteFault>
         ensures uncalled { kept ≡ false → self.new.store ≡ self.old.store }
-        ensures turned_away { AsksElsewhere self.old.present.locks.items letter.body → (result ≡ Err faults.Stranger) ⊎ (result ≡ Err faults.Memory) }
+        ensures turned_away { AsksElsewhere self.old.present.locks.items letter.body → result ≡ Err faults.Stranger }
         ensures name { self.new.present.name ≡ self.old.present.name }
         ensures leaves { leaves_in self.new.present.locks.items ≡ leaves_in self.old.present.locks.items }
         ensures elsewhere { result ≡ Err faults.Stranger → (letter.site ≢ self.old.present.name) ⊎ AsksElsewhere self.old.present.locks.items letter.body }
@@ -229,7 +233,9 @@ impl<S: SiteStore> Site<S> {
         if !letter.site.same(&self.present.name) {
             return Err(SiteFault::Stranger);
         }
-        let letters = room(self.present.alloc)?;
+        let Ok(letters) = room(self.present.alloc) else {
+            return Err(unanswered(self.present.locks.as_slice(), &letter.body));
+        };
         let Letter { site, txn, body } = letter;
         let order = match body {
             Body::Order(order) => order,
@@ -268,14 +274,23 @@ impl<S: SiteStore> Site<S> {
 }
 
 /// Room for one letter.
-fn room(alloc: Global) -> Result<Vec<Letter>, SiteFault>
+fn room(alloc: Global) -> Result<Vec<Letter>, Memory>
     ensures empty { IfOk result (λ letters. letters.items ≡ []) }
     ensures room { IfOk result (λ letters. vec_len letters < vec_capacity letters) }
-    ensures fault { IfErr result (λ fault. fault ≡ faults.Memory) }
 {
-    match Vec::with_capacity(alloc, 1) {
-        Ok(letters) => Ok(letters),
-        Err(_) => Err(SiteFault::Memory),
+    Ok(Vec::with_capacity(alloc, 1)?)
+}
+
+/// Why a site with these locks doesn't take a letter that it has no room to answer: what goes elsewhere is
+/// turned away all the same.
+fn unanswered(locks: &[Locks], body: &Body) -> SiteFault
+    ensures elsewhere { AsksElsewhere locks.now body.now → result ≡ faults.Stranger }
+    ensures stranger { result ≡ faults.Stranger → AsksElsewhere locks.now body.now }
+    ensures fault { (result ≡ faults.Stranger) ⊎ (result ≡ faults.Memory) }
+{
+    match body {
+        Body::Order(order) if is_elsewhere(locks, order) => SiteFault::Stranger,
+        _ => SiteFault::Memory,
     }
 }
 

@@ -1,9 +1,10 @@
 //! What becomes of an operation of a visit.
 
 ghost use Rattle.store.specs.declared.fault.StoreFault.{StoreFault as StoreFaultName};
-ghost use Rattle.std.specs.Prelude.{◌≡◌, ◌≢◌, ◌<◌, ◌==◌, suc, Some, None, Err, IfOk, length};
+ghost use Rattle.std.specs.Prelude.{◌≡◌, ◌≢◌, ◌<◌, ◌==◌, ◌↔◌, suc, Some, None, Err, IfOk, IsTrue, length};
 ghost use Rattle.site.specs.declared.fault.SiteFault.TheVariants as faults;
 ghost use Rattle.site.specs.Locks.{place_in};
+ghost use Rattle.site.specs.Refusals.{IsElsewhere};
 ghost use Rattle.site.specs.State.{table_of};
 ghost use Rattle.std.specs.Option.{option_copied};
 ghost use Rattle.store.specs.Slot.{slot_of};
@@ -17,6 +18,7 @@ use crate::present::Present;
 use crate::standing::{Standing, Visit};
 use store::changes::Changes;
 use store::name::Ticket;
+use store::order::Order;
 use store::reply::{Reason, Vote};
 use store::slot::Slot;
 use terms::copy::TryCopy;
@@ -135,6 +137,17 @@ fn leaf_of(write: &Write) -> &Leaf
     }
 }
 
+/// Whether an order is about a leaf that isn't one of these.
+pub(crate) fn is_elsewhere(locks: &[Locks], order: &Order) -> bool
+    ensures { IsTrue result ↔ IsElsewhere locks.now order.now }
+{
+    match order {
+        Order::Fetch(fetch) => place_of(locks, &fetch.leaf).is_none(),
+        Order::Intend(intention) => place_of(locks, leaf_of(&intention.write)).is_none(),
+        _ => false,
+    }
+}
+
 /// The place of the leaf that an operation reads, and what becomes of the operation.
 pub(crate) fn turn_to_read(
     present: &Present,
@@ -175,16 +188,14 @@ pub(crate) fn turn_to_write(
     let Some(place) = place_of(present.locks.as_slice(), leaf_of(write)) else {
         return Err(SiteFault::Stranger);
     };
-    match write_turn(
+    let turn = write_turn(
         ticket,
         op,
         write,
         &present.locks[place],
         present.standing(ticket),
-    ) {
-        Ok(turn) => Ok((place, turn)),
-        Err(_) => Err(SiteFault::Memory),
-    }
+    )?;
+    Ok((place, turn))
 }
 
 /// What becomes of a prepare.
@@ -216,7 +227,7 @@ fn ballot_of(standing: &Standing, count: u64) -> Ballot
         Standing::Alive(visit) => {
             if visit.done != count {
                 Ballot::Ends(Vote::No)
-            } else if visit.changes.len() == 0 {
+            } else if visit.changes.is_empty() {
                 Ballot::Ends(Vote::Read)
             } else {
                 Ballot::Keeps

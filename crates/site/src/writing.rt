@@ -65,8 +65,7 @@ pub(crate) fn intend(
     let Intention { ticket, op, write } = intention;
     let (place, turn) = turn_to_write(present, &ticket, op, &write)?;
     match turn {
-        Turn::Pass => Ok(None),
-        Turn::Gone => Ok(None),
+        Turn::Pass | Turn::Gone => Ok(None),
         Turn::Refuse(reason) => {
             present.end(&ticket);
             Ok(refused(&ticket, reason))

@@ -1,6 +1,6 @@
 //! Changes: what is to become of a site's fragments, slot by slot.
 
-ghost use Rattle.std.specs.Prelude.{◌≡◌, IfOk, IfSome, OnOk, OnErr, IsTrue, ◌↔◌, Some, None, unwrap_or};
+ghost use Rattle.std.specs.Prelude.{◌≡◌, ◌==◌, IfOk, IfSome, OnOk, OnErr, IsTrue, ◌↔◌, Some, None, unwrap_or};
 ghost use Rattle.std.specs.FinMap as map;
 ghost use Rattle.std.specs.Option.{option_copied};
 ghost use Rattle.terms.specs.Row.{key_of};
@@ -83,8 +83,10 @@ impl Changes {
 
     /// Whether nothing is changed.
     pub fn is_empty(&self) -> bool
-        ensures { IsTrue result ↔ (self.now ≡ map.empty) }
+        ensures empty { IsTrue result ↔ (self.now ≡ map.empty) }
+        ensures len { result ≡ (map.len self.now == 0) }
     {
+        let _count = self.slots.len();
         self.slots.is_empty()
     }
 
@@ -112,17 +114,6 @@ impl Changes {
     {
         let _old = self.slots.insert(slot, None)?;
         Ok(())
-    }
-
-    /// The part that the changes put at a slot, if they put one.
-    pub fn part_at(&self, slot: &Slot) -> Option<&Part>
-        ensures part { option_copied result ≡ put_at self.now slot.now }
-        ensures keyed { AreKeyed self.now }
-    {
-        match self.slots.get(slot) {
-            Some(part) => part.as_ref(),
-            None => None,
-        }
     }
 
     /// Whether the changes say something of a leaf.

@@ -3,7 +3,6 @@
 use crate::name::{Ticket, Txn};
 use terms::copy::TryCopy;
 use terms::memory::Memory;
-use terms::same::Same;
 use terms::seq::Seq;
 use terms::text::Text;
 
@@ -20,12 +19,6 @@ impl TryCopy for Voter {
             site: self.site.copy()?,
             ticket: self.ticket,
         })
-    }
-}
-
-impl Same for Voter {
-    fn same(&self, other: &Voter) -> bool {
-        self.site.same(&other.site) && self.ticket.same(&other.ticket)
     }
 }
 

@@ -5,7 +5,6 @@ ghost use Rattle.store.specs.Fault.{fault_name, fault_number};
 
 use std::fmt;
 use terms::memory::Memory;
-use terms::same::Same;
 
 /// Why a store's call failed. After any of these the content is as it was.
 #[derive(Clone, Copy, Debug, PartialEq, Eq)]
@@ -28,12 +27,6 @@ impl StoreFault {
             StoreFault::Refused => 2,
             StoreFault::Damaged => 3,
         }
-    }
-}
-
-impl Same for StoreFault {
-    fn same(&self, other: &StoreFault) -> bool {
-        *self == *other
     }
 }
 

@@ -8,7 +8,6 @@ use terms::copy::TryCopy;
 use terms::leaf::Leaf;
 use terms::memory::Memory;
 use terms::part::Part;
-use terms::same::Same;
 
 /// A key's place in a leaf.
 #[derive(Debug, Drop, PartialEq, Eq, PartialOrd, Ord)]
@@ -33,11 +32,5 @@ impl TryCopy for Slot {
             leaf: self.leaf.copy()?,
             key: self.key,
         })
-    }
-}
-
-impl Same for Slot {
-    fn same(&self, other: &Slot) -> bool {
-        self.leaf.same(&other.leaf) && self.key.same(&other.key)
     }
 }

@@ -105,10 +105,7 @@ pub(crate) fn list_parts(alloc: Global, slots: &Slots, leaf: &Leaf) -> Result<Ve
     ensures parts { IfOk result (λ parts. parts.items ≡ parts_of leaf.now slots.now.entries) }
     ensures ordered { IsOrdered slot_cmp slots.now }
 {
-    if leaf.number == 0 {
-        return list_all(alloc, slots, leaf);
-    }
-    if leaf.number == usize::MAX {
+    if leaf.number == 0 || leaf.number == usize::MAX {
         return list_all(alloc, slots, leaf);
     }
     list_near(alloc, slots, leaf)

@@ -354,6 +354,9 @@ leaf emp.2
 /// What north has at first.
 const PARTS: [&str; 2] = ["emp.1 1, 'Ada'", "emp.2 1, 7, 100"];
 
+/// What the other site has.
+const NOTHING: [&str; 0] = [];
+
 /// Whether a site over lists answers to the lines of a script what the script says.
 fn plays(alloc: Global, parts: &[&str], script: &str) -> Result<bool, Memory> {
     let told = played(alloc, opening(alloc, parts)?, script, true)?;
@@ -362,12 +365,11 @@ fn plays(alloc: Global, parts: &[&str], script: &str) -> Result<bool, Memory> {
 
 #[test]
 fn letters_of_a_site(rt: HostRuntime) {
-    let nothing: [&str; 0] = [];
     let cases = [
-        ("worked", &nothing[..], WORKED),
+        ("worked", &NOTHING[..], WORKED),
         ("moved", &PARTS[..], MOVED),
-        ("moved in", &nothing[..], MOVED_IN),
-        ("lost", &nothing[..], LOST),
+        ("moved in", &NOTHING[..], MOVED_IN),
+        ("lost", &NOTHING[..], LOST),
         ("stays", &PARTS[..], STAYS),
         ("aborted", &PARTS[..], ABORTED),
     ];
@@ -407,7 +409,7 @@ fn refuses(
 
 #[test]
 fn refused_calls(rt: HostRuntime) {
-    let nothing: [&str; 0] = [];
+    let alloc = rt.alloc();
     let cases = [
         (&PARTS[..], MOVED, 1, "start north emp.1 emp.2"),
         (&PARTS[..], MOVED, 2, "start north emp.1 emp.2"),
@@ -427,24 +429,20 @@ fn refused_calls(rt: HostRuntime) {
         (&PARTS[..], MOVED, 6, "desk>north Commit T1 1.1"),
         (&PARTS[..], MOVED, 7, "leaf emp.1"),
         (
-            &nothing[..],
+            &NOTHING[..],
             MOVED_IN,
             3,
             "desk>south Fetch T1 1.1 1 emp.3 where id = 1",
         ),
-        (&nothing[..], MOVED_IN, 6, "desk>south Commit T1 1.1"),
+        (&NOTHING[..], MOVED_IN, 6, "desk>south Commit T1 1.1"),
         (&PARTS[..], ABORTED, 3, "desk>north Fetch T1 1.1 1 emp.2"),
         (&PARTS[..], ABORTED, 7, "restart"),
         (&PARTS[..], ABORTED, 8, "restart"),
         (&PARTS[..], ABORTED, 9, "desk>north Abort T1 1.1"),
     ];
     for (parts, script, call, line) in cases {
-        let same = refuses(rt.alloc(), parts, script, call, line).or_else(|_| refuses(
-            rt.alloc(),
-            parts,
-            script,
-            call,
-            line,
+        let same = refuses(alloc, parts, script, call, line).or_else(|_| refuses(
+            alloc, parts, script, call, line,
         ));
         assert!(rt; same == Ok(true), "call {call}: {line}");
     }

@@ -8,6 +8,8 @@ use Rattle.world.specs.Base.{content_of, database, site_of}
 use Rattle.world.specs.Machines.{Machines, world_of}
 use Rattle.world.specs.Placed.{IsPlaced, Opens}
 use Rattle.world.specs.Runs.{IsRun, RunsAreSerial}
+use Rattle.protocol.specs.Client.{IsQuiet}
+use Rattle.protocol.proofs.Course.{opening_quiet}
 use Rattle.protocol.specs.Serial.{AllExplained, IsSerial, SerialLaw}
 use Rattle.desk.specs.Database.{Database, language}
 use Rattle.catalog.proofs.FormedCatalogues.{sited}
@@ -28,6 +30,9 @@ pub opens_run : (c : Catalogue) (whole : Relations) (machines : Machines) → Is
 opens_run c whole machines formed fits starts =
     let opens = starts (placed c whole formed fits) in
     record { opening = world_of (database c) machines [] []; opens = opens.opening; events = []; are = tt; is = refl; explained = tt; tells = record { phased = refl; stated = tt; heard = refl }; fit = opens.fit }
+
+pub opens_quiet : (c : Catalogue) (whole : Relations) (machines : Machines) → IsFormed c → FitsSchema (schemas_of c) whole → (IsPlaced (database c) c whole → Opens (database c) whole machines) → IsQuiet (world_of (database c) machines [] [])
+opens_quiet c whole machines formed fits starts = opening_quiet whole (world_of (database c) machines [] []) (starts (placed c whole formed fits)).opening
 
 pub runs_serial : (db : Database) → SerialLaw (language db) → RunsAreSerial db
 runs_serial db law whole machines entries past run =

@@ -95,7 +95,7 @@ none_has name (first ∷ leaves) none = go (is_name_of name first) refl none (no
     go false e is later = (e, later is)
 
 -- a write between parts is to their leaf
-to_leaf : (leaf : Leaf) (key : ℤ) (before after : Option (List Value)) (write : Write) → write_between leaf key before after ≡ Some write → leaf_of write ≡ leaf
+pub to_leaf : (leaf : Leaf) (key : ℤ) (before after : Option (List Value)) (write : Write) → write_between leaf key before after ≡ Some write → leaf_of write ≡ leaf
 to_leaf leaf key None None write is = absurd cc
 to_leaf leaf key (Some part) None write is = ap leaf_of (sym (some_is is))
 to_leaf leaf key None (Some after) write is = ap leaf_of (sym (some_is is))

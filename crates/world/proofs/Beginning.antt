@@ -18,7 +18,7 @@ use Rattle.world.specs.Machines.{Machines, world_of}
 use Rattle.world.specs.Serving.{DoesBegin}
 
 -- where no letter waits none comes
-all_silent : {L : Lang} (cs : List (Coming L)) (w : World L) → w.letters ≡ [] → all_come cs w ≡ w
+pub all_silent : {L : Lang} (cs : List (Coming L)) (w : World L) → w.letters ≡ [] → all_come cs w ≡ w
 all_silent [] w e = refl
 all_silent (c ∷ cs) w e = ap (all_come cs) (ap (first_comes w c) e) ∙ all_silent cs w e
 
@@ -53,9 +53,20 @@ module _ (db : Database) (before after : Machines) (heard : List Notice) (serves
       go true e = named_first heard notice (next_txn here.desk) _ there (serves.replies ∙ ap (filter_map (told db)) (sym e))
       go false e = absurd (none_first heard notice there (serves.replies ∙ ap (filter_map (told db)) (sym e)))
 
+  begin_room : (notice : Notice) → slice_get heard 0 ≡ Some notice → is_desk_within (desk_began (desk_of db before.table)) ≡ true
+  begin_room notice there = go (is_desk_within (desk_began here.desk)) done
+    where
+      go : (b : Bool) → (if b then begun here else here).past ≡ serves.deeds → b ≡ true
+      go true e = refl
+      go false e = absurd (none_first heard notice there (serves.replies ∙ ap (filter_map (told db)) (sym e)))
+
   pub begin_done : (txn : Txn) (told : List Notice) → told ≡ heard → option_map (λ notice. notice.txn) (slice_get heard 0) ≡ Some txn → DoesBegin db before txn after told
-  begin_done txn told same first = record { named = go (slice_get heard 0) refl first; serves = subst (Serves db To_begin before after) (sym same) serves }
+  begin_done txn told same first = record { named = go (slice_get heard 0) refl first; within = room (slice_get heard 0) refl first; serves = subst (Serves db To_begin before after) (sym same) serves }
     where
       go : (found : Option Notice) → slice_get heard 0 ≡ found → option_map (λ notice. notice.txn) found ≡ Some txn → txn_name txn ≡ next_txn (desk_of db before.table)
       go None e is = cc
       go (Some notice) e is = ap txn_name (sym (some_is is)) ∙ begin_names notice e
+
+      room : (found : Option Notice) → slice_get heard 0 ≡ found → option_map (λ notice. notice.txn) found ≡ Some txn → is_desk_within (desk_began (desk_of db before.table)) ≡ true
+      room None e is = cc
+      room (Some notice) e is = begin_room notice e

@@ -1,6 +1,5 @@
 -- Steps of one client's machines, one after another.
-use Rattle.std.proofs.Common.{◌≡◌, ◌≤◌, ◌<◌, ◌-◌, nat_eq, arith, refl, sym, ap, ◌∙◌, subst, ℕ, suc, Bool, true, false, List, [], ◌∷◌, ◌++◌, map, length, append_assoc, Some, inr}
-use Rattle.std.proofs.lemmas.Bool.Decides.{nat_tests}
+use Rattle.std.proofs.Common.{◌≡◌, ◌≤◌, arith, refl, sym, ap, ◌∙◌, subst, ℕ, suc, true, List, [], ◌∷◌, ◌++◌, map, length, append_assoc, Some, inr}
 use Rattle.std.proofs.lemmas.List.{append-nil, length-map, map-append}
 use Rattle.std.proofs.lemmas.List.Elements.{filter_map-append}
 use Rattle.std.specs.List.{filter_map}
@@ -25,13 +24,19 @@ use Rattle.world.specs.declared.fault.Fault.{Fault}
 use Rattle.world.specs.declared.fault.Fault.TheVariants as faults
 use Rattle.world.specs.Delivering.{Ask, Breaks, Coming, Fails, Goes, Passed_over, Scene, Serves, Taken, Turned_away, all_come, asked, at_rest, come, done_with, settled}
 use Rattle.world.specs.Machines.{AreFit, Leads, Machines, world_of}
-use Rattle.world.specs.Taking.{IsDone, IsInRound, gives_up, put_out_by, stop_of, world_at}
+use Rattle.world.specs.Taking.{IsDone, IsInRound, put_out_by, stop_of, world_at}
+use Rattle.world.specs.Reasons.{AllFounded, FirstIsFounded, HasReason, IsAstray, IsAtLimit}
 use Rattle.world.specs.Stopping.{is_stop}
+use Rattle.world.proofs.Reasoned.{limit_ranks}
 use Rattle.world.proofs.Running.{all_both}
 
 pub all_come_append : {L : Lang} (one other : List (Coming L)) (w : World L) → all_come (one ++ other) w ≡ all_come other (all_come one w)
 all_come_append [] other w = refl
 all_come_append (c ∷ one) other w = all_come_append one other (come w c)
+
+founded_append : (db : Database) (one other : List (Coming (language db))) (w : World (language db)) → AllFounded db one w → AllFounded db other (all_come one w) → AllFounded db (one ++ other) w
+founded_append db [] other w first second = second
+founded_append db (c ∷ one) other w first second = (first.0, founded_append db one other (come w c) first.1 second)
 
 -- no letter comes
 pub nothing_goes : (db : Database) (here : Scene) → AreFit db here.machines → Goes db (λ w. w) here here
@@ -40,6 +45,7 @@ nothing_goes db here fit = record {
   deeds = [];
   fit = fit;
   is = λ past. ap (world_of db here.machines (map (sent db) here.waiting)) (sym (append-nil past));
+  founded = λ past. tt;
   explained = tt;
   replies = sym (append-nil (map notice_of here.heard));
 }
@@ -66,6 +72,7 @@ module _ (db : Database) (step : World (language db) → World (language db)) (f
         ∙ ap (all_come other.comings) (one.is past)
         ∙ other.is (past ++ one.deeds)
         ∙ ap (world_of db third.machines (map (sent db) third.waiting)) (append_assoc past one.deeds other.deeds);
+    founded = λ past. founded_append db one.comings other.comings (step (world_of db first.machines (map (sent db) first.waiting) past)) (one.founded past) (subst (AllFounded db other.comings) (sym (one.is past)) (other.founded (past ++ one.deeds)));
     explained = all_both Explained one.deeds other.deeds one.explained other.explained;
     replies = other.replies
         ∙ ap (λ heard. heard ++ filter_map (told db) other.deeds) one.replies
@@ -98,8 +105,12 @@ module _ (db : Database) (step : World (language db) → World (language db)) (f
     explained = one.explained;
   }
 
+-- a letter of some rank leaves some rank
+one_left : (rank n : ℕ) → 2 ≤ rank → rank ≤ suc n → 1 ≤ n
+one_left rank n two few = omega arith
+
 -- a letter that is in front comes
-module _ (db : Database) (last : Bool) (letter : letters.Letter) (here : Scene) (after : Machines) (rest out : List letters.Letter) (notices : List Notice) (in_front : here.waiting ≡ letter ∷ rest) (done : IsDone db last letter here.machines after out notices) where
+module _ (db : Database) (letter : letters.Letter) (here : Scene) (after : Machines) (rest out : List letters.Letter) (notices : List Notice) (in_front : here.waiting ≡ letter ∷ rest) (done : IsDone db letter here.machines after out notices) where
   is_next : (past : List (Deed (language db))) → come (world_of db here.machines (map (sent db) here.waiting) past) done.coming ≡ world_of db after (map (sent db) (rest ++ out)) (past ++ done.leads.deeds)
   is_next past =
       ap (λ waiting. come (world_of db here.machines (map (sent db) waiting) past) done.coming) in_front
@@ -112,6 +123,11 @@ module _ (db : Database) (last : Bool) (letter : letters.Letter) (here : Scene) 
     deeds = done.leads.deeds;
     fit = subst (AreFit db) (sym machines) done.leads.fit;
     is = λ past. is_next past ∙ (λ i. world_of db (sym machines i) (map (sent db) (sym waiting i)) (past ++ done.leads.deeds));
+    founded = λ past. (
+      subst (λ (waiting : List letters.Letter). FirstIsFounded db (world_of db here.machines (map (sent db) waiting) past) done.coming (map (sent db) waiting)) (sym in_front)
+          (record { machines = here.machines; letter = letter; desk = refl; sites = refl; is = refl; reason = done.reason }),
+      tt,
+    );
     explained = done.leads.explained;
     replies = ap (map notice_of) heard ∙ map-append notice_of here.heard notices ∙ ap (λ more. map notice_of here.heard ++ more) done.leads.replies;
   }
@@ -127,21 +143,24 @@ module _ (db : Database) (last : Bool) (letter : letters.Letter) (here : Scene) 
   }
 
   -- and the letters of the round grow fewer
-  pub comes_ranked : (n i : ℕ) → (last ≡ false → 1 ≤ n) → (there : Scene) → there.machines ≡ after → there.waiting ≡ rest ++ out → InRound (desk_of db here.machines.table).txn n (suc i) (map (sent db) here.waiting) → InRound (desk_of db there.machines.table).txn n i (map (sent db) there.waiting)
-  comes_ranked n i early there machines waiting ranked =
+  pub comes_ranked : (n i : ℕ) → AreFit db here.machines → (there : Scene) → there.machines ≡ after → there.waiting ≡ rest ++ out → InRound (desk_of db here.machines.table).txn n (suc i) (map (sent db) here.waiting) → InRound (desk_of db there.machines.table).txn n i (map (sent db) there.waiting)
+  comes_ranked n i fit there machines waiting ranked =
       let w = world_of db here.machines (map (sent db) rest) [] in
       let in_front_ranked : InRound w.desk.txn n (suc i) (sent db letter ∷ map (sent db) rest) = subst (λ (all : List letters.Letter). InRound w.desk.txn n (suc i) (map (sent db) all)) in_front ranked in
       let Ranked : World (language db) → Type 0 = λ v. InRound v.desk.txn n i v.letters in
       subst (λ (m : Machines). InRound (desk_of db m.table).txn n i (map (sent db) there.waiting)) (sym machines)
       (subst (λ (all : List letters.Letter). InRound (desk_of db after.table).txn n i (map (sent db) all)) (sym waiting)
       (subst Ranked (done.leads.is (map (sent db) rest) [] ∙ ap (λ waiting. world_of db after waiting ([] ++ done.leads.deeds)) (sym (map-append (sent db) rest out)))
-      (after_letter done.coming done.early in_front_ranked)))
+      (after_letter done.coming done.reason in_front_ranked)))
     where
-      after_letter : (coming : Coming (language db)) → (gives_up coming ≡ true → last ≡ false) → InRound (desk_of db here.machines.table).txn n (suc i) (sent db letter ∷ map (sent db) rest) →
+      after_letter : (coming : Coming (language db)) → HasReason db here.machines letter coming → InRound (desk_of db here.machines.table).txn n (suc i) (sent db letter ∷ map (sent db) rest) →
           InRound (done_with (sent db letter) coming (world_of db here.machines (map (sent db) rest) [])).desk.txn n i (done_with (sent db letter) coming (world_of db here.machines (map (sent db) rest) [])).letters
-      after_letter (Taken kept choice) mild all = (round_law {L = language db}).goes_on (world_of db here.machines (sent db letter ∷ map (sent db) rest) []) n i kept choice all
-      after_letter (Turned_away choice) mild all = (round_law {L = language db}).given_up (world_of db here.machines (map (sent db) rest) []) n i (sent db letter).txn choice (early (mild refl)) all.1
-      after_letter Passed_over mild all = all.1
+      after_letter (Taken kept choice) reason all = (round_law {L = language db}).goes_on (world_of db here.machines (sent db letter ∷ map (sent db) rest) []) n i kept choice all
+      after_letter (Turned_away choice) reason all =
+          let two = limit_ranks db here.machines letter fit reason in
+          let few = all.0 in
+          (round_law {L = language db}).given_up (world_of db here.machines (map (sent db) rest) []) n i (sent db letter).txn choice (one_left _ n two few) all.1
+      after_letter Passed_over reason all = all.1
 
 -- a call, and then its letters
 module _ (db : Database) (ask : Ask (language db)) (before mid : Machines) (out : Out) (leads : Leads db (asked ask) before mid out.letters out.replies) where
@@ -151,6 +170,7 @@ module _ (db : Database) (ask : Ask (language db)) (before mid : Machines) (out 
     deeds = leads.deeds;
     fit = leads.fit;
     is = λ past. leads.is [] past;
+    founded = λ past. tt;
     explained = leads.explained;
     replies = leads.replies;
   }
@@ -185,10 +205,10 @@ pub goes_settled : (db : Database) (step : World (language db) → World (langua
 goes_settled db step first here goes none = subst (λ (waiting : List letters.Letter). Goes db step first (record { machines = here.machines; waiting = waiting; heard = here.heard })) none goes
 
 -- ---- what becomes of a letter that isn't taken
-pub passed_over : (db : Database) (last : Bool) (letter : letters.Letter) (before after : Machines) (out : List letters.Letter) (notices : List Notice) → AreFit db before → after ≡ before → out ≡ [] → notices ≡ [] → IsDone db last letter before after out notices
-passed_over db last letter before after out notices fit same none silent = record {
+pub passed_over : (db : Database) (letter : letters.Letter) (before after : Machines) (out : List letters.Letter) (notices : List Notice) → AreFit db before → IsAstray db before letter → after ≡ before → out ≡ [] → notices ≡ [] → IsDone db letter before after out notices
+passed_over db letter before after out notices fit is_astray same none silent = record {
   coming = Passed_over;
-  early = λ gives. cc;
+  reason = is_astray;
   leads = record {
     deeds = [];
     fit = subst (AreFit db) (sym same) fit;
@@ -198,11 +218,11 @@ passed_over db last letter before after out notices fit same none silent = recor
   };
 }
 
-pub turned_away : (db : Database) (last : Bool) (letter : letters.Letter) (before mid after : Machines) (out : List letters.Letter) (notices : List Notice) (choice : Choice (language db)) → mid ≡ before → last ≡ false →
-    Leads db (λ w. called w (txn_name letter.txn) choice Give_up) mid after out notices → IsDone db last letter before after out notices
-turned_away db last letter before mid after out notices choice same early leads = record {
+pub turned_away : (db : Database) (letter : letters.Letter) (before mid after : Machines) (out : List letters.Letter) (notices : List Notice) (choice : Choice (language db)) → mid ≡ before → IsAtLimit db before letter →
+    Leads db (λ w. called w (txn_name letter.txn) choice Give_up) mid after out notices → IsDone db letter before after out notices
+turned_away db letter before mid after out notices choice same limit leads = record {
   coming = Turned_away choice;
-  early = λ gives. early;
+  reason = limit;
   leads = subst (λ (m : Machines). Leads db (λ w. called w (txn_name letter.txn) choice Give_up) m after out notices) same leads;
 }
 
@@ -224,7 +244,3 @@ stop_stops faults.Unsent refusal e = cc
 -- the same scene
 pub alike_goes : (db : Database) (here there : Scene) → there.machines ≡ here.machines → there.waiting ≡ here.waiting → there.heard ≡ here.heard → AreFit db here.machines → Goes db (λ w. w) here there
 alike_goes db here there machines waiting heard fit = subst (Goes db (λ w. w) here) (λ i. record { machines = sym machines i; waiting = sym waiting i; heard = sym heard i }) (nothing_goes db here fit)
-
--- before the last round some rank is left
-pub early_round : (r : ℕ) → r < 9 → nat_eq r 8 ≡ false → 1 ≤ 8 - r
-early_round r below apart = grind (arith, nat_tests)

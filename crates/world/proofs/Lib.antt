@@ -15,7 +15,7 @@ pub mod Rebuilt
 pub mod BaseSites
 pub mod Shown
 pub mod Told
-pub mod LettersAt
+pub mod Numbered
 pub mod Refusing
 pub mod Running
 pub mod Heard
@@ -23,6 +23,10 @@ pub mod BaseOpened
 pub mod InTurn
 pub mod InSerial
 pub mod Follow
+pub mod Reasoned
 pub mod Deliveries
 pub mod Reaching
 pub mod Beginning
+pub mod Smoothly
+pub mod BaseHoused
+pub mod Obeying

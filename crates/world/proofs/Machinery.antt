@@ -14,6 +14,7 @@ use Rattle.desk.specs.Calls.{txn_in}
 use Rattle.desk.specs.Does.{Takes}
 use Rattle.desk.specs.Starting.{Restarts}
 use Rattle.protocol.specs.Language.{Name}
+use Rattle.protocol.specs.Course.{passes, passes_to}
 use Rattle.protocol.specs.Desk.{Began, Choice, Desk, Known, Row, Txn, Unknown, desk_restarted, next_txn, txn_restarted, Deed, Request, Turn, desk_after, desk_began, is_desk_within, on_desk_letter, on_request, refusal}
 use Rattle.protocol.specs.Letter.{Letter, is_for_desk}
 use Rattle.protocol.specs.Letters.{body_of, kept_in, letter_of, name_of, txn_name}
@@ -32,6 +33,7 @@ use Rattle.world.specs.Seated.{SomeSeatDoes}
 use Rattle.world.specs.declared.doing.Doing as doing
 use Rattle.world.specs.declared.doing.Doing.TheVariants.{GiveUp, Inquire, Restart, Take}
 use Rattle.world.specs.Seats.{Moves, Seat, state_at, states_of}
+use Rattle.world.proofs.Reasoned.{passes_is}
 use Rattle.world.proofs.Seating.{letter_said, letter_state, names_after, reseated_same, seat_named, seated_after, state_there, states_after}
 use Rattle.protocol.proofs.OtherStatements.{after_same, give_up_same, inquiries_same, restart_same, within_same}
 
@@ -68,6 +70,7 @@ unfolding turn_leads
 asked_leads db before kept after txn choice request out notices fit steps explained accepted = record {
   leads = turn_leads db before kept after txn (on_request (txn_name txn) choice request (txn_in db before.table txn)) out notices fit steps (λ w. called w (txn_name txn) choice request) (λ waiting past. refl) explained;
   accepted = accepted;
+  within = ap is_desk_within (sym steps.state) ∙ steps.within;
   all = refl;
 }
 
@@ -134,6 +137,7 @@ pub reply_leads : (db : Database) (before : Machines) (kept : DeskContent) (afte
     Takes db before.table kept after letter.txn (λ choice. on_desk_letter (txn_name letter.txn) letter.site keeps choice (replied db reply) (txn_in db before.table letter.txn)) out notices → Came db letter keeps before (with_desk before kept after) out notices
 reply_leads db before kept after letter reply is keeps out notices fit takes = record {
   choice = takes.choice;
+  within = passes_is db before letter reply is keeps takes.choice ∙ (ap is_desk_within (sym takes.steps.state) ∙ takes.steps.within);
   leads = turn_leads db before kept after letter.txn (on_desk_letter (txn_name letter.txn) letter.site keeps takes.choice (replied db reply) (txn_in db before.table letter.txn)) out notices fit takes.steps
       (λ w. comes w keeps takes.choice (sent db letter)) (λ waiting past. comes_is db letter reply is keeps takes.choice (world_of db before waiting past)) takes.explained;
 }
@@ -220,6 +224,19 @@ module _ (db : Database) (before : Machines) (seat : Seat) (after : List Seat) (
       let s = state_of seat.kept seat.table in
       site_leads site did.new did.moves (λ w. restarts w site) site_restarted (λ s. []) (λ waiting past. refl)
       (sym (restart_same S s) ∙ ap (site_with S) (sym did.does.0.state)) (ap (map (sent db)) (sym did.does.1))
+
+  -- a letter's step is within the limits
+  pub take_within : (letter : letters.Letter) (choice : Choice (language db)) → is_order letter.body ≡ true → SomeSeatDoes (Take letter) seat before.seats after out → (kept : Bool) → kept ≡ kept_in out →
+      passes (world_of db before [] []) kept choice (sent db letter) ≡ true
+  take_within letter choice order did kept same_kept =
+      let S = statements db in
+      let w = world_of db before [] [] in
+      let said = body_with S (body_of letter.body) in
+      ap (λ (k : Bool). passes w k choice (sent db letter)) same_kept
+      ∙ ap (λ (b : Bool). passes_to b w (kept_in out) choice (sent db letter)) (order_is letter.body order)
+      ∙ ap (λ s. is_within (site_after s (on_letter s (txn_name letter.txn) (kept_in out) said))) (state_there S letter.site before.seats seat did.moves.there)
+      ∙ ap is_within (letter_state S letter out seat did.new did.does)
+      ∙ (within_same S (state_of did.new.kept did.new.table) ∙ fits_within did.new.kept did.new.table did.moves.seated)
 
   -- as the code puts it out
   pub put_out_leads : (what : doing.Doing) (choice : Choice (language db)) → is_for_site what ≡ true → SomeSeatDoes what seat before.seats after out → (kept : Bool) (put : List letters.Letter) (notices : List Notice) → kept ≡ kept_in out → put ≡ out → notices ≡ [] →

@@ -77,12 +77,12 @@ module _ {L : Lang} where
 
 -- ---- machines that serve
 module _ (db : Database) (law : ReachedLaw (language db)) (whole : Relations) where
-  asked_reached : (w : World (language db)) (ask : Ask (language db)) → IsReached whole w → AllExplained (asked ask w).past → IsReached whole (asked ask w)
+  pub asked_reached : (w : World (language db)) (ask : Ask (language db)) → IsReached whole w → AllExplained (asked ask w).past → IsReached whole (asked ask w)
   asked_reached w To_begin reached all = law.begun whole w reached
   asked_reached w (To_do t request choice) reached all = law.asked whole w t choice request reached all
 
   -- a call, whatever letters have come since
-  on_ask : (ask : Ask (language db)) (before after : Machines) (past deeds : List (Deed (language db))) (comings : List (Coming (language db))) (left : List (Letter (language db))) → IsServed db whole before past → AllExplained deeds →
+  pub on_ask : (ask : Ask (language db)) (before after : Machines) (past deeds : List (Deed (language db))) (comings : List (Coming (language db))) (left : List (Letter (language db))) → IsServed db whole before past → AllExplained deeds →
       all_come comings (asked ask (world_of db before [] past)) ≡ world_of db after left (past ++ deeds) → AreFit db after → IsServed db whole after (past ++ deeds)
   on_ask ask before after past deeds comings left served explained is fit =
       let w = world_of db before [] past in

@@ -1,44 +1,19 @@
 -- The letters of one client's machines come, each once, the oldest first.
-use Rattle.std.specs.Prelude.{◌≡◌, ◌⊎◌, Bool, List, [], ◌∷◌, ◌++◌, map}
+use Rattle.std.specs.Prelude.{◌≡◌, ◌⊎◌, List, [], ◌++◌, map}
 use Rattle.std.specs.List.{filter_map}
 use Rattle.store.specs.declared.letter.Letter as letters
-use Rattle.protocol.specs.Desk.{Choice, Deed, Give_up, Request}
+pub use Rattle.world.specs.Coming.{Coming, Passed_over, Taken, Turned_away, all_come, come, done_with, first_comes}
+use Rattle.protocol.specs.Desk.{Choice, Deed, Request}
 use Rattle.protocol.specs.Language.{Lang, Name}
 use Rattle.protocol.specs.Letter.{Letter}
 use Rattle.protocol.specs.Serial.{AllExplained}
-use Rattle.protocol.specs.World.{World, begins, called, comes}
+use Rattle.protocol.specs.World.{World, begins, called}
 use Rattle.desk.specs.declared.reply.Notice.{Notice}
 use Rattle.desk.specs.Database.{Database, language, sent}
 use Rattle.desk.specs.State.{notice_of}
 use Rattle.desk.specs.Turn.{told}
 use Rattle.world.specs.Machines.{AreFit, Machines, world_of}
-
--- what becomes of a letter: it is taken, or let go at a limit and its transaction given up, or let go as one that nobody sent. kept: whether the store call that it makes is kept
-pub data Coming (L : Lang) : Type 0 where
-  Taken : (kept : Bool) (choice : Choice L) → Coming L
-  Turned_away : (choice : Choice L) → Coming L
-  Passed_over : Coming L
-
-module _ {L : Lang} where
-  -- so with this letter
-  abbrev pub done_with : Letter L → Coming L → World L → World L
-  done_with l (Taken kept choice) w = comes w kept choice l
-  done_with l (Turned_away choice) w = called w l.txn choice Give_up
-  done_with l Passed_over w = w
-
-  -- with the first of these letters, the others wait on
-  abbrev pub first_comes : World L → Coming L → List (Letter L) → World L
-  first_comes w c [] = w
-  first_comes w c (l ∷ q) = done_with l c (record w { letters = q })
-
-  -- with the oldest letter that waits
-  abbrev pub come : World L → Coming L → World L
-  come w c = first_comes w c w.letters
-
-  -- one letter after another
-  abbrev pub all_come : List (Coming L) → World L → World L
-  all_come [] w = w
-  all_come (c ∷ cs) w = all_come cs (come w c)
+use Rattle.world.specs.Reasons.{AllFounded}
 
 -- what the client asks of the coordinator: that a transaction begins, or something of one
 pub data Ask (L : Lang) : Type 0 where
@@ -56,12 +31,13 @@ pub record Scene : Type 0 where
   pub waiting : List letters.Letter
   pub heard : List Notice
 
--- a step of the machines, after which some letters come: deeds are done, among them no statement that isn't explained, and the client hears of them
+-- a step of the machines, after which some letters come, of each of which becomes what it does for a reason: deeds are done, among them no statement that isn't explained, and the client hears of them
 pub record Goes (db : Database) (step : World (language db) → World (language db)) (before after : Scene) : Type 0 where
   pub comings : List (Coming (language db))
   pub deeds : List (Deed (language db))
   pub fit : AreFit db after.machines
   pub is : (past : List (Deed (language db))) → all_come comings (step (world_of db before.machines (map (sent db) before.waiting) past)) ≡ world_of db after.machines (map (sent db) after.waiting) (past ++ deeds)
+  pub founded : (past : List (Deed (language db))) → AllFounded db comings (step (world_of db before.machines (map (sent db) before.waiting) past))
   pub explained : AllExplained deeds
   pub replies : map notice_of after.heard ≡ map notice_of before.heard ++ filter_map (told db) deeds
 

@@ -17,7 +17,11 @@ pub mod Settled
 pub mod Following
 pub mod Happening
 pub mod Base
+pub mod Coming
+pub mod Reasons
 pub mod Delivering
 pub mod Taking
 pub mod Serving
 pub mod Stopping
+pub mod Smoothly
+pub mod Obeying

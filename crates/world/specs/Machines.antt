@@ -1,8 +1,9 @@
 -- The machines of a database together, as the protocol's world.
-use Rattle.std.specs.Prelude.{◌≡◌, ℕ, nat_eq, Bool, true, false, List, ◌++◌, map, None}
+use Rattle.std.specs.Prelude.{◌≡◌, ℕ, nat_eq, Bool, true, false, List, [], ◌++◌, map, None}
 use Rattle.std.specs.Cmp.Lexicographic.{pointwise}
 use Rattle.std.specs.List.{filter_map, list_any}
 use Rattle.meaning.specs.declared.statement.Statement.{Statement}
+use Rattle.meaning.specs.Statement.{IsStatementOf}
 use Rattle.reader.specs.declared.command.Command.TheVariants as command
 use Rattle.reader.specs.Command.{IsTextOf}
 use Rattle.store.specs.declared.letter.Body as bodies
@@ -10,7 +11,8 @@ use Rattle.store.specs.declared.letter.Body.TheVariants as body
 use Rattle.store.specs.declared.letter.Letter as letters
 use Rattle.store.specs.declared.name.Txn.{Txn}
 use Rattle.store.specs.DeskContent.{DeskContent}
-use Rattle.protocol.specs.Desk.{Choice, Deed, Request, State, is_desk_within, on_request, refusal}
+use Rattle.protocol.specs.Course.{passes}
+use Rattle.protocol.specs.Desk.{Choice, Deed, Request, State, desk_after, is_desk_within, on_request, refusal}
 use Rattle.protocol.specs.Letter.{Letter}
 use Rattle.protocol.specs.Serial.{AllExplained}
 use Rattle.protocol.specs.Letters.{name_of, txn_name}
@@ -76,22 +78,25 @@ pub record Leads (db : Database) (step : World (language db) → World (language
   pub explained : AllExplained deeds
   pub replies : map notice_of notices ≡ filter_map (told db) deeds
 
--- what a client asks for is accepted, and done
+-- what a client asks for is accepted, within the limits, and done
 pub record Asked (db : Database) (txn : Txn) (choice : Choice (language db)) (request : Request (language db)) (before after : Machines) (out : List letters.Letter) (notices : List Notice) : Type 0 where
   pub leads : Leads db (λ w. called w (txn_name txn) choice request) before after out notices
   pub accepted : refusal request (txn_in db before.table txn) ≡ None
+  pub within : is_desk_within (desk_after (desk_of db before.table) (txn_name txn) (on_request (txn_name txn) choice request (txn_in db before.table txn)).txn) ≡ true
   pub all : leads.deeds ≡ (on_request (txn_name txn) choice request (txn_in db before.table txn)).deeds
 
--- a statement of a transaction is stated: the text is its text
+-- a statement of a transaction is stated: the text is its text, and it is one over the relations of the database
 pub record Stated (db : Database) (txn : Txn) (text : List ℕ) (before after : Machines) (out : List letters.Letter) (notices : List Notice) : Type 0 where
   pub statement : Statement
   pub choice : Choice (language db)
   pub spelled : IsTextOf db.schemas text (command.Run statement)
+  pub fits : IsStatementOf db.schemas statement
   pub asked : Asked db txn choice (State statement) before after out notices
 
--- a letter comes to the machine that it is for; kept: whether the store call that it makes is kept
+-- a letter comes to the machine that it is for, and its step is within the limits; kept: whether the store call that it makes is kept
 pub record Came (db : Database) (letter : letters.Letter) (kept : Bool) (before after : Machines) (out : List letters.Letter) (notices : List Notice) : Type 0 where
   pub choice : Choice (language db)
+  pub within : passes (world_of db before [] []) kept choice (sent db letter) ≡ true
   pub leads : Leads db (λ w. comes w kept choice (sent db letter)) before after out notices
 
 -- a letter is to or from a site of the database

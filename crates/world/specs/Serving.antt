@@ -2,6 +2,7 @@
 use Rattle.std.specs.Prelude.{◌≡◌, ◌⊎◌, ℕ, Bool, true, false, List, [], ◌++◌, filter, Option, Some, None, if◌then◌else◌}
 use Rattle.std.specs.List.{list_any}
 use Rattle.meaning.specs.declared.statement.Statement.{Statement}
+use Rattle.meaning.specs.Statement.{IsStatementOf}
 use Rattle.meaning.specs.Whole.{Relations}
 use Rattle.reader.specs.declared.command.Command.TheVariants.{Begin, Commit, Rollback, Run}
 use Rattle.reader.specs.Command.{IsTextOf}
@@ -13,6 +14,7 @@ use Rattle.protocol.specs.Serial.{IsSerial}
 use Rattle.desk.specs.declared.reply.Notice.{Notice}
 use Rattle.desk.specs.declared.reply.Reply as replies
 use Rattle.desk.specs.declared.reply.Reply.TheVariants.{Aborted, Answer, Begun, Committed, RolledBack}
+use Rattle.desk.specs.Calls.{txn_in}
 use Rattle.desk.specs.Database.{Database, language}
 use Rattle.desk.specs.State.{desk_of}
 use Rattle.world.specs.Delivering.{Serves, To_begin, To_do}
@@ -55,14 +57,16 @@ tells is notices = list_any (λ notice. is notice.reply) notices
 abbrev pub still_open : Option Txn → List Notice → Option Txn
 still_open current heard = if tells is_end heard then None else current
 
--- a transaction begins; its client hears its name
+-- a transaction begins, within the limits; its client hears its name
 pub record DoesBegin (db : Database) (before : Machines) (txn : Txn) (after : Machines) (heard : List Notice) : Type 0 where
   pub named : txn_name txn ≡ protocol.next_txn (desk_of db before.table)
+  pub within : protocol.is_desk_within (protocol.desk_began (desk_of db before.table)) ≡ true
   pub serves : Serves db To_begin before after heard
 
--- a transaction asks for something
+-- a transaction asks for something, within the limits
 pub record DoesAsk (db : Database) (request : protocol.Request (language db)) (txn : Txn) (before after : Machines) (heard : List Notice) : Type 0 where
   pub choice : protocol.Choice (language db)
+  pub within : protocol.is_desk_within (protocol.desk_after (desk_of db before.table) (txn_name txn) (protocol.on_request (txn_name txn) choice request (txn_in db before.table txn)).txn) ≡ true
   pub serves : Serves db (To_do (txn_name txn) request choice) before after heard
 
 -- whether a reply is a statement's answer
@@ -81,6 +85,7 @@ told_alone heard = if tells is_commit heard then filter (λ notice. is_answer no
 pub record DoesState (db : Database) (text : List ℕ) (txn : Txn) (before after : Machines) (heard : List Notice) : Type 0 where
   pub statement : Statement
   pub spelled : IsTextOf db.schemas text (Run statement)
+  pub fits : IsStatementOf db.schemas statement
   pub asks : DoesAsk db (protocol.State statement) txn before after heard
 
 -- the commit of a transaction is asked for, and its client hears what is told of a lone statement

@@ -1,8 +1,7 @@
 -- One letter of one client's machines.
-use Rattle.std.specs.Prelude.{◌≡◌, ℕ, Bool, true, false, List, [], map, Option, Some, None}
+use Rattle.std.specs.Prelude.{ℕ, Bool, true, false, List, [], map, Option, Some, None}
 use Rattle.site.specs.declared.fault.SiteFault.TheVariants as site_faults
 use Rattle.store.specs.declared.letter.Letter as letters
-use Rattle.protocol.specs.Language.{Lang}
 use Rattle.protocol.specs.Rounds.{InRound}
 use Rattle.protocol.specs.World.{World}
 use Rattle.desk.specs.declared.refusal.Refusal.{Refusal}
@@ -13,8 +12,9 @@ use Rattle.desk.specs.Database.{Database, language, sent}
 use Rattle.world.specs.declared.delivering.Post.{Post}
 use Rattle.world.specs.declared.fault.Fault.{Fault}
 use Rattle.world.specs.declared.fault.Fault.TheVariants.{Desk, Site, Unsent}
-use Rattle.world.specs.Delivering.{Coming, Passed_over, Scene, Taken, Turned_away, done_with}
+use Rattle.world.specs.Delivering.{Coming, Scene, done_with}
 use Rattle.world.specs.Machines.{Leads, Machines, world_of}
+use Rattle.world.specs.Reasons.{HasReason}
 
 -- the refusal that stops one client's machines, if the fault is one that does
 abbrev pub stop_of_desk : Refusal → Option Refusal
@@ -70,14 +70,8 @@ is_limit (Site site_faults.Full) = true
 is_limit (Site site_faults.Stranger) = false
 is_limit Unsent = false
 
--- whether a letter was let go and its transaction given up
-abbrev pub gives_up : {L : Lang} → Coming L → Bool
-gives_up (Taken kept choice) = false
-gives_up (Turned_away choice) = true
-gives_up Passed_over = false
-
--- something becomes of a letter. last: whether it comes in the last round, when nobody is given up
-pub record IsDone (db : Database) (last : Bool) (letter : letters.Letter) (before after : Machines) (out : List letters.Letter) (notices : List Notice) : Type 0 where
+-- something becomes of a letter, and for a reason
+pub record IsDone (db : Database) (letter : letters.Letter) (before after : Machines) (out : List letters.Letter) (notices : List Notice) : Type 0 where
   pub coming : Coming (language db)
-  pub early : gives_up coming ≡ true → last ≡ false
+  pub reason : HasReason db before letter coming
   pub leads : Leads db (done_with (sent db letter) coming) before after out notices

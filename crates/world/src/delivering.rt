@@ -1,6 +1,6 @@
 //! The letters of one client's machines come, each once, the oldest first.
 
-ghost use Rattle.std.specs.Prelude.{◌≡◌, ◌≤◌, ◌++◌, ℕ, suc, Bool, false, true, IfErr, IfOk, OnErr, OnOk};
+ghost use Rattle.std.specs.Prelude.{◌≡◌, ◌++◌, ℕ, suc, true, IfErr, IfOk, OnErr, OnOk};
 ghost use Rattle.catalog.specs.Relation.{catalogue_of};
 ghost use Rattle.desk.specs.Database.{Database};
 ghost use Rattle.desk.specs.OfCatalogue.{IsOfCatalogue};
@@ -9,6 +9,7 @@ ghost use Rattle.desk.specs.declared.refusal.Refusal.TheVariants as refusals;
 ghost use Rattle.world.specs.Delivering.{Breaks, Goes, settled};
 ghost use Rattle.world.specs.Held.{OfStores, held};
 ghost use Rattle.world.specs.Machines.{AreFit};
+ghost use Rattle.world.specs.Reasons.{Tells};
 ghost use Rattle.world.specs.Stopping.{is_stop};
 ghost use Rattle.world.specs.Taking.{IsDone, IsInRound, is_limit, put_out_by, scene, stop_of, world_at};
 
@@ -51,8 +52,9 @@ fn take<D: DeskStore, S: SiteStore>(
     ensures clean { OfStores D.is_clean S.is_clean machines.new → OfStores D.is_clean S.is_clean machines.old }
     ensures sound { OfStores D.is_clean S.is_clean machines.new → OfStores D.is_sound S.is_sound machines.old → OfStores D.is_sound S.is_sound machines.new }
     ensures catalog { machines.new.desk.catalog ≡ machines.old.desk.catalog }
-    ensures ok { (db : Database) (last : Bool) → IsOfCatalogue db → db.catalogue ≡ catalogue_of machines.old.desk.catalog → OfStores D.is_clean S.is_clean machines.new → OfStores D.is_sound S.is_sound machines.old → AreFit db (held D.kept S.kept machines.old)
-        → IfOk result (λ out. IsDone db last letter (held D.kept S.kept machines.old) (held D.kept S.kept machines.new) out.letters out.replies) }
+    ensures ok { (db : Database) → IsOfCatalogue db → db.catalogue ≡ catalogue_of machines.old.desk.catalog → OfStores D.is_clean S.is_clean machines.new → OfStores D.is_sound S.is_sound machines.old → AreFit db (held D.kept S.kept machines.old)
+        → IfOk result (λ out. IsDone db letter (held D.kept S.kept machines.old) (held D.kept S.kept machines.new) out.letters out.replies) }
+    ensures told { (db : Database) → IsOfCatalogue db → db.catalogue ≡ catalogue_of machines.old.desk.catalog → AreFit db (held D.kept S.kept machines.old) → IfErr result (Tells db (held D.kept S.kept machines.old) letter) }
     ensures err { OfStores D.is_clean S.is_clean machines.new → OfStores D.is_sound S.is_sound machines.old → OnErr result (held D.kept S.kept machines.new ≡ held D.kept S.kept machines.old) }
 {
     if !has_site(machines.desk.catalog(), &letter.site) {
@@ -61,18 +63,16 @@ fn take<D: DeskStore, S: SiteStore>(
     machines.deliver(letter, true)
 }
 
-/// A letter comes. Where a machine is at a limit the letter is let go, and its transaction given up; one that nobody sent is let go.
-/// In the last round no letter meets a limit.
+/// A letter comes. Where a machine is at a limit the letter is let go, and its transaction given up; one that is for no machine is let go.
 fn deliver_one<D: DeskStore, S: SiteStore>(
     machines: &mut Machines<D, S>,
     letter: Letter,
-    last: bool,
 ) -> Result<Out, Refusal>
     ensures clean { OfStores D.is_clean S.is_clean machines.new → OfStores D.is_clean S.is_clean machines.old }
     ensures sound { OfStores D.is_clean S.is_clean machines.new → OfStores D.is_sound S.is_sound machines.old → OfStores D.is_sound S.is_sound machines.new }
     ensures catalog { machines.new.desk.catalog ≡ machines.old.desk.catalog }
     ensures ok { (db : Database) → IsOfCatalogue db → db.catalogue ≡ catalogue_of machines.old.desk.catalog → OfStores D.is_clean S.is_clean machines.new → OfStores D.is_sound S.is_sound machines.old → AreFit db (held D.kept S.kept machines.old)
-        → IfOk result (λ out. IsDone db last letter (held D.kept S.kept machines.old) (held D.kept S.kept machines.new) out.letters out.replies) }
+        → IfOk result (λ out. IsDone db letter (held D.kept S.kept machines.old) (held D.kept S.kept machines.new) out.letters out.replies) }
     ensures err { OfStores D.is_clean S.is_clean machines.new → OfStores D.is_sound S.is_sound machines.old → OnErr result (held D.kept S.kept machines.new ≡ held D.kept S.kept machines.old) }
     ensures own { IfErr result (λ refusal. is_stop refusal ≡ true) }
 {
@@ -84,7 +84,7 @@ fn deliver_one<D: DeskStore, S: SiteStore>(
     let limited = is_limit(&fault);
     match stopping(&fault) {
         Some(refusal) => Err(refusal),
-        None if limited && !last => machines.give_up(txn),
+        None if limited => machines.give_up(txn),
         None => Ok(put_out(machines.alloc, Vec::new(machines.alloc))),
     }
 }
@@ -132,7 +132,6 @@ impl Post {
 fn deliver_next<D: DeskStore, S: SiteStore>(
     machines: &mut Machines<D, S>,
     post: &mut Post,
-    last: bool,
 ) -> Result<(), Refusal>
     ensures clean { OfStores D.is_clean S.is_clean machines.new → OfStores D.is_clean S.is_clean machines.old }
     ensures sound { OfStores D.is_clean S.is_clean machines.new → OfStores D.is_sound S.is_sound machines.old → OfStores D.is_sound S.is_sound machines.new }
@@ -140,7 +139,7 @@ fn deliver_next<D: DeskStore, S: SiteStore>(
     ensures ok { (db : Database) → IsOfCatalogue db → db.catalogue ≡ catalogue_of machines.old.desk.catalog → OfStores D.is_clean S.is_clean machines.new → OfStores D.is_sound S.is_sound machines.old → AreFit db (held D.kept S.kept machines.old)
         → OnOk result (Goes db (λ w. w) (scene (held D.kept S.kept machines.old) post.old) (scene (held D.kept S.kept machines.new) post.new)) }
     ensures ranks { (db : Database) (n i : ℕ) → IsOfCatalogue db → db.catalogue ≡ catalogue_of machines.old.desk.catalog → OfStores D.is_clean S.is_clean machines.new → OfStores D.is_sound S.is_sound machines.old → AreFit db (held D.kept S.kept machines.old)
-        → (last ≡ false → 1 ≤ n) → IsInRound db n (suc i) (scene (held D.kept S.kept machines.old) post.old) → OnOk result (IsInRound db n i (scene (held D.kept S.kept machines.new) post.new)) }
+        → IsInRound db n (suc i) (scene (held D.kept S.kept machines.old) post.old) → OnOk result (IsInRound db n i (scene (held D.kept S.kept machines.new) post.new)) }
     ensures err { (db : Database) → IsOfCatalogue db → db.catalogue ≡ catalogue_of machines.old.desk.catalog → OfStores D.is_clean S.is_clean machines.new → OfStores D.is_sound S.is_sound machines.old → AreFit db (held D.kept S.kept machines.old)
         → OnErr result (Breaks db (λ w. w) (scene (held D.kept S.kept machines.old) post.old) (held D.kept S.kept machines.new)) }
     ensures own { IfErr result (λ refusal. is_stop refusal ≡ true) }
@@ -148,7 +147,7 @@ fn deliver_next<D: DeskStore, S: SiteStore>(
     let Some(letter) = post.waiting.pop_front() else {
         return Ok(());
     };
-    match deliver_one(machines, letter, last) {
+    match deliver_one(machines, letter) {
         Ok(out) => post.add(out),
         Err(refusal) => Err(refusal),
     }
@@ -158,7 +157,6 @@ fn deliver_next<D: DeskStore, S: SiteStore>(
 fn deliver_round<D: DeskStore, S: SiteStore>(
     machines: &mut Machines<D, S>,
     post: &mut Post,
-    last: bool,
 ) -> Result<(), Refusal>
     ensures clean { OfStores D.is_clean S.is_clean machines.new → OfStores D.is_clean S.is_clean machines.old }
     ensures sound { OfStores D.is_clean S.is_clean machines.new → OfStores D.is_sound S.is_sound machines.old → OfStores D.is_sound S.is_sound machines.new }
@@ -166,13 +164,13 @@ fn deliver_round<D: DeskStore, S: SiteStore>(
     ensures ok { (db : Database) → IsOfCatalogue db → db.catalogue ≡ catalogue_of machines.old.desk.catalog → OfStores D.is_clean S.is_clean machines.new → OfStores D.is_sound S.is_sound machines.old → AreFit db (held D.kept S.kept machines.old)
         → OnOk result (Goes db (λ w. w) (scene (held D.kept S.kept machines.old) post.old) (scene (held D.kept S.kept machines.new) post.new)) }
     ensures ranks { (db : Database) (n : ℕ) → IsOfCatalogue db → db.catalogue ≡ catalogue_of machines.old.desk.catalog → OfStores D.is_clean S.is_clean machines.new → OfStores D.is_sound S.is_sound machines.old → AreFit db (held D.kept S.kept machines.old)
-        → (last ≡ false → 1 ≤ n) → RanksUnder (suc n) (world_at db (scene (held D.kept S.kept machines.old) post.old)) → OnOk result (RanksUnder n (world_at db (scene (held D.kept S.kept machines.new) post.new))) }
+        → RanksUnder (suc n) (world_at db (scene (held D.kept S.kept machines.old) post.old)) → OnOk result (RanksUnder n (world_at db (scene (held D.kept S.kept machines.new) post.new))) }
     ensures err { (db : Database) → IsOfCatalogue db → db.catalogue ≡ catalogue_of machines.old.desk.catalog → OfStores D.is_clean S.is_clean machines.new → OfStores D.is_sound S.is_sound machines.old → AreFit db (held D.kept S.kept machines.old)
         → OnErr result (Breaks db (λ w. w) (scene (held D.kept S.kept machines.old) post.old) (held D.kept S.kept machines.new)) }
     ensures own { IfErr result (λ refusal. is_stop refusal ≡ true) }
 {
     for _ in 0..post.waiting.len() {
-        deliver_next(machines, post, last)?;
+        deliver_next(machines, post)?;
     }
     Ok(())
 }
@@ -193,8 +191,8 @@ pub(crate) fn settle<D: DeskStore, S: SiteStore>(
 {
     let mut post = Post::of(out);
     // Each letter has a rank of at most nine, and what it brings about ranks lower.
-    for round in 0..9usize {
-        deliver_round(machines, &mut post, round == 8)?;
+    for _ in 0..9usize {
+        deliver_round(machines, &mut post)?;
     }
     Ok(post.heard)
 }

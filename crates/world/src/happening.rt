@@ -27,8 +27,8 @@ ghost use Rattle.world.specs.Seated.{place_of};
 use crate::doing::Doing;
 use crate::event::{Call, Entry, Event};
 use crate::fault::Fault;
+use crate::log::Log;
 use crate::machines::Machines;
-use crate::posted::letter_at;
 use catalog::catalogue::Catalog;
 use desk::refusal::Refusal;
 use desk::reply::Out;
@@ -59,20 +59,20 @@ pub(crate) fn has_site(catalog: &Catalog, name: &Text) -> bool
 /// A letter that was sent comes again, or for the first time.
 fn deliver<D: DeskStore, S: SiteStore>(
     machines: &mut Machines<D, S>,
-    entries: &[Entry],
+    log: &Log,
     number: usize,
     kept: bool,
 ) -> Result<Out, Fault>
     ensures clean { OfStores D.is_clean S.is_clean machines.new → OfStores D.is_clean S.is_clean machines.old }
     ensures sound { OfStores D.is_clean S.is_clean machines.new → OfStores D.is_sound S.is_sound machines.old → OfStores D.is_sound S.is_sound machines.new }
     ensures ok { (db : Database) (whole : Relations) (past : List (Deed (language db))) → IsOfCatalogue db → db.catalogue ≡ catalogue_of machines.old.desk.catalog → OfStores D.is_clean S.is_clean machines.new → OfStores D.is_sound S.is_sound machines.old
-        → IsRun db whole (held D.kept S.kept machines.old) entries.now past → IfOk result (λ out. RunsOn db whole (held D.kept S.kept machines.new) (entries.now ++ entry_of (events.Deliver number kept) out ∷ []) past) }
-    ensures unsent { result ≡ Err faults.Unsent → is_unsent machines.old.desk.catalog.0 entries.now (events.Deliver number kept) ≡ true }
-    ensures nowhere { is_unsent machines.old.desk.catalog.0 entries.now (events.Deliver number kept) ≡ true → result ≡ Err faults.Unsent }
+        → IsRun db whole (held D.kept S.kept machines.old) log.now.items past → IfOk result (λ out. RunsOn db whole (held D.kept S.kept machines.new) (log.now.items ++ entry_of (events.Deliver number kept) out ∷ []) past) }
+    ensures unsent { result ≡ Err faults.Unsent → is_unsent machines.old.desk.catalog.0 log.now.items (events.Deliver number kept) ≡ true }
+    ensures nowhere { is_unsent machines.old.desk.catalog.0 log.now.items (events.Deliver number kept) ≡ true → result ≡ Err faults.Unsent }
     ensures catalog { machines.new.desk.catalog ≡ machines.old.desk.catalog }
     ensures err { OfStores D.is_clean S.is_clean machines.new → OfStores D.is_sound S.is_sound machines.old → OnErr result (held D.kept S.kept machines.new ≡ held D.kept S.kept machines.old) }
 {
-    let Some(letter) = letter_at(entries, number) else {
+    let Some(letter) = log.letter(number) else {
         return Err(Fault::Unsent);
     };
     if !has_site(machines.desk.catalog(), &letter.site) {
@@ -133,15 +133,15 @@ fn happen_at<D: DeskStore, S: SiteStore>(
 /// An event happens. Where it is refused nothing has changed.
 pub(crate) fn happen<D: DeskStore, S: SiteStore>(
     machines: &mut Machines<D, S>,
-    entries: &[Entry],
+    log: &Log,
     event: &Event,
 ) -> Result<Out, Fault>
     ensures clean { OfStores D.is_clean S.is_clean machines.new → OfStores D.is_clean S.is_clean machines.old }
     ensures sound { OfStores D.is_clean S.is_clean machines.new → OfStores D.is_sound S.is_sound machines.old → OfStores D.is_sound S.is_sound machines.new }
     ensures ok { (db : Database) (whole : Relations) (past : List (Deed (language db))) → IsOfCatalogue db → db.catalogue ≡ catalogue_of machines.old.desk.catalog → OfStores D.is_clean S.is_clean machines.new → OfStores D.is_sound S.is_sound machines.old
-        → IsRun db whole (held D.kept S.kept machines.old) entries.now past → IfOk result (λ out. RunsOn db whole (held D.kept S.kept machines.new) (entries.now ++ entry_of event.now out ∷ []) past) }
-    ensures unsent { result ≡ Err faults.Unsent → is_unsent machines.old.desk.catalog.0 entries.now event.now ≡ true }
-    ensures nowhere { is_unsent machines.old.desk.catalog.0 entries.now event.now ≡ true → (result ≡ Err faults.Unsent) ⊎ (result ≡ Err (faults.Desk refusals.Memory)) }
+        → IsRun db whole (held D.kept S.kept machines.old) log.now.items past → IfOk result (λ out. RunsOn db whole (held D.kept S.kept machines.new) (log.now.items ++ entry_of event.now out ∷ []) past) }
+    ensures unsent { result ≡ Err faults.Unsent → is_unsent machines.old.desk.catalog.0 log.now.items event.now ≡ true }
+    ensures nowhere { is_unsent machines.old.desk.catalog.0 log.now.items event.now ≡ true → (result ≡ Err faults.Unsent) ⊎ (result ≡ Err (faults.Desk refusals.Memory)) }
     ensures refused { (db : Database) (asked : CallNow) → IsOfCatalogue db → db.catalogue ≡ catalogue_of machines.old.desk.catalog → AreFit db (held D.kept S.kept machines.old) → event.now ≡ events.Call asked
         → IfErr result (λ fault. (fault ≡ faults.Desk refusals.Memory) ⊎ IsToldOf db (table_of machines.old.desk.present) asked fault) }
     ensures catalog { machines.new.desk.catalog ≡ machines.old.desk.catalog }
@@ -149,7 +149,7 @@ pub(crate) fn happen<D: DeskStore, S: SiteStore>(
 {
     match event {
         Event::Call(asked) => by_desk(call(machines, asked)),
-        Event::Deliver(number, kept) => deliver(machines, entries, *number, *kept),
+        Event::Deliver(number, kept) => deliver(machines, log, *number, *kept),
         Event::SiteGivesUp(site, ticket) => {
             let what = Doing::GiveUp(site.copy()?, *ticket);
             happen_at(machines, what, true)

@@ -23,19 +23,12 @@ pub struct Committed {
     pub answers: Seq<Answer>,
 }
 
-/// Whether it is this transaction.
-fn is_txn(one: &Txn, other: &Txn) -> bool
-    ensures { result ≡ is_txn one.now other.now }
-{
-    one.life == other.life && one.number == other.number
-}
-
 /// Whether one of these replies tells a transaction's client that it is committed.
 fn say_committed(notices: &[Notice], txn: &Txn) -> bool
     ensures { result ≡ list_any (λ notice. is_txn notice.txn txn.now && says_committed notice.reply) notices.now }
 {
     for notice in notices {
-        if is_txn(&notice.txn, txn) && matches!(notice.reply, Reply::Committed) {
+        if notice.txn == *txn && matches!(notice.reply, Reply::Committed) {
             return true;
         }
     }
@@ -60,7 +53,7 @@ fn add_answers(answers: &mut Vec<Answer>, notices: &[Notice], txn: &Txn) -> Resu
 {
     for notice in notices {
         if let Reply::Answer(answer) = &notice.reply {
-            if is_txn(&notice.txn, txn) {
+            if notice.txn == *txn {
                 answers.push(answer.copy()?)?;
             }
         }
@@ -86,7 +79,7 @@ fn texts_of(alloc: Global, entries: &[Entry], txn: &Txn) -> Result<Vec<Text>, Me
     let mut texts = Vec::new(alloc);
     for entry in entries {
         if let Event::Call(Call::State(of, text)) = &entry.event {
-            if is_txn(of, txn) {
+            if of == txn {
                 texts.push(text.copy()?)?;
             }
         }

@@ -12,9 +12,11 @@ ghost use Rattle.protocol.specs.Rounds.{RoundByLetter};
 ghost use Rattle.protocol.specs.Serial.{SerialLaw};
 ghost use Rattle.protocol.specs.Whole.{AppliedWholeAndOnce};
 ghost use Rattle.desk.specs.Database.{language};
-ghost use Rattle.world.specs.Base.{IsBase, database};
+ghost use Rattle.world.specs.Base.{IsBase, database, fits};
+ghost use Rattle.world.specs.Obeying.{ObeysUnlessRefused};
 ghost use Rattle.world.specs.Runs.{RunsAreSerial};
 ghost use Rattle.world.specs.Serving.{ServedIsSerial};
+ghost use Rattle.world.specs.Smoothly.{ServesSmoothly, ServesUnlessRefused};
 
 use answers::laws::writes_lead;
 use catalog::catalogue::Catalog;
@@ -115,4 +117,34 @@ pub fn served_is_serial(catalog: &Catalog)
     ensures { ServedIsSerial (database (catalogue_of catalog.now)) }
 {
     one_client_is_a_run(catalog);
+}
+
+/// A client's database whose letters all come smoothly: a transaction that begins where all is quiet is ready,
+/// each statement of a ready one is answered, and the commit of a ready one is told, after which all is quiet.
+pub fn served_smoothly(catalog: &Catalog)
+    ensures { ServesSmoothly (database (catalogue_of catalog.now)) (fits (catalogue_of catalog.now)) }
+{
+    catalog.relations();
+    leaf_names_are_unique();
+    contents_ascend();
+    language_is_lawful(catalog);
+}
+
+/// A client's database, whatever becomes of its letters: a statement of a ready transaction is answered, and its
+/// commit told, after which all is quiet, unless something was refused on the way.
+pub fn served_unless_refused(catalog: &Catalog)
+    ensures { ServesUnlessRefused (database (catalogue_of catalog.now)) (fits (catalogue_of catalog.now)) }
+{
+    served_smoothly(catalog);
+}
+
+/// The commands of a client's database that stands, all quiet or its open transaction ready: a transaction begins;
+/// unless something is refused on the way, a statement is answered, a commit and a rollback are told, after which
+/// all is quiet, and a lone statement is answered and committed.
+pub fn obeyed_unless_refused(catalog: &Catalog)
+    ensures { ObeysUnlessRefused (database (catalogue_of catalog.now)) (fits (catalogue_of catalog.now)) }
+{
+    one_client_is_a_run(catalog);
+    served_smoothly(catalog);
+    served_unless_refused(catalog);
 }

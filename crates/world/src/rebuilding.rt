@@ -1,6 +1,6 @@
 //! Relations, rebuilt from the settled fragments as a SELECT of all their columns.
 
-ghost use Rattle.std.specs.Prelude.{◌≡◌, ℕ, List, [], map, IfOk, IfSome, unwrap_or};
+ghost use Rattle.std.specs.Prelude.{◌≡◌, ◌≢◌, Err, ℕ, List, [], map, IfOk, IfSome, unwrap_or};
 ghost use Rattle.std.specs.List.{Contains, filter};
 ghost use Rattle.std.specs.Option.{option_map};
 ghost use Rattle.terms.specs.declared.value.Value.{Value};
@@ -20,6 +20,7 @@ ghost use Rattle.plan.specs.Shape.{shape};
 ghost use Rattle.plan.specs.Stated.{AreFetchesOf};
 ghost use Rattle.plan.specs.Uniform.{EachRead, IsUniform};
 ghost use Rattle.answers.specs.Table.{given};
+ghost use Rattle.world.specs.declared.fault.Fault.TheVariants as faults;
 ghost use Rattle.world.specs.Base.{database};
 ghost use Rattle.world.specs.Held.{OfStores, held};
 ghost use Rattle.world.specs.Machines.{AreFit};
@@ -116,6 +117,7 @@ fn bring_one<D: DeskStore, S: SiteStore>(
     decided: &[Txn],
     fetch: &Fetch,
 ) -> Result<FetchRows, Fault>
+    ensures sent { result ≢ Err faults.Unsent }
     ensures clean { OfStores D.is_clean S.is_clean machines.new → OfStores D.is_clean S.is_clean machines.old }
     ensures sound { OfStores D.is_clean S.is_clean machines.new → OfStores D.is_sound S.is_sound machines.old → OfStores D.is_sound S.is_sound machines.new }
     ensures same { OfStores D.is_clean S.is_clean machines.new → OfStores D.is_sound S.is_sound machines.old → held D.kept S.kept machines.new ≡ held D.kept S.kept machines.old }
@@ -138,6 +140,7 @@ fn bring<D: DeskStore, S: SiteStore>(
     decided: &[Txn],
     fetches: &[Fetch],
 ) -> Result<Vec<FetchRows>, Fault>
+    ensures sent { result ≢ Err faults.Unsent }
     ensures clean { OfStores D.is_clean S.is_clean machines.new → OfStores D.is_clean S.is_clean machines.old }
     ensures sound { OfStores D.is_clean S.is_clean machines.new → OfStores D.is_sound S.is_sound machines.old → OfStores D.is_sound S.is_sound machines.new }
     ensures same { OfStores D.is_clean S.is_clean machines.new → OfStores D.is_sound S.is_sound machines.old → held D.kept S.kept machines.new ≡ held D.kept S.kept machines.old }
@@ -174,7 +177,8 @@ fn answer(
 ) -> Result<Answer, Fault>
     requires fetched { EachRead (λ read. Contains reduced.now.fetches.items read) (shape reduced.now.plan) }
     requires uniform { IsUniform (shape reduced.now.plan) }
-    ensures { IsStatementOf (schemas_of (catalogue_of catalog.now)) statement.now → AreFetchesOf (catalogue_of catalog.now) statement.now reduced.now.fetches.items → FindsAll (catalogue_of catalog.now) statement.now reduced.now.fetches.items (shape reduced.now.plan)
+    ensures sent { result ≢ Err faults.Unsent }
+    ensures answer { IsStatementOf (schemas_of (catalogue_of catalog.now)) statement.now → AreFetchesOf (catalogue_of catalog.now) statement.now reduced.now.fetches.items → FindsAll (catalogue_of catalog.now) statement.now reduced.now.fetches.items (shape reduced.now.plan)
         → IfOk result (λ answer. (whole : Relations) → FitsSchema (schemas_of (catalogue_of catalog.now)) whole → AreBrought (catalogue_of catalog.now) whole reduced.now.fetches.items (given brought.now) → answer ≡ (meaning statement.now whole).0) }
 {
     if !are_all_parts(fetches(reduced), brought) {
@@ -199,6 +203,7 @@ fn answer_settled<D: DeskStore, S: SiteStore>(
     statement: &Statement,
 ) -> Result<Answer, Fault>
     requires { IsStatementOf (schemas_of (catalogue_of machines.old.desk.catalog)) statement.now }
+    ensures sent { result ≢ Err faults.Unsent }
     ensures clean { OfStores D.is_clean S.is_clean machines.new → OfStores D.is_clean S.is_clean machines.old }
     ensures sound { OfStores D.is_clean S.is_clean machines.new → OfStores D.is_sound S.is_sound machines.old → OfStores D.is_sound S.is_sound machines.new }
     ensures same { OfStores D.is_clean S.is_clean machines.new → OfStores D.is_sound S.is_sound machines.old → held D.kept S.kept machines.new ≡ held D.kept S.kept machines.old }
@@ -238,6 +243,7 @@ pub(crate) fn rebuilt<D: DeskStore, S: SiteStore>(
     machines: &mut Machines<D, S>,
     name: &Text,
 ) -> Result<Option<Vec<Row>>, Fault>
+    ensures sent { result ≢ Err faults.Unsent }
     ensures clean { OfStores D.is_clean S.is_clean machines.new → OfStores D.is_clean S.is_clean machines.old }
     ensures sound { OfStores D.is_clean S.is_clean machines.new → OfStores D.is_sound S.is_sound machines.old → OfStores D.is_sound S.is_sound machines.new }
     ensures same { OfStores D.is_clean S.is_clean machines.new → OfStores D.is_sound S.is_sound machines.old → held D.kept S.kept machines.new ≡ held D.kept S.kept machines.old }

@@ -1,8 +1,10 @@
 //! The sites of a database, each under its name.
 
-ghost use Rattle.std.specs.Prelude.{◌≡◌, ℕ, List, Some, IfOk, OnErr, OnOk, true};
+ghost use Rattle.std.specs.Prelude.{◌≡◌, ℕ, List, Some, IfErr, IfOk, OnErr, OnOk, true};
+ghost use Rattle.store.specs.declared.letter.Letter.{Letter as LetterNow};
 ghost use Rattle.world.specs.declared.doing.Doing.TheVariants as things;
 ghost use Rattle.std.specs.List.{AllByRecursion};
+ghost use Rattle.world.specs.Reasons.{SiteTells};
 ghost use Rattle.world.specs.Seats.{AreSeated, IsSeated, Seat, is_called, seat_of};
 ghost use Rattle.world.specs.Seated.{SeatDoes, SomeSeatDoes, place_of, seat_from, seats_in};
 
@@ -33,6 +35,7 @@ fn do_one<S: SiteStore>(
     ensures ok { S.is_clean site.new.store → S.is_sound site.old.store → IsSeated (seat_from S.kept site.old)
         → IfOk result (λ letters. SeatDoes what (seat_from S.kept site.old) (seat_from S.kept site.new) letters.items) }
     ensures called { (site : List ℕ) → what ≡ things.Restart site → OnOk result (kept ≡ true) }
+    ensures told { (letter : LetterNow) → what ≡ things.Take letter → is_called letter.site (seat_from S.kept site.old) ≡ true → IfErr result (SiteTells (seat_from S.kept site.old) letter.body) }
     ensures err { S.is_clean site.new.store → S.is_sound site.old.store → OnErr result (seat_from S.kept site.new ≡ seat_from S.kept site.old) }
 {
     match what {
@@ -64,6 +67,7 @@ fn do_at<S: SiteStore>(
     ensures ok { (seat : Seat) → AllByRecursion (λ site. S.is_clean site.store) sites.new → AllByRecursion (λ site. S.is_sound site.store) sites.old → AreSeated (seats_in S.kept sites.old) → seat_of (place_of what) (seats_in S.kept sites.old) ≡ Some seat
         → IfOk result (λ letters. SomeSeatDoes what seat (seats_in S.kept sites.old) (seats_in S.kept sites.new) letters.items) }
     ensures called { (site : List ℕ) → what ≡ things.Restart site → OnOk result (kept ≡ true) }
+    ensures told { (letter : LetterNow) (seat : Seat) → what ≡ things.Take letter → seat_of letter.site (seats_in S.kept sites.old) ≡ Some seat → IfErr result (SiteTells seat letter.body) }
     ensures err { AllByRecursion (λ site. S.is_clean site.store) sites.new → AllByRecursion (λ site. S.is_sound site.store) sites.old → OnErr result (seats_in S.kept sites.new ≡ seats_in S.kept sites.old) }
 {
     let Some((site, rest)) = sites.split_first_mut() else {
@@ -87,6 +91,7 @@ pub(crate) fn do_among<S: SiteStore>(
     ensures ok { (seat : Seat) → AllByRecursion (λ site. S.is_clean site.store) sites.new.items → AllByRecursion (λ site. S.is_sound site.store) sites.old.items → AreSeated (seats_in S.kept sites.old.items) → seat_of (place_of what) (seats_in S.kept sites.old.items) ≡ Some seat
         → IfOk result (λ letters. SomeSeatDoes what seat (seats_in S.kept sites.old.items) (seats_in S.kept sites.new.items) letters.items) }
     ensures called { (site : List ℕ) → what ≡ things.Restart site → OnOk result (kept ≡ true) }
+    ensures told { (letter : LetterNow) (seat : Seat) → what ≡ things.Take letter → seat_of letter.site (seats_in S.kept sites.old.items) ≡ Some seat → IfErr result (SiteTells seat letter.body) }
     ensures err { AllByRecursion (λ site. S.is_clean site.store) sites.new.items → AllByRecursion (λ site. S.is_sound site.store) sites.old.items → OnErr result (seats_in S.kept sites.new.items ≡ seats_in S.kept sites.old.items) }
 {
     do_at(alloc, sites.as_mut_slice(), what, kept)

@@ -1,12 +1,13 @@
 //! The parts of leaves: those that sites keep, and those with the intentions of decided transactions.
 
-ghost use Rattle.std.specs.Prelude.{◌≡◌, Some, IfOk, map};
+ghost use Rattle.std.specs.Prelude.{◌≡◌, ◌≢◌, Err, Some, IfOk, map};
 ghost use Rattle.std.specs.FinMap as fin;
 ghost use Rattle.std.specs.List.{AllByRecursion};
 ghost use Rattle.std.specs.Option.{option_and_then, option_copied, option_map};
 ghost use Rattle.catalog.specs.Relation.{catalogue_of};
 ghost use Rattle.desk.specs.Database.{Database};
 ghost use Rattle.desk.specs.Planned.{site_in};
+ghost use Rattle.world.specs.declared.fault.Fault.TheVariants as faults;
 ghost use Rattle.world.specs.Base.{database};
 ghost use Rattle.world.specs.Held.{OfStores, held};
 ghost use Rattle.world.specs.Machines.{AreFit};
@@ -83,6 +84,7 @@ fn txns_of(alloc: Global, rows: &[CommitRow]) -> Result<Vec<Txn>, Memory>
 pub(crate) fn decided<D: DeskStore, S: SiteStore>(
     machines: &mut Machines<D, S>,
 ) -> Result<Vec<Txn>, Fault>
+    ensures sent { result ≢ Err faults.Unsent }
     ensures clean { OfStores D.is_clean S.is_clean machines.new → OfStores D.is_clean S.is_clean machines.old }
     ensures sound { OfStores D.is_clean S.is_clean machines.new → OfStores D.is_sound S.is_sound machines.old → OfStores D.is_sound S.is_sound machines.new }
     ensures all { (db : Database) → OfStores D.is_clean S.is_clean machines.new → OfStores D.is_sound S.is_sound machines.old → AreFit db (held D.kept S.kept machines.old) → IfOk result (λ all. AreDecided (held D.kept S.kept machines.old).table all.items) }
@@ -108,6 +110,7 @@ pub(crate) fn settled_parts<D: DeskStore, S: SiteStore>(
     decided: &[Txn],
     leaf: &Leaf,
 ) -> Result<Option<Vec<Part>>, Fault>
+    ensures sent { result ≢ Err faults.Unsent }
     ensures clean { OfStores D.is_clean S.is_clean machines.new → OfStores D.is_clean S.is_clean machines.old }
     ensures sound { OfStores D.is_clean S.is_clean machines.new → OfStores D.is_sound S.is_sound machines.old → OfStores D.is_sound S.is_sound machines.new }
     ensures parts { OfStores D.is_clean S.is_clean machines.new → OfStores D.is_sound S.is_sound machines.old → AreSeated (held D.kept S.kept machines.old).seats
@@ -129,6 +132,7 @@ pub(crate) fn kept_parts<D: DeskStore, S: SiteStore>(
     machines: &mut Machines<D, S>,
     leaf: &Leaf,
 ) -> Result<Option<Vec<Part>>, Fault>
+    ensures sent { result ≢ Err faults.Unsent }
     ensures clean { OfStores D.is_clean S.is_clean machines.new → OfStores D.is_clean S.is_clean machines.old }
     ensures sound { OfStores D.is_clean S.is_clean machines.new → OfStores D.is_sound S.is_sound machines.old → OfStores D.is_sound S.is_sound machines.new }
     ensures parts { OfStores D.is_clean S.is_clean machines.new → OfStores D.is_sound S.is_sound machines.old → AreFit (database (catalogue_of machines.old.desk.catalog)) (held D.kept S.kept machines.old)

@@ -1,6 +1,7 @@
 //! A database for one client at a time.
 
 ghost use Rattle.std.specs.Prelude.{◌≡◌, ◌≢◌, ℕ, List, [], None, Some, Err, IfOk, OnErr};
+ghost use Rattle.std.specs.Option.{option_map};
 ghost use Rattle.meaning.specs.Whole.{FitsSchema, Relations};
 ghost use Rattle.catalog.specs.FragmentLeaf.{schemas_of};
 ghost use Rattle.catalog.specs.Relation.{catalogue_of};
@@ -14,18 +15,23 @@ ghost use Rattle.desk.specs.Database.{Database, language};
 ghost use Rattle.desk.specs.OfCatalogue.{IsOfCatalogue};
 ghost use Rattle.desk.specs.declared.refusal.Refusal.{Refusal as RefusalNow};
 ghost use Rattle.desk.specs.declared.refusal.Refusal.TheVariants as refusals;
-ghost use Rattle.world.specs.Base.{database};
+ghost use Rattle.world.specs.declared.fault.Fault.TheVariants as faults;
+ghost use Rattle.world.specs.Base.{database, fits};
 ghost use Rattle.world.specs.Held.{OfStores, held};
 ghost use Rattle.world.specs.Machines.{AreFit};
+ghost use Rattle.world.specs.Obeying.{Obeys, Stands};
 ghost use Rattle.world.specs.Serving.{Executes, IsServed, IsServedOn, still_open};
+ghost use Rattle.world.specs.Settled.{AreThoseOf, parts_kept, rows_shown};
 ghost use Rattle.world.specs.Stopping.{stopped_by};
 
 use crate::alone::{is_stop, run_alone, tells_end};
 use crate::fault::Fault;
-use crate::laws::{database_is_of_catalogue, one_client_is_a_run};
+use crate::laws::{database_is_of_catalogue, obeyed_unless_refused, one_client_is_a_run};
 use crate::machines::Machines;
 use crate::opening::start;
+use crate::rebuilding::rebuilt;
 use crate::serving::{begin, commit, roll_back, state};
+use crate::settled::kept_parts;
 use catalog::catalogue::Catalog;
 use desk::refusal::Refusal;
 use desk::reply::Notice;
@@ -39,6 +45,10 @@ use store::name::Txn;
 use store::plain_desk::PlainDesk;
 use store::plain_site::PlainSite;
 use store::site_store::SiteStore;
+use terms::leaf::Leaf;
+use terms::part::Part;
+use terms::row::Row;
+use terms::text::Text;
 
 /// A coordinator and its sites, which serve one client: each letter comes once, the oldest first, before the
 /// next command.
@@ -59,6 +69,8 @@ pub fn open(
 ) -> Result<Solo<PlainDesk, PlainSite>, Fault>
     ensures served { FitsSchema (schemas_of (catalogue_of catalog)) whole.now
         → IfOk result (λ solo. IsServed (database (catalogue_of catalog)) whole.now (held desk_kept kept_of solo.machines) []) }
+    ensures stands { FitsSchema (schemas_of (catalogue_of catalog)) whole.now
+        → IfOk result (λ solo. Stands (database (catalogue_of catalog)) (fits (catalogue_of catalog)) solo.current (held desk_kept kept_of solo.machines) []) }
     ensures catalog { IfOk result (λ solo. solo.machines.desk.catalog ≡ catalog) }
     ensures sound { IfOk result (λ solo. OfStores (λ _. Unit {0}) IsSound solo.machines) }
     ensures idle { IfOk result (λ solo. (solo.current ≡ None) × (solo.stopped ≡ None)) }
@@ -249,7 +261,8 @@ impl<D: DeskStore, S: SiteStore> Solo<D, S> {
     }
 
     /// A command is executed: BEGIN, COMMIT, ROLLBACK or a statement, which outside BEGIN is a transaction of its own. All letters that it
-    /// brings about come, each once, the oldest first. Says what the client hears. A refusal that stops the database is the answer of every
+    /// brings about come, each once, the oldest first. Says what the client hears: unless something is refused on the way, the answer of a
+    /// statement, or that its transaction has begun, was committed, or was rolled back. A refusal that stops the database is the answer of every
     /// later command.
     pub fn execute(&mut self, text: &str) -> Result<Vec<Notice>, Refusal>
         ensures clean { OfStores D.is_clean S.is_clean self.new.machines → OfStores D.is_clean S.is_clean self.old.machines }
@@ -259,6 +272,10 @@ impl<D: DeskStore, S: SiteStore> Solo<D, S> {
             → IfOk result (λ heard. Executes (database (catalogue_of self.old.machines.desk.catalog)) text.now self.old.current (held D.kept S.kept self.old.machines) self.new.current (held D.kept S.kept self.new.machines) heard.items) }
         ensures served { (whole : Relations) (past : List (Deed (language (database (catalogue_of self.old.machines.desk.catalog))))) → OfStores D.is_clean S.is_clean self.new.machines → OfStores D.is_sound S.is_sound self.old.machines
             → IsServed (database (catalogue_of self.old.machines.desk.catalog)) whole (held D.kept S.kept self.old.machines) past → IsServedOn (database (catalogue_of self.old.machines.desk.catalog)) whole (held D.kept S.kept self.new.machines) past }
+        ensures obeyed { (whole : Relations) (past : List (Deed (language (database (catalogue_of self.old.machines.desk.catalog))))) → self.old.stopped ≡ None → OfStores D.is_clean S.is_clean self.new.machines → OfStores D.is_sound S.is_sound self.old.machines
+            → IsServed (database (catalogue_of self.old.machines.desk.catalog)) whole (held D.kept S.kept self.old.machines) past
+            → Stands (database (catalogue_of self.old.machines.desk.catalog)) (fits (catalogue_of self.old.machines.desk.catalog)) self.old.current (held D.kept S.kept self.old.machines) past
+            → IfOk result (λ heard. Obeys (database (catalogue_of self.old.machines.desk.catalog)) (fits (catalogue_of self.old.machines.desk.catalog)) whole text.now self.old.current (held D.kept S.kept self.old.machines) self.new.current (held D.kept S.kept self.new.machines) past heard.items) }
         ensures still { OnErr result (self.new.current ≡ self.old.current) }
         ensures stops { self.old.stopped ≡ None → self.new.stopped ≡ stopped_by result }
         ensures stopped { (refusal : RefusalNow) → self.old.stopped ≡ Some refusal → (result ≡ Err refusal) × (self.new ≡ self.old) }
@@ -268,6 +285,7 @@ impl<D: DeskStore, S: SiteStore> Solo<D, S> {
         }
         database_is_of_catalogue(self.machines.desk.catalog());
         one_client_is_a_run(self.machines.desk.catalog());
+        obeyed_unless_refused(self.machines.desk.catalog());
         let done = self.command(text);
         self.stopped = stopped_by(&done);
         done
@@ -278,5 +296,36 @@ impl<D: DeskStore, S: SiteStore> Solo<D, S> {
         ensures { result.now ≡ self.now.machines.desk.catalog }
     {
         self.machines.desk.catalog()
+    }
+
+    /// The parts that are kept of a leaf, by their keys; none of a leaf that the catalogue doesn't have. Nothing
+    /// has changed by this.
+    pub fn parts(&mut self, leaf: &Leaf) -> Result<Option<Vec<Part>>, Fault>
+        ensures sent { result ≢ Err faults.Unsent }
+        ensures clean { OfStores D.is_clean S.is_clean self.new.machines → OfStores D.is_clean S.is_clean self.old.machines }
+        ensures sound { OfStores D.is_clean S.is_clean self.new.machines → OfStores D.is_sound S.is_sound self.old.machines → OfStores D.is_sound S.is_sound self.new.machines }
+        ensures parts { OfStores D.is_clean S.is_clean self.new.machines → OfStores D.is_sound S.is_sound self.old.machines → AreFit (database (catalogue_of self.old.machines.desk.catalog)) (held D.kept S.kept self.old.machines)
+            → IfOk result (λ shown. option_map (λ parts. parts.items) shown ≡ parts_kept (database (catalogue_of self.old.machines.desk.catalog)) (held D.kept S.kept self.old.machines) leaf.now) }
+        ensures same { OfStores D.is_clean S.is_clean self.new.machines → OfStores D.is_sound S.is_sound self.old.machines → held D.kept S.kept self.new.machines ≡ held D.kept S.kept self.old.machines }
+        ensures still { (self.new.current ≡ self.old.current) × (self.new.stopped ≡ self.old.stopped) }
+        ensures catalog { self.new.machines.desk.catalog ≡ self.old.machines.desk.catalog }
+    {
+        kept_parts(&mut self.machines, leaf)
+    }
+
+    /// The rows of a relation, by their keys, as the fragments rebuild it with the intentions of committed
+    /// transactions; none of a relation that there isn't. Nothing has changed by this.
+    pub fn rebuilt(&mut self, relation: &Text) -> Result<Option<Vec<Row>>, Fault>
+        ensures sent { result ≢ Err faults.Unsent }
+        ensures clean { OfStores D.is_clean S.is_clean self.new.machines → OfStores D.is_clean S.is_clean self.old.machines }
+        ensures sound { OfStores D.is_clean S.is_clean self.new.machines → OfStores D.is_sound S.is_sound self.old.machines → OfStores D.is_sound S.is_sound self.new.machines }
+        ensures rows { (whole : Relations) → OfStores D.is_clean S.is_clean self.new.machines → OfStores D.is_sound S.is_sound self.old.machines → AreFit (database (catalogue_of self.old.machines.desk.catalog)) (held D.kept S.kept self.old.machines)
+            → AreThoseOf (database (catalogue_of self.old.machines.desk.catalog)) (held D.kept S.kept self.old.machines) whole → FitsSchema (schemas_of (catalogue_of self.old.machines.desk.catalog)) whole
+            → IfOk result (λ shown. option_map (λ rows. rows.items) shown ≡ rows_shown (database (catalogue_of self.old.machines.desk.catalog)) whole relation.now) }
+        ensures same { OfStores D.is_clean S.is_clean self.new.machines → OfStores D.is_sound S.is_sound self.old.machines → held D.kept S.kept self.new.machines ≡ held D.kept S.kept self.old.machines }
+        ensures still { (self.new.current ≡ self.old.current) × (self.new.stopped ≡ self.old.stopped) }
+        ensures catalog { self.new.machines.desk.catalog ≡ self.old.machines.desk.catalog }
+    {
+        rebuilt(&mut self.machines, relation)
     }
 }

@@ -1,6 +1,6 @@
 //! Worlds: the machines of a database, and every event that has happened with the letters that it put out.
 
-ghost use Rattle.std.specs.Prelude.{◌≡◌, ◌⊎◌, ◌++◌, ◌∷◌, [], true, List, Err, OnOk, OnErr, IfOk, IfErr, map, slice_get, take};
+ghost use Rattle.std.specs.Prelude.{◌≡◌, ◌≢◌, ◌⊎◌, ◌++◌, ◌∷◌, [], true, List, Err, OnOk, OnErr, IfOk, IfErr, map, slice_get, take};
 ghost use Rattle.std.specs.Option.{option_copied, option_map};
 ghost use Rattle.meaning.specs.Whole.{FitsSchema, Relations};
 ghost use Rattle.catalog.specs.FragmentLeaf.{schemas_of};
@@ -32,9 +32,9 @@ use crate::fault::Fault;
 use crate::happening::happen;
 use crate::history::{Committed, committed_in};
 use crate::laws::{database_is_of_catalogue, language_is_lawful, runs_are_serial};
+use crate::log::Log;
 use crate::machines::Machines;
 use crate::opening::start;
-use crate::posted::letter_at;
 use crate::rebuilding::rebuilt;
 use crate::settled::kept_parts;
 use catalog::catalogue::Catalog;
@@ -57,7 +57,7 @@ use terms::text::Text;
 #[derive(Drop)]
 pub struct World<D: DeskStore, S: SiteStore> {
     machines: Machines<D, S>,
-    entries: Vec<Entry>,
+    entries: Log,
 }
 
 /// A world over lists is opened: the fragments rebuild these whole relations, and nothing has happened.
@@ -76,7 +76,7 @@ pub fn open(
     match start(alloc, catalog, whole) {
         Ok(machines) => Ok(World {
             machines,
-            entries: Vec::new(alloc),
+            entries: Log::new(alloc),
         }),
         Err(fault) => Err(fault),
     }
@@ -103,12 +103,10 @@ impl<D: DeskStore, S: SiteStore> World<D, S> {
         ensures same { OnErr result (self.new.entries.items ≡ self.old.entries.items) }
     {
         database_is_of_catalogue(self.machines.desk.catalog());
-        if self.entries.try_reserve(1).is_err() {
-            return Err(Fault::Desk(Refusal::Memory));
-        }
-        match happen(&mut self.machines, self.entries.as_slice(), &event) {
+        self.entries.make_room()?;
+        match happen(&mut self.machines, &self.entries, &event) {
             Ok(out) => {
-                self.entries.push_reserved(Entry { event, out });
+                self.entries.push(Entry { event, out });
                 Ok(())
             }
             Err(fault) => Err(fault),
@@ -177,25 +175,26 @@ impl<D: DeskStore, S: SiteStore> World<D, S> {
             → IfOk result (λ all. AnswerInTurn (database (catalogue_of self.now.machines.desk.catalog)) whole all.items) }
     {
         runs_are_serial(self.machines.desk.catalog());
-        committed_in(self.machines.alloc, self.entries.as_slice())
+        committed_in(self.machines.alloc, self.entries.entries())
     }
 
     /// The letter of this number, counted from 0 in the order in which letters were sent, if so many were.
     pub fn letter(&self, number: usize) -> Option<&Letter>
         ensures { option_copied result ≡ slice_get (letters_in self.now.entries.items) number }
     {
-        letter_at(self.entries.as_slice(), number)
+        self.entries.letter(number)
     }
 
     /// The parts that are kept of a leaf, by their keys; none of a leaf that the catalogue doesn't have. Nothing
     /// has changed by this.
     pub fn parts(&mut self, leaf: &Leaf) -> Result<Option<Vec<Part>>, Fault>
+        ensures sent { result ≢ Err faults.Unsent }
         ensures clean { OfStores D.is_clean S.is_clean self.new.machines → OfStores D.is_clean S.is_clean self.old.machines }
         ensures sound { OfStores D.is_clean S.is_clean self.new.machines → OfStores D.is_sound S.is_sound self.old.machines → OfStores D.is_sound S.is_sound self.new.machines }
         ensures parts { OfStores D.is_clean S.is_clean self.new.machines → OfStores D.is_sound S.is_sound self.old.machines → AreFit (database (catalogue_of self.old.machines.desk.catalog)) (held D.kept S.kept self.old.machines)
             → IfOk result (λ shown. option_map (λ parts. parts.items) shown ≡ parts_kept (database (catalogue_of self.old.machines.desk.catalog)) (held D.kept S.kept self.old.machines) leaf.now) }
         ensures same { OfStores D.is_clean S.is_clean self.new.machines → OfStores D.is_sound S.is_sound self.old.machines → held D.kept S.kept self.new.machines ≡ held D.kept S.kept self.old.machines }
-        ensures entries { self.new.entries ≡ self.old.entries }
+        ensures entries { self.new.entries.items ≡ self.old.entries.items }
         ensures catalog { self.new.machines.desk.catalog ≡ self.old.machines.desk.catalog }
     {
         kept_parts(&mut self.machines, leaf)
@@ -205,6 +204,7 @@ impl<D: DeskStore, S: SiteStore> World<D, S> {
     /// transactions; none of a relation that there isn't. They are what the committed transactions make of it,
     /// one after another. Nothing has changed by this.
     pub fn rebuilt(&mut self, relation: &Text) -> Result<Option<Vec<Row>>, Fault>
+        ensures sent { result ≢ Err faults.Unsent }
         ensures clean { OfStores D.is_clean S.is_clean self.new.machines → OfStores D.is_clean S.is_clean self.old.machines }
         ensures sound { OfStores D.is_clean S.is_clean self.new.machines → OfStores D.is_sound S.is_sound self.old.machines → OfStores D.is_sound S.is_sound self.new.machines }
         ensures rows { (whole : Relations) → OfStores D.is_clean S.is_clean self.new.machines → OfStores D.is_sound S.is_sound self.old.machines → AreFit (database (catalogue_of self.old.machines.desk.catalog)) (held D.kept S.kept self.old.machines)
@@ -215,7 +215,7 @@ impl<D: DeskStore, S: SiteStore> World<D, S> {
             → IsRun (database (catalogue_of self.old.machines.desk.catalog)) whole (held D.kept S.kept self.old.machines) self.old.entries.items past
             → IfOk result (λ shown. ShowsSerial (database (catalogue_of self.old.machines.desk.catalog)) whole self.old.entries.items relation.now (option_map (λ rows. rows.items) shown)) }
         ensures same { OfStores D.is_clean S.is_clean self.new.machines → OfStores D.is_sound S.is_sound self.old.machines → held D.kept S.kept self.new.machines ≡ held D.kept S.kept self.old.machines }
-        ensures entries { self.new.entries ≡ self.old.entries }
+        ensures entries { self.new.entries.items ≡ self.old.entries.items }
         ensures catalog { self.new.machines.desk.catalog ≡ self.old.machines.desk.catalog }
     {
         runs_are_serial(self.machines.desk.catalog());
@@ -227,7 +227,7 @@ impl<D: DeskStore, S: SiteStore> World<D, S> {
     pub fn entries(&self) -> &[Entry]
         ensures { result.now ≡ self.now.entries.items }
     {
-        self.entries.as_slice()
+        self.entries.entries()
     }
 
     /// The catalogue.

@@ -12,15 +12,15 @@ index-requires c =
     let below : c.in-Some.place < length c.args.present.now.locks.items = (placed (leaf_of c.args.write.now) c.leaf_of.result.now c.args.present.now.locks.items c.as_slice.result.now c.in-Some.place c.in-Some.ensures c.leaf_of.ensures c.as_slice.ensures.value).below in
     omega (arith, c.args.present.now.locks.ok.0)
 
-pub returns-in-Ok-clause-below : goal.returns-in-Ok-clause-below
-returns-in-Ok-clause-below c = (placed (leaf_of c.args.write.now) c.leaf_of.result.now c.args.present.now.locks.items c.as_slice.result.now c.in-Some.place c.in-Some.ensures c.leaf_of.ensures c.as_slice.ensures.value).below
+pub returns-clause-below : goal.returns-clause-below
+returns-clause-below c = (placed (leaf_of c.args.write.now) c.leaf_of.result.now c.args.present.now.locks.items c.as_slice.result.now c.in-Some.place c.in-Some.ensures c.leaf_of.ensures c.as_slice.ensures.value).below
 
-pub returns-in-Ok-clause-turn : goal.returns-in-Ok-clause-turn
-returns-in-Ok-clause-turn c =
+pub returns-clause-turn : goal.returns-clause-turn
+returns-clause-turn c =
     let k = c.args.ticket.now in
     let w = c.args.write.now in
     let ls = c.args.present.now.locks.items in
     let at : IsPlace (leaf_of w) c.in-Some.place ls = placed (leaf_of w) c.leaf_of.result.now ls c.as_slice.result.now c.in-Some.place c.in-Some.ensures c.leaf_of.ensures c.as_slice.ensures.value in
-    c.in-Ok.ensures
+    c.in_ok-turn.ensures
     ∙ ap (λ l. write_turn k c.args.op (leaf_of w) (at_key w) l (option_copied c.standing.result)) (c.index.ensures ∙ got ls c.in-Some.place (locks_in (leaf_of w) ls) c.index.result.now at.here)
     ∙ ap (write_turn k c.args.op (leaf_of w) (at_key w) (locks_in (leaf_of w) ls)) c.standing.ensures

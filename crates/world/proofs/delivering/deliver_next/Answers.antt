@@ -18,21 +18,21 @@ pub returns-in-Ok-clause-ok : goal.returns-in-Ok-clause-ok
 returns-in-Ok-clause-ok g c = λ db of is clean sound fit.
     let here = scene (held g.D.DeskStore.kept g.S.SiteStore.kept c.args.machines.now) c.args.post.now in
     let after = held g.D.DeskStore.kept g.S.SiteStore.kept c.deliver_one.new.machines in
-    on_both c.add.result (λ waiting heard. comes_goes db c.args.last c.in-Some.letter here after c.pop_front.new.self.items c.in-Ok.out.letters c.in-Ok.out.replies c.in-Some.ensures.items (c.in-Ok.ensures.ok db of is clean sound fit) (scene after c.add.new.self) refl waiting heard)
+    on_both c.add.result (λ waiting heard. comes_goes db c.in-Some.letter here after c.pop_front.new.self.items c.in-Ok.out.letters c.in-Ok.out.replies c.in-Some.ensures.items (c.in-Ok.ensures.ok db of is clean sound fit) (scene after c.add.new.self) refl waiting heard)
     c.add.ensures.waiting c.add.ensures.heard
 
 pub returns-in-Ok-clause-ranks : goal.returns-in-Ok-clause-ranks
-returns-in-Ok-clause-ranks g c = λ db n i of is clean sound fit early ranked.
+returns-in-Ok-clause-ranks g c = λ db n i of is clean sound fit ranked.
     let here = scene (held g.D.DeskStore.kept g.S.SiteStore.kept c.args.machines.now) c.args.post.now in
     let after = held g.D.DeskStore.kept g.S.SiteStore.kept c.deliver_one.new.machines in
-    on_ok c.add.result (λ waiting. comes_ranked db c.args.last c.in-Some.letter here after c.pop_front.new.self.items c.in-Ok.out.letters c.in-Ok.out.replies c.in-Some.ensures.items (c.in-Ok.ensures.ok db of is clean sound fit) n i early (scene after c.add.new.self) refl waiting ranked)
+    on_ok c.add.result (λ waiting. comes_ranked db c.in-Some.letter here after c.pop_front.new.self.items c.in-Ok.out.letters c.in-Ok.out.replies c.in-Some.ensures.items (c.in-Ok.ensures.ok db of is clean sound fit) n i fit (scene after c.add.new.self) refl waiting ranked)
     c.add.ensures.waiting
 
 pub returns-in-Ok-clause-err : goal.returns-in-Ok-clause-err
 returns-in-Ok-clause-err g c = λ db of is clean sound fit.
     let here = scene (held g.D.DeskStore.kept g.S.SiteStore.kept c.args.machines.now) c.args.post.now in
     let after = held g.D.DeskStore.kept g.S.SiteStore.kept c.deliver_one.new.machines in
-    on_any_err c.add.result (comes_breaks db c.args.last c.in-Some.letter here after c.pop_front.new.self.items c.in-Ok.out.letters c.in-Ok.out.replies c.in-Some.ensures.items (c.in-Ok.ensures.ok db of is clean sound fit))
+    on_any_err c.add.result (comes_breaks db c.in-Some.letter here after c.pop_front.new.self.items c.in-Ok.out.letters c.in-Ok.out.replies c.in-Some.ensures.items (c.in-Ok.ensures.ok db of is clean sound fit))
 
 pub returns-in-Err-clause-err : goal.returns-in-Err-clause-err
 returns-in-Err-clause-err g c = λ db of is clean sound fit.

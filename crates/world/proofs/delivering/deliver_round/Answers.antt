@@ -16,7 +16,7 @@ loop-init g c =
       sound = λ x s. s;
       catalog = refl;
       goes = λ db of is clean sound fit. nothing_goes db here fit;
-      ranks = λ db n of is clean sound fit early ranks. all_in_round db n (c.len-end.result - 0) here count ranks;
+      ranks = λ db n of is clean sound fit ranks. all_in_round db n (c.len-end.result - 0) here count ranks;
     }
 
 pub loop-preserved : goal.loop-preserved
@@ -32,18 +32,18 @@ loop-preserved g c =
       goes = λ db of is clean sound fit.
           let so_far = c.loop.invariant.goes db of is (c.deliver_next.ensures.clean clean) sound fit in
           then_goes db (λ w. w) first here so_far there (c.in_ok-deliver_next.ensures.ok db of (is ∙ ap catalogue_of (sym c.loop.invariant.catalog)) clean (c.loop.invariant.sound (c.deliver_next.ensures.clean clean) sound) so_far.fit);
-      ranks = λ db n of is clean sound fit early ranks.
+      ranks = λ db n of is clean sound fit ranks.
           let so_far = c.loop.invariant.goes db of is (c.deliver_next.ensures.clean clean) sound fit in
-          let ranked = c.loop.invariant.ranks db n of is (c.deliver_next.ensures.clean clean) sound fit early ranks in
-          c.in_ok-deliver_next.ensures.ranks db n (c.len-end.result - (c.loop.counter + 1)) of (is ∙ ap catalogue_of (sym c.loop.invariant.catalog)) clean (c.loop.invariant.sound (c.deliver_next.ensures.clean clean) sound) so_far.fit early
+          let ranked = c.loop.invariant.ranks db n of is (c.deliver_next.ensures.clean clean) sound fit ranks in
+          c.in_ok-deliver_next.ensures.ranks db n (c.len-end.result - (c.loop.counter + 1)) of (is ∙ ap catalogue_of (sym c.loop.invariant.catalog)) clean (c.loop.invariant.sound (c.deliver_next.ensures.clean clean) sound) so_far.fit
           (subst (λ (k : ℕ). IsInRound db n k here) one_less ranked);
     }
 
 pub returns-clause-ranks : goal.returns-clause-ranks
-returns-clause-ranks g c = λ db n of is clean sound fit early ranks.
+returns-clause-ranks g c = λ db n of is clean sound fit ranks.
     let here = scene (held g.D.DeskStore.kept g.S.SiteStore.kept c.loop.machines) c.loop.post in
     let over : c.len-end.result - c.loop.counter ≡ 0 = omega (arith, c.loop-test.false) in
-    subst (λ (k : ℕ). IsInRound db n k here) over (c.loop.invariant.ranks db n of is clean sound fit early ranks)
+    subst (λ (k : ℕ). IsInRound db n k here) over (c.loop.invariant.ranks db n of is clean sound fit ranks)
 
 pub returns-in_err-deliver_next-clause-err : goal.returns-in_err-deliver_next-clause-err
 returns-in_err-deliver_next-clause-err g c = λ db of is clean sound fit.

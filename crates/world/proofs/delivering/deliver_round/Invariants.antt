@@ -1,5 +1,5 @@
 -- What each letter of a round keeps.
-use Rattle.std.proofs.Common.{◌≡◌, ◌≤◌, ◌-◌, ℕ, suc, false}
+use Rattle.std.proofs.Common.{◌≡◌, ◌-◌, ℕ, suc}
 use Rattle.catalog.specs.Relation.{catalogue_of}
 use Rattle.protocol.specs.Rounds.{RanksUnder}
 use Rattle.desk.specs.Database.{Database}
@@ -18,6 +18,6 @@ invariant-loop g l = record {
   goes : (db : Database) → IsOfCatalogue db → db.catalogue ≡ catalogue_of l.fn.machines.desk.catalog → OfStores g.D.DeskStore.is_clean g.S.SiteStore.is_clean l.machines → OfStores g.D.DeskStore.is_sound g.S.SiteStore.is_sound l.fn.machines
       → AreFit db (held g.D.DeskStore.kept g.S.SiteStore.kept l.fn.machines) → Goes db (λ w. w) (scene (held g.D.DeskStore.kept g.S.SiteStore.kept l.fn.machines) l.fn.post) (scene (held g.D.DeskStore.kept g.S.SiteStore.kept l.machines) l.post);
   ranks : (db : Database) (n : ℕ) → IsOfCatalogue db → db.catalogue ≡ catalogue_of l.fn.machines.desk.catalog → OfStores g.D.DeskStore.is_clean g.S.SiteStore.is_clean l.machines → OfStores g.D.DeskStore.is_sound g.S.SiteStore.is_sound l.fn.machines
-      → AreFit db (held g.D.DeskStore.kept g.S.SiteStore.kept l.fn.machines) → (l.fn.last ≡ false → 1 ≤ n) → RanksUnder (suc n) (world_at db (scene (held g.D.DeskStore.kept g.S.SiteStore.kept l.fn.machines) l.fn.post))
+      → AreFit db (held g.D.DeskStore.kept g.S.SiteStore.kept l.fn.machines) → RanksUnder (suc n) (world_at db (scene (held g.D.DeskStore.kept g.S.SiteStore.kept l.fn.machines) l.fn.post))
       → IsInRound db n (l.end - l.counter) (scene (held g.D.DeskStore.kept g.S.SiteStore.kept l.machines) l.post);
 }

@@ -4,12 +4,12 @@ use Rattle.catalog.specs.Relation.{catalogue_of}
 use Rattle.protocol.specs.Rounds.{RanksUnder}
 use Rattle.world.specs.Held.{held}
 use Rattle.world.specs.Taking.{put_out_by, scene, world_at}
-use Rattle.world.proofs.Deliveries.{alike_goes, all_nine, early_round, goes_settled, none_left, then_breaks, then_goes}
+use Rattle.world.proofs.Deliveries.{alike_goes, all_nine, goes_settled, none_left, then_breaks, then_goes}
 use Rattle.world.proofs.Moving.{on_any_err}
 use Rattle.world.proofs.delivering.settle.Goals as goal
 
-pub loop-round-init : goal.loop-round-init
-loop-round-init g c =
+pub loop-init : goal.loop-init
+loop-init g c =
     let m = held g.D.DeskStore.kept g.S.SiteStore.kept c.args.machines.now in
     record {
       clean = λ x. x;
@@ -19,39 +19,39 @@ loop-round-init g c =
       ranks = λ db of is clean sound fit. all_nine db (scene m c.of-post.result);
     }
 
-pub loop-round-preserved : goal.loop-round-preserved
-loop-round-preserved g c =
+pub loop-preserved : goal.loop-preserved
+loop-preserved g c =
     let first = put_out_by (held g.D.DeskStore.kept g.S.SiteStore.kept c.args.machines.now) c.args.out in
-    let here = scene (held g.D.DeskStore.kept g.S.SiteStore.kept c.loop-round.machines) c.loop-round.post in
+    let here = scene (held g.D.DeskStore.kept g.S.SiteStore.kept c.loop.machines) c.loop.post in
     let there = scene (held g.D.DeskStore.kept g.S.SiteStore.kept c.deliver_round.new.machines) c.deliver_round.new.post in
-    let one_less : 9 - c.loop-round.round ≡ suc (8 - c.loop-round.round) = omega (arith, c.loop-round-test.true) in
-    let same : 8 - c.loop-round.round ≡ 9 - (c.loop-round.round + 1) = omega arith in
+    let one_less : 9 - c.loop.counter ≡ suc (8 - c.loop.counter) = omega (arith, c.loop-test.true) in
+    let same : 8 - c.loop.counter ≡ 9 - (c.loop.counter + 1) = omega arith in
     record {
-      clean = λ x. c.loop-round.invariant.clean (c.deliver_round.ensures.clean x);
-      sound = λ x s. c.deliver_round.ensures.sound x (c.loop-round.invariant.sound (c.deliver_round.ensures.clean x) s);
-      catalog = c.deliver_round.ensures.catalog ∙ c.loop-round.invariant.catalog;
+      clean = λ x. c.loop.invariant.clean (c.deliver_round.ensures.clean x);
+      sound = λ x s. c.deliver_round.ensures.sound x (c.loop.invariant.sound (c.deliver_round.ensures.clean x) s);
+      catalog = c.deliver_round.ensures.catalog ∙ c.loop.invariant.catalog;
       goes = λ db of is clean sound fit.
-          let so_far = c.loop-round.invariant.goes db of is (c.deliver_round.ensures.clean clean) sound fit in
-          then_goes db (λ w. w) first here so_far there (c.in_ok-deliver_round.ensures.ok db of (is ∙ ap catalogue_of (sym c.loop-round.invariant.catalog)) clean (c.loop-round.invariant.sound (c.deliver_round.ensures.clean clean) sound) so_far.fit);
+          let so_far = c.loop.invariant.goes db of is (c.deliver_round.ensures.clean clean) sound fit in
+          then_goes db (λ w. w) first here so_far there (c.in_ok-deliver_round.ensures.ok db of (is ∙ ap catalogue_of (sym c.loop.invariant.catalog)) clean (c.loop.invariant.sound (c.deliver_round.ensures.clean clean) sound) so_far.fit);
       ranks = λ db of is clean sound fit.
-          let so_far = c.loop-round.invariant.goes db of is (c.deliver_round.ensures.clean clean) sound fit in
-          let ranked = c.loop-round.invariant.ranks db of is (c.deliver_round.ensures.clean clean) sound fit in
+          let so_far = c.loop.invariant.goes db of is (c.deliver_round.ensures.clean clean) sound fit in
+          let ranked = c.loop.invariant.ranks db of is (c.deliver_round.ensures.clean clean) sound fit in
           subst (λ (k : ℕ). RanksUnder k (world_at db there)) same
-          (c.in_ok-deliver_round.ensures.ranks db (8 - c.loop-round.round) of (is ∙ ap catalogue_of (sym c.loop-round.invariant.catalog)) clean (c.loop-round.invariant.sound (c.deliver_round.ensures.clean clean) sound) so_far.fit
-          (λ apart. early_round c.loop-round.round c.loop-round-test.true apart) (subst (λ (k : ℕ). RanksUnder k (world_at db here)) one_less ranked));
+          (c.in_ok-deliver_round.ensures.ranks db (8 - c.loop.counter) of (is ∙ ap catalogue_of (sym c.loop.invariant.catalog)) clean (c.loop.invariant.sound (c.deliver_round.ensures.clean clean) sound) so_far.fit
+          (subst (λ (k : ℕ). RanksUnder k (world_at db here)) one_less ranked));
     }
 
 pub returns-clause-ok : goal.returns-clause-ok
 returns-clause-ok g c = λ db of is clean sound fit.
     let first = put_out_by (held g.D.DeskStore.kept g.S.SiteStore.kept c.args.machines.now) c.args.out in
-    let here = scene (held g.D.DeskStore.kept g.S.SiteStore.kept c.loop-round.machines) c.loop-round.post in
-    let over : 9 - c.loop-round.round ≡ 0 = omega (arith, c.loop-round-test.false) in
-    goes_settled db (λ w. w) first here (c.loop-round.invariant.goes db of is clean sound fit) (none_left db here (subst (λ (k : ℕ). RanksUnder k (world_at db here)) over (c.loop-round.invariant.ranks db of is clean sound fit)))
+    let here = scene (held g.D.DeskStore.kept g.S.SiteStore.kept c.loop.machines) c.loop.post in
+    let over : 9 - c.loop.counter ≡ 0 = omega (arith, c.loop-test.false) in
+    goes_settled db (λ w. w) first here (c.loop.invariant.goes db of is clean sound fit) (none_left db here (subst (λ (k : ℕ). RanksUnder k (world_at db here)) over (c.loop.invariant.ranks db of is clean sound fit)))
 
 pub returns-in_err-deliver_round-clause-err : goal.returns-in_err-deliver_round-clause-err
 returns-in_err-deliver_round-clause-err g c = λ db of is clean sound fit.
     let first = put_out_by (held g.D.DeskStore.kept g.S.SiteStore.kept c.args.machines.now) c.args.out in
-    let here = scene (held g.D.DeskStore.kept g.S.SiteStore.kept c.loop-round.machines) c.loop-round.post in
-    let so_far = c.loop-round.invariant.goes db of is (c.deliver_round.ensures.clean clean) sound fit in
+    let here = scene (held g.D.DeskStore.kept g.S.SiteStore.kept c.loop.machines) c.loop.post in
+    let so_far = c.loop.invariant.goes db of is (c.deliver_round.ensures.clean clean) sound fit in
     on_any_err c.from_residual.result (then_breaks db (λ w. w) first here so_far (held g.D.DeskStore.kept g.S.SiteStore.kept c.deliver_round.new.machines)
-    (c.in_err-deliver_round.ensures.err db of (is ∙ ap catalogue_of (sym c.loop-round.invariant.catalog)) clean (c.loop-round.invariant.sound (c.deliver_round.ensures.clean clean) sound) so_far.fit))
+    (c.in_err-deliver_round.ensures.err db of (is ∙ ap catalogue_of (sym c.loop.invariant.catalog)) clean (c.loop.invariant.sound (c.deliver_round.ensures.clean clean) sound) so_far.fit))

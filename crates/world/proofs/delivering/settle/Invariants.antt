@@ -10,13 +10,13 @@ use Rattle.world.specs.Machines.{AreFit}
 use Rattle.world.specs.Taking.{put_out_by, scene, world_at}
 use Rattle.world.proofs.delivering.settle.Given as goal
 
-abbrev pub invariant-loop-round : goal.invariant-loop-round
-invariant-loop-round g l = record {
+abbrev pub invariant-loop : goal.invariant-loop
+invariant-loop g l = record {
   clean : OfStores g.D.DeskStore.is_clean g.S.SiteStore.is_clean l.machines → OfStores g.D.DeskStore.is_clean g.S.SiteStore.is_clean l.fn.machines;
   sound : OfStores g.D.DeskStore.is_clean g.S.SiteStore.is_clean l.machines → OfStores g.D.DeskStore.is_sound g.S.SiteStore.is_sound l.fn.machines → OfStores g.D.DeskStore.is_sound g.S.SiteStore.is_sound l.machines;
   catalog : l.machines.desk.catalog ≡ l.fn.machines.desk.catalog;
   goes : (db : Database) → IsOfCatalogue db → db.catalogue ≡ catalogue_of l.fn.machines.desk.catalog → OfStores g.D.DeskStore.is_clean g.S.SiteStore.is_clean l.machines → OfStores g.D.DeskStore.is_sound g.S.SiteStore.is_sound l.fn.machines
       → AreFit db (held g.D.DeskStore.kept g.S.SiteStore.kept l.fn.machines) → Goes db (λ w. w) (put_out_by (held g.D.DeskStore.kept g.S.SiteStore.kept l.fn.machines) l.fn.out) (scene (held g.D.DeskStore.kept g.S.SiteStore.kept l.machines) l.post);
   ranks : (db : Database) → IsOfCatalogue db → db.catalogue ≡ catalogue_of l.fn.machines.desk.catalog → OfStores g.D.DeskStore.is_clean g.S.SiteStore.is_clean l.machines → OfStores g.D.DeskStore.is_sound g.S.SiteStore.is_sound l.fn.machines
-      → AreFit db (held g.D.DeskStore.kept g.S.SiteStore.kept l.fn.machines) → RanksUnder (9 - l.round) (world_at db (scene (held g.D.DeskStore.kept g.S.SiteStore.kept l.machines) l.post));
+      → AreFit db (held g.D.DeskStore.kept g.S.SiteStore.kept l.fn.machines) → RanksUnder (9 - l.counter) (world_at db (scene (held g.D.DeskStore.kept g.S.SiteStore.kept l.machines) l.post));
 }

@@ -17,22 +17,22 @@ returns-clause-ok g c = λ db whole past of is clean sound so.
     let after = held g.D.DeskStore.kept g.S.SiteStore.kept c.deliver.new.self in
     let letter = c.in_ok-again.again in
     let same = c.in_ok-again.ensures in
-    let there = sym c.letter_at.ensures ∙ ap option_copied c.in-Some.is ∙ ap Some (sym same) in
+    let there = sym c.letter.ensures ∙ ap option_copied c.in-Some.is ∙ ap Some (sym same) in
     let named : List (List ℕ) → Type 0 = λ sites. list_any (λ site. pointwise nat_eq site letter.site) sites ≡ true in
     let there_too = sym c.has_site.ensures ∙ c.if-not-has_site.false in
     let of_site = subst named (sym (of.sites ∙ ap (λ (x : Catalogue). x.sites) is)) (subst (λ l. list_any (λ site. pointwise nat_eq site l.site) c.args.machines.now.desk.catalog.0 ≡ true) (sym same) (subst (λ x. list_any (λ site. pointwise nat_eq site c.in-Some.letter.now.site) x.0 ≡ true) c.catalog.ensures there_too)) in
-    if_ok c.deliver.result (λ out came. comes_on db whole before after c.args.entries.now past out c.args.number letter c.args.kept so there came) (c.deliver.ensures.ok db of is clean sound so.fit of_site)
+    if_ok c.deliver.result (λ out came. comes_on db whole before after c.args.log.now.items past out c.args.number letter c.args.kept so there came) (c.deliver.ensures.ok db of is clean sound so.fit of_site)
 
 pub returns-in_err-again-clause-nowhere : goal.returns-in_err-again-clause-nowhere
 returns-in_err-again-clause-nowhere g c = λ none.
-    let there = sym c.letter_at.ensures ∙ ap option_copied c.in-Some.is in
+    let there = sym c.letter.ensures ∙ ap option_copied c.in-Some.is in
     let tested = sym c.has_site.ensures ∙ c.if-not-has_site.false in
     let found = subst (λ x. list_any (λ site. pointwise nat_eq site c.in-Some.letter.now.site) x.0 ≡ true) c.catalog.ensures tested in
     clash (subst (λ o. is_none_of c.args.machines.now.desk.catalog.0 o ≡ true) there none) (ap not found)
 
 pub returns-clause-nowhere : goal.returns-clause-nowhere
 returns-clause-nowhere g c = λ none.
-    let there = sym c.letter_at.ensures ∙ ap option_copied c.in-Some.is in
+    let there = sym c.letter.ensures ∙ ap option_copied c.in-Some.is in
     let tested = sym c.has_site.ensures ∙ c.if-not-has_site.false in
     let found = subst (λ x. list_any (λ site. pointwise nat_eq site c.in-Some.letter.now.site) x.0 ≡ true) c.catalog.ensures tested in
     clash (subst (λ o. is_none_of c.args.machines.now.desk.catalog.0 o ≡ true) there none) (ap not found)

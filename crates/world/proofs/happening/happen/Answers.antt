@@ -14,7 +14,7 @@ use Rattle.world.proofs.happening.happen.Goals as goal
 pub returns-in-Call-clause-ok : goal.returns-in-Call-clause-ok
 returns-in-Call-clause-ok g c = λ db whole past of is clean sound so.
     let after = held g.D.DeskStore.kept g.S.SiteStore.kept c.call.new.machines in
-    let entries = c.args.entries.now in
+    let entries = c.args.log.now.items in
     subst (λ (what : events.Event). IfOk c.by_desk.result (λ out. RunsOn db whole after (entries ++ entry_of what out ∷ []) past)) (sym c.in-Call.is)
     (by_desk_ok (λ out. RunsOn db whole after (entries ++ entry_of (event.Call c.in-Call.asked) out ∷ []) past) c.call.result c.by_desk.result c.by_desk.ensures (c.call.ensures.ok db whole entries past of is so))
 
@@ -22,7 +22,7 @@ pub returns-in-DeskRestarts-clause-ok : goal.returns-in-DeskRestarts-clause-ok
 returns-in-DeskRestarts-clause-ok g c = λ db whole past of is clean sound so.
     let before = held g.D.DeskStore.kept g.S.SiteStore.kept c.args.machines.now in
     let after = held g.D.DeskStore.kept g.S.SiteStore.kept c.restart.new.self in
-    let entries = c.args.entries.now in
+    let entries = c.args.log.now.items in
     let kept = c.in-DeskRestarts.kept in
     let what = event.DeskRestarts kept in
     subst (λ (what : events.Event). IfOk c.by_desk-in-DeskRestarts.result (λ out. RunsOn db whole after (entries ++ entry_of what out ∷ []) past)) (sym c.in-DeskRestarts.is)

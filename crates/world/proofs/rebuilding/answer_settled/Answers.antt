@@ -46,5 +46,5 @@ returns-clause-answer g c = λ whole clean sound fit those fits.
     let brought = are_all_brought catalogue base c.leaf_names_are_unique.ensures stated reduced whole c.requires stated_fetches finds fits rows came in
     let Answers : List (List ℕ) × List SplitRelation → Type 0 = λ x. IsStatementOf (schemas_of (catalogue_of x)) stated → AreFetchesOf (catalogue_of x) stated reduced.fetches.items → FindsAll (catalogue_of x) stated reduced.fetches.items (shape reduced.plan) →
     IfOk c.answer.result (λ answer. (whole : Relations) → FitsSchema (schemas_of (catalogue_of x)) whole → AreBrought (catalogue_of x) whole reduced.fetches.items (given rows) → answer ≡ (meaning stated whole).0) in
-    let answers = subst Answers (c.catalog-3.ensures ∙ c.in_ok-brought.ensures.catalog ∙ c.in_ok-decided.ensures.catalog) c.answer.ensures in
+    let answers = subst Answers (c.catalog-3.ensures ∙ c.in_ok-brought.ensures.catalog ∙ c.in_ok-decided.ensures.catalog) c.answer.ensures.answer in
     if_ok c.answer.result (λ answer is. is whole fits brought) (answers c.requires stated_fetches finds)

@@ -1,4 +1,6 @@
 -- Why `do_one` meets its contract.
+use Rattle.std.proofs.Common.{refl}
+use Rattle.world.proofs.Reasoned.{named_tells}
 use Rattle.world.proofs.Moving.{on_err, seat_same, unchanged}
 use Rattle.world.specs.Seated.{seat_from}
 use Rattle.world.proofs.seats.do_one.Goals as goal
@@ -9,3 +11,7 @@ returns-in-Take-clause-err g c = λ clean sound.
     let old = c.args.site.now in
     let new = c.take_kept.new.self in
     on_err c.take_kept.result (λ table same. seat_same (seat_from kept old) (seat_from kept new) c.take_kept.ensures.name c.take_kept.ensures.leaves table (unchanged (kept old.store) (kept new.store) same)) c.take_kept.ensures.err (c.take_kept.ensures.same clean sound)
+
+pub returns-in-Take-clause-told : goal.returns-in-Take-clause-told
+returns-in-Take-clause-told g c = λ letter is called.
+    named_tells c.take_kept.result (seat_from g.S.SiteStore.kept c.args.site.now) c.args.site.now.present.locks.items letter c.in-Take.letter c.args.what c.in-Take.is is refl called c.take_kept.ensures.full c.take_kept.ensures.elsewhere

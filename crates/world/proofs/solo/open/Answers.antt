@@ -5,10 +5,14 @@ use Rattle.store.specs.PlainDesk.{kept_of as desk_kept}
 use Rattle.store.specs.PlainSite.{kept_of}
 use Rattle.world.specs.Base.{database}
 use Rattle.world.specs.Held.{held}
-use Rattle.world.proofs.BaseOpened.{opens_run}
+use Rattle.world.proofs.BaseOpened.{opens_quiet, opens_run}
 use Rattle.world.proofs.solo.open.Goals as goal
 
 pub returns-in-Ok-clause-served : goal.returns-in-Ok-clause-served
 returns-in-Ok-clause-served c = λ fits.
     let so = opens_run (catalogue_of c.args.catalog) c.args.whole.now (held desk_kept kept_of c.in-Ok.machines) c.database_is_of_catalogue.ensures.of_catalogue.formed fits (c.in-Ok.ensures.opens (database (catalogue_of c.args.catalog))) in
     record { reached = record { opening = so.opening; opens = so.opens; events = so.events; gone = []; is = so.is; explained = so.explained }; fit = so.fit }
+
+pub returns-in-Ok-clause-stands : goal.returns-in-Ok-clause-stands
+returns-in-Ok-clause-stands c = λ fits.
+    opens_quiet (catalogue_of c.args.catalog) c.args.whole.now (held desk_kept kept_of c.in-Ok.machines) c.database_is_of_catalogue.ensures.of_catalogue.formed fits (c.in-Ok.ensures.opens (database (catalogue_of c.args.catalog)))

@@ -1,7 +1,10 @@
 -- Why `at_site` meets its contract.
+use Rattle.std.proofs.Common.{◌≡◌, ◌∙◌, ap, sym, subst, Some}
 use Rattle.world.specs.Held.{held}
-use Rattle.world.specs.Seated.{seats_in}
-use Rattle.world.proofs.Machinery.{put_out_leads}
+use Rattle.world.specs.Machines.{is_for_site}
+use Rattle.world.specs.Seats.{seat_of}
+use Rattle.world.specs.Seated.{SomeSeatDoes, place_of, seats_in}
+use Rattle.world.proofs.Machinery.{put_out_leads, take_within}
 use Rattle.world.proofs.machines.Machines.at_site.Goals as goal
 
 pub returns-in-Ok-clause-ok : goal.returns-in-Ok-clause-ok
@@ -10,3 +13,13 @@ returns-in-Ok-clause-ok g c = λ db choice seat clean sound fit there.
     let out = c.put_out in
     put_out_leads db (held g.D.DeskStore.kept content c.args.self.now) seat (seats_in content c.do_among.new.sites.items) c.in-Ok.letters.items fit c.args.what choice c.requires (c.in-Ok.ensures.ok seat clean.1 sound.1 fit.sites there)
     out.result.kept out.result.letters out.result.replies out.ensures.kept out.ensures.letters out.ensures.replies
+
+pub returns-in-Ok-clause-within : goal.returns-in-Ok-clause-within
+returns-in-Ok-clause-within g c = λ db choice seat letter clean sound fit is there.
+    let content = g.S.SiteStore.kept in
+    let before = held g.D.DeskStore.kept content c.args.self.now in
+    let after = seats_in content c.do_among.new.sites.items in
+    let out = c.put_out in
+    let found : seat_of (place_of c.args.what) before.seats ≡ Some seat = ap (λ what. seat_of (place_of what) before.seats) is ∙ there in
+    let did = subst (λ what. SomeSeatDoes what seat before.seats after c.in-Ok.letters.items) is (c.in-Ok.ensures.ok seat clean.1 sound.1 fit.sites found) in
+    take_within db before seat after c.in-Ok.letters.items fit letter choice (sym (ap is_for_site is) ∙ c.requires) did out.result.kept out.ensures.kept

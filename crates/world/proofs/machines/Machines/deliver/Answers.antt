@@ -1,9 +1,11 @@
 -- Why `deliver` meets its contract.
-use Rattle.std.proofs.Common.{◌≡◌, nat_eq, true, [], sym, subst}
+use Rattle.std.proofs.Common.{◌≡◌, nat_eq, true, [], refl, sym, subst, ◌∙◌, IfErr}
 use Rattle.std.specs.Cmp.Lexicographic.{pointwise}
 use Rattle.std.specs.List.{list_any}
 use Rattle.meaning.specs.declared.answer.Answer.TheVariants.{Exists}
 use Rattle.world.specs.Held.{held}
+use Rattle.world.specs.Reasons.{Tells}
+use Rattle.world.proofs.machines.Machines.deliver.Goals.{in-Ok, in-Err}
 use Rattle.world.proofs.Seating.{seat_there}
 use Rattle.world.proofs.machines.Machines.deliver.Goals as goal
 
@@ -12,4 +14,19 @@ pub returns-in-Ok-at_site-clause-ok : goal.returns-in-Ok-at_site-clause-ok
 returns-in-Ok-at_site-clause-ok g c = λ db of is clean sound fit of_site.
     let name = c.args.letter.site in
     let seat = seat_there name (held g.D.DeskStore.kept g.S.SiteStore.kept c.args.self.now).seats (subst (λ names. list_any (λ site. pointwise nat_eq site name) names ≡ true) (sym fit.names) of_site) in
-    record { choice = (Exists, []); leads = c.in-Ok-at_site.ensures.ok db (Exists, []) seat.0 clean sound fit seat.1 }
+    record { choice = (Exists, []); within = c.in-Ok-at_site.ensures.within db (Exists, []) seat.0 c.args.letter clean sound fit refl seat.1; leads = c.in-Ok-at_site.ensures.ok db (Exists, []) seat.0 clean sound fit seat.1 }
+
+pub returns-then-not-is_order-clause-told : goal.returns-then-not-is_order-clause-told
+returns-then-not-is_order-clause-told g c = λ db of is fit of_site.
+    let before = held g.D.DeskStore.kept g.S.SiteStore.kept c.args.self.now in
+    let no_order = sym c.is_order.ensures ∙ c.if-not-is_order.true in
+    elim c.match-reply.branch [
+      | in-Ok w ↦ subst (λ result. IfErr result (Tells db before c.args.letter)) (sym w.result-is) tt
+      | in-Err w ↦ subst (λ result. IfErr result (Tells db before c.args.letter)) (sym w.result-is) (w.in-Err.ensures.told db of is fit no_order of_site)
+    ]
+
+pub returns-in-Err-at_site-clause-told : goal.returns-in-Err-at_site-clause-told
+returns-in-Err-at_site-clause-told g c = λ db of is fit of_site.
+    let name = c.args.letter.site in
+    let seat = seat_there name (held g.D.DeskStore.kept g.S.SiteStore.kept c.args.self.now).seats (subst (λ names. list_any (λ site. pointwise nat_eq site name) names ≡ true) (sym fit.names) of_site) in
+    (seat.0, (seat.1, c.in-Err-at_site.ensures.told c.args.letter seat.0 refl seat.1))

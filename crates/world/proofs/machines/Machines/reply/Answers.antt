@@ -3,6 +3,7 @@ use Rattle.desk.specs.State.{table_of}
 use Rattle.world.specs.Held.{held}
 use Rattle.world.proofs.Machinery.{reply_leads, reply_of}
 use Rattle.world.proofs.Moving.{if_ok}
+use Rattle.world.proofs.Reasoned.{desk_tells}
 use Rattle.world.proofs.machines.Machines.reply.Goals as goal
 
 pub returns-clause-ok : goal.returns-clause-ok
@@ -12,3 +13,9 @@ returns-clause-ok g c = λ db of is clean sound fit no_order of_site.
     let said = reply_of c.args.letter.now.body no_order in
     if_ok c.take_kept.result (λ out takes. reply_leads db before (g.D.DeskStore.kept new.store) (table_of new.present) c.args.letter.now said.0 said.1 out.kept out.letters out.replies fit takes)
     (c.take_kept.ensures.ok db said.0 of is clean.0 sound.0 fit.desk said.1 of_site)
+
+pub returns-clause-told : goal.returns-clause-told
+returns-clause-told g c = λ db of is fit no_order of_site.
+    let before = held g.D.DeskStore.kept g.S.SiteStore.kept c.args.self.now in
+    let said = reply_of c.args.letter.now.body no_order in
+    desk_tells db before c.args.letter.now c.take_kept.result said.0 said.1 no_order c.take_kept.ensures.own (c.take_kept.ensures.full db said.0 of is fit.desk said.1 of_site)

@@ -19,6 +19,7 @@ returns-clause-ok g c = λ db of is fit.
       statement = states.statement;
       choice = states.choice;
       spelled = states.spelled;
+      fits = states.fits;
       asked = asked_leads db before (g.D.DeskStore.kept new.store) (table_of new.present) c.args.txn states.choice (State states.statement) out.letters out.replies fit states.steps states.explained (accepted states.statement);
     }) (λ s. c.statement.ensures.accepted db s) (c.statement.ensures.ok db of is fit.desk)
 

@@ -5,7 +5,11 @@ use Rattle.catalog.specs.Relation.{catalogue_of}
 use Rattle.protocol.specs.Client.{ReachedLaw}
 use Rattle.desk.specs.Database.{language}
 use Rattle.desk.specs.OfCatalogue.{IsOfCatalogue}
-use Rattle.world.specs.Base.{database}
+use Rattle.world.specs.Base.{database, fits}
+use Rattle.world.specs.Held.{held}
+use Rattle.world.specs.Obeying.{ObeysUnlessRefused}
+use Rattle.world.proofs.Moving.{if_ok}
+use Rattle.world.proofs.Obeying.{obeys_of}
 use Rattle.world.proofs.solo.Solo.execute.Goals as goal
 
 pub returns-clause-served : goal.returns-clause-served
@@ -14,3 +18,13 @@ returns-clause-served g c = λ whole past clean sound served.
     (subst (λ (x : List (List ℕ) × List SplitRelation). IsOfCatalogue (database (catalogue_of x))) c.catalog.ensures c.database_is_of_catalogue.ensures.of_catalogue)
     (subst (λ (x : List (List ℕ) × List SplitRelation). ReachedLaw (language (database (catalogue_of x)))) c.catalog-2.ensures c.one_client_is_a_run.ensures)
     refl clean sound served
+
+pub returns-clause-obeyed : goal.returns-clause-obeyed
+returns-clause-obeyed g c = λ whole past going clean sound served stands.
+    let catalogue = catalogue_of c.args.self.now.machines.desk.catalog in
+    let before = held g.D.DeskStore.kept g.S.SiteStore.kept c.args.self.now.machines in
+    let after = held g.D.DeskStore.kept g.S.SiteStore.kept c.command-done.new.self.machines in
+    let of = subst (λ (x : List (List ℕ) × List SplitRelation). IsOfCatalogue (database (catalogue_of x))) c.catalog.ensures c.database_is_of_catalogue.ensures.of_catalogue in
+    let law = subst (λ (x : List (List ℕ) × List SplitRelation). ObeysUnlessRefused (database (catalogue_of x)) (fits (catalogue_of x))) c.catalog-3.ensures c.obeyed_unless_refused.ensures in
+    if_ok c.command-done.result (λ heard executes. obeys_of (database catalogue) (fits catalogue) law whole c.args.text.now before after past heard.items served c.args.self.now.current c.command-done.new.self.current stands executes)
+    (c.command-done.ensures.ok (database catalogue) of refl clean sound served.fit)

@@ -15,4 +15,4 @@ returns-clause-serial g c = λ whole past run.
     let db = database (catalogue_of c.args.self.now.machines.desk.catalog) in
     let machines = held g.D.DeskStore.kept g.S.SiteStore.kept c.args.self.now.machines in
     let entries = c.args.self.now.entries.items in
-    if_ok c.committed_in.result (λ all is. in_turn db whole machines entries all.items is (subst (λ x. RunsAreSerial (database (catalogue_of x))) c.catalog.ensures c.runs_are_serial.ensures whole machines entries past run)) (subst (λ es. IfOk c.committed_in.result (λ all. all.items ≡ map (committed_of es) (committed_in es))) c.as_slice.ensures.value c.committed_in.ensures)
+    if_ok c.committed_in.result (λ all is. in_turn db whole machines entries all.items is (subst (λ x. RunsAreSerial (database (catalogue_of x))) c.catalog.ensures c.runs_are_serial.ensures whole machines entries past run)) (subst (λ es. IfOk c.committed_in.result (λ all. all.items ≡ map (committed_of es) (committed_in es))) c.entries.ensures c.committed_in.ensures)

@@ -1,0 +1,259 @@
+-- A transaction of one client whose letters come smoothly: what its statements write is at the sites and keeps contents fitting, since it is what they mean.
+use Rattle.std.proofs.Common.{◌≡◌, refl, sym, ap, ◌∙◌, subst, ℕ, ◌||◌, ◌⊎◌, Bool, true, false, List, [], ◌∷◌, map, if◌then◌else◌, inl, inr, ⊎_elim, Option, Some, None, is_some}
+use Rattle.std.specs.List.{list_all}
+use Rattle.protocol.specs.Language.{Lang, IsLawful, Name, same}
+use Rattle.protocol.specs.Letter.{Body, Letter, Open, Fetch, Write, Prepare, Commit, Abort, Ticket, Rows, Refused, Voted, Ack, Inquire, is_for_desk}
+use Rattle.protocol.specs.Site.{Visit, Status, Dead, Alive, Prepared, SiteState}
+use Rattle.protocol.specs.Desk.{Ask, Choice, Stage, Idle, Reading, Writing, Voting, Undecided, Known, Unknown, Row, Txn, Turn, Deed, Stated, Worked, State, after_deed, desk_after, is_desk_within, is_named, is_undecided, on_desk_letter, on_known, on_request, on_rows, on_state, on_ticket, states, ticket_goes, visits, with_rows, works, writing}
+use Rattle.protocol.specs.World.{World, called, comes_to, turned, turns}
+use Rattle.protocol.specs.Client.{IsQuiet, IsReached, first, next}
+use Rattle.protocol.specs.Spots.{Spot, Unlocked, at, away, asked, offered, works as is_working}
+use Rattle.protocol.specs.Course.{AtSites, InStatement, Room, RoomOr, Stands, passes, passes_to}
+use Rattle.protocol.specs.Leaving.{Within}
+use Rattle.protocol.specs.Parts.{Work, In, work_in}
+use Rattle.protocol.specs.Fitting.{Fitting, StatusFits, Suits, TxnFits}
+use Rattle.protocol.specs.Smooth.{InCourse, IsHoused, Ready, Smooth, SmoothLaw}
+use Rattle.protocol.proofs.Basics.{Every, every_in, in_left, in_right, if_true, put_here, same_law, same_refl, some_is}
+use Rattle.protocol.proofs.Locks.{Once}
+use Rattle.protocol.proofs.Data.{untouched}
+use Rattle.protocol.proofs.Works as deeds
+use Rattle.protocol.proofs.OneClient.{quiet_rebuilt}
+use Rattle.protocol.proofs.Meant.{IsMeant, now_whole, reached_deep, works_meant}
+use Rattle.protocol.proofs.Overflow.{went_on}
+use Rattle.protocol.proofs.OneStatement.{statement_starts, statement_ends}
+use Rattle.protocol.proofs.Course.{begins_steady}
+use Rattle.protocol.proofs.Committing.{commit_starts, commit_goes_on, commit_ends}
+use Rattle.protocol.proofs.Transaction.{kept_commit}
+use Rattle.protocol.proofs.Fitting.{fitting_law}
+
+-- the same answer, and no writes
+abbrev bare : (L : Lang) → Choice L → Choice L
+bare L c = (c.0, [])
+
+-- no lock is no exclusive one
+none_touched : (a b : Bool) → (a || b) ≡ false → b ≡ false
+none_touched true b e = cc
+none_touched false b e = e
+
+module _ {L : Lang} where
+  -- whether a turn evaluates its statement with a choice: else it is the turn without writes
+  data Uses (t : Name) (u : Undecided L) (c : Choice L) (turn other : Turn L) : Type 0 where
+    uses_none : turn ≡ other → Uses t u c turn other
+    uses_it : (s : L.Statement) (asks : List (Ask L)) (v : Undecided L) → turn.txn ≡ Known v → v.ticket ≡ u.ticket → In (Worked t s asks c) turn.deeds → Uses t u c turn other
+
+  writing_known : (t : Name) (u : Undecided L) (answer : L.Answer) (sent : L.Site → ℕ) (left : List (L.Leaf × L.Write)) (letters : List (Letter L)) → (v : Undecided L) × (((writing t u answer sent left letters).txn ≡ Known v) × (v.ticket ≡ u.ticket))
+  writing_known t u answer sent [] letters = (_, (refl, refl))
+  writing_known t u answer sent (x ∷ left) letters = (_, (refl, refl))
+
+  works_use : (t : Name) (u : Undecided L) (s : L.Statement) (asks : List (Ask L)) (c : Choice L) (other : Turn L) → Uses t u c (works t u s asks c) other
+  works_use t u s asks c other = let known = writing_known t (visits u (map (λ w. w.0) c.1)) c.0 _ _ _ in uses_it s asks known.0 known.1.0 known.1.1 (inl refl)
+
+  module _ (t : Name) (u : Undecided L) (c : Choice L) where
+    states_use : (s : L.Statement) (asks : List (Ask L)) → Uses t u c (after_deed (Stated t s) (states t u s asks c)) (after_deed (Stated t s) (states t u s asks (bare L c)))
+    states_use s [] = go (works_use t u s [] c (works t u s [] (bare L c)))
+      where
+        go : Uses t u c (works t u s [] c) (works t u s [] (bare L c)) → Uses t u c (after_deed (Stated t s) (works t u s [] c)) (after_deed (Stated t s) (works t u s [] (bare L c)))
+        go (uses_none is) = uses_none (ap (after_deed (Stated t s)) is)
+        go (uses_it r asks v is ticket here) = uses_it r asks v is ticket (inr here)
+    states_use s (q ∷ qs) = uses_none refl
+
+    state_uses : (s : L.Statement) (stage : Stage L) → Uses t u c (on_state t u s c stage) (on_state t u s (bare L c) stage)
+    state_uses s Idle = states_use s _
+    state_uses s (Reading r asks) = uses_none refl
+    state_uses s (Writing answer ws) = uses_none refl
+    state_uses s (Voting votes) = uses_none refl
+
+    ticket_uses : (v : Undecided L) (stage : Stage L) → ticket_goes t v c stage ≡ ticket_goes t v (bare L c) stage
+    ticket_uses v Idle = refl
+    ticket_uses v (Reading r asks) = refl
+    ticket_uses v (Writing answer ws) = refl
+    ticket_uses v (Voting votes) = refl
+
+    first_ticket_uses : (a : L.Site) (k : Name) (tk : Option Name) → on_ticket t u a k c tk ≡ on_ticket t u a k (bare L c) tk
+    first_ticket_uses a k None = ticket_uses _ u.stage
+    first_ticket_uses a k (Some j) = refl
+
+    rows_use : (b : Bool) (s : L.Statement) (asks : List (Ask L)) (none : Turn L) → Uses t u c (if b then works t u s asks c else none) (if b then works t u s asks (bare L c) else none)
+    rows_use true s asks none = works_use t u s asks c _
+    rows_use false s asks none = uses_none refl
+
+    reads_use : (a : L.Site) (n : ℕ) (rows : L.Rows) (stage : Stage L) → Uses t u c (on_rows t u a n rows c stage) (on_rows t u a n rows (bare L c) stage)
+    reads_use a n rows (Reading s asks) = rows_use (list_all (λ q. is_some q.rows) (map (with_rows a n rows) asks)) s (map (with_rows a n rows) asks) _
+    reads_use a n rows Idle = uses_none refl
+    reads_use a n rows (Writing answer ws) = uses_none refl
+    reads_use a n rows (Voting votes) = uses_none refl
+
+    named_use : (b : Bool) (turn other none : Turn L) → Uses t u c turn other → Uses t u c (if b then turn else none) (if b then other else none)
+    named_use true turn other none uses = uses
+    named_use false turn other none uses = uses_none refl
+
+    letter_uses : (a : L.Site) (kept : Bool) (body : Body L) → Uses t u c (on_known t u a kept c body) (on_known t u a kept (bare L c) body)
+    letter_uses a kept (Ticket k) = uses_none (first_ticket_uses a k (u.ticket a))
+    letter_uses a kept (Rows k n rows) = named_use (is_named (u.ticket a) k) _ _ _ (reads_use a n rows u.stage)
+    letter_uses a kept (Refused k reason) = uses_none refl
+    letter_uses a kept (Voted k vote) = uses_none refl
+    letter_uses a kept (Inquire k) = uses_none refl
+    letter_uses a kept (Ack k) = uses_none refl
+    letter_uses a kept Open = uses_none refl
+    letter_uses a kept (Fetch k op g q) = uses_none refl
+    letter_uses a kept (Write k op g x) = uses_none refl
+    letter_uses a kept (Prepare k n) = uses_none refl
+    letter_uses a kept (Commit k) = uses_none refl
+    letter_uses a kept (Abort k) = uses_none refl
+
+  -- a deed that shows a work
+  in_works : (t : Name) (s : L.Statement) (asks : List (Ask L)) (c : Choice L) (past : List (Deed L)) → In (Worked t s asks c) past → In (record { statement = s; asks = asks; choice = c }) (deeds.works past t)
+  in_works t s asks c [] here = absurd here
+  in_works t s asks c (d ∷ past) (inl e) =
+      let x : Work L = record { statement = s; asks = asks; choice = c } in
+      in_left x (work_in t d) (deeds.works past t) (subst (λ d. In x (work_in t d)) e (subst (In x) (sym (if_true (same t t) (x ∷ []) [] (same_refl t))) (inl refl)))
+  in_works t s asks c (d ∷ past) (inr below) =
+      let x : Work L = record { statement = s; asks = asks; choice = c } in
+      in_right x (work_in t d) (deeds.works past t) (in_works t s asks c past below)
+
+  -- behind a ticket of a transaction that works stands its visit
+  spot_alive : (f : Name → Status L) (b : Bool) (tk : Option Name) (n : ℕ) (bs : List (Body L)) (k : Name) → Spot f b tk n bs → tk ≡ Some k → (v : Visit L) × (f k ≡ Alive v)
+  spot_alive f b tk n bs k (away x) is = let none = sym x.no_ticket ∙ is in cc
+  spot_alive f b tk n bs k (asked x) is = let none = sym x.no_ticket ∙ is in cc
+  spot_alive f b tk n bs k (offered j x) is = let none = sym x.no_ticket ∙ is in cc
+  spot_alive f b tk n bs k (is_working j x) is = (x.visit, ap f (some_is (sym is ∙ x.ticket)) ∙ x.alive)
+
+  room_or : (s : SiteState L) (body : Body L) → Room s body → RoomOr ⊥ s body
+  room_or s (Write k op g x) room = λ v is. inl (room v is)
+  room_or s Open room = tt
+  room_or s (Fetch k op g q) room = tt
+  room_or s (Prepare k n) room = tt
+  room_or s (Commit k) room = tt
+  room_or s (Abort k) room = tt
+  room_or s (Ticket k) room = tt
+  room_or s (Rows k n rows) room = tt
+  room_or s (Refused k reason) room = tt
+  room_or s (Voted k vote) room = tt
+  room_or s (Ack k) room = tt
+  room_or s (Inquire k) room = tt
+
+module _ {L : Lang} (law : IsLawful L) (once : Once L.sites) (fits : L.Leaf → L.Content → Bool) (housed : IsHoused L fits) where
+  -- what is written is at the sites, and keeps contents fitting
+  abbrev AreHoused : Choice L → Type 0
+  AreHoused c = AtSites L (map (λ x. x.0) c.1) × Every (Suits L fits) c.1
+
+  none_housed : (c : Choice L) → AreHoused (bare L c)
+  none_housed c = (λ g here. absurd here, tt)
+
+  meant_housed : (x : Work L) → IsMeant law x → AreHoused x.choice
+  meant_housed x is = (
+    subst (λ ws. AtSites L (map (λ y. y.0) ws)) (sym is.writes) (housed.written x.statement is.whole is.is_statement is.is_whole),
+    subst (Every (Suits L fits)) (sym is.writes) (housed.suits x.statement is.whole is.is_statement is.is_whole),
+  )
+
+  module _ (whole : L.Whole) where
+    -- a turn is that without writes, or its choice is housed
+    turn_housed : (w : World L) (t : Name) (u : Undecided L) (c : Choice L) (turn other : Turn L) → ((a : L.Site) (k : Name) → u.ticket a ≡ Some k → (v : Visit L) × ((w.sites a).status k ≡ Alive v)) →
+        is_desk_within (desk_after w.desk t turn.txn) ≡ true → Uses t u c turn other → IsReached whole (turns w t turn) → (turn ≡ other) ⊎ AreHoused c
+    turn_housed w t u c turn other alive within (uses_none is) reached = inl is
+    turn_housed w t u c turn other alive within (uses_it s asks v known ticket here) reached =
+        let there : IsReached whole (turned w t turn) = subst (IsReached whole) (if_true (is_desk_within (desk_after w.desk t turn.txn)) (turned w t turn) w within) reached in
+        let x : Work L = record { statement = s; asks = asks; choice = c } in
+        let meant = works_meant law whole (turned w t turn) there t v (put_here same same_law t turn.txn w.desk.txn ∙ known) (λ a k own. alive a k (ap (λ (f : L.Site → Option Name). f a) (sym ticket) ∙ own)) in
+        inr (meant_housed x (every_in (IsMeant law) (deeds.works (turned w t turn).past t) x meant (in_works t s asks c (turned w t turn).past (in_right (Worked t s asks c) w.past turn.deeds here))))
+
+    stands_alive : (t : Name) (u : Undecided L) (w : World L) → Stands t u w → (a : L.Site) (k : Name) → u.ticket a ≡ Some k → (v : Visit L) × ((w.sites a).status k ≡ Alive v)
+    stands_alive t u w stands a k own = spot_alive (w.sites a).status (u.visited a) (u.ticket a) (u.sent a) (at a w.letters) k (stands.spots a) own
+
+    -- a statement is accepted
+    module _ (w : World L) (t : Name) (s : L.Statement) (ready : Ready L fits t w) (is : L.IsStatement s) where
+      with_choice : (c : Choice L) → AreHoused c → is_desk_within (desk_after w.desk t (on_request t c (State s) (w.desk.txn t)).txn) ≡ true → InCourse L fits t s w.past (called w t c (State s))
+      with_choice c good within = record {
+        course = statement_starts law once t s w c ready.steady (housed.fetched s is) good.0 within;
+        fitting = (fitting_law law fits).asked w t c (State s) good.1 ready.fitting;
+      }
+
+      stated : (c : Choice L) → is_desk_within (desk_after w.desk t (on_request t c (State s) (w.desk.txn t)).txn) ≡ true → IsReached whole (called w t c (State s)) → InCourse L fits t s w.past (called w t c (State s))
+      stated c within reached = ⊎_elim
+          (λ same_. subst (λ (turn : Turn L). InCourse L fits t s w.past (turns w t turn)) (sym same_) (with_choice (bare L c) (none_housed c) (subst (λ (turn : Turn L). is_desk_within (desk_after w.desk t turn.txn) ≡ true) same_ within)))
+          (λ good. with_choice c good within)
+          (turn_housed w t ready.steady.u c (on_request t c (State s) (w.desk.txn t)) (on_request t (bare L c) (State s) (w.desk.txn t)) (stands_alive t ready.steady.u w ready.steady.stands) within
+          (subst (λ (x : Txn L). Uses t ready.steady.u c (on_request t c (State s) x) (on_request t (bare L c) (State s) x)) (sym ready.steady.known) (state_uses t ready.steady.u c s ready.steady.u.stage)) reached)
+
+    -- a letter of a statement comes
+    module _ (w : World L) (t : Name) (s : L.Statement) (before : List (Deed L)) (kept : Bool) (l : Letter L) (q : List (Letter L)) (e : w.letters ≡ l ∷ q) (within : Within w) (here : InCourse L fits t s before w) where
+      abbrev behind_it : World L
+      behind_it = record w { letters = q }
+
+      next_is : (c : Choice L) → next w kept c ≡ comes_to (is_for_desk l.body) behind_it kept c l
+      next_is c = ap (first w kept c) e
+
+      comes_with : (c : Choice L) → AreHoused c → Smooth w kept c l → InCourse L fits t s before (next w kept c)
+      comes_with c good smooth = record {
+        course = ⊎_elim (λ (at_ : InStatement t s before (next w kept c)). at_) (λ none. absurd none.0) (went_on law once ⊥ t s before w within kept c l q e (record {
+          is_kept = smooth.is_kept;
+          within = smooth.within;
+          room = room_or (w.sites l.site) l.body smooth.room;
+          fit = (fitting_law law fits).rows w l housed.rows here.fitting;
+          homes = good.0;
+        }) (inl here.course));
+        fitting = (fitting_law law fits).came w kept c good.1 here.fitting;
+      }
+
+      -- where the choice isn't used it may be that without writes
+      comes_bare : (c : Choice L) → comes_to (is_for_desk l.body) behind_it kept c l ≡ comes_to (is_for_desk l.body) behind_it kept (bare L c) l → passes w kept (bare L c) l ≡ true → Smooth w kept c l → InCourse L fits t s before (next w kept c)
+      comes_bare c same_ passes_ smooth = subst (InCourse L fits t s before) (sym (next_is c ∙ same_ ∙ sym (next_is (bare L c)))) (comes_with (bare L c) (none_housed c) (record { is_kept = smooth.is_kept; within = passes_; room = smooth.room }))
+
+      came : (c : Choice L) → Smooth w kept c l → IsReached whole (next w kept c) → InCourse L fits t s before (next w kept c)
+      came c smooth reached = go (is_for_desk l.body) refl (subst (IsReached whole) (next_is c) reached)
+        where
+          own : l.txn ≡ t
+          own = (subst (Every (λ (x : Letter L). x.txn ≡ t)) e here.course.stands.alone).0
+
+          turn_of : Choice L → Turn L
+          turn_of d = on_desk_letter l.txn l.site kept d l.body (w.desk.txn l.txn)
+
+          uses : Uses l.txn here.course.u c (turn_of c) (turn_of (bare L c))
+          uses = subst (λ (x : Txn L). Uses l.txn here.course.u c (on_desk_letter l.txn l.site kept c l.body x) (on_desk_letter l.txn l.site kept (bare L c) l.body x)) (sym (ap w.desk.txn own ∙ here.course.known)) (letter_uses l.txn here.course.u c l.site kept l.body)
+
+          go : (b : Bool) → is_for_desk l.body ≡ b → IsReached whole (comes_to (is_for_desk l.body) behind_it kept c l) → InCourse L fits t s before (next w kept c)
+          go false to_site there = comes_bare c (ap (λ b. comes_to b behind_it kept c l) to_site ∙ sym (ap (λ b. comes_to b behind_it kept (bare L c) l) to_site))
+              (ap (λ b. passes_to b w kept (bare L c) l) to_site ∙ sym (ap (λ b. passes_to b w kept c l) to_site) ∙ smooth.within) smooth
+          go true to_desk there =
+              let fits_in : is_desk_within (desk_after w.desk l.txn (turn_of c).txn) ≡ true = sym (ap (λ b. passes_to b w kept c l) to_desk) ∙ smooth.within in
+              ⊎_elim
+              (λ (same_ : turn_of c ≡ turn_of (bare L c)). comes_bare c (ap (λ b. comes_to b behind_it kept c l) to_desk ∙ ap (turns behind_it l.txn) same_ ∙ sym (ap (λ b. comes_to b behind_it kept (bare L c) l) to_desk))
+              (ap (λ b. passes_to b w kept (bare L c) l) to_desk ∙ ap (λ (x : Turn L). is_desk_within (desk_after w.desk l.txn x.txn)) (sym same_) ∙ fits_in) smooth)
+              (λ good. comes_with c good smooth)
+              (turn_housed behind_it l.txn here.course.u c (turn_of c) (turn_of (bare L c)) (stands_alive t here.course.u w here.course.stands) fits_in uses
+              (subst (λ b. IsReached whole (comes_to b behind_it kept c l)) to_desk there))
+
+    -- where all is quiet contents fit
+    quiet_fits : (w : World L) → IsReached whole w → IsQuiet w → Fitting L fits w
+    quiet_fits w reached quiet = record {
+      sites = λ a. record {
+        kept = λ g home. subst (λ b. fits g ((w.sites b).kept g) ≡ true) home (ap (fits g) (quiet_rebuilt law whole w reached quiet g) ∙ housed.contents _ (now_whole law whole w reached) g);
+        status = λ k. unlocked_fits a k ((w.sites a).status k) refl (quiet.calm a k);
+      };
+      letters = subst (Every _) (sym quiet.silent) tt;
+      txns = λ t. decided_fits (w.desk.txn t) (quiet.decided t);
+    }
+      where
+        unlocked_fits : (a : L.Site) (k : Name) (st : Status L) → (w.sites a).status k ≡ st → Unlocked st → StatusFits L fits st
+        unlocked_fits a k Dead is free = tt
+        unlocked_fits a k (Prepared t i) is free = absurd free
+        unlocked_fits a k (Alive v) is free = λ g c fit.
+            let deep = reached_deep law whole w reached in
+            let visit = (deep.2.base.data_at a).visits k v is in
+            ap (fits g) (untouched law visit.past v.changes g c visit.changes (none_touched (v.shared g) (L.touches g v.changes) (free g))) ∙ fit
+
+        decided_fits : (x : Txn L) → is_undecided x ≡ false → TxnFits L fits x
+        decided_fits Unknown is = tt
+        decided_fits (Known u) is = cc
+        decided_fits (Row voters acked) is = tt
+
+  pub smooth_law : SmoothLaw L fits
+  smooth_law = record {
+    begun = λ whole w reached quiet room. record { steady = begins_steady w quiet room; fitting = (fitting_law law fits).begun w (quiet_fits whole w reached quiet) };
+    stated = λ whole w t s choice ready is within reached. stated whole w t s ready is choice within reached;
+    came = λ whole w t s before kept choice l q e within smooth reached here. came whole w t s before kept l q e within here choice smooth reached;
+    answered = λ w t s before here silent. let done = statement_ends law once t s before w here.course silent in (record { steady = done.0; fitting = here.fitting }, done.1);
+    asked = λ w t choice ready within. commit_starts law once ⊥ t w.past w ready.steady choice within refl;
+    voted = λ w t before kept choice l q e within is committing. commit_goes_on law once ⊥ t before w l q e within kept choice (kept_commit law once kept l.body is) committing;
+    committed = λ w t before committing silent. let done = commit_ends law once ⊥ t before w committing silent in (done.0, ⊎_elim (λ is. is) (λ none. absurd none.0) done.1);
+  }

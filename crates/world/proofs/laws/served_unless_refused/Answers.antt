@@ -1,0 +1,8 @@
+-- Why a client's database serves unless something is refused.
+use Rattle.catalog.specs.Relation.{catalogue_of}
+use Rattle.world.specs.Base.{database, fits}
+use Rattle.world.proofs.Smoothly.{serves_unless_refused}
+use Rattle.world.proofs.laws.served_unless_refused.Goals as goal
+
+pub returns : goal.returns
+returns c = serves_unless_refused (database (catalogue_of c.args.catalog.now)) (fits (catalogue_of c.args.catalog.now)) c.served_smoothly.ensures
