@@ -1,12 +1,7 @@
-pub mod LineLaws
-pub mod MergeLaws
-pub mod RunLaws
-pub mod SmallLaws
 pub mod ScriptLemmas
 pub mod SoloLemmas
+pub mod ClientLemmas
 pub mod UsageLemmas
-pub mod GatherLaws
-pub mod ChangeLaws
 pub mod InputLemmas
 pub mod CatalogFileLemmas
 pub mod CheckLemmas

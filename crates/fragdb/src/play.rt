@@ -4,8 +4,9 @@ ghost use Rattle.std.specs.Prelude.{◌≡◌, ◌≤◌, ℕ, List, [], IfErr, 
 ghost use Rattle.std.specs.Io.KnownBytes.{Appends, Keeps};
 ghost use Rattle.catalog.specs.Relation.{catalogue_of};
 ghost use Rattle.fragdb.specs.Play.{IsPlayedOver, IsUnplayed, Plays, PlaysAll, PlaysFiles, PlaysOrStops, PlaysScript};
+ghost use Rattle.fragdb.specs.Input.{IsOfOutput};
 ghost use Rattle.fragdb.specs.Schedule.{IsCounted, stage_of};
-ghost use Rattle.fragdb.specs.Solo.{IsOfRun, longest};
+ghost use Rattle.fragdb.specs.Solo.{longest};
 
 use crate::catalog_file::{CatalogFault, read_catalog};
 use crate::fault::ProgramFault;
@@ -90,7 +91,7 @@ fn play_over<'a, W: Write>(
     output: &mut W,
 ) -> Result<(), ProgramFault<'a>>
     ensures ok { OnOk result (IsPlayedOver (catalogue_of catalog) items.now (W.contents output.old) (W.contents output.new)) }
-    ensures err { IfErr result IsOfRun }
+    ensures err { IfErr result IsOfOutput }
 {
     // Lists refuse for want of memory alone.
     let Ok(world) = open(alloc, catalog, whole) else {
@@ -115,7 +116,7 @@ fn play_items<'a, W: Write>(
     requires { IsCounted (stage_of schedule.old) }
     ensures ok { OnOk result ((told : List ℕ) × Appends (W.contents output.old) (W.contents output.new) told
         × PlaysAll (catalogue_of schedule.old.world.machines.desk.catalog) items.now (stage_of schedule.old) (stage_of schedule.new) told) }
-    ensures err { IfErr result IsOfRun }
+    ensures err { IfErr result IsOfOutput }
 {
     for placed in items {
         let told = play_item(alloc, schedule, &placed.item)?;
