@@ -1,4 +1,4 @@
-use Rattle.std.proofs.Common.{ap, ◌∙◌, string_bytes}
+use Rattle.std.proofs.Common.{ap, ◌∙◌}
 use Rattle.world.specs.Stopping.{stopped_by}
 use Rattle.fragdb.specs.Client.{heard_text, standing_of}
 use Rattle.fragdb.proofs.ClientLemmas.{goes_on, is_heard, is_turned_away, not_stopped, on_ok}

@@ -1,4 +1,4 @@
-use Rattle.std.proofs.Common.{ap, option_map, subst, ◌∙◌, string_bytes}
+use Rattle.std.proofs.Common.{ap, option_map, ◌∙◌}
 use Rattle.catalog.specs.Catalogue.{Catalogue}
 use Rattle.catalog.specs.Relation.{catalogue_of}
 use Rattle.fragdb.specs.Shown.{parts_text}

@@ -8,9 +8,7 @@ use Rattle.store.specs.PlainSite.{kept_of}
 use Rattle.world.specs.Base.{database}
 use Rattle.world.specs.Held.{held}
 use Rattle.world.specs.Serving.{IsServed}
-use Rattle.fragdb.specs.Client.{GoesOn, standing_of}
 use Rattle.fragdb.specs.PlayLoad.{emptied}
-use Rattle.fragdb.specs.Solo.{IsRun, no_rows}
 use Rattle.fragdb.proofs.ClientLemmas.{ran_from}
 use Rattle.fragdb.proofs.SoloLemmas.{emptied-fits}
 use Rattle.fragdb.proofs.solo.run.Goals as goal

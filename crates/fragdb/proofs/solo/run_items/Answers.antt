@@ -1,4 +1,4 @@
-use Rattle.std.proofs.Common.{◌≡◌, ◌++◌, ap, map, take, arith, is_ok, rules, string_bytes, subst, sym, true, ◌∙◌, List, ℕ}
+use Rattle.std.proofs.Common.{◌≡◌, ◌++◌, ap, map, take, arith, is_ok, rules, subst, sym, true, ◌∙◌, List, ℕ}
 use Rattle.std.specs.Io.KnownBytes.{Appends}
 use Rattle.std.proofs.lemmas.List.{take_all}
 use Rattle.fragdb.specs.declared.script.Item.{Item}
