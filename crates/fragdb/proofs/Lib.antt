@@ -13,3 +13,4 @@ pub mod PlayLoadLemmas
 pub mod DeliveringLemmas
 pub mod ShownLemmas
 pub mod PlayLemmas
+pub mod PerformLemmas
