@@ -1,12 +1,7 @@
-pub mod LineLaws
-pub mod MergeLaws
-pub mod RunLaws
-pub mod SmallLaws
 pub mod ScriptLemmas
 pub mod SoloLemmas
+pub mod ClientLemmas
 pub mod UsageLemmas
-pub mod GatherLaws
-pub mod ChangeLaws
 pub mod InputLemmas
 pub mod CatalogFileLemmas
 pub mod CheckLemmas
@@ -20,3 +15,4 @@ pub mod ShownLemmas
 pub mod ReachedLemmas
 pub mod LoadedLemmas
 pub mod PlayLemmas
+pub mod PerformLemmas

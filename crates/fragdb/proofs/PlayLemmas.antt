@@ -6,7 +6,7 @@ use Rattle.meaning.specs.Whole.{Relations}
 use Rattle.catalog.specs.Catalogue.{Catalogue}
 use Rattle.catalog.specs.FragmentLeaf.{schemas_of}
 use Rattle.fragdb.specs.declared.fault.ProgramFault.{ProgramFault}
-use Rattle.fragdb.specs.declared.fault.ProgramFault.TheVariants.{CannotRead, CannotWrite, Malformed, Memory, ScriptTooLong}
+use Rattle.fragdb.specs.declared.fault.ProgramFault.TheVariants.{CannotRead, CannotWrite, Malformed, Memory, ScriptTooLong, Store}
 use Rattle.fragdb.specs.declared.play_items.Placed.{Placed}
 use Rattle.fragdb.specs.declared.script.ScriptFault.{ScriptFault}
 use Rattle.fragdb.specs.declared.script.ScriptFault.TheVariants as script
@@ -14,9 +14,10 @@ use Rattle.fragdb.specs.Fault.{fault_of_script}
 use Rattle.fragdb.specs.Play.{IsPlayedOver, IsSound, Plays, PlaysAll, PlaysOrStops, PlaysScript}
 use Rattle.fragdb.specs.PlayItems.{items_of}
 use Rattle.fragdb.specs.PlayLoad.{IsMalformedAt}
+use Rattle.fragdb.specs.Input.{IsOfOutput}
 use Rattle.fragdb.specs.Schedule.{Stage}
 use Rattle.fragdb.specs.Script.{lines_of}
-use Rattle.fragdb.specs.Solo.{IsOfRun, longest}
+use Rattle.fragdb.specs.Solo.{longest}
 
 -- one item more, after others
 pub PlaysAll-more : (catalogue : Catalogue) (whole : Relations) (items : List Placed) (placed : Placed) (before middle after : Stage) (told more : List ℕ) → PlaysAll catalogue whole items before middle told → Plays catalogue whole placed.item middle after more →
@@ -44,12 +45,14 @@ unloaded catalogue text output (script.Malformed line) why = (why line refl, Kee
 unloaded catalogue text output script.Memory why = inr (Keeps-same output)
 
 -- a script that is loaded is played to its end, or stopped
-pub played : (catalogue : Catalogue) (text : List ℕ) (old new : Option (List ℕ)) (result : Result Unit ProgramFault) → (sound : IsSound catalogue text) → OnOk result (IsPlayedOver catalogue sound.0 (items_of (lines_of text)).0 old new) → IfErr result IsOfRun → PlaysOrStops catalogue text old new result
+pub played : (catalogue : Catalogue) (text : List ℕ) (old new : Option (List ℕ)) (result : Result Unit ProgramFault) → (sound : IsSound catalogue text) → OnOk result (IsPlayedOver catalogue sound.0 (items_of (lines_of text)).0 old new) → IfErr result IsOfOutput → PlaysOrStops catalogue text old new result
 played catalogue text old new (Ok done) sound ok err = record { sound = sound; played = ok }
 played catalogue text old new (Err Memory) sound ok err = inl sound
 played catalogue text old new (Err CannotWrite) sound ok err = sound
 played catalogue text old new (Err (CannotRead file)) sound ok (inl memory) = absurd (cc)
 played catalogue text old new (Err (CannotRead file)) sound ok (inr closed) = absurd (cc)
+played catalogue text old new (Err (Store why)) sound ok (inl memory) = absurd (cc)
+played catalogue text old new (Err (Store why)) sound ok (inr closed) = absurd (cc)
 played catalogue text old new (Err ScriptTooLong) sound ok (inl memory) = absurd (cc)
 played catalogue text old new (Err ScriptTooLong) sound ok (inr closed) = absurd (cc)
 played catalogue text old new (Err (Malformed line)) sound ok (inl memory) = absurd (cc)
@@ -67,4 +70,5 @@ played_of (Some bytes) catalogue file read old new result all short done = subst
     of_read (Err ScriptTooLong) h = absurd h
     of_read (Err (Malformed line)) h = (short, h)
     of_read (Err Memory) h = h
+    of_read (Err (Store why)) h = absurd h
     of_read (Err CannotWrite) h = h

@@ -12,12 +12,12 @@ use Rattle.fragdb.specs.declared.script.Item.{Item}
 use Rattle.fragdb.specs.declared.script.Item.TheVariants.{Statement, Show, Leaf}
 use Rattle.reader.specs.declared.class.Class.TheVariants.{Blank}
 use Rattle.reader.specs.Class.{is_in}
-use Rattle.fragdb.specs.Script.{Reading, Nothing, Unreadable, argument_of, first_unreadable, first_unreadable_from, is_unreadable, is_word, reading_of, reading_of_command, reading_of_statement, reading_of_text, task_of, tasks_of, tasks_of_lines}
+use Rattle.fragdb.specs.Script.{Reading, Nothing, Runs, Unreadable, argument_of, first_unreadable, first_unreadable_from, is_unreadable, is_word, reading_of, reading_of_command, reading_of_text, task_of, tasks_of, tasks_of_lines}
 
 -- a text's reading, by its first byte
 abbrev pub reading_by_first : Option ℕ → List ℕ → Reading
 reading_by_first None line = Nothing
-reading_by_first (Some byte) line = if byte == 35 then Nothing else (if byte == 46 then reading_of_command line else reading_of_statement line)
+reading_by_first (Some byte) line = if byte == 35 then Nothing else (if byte == 46 then reading_of_command line else Runs line)
 
 reading_of_text-first : (line : List ℕ) → reading_of_text line ≡ reading_by_first (slice_get line 0) line
 reading_of_text-first [] = refl
@@ -37,7 +37,7 @@ reading_of-bytes line h = rw (is_utf8-false line (is_utf8 line) refl h) refl
 pub reading_of-command : (line : List ℕ) → IsUtf8 line → slice_get line 0 ≡ Some 46 → reading_of line ≡ reading_of_command line
 reading_of-command line h e = reading_of-text line h ∙ ap (λ first. reading_by_first first line) e
 
-pub reading_of-statement : (line : List ℕ) (byte : ℕ) → IsUtf8 line → slice_get line 0 ≡ Some byte → byte ≢ 35 → byte ≢ 46 → reading_of line ≡ reading_of_statement line
+pub reading_of-statement : (line : List ℕ) (byte : ℕ) → IsUtf8 line → slice_get line 0 ≡ Some byte → byte ≢ 35 → byte ≢ 46 → reading_of line ≡ Runs line
 reading_of-statement line byte h e hash dot =
     reading_of-text line h ∙ ap (λ first. reading_by_first first line) e ∙ rw (ne_eqb byte 35 hash, ne_eqb byte 46 dot) refl
 

@@ -18,8 +18,7 @@ use Rattle.fragdb.specs.declared.catalog_file.CatalogFault.{CatalogFault}
 use Rattle.fragdb.specs.declared.catalog_file.CatalogFault.TheVariants.{Program, Refused}
 use Rattle.fragdb.specs.declared.fault.ProgramFault.TheVariants.{CannotWrite}
 use Rattle.fragdb.specs.CatalogFile.{IsCatalogueFile, IsFileOfNoneValid, RefusesFile}
-use Rattle.fragdb.specs.Input.{IsOfInput}
-use Rattle.fragdb.specs.Solo.{IsOfRun}
+use Rattle.fragdb.specs.Input.{IsOfInput, IsOfOutput}
 
 -- the columns of the relation of this name, none where it is not there
 abbrev pub columns_of : List RelationSchema → List ℕ → List Column
@@ -69,7 +68,7 @@ pub record IsChecked (old new : Option (List ℕ)) (bytes : List ℕ) : Type 0 w
 
 -- a fault of a write: memory ran out, or nobody reads
 abbrev pub IsWriteFault : CatalogFault → Type 0
-IsWriteFault (Program fault) = IsOfRun fault
+IsWriteFault (Program fault) = IsOfOutput fault
 IsWriteFault (Refused fault) = ⊥
 
 -- the check of a file of these bytes: all is said of it, or it is refused and nothing is said, or something stopped the check

@@ -1,8 +1,9 @@
 -- Why a command stops, in words.
 use Rattle.std.specs.Prelude.{ℕ, List, ◌++◌, codes}
 use Rattle.std.specs.Fmt.{decimal}
+use Rattle.store.specs.Fault.{fault_name, fault_number}
 use Rattle.fragdb.specs.declared.fault.ProgramFault.{ProgramFault}
-use Rattle.fragdb.specs.declared.fault.ProgramFault.TheVariants.{CannotRead, ScriptTooLong, Malformed, Memory, CannotWrite}
+use Rattle.fragdb.specs.declared.fault.ProgramFault.TheVariants.{CannotRead, ScriptTooLong, Malformed, Memory, Store, CannotWrite}
 use Rattle.fragdb.specs.declared.script.ScriptFault.{ScriptFault}
 use Rattle.fragdb.specs.declared.script.ScriptFault.TheVariants as script
 
@@ -12,6 +13,7 @@ fault_text (CannotRead file) = codes "cannot read " ++ file.now
 fault_text ScriptTooLong = codes "script too long"
 fault_text (Malformed line) = codes "line " ++ decimal line
 fault_text Memory = codes "out of memory"
+fault_text (Store fault) = codes "store " ++ decimal (fault_number fault) ++ codes " " ++ fault_name fault
 fault_text CannotWrite = codes "cannot write"
 
 abbrev pub fault_of_script : ScriptFault → ProgramFault

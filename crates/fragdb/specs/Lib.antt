@@ -1,8 +1,5 @@
 -- What the program keeps, in reading order: a line of a script, a whole script, a catalogue's file, the program.
-pub mod Item
-pub mod Small
 pub mod Reply
-pub mod Line
 pub mod Script
 pub mod Cut
 pub mod PlayScript
@@ -13,6 +10,7 @@ pub mod PlayText
 pub mod Schedule
 pub mod Delivering
 pub mod Shown
+pub mod Client
 pub mod Solo
 pub mod Play
 pub mod CatalogFile
@@ -23,6 +21,4 @@ pub mod Outcome
 pub mod Perform
 -- Helpers.
 pub mod Fault
-pub mod Gather
 pub mod Input
-pub mod Merge

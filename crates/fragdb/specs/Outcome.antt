@@ -3,7 +3,7 @@ use Rattle.std.specs.Prelude.{ℕ, List, [], ◌∷◌, ◌++◌, codes}
 use Rattle.catalog.specs.Fault as refusal
 use Rattle.reader.specs.Refusal as reading
 use Rattle.fragdb.specs.declared.fault.ProgramFault.{ProgramFault}
-use Rattle.fragdb.specs.declared.fault.ProgramFault.TheVariants.{CannotRead, ScriptTooLong, Malformed, Memory, CannotWrite}
+use Rattle.fragdb.specs.declared.fault.ProgramFault.TheVariants.{CannotRead, ScriptTooLong, Malformed, Memory, Store, CannotWrite}
 use Rattle.fragdb.specs.declared.outcome.Outcome.{Outcome}
 use Rattle.fragdb.specs.declared.outcome.Outcome.TheVariants.{Done, SomeRefused, Refused, RefusedStatement, Stopped}
 use Rattle.fragdb.specs.declared.outcome.Status.{Status}
@@ -14,14 +14,16 @@ abbrev pub code_of : Status → ℕ
 code_of status.Done = 0
 code_of status.Refused = 1
 code_of status.Usage = 2
+code_of status.Store = 3
 code_of status.Memory = 4
 
--- the status of a command that stopped: want of memory is told apart from all else
+-- the status of a command that stopped: want of memory and a store that failed are told apart from all else
 abbrev pub status_of_fault : ProgramFault → Status
 status_of_fault (CannotRead file) = status.Refused
 status_of_fault ScriptTooLong = status.Refused
 status_of_fault (Malformed line) = status.Refused
 status_of_fault Memory = status.Memory
+status_of_fault (Store fault) = status.Store
 status_of_fault CannotWrite = status.Refused
 
 abbrev pub status_of : Outcome → Status
@@ -41,6 +43,7 @@ stop_text (CannotRead file) = fault_line (CannotRead file)
 stop_text ScriptTooLong = fault_line ScriptTooLong
 stop_text (Malformed line) = fault_line (Malformed line)
 stop_text Memory = fault_line Memory
+stop_text (Store fault) = fault_line (Store fault)
 stop_text CannotWrite = []
 
 -- what is told of an outcome

@@ -14,31 +14,33 @@ use Rattle.fragdb.specs.declared.plan_text.PlanFault.TheVariants as plan
 use Rattle.fragdb.specs.Input.{IsOfInput}
 use Rattle.fragdb.specs.Plan.{PlansFile}
 use Rattle.fragdb.specs.Play.{PlaysFiles}
-use Rattle.fragdb.specs.Solo.{RunsScript}
+use Rattle.fragdb.specs.Solo.{RunsFiles}
 
 -- the file that a request names
 abbrev pub file_of : Request → Bor (List ℕ)
-file_of (Solo file) = file
+file_of (Solo name file) = file
 file_of (Check file) = file
 file_of (Plan file statement) = file
 file_of (Play name file) = file
 
 -- the file of a catalogue that a request names besides, if it names one
 abbrev pub catalog_of : Request → Option (Bor (List ℕ))
+catalog_of (Solo name file) = name
 catalog_of (Play name file) = name
 catalog_of _ = None
 
 -- whether a script is read from standard input
 abbrev pub is_of_input : Request → Bool
-is_of_input (Solo file) = bytes_eq file.now (codes "-")
+is_of_input (Solo name file) = bytes_eq file.now (codes "-")
 is_of_input (Play name file) = bytes_eq file.now (codes "-")
 is_of_input _ = false
 
 -- what the end of a script comes to, and that of a check
-abbrev pub outcome_of_script : Result Bool ProgramFault → Outcome
+abbrev pub outcome_of_script : Result Bool CatalogFault → Outcome
 outcome_of_script (Ok false) = Done
 outcome_of_script (Ok true) = SomeRefused
-outcome_of_script (Err fault) = Stopped fault
+outcome_of_script (Err (catalog.Refused fault)) = Refused fault
+outcome_of_script (Err (catalog.Program fault)) = Stopped fault
 
 abbrev pub outcome_of_check : Result Unit CatalogFault → Outcome
 outcome_of_check (Ok done) = Done
@@ -54,13 +56,13 @@ abbrev pub outcome_of_plan : Result Unit PlanFault → Outcome
 outcome_of_plan (Ok done) = Done
 outcome_of_plan (Err fault) = outcome_of_plan_fault fault
 
--- a script's outcome
-abbrev pub PerformsScript : Bor (List ℕ) → List ℕ → Option (List ℕ) → Option (List ℕ) → Outcome → Type 0
-PerformsScript file script old new Done = RunsScript file script old new (Ok false)
-PerformsScript file script old new SomeRefused = RunsScript file script old new (Ok true)
-PerformsScript file script old new (Refused fault) = ⊥
-PerformsScript file script old new (RefusedStatement fault) = ⊥
-PerformsScript file script old new (Stopped fault) = RunsScript file script old new (Err fault)
+-- the outcome of a script over the catalogue of a file
+abbrev pub PerformsSolo : Bor (List ℕ) → List ℕ → Bor (List ℕ) → List ℕ → Option (List ℕ) → Option (List ℕ) → Outcome → Type 0
+PerformsSolo name bytes file script old new Done = RunsFiles name bytes file script old new (Ok false)
+PerformsSolo name bytes file script old new SomeRefused = RunsFiles name bytes file script old new (Ok true)
+PerformsSolo name bytes file script old new (Refused fault) = RunsFiles name bytes file script old new (Err (catalog.Refused fault))
+PerformsSolo name bytes file script old new (RefusedStatement fault) = ⊥
+PerformsSolo name bytes file script old new (Stopped fault) = RunsFiles name bytes file script old new (Err (catalog.Program fault))
 
 -- a catalogue's outcome
 abbrev pub PerformsCheck : Bor (List ℕ) → List ℕ → Option (List ℕ) → Option (List ℕ) → Outcome → Type 0
@@ -86,14 +88,15 @@ PerformsPlayOf name bytes file script old new (Refused fault) = PlaysFiles name 
 PerformsPlayOf name bytes file script old new (RefusedStatement fault) = ⊥
 PerformsPlayOf name bytes file script old new (Stopped fault) = PlaysFiles name bytes file script old new (Err (catalog.Program fault))
 
--- the same of a request
-abbrev pub PerformsPlay : Request → Bor (List ℕ) → List ℕ → List ℕ → Option (List ℕ) → Option (List ℕ) → Outcome → Type 0
-PerformsPlay (Play given file) name bytes script old new outcome = PerformsPlayOf name bytes file script old new outcome
-PerformsPlay other name bytes script old new outcome = Unit
+-- the outcome of a request of a script, which is run or played over a catalogue
+abbrev pub PerformsOver : Request → Bor (List ℕ) → List ℕ → List ℕ → Option (List ℕ) → Option (List ℕ) → Outcome → Type 0
+PerformsOver (Solo given file) name bytes script old new outcome = PerformsSolo name bytes file script old new outcome
+PerformsOver (Play given file) name bytes script old new outcome = PerformsPlayOf name bytes file script old new outcome
+PerformsOver other name bytes script old new outcome = Unit
 
--- what is written from old to new, and the outcome, where the file has these bytes; of a play it is told apart
+-- what is written from old to new, and the outcome, where the file has these bytes; of a script it is told apart
 abbrev pub Performs : Request → List ℕ → Option (List ℕ) → Option (List ℕ) → Outcome → Type 0
-Performs (Solo file) bytes old new outcome = PerformsScript file bytes old new outcome
+Performs (Solo name file) bytes old new outcome = Unit
 Performs (Check file) bytes old new outcome = PerformsCheck file bytes old new outcome
 Performs (Plan file statement) bytes old new outcome = PerformsPlan file statement.now bytes old new outcome
 Performs (Play name file) bytes old new outcome = Unit
@@ -106,7 +109,7 @@ IsUnread file (Refused fault) = ⊥
 IsUnread file (RefusedStatement fault) = ⊥
 IsUnread file (Stopped fault) = IsOfInput file fault
 
--- an outcome of a play that was stopped, or whose catalogue was refused
+-- an outcome of a script that was stopped, or whose catalogue was refused
 abbrev pub IsStopped : Outcome → Type 0
 IsStopped Done = ⊥
 IsStopped SomeRefused = ⊥
@@ -114,9 +117,9 @@ IsStopped (Refused fault) = Unit
 IsStopped (RefusedStatement fault) = ⊥
 IsStopped (Stopped fault) = Unit
 
--- the outcome where the file that is asked for can't be opened; a play may be stopped by its catalogue before
+-- the outcome where the file that is asked for can't be opened; a script may be stopped by its catalogue before
 abbrev pub StopsUnread : Request → Outcome → Type 0
-StopsUnread (Solo file) outcome = IsUnread file outcome
+StopsUnread (Solo name file) outcome = IsStopped outcome
 StopsUnread (Check file) outcome = IsUnread file outcome
 StopsUnread (Plan file statement) outcome = IsUnread file outcome
 StopsUnread (Play name file) outcome = IsStopped outcome

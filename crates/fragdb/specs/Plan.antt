@@ -26,8 +26,7 @@ use Rattle.fragdb.specs.declared.plan_text.PlanFault.{PlanFault}
 use Rattle.fragdb.specs.declared.plan_text.PlanFault.TheVariants as plan
 use Rattle.fragdb.specs.CatalogFile.{IsCatalogueFile, RefusesFile}
 use Rattle.fragdb.specs.Check.{columns_of, names_of_columns, where_text}
-use Rattle.fragdb.specs.Input.{IsOfInput}
-use Rattle.fragdb.specs.Solo.{IsOfRun}
+use Rattle.fragdb.specs.Input.{IsOfInput, IsOfOutput}
 
 -- the name of a leaf's site, nothing where the leaf is not there
 abbrev pub site_text : List (List ℕ) → Option FragmentLeaf → List ℕ
@@ -72,7 +71,7 @@ IsOpenFault file bytes (plan.Statement fault) = ⊥
 
 -- a fault of a write
 abbrev pub IsPlanWriteFault : PlanFault → Type 0
-IsPlanWriteFault (plan.Program fault) = IsOfRun fault
+IsPlanWriteFault (plan.Program fault) = IsOfOutput fault
 IsPlanWriteFault (plan.Catalogue fault) = ⊥
 IsPlanWriteFault (plan.Statement fault) = ⊥
 

@@ -12,7 +12,7 @@ use Rattle.world.specs.Telling.{committed_in}
 use Rattle.fragdb.specs.declared.catalog_file.CatalogFault.{CatalogFault}
 use Rattle.fragdb.specs.declared.catalog_file.CatalogFault.TheVariants.{Program, Refused}
 use Rattle.fragdb.specs.declared.fault.ProgramFault.{ProgramFault}
-use Rattle.fragdb.specs.declared.fault.ProgramFault.TheVariants.{CannotRead, CannotWrite, Malformed, Memory, ScriptTooLong}
+use Rattle.fragdb.specs.declared.fault.ProgramFault.TheVariants.{CannotRead, CannotWrite, Malformed, Memory, ScriptTooLong, Store}
 use Rattle.fragdb.specs.declared.play_items.Placed.{Placed}
 use Rattle.fragdb.specs.declared.play_script.Item.{Item}
 use Rattle.fragdb.specs.declared.play_script.Item.TheVariants as item
@@ -78,6 +78,7 @@ abbrev pub StopsPlay : Catalogue → List ℕ → Option (List ℕ) → Option (
 StopsPlay catalogue script old new (Malformed line) = IsMalformedAt (schemas_of catalogue) (items_of (lines_of script)) line × Keeps old new
 StopsPlay catalogue script old new Memory = IsSound catalogue script ⊎ Keeps old new
 StopsPlay catalogue script old new CannotWrite = IsSound catalogue script
+StopsPlay catalogue script old new (Store why) = ⊥
 StopsPlay catalogue script old new (CannotRead name) = ⊥
 StopsPlay catalogue script old new ScriptTooLong = ⊥
 
@@ -92,6 +93,7 @@ StopsPlayOf catalogue file script old new (CannotRead name) = (name ≡ file) ×
 StopsPlayOf catalogue file script old new ScriptTooLong = (longest < length script) × Keeps old new
 StopsPlayOf catalogue file script old new (Malformed line) = (length script ≤ longest) × StopsPlay catalogue script old new (Malformed line)
 StopsPlayOf catalogue file script old new Memory = StopsPlay catalogue script old new Memory
+StopsPlayOf catalogue file script old new (Store why) = ⊥
 StopsPlayOf catalogue file script old new CannotWrite = StopsPlay catalogue script old new CannotWrite
 
 -- the script of a file was played to its end, or was stopped

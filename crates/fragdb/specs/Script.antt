@@ -3,19 +3,16 @@ use Rattle.std.specs.Prelude.{ℕ, ◌+◌, ◌==◌, ◌&&◌, Bool, true, fals
 use Rattle.std.specs.List.{list_any, slice_split, starts_with}
 use Rattle.std.specs.Str.{is_utf8}
 use Rattle.reader.specs.declared.class.Class.TheVariants.{Blank}
-use Rattle.reader.specs.declared.keyword.Keyword.{Keyword}
-use Rattle.reader.specs.declared.keyword.Keyword.TheVariants.{Begin, Commit, Rollback}
-use Rattle.reader.specs.Alone.{keyword_alone}
 use Rattle.reader.specs.Class.{is_in}
 use Rattle.fragdb.specs.declared.script.Item.{Item}
 use Rattle.fragdb.specs.declared.script.Item.TheVariants.{Statement, Show, Leaf}
 use Rattle.fragdb.specs.declared.script.Line.{Line}
 use Rattle.fragdb.specs.declared.script.Line.TheVariants.{PassedOver, Asks, Malformed}
 
--- what one line says: nothing, a statement to run, a relation or a leaf to show, or nothing that can be read
+-- what one line says: nothing, a command to execute, a relation or a leaf to show, or nothing that can be read
 pub data Reading : Type 0 where
   Nothing : Reading
-  Runs : (statement : List ℕ) → Reading
+  Runs : (command : List ℕ) → Reading
   ShowsRelation : (name : List ℕ) → Reading
   ShowsLeaf : (name : List ℕ) → Reading
   Unreadable : Reading
@@ -44,22 +41,11 @@ reading_of_command line =
     reading_of_argument (argument_of line (codes ".show ")) ShowsRelation
     (reading_of_argument (argument_of line (codes ".leaf ")) ShowsLeaf Unreadable)
 
--- whether a keyword begins or ends a transaction
-abbrev pub is_transaction : Option Keyword → Bool
-is_transaction (Some Begin) = true
-is_transaction (Some Commit) = true
-is_transaction (Some Rollback) = true
-is_transaction _ = false
-
--- a line of a statement; while there are no transactions of several statements, none can begin or end
-abbrev pub reading_of_statement : List ℕ → Reading
-reading_of_statement line = if is_transaction (keyword_alone line) then Unreadable else Runs line
-
 -- a line of text: an empty one and a comment (35 is '#') say nothing, and 46 is the dot of a command
 abbrev pub reading_of_text : List ℕ → Reading
 reading_of_text [] = Nothing
 reading_of_text (byte ∷ bytes) =
-    if byte == 35 then Nothing else (if byte == 46 then reading_of_command (byte ∷ bytes) else reading_of_statement (byte ∷ bytes))
+    if byte == 35 then Nothing else (if byte == 46 then reading_of_command (byte ∷ bytes) else Runs (byte ∷ bytes))
 
 -- a line of any bytes
 abbrev pub reading_of : List ℕ → Reading

@@ -1,17 +1,28 @@
 -- Which scripts run.
-use Rattle.std.specs.Prelude.{if◌then◌else◌, bytes_eq, unwrap_or, option_map, ◌∷◌, ◌++◌, [], Bool, codes, flat_map, map, ◌≡◌, ℕ, ◌≤◌, ◌<◌, ◌⊎◌, List, Option, Some, None, Result, Ok, Err, length}
-use Rattle.fragdb.specs.declared.fault.ProgramFault.{ProgramFault}
-use Rattle.fragdb.specs.declared.fault.ProgramFault.TheVariants.{CannotRead, CannotWrite, Malformed, Memory, ScriptTooLong}
+use Rattle.std.specs.Prelude.{Bool, ◌≡◌, ◌≤◌, ◌<◌, ◌⊎◌, ℕ, List, [], ◌∷◌, flat_map, length, map, Option, Some, None, Result, Ok, Err}
 use Rattle.std.specs.Borrow.{Bor}
+use Rattle.std.specs.FinMap as finite
 use Rattle.std.specs.Io.KnownBytes.{Appends, Keeps}
 use Rattle.std.specs.List.{list_any}
-use Rattle.terms.specs.declared.value.Value.{Value}
-use Rattle.meaning.specs.Relation.{IsRelation}
-use Rattle.catalog.specs.Fragment.{Rebuilds}
-use Rattle.fragdb.specs.Item.{item_kinds, item_leaves, item_name}
-use Rattle.fragdb.specs.Line.{AnswersLine, leaf_named, rows_text}
-use Rattle.fragdb.specs.Reply.{Told, Answered, Refused, is_refusal, text_of}
-use Rattle.fragdb.specs.Script.{Reading, Nothing, Runs, ShowsRelation, ShowsLeaf, Unreadable, first_unreadable, lines_of, tasks_of_lines}
+use Rattle.meaning.specs.Whole.{Relations}
+use Rattle.catalog.specs.Catalogue.{Catalogue, IsValidCatalogue}
+use Rattle.catalog.specs.FragmentLeaf.{schemas_of}
+use Rattle.protocol.specs.Desk.{Deed}
+use Rattle.protocol.specs.Serial.{IsSerial}
+use Rattle.desk.specs.Database.{language}
+use Rattle.world.specs.Base.{database}
+use Rattle.world.specs.Machines.{Machines, world_of}
+use Rattle.world.specs.Serving.{IsServed}
+use Rattle.fragdb.specs.declared.catalog_file.CatalogFault.{CatalogFault}
+use Rattle.fragdb.specs.declared.catalog_file.CatalogFault.TheVariants.{Program, Refused}
+use Rattle.fragdb.specs.declared.fault.ProgramFault.{ProgramFault}
+use Rattle.fragdb.specs.declared.fault.ProgramFault.TheVariants.{CannotRead, CannotWrite, Malformed, Memory, ScriptTooLong, Store}
+use Rattle.fragdb.specs.CatalogFile.{IsCatalogueFile, RefusesFile}
+use Rattle.fragdb.specs.Client.{AnswersTask, IsOfClient, Standing}
+use Rattle.fragdb.specs.Input.{IsOfInput}
+use Rattle.fragdb.specs.PlayLoad.{emptied}
+use Rattle.fragdb.specs.Reply.{Told, is_refusal, text_of}
+use Rattle.fragdb.specs.Script.{Reading, first_unreadable, lines_of, tasks_of_lines}
 
 -- how many bytes a script may have
 abbrev pub longest : ℕ
@@ -24,69 +35,67 @@ pub record IsAccepted (script : List ℕ) : Type 0 where
 
 -- a fault that may come once the script runs
 abbrev pub IsOfRun : ProgramFault → Type 0
-IsOfRun fault = (fault ≡ Memory) ⊎ (fault ≡ CannotWrite)
+IsOfRun fault = IsOfClient fault ⊎ (fault ≡ CannotWrite)
 
 -- a fault that may come while the script is read from this file
 abbrev pub IsOfRead : Bor (List ℕ) → ProgramFault → Type 0
 IsOfRead file fault = (fault ≡ Memory) ⊎ ((fault ≡ ScriptTooLong) ⊎ (fault ≡ CannotRead file))
 
--- the lists of the two leaves
-abbrev pub Lists : Type 0
-Lists = List (List (List Value))
-
--- no row in either list
-abbrev pub no_rows : Lists
-no_rows = [] ∷ [] ∷ []
-
--- what is shown of a relation with these rows, and of a leaf
-abbrev pub relation_text : List ℕ → List (List Value) → List ℕ
-relation_text name rows = if bytes_eq name item_name then rows_text rows else codes "no relation " ++ name
-
-abbrev pub leaf_text : List ℕ → Lists → List ℕ
-leaf_text name lists = unwrap_or (option_map rows_text (leaf_named lists name)) (codes "no leaf " ++ name)
-
--- what a task is answered by, and the lists after it
-abbrev pub AnswersTask : Reading → Lists → Lists → Told → Type 0
-AnswersTask Nothing old new told = ⊥
-AnswersTask (Runs text) old new told = AnswersLine text old new told
-AnswersTask (ShowsRelation name) old new (Answered line) =
-    (new ≡ old) × ((rows : List (List Value)) → IsRelation item_kinds rows → Rebuilds item_leaves old rows → line ≡ relation_text name rows)
-AnswersTask (ShowsRelation name) old new (Refused line) = ⊥
-AnswersTask (ShowsLeaf name) old new (Answered line) = (new ≡ old) × (line ≡ leaf_text name old)
-AnswersTask (ShowsLeaf name) old new (Refused line) = ⊥
-AnswersTask Unreadable old new told = ⊥
-
 -- tasks, one after another, with the answer to each
-abbrev pub AnswersTasks : List (Reading × Told) → Lists → Lists → Type 0
-AnswersTasks [] old new = new ≡ old
-AnswersTasks (first ∷ others) old new = (middle : Lists) × AnswersTask first.0 old middle first.1 × AnswersTasks others middle new
+abbrev pub AnswersTasks : Catalogue → List (Reading × Told) → Standing → Standing → Type 0
+AnswersTasks catalogue [] before after = after ≡ before
+AnswersTasks catalogue (first ∷ others) before after = (middle : Standing) × AnswersTask catalogue first.0 before middle first.1 × AnswersTasks catalogue others middle after
 
--- What a run over the empty relation may write, whether a statement was refused, and the lists that it leaves:
--- one answer to each task, in order, each with a line feed after it.
-pub record IsRun (tasks : List Reading) (written : List ℕ) (any_refused : Bool) (lists : Lists) : Type 0 where
+-- What tasks come to from where a client stands: one answer to each, in order, all of which is written, and whether a line was refused.
+pub record IsWork (catalogue : Catalogue) (tasks : List Reading) (written : List ℕ) (any_refused : Bool) (before after : Standing) : Type 0 where
   pub answers : List (Reading × Told)
   pub in_order : map (λ p. p.0) answers ≡ tasks
-  pub answered : AnswersTasks answers no_rows lists
-  pub lines : written ≡ flat_map (λ p. text_of p.1 ++ 10 ∷ []) answers
+  pub answered : AnswersTasks catalogue answers before after
+  pub lines : written ≡ flat_map (λ p. text_of p.1) answers
   pub refused : any_refused ≡ list_any (λ p. is_refusal p.1) answers
 
+-- the relations of a catalogue, with no row
+abbrev pub no_rows : Catalogue → Relations
+no_rows catalogue = emptied (schemas_of catalogue) finite.empty
+
+-- The machines stand after a run of the protocol over relations without rows, and the serial law holds of it: the committed
+-- transactions, one after another over whole relations, give the answers that were given, and what the settled fragments rebuild.
+pub record IsSerialRun (catalogue : Catalogue) (machines : Machines) : Type 0 where
+  pub past : List (Deed (language (database catalogue)))
+  pub served : IsServed (database catalogue) (no_rows catalogue) machines past
+  pub serial : IsSerial (no_rows catalogue) (world_of (database catalogue) machines [] past)
+
+-- a database that was opened over relations without rows: nothing has happened, and no transaction has begun
+pub record IsOpened (catalogue : Catalogue) (standing : Standing) : Type 0 where
+  pub served : IsServed (database catalogue) (no_rows catalogue) standing.machines []
+  pub idle : standing.current ≡ None
+
+-- a run of tasks from the opening to its end
+pub record IsRun (catalogue : Catalogue) (tasks : List Reading) (written : List ℕ) (any_refused : Bool) : Type 0 where
+  pub opening : Standing
+  pub opened : IsOpened catalogue opening
+  pub end : Standing
+  pub work : IsWork catalogue tasks written any_refused opening end
+  pub serial : IsSerialRun catalogue end.machines
+
 -- a script that may run has run to its end, and all that its lines are answered by was written
-abbrev pub HasRun : List ℕ → Option (List ℕ) → Option (List ℕ) → Bool → Type 0
-HasRun script old new any_refused =
-    IsAccepted script × ((written : List ℕ) × Appends old new written × ((lists : Lists) × IsRun (tasks_of_lines (lines_of script)) written any_refused lists))
+abbrev pub HasRun : Catalogue → List ℕ → Option (List ℕ) → Option (List ℕ) → Bool → Type 0
+HasRun catalogue script old new any_refused =
+    IsAccepted script × ((written : List ℕ) × Appends old new written × IsRun catalogue (tasks_of_lines (lines_of script)) written any_refused)
 
 -- what stopped a script, of which all bytes were read
 abbrev pub StopsRun : List ℕ → Option (List ℕ) → Option (List ℕ) → ProgramFault → Type 0
 StopsRun script old new (Malformed line) = (first_unreadable (lines_of script) ≡ Some line) × Keeps old new
 StopsRun script old new Memory = ¬ (IsAccepted script) → Keeps old new
+StopsRun script old new (Store why) = IsAccepted script
 StopsRun script old new CannotWrite = IsAccepted script
 StopsRun script old new (CannotRead name) = ⊥
 StopsRun script old new ScriptTooLong = ⊥
 
 -- a script that is short enough ran to its end, or was stopped
-abbrev pub RunsOrStops : List ℕ → Option (List ℕ) → Option (List ℕ) → Result Bool ProgramFault → Type 0
-RunsOrStops script old new (Ok any_refused) = HasRun script old new any_refused
-RunsOrStops script old new (Err fault) = StopsRun script old new fault
+abbrev pub RunsOrStops : Catalogue → List ℕ → Option (List ℕ) → Option (List ℕ) → Result Bool ProgramFault → Type 0
+RunsOrStops catalogue script old new (Ok any_refused) = HasRun catalogue script old new any_refused
+RunsOrStops catalogue script old new (Err fault) = StopsRun script old new fault
 
 -- what stopped the script of this file
 abbrev pub StopsScript : Bor (List ℕ) → List ℕ → Option (List ℕ) → Option (List ℕ) → ProgramFault → Type 0
@@ -94,9 +103,23 @@ StopsScript file script old new (CannotRead name) = (name ≡ file) × Keeps old
 StopsScript file script old new ScriptTooLong = (longest < length script) × Keeps old new
 StopsScript file script old new (Malformed line) = (length script ≤ longest) × (first_unreadable (lines_of script) ≡ Some line) × Keeps old new
 StopsScript file script old new Memory = ¬ (IsAccepted script) → Keeps old new
+StopsScript file script old new (Store why) = IsAccepted script
 StopsScript file script old new CannotWrite = IsAccepted script
 
 -- the script of a file ran to its end, or was stopped
-abbrev pub RunsScript : Bor (List ℕ) → List ℕ → Option (List ℕ) → Option (List ℕ) → Result Bool ProgramFault → Type 0
-RunsScript file script old new (Ok any_refused) = HasRun script old new any_refused
-RunsScript file script old new (Err fault) = StopsScript file script old new fault
+abbrev pub RunsScript : Catalogue → Bor (List ℕ) → List ℕ → Option (List ℕ) → Option (List ℕ) → Result Bool ProgramFault → Type 0
+RunsScript catalogue file script old new (Ok any_refused) = HasRun catalogue script old new any_refused
+RunsScript catalogue file script old new (Err fault) = StopsScript file script old new fault
+
+-- these bytes are of a valid catalogue, over which the script of this file ran to its end, or was stopped
+pub record IsRunOf (bytes : List ℕ) (file : Bor (List ℕ)) (script : List ℕ) (old new : Option (List ℕ)) (result : Result Bool ProgramFault) : Type 0 where
+  pub catalogue : Catalogue
+  pub text : IsCatalogueFile bytes catalogue
+  pub valid : IsValidCatalogue catalogue
+  pub ran : RunsScript catalogue file script old new result
+
+-- The run of a script over a catalogue, each the bytes of a file. The catalogue is looked at first, and where it is none nothing is written.
+abbrev pub RunsFiles : Bor (List ℕ) → List ℕ → Bor (List ℕ) → List ℕ → Option (List ℕ) → Option (List ℕ) → Result Bool CatalogFault → Type 0
+RunsFiles catalog bytes file script old new (Ok any_refused) = IsRunOf bytes file script old new (Ok any_refused)
+RunsFiles catalog bytes file script old new (Err (Refused fault)) = RefusesFile bytes fault.relation fault.rule × Keeps old new
+RunsFiles catalog bytes file script old new (Err (Program fault)) = (IsOfInput catalog fault × Keeps old new) ⊎ IsRunOf bytes file script old new (Err fault)

@@ -26,11 +26,11 @@ command_with_two name first second = with_rule (command_with name first) (argume
 abbrev pub option_argument : Text → Text → Rule
 option_argument name word = record (new_rule name) { long = Some word }
 
--- the command `play [--catalog FILE] SCRIPT`
-abbrev pub play : App
-play = with_rule (with_rule (new_app (codes "play")) (option_argument (codes "CATALOG") (codes "catalog"))) (argument (codes "SCRIPT"))
+-- a command `NAME [--catalog FILE] SCRIPT`
+abbrev pub of_script : Text → App
+of_script name = with_rule (with_rule (new_app name) (option_argument (codes "CATALOG") (codes "catalog"))) (argument (codes "SCRIPT"))
 
--- the command line's grammar: `fragdb solo SCRIPT`, `fragdb check CATALOG`, `fragdb plan CATALOG STATEMENT` and `play`
+-- the command line's grammar: `fragdb solo`, `fragdb check CATALOG`, `fragdb plan CATALOG STATEMENT` and `fragdb play`
 abbrev pub program : App
 program = record {
   top = record (new_shape (codes "fragdb")) { has_version = true; subcommand_required = true };
@@ -39,8 +39,8 @@ program = record {
 
 abbrev pub usage : App
 usage =
-    with_subcommand (with_subcommand (with_subcommand (with_subcommand program (command_with (codes "solo") (codes "SCRIPT")).top) (command_with (codes "check") (codes "CATALOG")).top)
-    (command_with_two (codes "plan") (codes "CATALOG") (codes "STATEMENT")).top) play.top
+    with_subcommand (with_subcommand (with_subcommand (with_subcommand program (of_script (codes "solo")).top) (command_with (codes "check") (codes "CATALOG")).top)
+    (command_with_two (codes "plan") (codes "CATALOG") (codes "STATEMENT")).top) (of_script (codes "play")).top
 
 -- the words name this command, and give it these arguments, each under its name; none stands for one that is not given
 pub record IsGiven (words : List Text) (request : Text × List (Text × Option Text)) : Type 0 where
@@ -50,7 +50,7 @@ pub record IsGiven (words : List Text) (request : Text × List (Text × Option T
 
 -- a request in words: the command, and its arguments, each with its name
 abbrev pub asked : Request → Text × List (Text × Option Text)
-asked (Solo script) = (codes "solo", (codes "SCRIPT", Some script.now) ∷ [])
+asked (Solo catalog script) = (codes "solo", (codes "CATALOG", option_map (λ file. file.now) catalog) ∷ (codes "SCRIPT", Some script.now) ∷ [])
 asked (Check catalog) = (codes "check", (codes "CATALOG", Some catalog.now) ∷ [])
 asked (Plan catalog statement) = (codes "plan", (codes "CATALOG", Some catalog.now) ∷ (codes "STATEMENT", Some statement.now) ∷ [])
 asked (Play catalog script) = (codes "play", (codes "CATALOG", option_map (λ file. file.now) catalog) ∷ (codes "SCRIPT", Some script.now) ∷ [])

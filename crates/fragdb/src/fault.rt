@@ -9,6 +9,7 @@ use crate::script::ScriptFault;
 use std::alloc::AllocError;
 use std::io::ErrorKind;
 use std::{fmt, io};
+use store::fault::StoreFault;
 use terms::memory::Memory;
 
 /// Why a command stops before its end.
@@ -22,6 +23,8 @@ pub enum ProgramFault<'a> {
     Malformed { line: usize },
     /// Memory ran out.
     Memory,
+    /// A store failed, for another reason than memory.
+    Store { fault: StoreFault },
     /// Whoever reads the output has gone.
     CannotWrite,
 }
@@ -59,6 +62,7 @@ impl fmt::Display for ProgramFault<'_> {
             ProgramFault::ScriptTooLong => f.write_str("script too long"),
             ProgramFault::Malformed { line } => write!(f, "line {line}"),
             ProgramFault::Memory => f.write_str("out of memory"),
+            ProgramFault::Store { fault } => write!(f, "store {} {fault}", fault.number()),
             ProgramFault::CannotWrite => f.write_str("cannot write"),
         }
     }

@@ -1,22 +1,18 @@
-//! fragdb: a relational database in fragments. `fragdb solo SCRIPT` runs a script over the built-in
-//! catalogue, one statement at a time; `fragdb check CATALOG` checks a catalogue and lists its fragments.
+//! fragdb: a relational database in fragments. `fragdb solo SCRIPT` runs a script over a catalogue, one
+//! command at a time; `fragdb check CATALOG` checks a catalogue and lists its fragments.
 //!
-//! The contracts that carry it: `small::Small::line` answers a text by its statement's meaning over
-//! the whole relation that the two lists rebuild, and `perform::perform` says what is written and what
-//! comes of each request.
+//! The contract that carries it is that of `perform::perform`: what is written and what comes of each request.
 #![tactic(auto)]
 
+mod built_in;
 mod cast;
 mod catalog_file;
-mod change;
 mod check;
+mod client;
 mod cut;
 mod delivering;
 mod fault;
-mod gather;
 mod input;
-mod item;
-mod merge;
 mod outcome;
 mod perform;
 mod plan_text;
@@ -29,12 +25,11 @@ mod reply;
 mod schedule;
 mod script;
 mod shown;
-mod small;
 mod solo;
 mod usage;
 
+use crate::built_in::{BUILT_IN, BUILT_IN_NAME};
 use crate::fault::ProgramFault;
-use crate::item::{BUILT_IN, BUILT_IN_NAME};
 use crate::outcome::{Outcome, Status, exit};
 use crate::perform::perform;
 use crate::usage::{Request, read_words, show_usage, unreadable_words};
@@ -73,7 +68,7 @@ fn run(rt: &HostRuntime) -> Status {
     exit(&mut errors, &outcome)
 }
 
-/// Opens the file that a request names, and does what it asks for, over this catalogue where it plays a script.
+/// Opens the file that a request names, and does what it asks for, over this catalogue where it runs or plays a script.
 fn perform_over<'a, C: Read + Drop, W: Write>(
     rt: &HostRuntime,
     request: Request<'a>,

@@ -34,6 +34,8 @@ pub enum Status {
     Refused,
     /// The command line has a mistake.
     Usage,
+    /// A store failed.
+    Store,
     /// Memory ran out.
     Memory,
 }
@@ -47,6 +49,7 @@ impl Status {
             Status::Done => 0,
             Status::Refused => 1,
             Status::Usage => 2,
+            Status::Store => 3,
             Status::Memory => 4,
         }
     }
@@ -60,6 +63,7 @@ impl Outcome<'_> {
         match self {
             Outcome::Done => Status::Done,
             Outcome::Stopped(ProgramFault::Memory) => Status::Memory,
+            Outcome::Stopped(ProgramFault::Store { .. }) => Status::Store,
             Outcome::SomeRefused
             | Outcome::Refused(_)
             | Outcome::RefusedStatement(_)
@@ -88,7 +92,8 @@ fn tell_stop<E: Write>(errors: &mut E, fault: &ProgramFault<'_>) -> io::Result<(
         ProgramFault::CannotRead { .. }
         | ProgramFault::ScriptTooLong
         | ProgramFault::Malformed { .. }
-        | ProgramFault::Memory => writeln!(errors, "fragdb: {fault}"),
+        | ProgramFault::Memory
+        | ProgramFault::Store { .. } => writeln!(errors, "fragdb: {fault}"),
     }
 }
 

@@ -2,7 +2,7 @@
 
 ghost use Rattle.std.specs.Prelude.{◌≡◌, IfErr, IfOk, IfSome};
 ghost use Rattle.std.specs.Io.KnownBytes.{Keeps};
-ghost use Rattle.fragdb.specs.Perform.{IsStopped, IsUnread, Performs, PerformsCheck, PerformsPlan, PerformsPlay, PerformsPlayOf, PerformsScript, StopsUnread};
+ghost use Rattle.fragdb.specs.Perform.{IsStopped, IsUnread, Performs, PerformsCheck, PerformsPlan, PerformsOver, PerformsPlayOf, PerformsSolo, StopsUnread};
 ghost use Rattle.fragdb.specs.Perform as spec;
 
 use crate::catalog_file::CatalogFault;
@@ -11,7 +11,7 @@ use crate::fault::ProgramFault;
 use crate::outcome::Outcome;
 use crate::plan_text::{PlanFault, plan};
 use crate::play::play_files;
-use crate::solo::solo;
+use crate::solo::solo_files;
 use crate::usage::Request;
 use std::alloc::Global;
 use std::io;
@@ -23,7 +23,7 @@ impl<'a> Request<'a> {
         ensures { result ≡ spec.file_of self.now }
     {
         match self {
-            Request::Solo { script } | Request::Play { script, .. } => script,
+            Request::Solo { script, .. } | Request::Play { script, .. } => script,
             Request::Check { catalog } | Request::Plan { catalog, .. } => catalog,
         }
     }
@@ -33,7 +33,7 @@ impl<'a> Request<'a> {
         ensures { result ≡ spec.catalog_of self.now }
     {
         match self {
-            Request::Play { catalog, .. } => *catalog,
+            Request::Solo { catalog, .. } | Request::Play { catalog, .. } => *catalog,
             _ => None,
         }
     }
@@ -43,7 +43,7 @@ impl<'a> Request<'a> {
         ensures { result ≡ spec.is_of_input self.now }
     {
         match self {
-            Request::Solo { script } | Request::Play { script, .. } => *script == "-",
+            Request::Solo { script, .. } | Request::Play { script, .. } => *script == "-",
             _ => false,
         }
     }
@@ -61,12 +61,14 @@ pub fn perform<'a, C: Read + Drop, R: Read + Drop, W: Write>(
     output: &mut W,
 ) -> Outcome<'a>
     ensures opened { IfOk input (λ reader. IfSome (R.remaining reader) (λ bytes. Performs request.entry bytes (W.contents output.old) (W.contents output.new) result)) }
-    ensures played { IfOk catalog (λ opened. IfSome (C.remaining opened) (λ bytes. IfOk input (λ reader. IfSome (R.remaining reader) (λ script. PerformsPlay request.entry catalog_file.entry bytes script (W.contents output.old) (W.contents output.new) result)))) }
+    ensures over { IfOk catalog (λ opened. IfSome (C.remaining opened) (λ bytes. IfOk input (λ reader. IfSome (R.remaining reader) (λ script. PerformsOver request.entry catalog_file.entry bytes script (W.contents output.old) (W.contents output.new) result)))) }
     ensures unread { IfErr input (λ error. StopsUnread request.entry result) }
     ensures quiet { IfErr input (λ error. Keeps (W.contents output.old) (W.contents output.new)) }
 {
     match request {
-        Request::Solo { script } => perform_script(alloc, script, input, output),
+        Request::Solo { script, .. } => {
+            perform_solo(alloc, catalog_file, catalog, script, input, output)
+        }
         Request::Check { catalog: file } => perform_check(alloc, file, input, output),
         Request::Plan {
             catalog: file,
@@ -78,19 +80,21 @@ pub fn perform<'a, C: Read + Drop, R: Read + Drop, W: Write>(
     }
 }
 
-/// Runs a script that was opened under this name.
-fn perform_script<'a, R: Read + Drop, W: Write>(
+/// Runs a script over a catalogue that was opened under this name.
+fn perform_solo<'a, C: Read + Drop, R: Read + Drop, W: Write>(
     alloc: Global,
     file: &'a str,
+    catalog: io::Result<C>,
+    script: &'a str,
     input: io::Result<R>,
     output: &mut W,
 ) -> Outcome<'a>
-    ensures opened { IfOk input (λ reader. IfSome (R.remaining reader) (λ bytes. PerformsScript file.entry bytes (W.contents output.old) (W.contents output.new) result)) }
-    ensures unread { IfErr input (λ error. IsUnread file.entry result) }
+    ensures ran { IfOk catalog (λ opened. IfSome (C.remaining opened) (λ bytes. IfOk input (λ reader. IfSome (R.remaining reader) (λ text. PerformsSolo file.entry bytes script.entry text (W.contents output.old) (W.contents output.new) result)))) }
+    ensures unread { IfErr input (λ error. IsStopped result) }
     ensures quiet { IfErr input (λ error. Keeps (W.contents output.old) (W.contents output.new)) }
 {
-    match input {
-        Ok(input) => of_script(solo(alloc, file, input, output)),
+    match catalog {
+        Ok(catalog) => of_script(solo_files(alloc, file, catalog, script, input, output)),
         Err(error) => unread(file, &error),
     }
 }
@@ -157,13 +161,14 @@ fn unread<'a>(file: &'a str, error: &io::Error) -> Outcome<'a>
 }
 
 /// What a script came to.
-fn of_script(ended: Result<bool, ProgramFault<'_>>) -> Outcome<'_>
+fn of_script(ended: Result<bool, CatalogFault<'_>>) -> Outcome<'_>
     ensures { result ≡ spec.outcome_of_script ended.entry }
 {
     match ended {
         Ok(false) => Outcome::Done,
         Ok(true) => Outcome::SomeRefused,
-        Err(fault) => Outcome::Stopped(fault),
+        Err(CatalogFault::Refused(fault)) => Outcome::Refused(fault),
+        Err(CatalogFault::Program(fault)) => Outcome::Stopped(fault),
     }
 }
 

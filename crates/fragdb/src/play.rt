@@ -6,8 +6,9 @@ ghost use Rattle.meaning.specs.Whole.{FitsSchema, Relations};
 ghost use Rattle.catalog.specs.FragmentLeaf.{schemas_of};
 ghost use Rattle.catalog.specs.Relation.{catalogue_of};
 ghost use Rattle.fragdb.specs.Play.{IsPlayedOver, IsUnplayed, Plays, PlaysAll, PlaysFiles, PlaysOrStops, PlaysScript};
+ghost use Rattle.fragdb.specs.Input.{IsOfOutput};
 ghost use Rattle.fragdb.specs.Schedule.{HasRun, IsCounted, stage_of};
-ghost use Rattle.fragdb.specs.Solo.{IsOfRun, longest};
+ghost use Rattle.fragdb.specs.Solo.{longest};
 
 use crate::catalog_file::{CatalogFault, read_catalog};
 use crate::fault::ProgramFault;
@@ -94,7 +95,7 @@ fn play_over<'a, W: Write>(
 ) -> Result<(), ProgramFault<'a>>
     requires { FitsSchema (schemas_of (catalogue_of catalog)) whole.now }
     ensures ok { OnOk result (IsPlayedOver (catalogue_of catalog) whole.now items.now (W.contents output.old) (W.contents output.new)) }
-    ensures err { IfErr result IsOfRun }
+    ensures err { IfErr result IsOfOutput }
 {
     runs_are_serial(&catalog);
     // Lists refuse for want of memory alone.
@@ -122,7 +123,7 @@ fn play_items<'a, W: Write>(
         × ((whole : Relations) → HasRun whole schedule.old.world → PlaysAll (catalogue_of schedule.old.world.machines.desk.catalog) whole items.now (stage_of schedule.old) (stage_of schedule.new) told)) }
     ensures runs { (whole : Relations) → HasRun whole schedule.old.world → OnOk result (HasRun whole schedule.new.world) }
     ensures catalog { OnOk result (schedule.new.world.machines.desk.catalog ≡ schedule.old.world.machines.desk.catalog) }
-    ensures err { IfErr result IsOfRun }
+    ensures err { IfErr result IsOfOutput }
 {
     for placed in items {
         let told = play_item(alloc, schedule, &placed.item)?;

@@ -41,7 +41,7 @@ pub fn loaded(alloc: Global, schema: &Schema, script: &Script) -> Result<Whole, 
 }
 
 /// The relations of the schema, with no row.
-fn empty_relations(alloc: Global, schema: &Schema) -> Result<Whole, Memory>
+pub fn empty_relations(alloc: Global, schema: &Schema) -> Result<Whole, Memory>
     ensures { IfOk result (λ whole. whole ≡ emptied schema.now.relations finite.empty) }
 {
     let mut whole = Whole::new(alloc);

@@ -2,18 +2,16 @@
 
 ghost use Rattle.std.specs.Prelude.{◌≡◌, ℕ, Some, None, map, IfOk, OnOk, option_map};
 ghost use Rattle.fragdb.specs.Script as spec;
-ghost use Rattle.fragdb.specs.Script.{argument_of, first_unreadable, lines_of, reading_of, reading_of_command, reading_of_line, reading_of_statement, task_of, tasks_of_lines};
+ghost use Rattle.fragdb.specs.Script.{argument_of, first_unreadable, lines_of, reading_of, reading_of_command, reading_of_line, task_of, tasks_of_lines};
 ghost use Rattle.fragdb.specs.declared.script.ScriptFault.TheVariants.{Memory};
 
-use reader::alone::keyword_alone;
-use reader::keyword::Keyword;
 use std::alloc::{AllocFailed, Global};
 use terms::memory::Memory as OutOfMemory;
 
 /// One thing that a script asks for.
 #[derive(Clone, Copy, Debug, PartialEq, Eq)]
 pub enum Item<'a> {
-    /// To run a statement.
+    /// To execute a command: a statement, or one that begins or ends a transaction.
     Statement(&'a str),
     /// To show a relation.
     Show(&'a str),
@@ -80,17 +78,7 @@ fn read_line(line: &[u8]) -> Line<'_>
     match line.first() {
         None | Some(b'#') => Line::PassedOver,
         Some(b'.') => read_command(text),
-        Some(_) => read_statement(text),
-    }
-}
-
-/// A line that is a statement, if it does not begin or end a transaction of several.
-fn read_statement(line: &str) -> Line<'_>
-    ensures { reading_of_line result ≡ reading_of_statement line.now }
-{
-    match keyword_alone(line.as_bytes()) {
-        Some(Keyword::Begin | Keyword::Commit | Keyword::Rollback) => Line::Malformed,
-        _ => Line::Asks(Item::Statement(line)),
+        Some(_) => Line::Asks(Item::Statement(text)),
     }
 }
 

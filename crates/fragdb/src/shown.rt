@@ -1,6 +1,6 @@
 //! What is shown of a schedule: relations, leaves and which transactions are committed.
 
-ghost use Rattle.std.specs.Prelude.{◌≡◌, ◌++◌, ◌∷◌, [], IfOk, OnOk, string_bytes};
+ghost use Rattle.std.specs.Prelude.{◌≡◌, ◌++◌, ◌∷◌, [], IfOk, OnOk, option_map, string_bytes};
 ghost use Rattle.std.specs.List.{flat_map};
 ghost use Rattle.meaning.specs.Whole.{Relations};
 ghost use Rattle.catalog.specs.Relation.{catalogue_of};
@@ -14,6 +14,7 @@ use crate::cast::Cast;
 use crate::check::columns_of;
 use crate::play_text::{column_names, leaf_columns};
 use crate::schedule::{Schedule, refusal};
+use catalog::catalogue::Catalog;
 use catalog::fragment_leaf::FragmentLeaf;
 use desk::refusal::Refusal;
 use meaning::answer::Answer;
@@ -50,6 +51,43 @@ fn rows_of(alloc: Global, parts: &[Part]) -> Result<Vec<Row>, Memory>
     Ok(rows)
 }
 
+/// The rows of the relation of this name, if there is one.
+pub fn relation_text(
+    alloc: Global,
+    catalog: &Catalog,
+    name: &Text,
+    found: Option<Vec<Row>>,
+) -> Result<String, Memory>
+    ensures { IfOk result (λ text. string_bytes text ≡ spec.relation_text (catalogue_of catalog.now) name.now (option_map (λ rows. rows.items) found)) }
+{
+    match found {
+        Some(rows) => {
+            let columns = columns_of(catalog.schema(), name);
+            rows_text(alloc, column_names(alloc, columns)?, rows)
+        }
+        None => Ok(format!(in alloc; "no relation {name}\n")?),
+    }
+}
+
+/// The parts of this leaf, if there is one; `name` is what it is called where there is none.
+pub fn parts_text(
+    alloc: Global,
+    catalog: &Catalog,
+    leaf: &Leaf,
+    name: &str,
+    found: Option<Vec<Part>>,
+) -> Result<String, Memory>
+    ensures { IfOk result (λ text. string_bytes text ≡ spec.parts_text (catalogue_of catalog.now) name.now leaf.now (option_map (λ parts. parts.items) found)) }
+{
+    match found {
+        Some(parts) => {
+            let columns = leaf_columns(alloc, catalog, leaf)?;
+            rows_text(alloc, columns, rows_of(alloc, parts.as_slice())?)
+        }
+        None => no_leaf(alloc, name),
+    }
+}
+
 /// What is told where a store fails while this is shown.
 fn failed(alloc: Global, name: &str, fault: Fault) -> Result<String, Memory>
     ensures { IfOk result (λ text. string_bytes text ≡ failed_text name.now fault) }
@@ -61,7 +99,11 @@ fn failed(alloc: Global, name: &str, fault: Fault) -> Result<String, Memory>
 }
 
 /// The first of some leaves whose name is written so.
-fn leaf_written(alloc: Global, leaves: &[FragmentLeaf], name: &str) -> Result<Option<Leaf>, Memory>
+pub fn leaf_written(
+    alloc: Global,
+    leaves: &[FragmentLeaf],
+    name: &str,
+) -> Result<Option<Leaf>, Memory>
     ensures { IfOk result (λ leaf. leaf ≡ written_leaf name.now leaves.now) }
 {
     for leaf in leaves {
@@ -73,7 +115,7 @@ fn leaf_written(alloc: Global, leaves: &[FragmentLeaf], name: &str) -> Result<Op
     Ok(None)
 }
 
-fn no_leaf(alloc: Global, name: &str) -> Result<String, Memory>
+pub fn no_leaf(alloc: Global, name: &str) -> Result<String, Memory>
     ensures { IfOk result (λ text. string_bytes text ≡ no_leaf_text name.now) }
 {
     Ok(format!(in alloc; "no leaf {name}\n")?)
@@ -106,11 +148,7 @@ impl Schedule {
         ensures catalog { self.new.world.machines.desk.catalog ≡ self.old.world.machines.desk.catalog }
     {
         match self.world.rebuilt(name) {
-            Ok(Some(rows)) => {
-                let columns = columns_of(self.world.catalog().schema(), name);
-                rows_text(alloc, column_names(alloc, columns)?, rows)
-            }
-            Ok(None) => Ok(format!(in alloc; "no relation {name}\n")?),
+            Ok(found) => relation_text(alloc, self.world.catalog(), name, found),
             Err(fault) => failed(alloc, name.as_str(), fault),
         }
     }
@@ -135,11 +173,7 @@ impl Schedule {
         ensures catalog { self.new.world.machines.desk.catalog ≡ self.old.world.machines.desk.catalog }
     {
         match self.world.parts(leaf) {
-            Ok(Some(parts)) => {
-                let columns = leaf_columns(alloc, self.world.catalog(), leaf)?;
-                rows_text(alloc, columns, rows_of(alloc, parts.as_slice())?)
-            }
-            Ok(None) => no_leaf(alloc, name),
+            Ok(found) => parts_text(alloc, self.world.catalog(), leaf, name, found),
             Err(fault) => failed(alloc, name, fault),
         }
     }

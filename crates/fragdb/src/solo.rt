@@ -1,53 +1,84 @@
 //! The command `solo`: a script over a database of its own.
 
-ghost use Rattle.std.specs.Prelude.{◌≡◌, ◌≤◌, ◌<◌, ℕ, List, IfOk, IfErr, IfSome, length, map, string_bytes};
-ghost use Rattle.std.specs.Io.KnownBytes.{Appends};
-ghost use Rattle.terms.specs.declared.value.Value.{Value};
-ghost use Rattle.meaning.specs.Relation.{IsRelation};
-ghost use Rattle.catalog.specs.Fragment.{Rebuilds};
-ghost use Rattle.fragdb.specs.Item.{item_kinds, item_leaves};
+ghost use Rattle.std.specs.Prelude.{◌≡◌, ◌≤◌, ◌<◌, ℕ, List, [], true, IfOk, IfErr, IfSome, is_err, length, map};
+ghost use Rattle.std.specs.Io.KnownBytes.{Appends, Keeps};
+ghost use Rattle.catalog.specs.Catalogue.{Catalogue};
+ghost use Rattle.catalog.specs.Relation.{catalogue_of};
+ghost use Rattle.meaning.specs.Whole.{Relations};
+ghost use Rattle.fragdb.specs.Client.{GoesOn, standing_of};
 ghost use Rattle.fragdb.specs.Script.{task_of};
-ghost use Rattle.fragdb.specs.Reply.{told_by};
-ghost use Rattle.fragdb.specs.Solo.{IsOfRead, IsOfRun, AnswersTask, IsRun, Lists, RunsOrStops, RunsScript, leaf_text, longest, relation_text};
+ghost use Rattle.fragdb.specs.Solo.{IsOfRead, IsOfRun, IsRun, IsWork, RunsFiles, RunsOrStops, RunsScript, longest};
 
+use crate::catalog_file::{CatalogFault, read_catalog};
+use crate::client::{Database, answer};
 use crate::fault::ProgramFault;
 use crate::input::read_up_to;
-use crate::reply::Reply;
+use crate::play_load::empty_relations;
 use crate::script::{Item, items};
-use crate::small::Small;
+use catalog::catalogue::Catalog;
 use std::alloc::Global;
+use std::io;
 use std::io::{Read, Write};
-use terms::memory::Memory;
+use world::laws::served_is_serial;
+use world::solo::open;
 
 /// How many bytes a script may have.
 pub const SCRIPT_LIMIT: u64 = 1_048_576;
 
-/// Runs the script that `input` gives, which `file` names in a fault, over a new database: the whole script
-/// or none of it. Writes the answers to `output`, and answers whether a statement was refused. It writes
+/// Runs the script that `input` gives, which `file` names in a fault, over the catalogue that `catalog` gives, which
+/// `catalog_file` names. The catalogue is read first.
+pub fn solo_files<'a, C: Read + Drop, R: Read + Drop, W: Write>(
+    alloc: Global,
+    catalog_file: &'a str,
+    catalog: C,
+    file: &'a str,
+    input: io::Result<R>,
+    output: &mut W,
+) -> Result<bool, CatalogFault<'a>>
+    ensures opened { IfSome (C.remaining catalog) (λ bytes. IfOk input (λ reader. IfSome (R.remaining reader) (λ script. RunsFiles catalog_file.entry bytes file.entry script (W.contents output.old) (W.contents output.new) result))) }
+    ensures idle { IfErr input (λ error. is_err result ≡ true) }
+    ensures quiet { IfErr input (λ error. Keeps (W.contents output.old) (W.contents output.new)) }
+{
+    match read_catalog(alloc, catalog_file, catalog) {
+        Ok(catalog) => match input {
+            Ok(input) => match solo(alloc, catalog, file, input, output) {
+                Ok(any_refused) => Ok(any_refused),
+                Err(fault) => Err(CatalogFault::Program(fault)),
+            },
+            Err(error) => Err(CatalogFault::Program(ProgramFault::reading(file, &error))),
+        },
+        Err(fault) => Err(fault),
+    }
+}
+
+/// Runs the script that `input` gives, which `file` names in a fault, over a new database of this catalogue: the
+/// whole script or none of it. Writes the answers to `output`, and answers whether a line was refused. It writes
 /// often, and flushes once: give it an output with a buffer.
 pub fn solo<'a, R: Read + Drop, W: Write>(
     alloc: Global,
+    catalog: Catalog,
     file: &'a str,
     input: R,
     output: &mut W,
 ) -> Result<bool, ProgramFault<'a>>
-    ensures { IfSome (R.remaining input) (λ script. RunsScript file.entry script (W.contents output.old) (W.contents output.new) result) }
+    ensures { IfSome (R.remaining input) (λ script. RunsScript (catalogue_of catalog) file.entry script (W.contents output.old) (W.contents output.new) result) }
 {
     let script = read_script(alloc, file, input)?;
-    run_script(alloc, script.as_slice(), output)
+    run_script(alloc, catalog, script.as_slice(), output)
 }
 
 /// Runs a script of which all bytes were read.
 fn run_script<'a, W: Write>(
     alloc: Global,
+    catalog: Catalog,
     script: &[u8],
     output: &mut W,
 ) -> Result<bool, ProgramFault<'a>>
     requires { length script.now ≤ longest }
-    ensures { RunsOrStops script.now (W.contents output.old) (W.contents output.new) result }
+    ensures { RunsOrStops (catalogue_of catalog) script.now (W.contents output.old) (W.contents output.new) result }
 {
     let items = items(alloc, script)?;
-    let outcome = run(alloc, items.as_slice(), output);
+    let outcome = run(alloc, catalog, items.as_slice(), output);
     // What was answered before a fault goes out too.
     let flushed = output.flush();
     let any_refused = outcome?;
@@ -74,52 +105,44 @@ pub fn read_script<'a, R: Read + Drop>(
     Ok(script)
 }
 
-/// Runs the items in order over a new database, and writes each answer and a line feed. Answers whether
-/// a statement was refused.
+/// Runs the items in order over a new database, and writes each answer. Answers whether a line was refused.
 fn run<'a, W: Write>(
     alloc: Global,
+    catalog: Catalog,
     items: &[Item<'_>],
     output: &mut W,
 ) -> Result<bool, ProgramFault<'a>>
-    ensures ok { IfOk result (λ any_refused. (written : List ℕ) × Appends (W.contents output.old) (W.contents output.new) written
-        × (lists : Lists) × IsRun (map task_of items.now) written any_refused lists) }
+    ensures ok { IfOk result (λ any_refused. (written : List ℕ) × Appends (W.contents output.old) (W.contents output.new) written × IsRun (catalogue_of catalog) (map task_of items.now) written any_refused) }
     ensures err { IfErr result IsOfRun }
 {
-    let mut database = Small::new(alloc);
+    served_is_serial(&catalog);
+    let whole = empty_relations(alloc, catalog.schema())?;
+    // Lists refuse for want of memory alone.
+    let Ok(mut database) = open(alloc, catalog, &whole) else {
+        return Err(ProgramFault::Memory);
+    };
+    run_items(alloc, &mut database, items, output)
+}
+
+/// Runs the items over this database.
+fn run_items<'a, W: Write>(
+    alloc: Global,
+    database: &mut Database,
+    items: &[Item<'_>],
+    output: &mut W,
+) -> Result<bool, ProgramFault<'a>>
+    ensures ok { (catalogue : Catalogue) (whole : Relations) → GoesOn catalogue whole database.old → IfOk result (λ any_refused. (written : List ℕ) × Appends (W.contents output.old) (W.contents output.new) written
+        × IsWork catalogue (map task_of items.now) written any_refused (standing_of database.old) (standing_of database.new)) }
+    ensures goes_on { (catalogue : Catalogue) (whole : Relations) → GoesOn catalogue whole database.old → IfOk result (λ any_refused. GoesOn catalogue whole database.new) }
+    ensures err { IfErr result IsOfRun }
+{
     let mut any_refused = false;
     for item in items {
-        let reply = answer(alloc, &mut database, *item)?;
+        let reply = answer(alloc, database, *item)?;
         any_refused |= reply.is_refusal();
-        writeln!(output, "{}", reply.text()).map_err(|error| ProgramFault::writing(&error))?;
+        output
+            .write_all(reply.text().as_bytes())
+            .map_err(|error| ProgramFault::writing(&error))?;
     }
     Ok(any_refused)
-}
-
-fn answer(alloc: Global, database: &mut Small, item: Item<'_>) -> Result<Reply, Memory>
-    ensures { IfOk result (λ reply. AnswersTask (task_of item.entry) database.old database.new (told_by reply)) }
-{
-    match item {
-        Item::Statement(text) => database.line(text),
-        Item::Show(name) => Ok(Reply::Answer(shown_relation(alloc, database, name)?)),
-        Item::Leaf(name) => Ok(Reply::Answer(shown_leaf(alloc, database, name)?)),
-    }
-}
-
-fn shown_relation(alloc: Global, database: &Small, name: &str) -> Result<String, Memory>
-    ensures { IfOk result (λ text. (rows : List (List Value)) → IsRelation item_kinds rows → Rebuilds item_leaves database.now rows
-        → string_bytes text ≡ relation_text name.now rows) }
-{
-    match database.show(name)? {
-        Some(text) => Ok(text),
-        None => Ok(format!(in alloc; "no relation {name}")?),
-    }
-}
-
-fn shown_leaf(alloc: Global, database: &Small, name: &str) -> Result<String, Memory>
-    ensures { IfOk result (λ text. string_bytes text ≡ leaf_text name.now database.now) }
-{
-    match database.leaf(name)? {
-        Some(text) => Ok(text),
-        None => Ok(format!(in alloc; "no leaf {name}")?),
-    }
 }

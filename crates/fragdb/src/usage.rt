@@ -1,11 +1,11 @@
 //! The words of the command line.
 
-ghost use Rattle.std.specs.Prelude.{◌≡◌, ◌≢◌, ◌≤◌, ◌<◌, ◌⊎◌, ◌∷◌, [], IfOk, IsOkAnd, Some, codes, false, length, map};
+ghost use Rattle.std.specs.Prelude.{◌≡◌, ◌≢◌, ◌≤◌, ◌<◌, ◌⊎◌, ◌∷◌, [], IfOk, IsOkAnd, None, Some, codes, false, length, map};
 ghost use Rattle.std.specs.Io.KnownBytes.{Keeps};
 ghost use Rattle.std.specs.IoError.{error_kind};
 ghost use Rattle.clap.specs.declared.builder.command.Command.TheViews.{out-Command};
 ghost use Rattle.clap.specs.Words.{app_of, kind_of};
-ghost use Rattle.fragdb.specs.Usage.{asked, command_with, command_with_two, play, usage, usage_status, IsGiven};
+ghost use Rattle.fragdb.specs.Usage.{asked, command_with, command_with_two, of_script, usage, usage_status, IsGiven};
 
 use crate::fault::ProgramFault;
 use crate::outcome::{Outcome, Status, exit};
@@ -19,8 +19,10 @@ use std::io::{ErrorKind as IoErrorKind, Write};
 /// What the command line asks for.
 #[derive(Clone, Copy, Debug, PartialEq, Eq)]
 pub enum Request<'a> {
-    /// To run this script, a file's name, or `-` for standard input.
+    /// To run this script, a file's name, or `-` for standard input, over a database of this catalogue, a
+    /// file's name, or over one of the built-in catalogue.
     Solo {
+        catalog: Option<&'a str>,
         script: &'a str,
     },
     /// To check this catalogue, a file's name.
@@ -44,11 +46,12 @@ pub enum Request<'a> {
 const AFTER_HELP: &str = "With no argument: solo -, a script from standard input.
 
 Exit status: 0 done; 1 a catalogue, a script or a statement was refused, a file could not be read,
-or nobody reads the output; 2 a mistake on the command line; 4 out of memory.
+or nobody reads the output; 2 a mistake on the command line; 3 a store failed; 4 out of memory.
 
 Examples:
   echo \"INSERT INTO item VALUES (1, 3, 'a')\" | fragdb
   fragdb solo script.txt
+  fragdb solo --catalog catalogue.toml script.txt
   fragdb check catalogue.toml
   fragdb plan catalogue.toml 'SELECT name FROM emp WHERE id = 7'
   fragdb play --catalog catalogue.toml schedule.txt";
@@ -57,11 +60,14 @@ Examples:
 const AFTER_SOLO: &str =
     "A script has one item a line; empty lines and lines that begin with # are passed over:
   INSERT INTO item VALUES (1, 3, 'a')    a statement; so are SELECT, UPDATE and DELETE
+  BEGIN                                  a transaction of several statements begins
+  COMMIT                                 it is committed
+  ROLLBACK                               it is rolled back
   .show item                             the rows of a relation
   .leaf item.1                           the rows that a fragment keeps
 
-The relation item(id int, zone int, label text) is built in: rows with zone < 10 are kept in item.1,
-the others in item.2.";
+Without --catalog the relation item(id int, zone int, label text) is built in: rows with zone < 10 are
+kept in item.1, the others in item.2.";
 
 /// What stands after the help of `play`.
 const AFTER_PLAY: &str =
@@ -85,18 +91,22 @@ const AFTER_PLAY: &str =
 
 /// What the words ask for, of which the first names the program. With no other word that is `solo -`.
 pub fn read_words<'a, S: AsStr>(alloc: Global, words: &'a [S]) -> Result<Request<'a>, Error>
-    ensures alone { length words.entry.now ≤ 1 → IsOkAnd result (λ request. asked request ≡ (codes "solo", (codes "SCRIPT", Some (codes "-")) ∷ [])) }
+    ensures alone { length words.entry.now ≤ 1 → IsOkAnd result (λ request. asked request ≡ (codes "solo", (codes "CATALOG", None) ∷ (codes "SCRIPT", Some (codes "-")) ∷ [])) }
     ensures given { IfOk result (λ request. 1 < length words.entry.now → IsGiven (map S.text words.entry.now) (asked request)) }
 {
     if words.len() <= 1 {
-        return Ok(Request::Solo { script: "-" });
+        return Ok(Request::Solo {
+            catalog: None,
+            script: "-",
+        });
     }
     let mut command = command(alloc)?;
     let matches = command.try_get_matches_from_mut(words)?;
     if let Some(("solo", solo)) = matches.subcommand()
         && let Some(script) = solo.get_str("SCRIPT")
     {
-        return Ok(Request::Solo { script });
+        let catalog = solo.get_str("CATALOG");
+        return Ok(Request::Solo { catalog, script });
     }
     if let Some(("check", check)) = matches.subcommand()
         && let Some(catalog) = check.get_str("CATALOG")
@@ -151,15 +161,19 @@ fn command<'a>(alloc: Global) -> Result<Command<'a>, AllocError>
 }
 
 fn solo_command<'a>(alloc: Global) -> Result<Command<'a>, AllocError>
-    ensures shape { IfOk result (λ command. app_of command ≡ command_with (codes "solo") (codes "SCRIPT")) }
+    ensures shape { IfOk result (λ command. app_of command ≡ of_script (codes "solo")) }
     ensures local { IfOk result (λ command. (out-Command command).has_globals ≡ false) }
 {
+    let catalog = Arg::new(alloc, "CATALOG").long("catalog").help(
+        "A file with a catalogue, in TOML, in place of the built-in one",
+    );
     let script = Arg::new(alloc, "SCRIPT")
         .required(true)
         .help("A file with one item a line, or - for standard input");
     Command::new(alloc, "solo")
         .about("Runs a script of statements, one at a time")
         .after_help(AFTER_SOLO)
+        .arg(catalog)?
         .arg(script)
 }
 
@@ -192,7 +206,7 @@ fn plan_command<'a>(alloc: Global) -> Result<Command<'a>, AllocError>
 }
 
 fn play_command<'a>(alloc: Global) -> Result<Command<'a>, AllocError>
-    ensures shape { IfOk result (λ command. app_of command ≡ play) }
+    ensures shape { IfOk result (λ command. app_of command ≡ of_script (codes "play")) }
     ensures local { IfOk result (λ command. (out-Command command).has_globals ≡ false) }
 {
     let catalog = Arg::new(alloc, "CATALOG").long("catalog").help(

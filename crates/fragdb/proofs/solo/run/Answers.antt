@@ -1,15 +1,22 @@
-use Rattle.std.proofs.Common.{◌≡◌, ◌++◌, [], ◌∷◌, ap, arith, is_ok, sym, true, ◌∙◌}
-use Rattle.fragdb.specs.Reply.{told_by}
-use Rattle.fragdb.proofs.SoloLemmas.{Appends-more, IsRun-next, at_ok}
+use Rattle.std.proofs.Common.{[], ap, subst, sym, ◌∙◌}
+use Rattle.std.specs.FinMap as finite
+use Rattle.meaning.specs.Whole.{FitsSchema, Relations}
+use Rattle.catalog.specs.FragmentLeaf.{schemas_of}
+use Rattle.catalog.specs.Relation.{catalogue_of}
+use Rattle.store.specs.PlainDesk.{kept_of as desk_kept}
+use Rattle.store.specs.PlainSite.{kept_of}
+use Rattle.world.specs.Base.{database}
+use Rattle.world.specs.Held.{held}
+use Rattle.world.specs.Serving.{IsServed}
+use Rattle.fragdb.specs.PlayLoad.{emptied}
+use Rattle.fragdb.proofs.ClientLemmas.{ran_from}
+use Rattle.fragdb.proofs.SoloLemmas.{emptied-fits}
 use Rattle.fragdb.proofs.solo.run.Goals as goal
 
-pub loop-item-preserved : goal.loop-item-preserved
-loop-item-preserved g c =
-    let so_far = c.loop-item.invariant in
-    let line = c.text.result.now in
-    let wrote : is_ok c.writeln.result ≡ true = sym c.map_err.ensures.variant ∙ ap is_ok c.in_ok-map_err.was in (
-      so_far.0 ++ (line ++ 10 ∷ []),
-      Appends-more (g.W.Write.contents c.args.output.now) (g.W.Write.contents c.loop-item.output) (g.W.Write.contents c.writeln.new.self) so_far.0
-          (line ++ 10 ∷ []) so_far.1 (at_ok c.writeln.result wrote c.writeln.ensures.bytes),
-      IsRun-next c.args.items.now c.loop-item.item-index _ so_far.0 c.loop-item.any_refused c.loop-item.database c.answer.new.database (told_by c.in_ok-reply.reply) line c.is_refusal-any_refused.result (omega arith) so_far.2 c.in_ok-reply.ensures c.text.ensures c.is_refusal-any_refused.ensures,
-    )
+pub returns-clause-ok : goal.returns-clause-ok
+returns-clause-ok g c =
+    ran_from (g.W.Write.contents c.args.output.now) (g.W.Write.contents c.run_items.new.output) (catalogue_of c.args.catalog) c.args.items.now c.in-Ok.database c.run_items.new.database c.run_items.result
+    (subst (λ (whole : Relations). IsServed (database (catalogue_of c.args.catalog)) whole (held desk_kept kept_of c.in-Ok.database.machines) [])
+    (c.in_ok-whole.ensures ∙ ap (λ schemas. emptied schemas finite.empty) c.schema.ensures.schemas)
+    (c.in-Ok.ensures.served (subst (FitsSchema (schemas_of (catalogue_of c.args.catalog))) (sym (c.in_ok-whole.ensures ∙ ap (λ schemas. emptied schemas finite.empty) c.schema.ensures.schemas)) (emptied-fits (schemas_of (catalogue_of c.args.catalog))))))
+    (ap catalogue_of c.in-Ok.ensures.catalog) c.in-Ok.ensures.sound c.in-Ok.ensures.idle c.served_is_serial.ensures c.run_items.ensures.ok c.run_items.ensures.goes_on

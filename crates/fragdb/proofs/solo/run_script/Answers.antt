@@ -1,4 +1,5 @@
 use Rattle.std.proofs.Common.{List, map, subst, ap, ◌∙◌}
+use Rattle.catalog.specs.Relation.{catalogue_of}
 use Rattle.fragdb.proofs.SoloLemmas.{Appends-kept}
 use Rattle.fragdb.specs.Script.{Reading, task_of}
 use Rattle.fragdb.specs.Solo.{IsRun}
@@ -7,11 +8,11 @@ use Rattle.fragdb.proofs.solo.run_script.Goals as goal
 pub returns : goal.returns
 returns g c =
     let ran = c.in_ok-any_refused.ensures.ok in
-    let P : List Reading → Type 0 = λ tasks. IsRun tasks ran.0 c.in_ok-any_refused.any_refused ran.2 in (
+    let P : List Reading → Type 0 = λ tasks. IsRun (catalogue_of c.args.catalog) tasks ran.0 c.in_ok-any_refused.any_refused in (
       record { short = c.requires; readable = c.in_ok-items.ensures.all_read },
       (
         ran.0,
         Appends-kept (g.W.Write.contents c.args.output.now) (g.W.Write.contents c.run-outcome.new.output) (g.W.Write.contents c.flush-flushed.new.self) ran.0 ran.1 c.flush-flushed.ensures.bytes,
-        (ran.2, subst P (ap (map task_of) c.as_slice.ensures.value ∙ c.in_ok-items.ensures.items) ran.3),
+        subst P (ap (map task_of) c.as_slice.ensures.value ∙ c.in_ok-items.ensures.items) ran.2,
       ),
     )

@@ -12,8 +12,9 @@ returns-clause-given g c =
     let name = c.in-Some-solo-default.ensures.name ∙ subcommand_name_of-rows c.in_ok-matches.matches in
     let rows = c.in-Some-solo-default.ensures.rows in
     let script = c.in-Some.ensures in
-    λ _. given_one (map g.S.AsStr.text c.args.words.now) _ (codes "solo") _ (codes "SCRIPT") c.in-Some.script.now entered
-    (ap (λ (t : List ℕ). Some t) (sym c.in-Some-solo-default.is-solo) ∙ name) rows (script ∙ first_value-rows (found_of c.in-Some-solo-default.solo.now) (codes "SCRIPT"))
+    λ _. given_perhaps (map g.S.AsStr.text c.args.words.now) _ (codes "solo") _ (codes "CATALOG") _ (codes "SCRIPT") c.in-Some.script.now entered
+    (ap (λ (t : List ℕ). Some t) (sym c.in-Some-solo-default.is-solo) ∙ name) rows
+    (c.get_str-catalog.ensures ∙ first_value-rows (found_of c.in-Some-solo-default.solo.now) (codes "CATALOG")) (script ∙ first_value-rows (found_of c.in-Some-solo-default.solo.now) (codes "SCRIPT"))
 
 pub returns-2-clause-given : goal.returns-2-clause-given
 returns-2-clause-given g c =
@@ -43,4 +44,4 @@ returns-4-clause-given g c =
     let rows = c.in-Some-play-default.ensures.rows in
     λ _. given_perhaps (map g.S.AsStr.text c.args.words.now) _ (codes "play") _ (codes "CATALOG") _ (codes "SCRIPT") c.in-Some-get_str-4.script.now entered
     (ap (λ (t : List ℕ). Some t) (sym c.in-Some-play-default.is-play) ∙ name) rows
-    (c.get_str-catalog.ensures ∙ first_value-rows (found_of c.in-Some-play-default.play.now) (codes "CATALOG")) (c.in-Some-get_str-4.ensures ∙ first_value-rows (found_of c.in-Some-play-default.play.now) (codes "SCRIPT"))
+    (c.get_str-catalog-2.ensures ∙ first_value-rows (found_of c.in-Some-play-default.play.now) (codes "CATALOG")) (c.in-Some-get_str-4.ensures ∙ first_value-rows (found_of c.in-Some-play-default.play.now) (codes "SCRIPT"))

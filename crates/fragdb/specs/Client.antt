@@ -1,0 +1,101 @@
+-- What the commands of a script come to over a database for one client, and what is shown of it.
+use Rattle.std.specs.Prelude.{◌≡◌, ◌⊎◌, ℕ, false, List, [], ◌∷◌, ◌++◌, flat_map, Option, Some, None}
+use Rattle.terms.specs.declared.leaf.Leaf.{Leaf}
+use Rattle.meaning.specs.Whole.{FitsSchema, Relations}
+use Rattle.catalog.specs.Catalogue.{Catalogue}
+use Rattle.catalog.specs.FragmentLeaf.{catalogue_leaves, schemas_of}
+use Rattle.catalog.specs.Relation.{catalogue_of}
+use Rattle.store.specs.declared.fault.StoreFault.{StoreFault}
+use Rattle.store.specs.declared.name.Txn.{Txn}
+use Rattle.store.specs.declared.plain_desk.PlainDesk.{PlainDesk}
+use Rattle.store.specs.declared.plain_site.PlainSite.{PlainSite}
+use Rattle.store.specs.PlainDesk.{kept_of as desk_kept}
+use Rattle.store.specs.PlainSite.{IsSound, kept_of}
+use Rattle.protocol.specs.Desk.{Deed}
+use Rattle.desk.specs.declared.refusal.Refusal.{Refusal}
+use Rattle.desk.specs.declared.reply.Notice.{Notice}
+use Rattle.desk.specs.Database.{Database, language}
+use Rattle.world.specs.declared.solo.Solo as code
+use Rattle.world.specs.Base.{database}
+use Rattle.world.specs.Held.{OfStores, held}
+use Rattle.world.specs.Machines.{Machines}
+use Rattle.world.specs.Serving.{Executes, IsServed}
+use Rattle.world.specs.Settled.{AreThoseOf, parts_kept, rows_shown}
+use Rattle.world.specs.Stopping.{is_stop}
+use Rattle.fragdb.specs.declared.fault.ProgramFault.{ProgramFault}
+use Rattle.fragdb.specs.declared.fault.ProgramFault.TheVariants.{Memory, Store}
+use Rattle.fragdb.specs.PlayText.{refused_text, reply_text}
+use Rattle.fragdb.specs.Reply.{Answered, Refused, Told}
+use Rattle.fragdb.specs.Script.{Nothing, Reading, Runs, ShowsLeaf as To_show_leaf, ShowsRelation as To_show_relation, Unreadable}
+use Rattle.fragdb.specs.Shown.{no_leaf_text, parts_text, relation_text, written_leaf}
+
+-- where a client stands: its database's machines, and the transaction that it has begun
+pub record Standing : Type 0 where
+  pub machines : Machines
+  pub current : Option Txn
+
+abbrev pub standing_of : code.Solo PlainDesk PlainSite → Standing
+standing_of solo = record { machines = held desk_kept kept_of solo.machines; current = solo.current }
+
+-- the machines stand after a run of the protocol, which began over these whole relations
+abbrev pub WasServed : Catalogue → Relations → Machines → Type 0
+WasServed catalogue whole machines = (past : List (Deed (language (database catalogue)))) × IsServed (database catalogue) whole machines past
+
+-- nothing has stopped the database of this catalogue, which began over these whole relations
+pub record GoesOn (catalogue : Catalogue) (whole : Relations) (solo : code.Solo PlainDesk PlainSite) : Type 0 where
+  pub going : solo.stopped ≡ None
+  pub catalog : catalogue_of solo.machines.desk.catalog ≡ catalogue
+  pub sound : OfStores (λ _. Unit {0}) IsSound solo.machines
+  pub served : WasServed catalogue whole (held desk_kept kept_of solo.machines)
+
+-- what a client hears, a line for each notice
+abbrev pub heard_text : List Notice → List ℕ
+heard_text heard = flat_map (λ notice. reply_text notice.reply ++ 10 ∷ []) heard
+
+-- a command is executed, and all that its client hears is told
+pub record IsHeard (catalogue : Catalogue) (text : List ℕ) (before after : Standing) (told : List ℕ) : Type 0 where
+  pub heard : List Notice
+  pub executes : Executes (database catalogue) text before.current before.machines after.current after.machines heard
+  pub lines : told ≡ heard_text heard
+
+-- a command is refused, and that is told; the transaction that was open stays so
+pub record IsTurnedAway (before after : Standing) (told : List ℕ) : Type 0 where
+  pub refusal : Refusal
+  pub goes_on : is_stop refusal ≡ false
+  pub same : after.current ≡ before.current
+  pub line : told ≡ refused_text refusal ++ 10 ∷ []
+
+-- what a command is answered by
+abbrev pub AnswersLine : Catalogue → List ℕ → Standing → Standing → Told → Type 0
+AnswersLine catalogue text before after (Answered told) = IsHeard catalogue text before after told
+AnswersLine catalogue text before after (Refused told) = IsTurnedAway before after told
+
+-- a relation is shown with the rows that it has in the whole database that the settled fragments are those of
+abbrev pub ShowsRelation : Catalogue → List ℕ → Standing → Standing → List ℕ → Type 0
+ShowsRelation catalogue name before after told =
+    (after ≡ before) × ((whole : Relations) → AreThoseOf (database catalogue) before.machines whole → FitsSchema (schemas_of catalogue) whole → told ≡ relation_text catalogue name (rows_shown (database catalogue) whole name))
+
+-- a leaf is shown with the parts that its site keeps; name: how it was asked for
+abbrev pub ShowsPartsOf : Catalogue → List ℕ → Leaf → Standing → Standing → List ℕ → Type 0
+ShowsPartsOf catalogue name leaf before after told = (after ≡ before) × (told ≡ parts_text catalogue name leaf (parts_kept (database catalogue) before.machines leaf))
+
+abbrev pub ShowsLeafAs : Catalogue → List ℕ → Option Leaf → Standing → Standing → List ℕ → Type 0
+ShowsLeafAs catalogue name None before after told = (after ≡ before) × (told ≡ no_leaf_text name)
+ShowsLeafAs catalogue name (Some leaf) before after told = ShowsPartsOf catalogue name leaf before after told
+
+abbrev pub ShowsLeaf : Catalogue → List ℕ → Standing → Standing → List ℕ → Type 0
+ShowsLeaf catalogue name before after told = ShowsLeafAs catalogue name (written_leaf name (catalogue_leaves catalogue)) before after told
+
+-- what a task is answered by, and where the client stands before it and after it
+abbrev pub AnswersTask : Catalogue → Reading → Standing → Standing → Told → Type 0
+AnswersTask catalogue Nothing before after told = ⊥
+AnswersTask catalogue (Runs text) before after told = AnswersLine catalogue text before after told
+AnswersTask catalogue (To_show_relation name) before after (Answered told) = ShowsRelation catalogue name before after told
+AnswersTask catalogue (To_show_relation name) before after (Refused told) = ⊥
+AnswersTask catalogue (To_show_leaf name) before after (Answered told) = ShowsLeaf catalogue name before after told
+AnswersTask catalogue (To_show_leaf name) before after (Refused told) = ⊥
+AnswersTask catalogue Unreadable before after told = ⊥
+
+-- a fault that may stop a database, or come while its answers are put together
+abbrev pub IsOfClient : ProgramFault → Type 0
+IsOfClient fault = (fault ≡ Memory) ⊎ ((why : StoreFault) × (fault ≡ Store why))

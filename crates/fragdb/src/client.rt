@@ -1,0 +1,161 @@
+//! The client of a script: what each item is answered by.
+
+ghost use Rattle.std.specs.Prelude.{◌≡◌, ◌++◌, ◌∷◌, [], false, IfErr, IfOk, OnOk, string_bytes};
+ghost use Rattle.catalog.specs.Catalogue.{Catalogue};
+ghost use Rattle.meaning.specs.Whole.{Relations};
+ghost use Rattle.world.specs.Stopping.{is_stop};
+ghost use Rattle.fragdb.specs.Client as client;
+ghost use Rattle.fragdb.specs.Client.{AnswersLine, AnswersTask, GoesOn, IsOfClient, ShowsLeaf, ShowsPartsOf, ShowsRelation, standing_of};
+ghost use Rattle.fragdb.specs.PlayText as spec;
+ghost use Rattle.fragdb.specs.Reply.{Refused, told_by};
+ghost use Rattle.fragdb.specs.Script.{task_of};
+
+use crate::fault::ProgramFault;
+use crate::play_text::{refused_text, reply_text};
+use crate::reply::Reply;
+use crate::script::Item;
+use crate::shown::{leaf_written, no_leaf, parts_text, relation_text};
+use desk::refusal::Refusal;
+use desk::reply::Notice;
+use site::fault::SiteFault;
+use std::alloc::Global;
+use store::plain_desk::PlainDesk;
+use store::plain_site::PlainSite;
+use terms::leaf::Leaf;
+use terms::memory::Memory;
+use terms::text::Text;
+use world::fault::Fault;
+use world::solo::Solo;
+
+/// A database over lists.
+pub type Database = Solo<PlainDesk, PlainSite>;
+
+/// What an item is answered by.
+pub fn answer<'a>(
+    alloc: Global,
+    database: &mut Database,
+    item: Item<'_>,
+) -> Result<Reply, ProgramFault<'a>>
+    ensures answers { (catalogue : Catalogue) (whole : Relations) → GoesOn catalogue whole database.old → IfOk result (λ reply. AnswersTask catalogue (task_of item.entry) (standing_of database.old) (standing_of database.new) (told_by reply)) }
+    ensures goes_on { (catalogue : Catalogue) (whole : Relations) → GoesOn catalogue whole database.old → OnOk result (GoesOn catalogue whole database.new) }
+    ensures err { IfErr result IsOfClient }
+{
+    match item {
+        Item::Statement(text) => command(alloc, database, text),
+        Item::Show(name) => Ok(Reply::Answer(relation_shown(alloc, database, name)?)),
+        Item::Leaf(name) => Ok(Reply::Answer(leaf_shown(alloc, database, name)?)),
+    }
+}
+
+/// What the command of this text is answered by.
+fn command<'a>(
+    alloc: Global,
+    database: &mut Database,
+    text: &str,
+) -> Result<Reply, ProgramFault<'a>>
+    ensures answers { (catalogue : Catalogue) (whole : Relations) → GoesOn catalogue whole database.old → IfOk result (λ reply. AnswersLine catalogue text.now (standing_of database.old) (standing_of database.new) (told_by reply)) }
+    ensures goes_on { (catalogue : Catalogue) (whole : Relations) → GoesOn catalogue whole database.old → OnOk result (GoesOn catalogue whole database.new) }
+    ensures err { IfErr result IsOfClient }
+{
+    match database.execute(text) {
+        Ok(heard) => Ok(Reply::Answer(heard_text(alloc, heard.as_slice())?)),
+        Err(refusal) => refused(alloc, refusal),
+    }
+}
+
+/// What a client hears, a line for each notice.
+fn heard_text(alloc: Global, heard: &[Notice]) -> Result<String, Memory>
+    ensures { IfOk result (λ text. string_bytes text ≡ client.heard_text heard.now) }
+{
+    let mut text = String::new(alloc);
+    for notice in heard {
+        put_notice(&mut text, notice)?;
+    }
+    Ok(text)
+}
+
+fn put_notice(out: &mut String, notice: &Notice) -> Result<(), Memory>
+    ensures { OnOk result (string_bytes out.new ≡ string_bytes out.old ++ spec.reply_text notice.now.reply ++ 10 ∷ []) }
+{
+    let text = reply_text(*out.allocator(), &notice.reply)?;
+    writeln!(out, "{text}")?;
+    Ok(())
+}
+
+/// What is told of a refusal, unless it stops the database.
+fn refused<'a>(alloc: Global, refusal: Refusal) -> Result<Reply, ProgramFault<'a>>
+    ensures goes_on { OnOk result (is_stop refusal ≡ false) }
+    ensures told { IfOk result (λ reply. told_by reply ≡ Refused (spec.refused_text refusal ++ 10 ∷ [])) }
+    ensures err { IfErr result IsOfClient }
+{
+    match refusal {
+        Refusal::Memory => Err(ProgramFault::Memory),
+        Refusal::Store(fault) => Err(ProgramFault::Store { fault }),
+        other => {
+            let mut text = refused_text(alloc, other)?;
+            text.push('\n')?;
+            Ok(Reply::Refusal(text))
+        }
+    }
+}
+
+/// A relation as the fragments rebuild it.
+fn relation_shown<'a>(
+    alloc: Global,
+    database: &mut Database,
+    name: &str,
+) -> Result<String, ProgramFault<'a>>
+    ensures shown { (catalogue : Catalogue) (whole : Relations) → GoesOn catalogue whole database.old → IfOk result (λ text. ShowsRelation catalogue name.now (standing_of database.old) (standing_of database.new) (string_bytes text)) }
+    ensures goes_on { (catalogue : Catalogue) (whole : Relations) → GoesOn catalogue whole database.old → OnOk result (GoesOn catalogue whole database.new) }
+    ensures err { IfErr result IsOfClient }
+{
+    let name = Text::copy_of(alloc, name)?;
+    match database.rebuilt(&name) {
+        Ok(found) => Ok(relation_text(alloc, database.catalog(), &name, found)?),
+        Err(fault) => Err(stopped(fault)),
+    }
+}
+
+/// The parts that the leaf of this name keeps.
+fn leaf_shown<'a>(
+    alloc: Global,
+    database: &mut Database,
+    name: &str,
+) -> Result<String, ProgramFault<'a>>
+    ensures shown { (catalogue : Catalogue) (whole : Relations) → GoesOn catalogue whole database.old → IfOk result (λ text. ShowsLeaf catalogue name.now (standing_of database.old) (standing_of database.new) (string_bytes text)) }
+    ensures goes_on { (catalogue : Catalogue) (whole : Relations) → GoesOn catalogue whole database.old → OnOk result (GoesOn catalogue whole database.new) }
+    ensures err { IfErr result IsOfClient }
+{
+    match leaf_written(alloc, database.catalog().leaves(), name)? {
+        Some(leaf) => parts_shown(alloc, database, &leaf, name),
+        None => Ok(no_leaf(alloc, name)?),
+    }
+}
+
+fn parts_shown<'a>(
+    alloc: Global,
+    database: &mut Database,
+    leaf: &Leaf,
+    name: &str,
+) -> Result<String, ProgramFault<'a>>
+    ensures shown { (catalogue : Catalogue) (whole : Relations) → GoesOn catalogue whole database.old → IfOk result (λ text. ShowsPartsOf catalogue name.now leaf.now (standing_of database.old) (standing_of database.new) (string_bytes text)) }
+    ensures goes_on { (catalogue : Catalogue) (whole : Relations) → GoesOn catalogue whole database.old → OnOk result (GoesOn catalogue whole database.new) }
+    ensures err { IfErr result IsOfClient }
+{
+    match database.parts(leaf) {
+        Ok(found) => Ok(parts_text(alloc, database.catalog(), leaf, name, found)?),
+        Err(fault) => Err(stopped(fault)),
+    }
+}
+
+/// What stops the program where the machines can't show what they keep. Lists refuse for want of memory alone.
+fn stopped<'a>(fault: Fault) -> ProgramFault<'a>
+    ensures { IsOfClient result }
+{
+    match fault {
+        Fault::Desk(Refusal::Store(fault)) | Fault::Site(SiteFault::Store(fault)) => {
+            ProgramFault::Store { fault }
+        }
+        _ => ProgramFault::Memory,
+    }
+}
