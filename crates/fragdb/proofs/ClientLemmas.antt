@@ -15,16 +15,18 @@ use Rattle.desk.specs.declared.refusal.Refusal.{Refusal}
 use Rattle.desk.specs.declared.reply.Notice.{Notice}
 use Rattle.desk.specs.Database.{Database, language}
 use Rattle.world.specs.declared.solo.Solo as code
-use Rattle.world.specs.Base.{database}
+use Rattle.world.specs.Base.{database, fits}
+use Rattle.world.specs.Denying.{Denies}
 use Rattle.world.specs.Held.{OfStores, held}
 use Rattle.world.specs.Machines.{AreFit, Machines}
+use Rattle.world.specs.Obeying.{Stands}
 use Rattle.world.specs.Serving.{Executes, IsServed, IsServedOn, ServedIsSerial}
 use Rattle.world.specs.Settled.{AreThoseOf, parts_kept, rows_shown}
 use Rattle.world.specs.Stopping.{is_stop, stopped_by}
 use Rattle.fragdb.specs.declared.reply.Reply.{Reply}
 use Rattle.fragdb.specs.PlayText.{refused_text}
 use Rattle.fragdb.specs.Reply.{Refused, Told, told_by}
-use Rattle.fragdb.specs.Client.{AnswersLine, GoesOn, IsHeard, Standing, WasServed, heard_text, standing_of}
+use Rattle.fragdb.specs.Client.{AnswersLine, GoesOn, IsDenied, IsHeard, Standing, WasServed, heard_text, standing_of}
 use Rattle.std.specs.Io.KnownBytes.{Appends}
 use Rattle.fragdb.specs.declared.fault.ProgramFault.{ProgramFault}
 use Rattle.fragdb.specs.declared.script.Item.{Item}
@@ -87,6 +89,12 @@ module _ (catalogue : Catalogue) (whole : Relations) (old new : code.Solo PlainD
     lines = lines;
   }
 
+  -- a command that is refused is so for its reason
+  pub is_denied : (text : List ℕ) (refusal : Refusal) →
+      ((whole : Relations) (past : List (Deed (language (database own)))) → old.stopped ≡ None → Clean → Sound → IsServed (database own) whole before past → Stands (database own) (fits own) old.current before past → Denies (database own) text old.current before past refusal) →
+      IsDenied catalogue text (standing_of old) refusal
+  is_denied text refusal denied = subst (λ (c : Catalogue). IsDenied c text (standing_of old) refusal) h.catalog (λ whole past served stands. denied whole past h.going (clean new.machines) h.sound served stands)
+
   -- what is shown of the whole database that the fragments are those of, and of a leaf
   pub rows_of_own : (name : List ℕ) (shown : Option (List (List Value))) → ((whole : Relations) → Clean → Sound → AreFit (database own) before → AreThoseOf (database own) before whole → FitsSchema (schemas_of own) whole → shown ≡ rows_shown (database own) whole name) →
       (other : Relations) → AreThoseOf (database catalogue) before other → FitsSchema (schemas_of catalogue) other → shown ≡ rows_shown (database catalogue) other name
@@ -106,11 +114,11 @@ on_ok (Ok x) f h = f h
 on_ok (Err e) f h = tt
 
 -- a refusal that does not stop the database is told
-pub is_turned_away : {E : Type 0} (catalogue : Catalogue) (text : List ℕ) (before after : Standing) (refusal : Refusal) (result : Result Reply E) → after.current ≡ before.current → OnOk result (is_stop refusal ≡ false) → IfOk result (λ reply. told_by reply ≡ Refused (refused_text refusal ++ 10 ∷ [])) →
+pub is_turned_away : {E : Type 0} (catalogue : Catalogue) (text : List ℕ) (before after : Standing) (refusal : Refusal) (result : Result Reply E) → IsDenied catalogue text before refusal → after.current ≡ before.current → OnOk result (is_stop refusal ≡ false) → IfOk result (λ reply. told_by reply ≡ Refused (refused_text refusal ++ 10 ∷ [])) →
     IfOk result (λ reply. AnswersLine catalogue text before after (told_by reply))
-is_turned_away catalogue text earlier later refusal (Ok reply) same goes told =
-    subst (λ (t : Told). AnswersLine catalogue text earlier later t) (sym told) (record { refusal = refusal; goes_on = goes; same = same; line = refl })
-is_turned_away catalogue text earlier later refusal (Err e) same goes told = tt
+is_turned_away catalogue text earlier later refusal (Ok reply) why same goes told =
+    subst (λ (t : Told). AnswersLine catalogue text earlier later t) (sym told) (record { refusal = refusal; why = why; goes_on = goes; same = same; line = refl })
+is_turned_away catalogue text earlier later refusal (Err e) why same goes told = tt
 
 -- a script over a database that was opened has run
 pub ran_from : (old new : Option (List ℕ)) (catalogue : Catalogue) (items : List Item) (opened ended : code.Solo PlainDesk PlainSite) (result : Result Bool ProgramFault) → IsServed (database catalogue) (no_rows catalogue) (held desk_kept kept_of opened.machines) [] →

@@ -16,9 +16,11 @@ use Rattle.desk.specs.declared.refusal.Refusal.{Refusal}
 use Rattle.desk.specs.declared.reply.Notice.{Notice}
 use Rattle.desk.specs.Database.{Database, language}
 use Rattle.world.specs.declared.solo.Solo as code
-use Rattle.world.specs.Base.{database}
+use Rattle.world.specs.Base.{database, fits}
+use Rattle.world.specs.Denying.{Denies}
 use Rattle.world.specs.Held.{OfStores, held}
 use Rattle.world.specs.Machines.{Machines}
+use Rattle.world.specs.Obeying.{Stands}
 use Rattle.world.specs.Serving.{Executes, IsServed}
 use Rattle.world.specs.Settled.{AreThoseOf, parts_kept, rows_shown}
 use Rattle.world.specs.Stopping.{is_stop}
@@ -58,9 +60,16 @@ pub record IsHeard (catalogue : Catalogue) (text : List ℕ) (before after : Sta
   pub executes : Executes (database catalogue) text before.current before.machines after.current after.machines heard
   pub lines : told ≡ heard_text heard
 
+-- where the database stands, a command of this text is refused for its reason alone: the text is no command's, BEGIN comes inside a transaction, COMMIT or ROLLBACK outside one, or something is at a limit
+abbrev pub IsDenied : Catalogue → List ℕ → Standing → Refusal → Type 0
+IsDenied catalogue text before told =
+    (whole : Relations) (past : List (Deed (language (database catalogue)))) → IsServed (database catalogue) whole before.machines past → Stands (database catalogue) (fits catalogue) before.current before.machines past →
+    Denies (database catalogue) text before.current before.machines past told
+
 -- a command is refused, and that is told; the transaction that was open stays so
-pub record IsTurnedAway (before after : Standing) (told : List ℕ) : Type 0 where
+pub record IsTurnedAway (catalogue : Catalogue) (text : List ℕ) (before after : Standing) (told : List ℕ) : Type 0 where
   pub refusal : Refusal
+  pub why : IsDenied catalogue text before refusal
   pub goes_on : is_stop refusal ≡ false
   pub same : after.current ≡ before.current
   pub line : told ≡ refused_text refusal ++ 10 ∷ []
@@ -68,7 +77,7 @@ pub record IsTurnedAway (before after : Standing) (told : List ℕ) : Type 0 whe
 -- what a command is answered by
 abbrev pub AnswersLine : Catalogue → List ℕ → Standing → Standing → Told → Type 0
 AnswersLine catalogue text before after (Answered told) = IsHeard catalogue text before after told
-AnswersLine catalogue text before after (Refused told) = IsTurnedAway before after told
+AnswersLine catalogue text before after (Refused told) = IsTurnedAway catalogue text before after told
 
 -- a relation is shown with the rows that it has in the whole database that the settled fragments are those of
 abbrev pub ShowsRelation : Catalogue → List ℕ → Standing → Standing → List ℕ → Type 0

@@ -1,7 +1,7 @@
 use Rattle.std.proofs.Common.{ap, ◌∙◌}
 use Rattle.world.specs.Stopping.{stopped_by}
 use Rattle.fragdb.specs.Client.{heard_text, standing_of}
-use Rattle.fragdb.proofs.ClientLemmas.{goes_on, is_heard, is_turned_away, not_stopped, on_ok}
+use Rattle.fragdb.proofs.ClientLemmas.{goes_on, is_denied, is_heard, is_turned_away, not_stopped, on_ok}
 use Rattle.fragdb.proofs.client.command.Goals as goal
 
 pub returns-in_ok-heard_text-in-Ok-clause-answers : goal.returns-in_ok-heard_text-in-Ok-clause-answers
@@ -14,7 +14,8 @@ returns-in_ok-heard_text-in-Ok-clause-goes_on c = λ catalogue whole h.
 
 pub returns-in-Err-clause-answers : goal.returns-in-Err-clause-answers
 returns-in-Err-clause-answers c = λ catalogue whole h.
-    is_turned_away catalogue c.args.text.now (standing_of c.args.database.now) (standing_of c.execute.new.self) c.in-Err.refusal c.refused.result c.in-Err.ensures.still c.refused.ensures.goes_on c.refused.ensures.told
+    is_turned_away catalogue c.args.text.now (standing_of c.args.database.now) (standing_of c.execute.new.self) c.in-Err.refusal c.refused.result
+    (is_denied catalogue whole c.args.database.now c.execute.new.self h c.args.text.now c.in-Err.refusal c.in-Err.ensures.denied) c.in-Err.ensures.still c.refused.ensures.goes_on c.refused.ensures.told
 
 pub returns-in-Err-clause-goes_on : goal.returns-in-Err-clause-goes_on
 returns-in-Err-clause-goes_on c = λ catalogue whole h.
