@@ -11,6 +11,7 @@
 #
 # What the committed transactions mean is computed here, over whole relations and without fragments, letters or locks:
 # each transaction of `.committed`, in that order, has to have been answered so, and the relations have to be those.
+# And `fragdb solo`, given the same transactions in the same order, each between BEGIN and COMMIT, has to print the same.
 # The program is crates/fragdb/out/fragdb, or the one that FRAGDB names. Ends with 1 where one schedule differs.
 set -u
 cd "$(dirname "$0")/.."
@@ -224,7 +225,20 @@ class Schedule:
             wanted = table(COLUMNS[relation], [row for _, row in sorted(relations[relation].items())])
             if rows != wanted:
                 return f"{relation} is {rows}, and in turn it is {wanted}"
-        return None
+        return self.alone(committed, shown)
+
+    def alone(self, committed, shown):
+        """What `solo` prints otherwise, of the committed transactions one after another; nothing where it prints the same."""
+        lines, wanted = [load[len("load "):] for load in self.loads], ["changed 1"] * len(self.loads)
+        for name in committed:
+            lines += ["BEGIN", *(statement.text() for statement in self.accepted[name]), "COMMIT"]
+            wanted += ["begun", *self.answers(name), "committed"]
+        lines += [".show dept", ".show emp"]
+        script = "\n".join(lines) + "\n"
+        ran = subprocess.run([PROGRAM, "solo", "--catalog", CATALOGUE, "-"], input=script, capture_output=True, text=True)
+        printed = ran.stdout.splitlines()
+        wanted += [text for rows in shown for text in rows]
+        return None if printed == wanted else f"solo printed {printed}, and {wanted} was wanted of\n{script}{ran.stderr}"
 
 
 def told(schedule):
