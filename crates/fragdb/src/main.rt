@@ -1,5 +1,6 @@
 //! fragdb: a relational database in fragments. `fragdb solo SCRIPT` runs a script over a catalogue, one
-//! command at a time; `fragdb check CATALOG` checks a catalogue and lists its fragments.
+//! command at a time; `fragdb check CATALOG` checks a catalogue and lists its fragments; `fragdb plan` shows
+//! which of them a statement reads; `fragdb play SCRIPT` plays a schedule, letter by letter.
 //!
 //! The contract that carries it is that of `perform::perform`: what is written and what comes of each request.
 #![tactic(auto)]
