@@ -1,10 +1,12 @@
 -- What the program does of what the command line asks for.
-use Rattle.std.specs.Prelude.{ℕ, Bool, true, false, List, Option, None, Result, Ok, Err, bytes_eq, codes}
+use Rattle.std.specs.Prelude.{◌⊎◌, ℕ, Bool, true, false, List, Option, None, Result, Ok, Err, bytes_eq, codes}
 use Rattle.std.specs.Borrow.{Bor}
+use Rattle.std.specs.Io.KnownBytes.{Keeps}
 use Rattle.fragdb.specs.declared.outcome.Outcome.{Outcome}
 use Rattle.fragdb.specs.declared.outcome.Outcome.TheVariants.{Done, SomeRefused, Refused, RefusedStatement, Stopped}
 use Rattle.fragdb.specs.declared.usage.Request.{Request}
 use Rattle.fragdb.specs.declared.usage.Request.TheVariants.{Solo, Check, Plan, Play}
+use Rattle.fragdb.specs.CatalogFile.{RefusesFile}
 use Rattle.fragdb.specs.Check.{ChecksFile}
 use Rattle.fragdb.specs.declared.catalog_file.CatalogFault.{CatalogFault}
 use Rattle.fragdb.specs.declared.catalog_file.CatalogFault.TheVariants as catalog
@@ -116,6 +118,25 @@ IsStopped SomeRefused = ⊥
 IsStopped (Refused fault) = Unit
 IsStopped (RefusedStatement fault) = ⊥
 IsStopped (Stopped fault) = Unit
+
+-- the outcome of a script whose catalogue can't be opened: that is told, and nothing is written
+abbrev pub StopsUncatalogued : Request → Bor (List ℕ) → Option (List ℕ) → Option (List ℕ) → Outcome → Type 0
+StopsUncatalogued (Solo given file) name old new outcome = IsUnread name outcome × Keeps old new
+StopsUncatalogued (Play given file) name old new outcome = IsUnread name outcome × Keeps old new
+StopsUncatalogued other name old new outcome = Unit
+
+-- the outcome where a script can't be opened: its catalogue, of these bytes, is none, or that is told
+abbrev pub IsIdle : Bor (List ℕ) → List ℕ → Bor (List ℕ) → Outcome → Type 0
+IsIdle name bytes file Done = ⊥
+IsIdle name bytes file SomeRefused = ⊥
+IsIdle name bytes file (Refused fault) = RefusesFile bytes fault.relation fault.rule
+IsIdle name bytes file (RefusedStatement fault) = ⊥
+IsIdle name bytes file (Stopped fault) = IsOfInput name fault ⊎ IsOfInput file fault
+
+abbrev pub StopsIdle : Request → Bor (List ℕ) → List ℕ → Outcome → Type 0
+StopsIdle (Solo given file) name bytes outcome = IsIdle name bytes file outcome
+StopsIdle (Play given file) name bytes outcome = IsIdle name bytes file outcome
+StopsIdle other name bytes outcome = Unit
 
 -- the outcome where the file that is asked for can't be opened; a script may be stopped by its catalogue before
 abbrev pub StopsUnread : Request → Outcome → Type 0

@@ -2,7 +2,7 @@
 
 ghost use Rattle.std.specs.Prelude.{◌≡◌, IfErr, IfOk, IfSome};
 ghost use Rattle.std.specs.Io.KnownBytes.{Keeps};
-ghost use Rattle.fragdb.specs.Perform.{IsStopped, IsUnread, Performs, PerformsCheck, PerformsPlan, PerformsOver, PerformsPlayOf, PerformsSolo, StopsUnread};
+ghost use Rattle.fragdb.specs.Perform.{IsIdle, IsStopped, IsUnread, Performs, PerformsCheck, PerformsPlan, PerformsOver, PerformsPlayOf, PerformsSolo, StopsIdle, StopsUncatalogued, StopsUnread};
 ghost use Rattle.fragdb.specs.Perform as spec;
 
 use crate::catalog_file::CatalogFault;
@@ -62,6 +62,8 @@ pub fn perform<'a, C: Read + Drop, R: Read + Drop, W: Write>(
 ) -> Outcome<'a>
     ensures opened { IfOk input (λ reader. IfSome (R.remaining reader) (λ bytes. Performs request.entry bytes (W.contents output.old) (W.contents output.new) result)) }
     ensures over { IfOk catalog (λ opened. IfSome (C.remaining opened) (λ bytes. IfOk input (λ reader. IfSome (R.remaining reader) (λ script. PerformsOver request.entry catalog_file.entry bytes script (W.contents output.old) (W.contents output.new) result)))) }
+    ensures uncatalogued { IfErr catalog (λ error. StopsUncatalogued request.entry catalog_file.entry (W.contents output.old) (W.contents output.new) result) }
+    ensures idle { IfOk catalog (λ opened. IfSome (C.remaining opened) (λ bytes. IfErr input (λ error. StopsIdle request.entry catalog_file.entry bytes result))) }
     ensures unread { IfErr input (λ error. StopsUnread request.entry result) }
     ensures quiet { IfErr input (λ error. Keeps (W.contents output.old) (W.contents output.new)) }
 {
@@ -90,6 +92,8 @@ fn perform_solo<'a, C: Read + Drop, R: Read + Drop, W: Write>(
     output: &mut W,
 ) -> Outcome<'a>
     ensures ran { IfOk catalog (λ opened. IfSome (C.remaining opened) (λ bytes. IfOk input (λ reader. IfSome (R.remaining reader) (λ text. PerformsSolo file.entry bytes script.entry text (W.contents output.old) (W.contents output.new) result)))) }
+    ensures uncatalogued { IfErr catalog (λ error. IsUnread file.entry result × Keeps (W.contents output.old) (W.contents output.new)) }
+    ensures idle { IfOk catalog (λ opened. IfSome (C.remaining opened) (λ bytes. IfErr input (λ error. IsIdle file.entry bytes script.entry result))) }
     ensures unread { IfErr input (λ error. IsStopped result) }
     ensures quiet { IfErr input (λ error. Keeps (W.contents output.old) (W.contents output.new)) }
 {
@@ -144,6 +148,8 @@ fn perform_play<'a, C: Read + Drop, R: Read + Drop, W: Write>(
     output: &mut W,
 ) -> Outcome<'a>
     ensures played { IfOk catalog (λ opened. IfSome (C.remaining opened) (λ bytes. IfOk input (λ reader. IfSome (R.remaining reader) (λ text. PerformsPlayOf file.entry bytes script.entry text (W.contents output.old) (W.contents output.new) result)))) }
+    ensures uncatalogued { IfErr catalog (λ error. IsUnread file.entry result × Keeps (W.contents output.old) (W.contents output.new)) }
+    ensures idle { IfOk catalog (λ opened. IfSome (C.remaining opened) (λ bytes. IfErr input (λ error. IsIdle file.entry bytes script.entry result))) }
     ensures unread { IfErr input (λ error. IsStopped result) }
     ensures quiet { IfErr input (λ error. Keeps (W.contents output.old) (W.contents output.new)) }
 {

@@ -71,7 +71,7 @@ impl<S: SiteStore> Site<S> {
         ensures refusal { IfErr result (λ unstarted. unstarted.fault ≡ faults.Store store_faults.Refused → HasRefused (S.refused store) (S.refused unstarted.store)) }
         ensures full { IfErr result (λ unstarted. S.is_clean unstarted.store → unstarted.fault ≡ faults.Full → 2 ^ 63 ≤ (S.kept unstarted.store).life + 1) }
         ensures damaged { IfErr result (λ unstarted. S.is_clean unstarted.store → S.is_sound store → unstarted.fault ≡ faults.Store store_faults.Damaged → IsStrange leaves.now (S.kept unstarted.store)) }
-        ensures own { IfErr result (λ unstarted. unstarted.fault ≢ faults.Stranger) }
+        ensures own { IfErr result (λ unstarted. (unstarted.fault ≡ faults.Memory) ⊎ (unstarted.fault ≡ faults.Full) ⊎ (unstarted.fault ≡ faults.Store store_faults.Refused) ⊎ (unstarted.fault ≡ faults.Store store_faults.Damaged)) }
     {
         let mut store = store;
         match begin(&mut store, alloc, leaves) {

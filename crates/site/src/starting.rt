@@ -55,7 +55,7 @@ pub(crate) fn begin<S: SiteStore>(
     ensures refusal { result ≡ Err (faults.Store store_faults.Refused) → HasRefused (S.refused store.old) (S.refused store.new) }
     ensures full { S.is_clean store.new → result ≡ Err faults.Full → 2 ^ 63 ≤ (S.kept store.new).life + 1 }
     ensures damaged { S.is_clean store.new → S.is_sound store.old → result ≡ Err (faults.Store store_faults.Damaged) → IsStrange leaves.now (S.kept store.new) }
-    ensures own { result ≢ Err faults.Stranger }
+    ensures own { IfErr result (λ fault. (fault ≡ faults.Memory) ⊎ (fault ≡ faults.Full) ⊎ (fault ≡ faults.Store store_faults.Refused) ⊎ (fault ≡ faults.Store store_faults.Damaged)) }
 {
     let all = match store.load() {
         Ok(all) => all,

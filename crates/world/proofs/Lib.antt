@@ -15,6 +15,7 @@ pub mod Rebuilt
 pub mod BaseSites
 pub mod Shown
 pub mod Told
+pub mod Unstarted
 pub mod Numbered
 pub mod Refusing
 pub mod Running

@@ -15,7 +15,7 @@ ghost use Rattle.desk.specs.Database.{language};
 ghost use Rattle.world.specs.Base.{IsBase, database, fits};
 ghost use Rattle.world.specs.Denying.{DeniesForAReason};
 ghost use Rattle.world.specs.Obeying.{ObeysUnlessRefused};
-ghost use Rattle.world.specs.Runs.{RunsAreSerial};
+ghost use Rattle.world.specs.Runs.{RunsAreSerial, RunsAreWhole};
 ghost use Rattle.world.specs.Serving.{ServedIsSerial};
 ghost use Rattle.world.specs.Smoothly.{ServesSmoothly, ServesUnlessRefused};
 
@@ -70,6 +70,13 @@ pub fn applied_whole_and_once(catalog: &Catalog)
     ensures { AppliedWholeAndOnce (language (database (catalogue_of catalog.now))) }
 {
     language_is_lawful(catalog);
+}
+
+/// The same of the machines at hand: after each run of them.
+pub fn runs_are_whole(catalog: &Catalog)
+    ensures { RunsAreWhole (database (catalogue_of catalog.now)) }
+{
+    applied_whole_and_once(catalog);
 }
 
 /// One client alone, whose delivered letters are forgotten, goes from a world of a run to a world of a run.

@@ -1,11 +1,13 @@
 //! The machines of a database start.
 
-ghost use Rattle.std.specs.Prelude.{◌≡◌, IfOk};
+ghost use Rattle.std.specs.Prelude.{◌≡◌, true, IfOk, IfErr};
 ghost use Rattle.std.specs.List.{AllByRecursion};
 ghost use Rattle.catalog.specs.Relation.{catalogue_of};
 ghost use Rattle.desk.specs.Database.{Database};
 ghost use Rattle.store.specs.PlainDesk.{kept_of as desk_kept};
 ghost use Rattle.store.specs.PlainSite.{IsSound, kept_of};
+ghost use Rattle.site.specs.declared.fault.SiteFault.TheVariants as site_faults;
+ghost use Rattle.world.specs.Fault.{is_memory};
 ghost use Rattle.world.specs.Held.{OfStores, held};
 ghost use Rattle.world.specs.Placed.{IsPlaced, Opens};
 ghost use Rattle.world.specs.Opening.{AllStarted, IsStarted};
@@ -35,6 +37,7 @@ fn start_site(
 ) -> Result<Site<PlainSite>, SiteFault>
     ensures started { IfOk result (λ site. IsStarted (catalogue_of catalog.now) whole.now place name.now (seat_from kept_of site)) }
     ensures sound { IfOk result (λ site. IsSound site.store) }
+    ensures err { IfErr result (λ fault. fault ≡ site_faults.Memory) }
 {
     let parts = parts_at(alloc, catalog, whole, place)?;
     let leaves = catalog.leaves_at(place)?;
@@ -53,6 +56,7 @@ pub(crate) fn start_sites(
 ) -> Result<Vec<Site<PlainSite>>, SiteFault>
     ensures started { IfOk result (λ sites. AllStarted (catalogue_of catalog.now) whole.now 0 catalog.now.0 (seats_in kept_of sites.items)) }
     ensures sound { IfOk result (λ sites. AllByRecursion (λ site. IsSound site.store) sites.items) }
+    ensures err { IfErr result (λ fault. fault ≡ site_faults.Memory) }
 {
     let names = catalog.sites();
     let mut sites = Vec::new(alloc);
@@ -63,7 +67,8 @@ pub(crate) fn start_sites(
     Ok(sites)
 }
 
-/// The machines of a database over lists start: whole relations stand in its fragments.
+/// The machines of a database over lists start: whole relations stand in its fragments. Only want of memory is a
+/// fault.
 pub(crate) fn start(
     alloc: Global,
     catalog: Catalog,
@@ -72,6 +77,7 @@ pub(crate) fn start(
     ensures opens { IfOk result (λ machines. (db : Database) → IsPlaced db (catalogue_of catalog) whole.now → Opens db whole.now (held desk_kept kept_of machines)) }
     ensures catalog { IfOk result (λ machines. machines.desk.catalog ≡ catalog) }
     ensures sound { IfOk result (λ machines. OfStores (λ _. Unit {0}) IsSound machines) }
+    ensures err { IfErr result (λ fault. is_memory fault ≡ true) }
 {
     let _relations = catalog.relations();
     let sites = start_sites(alloc, &catalog, whole)?;

@@ -1,6 +1,6 @@
 //! A database for one client at a time.
 
-ghost use Rattle.std.specs.Prelude.{◌≡◌, ◌≢◌, ◌⊎◌, ℕ, List, [], None, Some, Err, IfErr, IfOk, OnErr, OnOk};
+ghost use Rattle.std.specs.Prelude.{◌≡◌, ◌≢◌, ◌⊎◌, ℕ, true, List, [], None, Some, Err, IfErr, IfOk, OnErr, OnOk};
 ghost use Rattle.std.specs.Option.{option_map};
 ghost use Rattle.meaning.specs.Whole.{FitsSchema, Relations};
 ghost use Rattle.catalog.specs.FragmentLeaf.{schemas_of};
@@ -21,6 +21,7 @@ ghost use Rattle.desk.specs.declared.refusal.Refusal.{Refusal as RefusalNow};
 ghost use Rattle.desk.specs.declared.refusal.Refusal.TheVariants as refusals;
 ghost use Rattle.world.specs.declared.fault.Fault.TheVariants as faults;
 ghost use Rattle.world.specs.Base.{database, fits};
+ghost use Rattle.world.specs.Fault.{is_memory};
 ghost use Rattle.world.specs.Held.{OfStores, held};
 ghost use Rattle.world.specs.Machines.{AreFit};
 ghost use Rattle.world.specs.Obeying.{Obeys, Stands};
@@ -67,7 +68,7 @@ pub struct Solo<D: DeskStore, S: SiteStore> {
     stopped: Option<Refusal>,
 }
 
-/// A database over lists is opened: the fragments rebuild these whole relations.
+/// A database over lists is opened: the fragments rebuild these whole relations. Only want of memory is a fault.
 pub fn open(
     alloc: Global,
     catalog: Catalog,
@@ -80,6 +81,7 @@ pub fn open(
     ensures catalog { IfOk result (λ solo. solo.machines.desk.catalog ≡ catalog) }
     ensures sound { IfOk result (λ solo. OfStores (λ _. Unit {0}) IsSound solo.machines) }
     ensures idle { IfOk result (λ solo. (solo.current ≡ None) × (solo.stopped ≡ None)) }
+    ensures err { IfErr result (λ fault. is_memory fault ≡ true) }
 {
     database_is_of_catalogue(&catalog);
     match start(alloc, catalog, whole) {

@@ -17,13 +17,14 @@ ghost use Rattle.world.specs.declared.event.Entry.{Entry as EntryNow};
 ghost use Rattle.world.specs.declared.event.Event.TheVariants as events;
 ghost use Rattle.world.specs.declared.fault.Fault.TheVariants as faults;
 ghost use Rattle.world.specs.Events.{is_unsent};
+ghost use Rattle.world.specs.Fault.{is_memory};
 ghost use Rattle.world.specs.Following.{Follows, Passes};
 ghost use Rattle.world.specs.Held.{OfStores, held};
 ghost use Rattle.world.specs.History.{AnswerInTurn, committed_of};
 ghost use Rattle.world.specs.Machines.{AreFit};
 ghost use Rattle.world.specs.Posted.{letters_in};
 ghost use Rattle.world.specs.Refused.{IsToldOf};
-ghost use Rattle.world.specs.Runs.{IsRun, RunsOn};
+ghost use Rattle.world.specs.Runs.{AppliesWhole, IsRun, RunsOn};
 ghost use Rattle.world.specs.Settled.{AreThoseOf, ShowsSerial, parts_kept, rows_shown};
 ghost use Rattle.world.specs.Telling.{committed_in};
 
@@ -31,7 +32,7 @@ use crate::event::{Entry, Event};
 use crate::fault::Fault;
 use crate::happening::happen;
 use crate::history::{Committed, committed_in};
-use crate::laws::{database_is_of_catalogue, language_is_lawful, runs_are_serial};
+use crate::laws::{database_is_of_catalogue, language_is_lawful, runs_are_serial, runs_are_whole};
 use crate::log::Log;
 use crate::machines::Machines;
 use crate::opening::start;
@@ -60,7 +61,8 @@ pub struct World<D: DeskStore, S: SiteStore> {
     entries: Log,
 }
 
-/// A world over lists is opened: the fragments rebuild these whole relations, and nothing has happened.
+/// A world over lists is opened: the fragments rebuild these whole relations, and nothing has happened. Only want of
+/// memory is a fault.
 pub fn open(
     alloc: Global,
     catalog: Catalog,
@@ -71,6 +73,7 @@ pub fn open(
     ensures none { IfOk result (λ world. world.entries.items ≡ []) }
     ensures catalog { IfOk result (λ world. world.machines.desk.catalog ≡ catalog) }
     ensures sound { IfOk result (λ world. OfStores (λ _. Unit {0}) IsSound world.machines) }
+    ensures err { IfErr result (λ fault. is_memory fault ≡ true) }
 {
     database_is_of_catalogue(&catalog);
     match start(alloc, catalog, whole) {
@@ -83,7 +86,8 @@ pub fn open(
 }
 
 impl<D: DeskStore, S: SiteStore> World<D, S> {
-    /// An event happens, and has an entry, the last one from now on. On a fault nothing has changed: `Unsent` where
+    /// An event happens, and has an entry, the last one from now on. A committed transaction stays applied whole
+    /// and once. On a fault nothing has changed: `Unsent` where
     /// no letter has the number, or no site the name; else why the machine refused, or want of memory.
     pub fn step(&mut self, event: Event) -> Result<(), Fault>
         ensures clean { OfStores D.is_clean S.is_clean self.new.machines → OfStores D.is_clean S.is_clean self.old.machines }
@@ -92,6 +96,10 @@ impl<D: DeskStore, S: SiteStore> World<D, S> {
             → OfStores D.is_clean S.is_clean self.new.machines → OfStores D.is_sound S.is_sound self.old.machines
             → IsRun (database (catalogue_of self.old.machines.desk.catalog)) whole (held D.kept S.kept self.old.machines) self.old.entries.items past
             → OnOk result (RunsOn (database (catalogue_of self.old.machines.desk.catalog)) whole (held D.kept S.kept self.new.machines) self.new.entries.items past) }
+        ensures whole { (whole : Relations) (past : List (Deed (language (database (catalogue_of self.old.machines.desk.catalog)))))
+            → OfStores D.is_clean S.is_clean self.new.machines → OfStores D.is_sound S.is_sound self.old.machines
+            → IsRun (database (catalogue_of self.old.machines.desk.catalog)) whole (held D.kept S.kept self.old.machines) self.old.entries.items past
+            → OnOk result (AppliesWhole (database (catalogue_of self.old.machines.desk.catalog)) whole (held D.kept S.kept self.new.machines) self.new.entries.items past) }
         ensures entry { OnOk result ((entry : EntryNow) × ((entry.event ≡ event) × (self.new.entries.items ≡ self.old.entries.items ++ entry ∷ []))) }
         ensures unsent { result ≡ Err faults.Unsent → is_unsent self.old.machines.desk.catalog.0 self.old.entries.items event ≡ true }
         ensures nowhere { is_unsent self.old.machines.desk.catalog.0 self.old.entries.items event ≡ true → (result ≡ Err faults.Unsent) ⊎ (result ≡ Err (faults.Desk refusals.Memory)) }
@@ -103,6 +111,7 @@ impl<D: DeskStore, S: SiteStore> World<D, S> {
         ensures same { OnErr result (self.new.entries.items ≡ self.old.entries.items) }
     {
         database_is_of_catalogue(self.machines.desk.catalog());
+        runs_are_whole(self.machines.desk.catalog());
         self.entries.make_room()?;
         match happen(&mut self.machines, &self.entries, &event) {
             Ok(out) => {
