@@ -16,25 +16,26 @@ use Rattle.desk.specs.declared.reply.Notice.{Notice}
 use Rattle.desk.specs.Database.{Database, language}
 use Rattle.world.specs.declared.solo.Solo as code
 use Rattle.world.specs.Base.{database, fits}
-use Rattle.world.specs.Denying.{Denies}
+use Rattle.world.specs.Deeds.{DeedsFollow, deeds_in_vain, deeds_of}
+use Rattle.world.specs.Denying.{Declines, Denies}
 use Rattle.world.specs.Held.{OfStores, held}
 use Rattle.world.specs.Machines.{AreFit, Machines}
 use Rattle.world.specs.Obeying.{Stands}
-use Rattle.world.specs.Serving.{Executes, IsServed, IsServedOn, ServedIsSerial}
+use Rattle.world.specs.Serving.{Executes, IsServed, ServedIsSerial}
 use Rattle.world.specs.Settled.{AreThoseOf, parts_kept, rows_shown}
 use Rattle.world.specs.Stopping.{is_stop, stopped_by}
 use Rattle.fragdb.specs.declared.reply.Reply.{Reply}
 use Rattle.fragdb.specs.PlayText.{refused_text}
-use Rattle.fragdb.specs.Reply.{Refused, Told, told_by}
-use Rattle.fragdb.specs.Client.{AnswersLine, GoesOn, IsDenied, IsHeard, Standing, WasServed, heard_text, standing_of}
+use Rattle.fragdb.specs.Reply.{Answered, Refused, Told, told_by}
+use Rattle.fragdb.specs.Client.{AnswersLine, AnswersTask, GoesOn, IsAnswered, IsDenied, IsHeard, Standing, heard_text, standing_of}
 use Rattle.std.specs.Io.KnownBytes.{Appends}
 use Rattle.fragdb.specs.declared.fault.ProgramFault.{ProgramFault}
 use Rattle.fragdb.specs.declared.script.Item.{Item}
-use Rattle.fragdb.specs.Script.{task_of}
-use Rattle.fragdb.specs.Solo.{IsRun, IsWork, no_rows}
+use Rattle.fragdb.specs.Script.{Reading, Runs, task_of}
+use Rattle.fragdb.specs.Solo.{IsRun, IsStretch, no_rows}
 use Rattle.fragdb.proofs.SoloLemmas.{clean}
 
-module _ (catalogue : Catalogue) (whole : Relations) (old new : code.Solo PlainDesk PlainSite) (h : GoesOn catalogue whole old) where
+module _ (catalogue : Catalogue) (whole : Relations) (past : List (Deed (language (database catalogue)))) (old new : code.Solo PlainDesk PlainSite) (h : GoesOn catalogue whole past old) where
   abbrev own : Catalogue
   own = catalogue_of old.machines.desk.catalog
 
@@ -50,50 +51,56 @@ module _ (catalogue : Catalogue) (whole : Relations) (old new : code.Solo PlainD
   abbrev Sound : Type 0
   Sound = OfStores {D = PlainDesk} {S = PlainSite} (λ _. Unit {0}) IsSound old.machines
 
-  own_served : WasServed own whole before
-  own_served = subst (λ (c : Catalogue). WasServed c whole before) (sym h.catalog) h.served
-
   own_fit : AreFit (database own) before
-  own_fit = own_served.1.fit
+  own_fit = subst (λ (c : Catalogue). AreFit (database c) before) (sym h.catalog) h.served.fit
 
-  -- a database that is served on goes on
-  pub goes_on : new.stopped ≡ None → new.machines.desk.catalog ≡ old.machines.desk.catalog → (Clean → Sound → OfStores {D = PlainDesk} {S = PlainSite} (λ _. Unit {0}) IsSound new.machines) →
-      ((whole : Relations) (past : List (Deed (language (database own)))) → Clean → Sound → IsServed (database own) whole before past → IsServedOn (database own) whole after past) → GoesOn catalogue whole new
-  goes_on going same sound served =
-      let on = served whole own_served.0 (clean new.machines) h.sound own_served.1 in
-      record {
-        going = going;
-        catalog = ap catalogue_of same ∙ h.catalog;
-        sound = sound (clean new.machines) h.sound;
-        served = subst (λ (c : Catalogue). WasServed c whole after) h.catalog (own_served.0 ++ on.deeds, on.served);
-      }
+  -- a database goes on from what has happened
+  goes_on : (later : List (Deed (language (database catalogue)))) → new.stopped ≡ None → new.machines.desk.catalog ≡ old.machines.desk.catalog → (Clean → Sound → OfStores {D = PlainDesk} {S = PlainSite} (λ _. Unit {0}) IsSound new.machines) → IsServed (database catalogue) whole after later → GoesOn catalogue whole later new
+  goes_on later going same sound served = record { going = going; catalog = ap catalogue_of same ∙ h.catalog; sound = sound (clean new.machines) h.sound; served = served }
 
   -- so does one of which something is shown
-  pub shows_on : (new.current ≡ old.current) × (new.stopped ≡ old.stopped) → new.machines.desk.catalog ≡ old.machines.desk.catalog → (Clean → Sound → OfStores {D = PlainDesk} {S = PlainSite} (λ _. Unit {0}) IsSound new.machines) → (Clean → Sound → after ≡ before) → GoesOn catalogue whole new
-  shows_on still same sound keeps =
-      record {
-        going = still.1 ∙ h.going;
-        catalog = ap catalogue_of same ∙ h.catalog;
-        sound = sound (clean new.machines) h.sound;
-        served = subst (λ (machines : Machines). WasServed catalogue whole machines) (sym (keeps (clean new.machines) h.sound)) h.served;
-      }
+  pub shows_on : (new.current ≡ old.current) × (new.stopped ≡ old.stopped) → new.machines.desk.catalog ≡ old.machines.desk.catalog → (Clean → Sound → OfStores {D = PlainDesk} {S = PlainSite} (λ _. Unit {0}) IsSound new.machines) → (Clean → Sound → after ≡ before) → GoesOn catalogue whole past new
+  shows_on still same sound keeps = goes_on past (still.1 ∙ h.going) same sound (subst (λ (machines : Machines). IsServed (database catalogue) whole machines past) (sym (keeps (clean new.machines) h.sound)) h.served)
 
-  pub stands_still : (new.current ≡ old.current) × (new.stopped ≡ old.stopped) → (Clean → Sound → after ≡ before) → standing_of new ≡ standing_of old
+  pub stands_still : (new.current ≡ old.current) × (new.stopped ≡ old.stopped) → (Clean → Sound → after ≡ before) → standing_of catalogue new past ≡ standing_of catalogue old past
   stands_still still keeps = rw (still.0, keeps (clean new.machines) h.sound) refl
 
   -- a command that is executed is heard
-  pub is_heard : (text : List ℕ) (heard : List Notice) (told : List ℕ) → (old.stopped ≡ None → Clean → Sound → AreFit (database own) before → Executes (database own) text old.current before new.current after heard) → told ≡ heard_text heard → IsHeard catalogue text (standing_of old) (standing_of new) told
-  is_heard text heard told executes lines = record {
-    heard = heard;
-    executes = subst (λ (c : Catalogue). Executes (database c) text old.current before new.current after heard) h.catalog (executes h.going (clean new.machines) h.sound own_fit);
-    lines = lines;
-  }
+  pub is_heard : (text : List ℕ) (heard : List Notice) (told : List ℕ) → DeedsFollow (database own) → new.stopped ≡ None → new.machines.desk.catalog ≡ old.machines.desk.catalog → (Clean → Sound → OfStores {D = PlainDesk} {S = PlainSite} (λ _. Unit {0}) IsSound new.machines) →
+      (old.stopped ≡ None → Clean → Sound → AreFit (database own) before → Executes (database own) text old.current before new.current after heard) → told ≡ heard_text heard → IsAnswered catalogue whole (Runs text) past old new (Answered told)
+  is_heard text heard told follow going same sound executes lines =
+      let does : Executes (database catalogue) text old.current before new.current after heard = subst (λ (c : Catalogue). Executes (database c) text old.current before new.current after heard) h.catalog (executes h.going (clean new.machines) h.sound own_fit) in
+      let law = subst (λ (c : Catalogue). DeedsFollow (database c)) h.catalog follow in
+      let deeds = deeds_of (database catalogue) text old.current before new.current after heard does in
+      record {
+        later = past ++ deeds;
+        goes_on = goes_on (past ++ deeds) going same sound (law.executed whole text old.current new.current before after heard past h.served does);
+        answers = record { heard = heard; executes = does; happened = refl; lines = lines };
+      }
 
   -- a command that is refused is so for its reason
-  pub is_denied : (text : List ℕ) (refusal : Refusal) →
+  is_denied : (text : List ℕ) (refusal : Refusal) →
       ((whole : Relations) (past : List (Deed (language (database own)))) → old.stopped ≡ None → Clean → Sound → IsServed (database own) whole before past → Stands (database own) (fits own) old.current before past → Denies (database own) text old.current before past refusal) →
-      IsDenied catalogue text (standing_of old) refusal
-  is_denied text refusal denied = subst (λ (c : Catalogue). IsDenied c text (standing_of old) refusal) h.catalog (λ whole past served stands. denied whole past h.going (clean new.machines) h.sound served stands)
+      IsDenied catalogue text (standing_of catalogue old past) refusal
+  is_denied text refusal denied =
+      let P : Catalogue → Type 0 = λ c. (whole : Relations) (past : List (Deed (language (database c)))) → IsServed (database c) whole before past → Stands (database c) (fits c) old.current before past → Denies (database c) text old.current before past refusal in
+      λ other served stands. subst P h.catalog (λ other past served stands. denied other past h.going (clean new.machines) h.sound served stands) other past served stands
+
+  -- a refusal that does not stop the database is told
+  pub is_turned_away : {E : Type 0} (text : List ℕ) (refusal : Refusal) (result : Result Reply E) → DeedsFollow (database own) → (is_stop refusal ≡ false → new.stopped ≡ None) → new.machines.desk.catalog ≡ old.machines.desk.catalog → (Clean → Sound → OfStores {D = PlainDesk} {S = PlainSite} (λ _. Unit {0}) IsSound new.machines) →
+      ((whole : Relations) (past : List (Deed (language (database own)))) → old.stopped ≡ None → Clean → Sound → IsServed (database own) whole before past → Stands (database own) (fits own) old.current before past → Denies (database own) text old.current before past refusal) →
+      (old.stopped ≡ None → Clean → Sound → AreFit (database own) before → Declines (database own) text old.current before after refusal) →
+      new.current ≡ old.current → OnOk result (is_stop refusal ≡ false) → IfOk result (λ reply. told_by reply ≡ Refused (refused_text refusal ++ 10 ∷ [])) → IfOk result (λ reply. IsAnswered catalogue whole (Runs text) past old new (told_by reply))
+  is_turned_away text refusal (Ok reply) follow going same sound denied declined still goes told =
+      let declines : Declines (database catalogue) text old.current before after refusal = subst (λ (c : Catalogue). Declines (database c) text old.current before after refusal) h.catalog (declined h.going (clean new.machines) h.sound own_fit) in
+      let law = subst (λ (c : Catalogue). DeedsFollow (database c)) h.catalog follow in
+      let deeds = deeds_in_vain (database catalogue) text old.current before after refusal declines in
+      subst (IsAnswered catalogue whole (Runs text) past old new) (sym told) (record {
+        later = past ++ deeds;
+        goes_on = goes_on (past ++ deeds) (going goes) same sound (law.refused whole text old.current before after refusal past goes h.served declines);
+        answers = record { refusal = refusal; why = is_denied text refusal denied; goes_on = goes; same = still; declines = declines; happened = refl; line = refl };
+      })
+  is_turned_away text refusal (Err e) follow going same sound denied declined still goes told = tt
 
   -- what is shown of the whole database that the fragments are those of, and of a leaf
   pub rows_of_own : (name : List ℕ) (shown : Option (List (List Value))) → ((whole : Relations) → Clean → Sound → AreFit (database own) before → AreThoseOf (database own) before whole → FitsSchema (schemas_of own) whole → shown ≡ rows_shown (database own) whole name) →
@@ -109,34 +116,24 @@ module _ (catalogue : Catalogue) (whole : Relations) (old new : code.Solo PlainD
 pub not_stopped : {T : Type 0} (result : Result T Refusal) (refusal : Refusal) (stopped : Option Refusal) → stopped ≡ stopped_by result → result ≡ Err refusal → is_stop refusal ≡ false → stopped ≡ None
 not_stopped result refusal stopped is here goes = is ∙ ap (λ done. stopped_by done) here ∙ rw (goes) refl
 
-pub on_ok : {T E P Q : Type 0} (result : Result T E) → (P → Q) → OnOk result P → OnOk result Q
-on_ok (Ok x) f h = f h
-on_ok (Err e) f h = tt
-
--- a refusal that does not stop the database is told
-pub is_turned_away : {E : Type 0} (catalogue : Catalogue) (text : List ℕ) (before after : Standing) (refusal : Refusal) (result : Result Reply E) → IsDenied catalogue text before refusal → after.current ≡ before.current → OnOk result (is_stop refusal ≡ false) → IfOk result (λ reply. told_by reply ≡ Refused (refused_text refusal ++ 10 ∷ [])) →
-    IfOk result (λ reply. AnswersLine catalogue text before after (told_by reply))
-is_turned_away catalogue text earlier later refusal (Ok reply) why same goes told =
-    subst (λ (t : Told). AnswersLine catalogue text earlier later t) (sym told) (record { refusal = refusal; why = why; goes_on = goes; same = same; line = refl })
-is_turned_away catalogue text earlier later refusal (Err e) why same goes told = tt
-
 -- a script over a database that was opened has run
 pub ran_from : (old new : Option (List ℕ)) (catalogue : Catalogue) (items : List Item) (opened ended : code.Solo PlainDesk PlainSite) (result : Result Bool ProgramFault) → IsServed (database catalogue) (no_rows catalogue) (held desk_kept kept_of opened.machines) [] →
     catalogue_of opened.machines.desk.catalog ≡ catalogue → OfStores {D = PlainDesk} {S = PlainSite} (λ _. Unit {0}) IsSound opened.machines → (opened.current ≡ None) × (opened.stopped ≡ None) → ServedIsSerial (database catalogue) →
-    ((catalogue : Catalogue) (whole : Relations) → GoesOn catalogue whole opened → IfOk result (λ any_refused. (written : List ℕ) × Appends old new written × IsWork catalogue (map task_of items) written any_refused (standing_of opened) (standing_of ended))) →
-    ((catalogue : Catalogue) (whole : Relations) → GoesOn catalogue whole opened → IfOk result (λ any_refused. GoesOn catalogue whole ended)) → IfOk result (λ any_refused. (written : List ℕ) × Appends old new written × IsRun catalogue (map task_of items) written any_refused)
-ran_from old new catalogue items opened ended (Ok any_refused) served over sound idle law works goes =
-    let h : GoesOn catalogue (no_rows catalogue) opened = record { going = idle.1; catalog = over; sound = sound; served = ([], served) } in
-    let work = works catalogue (no_rows catalogue) h in
-    let on = goes catalogue (no_rows catalogue) h in (
+    ((catalogue : Catalogue) (whole : Relations) (past : List (Deed (language (database catalogue)))) → GoesOn catalogue whole past opened → IfOk result (λ any_refused. (written : List ℕ) × Appends old new written × IsStretch catalogue whole (map task_of items) past opened ended written any_refused)) →
+    IfOk result (λ any_refused. (written : List ℕ) × Appends old new written × IsRun catalogue (map task_of items) written any_refused)
+ran_from old new catalogue items opened ended (Ok any_refused) served over sound idle law works =
+    let h : GoesOn catalogue (no_rows catalogue) [] opened = record { going = idle.1; catalog = over; sound = sound; served = served } in
+    let work = works catalogue (no_rows catalogue) [] h in
+    let stretch = work.2 in (
       work.0,
       work.1,
       record {
-        opening = standing_of opened;
-        opened = record { served = served; idle = idle.0 };
-        end = standing_of ended;
-        work = work.2;
-        serial = record { past = on.served.0; served = on.served.1; serial = law (no_rows catalogue) (held desk_kept kept_of ended.machines) on.served.0 on.served.1 };
+        opening = standing_of catalogue opened [];
+        opened = record { served = served; none = refl; idle = idle.0 };
+        end = standing_of catalogue ended stretch.later;
+        work = stretch.work;
+        served = stretch.goes_on.served;
+        serial = law (no_rows catalogue) (held desk_kept kept_of ended.machines) stretch.later stretch.goes_on.served;
       },
     )
-ran_from old new catalogue items opened ended (Err fault) served over sound idle law works goes = tt
+ran_from old new catalogue items opened ended (Err fault) served over sound idle law works = tt

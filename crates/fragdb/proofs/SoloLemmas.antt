@@ -46,18 +46,18 @@ or_false true = refl
 or_false false = refl
 
 -- one more task, after others
-one_more : (catalogue : Catalogue) (answers : List (Reading × Told)) (old middle new : Standing) (task : Reading) (told : Told) → AnswersTasks catalogue answers old middle → AnswersTask catalogue task middle new told → AnswersTasks catalogue (answers ++ (task, told) ∷ []) old new
+one_more : (catalogue : Catalogue) (answers : List (Reading × Told)) (old middle new : Standing catalogue) (task : Reading) (told : Told) → AnswersTasks catalogue answers old middle → AnswersTask catalogue task middle new told → AnswersTasks catalogue (answers ++ (task, told) ∷ []) old new
 one_more catalogue [] old middle new task told done next =
-    let P : Standing → Type 0 = λ standing. AnswersTask catalogue task standing new told in
+    let P : Standing catalogue → Type 0 = λ standing. AnswersTask catalogue task standing new told in
     (new, subst P done next, refl)
 one_more catalogue (first ∷ others) old middle new task told done next = (done.0, done.1, one_more catalogue others done.0 middle new task told done.2 next)
 
 -- nothing is done yet
-pub IsWork-none : (catalogue : Catalogue) (standing : Standing) → IsWork catalogue [] [] false standing standing
+pub IsWork-none : (catalogue : Catalogue) (standing : Standing catalogue) → IsWork catalogue [] [] false standing standing
 IsWork-none catalogue standing = record { answers = []; in_order = refl; answered = refl; lines = refl; refused = refl }
 
 -- one more answer
-IsWork-more : (catalogue : Catalogue) (tasks : List Reading) (written : List ℕ) (any_refused : Bool) (old middle new : Standing) (task : Reading) (told : Told) → IsWork catalogue tasks written any_refused old middle → AnswersTask catalogue task middle new told → IsWork catalogue (tasks ++ task ∷ []) (written ++ text_of told) (any_refused || is_refusal told) old new
+IsWork-more : (catalogue : Catalogue) (tasks : List Reading) (written : List ℕ) (any_refused : Bool) (old middle new : Standing catalogue) (task : Reading) (told : Told) → IsWork catalogue tasks written any_refused old middle → AnswersTask catalogue task middle new told → IsWork catalogue (tasks ++ task ∷ []) (written ++ text_of told) (any_refused || is_refusal told) old new
 IsWork-more catalogue tasks written any_refused old middle new task told h next = record {
   answers = h.answers ++ (task, told) ∷ [];
   in_order = map-append (λ p. p.0) h.answers ((task, told) ∷ []) ∙ ap (λ front. front ++ task ∷ []) h.in_order;
@@ -69,7 +69,7 @@ IsWork-more catalogue tasks written any_refused old middle new task told h next 
 }
 
 -- the same, at the next of some items
-pub IsWork-next : (catalogue : Catalogue) (items : List Item) (i : ℕ) (d : Item) (written : List ℕ) (any_refused : Bool) (old middle new : Standing) (told : Told) (line : List ℕ) (is_refused : Bool) → i < length items → IsWork catalogue (map task_of (take i items)) written any_refused old middle → AnswersTask catalogue (task_of (get_or items i d)) middle new told → line ≡ text_of told → is_refused ≡ is_refusal told → IsWork catalogue (map task_of (take (i + 1) items)) (written ++ line) (any_refused || is_refused) old new
+pub IsWork-next : (catalogue : Catalogue) (items : List Item) (i : ℕ) (d : Item) (written : List ℕ) (any_refused : Bool) (old middle new : Standing catalogue) (told : Told) (line : List ℕ) (is_refused : Bool) → i < length items → IsWork catalogue (map task_of (take i items)) written any_refused old middle → AnswersTask catalogue (task_of (get_or items i d)) middle new told → line ≡ text_of told → is_refused ≡ is_refusal told → IsWork catalogue (map task_of (take (i + 1) items)) (written ++ line) (any_refused || is_refused) old new
 IsWork-next catalogue items i d written any_refused old middle new told line is_refused within h next is_line is_so =
     rw (map_more task_of items i d within, is_line, is_so) (IsWork-more catalogue (map task_of (take i items)) written any_refused old middle new (task_of (get_or items i d)) told h next)
 

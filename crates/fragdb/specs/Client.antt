@@ -17,7 +17,8 @@ use Rattle.desk.specs.declared.reply.Notice.{Notice}
 use Rattle.desk.specs.Database.{Database, language}
 use Rattle.world.specs.declared.solo.Solo as code
 use Rattle.world.specs.Base.{database, fits}
-use Rattle.world.specs.Denying.{Denies}
+use Rattle.world.specs.Deeds.{deeds_in_vain, deeds_of}
+use Rattle.world.specs.Denying.{Declines, Denies}
 use Rattle.world.specs.Held.{OfStores, held}
 use Rattle.world.specs.Machines.{Machines}
 use Rattle.world.specs.Obeying.{Stands}
@@ -31,72 +32,72 @@ use Rattle.fragdb.specs.Reply.{Answered, Refused, Told}
 use Rattle.fragdb.specs.Script.{Nothing, Reading, Runs, ShowsLeaf as To_show_leaf, ShowsRelation as To_show_relation, Unreadable}
 use Rattle.fragdb.specs.Shown.{no_leaf_text, parts_text, relation_text, written_leaf}
 
--- where a client stands: its database's machines, and the transaction that it has begun
-pub record Standing : Type 0 where
+-- where a client stands: its database's machines, the transaction that it has begun, and what has happened to transactions since the opening
+pub record Standing (catalogue : Catalogue) : Type 0 where
   pub machines : Machines
   pub current : Option Txn
+  pub past : List (Deed (language (database catalogue)))
 
-abbrev pub standing_of : code.Solo PlainDesk PlainSite → Standing
-standing_of solo = record { machines = held desk_kept kept_of solo.machines; current = solo.current }
+abbrev pub standing_of : (catalogue : Catalogue) → code.Solo PlainDesk PlainSite → List (Deed (language (database catalogue))) → Standing catalogue
+standing_of catalogue solo past = record { machines = held desk_kept kept_of solo.machines; current = solo.current; past = past }
 
--- the machines stand after a run of the protocol, which began over these whole relations
-abbrev pub WasServed : Catalogue → Relations → Machines → Type 0
-WasServed catalogue whole machines = (past : List (Deed (language (database catalogue)))) × IsServed (database catalogue) whole machines past
-
--- nothing has stopped the database of this catalogue, which began over these whole relations
-pub record GoesOn (catalogue : Catalogue) (whole : Relations) (solo : code.Solo PlainDesk PlainSite) : Type 0 where
+-- nothing has stopped the database of this catalogue, whose machines stand after a run of the protocol, which began over these whole relations and to which this has happened
+pub record GoesOn (catalogue : Catalogue) (whole : Relations) (past : List (Deed (language (database catalogue)))) (solo : code.Solo PlainDesk PlainSite) : Type 0 where
   pub going : solo.stopped ≡ None
   pub catalog : catalogue_of solo.machines.desk.catalog ≡ catalogue
   pub sound : OfStores (λ _. Unit {0}) IsSound solo.machines
-  pub served : WasServed catalogue whole (held desk_kept kept_of solo.machines)
+  pub served : IsServed (database catalogue) whole (held desk_kept kept_of solo.machines) past
 
 -- what a client hears, a line for each notice
 abbrev pub heard_text : List Notice → List ℕ
 heard_text heard = flat_map (λ notice. reply_text notice.reply ++ 10 ∷ []) heard
 
--- a command is executed, and all that its client hears is told
-pub record IsHeard (catalogue : Catalogue) (text : List ℕ) (before after : Standing) (told : List ℕ) : Type 0 where
+-- a command is executed, all that its client hears is told, and its deeds have happened
+pub record IsHeard (catalogue : Catalogue) (text : List ℕ) (before after : Standing catalogue) (told : List ℕ) : Type 0 where
   pub heard : List Notice
   pub executes : Executes (database catalogue) text before.current before.machines after.current after.machines heard
+  pub happened : after.past ≡ before.past ++ deeds_of (database catalogue) text before.current before.machines after.current after.machines heard executes
   pub lines : told ≡ heard_text heard
 
 -- where the database stands, a command of this text is refused for its reason alone: the text is no command's, BEGIN comes inside a transaction, COMMIT or ROLLBACK outside one, or something is at a limit
-abbrev pub IsDenied : Catalogue → List ℕ → Standing → Refusal → Type 0
+abbrev pub IsDenied : (catalogue : Catalogue) → List ℕ → Standing catalogue → Refusal → Type 0
 IsDenied catalogue text before told =
-    (whole : Relations) (past : List (Deed (language (database catalogue)))) → IsServed (database catalogue) whole before.machines past → Stands (database catalogue) (fits catalogue) before.current before.machines past →
-    Denies (database catalogue) text before.current before.machines past told
+    (whole : Relations) → IsServed (database catalogue) whole before.machines before.past → Stands (database catalogue) (fits catalogue) before.current before.machines before.past →
+    Denies (database catalogue) text before.current before.machines before.past told
 
--- a command is refused, and that is told; the transaction that was open stays so
-pub record IsTurnedAway (catalogue : Catalogue) (text : List ℕ) (before after : Standing) (told : List ℕ) : Type 0 where
+-- a command is refused, and that is told; the transaction that was open stays so. What happened meanwhile is nothing, except to a lone statement whose transaction had begun
+pub record IsTurnedAway (catalogue : Catalogue) (text : List ℕ) (before after : Standing catalogue) (told : List ℕ) : Type 0 where
   pub refusal : Refusal
   pub why : IsDenied catalogue text before refusal
   pub goes_on : is_stop refusal ≡ false
   pub same : after.current ≡ before.current
+  pub declines : Declines (database catalogue) text before.current before.machines after.machines refusal
+  pub happened : after.past ≡ before.past ++ deeds_in_vain (database catalogue) text before.current before.machines after.machines refusal declines
   pub line : told ≡ refused_text refusal ++ 10 ∷ []
 
 -- what a command is answered by
-abbrev pub AnswersLine : Catalogue → List ℕ → Standing → Standing → Told → Type 0
+abbrev pub AnswersLine : (catalogue : Catalogue) → List ℕ → Standing catalogue → Standing catalogue → Told → Type 0
 AnswersLine catalogue text before after (Answered told) = IsHeard catalogue text before after told
 AnswersLine catalogue text before after (Refused told) = IsTurnedAway catalogue text before after told
 
 -- a relation is shown with the rows that it has in the whole database that the settled fragments are those of
-abbrev pub ShowsRelation : Catalogue → List ℕ → Standing → Standing → List ℕ → Type 0
+abbrev pub ShowsRelation : (catalogue : Catalogue) → List ℕ → Standing catalogue → Standing catalogue → List ℕ → Type 0
 ShowsRelation catalogue name before after told =
     (after ≡ before) × ((whole : Relations) → AreThoseOf (database catalogue) before.machines whole → FitsSchema (schemas_of catalogue) whole → told ≡ relation_text catalogue name (rows_shown (database catalogue) whole name))
 
 -- a leaf is shown with the parts that its site keeps; name: how it was asked for
-abbrev pub ShowsPartsOf : Catalogue → List ℕ → Leaf → Standing → Standing → List ℕ → Type 0
+abbrev pub ShowsPartsOf : (catalogue : Catalogue) → List ℕ → Leaf → Standing catalogue → Standing catalogue → List ℕ → Type 0
 ShowsPartsOf catalogue name leaf before after told = (after ≡ before) × (told ≡ parts_text catalogue name leaf (parts_kept (database catalogue) before.machines leaf))
 
-abbrev pub ShowsLeafAs : Catalogue → List ℕ → Option Leaf → Standing → Standing → List ℕ → Type 0
+abbrev pub ShowsLeafAs : (catalogue : Catalogue) → List ℕ → Option Leaf → Standing catalogue → Standing catalogue → List ℕ → Type 0
 ShowsLeafAs catalogue name None before after told = (after ≡ before) × (told ≡ no_leaf_text name)
 ShowsLeafAs catalogue name (Some leaf) before after told = ShowsPartsOf catalogue name leaf before after told
 
-abbrev pub ShowsLeaf : Catalogue → List ℕ → Standing → Standing → List ℕ → Type 0
+abbrev pub ShowsLeaf : (catalogue : Catalogue) → List ℕ → Standing catalogue → Standing catalogue → List ℕ → Type 0
 ShowsLeaf catalogue name before after told = ShowsLeafAs catalogue name (written_leaf name (catalogue_leaves catalogue)) before after told
 
 -- what a task is answered by, and where the client stands before it and after it
-abbrev pub AnswersTask : Catalogue → Reading → Standing → Standing → Told → Type 0
+abbrev pub AnswersTask : (catalogue : Catalogue) → Reading → Standing catalogue → Standing catalogue → Told → Type 0
 AnswersTask catalogue Nothing before after told = ⊥
 AnswersTask catalogue (Runs text) before after told = AnswersLine catalogue text before after told
 AnswersTask catalogue (To_show_relation name) before after (Answered told) = ShowsRelation catalogue name before after told
@@ -104,6 +105,12 @@ AnswersTask catalogue (To_show_relation name) before after (Refused told) = ⊥
 AnswersTask catalogue (To_show_leaf name) before after (Answered told) = ShowsLeaf catalogue name before after told
 AnswersTask catalogue (To_show_leaf name) before after (Refused told) = ⊥
 AnswersTask catalogue Unreadable before after told = ⊥
+
+-- a task is answered, and the database goes on from what has happened by then
+pub record IsAnswered (catalogue : Catalogue) (whole : Relations) (task : Reading) (past : List (Deed (language (database catalogue)))) (old new : code.Solo PlainDesk PlainSite) (told : Told) : Type 0 where
+  pub later : List (Deed (language (database catalogue)))
+  pub goes_on : GoesOn catalogue whole later new
+  pub answers : AnswersTask catalogue task (standing_of catalogue old past) (standing_of catalogue new later) told
 
 -- a fault that may stop a database, or come while its answers are put together
 abbrev pub IsOfClient : ProgramFault → Type 0

@@ -11,14 +11,17 @@ use Rattle.protocol.specs.Desk.{Deed}
 use Rattle.protocol.specs.Serial.{IsSerial}
 use Rattle.desk.specs.Database.{language}
 use Rattle.world.specs.Base.{database}
-use Rattle.world.specs.Machines.{Machines, world_of}
+use Rattle.world.specs.declared.solo.Solo as code
+use Rattle.world.specs.Machines.{world_of}
 use Rattle.world.specs.Serving.{IsServed}
 use Rattle.fragdb.specs.declared.catalog_file.CatalogFault.{CatalogFault}
 use Rattle.fragdb.specs.declared.catalog_file.CatalogFault.TheVariants.{Program, Refused}
 use Rattle.fragdb.specs.declared.fault.ProgramFault.{ProgramFault}
 use Rattle.fragdb.specs.declared.fault.ProgramFault.TheVariants.{CannotRead, CannotWrite, Malformed, Memory, ScriptTooLong, Store}
 use Rattle.fragdb.specs.CatalogFile.{IsCatalogueFile, RefusesFile}
-use Rattle.fragdb.specs.Client.{AnswersTask, IsOfClient, Standing}
+use Rattle.store.specs.declared.plain_desk.PlainDesk.{PlainDesk}
+use Rattle.store.specs.declared.plain_site.PlainSite.{PlainSite}
+use Rattle.fragdb.specs.Client.{AnswersTask, GoesOn, IsOfClient, Standing, standing_of}
 use Rattle.fragdb.specs.Input.{IsOfInput}
 use Rattle.fragdb.specs.PlayLoad.{emptied}
 use Rattle.fragdb.specs.Reply.{Told, is_refusal, text_of}
@@ -42,12 +45,12 @@ abbrev pub IsOfRead : Bor (List ℕ) → ProgramFault → Type 0
 IsOfRead file fault = (fault ≡ Memory) ⊎ ((fault ≡ ScriptTooLong) ⊎ (fault ≡ CannotRead file))
 
 -- tasks, one after another, with the answer to each
-abbrev pub AnswersTasks : Catalogue → List (Reading × Told) → Standing → Standing → Type 0
+abbrev pub AnswersTasks : (catalogue : Catalogue) → List (Reading × Told) → Standing catalogue → Standing catalogue → Type 0
 AnswersTasks catalogue [] before after = after ≡ before
-AnswersTasks catalogue (first ∷ others) before after = (middle : Standing) × AnswersTask catalogue first.0 before middle first.1 × AnswersTasks catalogue others middle after
+AnswersTasks catalogue (first ∷ others) before after = (middle : Standing catalogue) × AnswersTask catalogue first.0 before middle first.1 × AnswersTasks catalogue others middle after
 
 -- What tasks come to from where a client stands: one answer to each, in order, all of which is written, and whether a line was refused.
-pub record IsWork (catalogue : Catalogue) (tasks : List Reading) (written : List ℕ) (any_refused : Bool) (before after : Standing) : Type 0 where
+pub record IsWork (catalogue : Catalogue) (tasks : List Reading) (written : List ℕ) (any_refused : Bool) (before after : Standing catalogue) : Type 0 where
   pub answers : List (Reading × Told)
   pub in_order : map (λ p. p.0) answers ≡ tasks
   pub answered : AnswersTasks catalogue answers before after
@@ -58,25 +61,27 @@ pub record IsWork (catalogue : Catalogue) (tasks : List Reading) (written : List
 abbrev pub no_rows : Catalogue → Relations
 no_rows catalogue = emptied (schemas_of catalogue) finite.empty
 
--- The machines stand after a run of the protocol over relations without rows, and the serial law holds of it: the committed
--- transactions, one after another over whole relations, give the answers that were given, and what the settled fragments rebuild.
-pub record IsSerialRun (catalogue : Catalogue) (machines : Machines) : Type 0 where
-  pub past : List (Deed (language (database catalogue)))
-  pub served : IsServed (database catalogue) (no_rows catalogue) machines past
-  pub serial : IsSerial (no_rows catalogue) (world_of (database catalogue) machines [] past)
-
 -- a database that was opened over relations without rows: nothing has happened, and no transaction has begun
-pub record IsOpened (catalogue : Catalogue) (standing : Standing) : Type 0 where
-  pub served : IsServed (database catalogue) (no_rows catalogue) standing.machines []
+pub record IsOpened (catalogue : Catalogue) (standing : Standing catalogue) : Type 0 where
+  pub served : IsServed (database catalogue) (no_rows catalogue) standing.machines standing.past
+  pub none : standing.past ≡ []
   pub idle : standing.current ≡ None
 
--- a run of tasks from the opening to its end
+-- A run of tasks from the opening to its end, and the serial law holds of just what has happened by them: the committed transactions, one
+-- after another over whole relations, give the answers that were given, and what the settled fragments rebuild.
 pub record IsRun (catalogue : Catalogue) (tasks : List Reading) (written : List ℕ) (any_refused : Bool) : Type 0 where
-  pub opening : Standing
+  pub opening : Standing catalogue
   pub opened : IsOpened catalogue opening
-  pub end : Standing
+  pub end : Standing catalogue
   pub work : IsWork catalogue tasks written any_refused opening end
-  pub serial : IsSerialRun catalogue end.machines
+  pub served : IsServed (database catalogue) (no_rows catalogue) end.machines end.past
+  pub serial : IsSerial (no_rows catalogue) (world_of (database catalogue) end.machines [] end.past)
+
+-- a run of tasks over a database that goes on
+pub record IsStretch (catalogue : Catalogue) (whole : Relations) (tasks : List Reading) (past : List (Deed (language (database catalogue)))) (old new : code.Solo PlainDesk PlainSite) (written : List ℕ) (any_refused : Bool) : Type 0 where
+  pub later : List (Deed (language (database catalogue)))
+  pub goes_on : GoesOn catalogue whole later new
+  pub work : IsWork catalogue tasks written any_refused (standing_of catalogue old past) (standing_of catalogue new later)
 
 -- a script that may run has run to its end, and all that its lines are answered by was written
 abbrev pub HasRun : Catalogue → List ℕ → Option (List ℕ) → Option (List ℕ) → Bool → Type 0

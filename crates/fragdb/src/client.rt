@@ -1,14 +1,17 @@
 //! The client of a script: what each item is answered by.
 
-ghost use Rattle.std.specs.Prelude.{◌≡◌, ◌++◌, ◌∷◌, [], false, IfErr, IfOk, OnOk, string_bytes};
+ghost use Rattle.std.specs.Prelude.{◌≡◌, ◌++◌, ◌∷◌, [], false, List, IfErr, IfOk, OnOk, string_bytes};
 ghost use Rattle.catalog.specs.Catalogue.{Catalogue};
 ghost use Rattle.meaning.specs.Whole.{Relations};
+ghost use Rattle.protocol.specs.Desk.{Deed};
+ghost use Rattle.desk.specs.Database.{language};
+ghost use Rattle.world.specs.Base.{database as base};
 ghost use Rattle.world.specs.Stopping.{is_stop};
 ghost use Rattle.fragdb.specs.Client as client;
-ghost use Rattle.fragdb.specs.Client.{AnswersLine, AnswersTask, GoesOn, IsOfClient, ShowsLeaf, ShowsPartsOf, ShowsRelation, standing_of};
+ghost use Rattle.fragdb.specs.Client.{GoesOn, IsAnswered, IsOfClient, ShowsPartsOf, standing_of};
 ghost use Rattle.fragdb.specs.PlayText as spec;
-ghost use Rattle.fragdb.specs.Reply.{Refused, told_by};
-ghost use Rattle.fragdb.specs.Script.{task_of};
+ghost use Rattle.fragdb.specs.Reply.{Answered, Refused, told_by};
+ghost use Rattle.fragdb.specs.Script.{Runs, ShowsLeaf, ShowsRelation, task_of};
 
 use crate::fault::ProgramFault;
 use crate::play_text::{refused_text, reply_text};
@@ -25,6 +28,7 @@ use terms::leaf::Leaf;
 use terms::memory::Memory;
 use terms::text::Text;
 use world::fault::Fault;
+use world::laws::deeds_follow;
 use world::solo::Solo;
 
 /// A database over lists.
@@ -36,8 +40,7 @@ pub fn answer<'a>(
     database: &mut Database,
     item: Item<'_>,
 ) -> Result<Reply, ProgramFault<'a>>
-    ensures answers { (catalogue : Catalogue) (whole : Relations) → GoesOn catalogue whole database.old → IfOk result (λ reply. AnswersTask catalogue (task_of item.entry) (standing_of database.old) (standing_of database.new) (told_by reply)) }
-    ensures goes_on { (catalogue : Catalogue) (whole : Relations) → GoesOn catalogue whole database.old → OnOk result (GoesOn catalogue whole database.new) }
+    ensures answers { (catalogue : Catalogue) (whole : Relations) (past : List (Deed (language (base catalogue)))) → GoesOn catalogue whole past database.old → IfOk result (λ reply. IsAnswered catalogue whole (task_of item.entry) past database.old database.new (told_by reply)) }
     ensures err { IfErr result IsOfClient }
 {
     match item {
@@ -53,10 +56,10 @@ fn command<'a>(
     database: &mut Database,
     text: &str,
 ) -> Result<Reply, ProgramFault<'a>>
-    ensures answers { (catalogue : Catalogue) (whole : Relations) → GoesOn catalogue whole database.old → IfOk result (λ reply. AnswersLine catalogue text.now (standing_of database.old) (standing_of database.new) (told_by reply)) }
-    ensures goes_on { (catalogue : Catalogue) (whole : Relations) → GoesOn catalogue whole database.old → OnOk result (GoesOn catalogue whole database.new) }
+    ensures answers { (catalogue : Catalogue) (whole : Relations) (past : List (Deed (language (base catalogue)))) → GoesOn catalogue whole past database.old → IfOk result (λ reply. IsAnswered catalogue whole (Runs text.now) past database.old database.new (told_by reply)) }
     ensures err { IfErr result IsOfClient }
 {
+    deeds_follow(database.catalog());
     match database.execute(text) {
         Ok(heard) => Ok(Reply::Answer(heard_text(alloc, heard.as_slice())?)),
         Err(refusal) => refused(alloc, refusal),
@@ -105,8 +108,7 @@ fn relation_shown<'a>(
     database: &mut Database,
     name: &str,
 ) -> Result<String, ProgramFault<'a>>
-    ensures shown { (catalogue : Catalogue) (whole : Relations) → GoesOn catalogue whole database.old → IfOk result (λ text. ShowsRelation catalogue name.now (standing_of database.old) (standing_of database.new) (string_bytes text)) }
-    ensures goes_on { (catalogue : Catalogue) (whole : Relations) → GoesOn catalogue whole database.old → OnOk result (GoesOn catalogue whole database.new) }
+    ensures shown { (catalogue : Catalogue) (whole : Relations) (past : List (Deed (language (base catalogue)))) → GoesOn catalogue whole past database.old → IfOk result (λ text. IsAnswered catalogue whole (ShowsRelation name.now) past database.old database.new (Answered (string_bytes text))) }
     ensures err { IfErr result IsOfClient }
 {
     let name = Text::copy_of(alloc, name)?;
@@ -122,8 +124,7 @@ fn leaf_shown<'a>(
     database: &mut Database,
     name: &str,
 ) -> Result<String, ProgramFault<'a>>
-    ensures shown { (catalogue : Catalogue) (whole : Relations) → GoesOn catalogue whole database.old → IfOk result (λ text. ShowsLeaf catalogue name.now (standing_of database.old) (standing_of database.new) (string_bytes text)) }
-    ensures goes_on { (catalogue : Catalogue) (whole : Relations) → GoesOn catalogue whole database.old → OnOk result (GoesOn catalogue whole database.new) }
+    ensures shown { (catalogue : Catalogue) (whole : Relations) (past : List (Deed (language (base catalogue)))) → GoesOn catalogue whole past database.old → IfOk result (λ text. IsAnswered catalogue whole (ShowsLeaf name.now) past database.old database.new (Answered (string_bytes text))) }
     ensures err { IfErr result IsOfClient }
 {
     match leaf_written(alloc, database.catalog().leaves(), name)? {
@@ -138,8 +139,7 @@ fn parts_shown<'a>(
     leaf: &Leaf,
     name: &str,
 ) -> Result<String, ProgramFault<'a>>
-    ensures shown { (catalogue : Catalogue) (whole : Relations) → GoesOn catalogue whole database.old → IfOk result (λ text. ShowsPartsOf catalogue name.now leaf.now (standing_of database.old) (standing_of database.new) (string_bytes text)) }
-    ensures goes_on { (catalogue : Catalogue) (whole : Relations) → GoesOn catalogue whole database.old → OnOk result (GoesOn catalogue whole database.new) }
+    ensures shown { (catalogue : Catalogue) (whole : Relations) (past : List (Deed (language (base catalogue)))) → GoesOn catalogue whole past database.old → IfOk result (λ text. GoesOn catalogue whole past database.new × ShowsPartsOf catalogue name.now leaf.now (standing_of catalogue database.old past) (standing_of catalogue database.new past) (string_bytes text)) }
     ensures err { IfErr result IsOfClient }
 {
     match database.parts(leaf) {

@@ -5,9 +5,12 @@ ghost use Rattle.std.specs.Io.KnownBytes.{Appends, Keeps};
 ghost use Rattle.catalog.specs.Catalogue.{Catalogue};
 ghost use Rattle.catalog.specs.Relation.{catalogue_of};
 ghost use Rattle.meaning.specs.Whole.{Relations};
-ghost use Rattle.fragdb.specs.Client.{GoesOn, standing_of};
+ghost use Rattle.protocol.specs.Desk.{Deed};
+ghost use Rattle.desk.specs.Database.{language};
+ghost use Rattle.world.specs.Base.{database as base};
+ghost use Rattle.fragdb.specs.Client.{GoesOn};
 ghost use Rattle.fragdb.specs.Script.{task_of};
-ghost use Rattle.fragdb.specs.Solo.{IsOfRead, IsOfRun, IsRun, IsWork, RunsFiles, RunsOrStops, RunsScript, longest};
+ghost use Rattle.fragdb.specs.Solo.{IsOfRead, IsOfRun, IsRun, IsStretch, RunsFiles, RunsOrStops, RunsScript, longest};
 
 use crate::catalog_file::{CatalogFault, read_catalog};
 use crate::client::{Database, answer};
@@ -131,9 +134,8 @@ fn run_items<'a, W: Write>(
     items: &[Item<'_>],
     output: &mut W,
 ) -> Result<bool, ProgramFault<'a>>
-    ensures ok { (catalogue : Catalogue) (whole : Relations) → GoesOn catalogue whole database.old → IfOk result (λ any_refused. (written : List ℕ) × Appends (W.contents output.old) (W.contents output.new) written
-        × IsWork catalogue (map task_of items.now) written any_refused (standing_of database.old) (standing_of database.new)) }
-    ensures goes_on { (catalogue : Catalogue) (whole : Relations) → GoesOn catalogue whole database.old → IfOk result (λ any_refused. GoesOn catalogue whole database.new) }
+    ensures ok { (catalogue : Catalogue) (whole : Relations) (past : List (Deed (language (base catalogue)))) → GoesOn catalogue whole past database.old → IfOk result (λ any_refused. (written : List ℕ) × Appends (W.contents output.old) (W.contents output.new) written
+        × IsStretch catalogue whole (map task_of items.now) past database.old database.new written any_refused) }
     ensures err { IfErr result IsOfRun }
 {
     let mut any_refused = false;

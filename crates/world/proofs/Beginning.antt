@@ -1,5 +1,5 @@
 -- The name of a transaction that begins.
-use Rattle.std.proofs.Common.{◌≡◌, refl, sym, ap, ◌∙◌, Bool, true, false, List, [], ◌∷◌, map, Option, Some, None, slice_get, subst, if◌then◌else◌}
+use Rattle.std.proofs.Common.{◌≡◌, refl, sym, ap, ◌∙◌, Bool, true, false, List, [], ◌∷◌, ◌++◌, map, Option, Some, None, slice_get, subst, if◌then◌else◌}
 use Rattle.std.specs.List.{filter_map}
 use Rattle.std.specs.Option.{option_map}
 use Rattle.store.specs.declared.name.Txn.{Txn}
@@ -7,13 +7,13 @@ use Rattle.protocol.specs.Desk.{desk_began, is_desk_within, next_txn}
 use Rattle.protocol.specs.Language.{Lang, Name}
 use Rattle.protocol.specs.Letters.{txn_name}
 use Rattle.protocol.specs.World.{World, begins, begun}
-use Rattle.protocol.proofs.Basics.{some_is}
+use Rattle.protocol.proofs.Basics.{if_false, some_is}
 use Rattle.desk.specs.declared.reply.Notice.{Notice}
 use Rattle.desk.specs.declared.reply.Reply.{Reply}
 use Rattle.desk.specs.Database.{Database, language}
 use Rattle.desk.specs.State.{desk_of, notice_of}
 use Rattle.desk.specs.Turn.{told}
-use Rattle.world.specs.Delivering.{Coming, Serves, To_begin, all_come, first_comes}
+use Rattle.world.specs.Delivering.{Coming, IsStill, Serves, To_begin, all_come, first_comes}
 use Rattle.world.specs.Machines.{Machines, world_of}
 use Rattle.world.specs.Serving.{DoesBegin}
 
@@ -70,6 +70,13 @@ module _ (db : Database) (before after : Machines) (heard : List Notice) (serves
       go : (b : Bool) → (if b then begun here else here).past ≡ serves.deeds → b ≡ false
       go true e = absurd (first_there heard (ap (map notice_of) none) _ (serves.replies ∙ ap (filter_map (told db)) (sym e)))
       go false e = refl
+
+  -- and nothing has been done
+  pub begin_still : heard ≡ [] → IsStill db before after
+  begin_still none =
+      let none_begun : begins here ≡ here = if_false (is_desk_within (desk_began here.desk)) (begun here) here (begin_unheard none) in
+      let came : world_of db after [] ([] ++ serves.deeds) ≡ here = sym (serves.is []) ∙ all_silent serves.comings (begins here) (still_silent (is_desk_within (desk_began here.desk))) ∙ none_begun in
+      record { fit = serves.fit; same = ap (λ (w : World (language db)). record w { past = [] }) came }
 
   pub begin_done : (txn : Txn) (told : List Notice) → told ≡ heard → option_map (λ notice. notice.txn) (slice_get heard 0) ≡ Some txn → DoesBegin db before txn after told
   begin_done txn told same first = record { named = go (slice_get heard 0) refl first; within = room (slice_get heard 0) refl first; serves = subst (Serves db To_begin before after) (sym same) serves }

@@ -1,5 +1,5 @@
 -- Why a database that stands refuses a command.
-use Rattle.std.proofs.Common.{◌≡◌, ◌≢◌, refl, sym, ap, ◌∙◌, subst, ℕ, Bool, true, List, ◌++◌, ◌⊎◌, inl, inr, ⊎_elim, Option, Some, None, Result, Ok, Err, IfErr, OnErr}
+use Rattle.std.proofs.Common.{◌≡◌, ◌≢◌, refl, sym, ap, ◌∙◌, subst, ℕ, Bool, true, false, List, [], ◌++◌, ◌⊎◌, inl, inr, ⊎_elim, Option, Some, None, Result, Ok, Err, IfErr, OnErr}
 use Rattle.std.specs.Option.{option_map}
 use Rattle.meaning.specs.declared.schema.RelationSchema.{RelationSchema}
 use Rattle.meaning.specs.declared.statement.Statement.{Statement}
@@ -23,12 +23,14 @@ use Rattle.desk.specs.declared.reply.Notice.{Notice}
 use Rattle.desk.specs.Calls.{refused_as, txn_in}
 use Rattle.desk.specs.Database.{Database, language}
 use Rattle.desk.specs.Does.{IsUnread}
+use Rattle.world.specs.declared.event.Call as calls
 use Rattle.world.specs.declared.event.Call.TheVariants as call
-use Rattle.world.specs.Denying.{IsDenied, IsUnreadable, Declines, Denies, DeniesForAReason, LoneIsDenied, RunIsDenied, declines_all, declines_begin, declines_commit, declines_inside, declines_lone, declines_outside, declines_rollback, declines_statement, declines_text, finds_no_place, has_begun_but, has_not_begun, is_inside, is_no_command, is_not_committed, is_not_stated, is_outside, is_too_much, run_stops, stops, was_cut_off}
-use Rattle.world.specs.Machines.{Machines}
+use Rattle.world.specs.Delivering.{IsStill}
+use Rattle.world.specs.Denying.{CommitIsDenied, IsDenied, IsTakenBack, IsUndone, IsUnreadable, Declines, Denies, DeniesForAReason, LoneIsDenied, RunIsDenied, commit_stops, is_left, is_not_decided, declines_all, declines_begin, declines_commit, declines_inside, declines_lone, declines_outside, declines_rollback, declines_statement, declines_text, finds_no_place, has_begun_but, has_not_begun, is_inside, is_no_command, is_not_committed, is_not_stated, is_outside, is_too_much, run_stops, stops, was_cut_off}
+use Rattle.world.specs.Machines.{AreFit, Machines, world_of}
 use Rattle.world.specs.Obeying.{ObeysUnlessRefused, Stands, WasAnswered}
 use Rattle.world.specs.Refused.{IsRefused}
-use Rattle.world.specs.Serving.{DoesBegin, IsServed}
+use Rattle.world.specs.Serving.{DoesBegin, IsServed, is_end, tells}
 use Rattle.world.specs.Smoothly.{rests}
 use Rattle.world.specs.Stopping.{is_stop}
 
@@ -40,18 +42,37 @@ pub memory_stops : {P : Type 0} (told : refusals.Refusal) → (told ≡ told_as.
 memory_stops told (inl memory) = inl (is_memory told memory)
 memory_stops told (inr other) = inr other
 
+-- machines that were left as they were
+pub as_before : (db : Database) (before after : Machines) → AreFit db before → after ≡ before → IsStill db before after
+as_before db before after fit same = record { fit = subst (AreFit db) (sym same) fit; same = ap (λ (m : Machines). world_of db m [] []) same }
+
+pub still_denied : (db : Database) (before after : Machines) (asked : calls.Call) (told : refusals.Refusal) → AreFit db before → after ≡ before → (told ≡ told_as.Memory) ⊎ IsRefused db before.table asked told → IsDenied db before after asked told
+still_denied db before after asked told fit same (inl memory) = inl (is_memory told memory)
+still_denied db before after asked told fit same (inr refused) = inr (refused, as_before db before after fit same)
+
 -- a refusal of a call that is taken back, unless taking it back stops
-pub taken_back : (P : refusals.Refusal → Type 0) (told first : refusals.Refusal) → (is_stop told ≡ true) ⊎ (told ≡ first) → (is_stop first ≡ true) ⊎ P first → (is_stop told ≡ true) ⊎ P told
-taken_back P told first (inl is) denied = inl is
-taken_back P told first (inr same) denied = subst (λ (r : refusals.Refusal). (is_stop r ≡ true) ⊎ P r) (sym same) denied
+pub taken_back : (db : Database) (txn : Txn) (asked : calls.Call) (before middle after : Machines) (told first : refusals.Refusal) → (is_stop told ≡ true) ⊎ (told ≡ first) → IsDenied db before middle asked first → (AreFit db middle → (is_stop told ≡ true) ⊎ IsTakenBack db txn middle after) →
+    (is_stop told ≡ true) ⊎ IsUndone db txn asked before after told
+taken_back db txn asked before middle after told first (inl is) denied back = inl is
+taken_back db txn asked before middle after told first (inr same) (inl is) back = inl (ap is_stop same ∙ is)
+taken_back db txn asked before middle after told first (inr same) (inr refused) back =
+    ⊎_elim (λ is. inl is) (λ taken. inr (record { refused = subst (IsRefused db before.table asked) (sym same) refused.0; middle = middle; still = refused.1; back = taken })) (back refused.1.fit)
+
+pub rolled_back : (db : Database) (txn : Txn) (before after : Machines) (told other : refusals.Refusal) → is_stop other ≡ false → IsDenied db before after (call.Rollback txn) other → (is_stop told ≡ true) ⊎ IsTakenBack db txn before after
+rolled_back db txn before after told other goes (inl is) = let e : true ≡ false = sym is ∙ goes in cc
+rolled_back db txn before after told other goes (inr refused) = inr (is_left other refused.0 refused.1)
 
 pub if_errs : {T E : Type 0} {P R : E → Type 0} {Q : Type 0} (result : Result T E) → ((e : E) → P e → Q → R e) → IfErr result P → OnErr result Q → IfErr result R
 if_errs (Ok x) to p q = tt
 if_errs (Err e) to p q = to e p q
 
-pub not_stated : (db : Database) (text : List ℕ) (txn : Txn) (greeted : List Notice) (began : Machines) (told : refusals.Refusal) → (is_stop told ≡ true) ⊎ IsRefused db began.table (call.State txn text) told → RunIsDenied db text txn greeted began told
-not_stated db text txn greeted began told (inl stops_it) = run_stops stops_it
-not_stated db text txn greeted began told (inr refused) = is_not_stated refused
+pub not_stated : (db : Database) (text : List ℕ) (txn : Txn) (greeted : List Notice) (began after : Machines) (told : refusals.Refusal) → (is_stop told ≡ true) ⊎ IsUndone db txn (call.State txn text) began after told → RunIsDenied db text txn greeted began after told
+not_stated db text txn greeted began after told (inl stops_it) = run_stops stops_it
+not_stated db text txn greeted began after told (inr undone) = is_not_stated undone
+
+pub not_decided : (db : Database) (txn : Txn) (heard : List Notice) (before after : Machines) (told : refusals.Refusal) → tells is_end heard ≡ false → (is_stop told ≡ true) ⊎ IsUndone db txn (call.Commit txn) before after told → CommitIsDenied db txn heard before after told
+not_decided db txn heard before after told goes (inl stops_it) = commit_stops stops_it
+not_decided db txn heard before after told goes (inr undone) = is_not_decided goes undone
 
 -- ---- a ready transaction is refused nothing
 at_rest : (db : Database) (fits : Leaf → Content → Bool) (txn : Txn) (machines : Machines) (past : List (Deed (language db))) (request : Request (language db)) → refusal_at request Idle ≡ None → Ready (language db) fits (txn_name txn) (rests db machines past) →
@@ -100,64 +121,64 @@ module _ (db : Database) (fits : Leaf → Content → Bool) (same_schemas : db.s
   no_rollback txn machines past told ready refused = no_refusal refused_as (refusal Rollback (txn_in db machines.table txn)) told (at_rest db fits txn machines past Rollback refl ready) refused
 
   -- a lone statement
-  module _ (before : Machines) (past : List (Deed (language db))) (told : refusals.Refusal) (statement : Statement) (spelled : IsTextOf db.schemas text (Run statement)) (current : Option Txn) (none : current ≡ None) where
+  module _ (before after : Machines) (past : List (Deed (language db))) (told : refusals.Refusal) (statement : Statement) (spelled : IsTextOf db.schemas text (Run statement)) (current : Option Txn) (none : current ≡ None) where
     after_begin : (txn : Txn) (began : Machines) (greeted : List Notice) (deeds : List (Deed (language db))) → DoesBegin db before txn began greeted → IsServed db whole began (past ++ deeds) → Ready (language db) fits (txn_name txn) (rests db began (past ++ deeds)) →
-        RunIsDenied db text txn greeted began told → Denies db text current before past told
+        RunIsDenied db text txn greeted began after told → Denies db text current before past told
     after_begin txn began greeted deeds begins served ready (run_stops is) = stops is
-    after_begin txn began greeted deeds begins served ready (is_not_stated refused) = is_too_much statement spelled (is_full statement spelled txn began (past ++ deeds) told ready refused)
-    after_begin txn began greeted deeds begins served ready (is_not_committed worked answered states (inl is)) = stops is
-    after_begin txn began greeted deeds begins served ready (is_not_committed worked answered states (inr refused)) = ⊎_elim
-        (λ (done : WasAnswered db fits whole (Some txn) txn worked (past ++ deeds) answered). absurd (no_commit txn worked ((past ++ deeds) ++ done.on.deeds) told done.on.stands refused.1))
-        (λ cut. was_cut_off txn began worked greeted answered deeds none begins states cut refused.1)
+    after_begin txn began greeted deeds begins served ready (is_not_stated undone) = is_too_much statement spelled (is_full statement spelled txn began (past ++ deeds) told ready undone.refused)
+    after_begin txn began greeted deeds begins served ready (is_not_committed worked answered states (commit_stops is)) = stops is
+    after_begin txn began greeted deeds begins served ready (is_not_committed worked answered states (is_not_decided goes undone)) = ⊎_elim
+        (λ (done : WasAnswered db fits whole (Some txn) txn worked (past ++ deeds) answered). absurd (no_commit txn worked ((past ++ deeds) ++ done.on.deeds) told done.on.stands undone.refused))
+        (λ cut. was_cut_off txn began worked greeted answered deeds none begins states cut undone.refused)
         (law.states whole began worked (past ++ deeds) text txn answered served ready states)
 
-    lone : IsServed db whole before past → Stands db fits None before past → LoneIsDenied db text before told → Denies db text current before past told
+    lone : IsServed db whole before past → Stands db fits None before past → LoneIsDenied db text before after told → Denies db text current before past told
     lone served quiet (has_not_begun (inl is)) = stops is
-    lone served quiet (has_not_begun (inr refused)) = finds_no_place none (inr (statement, spelled)) refused.0 refused.1
+    lone served quiet (has_not_begun (inr refused)) = finds_no_place none (inr (statement, spelled)) refused.0.0 refused.0.1
     lone served quiet (has_begun_but txn began greeted begins denied) =
         let on = (law.begins whole before began past txn greeted served quiet begins).0 in
         after_begin txn began greeted on.deeds begins on.served on.stands denied
 
   -- a command
-  module _ (current : Option Txn) (before : Machines) (past : List (Deed (language db))) (told : refusals.Refusal) (served : IsServed db whole before past) (stands : Stands db fits current before past) where
+  module _ (current : Option Txn) (before after : Machines) (past : List (Deed (language db))) (told : refusals.Refusal) (served : IsServed db whole before past) (stands : Stands db fits current before past) where
     stands_as : (other : Option Txn) → current ≡ other → Stands db fits other before past
     stands_as other is = subst (λ (c : Option Txn). Stands db fits c before past) is stands
 
-    pub denies_of : Declines db text current before told → Denies db text current before past told
+    pub denies_of : Declines db text current before after told → Denies db text current before past told
     denies_of (declines_all is) = stops is
-    denies_of (declines_text none) = is_no_command none
-    denies_of (declines_inside txn some spelled is) = is_inside txn some spelled is
-    denies_of (declines_outside none spelled is) = is_outside none spelled is
-    denies_of (declines_begin none spelled refused) = finds_no_place none (inl spelled) refused.0 refused.1
-    denies_of (declines_commit txn some spelled refused) = absurd (no_commit txn before past told (stands_as (Some txn) some) refused)
-    denies_of (declines_rollback txn some spelled refused) = absurd (no_rollback txn before past told (stands_as (Some txn) some) refused)
-    denies_of (declines_statement txn statement some spelled refused) = is_too_much statement spelled (is_full statement spelled txn before past told (stands_as (Some txn) some) refused)
-    denies_of (declines_lone statement none spelled denied) = lone before past told statement spelled current none served (stands_as None none) denied
+    denies_of (declines_text none still) = is_no_command none
+    denies_of (declines_inside txn some spelled is still) = is_inside txn some spelled is
+    denies_of (declines_outside none spelled is still) = is_outside none spelled is
+    denies_of (declines_begin none spelled refused still) = finds_no_place none (inl spelled) refused.0 refused.1
+    denies_of (declines_commit txn some spelled refused still) = absurd (no_commit txn before past told (stands_as (Some txn) some) refused)
+    denies_of (declines_rollback txn some spelled refused still) = absurd (no_rollback txn before past told (stands_as (Some txn) some) refused)
+    denies_of (declines_statement txn statement some spelled refused still) = is_too_much statement spelled (is_full statement spelled txn before past told (stands_as (Some txn) some) refused)
+    denies_of (declines_lone statement none spelled denied) = lone before after past told statement spelled current none served (stands_as None none) denied
 
 pub denies : (db : Database) (fits : Leaf → Content → Bool) → db.schemas ≡ schemas_of db.catalogue → OneCommandOfText → ObeysUnlessRefused db fits → DeniesForAReason db fits
-denies db fits same_schemas one law whole text current before past told served stands declines = denies_of db fits same_schemas one law whole text current before past told served stands declines
+denies db fits same_schemas one law whole text current before after past told served stands declines = denies_of db fits same_schemas one law whole text current before after past told served stands declines
 
 -- ---- a command, by what is refused of its call
-module _ (db : Database) (text : List ℕ) (current : Option Txn) (before : Machines) (told : refusals.Refusal) where
-  pub begin_declines : current ≡ None → IsTextOf db.schemas text Begin → IsDenied db before call.Begin told → Declines db text current before told
+module _ (db : Database) (text : List ℕ) (current : Option Txn) (before after : Machines) (told : refusals.Refusal) where
+  pub begin_declines : current ≡ None → IsTextOf db.schemas text Begin → IsDenied db before after call.Begin told → Declines db text current before after told
   begin_declines none spelled (inl is) = declines_all is
-  begin_declines none spelled (inr refused) = declines_begin none spelled refused
+  begin_declines none spelled (inr refused) = declines_begin none spelled refused.0 refused.1
 
-  pub commit_declines : (txn : Txn) → current ≡ Some txn → IsTextOf db.schemas text Commit → IsDenied db before (call.Commit txn) told → Declines db text current before told
+  pub commit_declines : (txn : Txn) → current ≡ Some txn → IsTextOf db.schemas text Commit → IsDenied db before after (call.Commit txn) told → Declines db text current before after told
   commit_declines txn some spelled (inl is) = declines_all is
-  commit_declines txn some spelled (inr refused) = declines_commit txn some spelled refused
+  commit_declines txn some spelled (inr refused) = declines_commit txn some spelled refused.0 refused.1
 
-  pub rollback_declines : (txn : Txn) → current ≡ Some txn → IsTextOf db.schemas text Rollback_command → IsDenied db before (call.Rollback txn) told → Declines db text current before told
+  pub rollback_declines : (txn : Txn) → current ≡ Some txn → IsTextOf db.schemas text Rollback_command → IsDenied db before after (call.Rollback txn) told → Declines db text current before after told
   rollback_declines txn some spelled (inl is) = declines_all is
-  rollback_declines txn some spelled (inr refused) = declines_rollback txn some spelled refused
+  rollback_declines txn some spelled (inr refused) = declines_rollback txn some spelled refused.0 refused.1
 
-  pub statement_declines : (txn : Txn) (statement : Statement) → current ≡ Some txn → IsTextOf db.schemas text (Run statement) → IsDenied db before (call.State txn text) told → Declines db text current before told
+  pub statement_declines : (txn : Txn) (statement : Statement) → current ≡ Some txn → IsTextOf db.schemas text (Run statement) → IsDenied db before after (call.State txn text) told → Declines db text current before after told
   statement_declines txn statement some spelled (inl is) = declines_all is
-  statement_declines txn statement some spelled (inr refused) = declines_statement txn statement some spelled refused
+  statement_declines txn statement some spelled (inr refused) = declines_statement txn statement some spelled refused.0 refused.1
 
-  pub text_declines : IsUnreadable db.schemas text told → Declines db text current before told
-  text_declines (inl memory) = declines_all (is_memory told memory)
-  text_declines (inr none) = declines_text none
+  pub text_declines : IsStill db before after → IsUnreadable db.schemas text told → Declines db text current before after told
+  text_declines still (inl memory) = declines_all (is_memory told memory)
+  text_declines still (inr none) = declines_text none still
 
 -- ---- a text that is read as no other command's
 pub only_memory : (schema : List RelationSchema) (text : List ℕ) (told : refusals.Refusal) → IsUnreadable schema text told → (given : Command) → IsTextOf schema text given → told ≡ told_as.Memory

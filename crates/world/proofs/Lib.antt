@@ -32,4 +32,5 @@ pub mod Smoothly
 pub mod BaseHoused
 pub mod Obeying
 pub mod Denying
+pub mod Deeds
 pub mod EndsKept

@@ -19,9 +19,9 @@ use Rattle.desk.specs.State.{notice_of}
 use Rattle.world.specs.Delivering.{Ask, Serves, To_begin, To_do}
 use Rattle.world.specs.Machines.{Machines}
 use Rattle.world.specs.Obeying.{DecisionWasRefused, Obeys, ObeysUnlessRefused, RunWasRefused, Stands, StandsOn, WasAnswered, commit_was_refused, has_answered, has_begun, has_committed, has_rolled_back, rollback_was_refused, run_was_refused, statement_was_refused}
-use Rattle.world.specs.Serving.{DoesAlone, DoesBegin, DoesDecide, Executes, IsServed, did_begin, did_commit, did_roll_back, did_run, did_state, is_answer, is_commit, is_end, still_open, tells, told_alone}
+use Rattle.world.specs.Serving.{DoesAlone, DoesBegin, DoesDecide, Executes, IsServed, did_begin, did_commit, did_decide, did_roll_back, did_run, did_state, had_ended, is_answer, is_commit, is_end, still_open, tells, told_alone}
 use Rattle.world.specs.Smoothly.{ServesSmoothly, ServesUnlessRefused, rests}
-use Rattle.world.proofs.Reaching.{on_ask}
+use Rattle.world.proofs.Reaching.{serves_past}
 
 -- ---- notices, by what they say
 tells_by : (is : replies.Reply → Bool) (heard : List Notice) → tells is heard ≡ list_any (λ (x : Name × replies.Reply). is x.1) (map notice_of heard)
@@ -39,7 +39,7 @@ those_of is (notice ∷ heard) = go (is notice.reply) (those_of is heard)
 
 module _ (db : Database) (fits : Leaf → Content → Bool) (reached : ReachedLaw (language db)) (smooth : ServesSmoothly db fits) (law : ServesUnlessRefused db fits) (whole : Relations) where
   served_on : (ask : Ask (language db)) (before after : Machines) (past : List (Deed (language db))) (heard : List Notice) → IsServed db whole before past → (serves : Serves db ask before after heard) → IsServed db whole after (past ++ serves.deeds)
-  served_on ask before after past heard served serves = on_ask db reached whole ask before after past serves.deeds serves.comings [] served serves.explained (serves.is past) serves.fit
+  served_on ask before after past heard served serves = serves_past db reached whole ask before after heard past served serves
 
   begins : (before after : Machines) (past : List (Deed (language db))) (txn : Txn) (heard : List Notice) → IsServed db whole before past → Stands db fits None before past → (does : DoesBegin db before txn after heard) →
       Ready (language db) fits (txn_name txn) (rests db after (past ++ does.serves.deeds)) × (map notice_of heard ≡ (txn_name txn, Begun) ∷ [])
@@ -66,16 +66,16 @@ module _ (db : Database) (fits : Leaf → Content → Bool) (reached : ReachedLa
         ∙ those_of is_answer all ∙ ap (filter (λ (x : Name × replies.Reply). is_answer x.1)) told_all
 
     decides : (heard : List Notice) → IsServed db whole before past → Stands db fits (Some txn) before past → (does : DoesDecide db txn (greeted ++ answered) before after heard) → WasAnswered db fits whole None txn after past heard ⊎ DecisionWasRefused db txn (greeted ++ answered) before after heard past
-    decides heard served ready (inl ended) = let e : true ≡ false = sym ended.0 ∙ not_ended in cc
-    decides heard served ready (inr commits) =
-        let asks = commits.1.asks in
+    decides heard served ready (had_ended ended same hears) = let e : true ≡ false = sym ended ∙ not_ended in cc
+    decides heard served ready (did_decide goes commits) =
+        let asks = commits.asks in
         ⊎_elim
         (λ done. inl (record {
-          on = record { deeds = asks.serves.deeds; served = served_on (To_do (txn_name txn) Commit_call asks.choice) before after past commits.1.decided served asks.serves; stands = done.0 };
+          on = record { deeds = asks.serves.deeds; served = served_on (To_do (txn_name txn) Commit_call asks.choice) before after past commits.decided served asks.serves; stands = done.0 };
           answer = answer;
-          hears = ap (map notice_of) commits.1.hears ∙ heard_alone commits.1.decided done.1;
+          hears = ap (map notice_of) commits.hears ∙ heard_alone commits.decided done.1;
         }))
-        (λ refused. inr (commits.1, refused)) (law.commits whole before after past (txn_name txn) asks.choice commits.1.decided served ready asks.serves)
+        (λ refused. inr (commits, refused)) (law.commits whole before after past (txn_name txn) asks.choice commits.decided served ready asks.serves)
 
   -- what has been done since is done in all
   since : (current : Option Txn) (machines : Machines) (past deeds : List (Deed (language db))) → StandsOn db fits whole current machines (past ++ deeds) → StandsOn db fits whole current machines past

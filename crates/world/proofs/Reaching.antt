@@ -94,8 +94,11 @@ module _ (db : Database) (law : ReachedLaw (language db)) (whole : Relations) wh
         fit = fit;
       }
 
+  pub serves_past : (ask : Ask (language db)) (before after : Machines) (heard : List Notice) (past : List (Deed (language db))) → IsServed db whole before past → (serves : Serves db ask before after heard) → IsServed db whole after (past ++ serves.deeds)
+  serves_past ask before after heard past served serves = on_ask ask before after past serves.deeds serves.comings [] served serves.explained (serves.is past) serves.fit
+
   pub serves_on : (ask : Ask (language db)) (before after : Machines) (heard : List Notice) (past : List (Deed (language db))) → IsServed db whole before past → Serves db ask before after heard → IsServedOn db whole after past
-  serves_on ask before after heard past served goes = record { deeds = goes.deeds; served = on_ask ask before after past goes.deeds goes.comings [] served goes.explained (goes.is past) goes.fit }
+  serves_on ask before after heard past served goes = record { deeds = goes.deeds; served = serves_past ask before after heard past served goes }
 
   pub same_on : (before after : Machines) (past : List (Deed (language db))) → IsServed db whole before past → after ≡ before → IsServedOn db whole after past
   same_on before after past served same = record { deeds = []; served = subst (λ (m : Machines). IsServed db whole m (past ++ [])) (sym same) (subst (IsServed db whole before) (sym (append-nil past)) served) }

@@ -65,3 +65,8 @@ Serves db ask before after notices = Goes db (asked ask) (at_rest before) (settl
 -- a call is refused, and nothing has changed, or something is refused on the way
 abbrev pub Fails : Database → Machines → Machines → Type 0
 Fails db before after = (after ≡ before) ⊎ ((ask : Ask (language db)) × Breaks db (asked ask) (at_rest before) after)
+
+-- nothing has been done: the machines stand as they stood
+pub record IsStill (db : Database) (before after : Machines) : Type 0 where
+  pub fit : AreFit db after
+  pub same : world_of db after [] [] ≡ world_of db before [] []

@@ -26,3 +26,4 @@ pub mod Stopping
 pub mod Smoothly
 pub mod Obeying
 pub mod Denying
+pub mod Deeds

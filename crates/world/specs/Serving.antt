@@ -1,5 +1,5 @@
 -- What one client's database does with a command.
-use Rattle.std.specs.Prelude.{◌≡◌, ◌⊎◌, ℕ, Bool, true, false, List, [], ◌++◌, filter, Option, Some, None, if◌then◌else◌}
+use Rattle.std.specs.Prelude.{◌≡◌, ℕ, Bool, true, false, List, [], ◌++◌, filter, Option, Some, None, if◌then◌else◌}
 use Rattle.std.specs.List.{list_any}
 use Rattle.meaning.specs.declared.statement.Statement.{Statement}
 use Rattle.meaning.specs.Statement.{IsStatementOf}
@@ -95,9 +95,9 @@ pub record DoesCommit (db : Database) (txn : Txn) (told : List Notice) (before a
   pub hears : heard ≡ told_alone (told ++ decided)
 
 -- so of a lone statement of which this was told, unless it has ended by itself
-abbrev pub DoesDecide : Database → Txn → List Notice → Machines → Machines → List Notice → Type 0
-DoesDecide db txn told before after heard =
-    ((tells is_end told ≡ true) × (after ≡ before) × (heard ≡ told_alone told)) ⊎ ((tells is_end told ≡ false) × DoesCommit db txn told before after heard)
+pub data DoesDecide (db : Database) (txn : Txn) (told : List Notice) (before after : Machines) (heard : List Notice) : Type 0 where
+  had_ended : tells is_end told ≡ true → after ≡ before → heard ≡ told_alone told → DoesDecide db txn told before after heard
+  did_decide : tells is_end told ≡ false → DoesCommit db txn told before after heard → DoesDecide db txn told before after heard
 
 -- a transaction that has begun is that of a lone statement
 pub record DoesRun (db : Database) (text : List ℕ) (txn : Txn) (greeted : List Notice) (before after : Machines) (heard : List Notice) : Type 0 where

@@ -9,7 +9,7 @@ ghost use Rattle.desk.specs.Database.{Database, language};
 ghost use Rattle.desk.specs.OfCatalogue.{IsOfCatalogue};
 ghost use Rattle.desk.specs.declared.refusal.Refusal.TheVariants as refusals;
 ghost use Rattle.world.specs.declared.event.Call.TheVariants as call;
-ghost use Rattle.world.specs.Denying.{CommitIsDenied, IsDenied, LoneIsDenied, RunIsDenied};
+ghost use Rattle.world.specs.Denying.{CommitIsDenied, IsTakenBack, IsUndone, LoneIsDenied, RunIsDenied};
 ghost use Rattle.world.specs.Held.{OfStores, held};
 ghost use Rattle.world.specs.Machines.{AreFit};
 ghost use Rattle.world.specs.Serving.{DoesAlone, DoesCommit, DoesDecide, DoesRun, IsServed, IsServedOn, is_answer, is_commit, is_end, tells, told_alone};
@@ -137,6 +137,8 @@ fn take_back<D: DeskStore, S: SiteStore>(
     ensures sound { OfStores D.is_clean S.is_clean machines.new → OfStores D.is_sound S.is_sound machines.old → OfStores D.is_sound S.is_sound machines.new }
     ensures catalog { machines.new.desk.catalog ≡ machines.old.desk.catalog }
     ensures told { (is_stop result ≡ true) ⊎ (result ≡ refusal) }
+    ensures taken { (db : Database) → IsOfCatalogue db → db.catalogue ≡ catalogue_of machines.old.desk.catalog → OfStores D.is_clean S.is_clean machines.new → OfStores D.is_sound S.is_sound machines.old → AreFit db (held D.kept S.kept machines.old)
+        → (is_stop result ≡ true) ⊎ IsTakenBack db txn (held D.kept S.kept machines.old) (held D.kept S.kept machines.new) }
     ensures served { (db : Database) (whole : Relations) (past : List (Deed (language db))) → IsOfCatalogue db → ReachedLaw (language db) → db.catalogue ≡ catalogue_of machines.old.desk.catalog → OfStores D.is_clean S.is_clean machines.new → OfStores D.is_sound S.is_sound machines.old
         → IsServed db whole (held D.kept S.kept machines.old) past → IsServedOn db whole (held D.kept S.kept machines.new) past }
 {
@@ -161,7 +163,7 @@ fn commit_alone<D: DeskStore, S: SiteStore>(
     ensures ok { (db : Database) → IsOfCatalogue db → db.catalogue ≡ catalogue_of machines.old.desk.catalog → OfStores D.is_clean S.is_clean machines.new → OfStores D.is_sound S.is_sound machines.old → AreFit db (held D.kept S.kept machines.old)
         → IfOk result (λ heard. DoesCommit db txn told.items (held D.kept S.kept machines.old) (held D.kept S.kept machines.new) heard.items) }
     ensures denied { (db : Database) → IsOfCatalogue db → db.catalogue ≡ catalogue_of machines.old.desk.catalog → OfStores D.is_clean S.is_clean machines.new → OfStores D.is_sound S.is_sound machines.old → AreFit db (held D.kept S.kept machines.old)
-        → IfErr result (IsDenied db (held D.kept S.kept machines.old) (call.Commit txn)) }
+        → IfErr result (λ refusal. (is_stop refusal ≡ true) ⊎ IsUndone db txn (call.Commit txn) (held D.kept S.kept machines.old) (held D.kept S.kept machines.new) refusal) }
     ensures served { (db : Database) (whole : Relations) (past : List (Deed (language db))) → IsOfCatalogue db → ReachedLaw (language db) → db.catalogue ≡ catalogue_of machines.old.desk.catalog → OfStores D.is_clean S.is_clean machines.new → OfStores D.is_sound S.is_sound machines.old
         → IsServed db whole (held D.kept S.kept machines.old) past → IsServedOn db whole (held D.kept S.kept machines.new) past }
 {
@@ -183,7 +185,7 @@ fn decide<D: DeskStore, S: SiteStore>(
     ensures ok { (db : Database) → IsOfCatalogue db → db.catalogue ≡ catalogue_of machines.old.desk.catalog → OfStores D.is_clean S.is_clean machines.new → OfStores D.is_sound S.is_sound machines.old → AreFit db (held D.kept S.kept machines.old)
         → IfOk result (λ heard. DoesDecide db txn told.items (held D.kept S.kept machines.old) (held D.kept S.kept machines.new) heard.items) }
     ensures denied { (db : Database) → IsOfCatalogue db → db.catalogue ≡ catalogue_of machines.old.desk.catalog → OfStores D.is_clean S.is_clean machines.new → OfStores D.is_sound S.is_sound machines.old → AreFit db (held D.kept S.kept machines.old)
-        → IfErr result (CommitIsDenied db txn told.items (held D.kept S.kept machines.old)) }
+        → IfErr result (CommitIsDenied db txn told.items (held D.kept S.kept machines.old) (held D.kept S.kept machines.new)) }
     ensures served { (db : Database) (whole : Relations) (past : List (Deed (language db))) → IsOfCatalogue db → ReachedLaw (language db) → db.catalogue ≡ catalogue_of machines.old.desk.catalog → OfStores D.is_clean S.is_clean machines.new → OfStores D.is_sound S.is_sound machines.old
         → IsServed db whole (held D.kept S.kept machines.old) past → IsServedOn db whole (held D.kept S.kept machines.new) past }
 {
@@ -206,7 +208,7 @@ fn go_on<D: DeskStore, S: SiteStore>(
     ensures ok { (db : Database) → IsOfCatalogue db → db.catalogue ≡ catalogue_of machines.old.desk.catalog → OfStores D.is_clean S.is_clean machines.new → OfStores D.is_sound S.is_sound machines.old → AreFit db (held D.kept S.kept machines.old)
         → IfOk result (λ heard. DoesDecide db txn (greeted.items ++ answered.items) (held D.kept S.kept machines.old) (held D.kept S.kept machines.new) heard.items) }
     ensures denied { (db : Database) → IsOfCatalogue db → db.catalogue ≡ catalogue_of machines.old.desk.catalog → OfStores D.is_clean S.is_clean machines.new → OfStores D.is_sound S.is_sound machines.old → AreFit db (held D.kept S.kept machines.old)
-        → IfErr result (CommitIsDenied db txn (greeted.items ++ answered.items) (held D.kept S.kept machines.old)) }
+        → IfErr result (CommitIsDenied db txn (greeted.items ++ answered.items) (held D.kept S.kept machines.old) (held D.kept S.kept machines.new)) }
     ensures served { (db : Database) (whole : Relations) (past : List (Deed (language db))) → IsOfCatalogue db → ReachedLaw (language db) → db.catalogue ≡ catalogue_of machines.old.desk.catalog → OfStores D.is_clean S.is_clean machines.new → OfStores D.is_sound S.is_sound machines.old
         → IsServed db whole (held D.kept S.kept machines.old) past → IsServedOn db whole (held D.kept S.kept machines.new) past }
 {
@@ -228,7 +230,7 @@ fn run_begun<D: DeskStore, S: SiteStore>(
     ensures ok { (db : Database) → IsOfCatalogue db → db.catalogue ≡ catalogue_of machines.old.desk.catalog → OfStores D.is_clean S.is_clean machines.new → OfStores D.is_sound S.is_sound machines.old → AreFit db (held D.kept S.kept machines.old)
         → IfOk result (λ heard. DoesRun db text.now begun.txn begun.heard.items (held D.kept S.kept machines.old) (held D.kept S.kept machines.new) heard.items) }
     ensures denied { (db : Database) → IsOfCatalogue db → db.catalogue ≡ catalogue_of machines.old.desk.catalog → OfStores D.is_clean S.is_clean machines.new → OfStores D.is_sound S.is_sound machines.old → AreFit db (held D.kept S.kept machines.old)
-        → IfErr result (RunIsDenied db text.now begun.txn begun.heard.items (held D.kept S.kept machines.old)) }
+        → IfErr result (RunIsDenied db text.now begun.txn begun.heard.items (held D.kept S.kept machines.old) (held D.kept S.kept machines.new)) }
     ensures served { (db : Database) (whole : Relations) (past : List (Deed (language db))) → IsOfCatalogue db → ReachedLaw (language db) → db.catalogue ≡ catalogue_of machines.old.desk.catalog → OfStores D.is_clean S.is_clean machines.new → OfStores D.is_sound S.is_sound machines.old
         → IsServed db whole (held D.kept S.kept machines.old) past → IsServedOn db whole (held D.kept S.kept machines.new) past }
 {
@@ -251,7 +253,7 @@ pub(crate) fn run_alone<D: DeskStore, S: SiteStore>(
     ensures ok { (db : Database) → IsOfCatalogue db → db.catalogue ≡ catalogue_of machines.old.desk.catalog → OfStores D.is_clean S.is_clean machines.new → OfStores D.is_sound S.is_sound machines.old → AreFit db (held D.kept S.kept machines.old)
         → IfOk result (λ heard. DoesAlone db text.now (held D.kept S.kept machines.old) (held D.kept S.kept machines.new) heard.items) }
     ensures denied { (db : Database) → IsOfCatalogue db → db.catalogue ≡ catalogue_of machines.old.desk.catalog → OfStores D.is_clean S.is_clean machines.new → OfStores D.is_sound S.is_sound machines.old → AreFit db (held D.kept S.kept machines.old)
-        → IfErr result (LoneIsDenied db text.now (held D.kept S.kept machines.old)) }
+        → IfErr result (LoneIsDenied db text.now (held D.kept S.kept machines.old) (held D.kept S.kept machines.new)) }
     ensures served { (db : Database) (whole : Relations) (past : List (Deed (language db))) → IsOfCatalogue db → ReachedLaw (language db) → db.catalogue ≡ catalogue_of machines.old.desk.catalog → OfStores D.is_clean S.is_clean machines.new → OfStores D.is_sound S.is_sound machines.old
         → IsServed db whole (held D.kept S.kept machines.old) past → IsServedOn db whole (held D.kept S.kept machines.new) past }
 {

@@ -13,6 +13,7 @@ ghost use Rattle.protocol.specs.Serial.{SerialLaw};
 ghost use Rattle.protocol.specs.Whole.{AppliedWholeAndOnce};
 ghost use Rattle.desk.specs.Database.{language};
 ghost use Rattle.world.specs.Base.{IsBase, database, fits};
+ghost use Rattle.world.specs.Deeds.{DeedsFollow};
 ghost use Rattle.world.specs.Denying.{DeniesForAReason};
 ghost use Rattle.world.specs.Obeying.{ObeysUnlessRefused};
 ghost use Rattle.world.specs.Runs.{RunsAreSerial, RunsAreWhole};
@@ -124,6 +125,13 @@ pub fn contents_stay_fitting(catalog: &Catalog)
 /// given and what the settled fragments rebuild.
 pub fn served_is_serial(catalog: &Catalog)
     ensures { ServedIsSerial (database (catalogue_of catalog.now)) }
+{
+    one_client_is_a_run(catalog);
+}
+
+/// What has happened to a client's database: with each command the deeds of what was executed, or of what was refused in vain.
+pub fn deeds_follow(catalog: &Catalog)
+    ensures { DeedsFollow (database (catalogue_of catalog.now)) }
 {
     one_client_is_a_run(catalog);
 }

@@ -55,7 +55,7 @@ fn greet<D: DeskStore, S: SiteStore>(machines: &mut Machines<D, S>) -> Result<Ve
     ensures ok { (db : Database) → IsOfCatalogue db → db.catalogue ≡ catalogue_of machines.old.desk.catalog → OfStores D.is_clean S.is_clean machines.new → OfStores D.is_sound S.is_sound machines.old → AreFit db (held D.kept S.kept machines.old)
         → IfOk result (λ heard. Serves db To_begin (held D.kept S.kept machines.old) (held D.kept S.kept machines.new) heard.items) }
     ensures denied { (db : Database) → IsOfCatalogue db → db.catalogue ≡ catalogue_of machines.old.desk.catalog → OfStores D.is_clean S.is_clean machines.new → OfStores D.is_sound S.is_sound machines.old → AreFit db (held D.kept S.kept machines.old)
-        → IfErr result (IsDenied db (held D.kept S.kept machines.old) call.Begin) }
+        → IfErr result (IsDenied db (held D.kept S.kept machines.old) (held D.kept S.kept machines.new) call.Begin) }
     ensures served { (db : Database) (whole : Relations) (past : List (Deed (language db))) → IsOfCatalogue db → ReachedLaw (language db) → db.catalogue ≡ catalogue_of machines.old.desk.catalog → OfStores D.is_clean S.is_clean machines.new → OfStores D.is_sound S.is_sound machines.old
         → IsServed db whole (held D.kept S.kept machines.old) past → IsServedOn db whole (held D.kept S.kept machines.new) past }
 {
@@ -75,7 +75,7 @@ pub(crate) fn begin<D: DeskStore, S: SiteStore>(
     ensures ok { (db : Database) → IsOfCatalogue db → db.catalogue ≡ catalogue_of machines.old.desk.catalog → OfStores D.is_clean S.is_clean machines.new → OfStores D.is_sound S.is_sound machines.old → AreFit db (held D.kept S.kept machines.old)
         → IfOk result (λ begun. DoesBegin db (held D.kept S.kept machines.old) begun.txn (held D.kept S.kept machines.new) begun.heard.items) }
     ensures denied { (db : Database) → IsOfCatalogue db → db.catalogue ≡ catalogue_of machines.old.desk.catalog → OfStores D.is_clean S.is_clean machines.new → OfStores D.is_sound S.is_sound machines.old → AreFit db (held D.kept S.kept machines.old)
-        → IfErr result (IsDenied db (held D.kept S.kept machines.old) call.Begin) }
+        → IfErr result (IsDenied db (held D.kept S.kept machines.old) (held D.kept S.kept machines.new) call.Begin) }
     ensures served { (db : Database) (whole : Relations) (past : List (Deed (language db))) → IsOfCatalogue db → ReachedLaw (language db) → db.catalogue ≡ catalogue_of machines.old.desk.catalog → OfStores D.is_clean S.is_clean machines.new → OfStores D.is_sound S.is_sound machines.old
         → IsServed db whole (held D.kept S.kept machines.old) past → IsServedOn db whole (held D.kept S.kept machines.new) past }
 {
@@ -97,7 +97,7 @@ pub(crate) fn state<D: DeskStore, S: SiteStore>(
     ensures ok { (db : Database) → IsOfCatalogue db → db.catalogue ≡ catalogue_of machines.old.desk.catalog → OfStores D.is_clean S.is_clean machines.new → OfStores D.is_sound S.is_sound machines.old → AreFit db (held D.kept S.kept machines.old)
         → IfOk result (λ heard. DoesState db text.now txn (held D.kept S.kept machines.old) (held D.kept S.kept machines.new) heard.items) }
     ensures denied { (db : Database) → IsOfCatalogue db → db.catalogue ≡ catalogue_of machines.old.desk.catalog → OfStores D.is_clean S.is_clean machines.new → OfStores D.is_sound S.is_sound machines.old → AreFit db (held D.kept S.kept machines.old)
-        → IfErr result (IsDenied db (held D.kept S.kept machines.old) (call.State txn text.now)) }
+        → IfErr result (IsDenied db (held D.kept S.kept machines.old) (held D.kept S.kept machines.new) (call.State txn text.now)) }
     ensures served { (db : Database) (whole : Relations) (past : List (Deed (language db))) → IsOfCatalogue db → ReachedLaw (language db) → db.catalogue ≡ catalogue_of machines.old.desk.catalog → OfStores D.is_clean S.is_clean machines.new → OfStores D.is_sound S.is_sound machines.old
         → IsServed db whole (held D.kept S.kept machines.old) past → IsServedOn db whole (held D.kept S.kept machines.new) past }
 {
@@ -118,7 +118,7 @@ pub(crate) fn commit<D: DeskStore, S: SiteStore>(
     ensures ok { (db : Database) → IsOfCatalogue db → db.catalogue ≡ catalogue_of machines.old.desk.catalog → OfStores D.is_clean S.is_clean machines.new → OfStores D.is_sound S.is_sound machines.old → AreFit db (held D.kept S.kept machines.old)
         → IfOk result (λ heard. DoesAsk db Commit_call txn (held D.kept S.kept machines.old) (held D.kept S.kept machines.new) heard.items) }
     ensures denied { (db : Database) → IsOfCatalogue db → db.catalogue ≡ catalogue_of machines.old.desk.catalog → OfStores D.is_clean S.is_clean machines.new → OfStores D.is_sound S.is_sound machines.old → AreFit db (held D.kept S.kept machines.old)
-        → IfErr result (IsDenied db (held D.kept S.kept machines.old) (call.Commit txn)) }
+        → IfErr result (IsDenied db (held D.kept S.kept machines.old) (held D.kept S.kept machines.new) (call.Commit txn)) }
     ensures served { (db : Database) (whole : Relations) (past : List (Deed (language db))) → IsOfCatalogue db → ReachedLaw (language db) → db.catalogue ≡ catalogue_of machines.old.desk.catalog → OfStores D.is_clean S.is_clean machines.new → OfStores D.is_sound S.is_sound machines.old
         → IsServed db whole (held D.kept S.kept machines.old) past → IsServedOn db whole (held D.kept S.kept machines.new) past }
 {
@@ -139,7 +139,7 @@ pub(crate) fn roll_back<D: DeskStore, S: SiteStore>(
     ensures ok { (db : Database) → IsOfCatalogue db → db.catalogue ≡ catalogue_of machines.old.desk.catalog → OfStores D.is_clean S.is_clean machines.new → OfStores D.is_sound S.is_sound machines.old → AreFit db (held D.kept S.kept machines.old)
         → IfOk result (λ heard. DoesAsk db Rollback txn (held D.kept S.kept machines.old) (held D.kept S.kept machines.new) heard.items) }
     ensures denied { (db : Database) → IsOfCatalogue db → db.catalogue ≡ catalogue_of machines.old.desk.catalog → OfStores D.is_clean S.is_clean machines.new → OfStores D.is_sound S.is_sound machines.old → AreFit db (held D.kept S.kept machines.old)
-        → IfErr result (IsDenied db (held D.kept S.kept machines.old) (call.Rollback txn)) }
+        → IfErr result (IsDenied db (held D.kept S.kept machines.old) (held D.kept S.kept machines.new) (call.Rollback txn)) }
     ensures served { (db : Database) (whole : Relations) (past : List (Deed (language db))) → IsOfCatalogue db → ReachedLaw (language db) → db.catalogue ≡ catalogue_of machines.old.desk.catalog → OfStores D.is_clean S.is_clean machines.new → OfStores D.is_sound S.is_sound machines.old
         → IsServed db whole (held D.kept S.kept machines.old) past → IsServedOn db whole (held D.kept S.kept machines.new) past }
 {

@@ -148,7 +148,7 @@ impl<D: DeskStore, S: SiteStore> Solo<D, S> {
         ensures ok { (db : Database) (text : List ℕ) → IsOfCatalogue db → db.catalogue ≡ catalogue_of self.old.machines.desk.catalog → OfStores D.is_clean S.is_clean self.new.machines → OfStores D.is_sound S.is_sound self.old.machines → AreFit db (held D.kept S.kept self.old.machines)
             → IsTextOf db.schemas text Begin → IfOk result (λ heard. Executes db text self.old.current (held D.kept S.kept self.old.machines) self.new.current (held D.kept S.kept self.new.machines) heard.items) }
         ensures denied { (db : Database) (text : List ℕ) → IsOfCatalogue db → db.catalogue ≡ catalogue_of self.old.machines.desk.catalog → OfStores D.is_clean S.is_clean self.new.machines → OfStores D.is_sound S.is_sound self.old.machines → AreFit db (held D.kept S.kept self.old.machines)
-            → IsTextOf db.schemas text Begin → IfErr result (Declines db text self.old.current (held D.kept S.kept self.old.machines)) }
+            → IsTextOf db.schemas text Begin → IfErr result (Declines db text self.old.current (held D.kept S.kept self.old.machines) (held D.kept S.kept self.new.machines)) }
         ensures inside { (txn : TxnNow) → self.old.current ≡ Some txn → result ≡ Err refusals.Busy }
         ensures served { (db : Database) (whole : Relations) (past : List (Deed (language db))) → IsOfCatalogue db → ReachedLaw (language db) → db.catalogue ≡ catalogue_of self.old.machines.desk.catalog → OfStores D.is_clean S.is_clean self.new.machines → OfStores D.is_sound S.is_sound self.old.machines
             → IsServed db whole (held D.kept S.kept self.old.machines) past → IsServedOn db whole (held D.kept S.kept self.new.machines) past }
@@ -174,7 +174,7 @@ impl<D: DeskStore, S: SiteStore> Solo<D, S> {
         ensures ok { (db : Database) (text : List ℕ) → IsOfCatalogue db → db.catalogue ≡ catalogue_of self.old.machines.desk.catalog → OfStores D.is_clean S.is_clean self.new.machines → OfStores D.is_sound S.is_sound self.old.machines → AreFit db (held D.kept S.kept self.old.machines)
             → IsTextOf db.schemas text Commit → IfOk result (λ heard. Executes db text self.old.current (held D.kept S.kept self.old.machines) self.new.current (held D.kept S.kept self.new.machines) heard.items) }
         ensures denied { (db : Database) (text : List ℕ) → IsOfCatalogue db → db.catalogue ≡ catalogue_of self.old.machines.desk.catalog → OfStores D.is_clean S.is_clean self.new.machines → OfStores D.is_sound S.is_sound self.old.machines → AreFit db (held D.kept S.kept self.old.machines)
-            → IsTextOf db.schemas text Commit → IfErr result (Declines db text self.old.current (held D.kept S.kept self.old.machines)) }
+            → IsTextOf db.schemas text Commit → IfErr result (Declines db text self.old.current (held D.kept S.kept self.old.machines) (held D.kept S.kept self.new.machines)) }
         ensures outside { self.old.current ≡ None → result ≡ Err refusals.NoTransaction }
         ensures served { (db : Database) (whole : Relations) (past : List (Deed (language db))) → IsOfCatalogue db → ReachedLaw (language db) → db.catalogue ≡ catalogue_of self.old.machines.desk.catalog → OfStores D.is_clean S.is_clean self.new.machines → OfStores D.is_sound S.is_sound self.old.machines
             → IsServed db whole (held D.kept S.kept self.old.machines) past → IsServedOn db whole (held D.kept S.kept self.new.machines) past }
@@ -200,7 +200,7 @@ impl<D: DeskStore, S: SiteStore> Solo<D, S> {
         ensures ok { (db : Database) (text : List ℕ) → IsOfCatalogue db → db.catalogue ≡ catalogue_of self.old.machines.desk.catalog → OfStores D.is_clean S.is_clean self.new.machines → OfStores D.is_sound S.is_sound self.old.machines → AreFit db (held D.kept S.kept self.old.machines)
             → IsTextOf db.schemas text Rollback → IfOk result (λ heard. Executes db text self.old.current (held D.kept S.kept self.old.machines) self.new.current (held D.kept S.kept self.new.machines) heard.items) }
         ensures denied { (db : Database) (text : List ℕ) → IsOfCatalogue db → db.catalogue ≡ catalogue_of self.old.machines.desk.catalog → OfStores D.is_clean S.is_clean self.new.machines → OfStores D.is_sound S.is_sound self.old.machines → AreFit db (held D.kept S.kept self.old.machines)
-            → IsTextOf db.schemas text Rollback → IfErr result (Declines db text self.old.current (held D.kept S.kept self.old.machines)) }
+            → IsTextOf db.schemas text Rollback → IfErr result (Declines db text self.old.current (held D.kept S.kept self.old.machines) (held D.kept S.kept self.new.machines)) }
         ensures outside { self.old.current ≡ None → result ≡ Err refusals.NoTransaction }
         ensures served { (db : Database) (whole : Relations) (past : List (Deed (language db))) → IsOfCatalogue db → ReachedLaw (language db) → db.catalogue ≡ catalogue_of self.old.machines.desk.catalog → OfStores D.is_clean S.is_clean self.new.machines → OfStores D.is_sound S.is_sound self.old.machines
             → IsServed db whole (held D.kept S.kept self.old.machines) past → IsServedOn db whole (held D.kept S.kept self.new.machines) past }
@@ -226,7 +226,7 @@ impl<D: DeskStore, S: SiteStore> Solo<D, S> {
         ensures ok { (db : Database) → IsOfCatalogue db → db.catalogue ≡ catalogue_of self.old.machines.desk.catalog → OfStores D.is_clean S.is_clean self.new.machines → OfStores D.is_sound S.is_sound self.old.machines → AreFit db (held D.kept S.kept self.old.machines)
             → IfOk result (λ heard. Executes db text.now self.old.current (held D.kept S.kept self.old.machines) self.new.current (held D.kept S.kept self.new.machines) heard.items) }
         ensures denied { (db : Database) (statement : Statement) → IsOfCatalogue db → db.catalogue ≡ catalogue_of self.old.machines.desk.catalog → OfStores D.is_clean S.is_clean self.new.machines → OfStores D.is_sound S.is_sound self.old.machines → AreFit db (held D.kept S.kept self.old.machines)
-            → IsTextOf db.schemas text.now (Run statement) → IfErr result (Declines db text.now self.old.current (held D.kept S.kept self.old.machines)) }
+            → IsTextOf db.schemas text.now (Run statement) → IfErr result (Declines db text.now self.old.current (held D.kept S.kept self.old.machines) (held D.kept S.kept self.new.machines)) }
         ensures served { (db : Database) (whole : Relations) (past : List (Deed (language db))) → IsOfCatalogue db → ReachedLaw (language db) → db.catalogue ≡ catalogue_of self.old.machines.desk.catalog → OfStores D.is_clean S.is_clean self.new.machines → OfStores D.is_sound S.is_sound self.old.machines
             → IsServed db whole (held D.kept S.kept self.old.machines) past → IsServedOn db whole (held D.kept S.kept self.new.machines) past }
         ensures still { OnErr result (self.new.current ≡ self.old.current) }
@@ -251,7 +251,7 @@ impl<D: DeskStore, S: SiteStore> Solo<D, S> {
         ensures ok { (db : Database) → IsOfCatalogue db → db.catalogue ≡ catalogue_of self.old.machines.desk.catalog → OfStores D.is_clean S.is_clean self.new.machines → OfStores D.is_sound S.is_sound self.old.machines → AreFit db (held D.kept S.kept self.old.machines)
             → IsTextOf db.schemas text.now command.now → IfOk result (λ heard. Executes db text.now self.old.current (held D.kept S.kept self.old.machines) self.new.current (held D.kept S.kept self.new.machines) heard.items) }
         ensures denied { (db : Database) → IsOfCatalogue db → db.catalogue ≡ catalogue_of self.old.machines.desk.catalog → OfStores D.is_clean S.is_clean self.new.machines → OfStores D.is_sound S.is_sound self.old.machines → AreFit db (held D.kept S.kept self.old.machines)
-            → IsTextOf db.schemas text.now command.now → IfErr result (Declines db text.now self.old.current (held D.kept S.kept self.old.machines)) }
+            → IsTextOf db.schemas text.now command.now → IfErr result (Declines db text.now self.old.current (held D.kept S.kept self.old.machines) (held D.kept S.kept self.new.machines)) }
         ensures inside { (txn : TxnNow) → self.old.current ≡ Some txn → command.now ≡ Begin → result ≡ Err refusals.Busy }
         ensures outside { self.old.current ≡ None → (command.now ≡ Commit) ⊎ (command.now ≡ Rollback) → result ≡ Err refusals.NoTransaction }
         ensures served { (db : Database) (whole : Relations) (past : List (Deed (language db))) → IsOfCatalogue db → ReachedLaw (language db) → db.catalogue ≡ catalogue_of self.old.machines.desk.catalog → OfStores D.is_clean S.is_clean self.new.machines → OfStores D.is_sound S.is_sound self.old.machines
@@ -274,7 +274,7 @@ impl<D: DeskStore, S: SiteStore> Solo<D, S> {
         ensures ok { (db : Database) → IsOfCatalogue db → db.catalogue ≡ catalogue_of self.old.machines.desk.catalog → OfStores D.is_clean S.is_clean self.new.machines → OfStores D.is_sound S.is_sound self.old.machines → AreFit db (held D.kept S.kept self.old.machines)
             → IfOk result (λ heard. Executes db text.now self.old.current (held D.kept S.kept self.old.machines) self.new.current (held D.kept S.kept self.new.machines) heard.items) }
         ensures denied { (db : Database) → IsOfCatalogue db → db.catalogue ≡ catalogue_of self.old.machines.desk.catalog → OfStores D.is_clean S.is_clean self.new.machines → OfStores D.is_sound S.is_sound self.old.machines → AreFit db (held D.kept S.kept self.old.machines)
-            → IfErr result (Declines db text.now self.old.current (held D.kept S.kept self.old.machines)) }
+            → IfErr result (Declines db text.now self.old.current (held D.kept S.kept self.old.machines) (held D.kept S.kept self.new.machines)) }
         ensures inside { (txn : TxnNow) → self.old.current ≡ Some txn → IsTextOf (schemas_of (catalogue_of self.old.machines.desk.catalog)) text.now Begin → (result ≡ Err refusals.Busy) ⊎ (result ≡ Err refusals.Memory) }
         ensures outside { self.old.current ≡ None → IsTextOf (schemas_of (catalogue_of self.old.machines.desk.catalog)) text.now Commit ⊎ IsTextOf (schemas_of (catalogue_of self.old.machines.desk.catalog)) text.now Rollback → (result ≡ Err refusals.NoTransaction) ⊎ (result ≡ Err refusals.Memory) }
         ensures unread { ((given : CommandNow) → IsTextOf (schemas_of (catalogue_of self.old.machines.desk.catalog)) text.now given → ⊥) → OnOk result ⊥ × IfErr result (IsUnreadable (schemas_of (catalogue_of self.old.machines.desk.catalog)) text.now) }
@@ -308,6 +308,8 @@ impl<D: DeskStore, S: SiteStore> Solo<D, S> {
         ensures denied { (whole : Relations) (past : List (Deed (language (database (catalogue_of self.old.machines.desk.catalog))))) → self.old.stopped ≡ None → OfStores D.is_clean S.is_clean self.new.machines → OfStores D.is_sound S.is_sound self.old.machines
             → IsServed (database (catalogue_of self.old.machines.desk.catalog)) whole (held D.kept S.kept self.old.machines) past → Stands (database (catalogue_of self.old.machines.desk.catalog)) (fits (catalogue_of self.old.machines.desk.catalog)) self.old.current (held D.kept S.kept self.old.machines) past
             → IfErr result (Denies (database (catalogue_of self.old.machines.desk.catalog)) text.now self.old.current (held D.kept S.kept self.old.machines) past) }
+        ensures declined { self.old.stopped ≡ None → OfStores D.is_clean S.is_clean self.new.machines → OfStores D.is_sound S.is_sound self.old.machines → AreFit (database (catalogue_of self.old.machines.desk.catalog)) (held D.kept S.kept self.old.machines)
+            → IfErr result (Declines (database (catalogue_of self.old.machines.desk.catalog)) text.now self.old.current (held D.kept S.kept self.old.machines) (held D.kept S.kept self.new.machines)) }
         ensures inside { (txn : TxnNow) → self.old.stopped ≡ None → self.old.current ≡ Some txn → IsTextOf (schemas_of (catalogue_of self.old.machines.desk.catalog)) text.now Begin → (result ≡ Err refusals.Busy) ⊎ (result ≡ Err refusals.Memory) }
         ensures outside { self.old.stopped ≡ None → self.old.current ≡ None → IsTextOf (schemas_of (catalogue_of self.old.machines.desk.catalog)) text.now Commit ⊎ IsTextOf (schemas_of (catalogue_of self.old.machines.desk.catalog)) text.now Rollback → (result ≡ Err refusals.NoTransaction) ⊎ (result ≡ Err refusals.Memory) }
         ensures unread { self.old.stopped ≡ None → ((given : CommandNow) → IsTextOf (schemas_of (catalogue_of self.old.machines.desk.catalog)) text.now given → ⊥) → OnOk result ⊥ × IfErr result (IsUnreadable (schemas_of (catalogue_of self.old.machines.desk.catalog)) text.now) }

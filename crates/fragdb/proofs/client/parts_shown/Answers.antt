@@ -6,16 +6,15 @@ use Rattle.fragdb.proofs.ClientLemmas.{parts_of_own, shows_on, stands_still}
 use Rattle.fragdb.proofs.client.parts_shown.Goals as goal
 
 pub returns-in_ok-parts_text-in-Ok-clause-shown : goal.returns-in_ok-parts_text-in-Ok-clause-shown
-returns-in_ok-parts_text-in-Ok-clause-shown c = λ catalogue whole h.
+returns-in_ok-parts_text-in-Ok-clause-shown c = λ catalogue whole past h.
     let old = c.args.database.now in
     let new = c.parts.new.self in
     let found = option_map (λ parts. parts.items) c.in-Ok.found in
     let over = ap catalogue_of (c.catalog.ensures ∙ c.parts.ensures.catalog) ∙ h.catalog in (
-      stands_still catalogue whole old new h c.parts.ensures.still c.parts.ensures.same,
-      c.in_ok-parts_text-in-Ok.ensures ∙ ap (λ (other : Catalogue). parts_text other c.args.name.now c.args.leaf.now found) over
-          ∙ ap (λ shown. parts_text catalogue c.args.name.now c.args.leaf.now shown) (parts_of_own catalogue whole old new h c.args.leaf.now found c.in-Ok.ensures.parts),
+      shows_on catalogue whole past old new h c.parts.ensures.still c.parts.ensures.catalog c.parts.ensures.sound c.parts.ensures.same,
+      (
+        stands_still catalogue whole past old new h c.parts.ensures.still c.parts.ensures.same,
+        c.in_ok-parts_text-in-Ok.ensures ∙ ap (λ (other : Catalogue). parts_text other c.args.name.now c.args.leaf.now found) over
+            ∙ ap (λ shown. parts_text catalogue c.args.name.now c.args.leaf.now shown) (parts_of_own catalogue whole past old new h c.args.leaf.now found c.in-Ok.ensures.parts),
+      ),
     )
-
-pub returns-in_ok-parts_text-in-Ok-clause-goes_on : goal.returns-in_ok-parts_text-in-Ok-clause-goes_on
-returns-in_ok-parts_text-in-Ok-clause-goes_on c = λ catalogue whole h.
-    shows_on catalogue whole c.args.database.now c.parts.new.self h c.parts.ensures.still c.parts.ensures.catalog c.parts.ensures.sound c.parts.ensures.same

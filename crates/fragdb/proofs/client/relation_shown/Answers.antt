@@ -8,20 +8,21 @@ use Rattle.fragdb.proofs.ClientLemmas.{rows_of_own, shows_on, stands_still}
 use Rattle.fragdb.proofs.client.relation_shown.Goals as goal
 
 pub returns-in-Ok-clause-shown : goal.returns-in-Ok-clause-shown
-returns-in-Ok-clause-shown c = λ catalogue whole h.
+returns-in-Ok-clause-shown c = λ catalogue whole past h.
     let old = c.args.database.now in
     let new = c.rebuilt.new.self in
     let name = c.in_ok-name.name in
     let named : name ≡ c.args.name.now = c.in_ok-name.ensures in
     let found = option_map (λ rows. rows.items) c.in-Ok.found in
-    let over = ap catalogue_of (c.catalog.ensures ∙ c.rebuilt.ensures.catalog) ∙ h.catalog in (
-      stands_still catalogue whole old new h c.rebuilt.ensures.still c.rebuilt.ensures.same,
-      λ other those fits.
-          c.in_ok-relation_text-in-Ok.ensures ∙ ap (λ (over : Catalogue). relation_text over name found) over
-          ∙ ap (λ shown. relation_text catalogue name shown) (rows_of_own catalogue whole old new h name found c.in-Ok.ensures.rows other those fits)
-          ∙ ap (λ (n : List ℕ). relation_text catalogue n (rows_shown (database catalogue) other n)) named,
-    )
-
-pub returns-in-Ok-clause-goes_on : goal.returns-in-Ok-clause-goes_on
-returns-in-Ok-clause-goes_on c = λ catalogue whole h.
-    shows_on catalogue whole c.args.database.now c.rebuilt.new.self h c.rebuilt.ensures.still c.rebuilt.ensures.catalog c.rebuilt.ensures.sound c.rebuilt.ensures.same
+    let over = ap catalogue_of (c.catalog.ensures ∙ c.rebuilt.ensures.catalog) ∙ h.catalog in
+    record {
+      later = past;
+      goes_on = shows_on catalogue whole past old new h c.rebuilt.ensures.still c.rebuilt.ensures.catalog c.rebuilt.ensures.sound c.rebuilt.ensures.same;
+      answers = (
+        stands_still catalogue whole past old new h c.rebuilt.ensures.still c.rebuilt.ensures.same,
+        λ other those fits.
+            c.in_ok-relation_text-in-Ok.ensures ∙ ap (λ (over : Catalogue). relation_text over name found) over
+            ∙ ap (λ shown. relation_text catalogue name shown) (rows_of_own catalogue whole past old new h name found c.in-Ok.ensures.rows other those fits)
+            ∙ ap (λ (n : List ℕ). relation_text catalogue n (rows_shown (database catalogue) other n)) named,
+      );
+    }

@@ -8,7 +8,6 @@ use Rattle.world.proofs.Refusing.{if_err}
 use Rattle.std.proofs.Common.{inl}
 use Rattle.world.proofs.Denying.{is_memory, taken_back}
 use Rattle.world.specs.declared.event.Call.TheVariants as call
-use Rattle.world.specs.Refused.{IsRefused}
 use Rattle.world.proofs.alone.commit_alone.Goals as goal
 
 pub returns-in-Ok-clause-ok : goal.returns-in-Ok-clause-ok
@@ -25,4 +24,9 @@ pub returns-in-Ok-clause-denied : goal.returns-in-Ok-clause-denied
 returns-in-Ok-clause-denied g c = λ db of is clean sound fit. if_err c.hears.result (λ told memory. inl (is_memory told memory)) c.hears.ensures.own
 
 pub returns-in-Err-clause-denied : goal.returns-in-Err-clause-denied
-returns-in-Err-clause-denied g c = λ db of is clean sound fit. taken_back (IsRefused db (held g.D.DeskStore.kept g.S.SiteStore.kept c.args.machines.now).table (call.Commit c.args.txn)) c.take_back.result c.in-Err.refusal c.take_back.ensures.told (c.in-Err.ensures.denied db of is (c.take_back.ensures.clean clean) sound fit)
+returns-in-Err-clause-denied g c = λ db of is clean sound fit.
+    let before = held g.D.DeskStore.kept g.S.SiteStore.kept c.args.machines.now in
+    let middle = held g.D.DeskStore.kept g.S.SiteStore.kept c.commit.new.machines in
+    let after = held g.D.DeskStore.kept g.S.SiteStore.kept c.take_back.new.machines in
+    taken_back db c.args.txn (call.Commit c.args.txn) before middle after c.take_back.result c.in-Err.refusal c.take_back.ensures.told (c.in-Err.ensures.denied db of is (c.take_back.ensures.clean clean) sound fit)
+    (λ fit_middle. c.take_back.ensures.taken db of (is ∙ ap catalogue_of (sym c.commit.ensures.catalog)) clean (c.commit.ensures.sound (c.take_back.ensures.clean clean) sound) fit_middle)

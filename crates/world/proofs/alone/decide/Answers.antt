@@ -1,7 +1,8 @@
 -- Why `decide` meets its contract.
-use Rattle.std.proofs.Common.{◌≡◌, ◌∙◌, refl, sym, ap, true, false, inl, inr, ⊎_elim}
+use Rattle.std.proofs.Common.{◌≡◌, ◌∙◌, refl, sym, ap, true, false}
 use Rattle.world.specs.Held.{held}
-use Rattle.world.specs.Serving.{is_end, tells}
+use Rattle.world.specs.Serving.{did_decide, had_ended, is_end, tells}
+use Rattle.world.proofs.Denying.{not_decided}
 use Rattle.world.proofs.Moving.{if_ok}
 use Rattle.world.proofs.Reaching.{same_on}
 use Rattle.world.proofs.Refusing.{if_err}
@@ -10,7 +11,7 @@ use Rattle.world.proofs.alone.decide.Goals as goal
 pub returns-then-tells_end-clause-ok : goal.returns-then-tells_end-clause-ok
 returns-then-tells_end-clause-ok g c = λ db of is clean sound fit.
     let ended : tells is_end c.args.told.items ≡ true = ap (tells is_end) (sym c.as_slice.ensures.value) ∙ sym c.tells_end.ensures ∙ c.if-tells_end.true in
-    inl (ended, refl, c.told_alone.ensures)
+    had_ended ended refl c.told_alone.ensures
 
 pub returns-then-tells_end-clause-served : goal.returns-then-tells_end-clause-served
 returns-then-tells_end-clause-served g c = λ db whole past of law is clean sound served.
@@ -20,9 +21,9 @@ returns-then-tells_end-clause-served g c = λ db whole past of law is clean soun
 pub returns-clause-ok : goal.returns-clause-ok
 returns-clause-ok g c = λ db of is clean sound fit.
     let goes_on : tells is_end c.args.told.items ≡ false = ap (tells is_end) (sym c.as_slice.ensures.value) ∙ sym c.tells_end.ensures ∙ c.if-tells_end.false in
-    if_ok c.commit_alone.result (λ heard commits. inr (goes_on, commits)) (c.commit_alone.ensures.ok db of is clean sound fit)
+    if_ok c.commit_alone.result (λ heard commits. did_decide goes_on commits) (c.commit_alone.ensures.ok db of is clean sound fit)
 
 pub returns-clause-denied : goal.returns-clause-denied
 returns-clause-denied g c = λ db of is clean sound fit.
     let goes_on : tells is_end c.args.told.items ≡ false = ap (tells is_end) (sym c.as_slice.ensures.value) ∙ sym c.tells_end.ensures ∙ c.if-tells_end.false in
-    if_err c.commit_alone.result (λ told denied. ⊎_elim (λ stops. inl stops) (λ refused. inr (goes_on, refused)) denied) (c.commit_alone.ensures.denied db of is clean sound fit)
+    if_err c.commit_alone.result (λ told denied. not_decided db c.args.txn c.args.told.items (held g.D.DeskStore.kept g.S.SiteStore.kept c.args.machines.now) (held g.D.DeskStore.kept g.S.SiteStore.kept c.commit_alone.new.machines) told goes_on denied) (c.commit_alone.ensures.denied db of is clean sound fit)

@@ -6,8 +6,7 @@ use Rattle.world.specs.Serving.{DoesDecide}
 use Rattle.world.proofs.Moving.{if_ok}
 use Rattle.world.proofs.Reaching.{same_on}
 use Rattle.world.proofs.Refusing.{if_err}
-use Rattle.std.proofs.Common.{inl}
-use Rattle.world.specs.Denying.{CommitIsDenied}
+use Rattle.world.specs.Denying.{CommitIsDenied, commit_stops}
 use Rattle.world.proofs.Denying.{is_memory}
 use Rattle.world.proofs.alone.go_on.Goals as goal
 
@@ -23,8 +22,8 @@ returns-in-Err-clause-served g c = λ db whole past of law is clean sound served
 
 pub returns-in-Ok-clause-denied : goal.returns-in-Ok-clause-denied
 returns-in-Ok-clause-denied g c = λ db of is clean sound fit.
-    if_err c.decide.result (λ why denied. subst (λ (told : List Notice). CommitIsDenied db c.args.txn told (held g.D.DeskStore.kept g.S.SiteStore.kept c.args.machines.now) why) c.in-Ok.ensures.all denied)
+    if_err c.decide.result (λ why denied. subst (λ (told : List Notice). CommitIsDenied db c.args.txn told (held g.D.DeskStore.kept g.S.SiteStore.kept c.args.machines.now) (held g.D.DeskStore.kept g.S.SiteStore.kept c.decide.new.machines) why) c.in-Ok.ensures.all denied)
     (c.decide.ensures.denied db of is clean sound fit)
 
 pub returns-in-Err-clause-denied : goal.returns-in-Err-clause-denied
-returns-in-Err-clause-denied g c = λ db of is clean sound fit. inl (is_memory c.in-Err.refusal c.in-Err.ensures.own)
+returns-in-Err-clause-denied g c = λ db of is clean sound fit. commit_stops (is_memory c.in-Err.refusal c.in-Err.ensures.own)

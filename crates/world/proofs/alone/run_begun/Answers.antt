@@ -8,7 +8,6 @@ use Rattle.world.proofs.Refusing.{if_err}
 use Rattle.world.proofs.Denying.{not_stated, taken_back}
 use Rattle.world.specs.Denying.{is_not_committed}
 use Rattle.world.specs.declared.event.Call.TheVariants as call
-use Rattle.world.specs.Refused.{IsRefused}
 use Rattle.world.proofs.alone.run_begun.Goals as goal
 
 pub returns-in-Ok-clause-ok : goal.returns-in-Ok-clause-ok
@@ -36,5 +35,10 @@ returns-in-Ok-clause-denied g c = λ db of is clean sound fit.
     (c.go_on.ensures.denied db of (is ∙ ap catalogue_of (sym c.state.ensures.catalog)) clean (c.state.ensures.sound (c.go_on.ensures.clean clean) sound) stated.asks.serves.fit)
 
 pub returns-in-Err-clause-denied : goal.returns-in-Err-clause-denied
-returns-in-Err-clause-denied g c = λ db of is clean sound fit. not_stated db c.args.text.now c.args.begun.txn c.args.begun.heard.items (held g.D.DeskStore.kept g.S.SiteStore.kept c.args.machines.now) c.take_back.result
-    (taken_back (IsRefused db (held g.D.DeskStore.kept g.S.SiteStore.kept c.args.machines.now).table (call.State c.args.begun.txn c.args.text.now)) c.take_back.result c.in-Err.refusal c.take_back.ensures.told (c.in-Err.ensures.denied db of is (c.take_back.ensures.clean clean) sound fit))
+returns-in-Err-clause-denied g c = λ db of is clean sound fit.
+    let before = held g.D.DeskStore.kept g.S.SiteStore.kept c.args.machines.now in
+    let middle = held g.D.DeskStore.kept g.S.SiteStore.kept c.state.new.machines in
+    let after = held g.D.DeskStore.kept g.S.SiteStore.kept c.take_back.new.machines in
+    not_stated db c.args.text.now c.args.begun.txn c.args.begun.heard.items before after c.take_back.result
+    (taken_back db c.args.begun.txn (call.State c.args.begun.txn c.args.text.now) before middle after c.take_back.result c.in-Err.refusal c.take_back.ensures.told (c.in-Err.ensures.denied db of is (c.take_back.ensures.clean clean) sound fit)
+    (λ fit_middle. c.take_back.ensures.taken db of (is ∙ ap catalogue_of (sym c.state.ensures.catalog)) clean (c.state.ensures.sound (c.take_back.ensures.clean clean) sound) fit_middle))

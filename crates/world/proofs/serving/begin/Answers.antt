@@ -3,7 +3,7 @@ use Rattle.world.specs.Held.{held}
 use Rattle.world.proofs.Beginning.{begin_done}
 use Rattle.world.proofs.Moving.{if_both}
 use Rattle.std.proofs.Common.{inr}
-use Rattle.world.proofs.Beginning.{begin_unheard}
+use Rattle.world.proofs.Beginning.{begin_still, begin_unheard}
 use Rattle.world.proofs.Denying.{if_errs}
 use Rattle.world.proofs.serving.begin.Goals as goal
 
@@ -14,5 +14,8 @@ returns-in-Ok-clause-ok g c = λ db of is clean sound fit.
 
 pub returns-in-Ok-clause-denied : goal.returns-in-Ok-clause-denied
 returns-in-Ok-clause-denied g c = λ db of is clean sound fit.
-    if_errs c.named.result (λ told full none. inr (full, begin_unheard db (held g.D.DeskStore.kept g.S.SiteStore.kept c.args.machines.now) (held g.D.DeskStore.kept g.S.SiteStore.kept c.greet.new.machines) c.in-Ok.heard.items (c.in-Ok.ensures.ok db of is clean sound fit) none))
+    let before = held g.D.DeskStore.kept g.S.SiteStore.kept c.args.machines.now in
+    let after = held g.D.DeskStore.kept g.S.SiteStore.kept c.greet.new.machines in
+    let serves = c.in-Ok.ensures.ok db of is clean sound fit in
+    if_errs c.named.result (λ told full none. inr ((full, begin_unheard db before after c.in-Ok.heard.items serves none), begin_still db before after c.in-Ok.heard.items serves none))
     c.named.ensures.full c.named.ensures.none

@@ -4,13 +4,14 @@ use Rattle.catalog.specs.Relation.{catalogue_of}
 use Rattle.protocol.specs.Desk.{State}
 use Rattle.protocol.specs.Letters.{txn_name}
 use Rattle.world.specs.Delivering.{To_do}
+use Rattle.world.specs.declared.event.Call.TheVariants as call
 use Rattle.world.specs.Held.{held}
 use Rattle.world.proofs.Deliveries.{call_serves}
 use Rattle.world.proofs.Moving.{if_ok}
 use Rattle.world.proofs.Reaching.{call_served, same_on}
 use Rattle.world.proofs.Refusing.{if_err}
 use Rattle.std.proofs.Common.{inl}
-use Rattle.world.proofs.Denying.{memory_stops}
+use Rattle.world.proofs.Denying.{still_denied}
 use Rattle.world.proofs.serving.state.Goals as goal
 
 pub returns-in-Ok-clause-ok : goal.returns-in-Ok-clause-ok
@@ -42,4 +43,5 @@ pub returns-in-Ok-clause-denied : goal.returns-in-Ok-clause-denied
 returns-in-Ok-clause-denied g c = λ db of is clean sound fit. if_err c.settle.result (λ told stops. inl stops) c.settle.ensures.own
 
 pub returns-in-Err-clause-denied : goal.returns-in-Err-clause-denied
-returns-in-Err-clause-denied g c = λ db of is clean sound fit. memory_stops c.in-Err.refusal (c.in-Err.ensures.told db is)
+returns-in-Err-clause-denied g c = λ db of is clean sound fit.
+    still_denied db (held g.D.DeskStore.kept g.S.SiteStore.kept c.args.machines.now) (held g.D.DeskStore.kept g.S.SiteStore.kept c.statement.new.self) (call.State c.args.txn c.args.text.now) c.in-Err.refusal fit c.in-Err.ensures.err (c.in-Err.ensures.told db is)

@@ -35,7 +35,13 @@ pub returns-clause-denied : goal.returns-clause-denied
 returns-clause-denied g c = λ whole past going clean sound served stands.
     let catalogue = catalogue_of c.args.self.now.machines.desk.catalog in
     let before = held g.D.DeskStore.kept g.S.SiteStore.kept c.args.self.now.machines in
+    let after = held g.D.DeskStore.kept g.S.SiteStore.kept c.command-done.new.self.machines in
     let of = subst (λ (x : List (List ℕ) × List SplitRelation). IsOfCatalogue (database (catalogue_of x))) c.catalog.ensures c.database_is_of_catalogue.ensures.of_catalogue in
     let law = subst (λ (x : List (List ℕ) × List SplitRelation). DeniesForAReason (database (catalogue_of x)) (fits (catalogue_of x))) c.catalog-4.ensures c.denied_for_a_reason.ensures in
-    if_err c.command-done.result (λ told declines. law whole c.args.text.now c.args.self.now.current before past told served stands declines)
+    if_err c.command-done.result (λ told declines. law whole c.args.text.now c.args.self.now.current before after past told served stands declines)
     (c.command-done.ensures.denied (database catalogue) of refl clean sound served.fit)
+
+pub returns-clause-declined : goal.returns-clause-declined
+returns-clause-declined g c = λ going clean sound fit.
+    c.command-done.ensures.denied (database (catalogue_of c.args.self.now.machines.desk.catalog))
+    (subst (λ (x : List (List ℕ) × List SplitRelation). IsOfCatalogue (database (catalogue_of x))) c.catalog.ensures c.database_is_of_catalogue.ensures.of_catalogue) refl clean sound fit
