@@ -1,6 +1,6 @@
 #!/usr/bin/env bash
 # Tries the wrong edits under edits/, which the gate does not: the check of the crate must refuse each.
-# It works on a copy of the repository with the work that earlier checks kept, so check the crates first.
+# It works on a copy of the crates and of those below them, with the work that earlier checks kept, so check them first.
 #
 #   bench/edits.sh [CRATE[/NAME] ..]      without words: all of them
 set -u
@@ -59,10 +59,26 @@ def refused(room, crate, path):
     return ran.returncode == 1, (why or ["proved"])[0][:200]
 
 
+def copied(room, crates):
+    """Copies these crates and those below them, which alone a check of theirs reads."""
+    with open("crates.txt", encoding="utf-8") as it:
+        lines = {line.partition(":")[0].split()[0]: line for line in it if line.strip()}
+    wanted, found = set(), set(crates)
+    while found:
+        wanted |= found
+        found = {below for crate in found for below in lines[crate].partition(":")[2].split() if below in lines} - wanted
+    os.makedirs(f"{room}/.git")
+    for crate in wanted:
+        shutil.copytree(f"crates/{crate}", f"{room}/crates/{crate}", symlinks=True)
+    with open(f"{room}/crates.txt", "w", encoding="utf-8") as it:
+        it.writelines(lines[crate] for crate in lines if crate in wanted)
+    if os.path.exists("HANDLES"):
+        shutil.copy("HANDLES", room)
+
+
 room, passed, failed = tempfile.mkdtemp(prefix="edits-"), 0, 0
 try:
-    shutil.copytree(".", f"{room}/it", symlinks=True, ignore=shutil.ignore_patterns(".git"))
-    os.mkdir(f"{room}/it/.git")
+    copied(f"{room}/it", {crate for crate, _ in edits(sys.argv[1:])})
     for crate, path in edits(sys.argv[1:]):
         well, why = refused(f"{room}/it", crate, path)
         passed, failed = passed + well, failed + (not well)

@@ -12,11 +12,11 @@ pub trait TryCopy: Drop {
         ensures { IfOk result (λ copy. copy ≡ self.now) };
 }
 
-/// A copy of each value, in order.
+/// A copy of each value, in order. There is room for them alone: what is kept for long takes no more memory.
 pub fn copy_all<T: TryCopy>(alloc: Global, items: &[T]) -> Result<Vec<T>, Memory>
     ensures { IfOk result (λ copies. copies.items ≡ items.now) }
 {
-    let mut copies = Vec::new(alloc);
+    let mut copies = Vec::with_capacity(alloc, items.len())?;
     for item in items {
         copies.push(item.copy()?)?;
     }
