@@ -128,3 +128,9 @@ abbrev pub RunsFiles : Bor (List ℕ) → List ℕ → Bor (List ℕ) → List �
 RunsFiles catalog bytes file script old new (Ok any_refused) = IsRunOf bytes file script old new (Ok any_refused)
 RunsFiles catalog bytes file script old new (Err (Refused fault)) = RefusesFile bytes fault.relation fault.rule × Keeps old new
 RunsFiles catalog bytes file script old new (Err (Program fault)) = (IsOfInput catalog fault × Keeps old new) ⊎ IsRunOf bytes file script old new (Err fault)
+
+-- why nothing runs where the script can't be opened: the catalogue is none, or that is told
+abbrev pub IsUnrun : Bor (List ℕ) → List ℕ → Bor (List ℕ) → Result Bool CatalogFault → Type 0
+IsUnrun catalog bytes file (Ok any_refused) = ⊥
+IsUnrun catalog bytes file (Err (Refused fault)) = RefusesFile bytes fault.relation fault.rule
+IsUnrun catalog bytes file (Err (Program fault)) = IsOfInput catalog fault ⊎ IsOfInput file fault

@@ -10,7 +10,7 @@ ghost use Rattle.desk.specs.Database.{language};
 ghost use Rattle.world.specs.Base.{database as base};
 ghost use Rattle.fragdb.specs.Client.{GoesOn};
 ghost use Rattle.fragdb.specs.Script.{task_of};
-ghost use Rattle.fragdb.specs.Solo.{IsOfRead, IsOfRun, IsRun, IsStretch, RunsFiles, RunsOrStops, RunsScript, longest};
+ghost use Rattle.fragdb.specs.Solo.{IsOfRead, IsOfRun, IsRun, IsStretch, IsUnrun, RunsFiles, RunsOrStops, RunsScript, longest};
 
 use crate::catalog_file::{CatalogFault, read_catalog};
 use crate::client::{Database, answer};
@@ -39,6 +39,7 @@ pub fn solo_files<'a, C: Read + Drop, R: Read + Drop, W: Write>(
     output: &mut W,
 ) -> Result<bool, CatalogFault<'a>>
     ensures opened { IfSome (C.remaining catalog) (λ bytes. IfOk input (λ reader. IfSome (R.remaining reader) (λ script. RunsFiles catalog_file.entry bytes file.entry script (W.contents output.old) (W.contents output.new) result))) }
+    ensures unread { IfErr input (λ error. IfSome (C.remaining catalog) (λ bytes. IsUnrun catalog_file.entry bytes file.entry result)) }
     ensures idle { IfErr input (λ error. is_err result ≡ true) }
     ensures quiet { IfErr input (λ error. Keeps (W.contents output.old) (W.contents output.new)) }
 {
