@@ -84,7 +84,7 @@ module _ (catalogue : Catalogue) (whole : Relations) (past : List (Deed (languag
       IsDenied catalogue text (standing_of catalogue old past) refusal
   is_denied text refusal denied =
       let P : Catalogue → Type 0 = λ c. (whole : Relations) (past : List (Deed (language (database c)))) → IsServed (database c) whole before past → Stands (database c) (fits c) old.current before past → Denies (database c) text old.current before past refusal in
-      λ other served stands. subst P h.catalog (λ other past served stands. denied other past h.going (clean new.machines) h.sound served stands) other past served stands
+      subst P h.catalog (λ other past served stands. denied other past h.going (clean new.machines) h.sound served stands)
 
   -- a refusal that does not stop the database is told
   pub is_turned_away : {E : Type 0} (text : List ℕ) (refusal : Refusal) (result : Result Reply E) → DeedsFollow (database own) → (is_stop refusal ≡ false → new.stopped ≡ None) → new.machines.desk.catalog ≡ old.machines.desk.catalog → (Clean → Sound → OfStores {D = PlainDesk} {S = PlainSite} (λ _. Unit {0}) IsSound new.machines) →
@@ -98,7 +98,7 @@ module _ (catalogue : Catalogue) (whole : Relations) (past : List (Deed (languag
       subst (IsAnswered catalogue whole (Runs text) past old new) (sym told) (record {
         later = past ++ deeds;
         goes_on = goes_on (past ++ deeds) (going goes) same sound (law.refused whole text old.current before after refusal past goes h.served declines);
-        answers = record { refusal = refusal; why = is_denied text refusal denied; goes_on = goes; same = still; declines = declines; happened = refl; line = refl };
+        answers = record { refusal = refusal; why = is_denied text refusal denied; goes_on = goes; same = still; declines = declines; happened = refl; uncommitted = law.uncommitted text old.current before after refusal past declines; line = refl };
       })
   is_turned_away text refusal (Err e) follow going same sound denied declined still goes told = tt
 

@@ -12,6 +12,7 @@ use Rattle.store.specs.declared.plain_site.PlainSite.{PlainSite}
 use Rattle.store.specs.PlainDesk.{kept_of as desk_kept}
 use Rattle.store.specs.PlainSite.{IsSound, kept_of}
 use Rattle.protocol.specs.Desk.{Deed}
+use Rattle.protocol.specs.Serial.{committed}
 use Rattle.desk.specs.declared.refusal.Refusal.{Refusal}
 use Rattle.desk.specs.declared.reply.Notice.{Notice}
 use Rattle.desk.specs.Database.{Database, language}
@@ -62,10 +63,10 @@ pub record IsHeard (catalogue : Catalogue) (text : List ℕ) (before after : Sta
 -- where the database stands, a command of this text is refused for its reason alone: the text is no command's, BEGIN comes inside a transaction, COMMIT or ROLLBACK outside one, or something is at a limit
 abbrev pub IsDenied : (catalogue : Catalogue) → List ℕ → Standing catalogue → Refusal → Type 0
 IsDenied catalogue text before told =
-    (whole : Relations) → IsServed (database catalogue) whole before.machines before.past → Stands (database catalogue) (fits catalogue) before.current before.machines before.past →
-    Denies (database catalogue) text before.current before.machines before.past told
+    (whole : Relations) (past : List (Deed (language (database catalogue)))) → IsServed (database catalogue) whole before.machines past → Stands (database catalogue) (fits catalogue) before.current before.machines past →
+    Denies (database catalogue) text before.current before.machines past told
 
--- a command is refused, and that is told; the transaction that was open stays so. What happened meanwhile is nothing, except to a lone statement whose transaction had begun
+-- a command is refused, and that is told; the transaction that was open stays so. Nothing happens by it, except to a lone statement whose transaction had begun, and nothing is committed
 pub record IsTurnedAway (catalogue : Catalogue) (text : List ℕ) (before after : Standing catalogue) (told : List ℕ) : Type 0 where
   pub refusal : Refusal
   pub why : IsDenied catalogue text before refusal
@@ -73,6 +74,7 @@ pub record IsTurnedAway (catalogue : Catalogue) (text : List ℕ) (before after 
   pub same : after.current ≡ before.current
   pub declines : Declines (database catalogue) text before.current before.machines after.machines refusal
   pub happened : after.past ≡ before.past ++ deeds_in_vain (database catalogue) text before.current before.machines after.machines refusal declines
+  pub uncommitted : committed after.past ≡ committed before.past
   pub line : told ≡ refused_text refusal ++ 10 ∷ []
 
 -- what a command is answered by

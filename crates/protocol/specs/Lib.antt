@@ -20,3 +20,4 @@ pub mod OneClient
 pub mod Fitting
 pub mod Smooth
 pub mod Toy
+pub mod Vain

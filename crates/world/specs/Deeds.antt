@@ -3,6 +3,7 @@ use Rattle.std.specs.Prelude.{◌≡◌, ℕ, false, List, [], ◌++◌, Option}
 use Rattle.meaning.specs.Whole.{Relations}
 use Rattle.store.specs.declared.name.Txn.{Txn}
 use Rattle.protocol.specs.Desk.{Deed}
+use Rattle.protocol.specs.Serial.{committed}
 use Rattle.desk.specs.declared.refusal.Refusal.{Refusal}
 use Rattle.desk.specs.declared.reply.Notice.{Notice}
 use Rattle.desk.specs.Database.{Database, language}
@@ -66,3 +67,5 @@ pub record DeedsFollow (db : Database) : Type 0 where
       (does : Executes db text current before later after heard) → IsServed db whole after (past ++ deeds_of db text current before later after heard does)
   pub refused : (whole : Relations) (text : List ℕ) (current : Option Txn) (before after : Machines) (told : Refusal) (past : List (Deed (language db))) → is_stop told ≡ false → IsServed db whole before past →
       (declines : Declines db text current before after told) → IsServed db whole after (past ++ deeds_in_vain db text current before after told declines)
+  -- and what is refused commits nothing
+  pub uncommitted : (text : List ℕ) (current : Option Txn) (before after : Machines) (told : Refusal) (past : List (Deed (language db))) (declines : Declines db text current before after told) → committed (past ++ deeds_in_vain db text current before after told declines) ≡ committed past
