@@ -1,10 +1,11 @@
 #!/usr/bin/env bash
-# Refuses each allocation of `fragdb solo` on a script, of `fragdb check` on catalogues and of `fragdb plan` on a join
-# and an update, in turn, and says how the runs end. Each must end with status 4, `fragdb: out of memory` and the beginning of the whole output, or go on as if
-# nothing had happened. It wants a C compiler (cc), for a library that stands before the system's allocator.
+# Refuses each allocation of `fragdb solo` on scripts, one of them with transactions over a catalogue of a file, of
+# `fragdb check` on catalogues and of `fragdb plan` on a join and an update, in turn, and says how the runs end. Each
+# must end with status 4, `fragdb: out of memory` and the beginning of the whole output, or go on as if nothing had
+# happened. It wants a C compiler (cc), for a library that stands before the system's allocator.
 #
 # usage: bench/refused_memory.sh [PROGRAM [COMMAND ARGUMENT ..]]
-# (default: crates/fragdb/out/fragdb, and `solo` on crates/fragdb/stdin, `check` on each catalogue of crates/fragdb/data
+# (default: crates/fragdb/out/fragdb, and `solo` on crates/fragdb/stdin and on transactions, `check` on each catalogue of crates/fragdb/data
 # and `plan` of two statements on one)
 set -eu
 top=$(cd "$(dirname "$0")/.." && pwd)
@@ -33,6 +34,35 @@ is_same() {
 is_ended() {
     [ "$status" = 4 ] && [ "$(cat "$folder/errors")" = "fragdb: out of memory" ] \
         && cmp -s -n "$(stat -c %s "$folder/output")" "$folder/output" "$folder/whole"
+}
+
+# A script of transactions: one that is committed, with a row that moves to another fragment, one with an overflow and
+# an insert that exists, one that is rolled back, and commands that are refused.
+transactions() {
+    cat << 'SCRIPT'
+SELECT name FROM emp
+BEGIN
+BEGIN
+INSERT INTO dept VALUES (7, 'paint')
+INSERT INTO dept VALUES (12, 'dock')
+INSERT INTO emp VALUES (1, 'Ada', 7, 100)
+INSERT INTO emp VALUES (2, 'Bo', 12, 200)
+UPDATE emp SET dept = dept + 5 WHERE id = 1
+COMMIT
+.leaf emp.2
+.leaf emp.3
+SELECT emp.id, emp.name, dept.title FROM emp JOIN dept ON emp.dept = dept.no
+BEGIN
+UPDATE emp SET pay = pay + 9223372036854775807
+INSERT INTO emp VALUES (1, 'Eve', 7, 1)
+DELETE FROM emp WHERE id = 2
+ROLLBACK
+COMMIT
+DELETE FROM emp WHERE id = 2
+.show emp
+BEGIN
+INSERT INTO emp VALUES (3, 'Cy', 7, 5)
+SCRIPT
 }
 
 all_wrong=0
@@ -64,6 +94,8 @@ if [ $# -ge 2 ]; then
     refuse_each "$@"
 else
     refuse_each solo "$top/crates/fragdb/stdin"
+    transactions > "$folder/transactions"
+    refuse_each solo --catalog "$top/crates/fragdb/data/emp_and_dept.toml" "$folder/transactions"
     for catalogue in "$top"/crates/fragdb/data/*.toml; do
         refuse_each check "$catalogue"
     done

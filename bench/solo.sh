@@ -1,55 +1,144 @@
 #!/usr/bin/env bash
-# Fills a database of `fragdb solo` with 2,500, 5,000, 10,000 and 20,000 rows, runs 2,000 statements of each kind
-# by key over it, and prints the microseconds that a statement took, how many that is a second, and the ratio of
-# the greatest size to the least. "move" is an UPDATE that moves its row to the other fragment.
+# What a statement by key of one client costs over the built-in catalogue, by `fragdb solo`: an INSERT, a SELECT, an
+# UPDATE, a DELETE, and "move", an UPDATE that moves its row to the other fragment.
 #
-# usage: bench/solo.sh [PROGRAM]      (default: crates/fragdb/out/fragdb, which `rt run` in crates/fragdb makes)
+# How the cost grows: the instructions of 2,000 statements of each kind over 2,500 and over 20,000 rows, as valgrind
+# counts them, which other work on the machine doesn't change: those of a script that fills the relation and runs the
+# statements, less those of a script that only fills it. Fails where the greater relation costs more than 1.3 times
+# the smaller. How long it takes: 10,000 statements of each kind, over 2,500 rows (a DELETE over 10,000), on one core,
+# the least of several runs. Fails where that is fewer than 20,000 a second.
+# `profile` tells for each kind which functions have the most instructions, by valgrind, instead of all this.
+#
+# usage: bench/solo.sh [profile] [PROGRAM]      (default: crates/fragdb/out/fragdb, which `rt run` in crates/fragdb makes)
 set -eu
 top=$(cd "$(dirname "$0")/.." && pwd)
-program=${1:-$top/crates/fragdb/out/fragdb}
-folder=$(mktemp -d)
-trap 'rm -rf "$folder"' EXIT
-statements=2000
+exec python3 - "$top" "$@" <<'PYTHON'
+import os
+import re
+import shutil
+import subprocess
+import sys
+import tempfile
+import time
 
-# A script that inserts $1 rows and then runs statements of the kind $2, none where it is "rows".
-script() {
-    awk -v count="$1" -v kind="$2" -v more="$statements" 'BEGIN {
-        for (i = 0; i < count; i++) printf "INSERT INTO item VALUES (%d, %d, '\''r%d'\'')\n", (i * 7919) % 1000003, i % 20, i
-        for (i = 0; kind != "rows" && i < more; i++) {
-            id = (i * 7919) % 1000003; zone = i % 20
-            if (kind == "insert") printf "INSERT INTO item VALUES (%d, %d, '\''n%d'\'')\n", 2000000 + id, zone, i
-            if (kind == "select") printf "SELECT label FROM item WHERE id = %d\n", id
-            if (kind == "update") printf "UPDATE item SET label = '\''u%d'\'' WHERE id = %d\n", i, id
-            if (kind == "move") printf "UPDATE item SET zone = %d WHERE id = %d\n", (zone + 10) % 20, id
-            if (kind == "delete") printf "DELETE FROM item WHERE id = %d\n", id
-        }
-    }'
-}
+TOP, WORDS = sys.argv[1], sys.argv[2:]
+KINDS = ("insert", "select", "update", "move", "delete")
+# What the instructions may grow by, and how many statements a second there have to be.
+MOST_GROWTH, LEAST_A_SECOND = 1.3, 20000
+# A script has at most 1 MiB, so more statements don't go into one.
+FEW_ROWS, MANY_ROWS, COUNTED, TIMED = 2500, 20000, 2000, 10000
+# Rounds at least, and at most: other work on the machine only adds time, so what is too slow is measured on.
+LEAST_ROUNDS, MOST_ROUNDS = 3, 15
 
-# The least of three runs of the script $1, in microseconds.
-least() {
-    local best= start took
-    for _ in 1 2 3; do
-        start=${EPOCHREALTIME/./}
-        "$program" solo "$1" > /dev/null
-        took=$((${EPOCHREALTIME/./} - start))
-        [ -n "$best" ] && [ "$best" -le "$took" ] || best=$took
-    done
-    echo "$best"
-}
 
-declare -A first
-for rows in 2500 5000 10000 20000; do
-    script "$rows" rows > "$folder/rows.txt"
-    filled=$(least "$folder/rows.txt")
-    for kind in insert select update move delete; do
-        script "$rows" "$kind" > "$folder/$kind.txt"
-        awk -v rows="$rows" -v kind="$kind" -v took="$(($(least "$folder/$kind.txt") - filled))" -v n="$statements" -v first="${first[$kind]:-0}" 'BEGIN {
-            each = took / n
-            printf "%6d rows  %-6s  %8.1f us  %8.0f a second", rows, kind, each, 1e6 / each
-            if (first > 0) printf "  ratio %.2f", each / first
-            printf "\n"; print each > "/dev/stderr"
-        }' 2> "$folder/each"
-        [ -n "${first[$kind]:-}" ] || first[$kind]=$(cat "$folder/each")
-    done
-done
+def key(number):
+    """The key of a row, far from that of the row before."""
+    return number * 7919 % 1000003
+
+
+def filling(rows):
+    """A script that inserts so many rows."""
+    return [f"INSERT INTO item VALUES ({key(i)}, {i % 20}, 'r{i}')" for i in range(rows)]
+
+
+def statement(kind, turn, rows):
+    """A statement of a kind, at a key of the relation; an INSERT at a new one."""
+    row, again = turn % rows, turn // rows
+    if kind == "insert":
+        return f"INSERT INTO item VALUES ({2000000 + key(turn)}, {turn % 20}, 'n{turn}')"
+    if kind == "select":
+        return f"SELECT label FROM item WHERE id = {key(row)}"
+    if kind == "update":
+        return f"UPDATE item SET label = 'u{turn}' WHERE id = {key(row)}"
+    if kind == "move":
+        return f"UPDATE item SET zone = {(row + 10 * (again + 1)) % 20} WHERE id = {key(row)}"
+    return f"DELETE FROM item WHERE id = {key(row)}"
+
+
+def written(room, rows, kind=None, count=0):
+    """The file of a script that fills the relation, and then runs so many statements of a kind."""
+    lines = filling(rows) + [statement(kind, turn, rows) for turn in range(count)]
+    path = f"{room}/script"
+    with open(path, "w", encoding="ascii") as it:
+        it.write("".join(f"{line}\n" for line in lines))
+    return path
+
+
+def instructions(program, script):
+    words = ["valgrind", "--tool=cachegrind", "--cache-sim=no", "--cachegrind-out-file=/dev/null", program, "solo", script]
+    ran = subprocess.run(words, stdout=subprocess.DEVNULL, stderr=subprocess.PIPE, text=True, check=True)
+    return int(re.search(r"I\s+refs:\s+([\d,]+)", ran.stderr).group(1).replace(",", ""))
+
+
+def is_growing(program, room):
+    """Tells the instructions of a statement at both sizes. Answers whether a kind grows by too much."""
+    each = {}
+    for rows in (FEW_ROWS, MANY_ROWS):
+        filled = instructions(program, written(room, rows))
+        for kind in KINDS:
+            each[kind, rows] = (instructions(program, written(room, rows, kind, COUNTED)) - filled) / COUNTED
+    wrong = False
+    for kind in KINDS:
+        few, many = each[kind, FEW_ROWS], each[kind, MANY_ROWS]
+        wrong |= many > MOST_GROWTH * few
+        print(f"{kind:6}  {few:8.0f} instructions over {FEW_ROWS} rows, {many:8.0f} over {MANY_ROWS}, ratio {many / few:.2f}{' TOO MUCH' if many > MOST_GROWTH * few else ''}", flush=True)
+    return wrong
+
+
+def seconds(program, script):
+    started = time.perf_counter()
+    subprocess.run([program, "solo", script], stdout=subprocess.DEVNULL, check=True)
+    return time.perf_counter() - started
+
+
+def rate(program, room, kind):
+    """How many statements of a kind run in a second, and how long each takes, in microseconds."""
+    rows, filled, all_of_it = TIMED if kind == "delete" else FEW_ROWS, 1e9, 1e9
+    for done in range(MOST_ROUNDS):
+        if done >= LEAST_ROUNDS and TIMED >= LEAST_A_SECOND * (all_of_it - filled):
+            break
+        filled = min(filled, seconds(program, written(room, rows)))
+        all_of_it = min(all_of_it, seconds(program, written(room, rows, kind, TIMED)))
+    return TIMED / (all_of_it - filled), (all_of_it - filled) / TIMED * 1e6
+
+
+def is_slow(program, room):
+    """Tells how many statements run in a second. Answers whether they are too few, of some kind."""
+    wrong = False
+    for kind in KINDS:
+        a_second, each = rate(program, room, kind)
+        wrong |= a_second < LEAST_A_SECOND
+        print(f"{kind:6}  {a_second:8.0f} a second, {each:5.1f} microseconds each{' TOO FEW' if a_second < LEAST_A_SECOND else ''}", flush=True)
+    return wrong
+
+
+def profile(program, room):
+    """Tells for each kind which functions have the most instructions of their own."""
+    for kind in KINDS:
+        script, counts = written(room, FEW_ROWS, kind, TIMED if kind != "delete" else FEW_ROWS), f"{room}/counts"
+        words = ["valgrind", "--tool=callgrind", f"--callgrind-out-file={counts}", program, "solo", script]
+        subprocess.run(words, stdout=subprocess.DEVNULL, stderr=subprocess.DEVNULL, check=True)
+        told = subprocess.run(["callgrind_annotate", counts], stdout=subprocess.PIPE, text=True, check=True).stdout
+        lines = [line for line in told.splitlines() if re.match(r"\s*[\d,]+ \(", line)]
+        print(f"== {kind}", *[line[:150] for line in lines[:40]], sep="\n", flush=True)
+
+
+def main(room):
+    is_profile = WORDS[:1] == ["profile"]
+    rest = WORDS[1:] if is_profile else WORDS
+    program = rest[0] if rest else f"{TOP}/crates/fragdb/out/fragdb"
+    if not os.access(program, os.X_OK):
+        sys.exit(f"bench/solo.sh: no program at {program}; `rt run` in crates/fragdb makes it")
+    if is_profile:
+        return profile(program, room)
+    slow = is_slow(program, room)
+    return is_growing(program, room) or slow
+
+
+room = tempfile.mkdtemp(prefix="solo-")
+try:
+    wrong = main(room)
+finally:
+    shutil.rmtree(room, ignore_errors=True)
+sys.exit(1 if wrong else 0)
+PYTHON
