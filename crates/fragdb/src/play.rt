@@ -99,7 +99,7 @@ fn play_over<'a, W: Write>(
 {
     runs_are_serial(&catalog);
     // Lists refuse for want of memory alone.
-    let Ok(world) = open(alloc, catalog, whole) else {
+    let Ok(world) = open(alloc, &catalog, whole) else {
         return Err(ProgramFault::Memory);
     };
     let mut schedule = Schedule::new(alloc, world);

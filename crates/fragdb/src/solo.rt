@@ -122,7 +122,7 @@ fn run<'a, W: Write>(
     served_is_serial(&catalog);
     let whole = empty_relations(alloc, catalog.schema())?;
     // Lists refuse for want of memory alone.
-    let Ok(mut database) = open(alloc, catalog, &whole) else {
+    let Ok(mut database) = open(alloc, &catalog, &whole) else {
         return Err(ProgramFault::Memory);
     };
     run_items(alloc, &mut database, items, output)

@@ -65,7 +65,7 @@ fn events(alloc: Global, steps: &[Step]) -> Result<Vec<Event>, Memory> {
 fn opened(alloc: Global, load: &str) -> Result<World<PlainDesk, PlainSite>, Memory> {
     let catalog = catalog(alloc, EMP_AND_DEPT)?;
     let whole = loaded(alloc, &catalog, load)?;
-    match open(alloc, catalog, &whole) {
+    match open(alloc, &catalog, &whole) {
         Ok(world) => Ok(world),
         Err(_) => Err(Memory),
     }
@@ -75,7 +75,7 @@ fn opened(alloc: Global, load: &str) -> Result<World<PlainDesk, PlainSite>, Memo
 fn opened_for_one(alloc: Global) -> Result<Solo<PlainDesk, PlainSite>, Memory> {
     let catalog = catalog(alloc, EMP_AND_DEPT)?;
     let whole = empty(alloc, catalog.schema())?;
-    match open_client(alloc, catalog, &whole) {
+    match open_client(alloc, &catalog, &whole) {
         Ok(client) => Ok(client),
         Err(_) => Err(Memory),
     }

@@ -71,17 +71,18 @@ pub(crate) fn start_sites(
 /// fault.
 pub(crate) fn start(
     alloc: Global,
-    catalog: Catalog,
+    catalog: &Catalog,
     whole: &Whole,
 ) -> Result<Machines<PlainDesk, PlainSite>, Fault>
-    ensures opens { IfOk result (λ machines. (db : Database) → IsPlaced db (catalogue_of catalog) whole.now → Opens db whole.now (held desk_kept kept_of machines)) }
-    ensures catalog { IfOk result (λ machines. machines.desk.catalog ≡ catalog) }
+    ensures opens { IfOk result (λ machines. (db : Database) → IsPlaced db (catalogue_of catalog.now) whole.now → Opens db whole.now (held desk_kept kept_of machines)) }
+    ensures catalog { IfOk result (λ machines. catalogue_of machines.desk.catalog ≡ catalogue_of catalog.now) }
     ensures sound { IfOk result (λ machines. OfStores (λ _. Unit {0}) IsSound machines) }
     ensures err { IfErr result (λ fault. is_memory fault ≡ true) }
 {
     let _relations = catalog.relations();
-    let sites = start_sites(alloc, &catalog, whole)?;
-    match Desk::start(alloc, catalog, PlainDesk::new(alloc)) {
+    let sites = start_sites(alloc, catalog, whole)?;
+    let own = catalog.copy()?;
+    match Desk::start(alloc, own, PlainDesk::new(alloc)) {
         Ok(desk) => Ok(Machines { alloc, desk, sites }),
         Err(unstarted) => Err(Fault::Desk(unstarted.refusal)),
     }

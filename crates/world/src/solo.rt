@@ -71,19 +71,19 @@ pub struct Solo<D: DeskStore, S: SiteStore> {
 /// A database over lists is opened: the fragments rebuild these whole relations. Only want of memory is a fault.
 pub fn open(
     alloc: Global,
-    catalog: Catalog,
+    catalog: &Catalog,
     whole: &Whole,
 ) -> Result<Solo<PlainDesk, PlainSite>, Fault>
-    ensures served { FitsSchema (schemas_of (catalogue_of catalog)) whole.now
-        → IfOk result (λ solo. IsServed (database (catalogue_of catalog)) whole.now (held desk_kept kept_of solo.machines) []) }
-    ensures stands { FitsSchema (schemas_of (catalogue_of catalog)) whole.now
-        → IfOk result (λ solo. Stands (database (catalogue_of catalog)) (fits (catalogue_of catalog)) solo.current (held desk_kept kept_of solo.machines) []) }
-    ensures catalog { IfOk result (λ solo. solo.machines.desk.catalog ≡ catalog) }
+    ensures served { FitsSchema (schemas_of (catalogue_of catalog.now)) whole.now
+        → IfOk result (λ solo. IsServed (database (catalogue_of catalog.now)) whole.now (held desk_kept kept_of solo.machines) []) }
+    ensures stands { FitsSchema (schemas_of (catalogue_of catalog.now)) whole.now
+        → IfOk result (λ solo. Stands (database (catalogue_of catalog.now)) (fits (catalogue_of catalog.now)) solo.current (held desk_kept kept_of solo.machines) []) }
+    ensures catalog { IfOk result (λ solo. catalogue_of solo.machines.desk.catalog ≡ catalogue_of catalog.now) }
     ensures sound { IfOk result (λ solo. OfStores (λ _. Unit {0}) IsSound solo.machines) }
     ensures idle { IfOk result (λ solo. (solo.current ≡ None) × (solo.stopped ≡ None)) }
     ensures err { IfErr result (λ fault. is_memory fault ≡ true) }
 {
-    database_is_of_catalogue(&catalog);
+    database_is_of_catalogue(catalog);
     match start(alloc, catalog, whole) {
         Ok(machines) => Ok(Solo {
             machines,

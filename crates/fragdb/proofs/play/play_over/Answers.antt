@@ -15,11 +15,11 @@ returns-clause-ok g c =
     let opening = stage_of c.new-schedule.result in
     let ran = c.in_ok-done.ensures.ok in
     let end = stage_of c.play_items-done.new.schedule in
-    let over = ap catalogue_of (ap (λ world. world.machines.desk.catalog) c.new-schedule.ensures.world ∙ c.in-Ok.ensures.catalog) in
+    let over = ap (λ world. catalogue_of world.machines.desk.catalog) c.new-schedule.ensures.world ∙ c.in-Ok.ensures.catalog in
     let whole = c.args.whole.now in
     let opened : HasRun whole c.in-Ok.world = record {
       sound = c.in-Ok.ensures.sound;
-      reached = subst (λ (catalogue : Catalogue). IsReached catalogue whole (held desk_kept kept_of c.in-Ok.world.machines) c.in-Ok.world.entries.items) (ap catalogue_of (sym c.in-Ok.ensures.catalog))
+      reached = subst (λ (catalogue : Catalogue). IsReached catalogue whole (held desk_kept kept_of c.in-Ok.world.machines) c.in-Ok.world.entries.items) (sym c.in-Ok.ensures.catalog)
           (subst (λ (entries : List Entry). IsReached (catalogue_of c.args.catalog) whole (held desk_kept kept_of c.in-Ok.world.machines) entries) (sym c.in-Ok.ensures.none) ([], c.in-Ok.ensures.ok c.requires));
     } in
     let started : HasRun whole c.new-schedule.result.world = subst (HasRun whole) (sym c.new-schedule.ensures.world) opened in
