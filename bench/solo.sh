@@ -2,10 +2,10 @@
 # What a statement by key of one client costs over the built-in catalogue, by `fragdb solo`: an INSERT, a SELECT, an
 # UPDATE, a DELETE, and "move", an UPDATE that moves its row to the other fragment.
 #
-# How the cost grows: the instructions of 2,000 statements of each kind over 2,500 and over 20,000 rows, as valgrind
-# counts them, which other work on the machine doesn't change: those of a script that fills the relation and runs the
-# statements, less those of a script that only fills it. Fails where the greater relation costs more than 1.3 times
-# the smaller. How long it takes: 10,000 statements of each kind, over 2,500 rows (a DELETE over 10,000), on one core,
+# How the cost grows: the instructions of 2,000 statements of each kind over 2,500, 5,000, 10,000 and 20,000 rows, as
+# valgrind counts them, which other work on the machine doesn't change: those of a script that fills the relation and
+# runs the statements, less those of a script that only fills it. Fails where a greater relation costs more than 1.3
+# times the smallest. How long it takes: 10,000 statements of each kind, over 2,500 rows (a DELETE over 10,000), on one core,
 # the least of several runs. Fails where that is fewer than 20,000 a second.
 # `profile` tells for each kind which functions have the most instructions, by valgrind, instead of all this.
 #
@@ -26,7 +26,7 @@ KINDS = ("insert", "select", "update", "move", "delete")
 # What the instructions may grow by, and how many statements a second there have to be.
 MOST_GROWTH, LEAST_A_SECOND = 1.3, 20000
 # A script has at most 1 MiB, so more statements don't go into one.
-FEW_ROWS, MANY_ROWS, COUNTED, TIMED = 2500, 20000, 2000, 10000
+SIZES, COUNTED, TIMED = (2500, 5000, 10000, 20000), 2000, 10000
 # Rounds at least, and at most: other work on the machine only adds time, so what is too slow is measured on.
 LEAST_ROUNDS, MOST_ROUNDS = 3, 15
 
@@ -71,17 +71,18 @@ def instructions(program, script):
 
 
 def is_growing(program, room):
-    """Tells the instructions of a statement at both sizes. Answers whether a kind grows by too much."""
-    each = {}
-    for rows in (FEW_ROWS, MANY_ROWS):
+    """Tells the instructions of a statement at each size. Answers whether a kind grows by too much."""
+    each = {kind: [] for kind in KINDS}
+    for rows in SIZES:
         filled = instructions(program, written(room, rows))
         for kind in KINDS:
-            each[kind, rows] = (instructions(program, written(room, rows, kind, COUNTED)) - filled) / COUNTED
+            each[kind].append((instructions(program, written(room, rows, kind, COUNTED)) - filled) / COUNTED)
     wrong = False
-    for kind in KINDS:
-        few, many = each[kind, FEW_ROWS], each[kind, MANY_ROWS]
-        wrong |= many > MOST_GROWTH * few
-        print(f"{kind:6}  {few:8.0f} instructions over {FEW_ROWS} rows, {many:8.0f} over {MANY_ROWS}, ratio {many / few:.2f}{' TOO MUCH' if many > MOST_GROWTH * few else ''}", flush=True)
+    for kind, counts in each.items():
+        growth = max(counts) / counts[0]
+        wrong |= growth > MOST_GROWTH
+        told = ", ".join(f"{count:.0f} over {rows}" for count, rows in zip(counts, SIZES))
+        print(f"{kind:6}  {told} rows, at most {growth:.2f} times the first{' TOO MUCH' if growth > MOST_GROWTH else ''}", flush=True)
     return wrong
 
 
@@ -93,7 +94,7 @@ def seconds(program, script):
 
 def rate(program, room, kind):
     """How many statements of a kind run in a second, and how long each takes, in microseconds."""
-    rows, filled, all_of_it = TIMED if kind == "delete" else FEW_ROWS, 1e9, 1e9
+    rows, filled, all_of_it = TIMED if kind == "delete" else SIZES[0], 1e9, 1e9
     for done in range(MOST_ROUNDS):
         if done >= LEAST_ROUNDS and TIMED >= LEAST_A_SECOND * (all_of_it - filled):
             break
@@ -115,7 +116,7 @@ def is_slow(program, room):
 def profile(program, room):
     """Tells for each kind which functions have the most instructions of their own."""
     for kind in KINDS:
-        script, counts = written(room, FEW_ROWS, kind, TIMED if kind != "delete" else FEW_ROWS), f"{room}/counts"
+        script, counts = written(room, SIZES[0], kind, TIMED if kind != "delete" else SIZES[0]), f"{room}/counts"
         words = ["valgrind", "--tool=callgrind", f"--callgrind-out-file={counts}", program, "solo", script]
         subprocess.run(words, stdout=subprocess.DEVNULL, stderr=subprocess.DEVNULL, check=True)
         told = subprocess.run(["callgrind_annotate", counts], stdout=subprocess.PIPE, text=True, check=True).stdout

@@ -1,10 +1,12 @@
 -- Lemmas on a database for one client.
-use Rattle.std.proofs.Common.{◌≡◌, ◌++◌, ◌∷◌, [], IfOk, OnOk, map, ℕ, List, Option, None, Bool, false, Result, Ok, Err, ap, refl, subst, sym, ◌∙◌}
+use Rattle.std.proofs.Common.{◌≡◌, ◌++◌, ◌∷◌, [], IfOk, OnOk, map, ℕ, List, Option, None, Some, append_assoc, Bool, false, Result, Ok, Err, ap, refl, subst, sym, ◌∙◌}
 use Rattle.std.specs.Option.{option_map}
+use Rattle.std.proofs.lemmas.List.{append-nil}
+use Rattle.terms.specs.declared.leaf.Leaf.{Leaf}
 use Rattle.terms.specs.declared.value.Value.{Value}
 use Rattle.meaning.specs.Whole.{FitsSchema, Relations}
 use Rattle.catalog.specs.Catalogue.{Catalogue}
-use Rattle.catalog.specs.FragmentLeaf.{schemas_of}
+use Rattle.catalog.specs.FragmentLeaf.{catalogue_leaves, schemas_of}
 use Rattle.catalog.specs.Relation.{catalogue_of}
 use Rattle.store.specs.declared.plain_desk.PlainDesk.{PlainDesk}
 use Rattle.store.specs.declared.plain_site.PlainSite.{PlainSite}
@@ -15,24 +17,28 @@ use Rattle.desk.specs.declared.refusal.Refusal.{Refusal}
 use Rattle.desk.specs.declared.reply.Notice.{Notice}
 use Rattle.desk.specs.Database.{Database, language}
 use Rattle.world.specs.declared.solo.Solo as code
+use Rattle.world.specs.declared.event.Entry.{Entry}
+use Rattle.world.specs.Account.{AccountFollows, said_in_vain, said_of}
 use Rattle.world.specs.Base.{database, fits}
 use Rattle.world.specs.Deeds.{DeedsFollow, deeds_in_vain, deeds_of}
 use Rattle.world.specs.Denying.{Declines, Denies}
 use Rattle.world.specs.Held.{OfStores, held}
 use Rattle.world.specs.Machines.{AreFit, Machines}
 use Rattle.world.specs.Obeying.{Stands}
-use Rattle.world.specs.Serving.{Executes, IsServed, ServedIsSerial}
+use Rattle.world.specs.Serving.{Executes, IsServed}
 use Rattle.world.specs.Settled.{AreThoseOf, parts_kept, rows_shown}
 use Rattle.world.specs.Stopping.{is_stop, stopped_by}
+use Rattle.world.specs.Telling.{Tells}
 use Rattle.fragdb.specs.declared.reply.Reply.{Reply}
 use Rattle.fragdb.specs.PlayText.{refused_text}
 use Rattle.fragdb.specs.Reply.{Answered, Refused, Told, told_by}
-use Rattle.fragdb.specs.Client.{AnswersLine, AnswersTask, GoesOn, IsAnswered, IsDenied, IsHeard, Standing, heard_text, standing_of}
+use Rattle.fragdb.specs.Client.{AnswersLine, AnswersTask, GoesOn, IsAnswered, IsDenied, IsHeard, ShowsLeafAs, Standing, heard_text, standing_of}
 use Rattle.std.specs.Io.KnownBytes.{Appends}
 use Rattle.fragdb.specs.declared.fault.ProgramFault.{ProgramFault}
 use Rattle.fragdb.specs.declared.script.Item.{Item}
-use Rattle.fragdb.specs.Script.{Reading, Runs, task_of}
-use Rattle.fragdb.specs.Solo.{IsRun, IsStretch, no_rows}
+use Rattle.fragdb.specs.Script.{Nothing, Reading, Runs, ShowsLeaf, ShowsRelation, Unreadable, task_of}
+use Rattle.fragdb.specs.Shown.{written_leaf}
+use Rattle.fragdb.specs.Solo.{AnswersTasks, IsRun, IsStretch, no_rows, said_by, said_by_tasks}
 use Rattle.fragdb.proofs.SoloLemmas.{clean}
 
 module _ (catalogue : Catalogue) (whole : Relations) (past : List (Deed (language (database catalogue)))) (old new : code.Solo PlainDesk PlainSite) (h : GoesOn catalogue whole past old) where
@@ -116,9 +122,41 @@ module _ (catalogue : Catalogue) (whole : Relations) (past : List (Deed (languag
 pub not_stopped : {T : Type 0} (result : Result T Refusal) (refusal : Refusal) (stopped : Option Refusal) → stopped ≡ stopped_by result → result ≡ Err refusal → is_stop refusal ≡ false → stopped ≡ None
 not_stopped result refusal stopped is here goes = is ∙ ap (λ done. stopped_by done) here ∙ rw (goes) refl
 
+-- where nothing has happened the same is told
+still_told : (catalogue : Catalogue) (before after : Standing catalogue) (entries : List Entry) → Tells (database catalogue) entries before.past → after ≡ before → Tells (database catalogue) (entries ++ []) after.past
+still_told catalogue before after entries so same = subst (λ (standing : Standing catalogue). Tells (database catalogue) (entries ++ []) standing.past) (sym same) (subst (λ es. Tells (database catalogue) es before.past) (sym (append-nil entries)) so)
+
+leaf_still : (catalogue : Catalogue) (name : List ℕ) (leaf : Option Leaf) (before after : Standing catalogue) (told : List ℕ) → ShowsLeafAs catalogue name leaf before after told → after ≡ before
+leaf_still catalogue name None before after told shows = shows.0
+leaf_still catalogue name (Some leaf) before after told shows = shows.0
+
+-- what tasks asked for and heard tells what has happened
+task_told : (catalogue : Catalogue) (law : AccountFollows (database catalogue)) (task : Reading) (before after : Standing catalogue) (told : Told) (entries : List Entry) → Tells (database catalogue) entries before.past → (answers : AnswersTask catalogue task before after told) →
+    Tells (database catalogue) (entries ++ said_by catalogue task before after told answers) after.past
+task_told catalogue law Nothing before after told entries so answers = absurd answers
+task_told catalogue law (Runs text) before after (Answered told) entries so answers =
+    let said = said_of (database catalogue) text before.current before.machines after.current after.machines answers.heard answers.executes in
+    subst (Tells (database catalogue) (entries ++ said)) (sym answers.happened) (law.executed text before.current after.current before.machines after.machines answers.heard entries before.past so answers.executes)
+task_told catalogue law (Runs text) before after (Refused told) entries so answers =
+    let said = said_in_vain (database catalogue) text before.current before.machines after.machines answers.refusal answers.declines in
+    subst (Tells (database catalogue) (entries ++ said)) (sym answers.happened) (law.refused text before.current before.machines after.machines answers.refusal entries before.past so answers.declines)
+task_told catalogue law (ShowsRelation name) before after (Answered told) entries so answers = still_told catalogue before after entries so answers.0
+task_told catalogue law (ShowsRelation name) before after (Refused told) entries so answers = absurd answers
+task_told catalogue law (ShowsLeaf name) before after (Answered told) entries so answers = still_told catalogue before after entries so (leaf_still catalogue name (written_leaf name (catalogue_leaves catalogue)) before after told answers)
+task_told catalogue law (ShowsLeaf name) before after (Refused told) entries so answers = absurd answers
+task_told catalogue law Unreadable before after told entries so answers = absurd answers
+
+tasks_told : (catalogue : Catalogue) (law : AccountFollows (database catalogue)) (answers : List (Reading × Told)) (before after : Standing catalogue) (entries : List Entry) → Tells (database catalogue) entries before.past → (answered : AnswersTasks catalogue answers before after) →
+    Tells (database catalogue) (entries ++ said_by_tasks catalogue answers before after answered) after.past
+tasks_told catalogue law [] before after entries so same = still_told catalogue before after entries so same
+tasks_told catalogue law (first ∷ others) before after entries so answered =
+    let said = said_by catalogue first.0 before answered.0 first.1 answered.1 in
+    subst (λ es. Tells (database catalogue) es after.past) (append_assoc entries said (said_by_tasks catalogue others answered.0 after answered.2))
+    (tasks_told catalogue law others answered.0 after (entries ++ said) (task_told catalogue law first.0 before answered.0 first.1 entries so answered.1) answered.2)
+
 -- a script over a database that was opened has run
 pub ran_from : (old new : Option (List ℕ)) (catalogue : Catalogue) (items : List Item) (opened ended : code.Solo PlainDesk PlainSite) (result : Result Bool ProgramFault) → IsServed (database catalogue) (no_rows catalogue) (held desk_kept kept_of opened.machines) [] →
-    catalogue_of opened.machines.desk.catalog ≡ catalogue → OfStores {D = PlainDesk} {S = PlainSite} (λ _. Unit {0}) IsSound opened.machines → (opened.current ≡ None) × (opened.stopped ≡ None) → ServedIsSerial (database catalogue) →
+    catalogue_of opened.machines.desk.catalog ≡ catalogue → OfStores {D = PlainDesk} {S = PlainSite} (λ _. Unit {0}) IsSound opened.machines → (opened.current ≡ None) × (opened.stopped ≡ None) → AccountFollows (database catalogue) →
     ((catalogue : Catalogue) (whole : Relations) (past : List (Deed (language (database catalogue)))) → GoesOn catalogue whole past opened → IfOk result (λ any_refused. (written : List ℕ) × Appends old new written × IsStretch catalogue whole (map task_of items) past opened ended written any_refused)) →
     IfOk result (λ any_refused. (written : List ℕ) × Appends old new written × IsRun catalogue (map task_of items) written any_refused)
 ran_from old new catalogue items opened ended (Ok any_refused) served over sound idle law works =
@@ -133,7 +171,7 @@ ran_from old new catalogue items opened ended (Ok any_refused) served over sound
         end = standing_of catalogue ended stretch.later;
         work = stretch.work;
         served = stretch.goes_on.served;
-        serial = law (no_rows catalogue) (held desk_kept kept_of ended.machines) stretch.later stretch.goes_on.served;
+        serial = law.serial (no_rows catalogue) (held desk_kept kept_of ended.machines) _ stretch.later (tasks_told catalogue law stretch.work.answers (standing_of catalogue opened []) (standing_of catalogue ended stretch.later) [] (record { phased = refl; stated = tt; heard = refl }) stretch.work.answered) stretch.goes_on.served;
       },
     )
 ran_from old new catalogue items opened ended (Err fault) served over sound idle law works = tt

@@ -1,5 +1,5 @@
 -- Which scripts run.
-use Rattle.std.specs.Prelude.{Bool, ◌≡◌, ◌≤◌, ◌<◌, ◌⊎◌, ℕ, List, [], ◌∷◌, flat_map, length, map, Option, Some, None, Result, Ok, Err}
+use Rattle.std.specs.Prelude.{Bool, ◌≡◌, ◌≤◌, ◌<◌, ◌⊎◌, ℕ, List, [], ◌∷◌, ◌++◌, flat_map, length, map, Option, Some, None, Result, Ok, Err}
 use Rattle.std.specs.Borrow.{Bor}
 use Rattle.std.specs.FinMap as finite
 use Rattle.std.specs.Io.KnownBytes.{Appends, Keeps}
@@ -8,11 +8,12 @@ use Rattle.meaning.specs.Whole.{Relations}
 use Rattle.catalog.specs.Catalogue.{Catalogue, IsValidCatalogue}
 use Rattle.catalog.specs.FragmentLeaf.{schemas_of}
 use Rattle.protocol.specs.Desk.{Deed}
-use Rattle.protocol.specs.Serial.{IsSerial}
 use Rattle.desk.specs.Database.{language}
+use Rattle.world.specs.Account.{said_in_vain, said_of}
 use Rattle.world.specs.Base.{database}
+use Rattle.world.specs.declared.event.Entry.{Entry}
 use Rattle.world.specs.declared.solo.Solo as code
-use Rattle.world.specs.Machines.{world_of}
+use Rattle.world.specs.Runs.{IsSerialRun}
 use Rattle.world.specs.Serving.{IsServed}
 use Rattle.fragdb.specs.declared.catalog_file.CatalogFault.{CatalogFault}
 use Rattle.fragdb.specs.declared.catalog_file.CatalogFault.TheVariants.{Program, Refused}
@@ -24,8 +25,8 @@ use Rattle.store.specs.declared.plain_site.PlainSite.{PlainSite}
 use Rattle.fragdb.specs.Client.{AnswersTask, GoesOn, IsOfClient, Standing, standing_of}
 use Rattle.fragdb.specs.Input.{IsOfInput}
 use Rattle.fragdb.specs.PlayLoad.{emptied}
-use Rattle.fragdb.specs.Reply.{Told, is_refusal, text_of}
-use Rattle.fragdb.specs.Script.{Reading, first_unreadable, lines_of, tasks_of_lines}
+use Rattle.fragdb.specs.Reply.{Answered, Refused, Told, is_refusal, text_of}
+use Rattle.fragdb.specs.Script.{Nothing, Reading, Runs, ShowsLeaf, ShowsRelation, Unreadable, first_unreadable, lines_of, tasks_of_lines}
 
 -- how many bytes a script may have
 abbrev pub longest : ℕ
@@ -49,6 +50,17 @@ abbrev pub AnswersTasks : (catalogue : Catalogue) → List (Reading × Told) →
 AnswersTasks catalogue [] before after = after ≡ before
 AnswersTasks catalogue (first ∷ others) before after = (middle : Standing catalogue) × AnswersTask catalogue first.0 before middle first.1 × AnswersTasks catalogue others middle after
 
+-- the calls that a task made, each with all that was heard of it
+abbrev pub said_by : (catalogue : Catalogue) (task : Reading) (before after : Standing catalogue) (told : Told) → AnswersTask catalogue task before after told → List Entry
+said_by catalogue (Runs text) before after (Answered told) answers = said_of (database catalogue) text before.current before.machines after.current after.machines answers.heard answers.executes
+said_by catalogue (Runs text) before after (Refused told) answers = said_in_vain (database catalogue) text before.current before.machines after.machines answers.refusal answers.declines
+said_by catalogue task before after told answers = []
+
+-- so of tasks, one after another
+abbrev pub said_by_tasks : (catalogue : Catalogue) (answers : List (Reading × Told)) (before after : Standing catalogue) → AnswersTasks catalogue answers before after → List Entry
+said_by_tasks catalogue [] before after same = []
+said_by_tasks catalogue (first ∷ others) before after so = said_by catalogue first.0 before so.0 first.1 so.1 ++ said_by_tasks catalogue others so.0 after so.2
+
 -- What tasks come to from where a client stands: one answer to each, in order, all of which is written, and whether a line was refused.
 pub record IsWork (catalogue : Catalogue) (tasks : List Reading) (written : List ℕ) (any_refused : Bool) (before after : Standing catalogue) : Type 0 where
   pub answers : List (Reading × Told)
@@ -67,15 +79,15 @@ pub record IsOpened (catalogue : Catalogue) (standing : Standing catalogue) : Ty
   pub none : standing.past ≡ []
   pub idle : standing.current ≡ None
 
--- A run of tasks from the opening to its end, and the serial law holds of just what has happened by them: the committed transactions, one
--- after another over whole relations, give the answers that were given, and what the settled fragments rebuild.
+-- A run of tasks from the opening to its end, and the serial law holds of just what was asked for and heard by them: the committed
+-- transactions, one after another over whole relations, give the answers that were heard, and what the settled fragments rebuild.
 pub record IsRun (catalogue : Catalogue) (tasks : List Reading) (written : List ℕ) (any_refused : Bool) : Type 0 where
   pub opening : Standing catalogue
   pub opened : IsOpened catalogue opening
   pub end : Standing catalogue
   pub work : IsWork catalogue tasks written any_refused opening end
   pub served : IsServed (database catalogue) (no_rows catalogue) end.machines end.past
-  pub serial : IsSerial (no_rows catalogue) (world_of (database catalogue) end.machines [] end.past)
+  pub serial : IsSerialRun (database catalogue) (no_rows catalogue) end.machines (said_by_tasks catalogue work.answers opening end work.answered)
 
 -- a run of tasks over a database that goes on
 pub record IsStretch (catalogue : Catalogue) (whole : Relations) (tasks : List Reading) (past : List (Deed (language (database catalogue)))) (old new : code.Solo PlainDesk PlainSite) (written : List ℕ) (any_refused : Bool) : Type 0 where

@@ -22,7 +22,7 @@ use catalog::catalogue::Catalog;
 use std::alloc::Global;
 use std::io;
 use std::io::{Read, Write};
-use world::laws::served_is_serial;
+use world::laws::account_follows;
 use world::solo::open;
 
 /// How many bytes a script may have.
@@ -119,7 +119,7 @@ fn run<'a, W: Write>(
     ensures ok { IfOk result (λ any_refused. (written : List ℕ) × Appends (W.contents output.old) (W.contents output.new) written × IsRun (catalogue_of catalog) (map task_of items.now) written any_refused) }
     ensures err { IfErr result IsOfRun }
 {
-    served_is_serial(&catalog);
+    account_follows(&catalog);
     let whole = empty_relations(alloc, catalog.schema())?;
     // Lists refuse for want of memory alone.
     let Ok(mut database) = open(alloc, &catalog, &whole) else {

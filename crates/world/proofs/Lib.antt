@@ -33,4 +33,5 @@ pub mod BaseHoused
 pub mod Obeying
 pub mod Denying
 pub mod Deeds
+pub mod Account
 pub mod EndsKept

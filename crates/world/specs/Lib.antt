@@ -28,3 +28,4 @@ pub mod Smoothly
 pub mod Obeying
 pub mod Denying
 pub mod Deeds
+pub mod Account

@@ -63,9 +63,10 @@ pub record DoesBegin (db : Database) (before : Machines) (txn : Txn) (after : Ma
   pub within : protocol.is_desk_within (protocol.desk_began (desk_of db before.table)) ≡ true
   pub serves : Serves db To_begin before after heard
 
--- a transaction asks for something, within the limits
+-- a transaction asks for something, which is accepted, within the limits
 pub record DoesAsk (db : Database) (request : protocol.Request (language db)) (txn : Txn) (before after : Machines) (heard : List Notice) : Type 0 where
   pub choice : protocol.Choice (language db)
+  pub accepted : protocol.refusal request (txn_in db before.table txn) ≡ None
   pub within : protocol.is_desk_within (protocol.desk_after (desk_of db before.table) (txn_name txn) (protocol.on_request (txn_name txn) choice request (txn_in db before.table txn)).txn) ≡ true
   pub serves : Serves db (To_do (txn_name txn) request choice) before after heard
 

@@ -12,6 +12,7 @@ ghost use Rattle.protocol.specs.Rounds.{RoundByLetter};
 ghost use Rattle.protocol.specs.Serial.{SerialLaw};
 ghost use Rattle.protocol.specs.Whole.{AppliedWholeAndOnce};
 ghost use Rattle.desk.specs.Database.{language};
+ghost use Rattle.world.specs.Account.{AccountFollows};
 ghost use Rattle.world.specs.Base.{IsBase, database, fits};
 ghost use Rattle.world.specs.Deeds.{DeedsFollow};
 ghost use Rattle.world.specs.Denying.{DeniesForAReason};
@@ -134,6 +135,15 @@ pub fn deeds_follow(catalog: &Catalog)
     ensures { DeedsFollow (database (catalogue_of catalog.now)) }
 {
     one_client_is_a_run(catalog);
+}
+
+/// What a client asked for and heard, command by command, tells what has happened to its database: the committed
+/// transactions, one after another over whole relations, give the answers that it heard and what the settled fragments
+/// rebuild.
+pub fn account_follows(catalog: &Catalog)
+    ensures { AccountFollows (database (catalogue_of catalog.now)) }
+{
+    served_is_serial(catalog);
 }
 
 /// A client's database whose letters all come smoothly: a transaction that begins where all is quiet is ready,

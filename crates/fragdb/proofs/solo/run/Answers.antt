@@ -19,4 +19,4 @@ returns-clause-ok g c =
     (subst (λ (whole : Relations). IsServed (database (catalogue_of c.args.catalog)) whole (held desk_kept kept_of c.in-Ok.database.machines) [])
     (c.in_ok-whole.ensures ∙ ap (λ schemas. emptied schemas finite.empty) c.schema.ensures.schemas)
     (c.in-Ok.ensures.served (subst (FitsSchema (schemas_of (catalogue_of c.args.catalog))) (sym (c.in_ok-whole.ensures ∙ ap (λ schemas. emptied schemas finite.empty) c.schema.ensures.schemas)) (emptied-fits (schemas_of (catalogue_of c.args.catalog))))))
-    c.in-Ok.ensures.catalog c.in-Ok.ensures.sound c.in-Ok.ensures.idle c.served_is_serial.ensures c.run_items.ensures.ok
+    c.in-Ok.ensures.catalog c.in-Ok.ensures.sound c.in-Ok.ensures.idle c.account_follows.ensures c.run_items.ensures.ok

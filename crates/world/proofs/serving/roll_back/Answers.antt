@@ -22,7 +22,7 @@ returns-in-Ok-clause-ok g c = λ db of is clean sound fit.
     let after = held g.D.DeskStore.kept g.S.SiteStore.kept c.settle.new.machines in
     let asked = c.in-Ok.ensures.ok db (no_choice db) (over_of db c.args.machines.now.desk.catalog of is) fit in
     let made = asked.leads in
-    if_ok c.settle.result (λ heard goes. record { choice = no_choice db; within = asked.within; serves = call_serves db (To_do (txn_name c.args.txn) Rollback (no_choice db)) before mid c.in-Ok.out made after heard.items goes })
+    if_ok c.settle.result (λ heard goes. record { choice = no_choice db; accepted = asked.accepted; within = asked.within; serves = call_serves db (To_do (txn_name c.args.txn) Rollback (no_choice db)) before mid c.in-Ok.out made after heard.items goes })
     (c.settle.ensures.ok db of (is ∙ ap catalogue_of (sym c.rollback.ensures.catalog)) clean (c.rollback.ensures.sound (c.settle.ensures.clean clean) sound) made.fit)
 
 pub returns-in-Ok-clause-served : goal.returns-in-Ok-clause-served

@@ -20,7 +20,7 @@ returns-in-Ok-clause-ok g c = λ db of is clean sound fit.
     let mid = held g.D.DeskStore.kept g.S.SiteStore.kept c.statement.new.self in
     let after = held g.D.DeskStore.kept g.S.SiteStore.kept c.settle.new.machines in
     let made = c.in-Ok.ensures.ok db of is fit in
-    if_ok c.settle.result (λ heard goes. record { statement = made.statement; spelled = made.spelled; fits = made.fits; asks = record { choice = made.choice; within = made.asked.within; serves = call_serves db (To_do (txn_name c.args.txn) (State made.statement) made.choice) before mid c.in-Ok.out made.asked.leads after heard.items goes } })
+    if_ok c.settle.result (λ heard goes. record { statement = made.statement; spelled = made.spelled; fits = made.fits; asks = record { choice = made.choice; accepted = made.asked.accepted; within = made.asked.within; serves = call_serves db (To_do (txn_name c.args.txn) (State made.statement) made.choice) before mid c.in-Ok.out made.asked.leads after heard.items goes } })
     (c.settle.ensures.ok db of (is ∙ ap catalogue_of (sym c.statement.ensures.catalog)) clean (c.statement.ensures.sound (c.settle.ensures.clean clean) sound) made.asked.leads.fit)
 
 pub returns-in-Ok-clause-served : goal.returns-in-Ok-clause-served
