@@ -1,18 +1,15 @@
 -- What a client asked for and heard tells what has happened to its database.
-use Rattle.std.proofs.Common.{◌≡◌, refl, sym, ap, ap₂, ◌∙◌, subst, ℕ, Bool, true, false, None, List, [], ◌∷◌, ◌++◌, append_assoc, map, inl, inr, Option}
+use Rattle.std.proofs.Common.{◌≡◌, refl, sym, ap, ap₂, ◌∙◌, subst, ℕ, Bool, true, false, List, [], ◌∷◌, ◌++◌, append_assoc, map, if◌then◌else◌, Option}
 use Rattle.std.proofs.lemmas.List.{append-nil}
 use Rattle.std.proofs.lemmas.Grind.{flat_map-append}
-use Rattle.meaning.specs.Whole.{Relations}
-use Rattle.reader.specs.declared.command.Command.TheVariants as command
 use Rattle.store.specs.declared.name.Txn.{Txn}
-use Rattle.protocol.specs.Client.{ReachedLaw}
-use Rattle.protocol.specs.Desk.{Began, Choice, Commit_call, Deed, Give_up, Request, Rollback, State, Turn, desk_after, desk_began, is_desk_within, next_txn, on_desk_letter, on_request}
+use Rattle.protocol.specs.Desk.{Began, Choice, Commit_call, Deed, Give_up, Rollback, State, Turn, desk_after, is_desk_within, next_txn, on_desk_letter, on_request}
 use Rattle.protocol.specs.Language.{Lang, Name}
 use Rattle.protocol.specs.Letter.{Letter, is_for_desk}
 use Rattle.protocol.specs.Letters.{txn_name}
 use Rattle.protocol.specs.Serial.{phased_of, phases_of}
 use Rattle.protocol.specs.Site.{is_within, on_letter, said as said_by_site, site_after}
-use Rattle.protocol.specs.World.{World, addressed, begins, begun, called, comes, comes_to, turned, turns, with_site}
+use Rattle.protocol.specs.World.{World, addressed, begins, begun, comes, comes_to, turned, turns, with_site}
 use Rattle.protocol.proofs.Basics.{either}
 use Rattle.desk.specs.declared.refusal.Refusal.{Refusal}
 use Rattle.desk.specs.declared.reply.Notice.{Notice}
@@ -22,15 +19,13 @@ use Rattle.desk.specs.State.{desk_of}
 use Rattle.world.specs.declared.event.Call as calls
 use Rattle.world.specs.declared.event.Call.TheVariants as call
 use Rattle.world.specs.declared.event.Entry.{Entry}
-use Rattle.world.specs.declared.event.Event as events
 use Rattle.world.specs.declared.event.Event.TheVariants as event
 use Rattle.world.specs.Account.{AccountFollows, said, said_alone, said_begun, said_in_vain, said_of, said_of_decision, said_refused_alone, said_taken_back, said_undecided}
 use Rattle.world.specs.Deeds.{deeds_alone, deeds_begun, deeds_in_vain, deeds_of, deeds_of_decision, deeds_refused_alone, deeds_taken_back, deeds_undecided}
 use Rattle.world.specs.Delivering.{Ask, Coming, Passed_over, Serves, Taken, To_begin, To_do, Turned_away, all_come, asked, come, first_comes}
 use Rattle.world.specs.Denying.{CommitIsDenied, Declines, IsTakenBack, LoneIsDenied, RunIsDenied, commit_stops, declines_all, declines_begin, declines_commit, declines_inside, declines_lone, declines_outside, declines_rollback, declines_statement, declines_text, has_begun_but, has_not_begun, is_left, is_not_committed, is_not_decided, is_not_stated, is_rolled_back, run_stops}
 use Rattle.world.specs.Machines.{Machines, world_of}
-use Rattle.world.specs.Runs.{IsSerialRun}
-use Rattle.world.specs.Serving.{DoesAlone, DoesAsk, DoesBegin, DoesDecide, DoesState, Executes, IsServed, ServedIsSerial, did_begin, did_commit, did_decide, did_roll_back, did_run, did_state, had_ended}
+use Rattle.world.specs.Serving.{DoesAlone, DoesAsk, DoesBegin, DoesDecide, DoesState, Executes, ServedIsSerial, did_begin, did_commit, did_decide, did_roll_back, did_run, did_state, had_ended}
 use Rattle.world.specs.Telling.{AreStated, Shows, Tells, phased_by, stated_by, stated_of, text_by}
 use Rattle.world.proofs.Heard.{serial_run}
 use Rattle.world.proofs.Shown.{IsSilent, came_silent, commit_shows, give_up_silent, rollback_silent, state_shows}
@@ -161,7 +156,8 @@ module _ (db : Database) where
       let all = decision_told does.txn told runs.worked after heard ((entries ++ first ∷ []) ++ second ∷ []) ((past ++ begins) ++ states) stated_so runs.decides in
       let ends = said_of_decision db does.txn told runs.worked after heard runs.decides in
       let decided = deeds_of_decision db does.txn told runs.worked after heard runs.decides in
-      behind entries past first (second ∷ ends) begins (states ++ decided) (behind (entries ++ first ∷ []) (past ++ begins) second ends states decided all)
+      subst (λ ds. Tells db (entries ++ first ∷ second ∷ ends) (past ++ ds)) (sym (append_assoc begins states decided))
+      (behind entries past first (second ∷ ends) begins (states ++ decided) (behind (entries ++ first ∷ []) (past ++ begins) second ends states decided all))
 
   executed_told : (text : List ℕ) (current later : Option Txn) (before after : Machines) (heard : List Notice) (entries : List Entry) (past : List (Deed (language db))) → Tells db entries past → (does : Executes db text current before later after heard) →
       Tells db (entries ++ said_of db text current before later after heard does) (past ++ deeds_of db text current before later after heard does)
@@ -218,5 +214,7 @@ module _ (db : Database) where
   account_follows law = record {
     executed = executed_told;
     refused = refused_told;
-    serial = λ whole machines entries past so served. serial_run db whole machines entries past so (law whole machines past served);
+    serial = λ whole machines entries past so served.
+        let serial = law whole machines past served in
+        serial_run db whole machines entries past so (record { answers = serial.answers; rebuilt = serial.rebuilt });
   }

@@ -17,7 +17,7 @@ use Rattle.desk.specs.declared.reply.Notice.{Notice}
 use Rattle.desk.specs.Database.{Database, language}
 use Rattle.world.specs.Deeds.{DeedsFollow, deeds_alone, deeds_begun, deeds_in_vain, deeds_of, deeds_of_decision, deeds_refused_alone, deeds_taken_back, deeds_undecided}
 use Rattle.world.specs.Delivering.{Ask, Coming, IsStill, Passed_over, Serves, Taken, To_begin, To_do, Turned_away, all_come, asked, come, first_comes}
-use Rattle.world.specs.Denying.{CommitIsDenied, Declines, IsTakenBack, IsUndone, LoneIsDenied, RunIsDenied, commit_stops, declines_all, declines_begin, declines_commit, declines_inside, declines_lone, declines_outside, declines_rollback, declines_statement, declines_text, has_begun_but, has_not_begun, is_left, is_not_committed, is_not_decided, is_not_stated, is_rolled_back, run_stops}
+use Rattle.world.specs.Denying.{CommitIsDenied, Declines, IsTakenBack, LoneIsDenied, RunIsDenied, commit_stops, declines_all, declines_begin, declines_commit, declines_inside, declines_lone, declines_outside, declines_rollback, declines_statement, declines_text, has_begun_but, has_not_begun, is_left, is_not_committed, is_not_decided, is_not_stated, is_rolled_back, run_stops}
 use Rattle.world.specs.Machines.{Machines, world_of}
 use Rattle.world.specs.Serving.{DoesAlone, DoesDecide, Executes, IsServed, did_begin, did_commit, did_decide, did_roll_back, did_run, did_state, had_ended}
 use Rattle.world.specs.Stopping.{is_stop}

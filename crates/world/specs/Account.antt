@@ -1,5 +1,5 @@
 -- What one client asked for and heard, call by call, in the form of the entries of a world.
-use Rattle.std.specs.Prelude.{ℕ, List, [], ◌∷◌, ◌++◌, Option}
+use Rattle.std.specs.Prelude.{ℕ, true, List, [], ◌∷◌, ◌++◌, Option}
 use Rattle.meaning.specs.Whole.{Relations}
 use Rattle.store.specs.declared.name.Txn.{Txn}
 use Rattle.protocol.specs.Desk.{Deed}
@@ -19,7 +19,7 @@ use Rattle.world.specs.Telling.{Tells}
 
 -- a call of a client, and all that it heard once the letters had come that it brought about
 abbrev pub said : calls.Call → List Notice → Entry
-said asked heard = record { event = event.Call asked; out = record { letters = []; replies = heard } }
+said asked heard = record { event = event.Call asked; out = record { letters = []; replies = heard; kept = true } }
 
 module _ (db : Database) where
   -- the commit of a lone statement, if it was asked for

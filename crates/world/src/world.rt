@@ -1,7 +1,5 @@
 //! Worlds: the machines of a database, and every event that has happened with the letters that it put out.
 
-ghost use Rattle.std.specs.Borrow.{follows_so, sem};
-ghost use mathlib.Core.Option.{none};
 ghost use Rattle.std.specs.Prelude.{◌≡◌, ◌≢◌, ◌⊎◌, ◌++◌, ◌∷◌, [], true, List, Err, OnOk, OnErr, IfOk, IfErr, map, slice_get, take};
 ghost use Rattle.std.specs.Option.{option_copied, option_map};
 ghost use Rattle.meaning.specs.Whole.{FitsSchema, Relations};
@@ -27,8 +25,6 @@ ghost use Rattle.world.specs.Machines.{AreFit};
 ghost use Rattle.world.specs.Posted.{letters_in};
 ghost use Rattle.world.specs.Refused.{IsToldOf};
 ghost use Rattle.world.specs.Runs.{AppliesWhole, IsRun, RunsOn};
-ghost use Rattle.world.specs.Steps.{Steps};
-ghost use Rattle.world.specs.contracts.world.World.{the_row};
 ghost use Rattle.world.specs.Settled.{AreThoseOf, ShowsSerial, parts_kept, rows_shown};
 ghost use Rattle.world.specs.Telling.{committed_in};
 
@@ -90,20 +86,10 @@ pub fn open(
 }
 
 impl<D: DeskStore, S: SiteStore> World<D, S> {
-    /// An event happens. Answers its entry, the last one from now on: the letters that were put out and what clients
-    /// heard. A committed transaction stays applied whole and once. On a fault nothing has changed: `Unsent` where
-    /// no letter has the number, or no site the name; else why the machine refused, or want of memory.
-    pub fn step(&mut self, event: Event) -> Result<&Entry, Fault>
-        ensures* steps { sem 𝓛 (follows_so (the_row D.row S.row) (the_row D.row S.row) self.entry.ghost_name none (λ _ _. ⊤)
-            (λ new. Steps (OfStores D.is_clean S.is_clean) (OfStores D.is_sound S.is_sound) (held D.kept S.kept) event result (λ seen entry. seen.now ≡ entry) self.old new)) }
-    {
-        self.happens(event)?;
-        let last = self.entries.entries().len() - 1;
-        Ok(&self.entries.entries()[last])
-    }
-
-    /// An event happens, and has an entry, the last one from now on.
-    fn happens(&mut self, event: Event) -> Result<(), Fault>
+    /// An event happens, and has an entry, the last one from now on, with the letters that were put out and what
+    /// clients heard. A committed transaction stays applied whole and once. On a fault nothing has changed: `Unsent`
+    /// where no letter has the number, or no site the name; else why the machine refused, or want of memory.
+    pub fn step(&mut self, event: Event) -> Result<(), Fault>
         ensures clean { OfStores D.is_clean S.is_clean self.new.machines → OfStores D.is_clean S.is_clean self.old.machines }
         ensures sound { OfStores D.is_clean S.is_clean self.new.machines → OfStores D.is_sound S.is_sound self.old.machines → OfStores D.is_sound S.is_sound self.new.machines }
         ensures ok { (whole : Relations) (past : List (Deed (language (database (catalogue_of self.old.machines.desk.catalog)))))
@@ -178,7 +164,7 @@ impl<D: DeskStore, S: SiteStore> World<D, S> {
         ensures same { OnErr result (self.new.entries.items ≡ self.old.entries.items) }
     {
         let again = event.copy()?;
-        match self.happens(again) {
+        match self.step(again) {
             Ok(()) => Ok(()),
             Err(fault) => {
                 if fault.is_memory() {
