@@ -1,6 +1,5 @@
 -- Lemmas on a database for one client.
 use Rattle.std.proofs.Common.{◌≡◌, ◌++◌, ◌∷◌, [], IfOk, OnOk, map, ℕ, List, Option, None, Some, append_assoc, Bool, false, Result, Ok, Err, ap, refl, subst, sym, ◌∙◌}
-use Rattle.std.specs.Option.{option_map}
 use Rattle.std.proofs.lemmas.List.{append-nil}
 use Rattle.terms.specs.declared.leaf.Leaf.{Leaf}
 use Rattle.terms.specs.declared.value.Value.{Value}
@@ -15,7 +14,7 @@ use Rattle.store.specs.PlainSite.{IsSound, kept_of}
 use Rattle.protocol.specs.Desk.{Deed}
 use Rattle.desk.specs.declared.refusal.Refusal.{Refusal}
 use Rattle.desk.specs.declared.reply.Notice.{Notice}
-use Rattle.desk.specs.Database.{Database, language}
+use Rattle.desk.specs.Database.{language}
 use Rattle.world.specs.declared.solo.Solo as code
 use Rattle.world.specs.declared.event.Entry.{Entry}
 use Rattle.world.specs.Account.{AccountFollows, said_in_vain, said_of}
@@ -32,7 +31,7 @@ use Rattle.world.specs.Telling.{Tells}
 use Rattle.fragdb.specs.declared.reply.Reply.{Reply}
 use Rattle.fragdb.specs.PlayText.{refused_text}
 use Rattle.fragdb.specs.Reply.{Answered, Refused, Told, told_by}
-use Rattle.fragdb.specs.Client.{AnswersLine, AnswersTask, GoesOn, IsAnswered, IsDenied, IsHeard, ShowsLeafAs, Standing, heard_text, standing_of}
+use Rattle.fragdb.specs.Client.{AnswersTask, GoesOn, IsAnswered, IsDenied, ShowsLeafAs, Standing, heard_text, standing_of}
 use Rattle.std.specs.Io.KnownBytes.{Appends}
 use Rattle.fragdb.specs.declared.fault.ProgramFault.{ProgramFault}
 use Rattle.fragdb.specs.declared.script.Item.{Item}
@@ -123,36 +122,36 @@ pub not_stopped : {T : Type 0} (result : Result T Refusal) (refusal : Refusal) (
 not_stopped result refusal stopped is here goes = is ∙ ap (λ done. stopped_by done) here ∙ rw (goes) refl
 
 -- where nothing has happened the same is told
-still_told : (catalogue : Catalogue) (before after : Standing catalogue) (entries : List Entry) → Tells (database catalogue) entries before.past → after ≡ before → Tells (database catalogue) (entries ++ []) after.past
-still_told catalogue before after entries so same = subst (λ (standing : Standing catalogue). Tells (database catalogue) (entries ++ []) standing.past) (sym same) (subst (λ es. Tells (database catalogue) es before.past) (sym (append-nil entries)) so)
+still_told : (catalogue : Catalogue) (old new : Standing catalogue) (entries : List Entry) → Tells (database catalogue) entries old.past → new ≡ old → Tells (database catalogue) (entries ++ []) new.past
+still_told catalogue old new entries so same = subst (λ (standing : Standing catalogue). Tells (database catalogue) (entries ++ []) standing.past) (sym same) (subst (λ es. Tells (database catalogue) es old.past) (sym (append-nil entries)) so)
 
-leaf_still : (catalogue : Catalogue) (name : List ℕ) (leaf : Option Leaf) (before after : Standing catalogue) (told : List ℕ) → ShowsLeafAs catalogue name leaf before after told → after ≡ before
-leaf_still catalogue name None before after told shows = shows.0
-leaf_still catalogue name (Some leaf) before after told shows = shows.0
+leaf_still : (catalogue : Catalogue) (name : List ℕ) (leaf : Option Leaf) (old new : Standing catalogue) (told : List ℕ) → ShowsLeafAs catalogue name leaf old new told → new ≡ old
+leaf_still catalogue name None old new told shows = shows.0
+leaf_still catalogue name (Some leaf) old new told shows = shows.0
 
 -- what tasks asked for and heard tells what has happened
-task_told : (catalogue : Catalogue) (law : AccountFollows (database catalogue)) (task : Reading) (before after : Standing catalogue) (told : Told) (entries : List Entry) → Tells (database catalogue) entries before.past → (answers : AnswersTask catalogue task before after told) →
-    Tells (database catalogue) (entries ++ said_by catalogue task before after told answers) after.past
-task_told catalogue law Nothing before after told entries so answers = absurd answers
-task_told catalogue law (Runs text) before after (Answered told) entries so answers =
-    let said = said_of (database catalogue) text before.current before.machines after.current after.machines answers.heard answers.executes in
-    subst (Tells (database catalogue) (entries ++ said)) (sym answers.happened) (law.executed text before.current after.current before.machines after.machines answers.heard entries before.past so answers.executes)
-task_told catalogue law (Runs text) before after (Refused told) entries so answers =
-    let said = said_in_vain (database catalogue) text before.current before.machines after.machines answers.refusal answers.declines in
-    subst (Tells (database catalogue) (entries ++ said)) (sym answers.happened) (law.refused text before.current before.machines after.machines answers.refusal entries before.past so answers.declines)
-task_told catalogue law (ShowsRelation name) before after (Answered told) entries so answers = still_told catalogue before after entries so answers.0
-task_told catalogue law (ShowsRelation name) before after (Refused told) entries so answers = absurd answers
-task_told catalogue law (ShowsLeaf name) before after (Answered told) entries so answers = still_told catalogue before after entries so (leaf_still catalogue name (written_leaf name (catalogue_leaves catalogue)) before after told answers)
-task_told catalogue law (ShowsLeaf name) before after (Refused told) entries so answers = absurd answers
-task_told catalogue law Unreadable before after told entries so answers = absurd answers
+task_told : (catalogue : Catalogue) (law : AccountFollows (database catalogue)) (task : Reading) (old new : Standing catalogue) (told : Told) (entries : List Entry) → Tells (database catalogue) entries old.past → (answers : AnswersTask catalogue task old new told) →
+    Tells (database catalogue) (entries ++ said_by catalogue task old new told answers) new.past
+task_told catalogue law Nothing old new told entries so answers = absurd answers
+task_told catalogue law (Runs text) old new (Answered told) entries so answers =
+    let said = said_of (database catalogue) text old.current old.machines new.current new.machines answers.heard answers.executes in
+    subst (Tells (database catalogue) (entries ++ said)) (sym answers.happened) (law.executed text old.current new.current old.machines new.machines answers.heard entries old.past so answers.executes)
+task_told catalogue law (Runs text) old new (Refused told) entries so answers =
+    let said = said_in_vain (database catalogue) text old.current old.machines new.machines answers.refusal answers.declines in
+    subst (Tells (database catalogue) (entries ++ said)) (sym answers.happened) (law.refused text old.current old.machines new.machines answers.refusal entries old.past so answers.declines)
+task_told catalogue law (ShowsRelation name) old new (Answered told) entries so answers = still_told catalogue old new entries so answers.0
+task_told catalogue law (ShowsRelation name) old new (Refused told) entries so answers = absurd answers
+task_told catalogue law (ShowsLeaf name) old new (Answered told) entries so answers = still_told catalogue old new entries so (leaf_still catalogue name (written_leaf name (catalogue_leaves catalogue)) old new told answers)
+task_told catalogue law (ShowsLeaf name) old new (Refused told) entries so answers = absurd answers
+task_told catalogue law Unreadable old new told entries so answers = absurd answers
 
-tasks_told : (catalogue : Catalogue) (law : AccountFollows (database catalogue)) (answers : List (Reading × Told)) (before after : Standing catalogue) (entries : List Entry) → Tells (database catalogue) entries before.past → (answered : AnswersTasks catalogue answers before after) →
-    Tells (database catalogue) (entries ++ said_by_tasks catalogue answers before after answered) after.past
-tasks_told catalogue law [] before after entries so same = still_told catalogue before after entries so same
-tasks_told catalogue law (first ∷ others) before after entries so answered =
-    let said = said_by catalogue first.0 before answered.0 first.1 answered.1 in
-    subst (λ es. Tells (database catalogue) es after.past) (append_assoc entries said (said_by_tasks catalogue others answered.0 after answered.2))
-    (tasks_told catalogue law others answered.0 after (entries ++ said) (task_told catalogue law first.0 before answered.0 first.1 entries so answered.1) answered.2)
+tasks_told : (catalogue : Catalogue) (law : AccountFollows (database catalogue)) (answers : List (Reading × Told)) (old new : Standing catalogue) (entries : List Entry) → Tells (database catalogue) entries old.past → (answered : AnswersTasks catalogue answers old new) →
+    Tells (database catalogue) (entries ++ said_by_tasks catalogue answers old new answered) new.past
+tasks_told catalogue law [] old new entries so same = still_told catalogue old new entries so same
+tasks_told catalogue law (first ∷ others) old new entries so answered =
+    let said = said_by catalogue first.0 old answered.0 first.1 answered.1 in
+    subst (λ es. Tells (database catalogue) es new.past) (append_assoc entries said (said_by_tasks catalogue others answered.0 new answered.2))
+    (tasks_told catalogue law others answered.0 new (entries ++ said) (task_told catalogue law first.0 old answered.0 first.1 entries so answered.1) answered.2)
 
 -- a script over a database that was opened has run
 pub ran_from : (old new : Option (List ℕ)) (catalogue : Catalogue) (items : List Item) (opened ended : code.Solo PlainDesk PlainSite) (result : Result Bool ProgramFault) → IsServed (database catalogue) (no_rows catalogue) (held desk_kept kept_of opened.machines) [] →

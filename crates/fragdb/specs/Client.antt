@@ -15,7 +15,7 @@ use Rattle.protocol.specs.Desk.{Deed}
 use Rattle.protocol.specs.Serial.{committed}
 use Rattle.desk.specs.declared.refusal.Refusal.{Refusal}
 use Rattle.desk.specs.declared.reply.Notice.{Notice}
-use Rattle.desk.specs.Database.{Database, language}
+use Rattle.desk.specs.Database.{language}
 use Rattle.world.specs.declared.solo.Solo as code
 use Rattle.world.specs.Base.{database, fits}
 use Rattle.world.specs.Deeds.{deeds_in_vain, deeds_of}

@@ -10,7 +10,6 @@ use Rattle.fragdb.specs.CatalogFile.{RefusesFile}
 use Rattle.fragdb.specs.Check.{ChecksFile}
 use Rattle.fragdb.specs.declared.catalog_file.CatalogFault.{CatalogFault}
 use Rattle.fragdb.specs.declared.catalog_file.CatalogFault.TheVariants as catalog
-use Rattle.fragdb.specs.declared.fault.ProgramFault.{ProgramFault}
 use Rattle.fragdb.specs.declared.plan_text.PlanFault.{PlanFault}
 use Rattle.fragdb.specs.declared.plan_text.PlanFault.TheVariants as plan
 use Rattle.fragdb.specs.Input.{IsOfInput}

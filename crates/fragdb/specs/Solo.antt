@@ -26,7 +26,7 @@ use Rattle.fragdb.specs.Client.{AnswersTask, GoesOn, IsOfClient, Standing, stand
 use Rattle.fragdb.specs.Input.{IsOfInput}
 use Rattle.fragdb.specs.PlayLoad.{emptied}
 use Rattle.fragdb.specs.Reply.{Answered, Refused, Told, is_refusal, text_of}
-use Rattle.fragdb.specs.Script.{Nothing, Reading, Runs, ShowsLeaf, ShowsRelation, Unreadable, first_unreadable, lines_of, tasks_of_lines}
+use Rattle.fragdb.specs.Script.{Reading, Runs, first_unreadable, lines_of, tasks_of_lines}
 
 -- how many bytes a script may have
 abbrev pub longest : ℕ
