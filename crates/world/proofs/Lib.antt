@@ -34,3 +34,6 @@ pub mod Obeying
 pub mod Denying
 pub mod Deeds
 pub mod EndsKept
+pub mod NoWrites
+pub mod Quieting
+pub mod StatementEnds

@@ -122,10 +122,10 @@ module _ (db : Database) (fits : Leaf → Content → Bool) (law : IsLawful (lan
     here = rests db before past
 
     module _ (ask : Ask (language db)) (serves : Serves db ask before after heard) where
-      all_here : AllExplained (all_come serves.comings (asked ask here)).past
+      pub all_here : AllExplained (all_come serves.comings (asked ask here)).past
       all_here = subst (λ (v : World (language db)). AllExplained v.past) (sym (serves.is past)) (all_both Explained past serves.deeds served.reached.explained serves.explained)
 
-      asked_here : IsReached whole (asked ask here)
+      pub asked_here : IsReached whole (asked ask here)
       asked_here = asked_reached db (reached_law law) whole here ask served.reached (all_explained serves.comings (asked ask here) all_here)
 
       heard_of : (deeds : List (Deed (language db))) → past ++ serves.deeds ≡ past ++ deeds → map notice_of heard ≡ filter_map (told db) deeds
@@ -181,7 +181,7 @@ serves_smoothly db fits law once housed = record {
 
 -- ---- each letter comes smoothly, or something is refused
 module _ (db : Database) where
-  room_or_full : (s : SiteState (language db)) (body : Body (language db)) → Room s body ⊎ FindsNoRoom db s body
+  pub room_or_full : (s : SiteState (language db)) (body : Body (language db)) → Room s body ⊎ FindsNoRoom db s body
   room_or_full s (Write ticket op leaf write) = go (s.status ticket) refl
     where
       go : (status : Status (language db)) → s.status ticket ≡ status → ((v : Visit (language db)) → s.status ticket ≡ Alive v → (language db).is_full leaf write v.changes ≡ false) ⊎ ((v : Visit (language db)) × ((s.status ticket ≡ Alive v) × ((language db).is_full leaf write v.changes ≡ true)))

@@ -24,6 +24,7 @@ pub mod Taking
 pub mod Serving
 pub mod Stopping
 pub mod Smoothly
+pub mod Settling
 pub mod Obeying
 pub mod Denying
 pub mod Deeds

@@ -18,6 +18,7 @@ ghost use Rattle.world.specs.Denying.{DeniesForAReason};
 ghost use Rattle.world.specs.Obeying.{ObeysUnlessRefused};
 ghost use Rattle.world.specs.Runs.{RunsAreSerial, RunsAreWhole};
 ghost use Rattle.world.specs.Serving.{ServedIsSerial};
+ghost use Rattle.world.specs.Settling.{GrowsQuiet};
 ghost use Rattle.world.specs.Smoothly.{ServesSmoothly, ServesUnlessRefused};
 
 use answers::laws::writes_lead;
@@ -153,6 +154,17 @@ pub fn served_unless_refused(catalog: &Catalog)
     ensures { ServesUnlessRefused (database (catalogue_of catalog.now)) (fits (catalogue_of catalog.now)) }
 {
     served_smoothly(catalog);
+}
+
+/// A client's database, whatever is refused on the way, as long as no letter is dropped: after a statement its transaction is
+/// ready for more, or it has ended and all is quiet; after a commit or a rollback all is quiet.
+pub fn grows_quiet(catalog: &Catalog)
+    ensures { GrowsQuiet (database (catalogue_of catalog.now)) (fits (catalogue_of catalog.now)) }
+{
+    catalog.relations();
+    leaf_names_are_unique();
+    contents_ascend();
+    language_is_lawful(catalog);
 }
 
 /// The commands of a client's database that stands, all quiet or its open transaction ready: a transaction begins;
