@@ -35,5 +35,7 @@ pub mod Denying
 pub mod Deeds
 pub mod EndsKept
 pub mod NoWrites
+pub mod EndsTold
 pub mod Quieting
 pub mod StatementEnds
+pub mod StandingAgain

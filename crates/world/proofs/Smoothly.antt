@@ -55,7 +55,7 @@ pub fit_within : (db : Database) (machines : Machines) (letters : List (Letter (
 fit_within db machines letters past fit = record { desk = fit.within; sites = λ name. seats_within db machines.seats name fit.sites }
 
 -- what stands behind the same
-same_behind : {A : Type 0} (past one other : List A) → past ++ one ≡ past ++ other → one ≡ other
+pub same_behind : {A : Type 0} (past one other : List A) → past ++ one ≡ past ++ other → one ≡ other
 same_behind [] one other e = e
 same_behind (x ∷ past) one other e = same_behind past one other (tails x x (past ++ one) (past ++ other) e)
   where
@@ -128,7 +128,7 @@ module _ (db : Database) (fits : Leaf → Content → Bool) (law : IsLawful (lan
       pub asked_here : IsReached whole (asked ask here)
       asked_here = asked_reached db (reached_law law) whole here ask served.reached (all_explained serves.comings (asked ask here) all_here)
 
-      heard_of : (deeds : List (Deed (language db))) → past ++ serves.deeds ≡ past ++ deeds → map notice_of heard ≡ filter_map (told db) deeds
+      pub heard_of : (deeds : List (Deed (language db))) → past ++ serves.deeds ≡ past ++ deeds → map notice_of heard ≡ filter_map (told db) deeds
       heard_of deeds e = serves.replies ∙ ap (filter_map (told db)) (same_behind past serves.deeds deeds e)
 
     began : IsQuiet here → is_desk_within (desk_began (desk_of db before.table)) ≡ true → (serves : Serves db To_begin before after heard) →

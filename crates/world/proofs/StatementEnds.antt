@@ -1,5 +1,5 @@
 -- A statement of one client, whatever becomes of its letters: its transaction is ready for more, or it has ended and all is quiet.
-use Rattle.std.proofs.Common.{◌≡◌, refl, sym, ap, ◌∙◌, subst, Bool, true, false, List, [], ◌∷◌, ◌++◌, ◌⊎◌, inl, inr, ⊎_elim, ℕ, Option}
+use Rattle.std.proofs.Common.{◌≡◌, refl, sym, ap, ◌∙◌, subst, Bool, true, false, List, [], ◌∷◌, ◌++◌, ◌⊎◌, inl, inr, ⊎_elim, ℕ, Option, map}
 use Rattle.terms.specs.declared.leaf.Leaf.{Leaf}
 use Rattle.meaning.specs.declared.statement.Statement.{Statement}
 use Rattle.meaning.specs.Statement.{IsStatementOf}
@@ -7,7 +7,11 @@ use Rattle.meaning.specs.Whole.{Relations}
 use Rattle.store.specs.Content.{Content}
 use Rattle.protocol.specs.Client.{IsQuiet, IsReached, first, next}
 use Rattle.protocol.specs.Course.{InStatement, RoomOr, passes, passes_to}
-use Rattle.protocol.specs.Desk.{Aborted, Choice, Deed, Give_up, Given_up, Known, Row, State, Txn, Unknown, desk_after, is_desk_within, on_desk_letter, on_request}
+use Rattle.std.specs.List.{list_any}
+use Rattle.meaning.specs.declared.answer.Answer.{Answer as AnswerNow}
+use Rattle.desk.specs.declared.reply.Reply.{Reply}
+use Rattle.desk.specs.declared.reply.Reply.TheVariants.{Answer}
+use Rattle.protocol.specs.Desk.{Aborted, Answered, Ask, Stated, Worked, Choice, Deed, Give_up, Given_up, Known, Row, State, Txn, Unknown, desk_after, is_desk_within, on_desk_letter, on_request}
 use Rattle.protocol.specs.Language.{IsLawful, Lang, Name}
 use Rattle.protocol.specs.Leaving.{Doomed, EndKept, Ending, Failing, Loose, Within, doomed, has_ended}
 use Rattle.protocol.specs.Letter.{Body, Letter, Open, Fetch, Write, Prepare, Commit, Abort, Ticket, Rows, Refused, Voted, Ack, Inquire, is_for_desk}
@@ -29,18 +33,20 @@ use Rattle.protocol.proofs.Reached.{reached_law}
 use Rattle.protocol.proofs.Smooth.{smooth_law}
 use Rattle.desk.specs.declared.reply.Notice.{Notice}
 use Rattle.desk.specs.Database.{Database, language, sent}
-use Rattle.desk.specs.State.{desk_of}
+use Rattle.desk.specs.State.{desk_of, notice_of}
 use Rattle.world.specs.Coming.{Coming, Passed_over, Taken, Turned_away, all_come, come, first_comes}
 use Rattle.world.specs.Delivering.{Serves, To_do}
 use Rattle.world.specs.Machines.{Machines, world_of}
 use Rattle.world.specs.Reasons.{AllFounded, FirstIsFounded, IsFounded}
-use Rattle.world.specs.Serving.{IsServed}
+use Rattle.world.specs.Serving.{IsServed, is_end, tells}
 use Rattle.world.specs.Settling.{FirstIsDropped, IsDropped, SomeDropped}
 use Rattle.world.specs.Smoothly.{FindsNoRoom, rests}
 use Rattle.world.proofs.NoWrites.{NoWrites, bare, comes_bare, is_write, reads_on, state_reads}
 use Rattle.world.proofs.Quieting.{ended_gives_up, ending_lost, kept_end_of, lost_within, turned_no_end}
 use Rattle.world.proofs.Reaching.{all_explained, all_reached}
-use Rattle.world.proofs.Smoothly.{all_here, asked_here, fit_within, room_or_full}
+use Rattle.world.proofs.EndsTold.{Told, all_told, end_heard, ends_it, state_told}
+use Rattle.world.proofs.Obeying.{tells_by}
+use Rattle.world.proofs.Smoothly.{all_here, asked_here, fit_within, heard_of, room_or_full, same_behind}
 
 module _ {L : Lang} where
   -- a letter that may wait while a statement works
@@ -315,8 +321,8 @@ module _ (db : Database) where
         (λ dropped. inr (inl dropped)) (one_stands w c w.letters refl within founded.0 there here)
 
     -- no letter waits
-    stand_ends : (w : World D) → Stand w → w.letters ≡ [] → Ready D fits t w ⊎ IsQuiet w
-    stand_ends w (in_course here none) silent = inl (smooth.answered w t s before here silent).0
+    stand_ends : (w : World D) → Stand w → w.letters ≡ [] → (Ready D fits t w × ((asks : List (Ask D)) × (choice : Choice D) × (w.past ≡ before ++ Stated t s ∷ Worked t s asks choice ∷ Answered t choice.0 ∷ []))) ⊎ IsQuiet w
+    stand_ends w (in_course here none) silent = inl (smooth.answered w t s before here silent)
     stand_ends w (is_doomed d idle) silent = inr (failing_ends law once t before w (doomed d) silent).0
     stand_ends w (has_left deeds ending) silent = inr (ending_quiet law deeds w ending silent)
 
@@ -324,7 +330,7 @@ module _ (db : Database) where
   pub quiet_or_ready : (fits : Leaf → Content → Bool) (law : IsLawful D) (once : Once D.sites) (housed : IsHoused D fits) (whole : Relations) (before after : Machines) (past : List (Deed D)) (txn : Name) (statement : Statement) (choice : Choice D) (heard : List Notice) → (served : IsServed db whole before past) →
       Ready D fits txn (rests db before past) → IsStatementOf db.schemas statement →
       is_desk_within (desk_after (desk_of db before.table) txn (on_request txn choice (State statement) ((desk_of db before.table).txn txn)).txn) ≡ true → (serves : Serves db (To_do txn (State statement) choice) before after heard) →
-      (Ready D fits txn (rests db after (past ++ serves.deeds)) ⊎ IsQuiet (rests db after (past ++ serves.deeds))) ⊎ SomeDropped db serves.comings (called (rests db before past) txn choice (State statement))
+      ((Ready D fits txn (rests db after (past ++ serves.deeds)) × ((answer : AnswerNow) × (map notice_of heard ≡ (txn, Answer answer) ∷ []))) ⊎ (IsQuiet (rests db after (past ++ serves.deeds)) × (tells is_end heard ≡ true))) ⊎ SomeDropped db serves.comings (called (rests db before past) txn choice (State statement))
   quiet_or_ready fits law once housed whole before after past txn statement choice heard served ready is room serves =
       let here = rests db before past in
       let ask = To_do txn (State statement) choice in
@@ -333,7 +339,13 @@ module _ (db : Database) where
       let explained = all_here db fits law once housed whole before after past heard served ask serves in
       let within = called_within here txn choice (State statement) (fit_within db before [] past served.fit) in
       let begins : Stand fits law once housed whole txn statement past start = in_course ((smooth_law law once fits housed).stated whole here txn statement choice ready is room reached) (state_reads here txn choice statement refl) in
+      let ends : Told txn past (rests db after (past ++ serves.deeds)) = subst (Told txn past) (serves.is past) (all_told txn past serves.comings start (state_told here txn choice statement ready.steady.u ready.steady.known)) in
+      let tells_end : IsQuiet (rests db after (past ++ serves.deeds)) → tells is_end heard ≡ true = λ quiet. ⊎_elim (λ undecided. clash undecided (quiet.decided txn))
+          (λ ended. tells_by is_end heard ∙ ap (list_any (λ (x : Name × Reply). is_end x.1)) serves.replies ∙ end_heard db serves.deeds (subst (λ (deeds : List (Deed D)). list_any ends_it deeds ≡ true) (sym (same_behind past serves.deeds ends.more ends.is)) ended)) ends.says in
       ⊎_elim
-      (λ stand. inl (stand_ends fits law once housed whole txn statement past (rests db after (past ++ serves.deeds)) (subst (Stand fits law once housed whole txn statement past) (serves.is past) stand) refl))
+      (λ stand. inl (⊎_elim
+      (λ answered. inl (answered.0, (answered.1.1.0, heard_of db fits law once housed whole before after past heard served ask serves _ answered.1.2)))
+      (λ quiet. inr (quiet, tells_end quiet))
+      (stand_ends fits law once housed whole txn statement past (rests db after (past ++ serves.deeds)) (subst (Stand fits law once housed whole txn statement past) (serves.is past) stand) refl)))
       (λ dropped. inr dropped)
       (all_stand fits law once housed whole txn statement past serves.comings start within (serves.founded past) reached explained begins)

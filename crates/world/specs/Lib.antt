@@ -26,5 +26,6 @@ pub mod Stopping
 pub mod Smoothly
 pub mod Settling
 pub mod Obeying
+pub mod StandingAgain
 pub mod Denying
 pub mod Deeds

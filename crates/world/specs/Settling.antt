@@ -1,5 +1,6 @@
 -- Calls of one client whatever becomes of their letters: all is quiet again, or the transaction is ready for more.
-use Rattle.std.specs.Prelude.{◌≡◌, ◌⊎◌, ⊤, Bool, true, false, List, [], ◌∷◌, ◌++◌}
+use Rattle.std.specs.Prelude.{◌≡◌, ◌⊎◌, ⊤, Bool, true, false, List, [], ◌∷◌, ◌++◌, map}
+use Rattle.meaning.specs.declared.answer.Answer.{Answer as AnswerNow}
 use Rattle.meaning.specs.declared.statement.Statement.{Statement}
 use Rattle.meaning.specs.Statement.{IsStatementOf}
 use Rattle.meaning.specs.Whole.{Relations}
@@ -12,11 +13,12 @@ use Rattle.protocol.specs.Letter.{Body, Fetch, Letter}
 use Rattle.protocol.specs.Smooth.{Ready}
 use Rattle.protocol.specs.World.{World}
 use Rattle.desk.specs.declared.reply.Notice.{Notice}
+use Rattle.desk.specs.declared.reply.Reply.TheVariants.{Answer}
 use Rattle.desk.specs.Database.{Database, language}
-use Rattle.desk.specs.State.{desk_of}
+use Rattle.desk.specs.State.{desk_of, notice_of}
 use Rattle.world.specs.Delivering.{Ask, Coming, Passed_over, Serves, Taken, To_do, asked, come}
 use Rattle.world.specs.Machines.{Machines}
-use Rattle.world.specs.Serving.{IsServed}
+use Rattle.world.specs.Serving.{IsServed, is_end, tells}
 use Rattle.world.specs.Smoothly.{rests}
 
 module _ (db : Database) where
@@ -40,14 +42,14 @@ module _ (db : Database) where
   abbrev pub WasDropped : Ask (language db) → Machines → List (Deed (language db)) → List (Coming (language db)) → Type 0
   WasDropped ask before past comings = SomeDropped comings (asked ask (rests db before past))
 
--- served machines, call by call, whatever else is refused on the way: where no letter is dropped the transaction is ready for more after a statement,
--- or it has ended and all is quiet, and after a commit or a rollback all is quiet
+-- served machines, call by call, whatever else is refused on the way: where no letter is dropped a statement is answered and its transaction ready for more,
+-- or the transaction has ended, its client hears so, and all is quiet; and after a commit or a rollback all is quiet
 pub record GrowsQuiet (db : Database) (fits : Leaf → Content → Bool) : Type 0 where
   pub states : (whole : Relations) (before after : Machines) (past : List (Deed (language db))) (txn : Name) (statement : Statement) (choice : Choice (language db)) (heard : List Notice) → IsServed db whole before past →
       Ready (language db) fits txn (rests db before past) → IsStatementOf db.schemas statement →
       is_desk_within (desk_after (desk_of db before.table) txn (on_request txn choice (State statement) ((desk_of db before.table).txn txn)).txn) ≡ true →
       (serves : Serves db (To_do txn (State statement) choice) before after heard) →
-      (Ready (language db) fits txn (rests db after (past ++ serves.deeds)) ⊎ IsQuiet (rests db after (past ++ serves.deeds))) ⊎ WasDropped db (To_do txn (State statement) choice) before past serves.comings
+      ((Ready (language db) fits txn (rests db after (past ++ serves.deeds)) × ((answer : AnswerNow) × (map notice_of heard ≡ (txn, Answer answer) ∷ []))) ⊎ (IsQuiet (rests db after (past ++ serves.deeds)) × (tells is_end heard ≡ true))) ⊎ WasDropped db (To_do txn (State statement) choice) before past serves.comings
   pub commits : (whole : Relations) (before after : Machines) (past : List (Deed (language db))) (txn : Name) (choice : Choice (language db)) (heard : List Notice) → IsServed db whole before past →
       Ready (language db) fits txn (rests db before past) → (serves : Serves db (To_do txn Commit_call choice) before after heard) →
       IsQuiet (rests db after (past ++ serves.deeds)) ⊎ WasDropped db (To_do txn Commit_call choice) before past serves.comings
