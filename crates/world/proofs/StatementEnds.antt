@@ -341,7 +341,7 @@ module _ (db : Database) where
       let begins : Stand fits law once housed whole txn statement past start = in_course ((smooth_law law once fits housed).stated whole here txn statement choice ready is room reached) (state_reads here txn choice statement refl) in
       let ends : Told txn past (rests db after (past ++ serves.deeds)) = subst (Told txn past) (serves.is past) (all_told txn past serves.comings start (state_told here txn choice statement ready.steady.u ready.steady.known)) in
       let tells_end : IsQuiet (rests db after (past ++ serves.deeds)) → tells is_end heard ≡ true = λ quiet. ⊎_elim (λ undecided. clash undecided (quiet.decided txn))
-          (λ ended. tells_by is_end heard ∙ ap (list_any (λ (x : Name × Reply). is_end x.1)) serves.replies ∙ end_heard db serves.deeds (subst (λ (deeds : List (Deed D)). list_any ends_it deeds ≡ true) (sym (same_behind past serves.deeds ends.more ends.is)) ended)) ends.says in
+      (λ ended. tells_by is_end heard ∙ ap (list_any (λ (x : Name × Reply). is_end x.1)) serves.replies ∙ end_heard db serves.deeds (subst (λ (deeds : List (Deed D)). list_any ends_it deeds ≡ true) (sym (same_behind past serves.deeds ends.more ends.is)) ended)) ends.says in
       ⊎_elim
       (λ stand. inl (⊎_elim
       (λ answered. inl (answered.0, (answered.1.1.0, heard_of db fits law once housed whole before after past heard served ask serves _ answered.1.2)))

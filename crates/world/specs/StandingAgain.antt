@@ -41,3 +41,8 @@ Drops db text current before later after heard past (did_run none after_none doe
 abbrev pub StandsAgain : (db : Database) → (Leaf → Content → Bool) → Type 0
 StandsAgain db fits = (whole : Relations) (text : List ℕ) (current later : Option Txn) (before after : Machines) (past : List (Deed (language db))) (heard : List Notice) → IsServed db whole before past → Stands db fits current before past →
     (executes : Executes db text current before later after heard) → StandsOn db fits whole later after past ⊎ Drops db text current before later after heard past executes
+
+-- a command was executed, and the database stands again, or a letter was dropped
+abbrev pub DoesAgain : (db : Database) → (Leaf → Content → Bool) → Relations → (text : List ℕ) (current : Option Txn) (before : Machines) (later : Option Txn) (after : Machines) → List (Deed (language db)) → List Notice → Type 0
+DoesAgain db fits whole text current before later after past heard =
+    (executes : Executes db text current before later after heard) × (StandsOn db fits whole later after past ⊎ Drops db text current before later after heard past executes)
