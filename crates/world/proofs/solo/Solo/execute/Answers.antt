@@ -56,3 +56,6 @@ pub returns-clause-declined : goal.returns-clause-declined
 returns-clause-declined g c = λ going clean sound fit.
     c.command-done.ensures.denied (database (catalogue_of c.args.self.now.machines.desk.catalog))
     (subst (λ (x : List (List ℕ) × List SplitRelation). IsOfCatalogue (database (catalogue_of x))) c.catalog.ensures c.database_is_of_catalogue.ensures.of_catalogue) refl clean sound fit
+
+pub returns-clause-inside : goal.returns-clause-inside
+returns-clause-inside g c = λ txn going some spelled. c.command-done.ensures.inside txn some spelled
