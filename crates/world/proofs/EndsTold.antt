@@ -1,12 +1,12 @@
 -- A transaction that has ended since a call told its client so.
 use Rattle.std.proofs.Common.{◌≡◌, refl, sym, ap, ◌∙◌, subst, ◌||◌, Bool, true, false, List, [], ◌∷◌, ◌++◌, map, ◌⊎◌, inl, inr, ⊎_elim, ℕ, Option, Some, None, is_some, is_none, append-nil, append_assoc}
 use Rattle.std.specs.List.{filter_map, list_all, list_any}
-use Rattle.protocol.specs.Desk.{Aborted, Answered, Ask, Began, Choice, Committed, Deed, Give_up, Idle, Known, Phased, Reading, Rolled_back, Row, Stage, State, Stated, Turn, Txn, Undecided, Unknown, Voting, Worked, Writing, are_all_in, ask_of, asks_go, counts, decides, desk_after, is_desk_within, is_named, is_undecided, on_desk_letter, on_known, on_refused, on_request, on_rows, on_state, on_ticket, on_vote, states, stays, ticket_goes, visits, voters_of, votes_go, with_rows, works, writes_out, writing}
+use Rattle.protocol.specs.Desk.{Aborted, Answered, Ask, Began, Choice, Committed, Deed, Give_up, Idle, Known, Phased, Reading, Rolled_back, Row, Stage, State, Stated, Turn, Txn, Undecided, Unknown, Voting, Worked, Writing, are_all_in, ask_of, counts, decides, desk_after, is_desk_within, is_named, is_undecided, on_desk_letter, on_known, on_refused, on_request, on_rows, on_state, on_ticket, on_vote, states, ticket_goes, visits, voters_of, votes_go, with_rows, works, writes_out, writing}
 use Rattle.protocol.specs.Language.{Lang, Name, put, same}
 use Rattle.protocol.specs.Letter.{Body, Letter, Vote, Yes, No, Read, Open, Fetch, Write, Prepare, Commit, Abort, Ticket, Rows, Refused, Voted, Ack, Inquire, is_for_desk}
 use Rattle.protocol.specs.Site.{is_within, on_letter, said, site_after}
 use Rattle.protocol.specs.World.{World, addressed, called, comes_to, turned, turns, with_site}
-use Rattle.protocol.proofs.Basics.{clash, either, put_all, same_law}
+use Rattle.protocol.proofs.Basics.{either, put_all, same_law}
 use Rattle.desk.specs.declared.reply.Reply.{Reply}
 use Rattle.desk.specs.Database.{Database, language}
 use Rattle.desk.specs.Turn.{told}

@@ -1,5 +1,5 @@
 -- Where a client's database stands after a command, whatever was refused on the way.
-use Rattle.std.specs.Prelude.{◌≡◌, ◌⊎◌, ℕ, Bool, List, ◌++◌, Option}
+use Rattle.std.specs.Prelude.{◌⊎◌, ℕ, Bool, List, ◌++◌, Option}
 use Rattle.meaning.specs.Whole.{Relations}
 use Rattle.terms.specs.declared.leaf.Leaf.{Leaf}
 use Rattle.store.specs.Content.{Content}
