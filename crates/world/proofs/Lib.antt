@@ -35,3 +35,8 @@ pub mod Denying
 pub mod Deeds
 pub mod Account
 pub mod EndsKept
+pub mod NoWrites
+pub mod EndsTold
+pub mod Quieting
+pub mod StatementEnds
+pub mod StandingAgain

@@ -24,7 +24,7 @@ use Rattle.world.specs.Smoothly.{ServesSmoothly, ServesUnlessRefused, rests}
 use Rattle.world.proofs.Reaching.{serves_past}
 
 -- ---- notices, by what they say
-tells_by : (is : replies.Reply → Bool) (heard : List Notice) → tells is heard ≡ list_any (λ (x : Name × replies.Reply). is x.1) (map notice_of heard)
+pub tells_by : (is : replies.Reply → Bool) (heard : List Notice) → tells is heard ≡ list_any (λ (x : Name × replies.Reply). is x.1) (map notice_of heard)
 tells_by is [] = refl
 tells_by is (notice ∷ heard) = ap (λ b. is notice.reply || b) (tells_by is heard)
 
@@ -124,7 +124,7 @@ obeys db fits reached smooth law = record {
 }
 
 -- ---- a command
-still_there : (txn : Txn) (heard : List Notice) (answer : Rattle.meaning.specs.declared.answer.Answer.Answer) → map notice_of heard ≡ (txn_name txn, Answer answer) ∷ [] → still_open (Some txn) heard ≡ Some txn
+pub still_there : (txn : Txn) (heard : List Notice) (answer : Rattle.meaning.specs.declared.answer.Answer.Answer) → map notice_of heard ≡ (txn_name txn, Answer answer) ∷ [] → still_open (Some txn) heard ≡ Some txn
 still_there txn heard answer is = ap (λ (b : Bool). if b then None else Some txn) (tells_by is_end heard ∙ ap (list_any (λ (x : Name × replies.Reply). is_end x.1)) is)
 
 module _ (db : Database) (fits : Leaf → Content → Bool) (law : ObeysUnlessRefused db fits) (whole : Relations) (text : List ℕ) (before after : Machines) (past : List (Deed (language db))) (heard : List Notice) (served : IsServed db whole before past) where

@@ -55,7 +55,7 @@ pub fit_within : (db : Database) (machines : Machines) (letters : List (Letter (
 fit_within db machines letters past fit = record { desk = fit.within; sites = λ name. seats_within db machines.seats name fit.sites }
 
 -- what stands behind the same
-same_behind : {A : Type 0} (past one other : List A) → past ++ one ≡ past ++ other → one ≡ other
+pub same_behind : {A : Type 0} (past one other : List A) → past ++ one ≡ past ++ other → one ≡ other
 same_behind [] one other e = e
 same_behind (x ∷ past) one other e = same_behind past one other (tails x x (past ++ one) (past ++ other) e)
   where
@@ -122,13 +122,13 @@ module _ (db : Database) (fits : Leaf → Content → Bool) (law : IsLawful (lan
     here = rests db before past
 
     module _ (ask : Ask (language db)) (serves : Serves db ask before after heard) where
-      all_here : AllExplained (all_come serves.comings (asked ask here)).past
+      pub all_here : AllExplained (all_come serves.comings (asked ask here)).past
       all_here = subst (λ (v : World (language db)). AllExplained v.past) (sym (serves.is past)) (all_both Explained past serves.deeds served.reached.explained serves.explained)
 
-      asked_here : IsReached whole (asked ask here)
+      pub asked_here : IsReached whole (asked ask here)
       asked_here = asked_reached db (reached_law law) whole here ask served.reached (all_explained serves.comings (asked ask here) all_here)
 
-      heard_of : (deeds : List (Deed (language db))) → past ++ serves.deeds ≡ past ++ deeds → map notice_of heard ≡ filter_map (told db) deeds
+      pub heard_of : (deeds : List (Deed (language db))) → past ++ serves.deeds ≡ past ++ deeds → map notice_of heard ≡ filter_map (told db) deeds
       heard_of deeds e = serves.replies ∙ ap (filter_map (told db)) (same_behind past serves.deeds deeds e)
 
     began : IsQuiet here → is_desk_within (desk_began (desk_of db before.table)) ≡ true → (serves : Serves db To_begin before after heard) →
@@ -181,7 +181,7 @@ serves_smoothly db fits law once housed = record {
 
 -- ---- each letter comes smoothly, or something is refused
 module _ (db : Database) where
-  room_or_full : (s : SiteState (language db)) (body : Body (language db)) → Room s body ⊎ FindsNoRoom db s body
+  pub room_or_full : (s : SiteState (language db)) (body : Body (language db)) → Room s body ⊎ FindsNoRoom db s body
   room_or_full s (Write ticket op leaf write) = go (s.status ticket) refl
     where
       go : (status : Status (language db)) → s.status ticket ≡ status → ((v : Visit (language db)) → s.status ticket ≡ Alive v → (language db).is_full leaf write v.changes ≡ false) ⊎ ((v : Visit (language db)) × ((s.status ticket ≡ Alive v) × ((language db).is_full leaf write v.changes ≡ true)))

@@ -24,7 +24,9 @@ pub mod Taking
 pub mod Serving
 pub mod Stopping
 pub mod Smoothly
+pub mod Settling
 pub mod Obeying
+pub mod StandingAgain
 pub mod Denying
 pub mod Deeds
 pub mod Account

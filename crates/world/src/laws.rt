@@ -19,7 +19,9 @@ ghost use Rattle.world.specs.Denying.{DeniesForAReason};
 ghost use Rattle.world.specs.Obeying.{ObeysUnlessRefused};
 ghost use Rattle.world.specs.Runs.{RunsAreSerial, RunsAreWhole};
 ghost use Rattle.world.specs.Serving.{ServedIsSerial};
+ghost use Rattle.world.specs.Settling.{GrowsQuiet};
 ghost use Rattle.world.specs.Smoothly.{ServesSmoothly, ServesUnlessRefused};
+ghost use Rattle.world.specs.StandingAgain.{StandsAgain};
 
 use answers::laws::writes_lead;
 use catalog::catalogue::Catalog;
@@ -163,6 +165,27 @@ pub fn served_unless_refused(catalog: &Catalog)
     ensures { ServesUnlessRefused (database (catalogue_of catalog.now)) (fits (catalogue_of catalog.now)) }
 {
     served_smoothly(catalog);
+}
+
+/// A client's database, whatever is refused on the way, as long as no letter is dropped: a statement is answered and its
+/// transaction ready for more, or it has ended, which is told, and all is quiet; after a commit or a rollback all is quiet.
+pub fn grows_quiet(catalog: &Catalog)
+    ensures { GrowsQuiet (database (catalogue_of catalog.now)) (fits (catalogue_of catalog.now)) }
+{
+    catalog.relations();
+    leaf_names_are_unique();
+    contents_ascend();
+    language_is_lawful(catalog);
+}
+
+/// A client's database that stands, all quiet or its open transaction ready, does so again after each command, whatever was
+/// refused on the way, as long as no letter was dropped.
+pub fn stands_again(catalog: &Catalog)
+    ensures { StandsAgain (database (catalogue_of catalog.now)) (fits (catalogue_of catalog.now)) }
+{
+    one_client_is_a_run(catalog);
+    served_smoothly(catalog);
+    grows_quiet(catalog);
 }
 
 /// The commands of a client's database that stands, all quiet or its open transaction ready: a transaction begins;

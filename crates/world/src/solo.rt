@@ -27,12 +27,14 @@ ghost use Rattle.world.specs.Machines.{AreFit};
 ghost use Rattle.world.specs.Obeying.{Obeys, Stands};
 ghost use Rattle.world.specs.Serving.{Executes, IsServed, IsServedOn, still_open};
 ghost use Rattle.world.specs.Settled.{AreThoseOf, after_committed, parts_kept, rows_shown};
+ghost use Rattle.world.specs.StandingAgain.{DoesAgain};
 ghost use Rattle.world.specs.Stopping.{stopped_by};
 
 use crate::alone::{is_stop, run_alone, tells_end};
 use crate::fault::Fault;
 use crate::laws::{
     database_is_of_catalogue, denied_for_a_reason, obeyed_unless_refused, one_client_is_a_run,
+    stands_again,
 };
 use crate::machines::Machines;
 use crate::opening::start;
@@ -291,8 +293,8 @@ impl<D: DeskStore, S: SiteStore> Solo<D, S> {
 
     /// A command is executed: BEGIN, COMMIT, ROLLBACK or a statement, which outside BEGIN is a transaction of its own. All letters that it
     /// brings about come, each once, the oldest first. Says what the client hears: unless something is refused on the way, the answer of a
-    /// statement, or that its transaction has begun, was committed, or was rolled back. A refusal that stops the database is the answer of every
-    /// later command.
+    /// statement, or that its transaction has begun, was committed, or was rolled back. Whatever was refused, the next command finds all
+    /// quiet or the open transaction ready, unless a letter was dropped. A refusal that stops the database is the answer of every later command.
     pub fn execute(&mut self, text: &str) -> Result<Vec<Notice>, Refusal>
         ensures clean { OfStores D.is_clean S.is_clean self.new.machines → OfStores D.is_clean S.is_clean self.old.machines }
         ensures sound { OfStores D.is_clean S.is_clean self.new.machines → OfStores D.is_sound S.is_sound self.old.machines → OfStores D.is_sound S.is_sound self.new.machines }
@@ -305,6 +307,10 @@ impl<D: DeskStore, S: SiteStore> Solo<D, S> {
             → IsServed (database (catalogue_of self.old.machines.desk.catalog)) whole (held D.kept S.kept self.old.machines) past
             → Stands (database (catalogue_of self.old.machines.desk.catalog)) (fits (catalogue_of self.old.machines.desk.catalog)) self.old.current (held D.kept S.kept self.old.machines) past
             → IfOk result (λ heard. Obeys (database (catalogue_of self.old.machines.desk.catalog)) (fits (catalogue_of self.old.machines.desk.catalog)) whole text.now self.old.current (held D.kept S.kept self.old.machines) self.new.current (held D.kept S.kept self.new.machines) past heard.items) }
+        ensures stands { (whole : Relations) (past : List (Deed (language (database (catalogue_of self.old.machines.desk.catalog))))) → self.old.stopped ≡ None → OfStores D.is_clean S.is_clean self.new.machines → OfStores D.is_sound S.is_sound self.old.machines
+            → IsServed (database (catalogue_of self.old.machines.desk.catalog)) whole (held D.kept S.kept self.old.machines) past
+            → Stands (database (catalogue_of self.old.machines.desk.catalog)) (fits (catalogue_of self.old.machines.desk.catalog)) self.old.current (held D.kept S.kept self.old.machines) past
+            → IfOk result (λ heard. DoesAgain (database (catalogue_of self.old.machines.desk.catalog)) (fits (catalogue_of self.old.machines.desk.catalog)) whole text.now self.old.current (held D.kept S.kept self.old.machines) self.new.current (held D.kept S.kept self.new.machines) past heard.items) }
         ensures denied { (whole : Relations) (past : List (Deed (language (database (catalogue_of self.old.machines.desk.catalog))))) → self.old.stopped ≡ None → OfStores D.is_clean S.is_clean self.new.machines → OfStores D.is_sound S.is_sound self.old.machines
             → IsServed (database (catalogue_of self.old.machines.desk.catalog)) whole (held D.kept S.kept self.old.machines) past → Stands (database (catalogue_of self.old.machines.desk.catalog)) (fits (catalogue_of self.old.machines.desk.catalog)) self.old.current (held D.kept S.kept self.old.machines) past
             → IfErr result (Denies (database (catalogue_of self.old.machines.desk.catalog)) text.now self.old.current (held D.kept S.kept self.old.machines) past) }
@@ -324,6 +330,7 @@ impl<D: DeskStore, S: SiteStore> Solo<D, S> {
         one_client_is_a_run(self.machines.desk.catalog());
         obeyed_unless_refused(self.machines.desk.catalog());
         denied_for_a_reason(self.machines.desk.catalog());
+        stands_again(self.machines.desk.catalog());
         let done = self.command(text);
         self.stopped = stopped_by(&done);
         done

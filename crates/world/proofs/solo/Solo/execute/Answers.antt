@@ -9,6 +9,7 @@ use Rattle.world.specs.Base.{database, fits}
 use Rattle.world.specs.Held.{held}
 use Rattle.world.specs.Obeying.{ObeysUnlessRefused}
 use Rattle.world.specs.Denying.{DeniesForAReason}
+use Rattle.world.specs.StandingAgain.{StandsAgain}
 use Rattle.world.proofs.Moving.{if_ok}
 use Rattle.world.proofs.Refusing.{if_err}
 use Rattle.world.proofs.Obeying.{obeys_of}
@@ -31,6 +32,16 @@ returns-clause-obeyed g c = λ whole past going clean sound served stands.
     if_ok c.command-done.result (λ heard executes. obeys_of (database catalogue) (fits catalogue) law whole c.args.text.now before after past heard.items served c.args.self.now.current c.command-done.new.self.current stands executes)
     (c.command-done.ensures.ok (database catalogue) of refl clean sound served.fit)
 
+pub returns-clause-stands : goal.returns-clause-stands
+returns-clause-stands g c = λ whole past going clean sound served stands.
+    let catalogue = catalogue_of c.args.self.now.machines.desk.catalog in
+    let before = held g.D.DeskStore.kept g.S.SiteStore.kept c.args.self.now.machines in
+    let after = held g.D.DeskStore.kept g.S.SiteStore.kept c.command-done.new.self.machines in
+    let of = subst (λ (x : List (List ℕ) × List SplitRelation). IsOfCatalogue (database (catalogue_of x))) c.catalog.ensures c.database_is_of_catalogue.ensures.of_catalogue in
+    let law = subst (λ (x : List (List ℕ) × List SplitRelation). StandsAgain (database (catalogue_of x)) (fits (catalogue_of x))) c.catalog-5.ensures c.stands_again.ensures in
+    if_ok c.command-done.result (λ heard executes. (executes, law whole c.args.text.now c.args.self.now.current c.command-done.new.self.current before after past heard.items served stands executes))
+    (c.command-done.ensures.ok (database catalogue) of refl clean sound served.fit)
+
 pub returns-clause-denied : goal.returns-clause-denied
 returns-clause-denied g c = λ whole past going clean sound served stands.
     let catalogue = catalogue_of c.args.self.now.machines.desk.catalog in
@@ -45,3 +56,6 @@ pub returns-clause-declined : goal.returns-clause-declined
 returns-clause-declined g c = λ going clean sound fit.
     c.command-done.ensures.denied (database (catalogue_of c.args.self.now.machines.desk.catalog))
     (subst (λ (x : List (List ℕ) × List SplitRelation). IsOfCatalogue (database (catalogue_of x))) c.catalog.ensures c.database_is_of_catalogue.ensures.of_catalogue) refl clean sound fit
+
+pub returns-clause-inside : goal.returns-clause-inside
+returns-clause-inside g c = λ txn going some spelled. c.command-done.ensures.inside txn some spelled
