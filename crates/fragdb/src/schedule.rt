@@ -120,14 +120,12 @@ impl Schedule {
         ensures catalog { self.new.world.machines.desk.catalog ≡ self.old.world.machines.desk.catalog }
     {
         match self.world.step(event) {
-            Ok(()) => {
-                if let Some(out) = last_out(self.world.entries()) {
-                    add_sent(&mut self.came, out.letters.as_slice())?;
-                }
+            Ok(entry) => {
+                add_sent(&mut self.came, entry.out.letters.as_slice())?;
                 Ok(None)
             }
             Err(Fault::Desk(Refusal::Memory) | Fault::Site(SiteFault::Memory)) => Err(Memory),
-            Err(fault) => Ok(Some(fault)),
+            Err(fault) => Ok(Some(*fault)),
         }
     }
 

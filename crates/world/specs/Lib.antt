@@ -14,6 +14,7 @@ pub mod Refused
 pub mod Runs
 pub mod History
 pub mod Settled
+pub mod Steps
 pub mod Following
 pub mod Happening
 pub mod Base

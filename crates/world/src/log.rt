@@ -1,6 +1,6 @@
 //! What has happened, entry by entry, and the way to each letter by its number.
 
-ghost use Rattle.std.specs.Prelude.{◌≡◌, ◌++◌, ◌∷◌, [], ◌+◌, ◌-◌, ◌≤◌, ◌<◌, ◌^◌, true, List, OnOk, slice_get};
+ghost use Rattle.std.specs.Prelude.{◌≡◌, ◌≢◌, ◌++◌, ◌∷◌, [], ◌+◌, ◌-◌, ◌≤◌, ◌<◌, ◌^◌, true, List, OnOk, slice_get};
 ghost use Rattle.std.specs.Option.{option_copied};
 ghost use Rattle.world.specs.declared.event.Entry.{Entry as EntryNow};
 ghost use Rattle.world.specs.Posted.{end_of, ends_from, letters_in};
@@ -113,6 +113,14 @@ impl Log {
         ensures { result.now ≡ self.now.items }
     {
         self.entries.as_slice()
+    }
+
+    /// The newest entry; there has to be one.
+    pub(crate) fn newest(&self) -> &Entry
+        requires { self.now.items ≢ [] }
+        ensures { (past : List EntryNow) (entry : EntryNow) → self.now.items ≡ past ++ entry ∷ [] → result.now ≡ entry }
+    {
+        &self.entries[self.entries.len() - 1]
     }
 
     /// The letter of this number, counted from 0, if so many were sent.

@@ -1,6 +1,8 @@
 //! Worlds: the machines of a database, and every event that has happened with the letters that it put out.
 
-ghost use Rattle.std.specs.Prelude.{◌≡◌, ◌≢◌, ◌⊎◌, ◌++◌, ◌∷◌, [], true, List, Err, OnOk, OnErr, IfOk, IfErr, map, slice_get, take};
+ghost use Rattle.std.specs.Borrow.{follows_so, sem};
+ghost use mathlib.Core.Option.{none};
+ghost use Rattle.std.specs.Prelude.{⊤, ◌≡◌, ◌≢◌, ◌⊎◌, ◌++◌, ◌∷◌, [], true, List, Err, OnOk, OnErr, IfOk, IfErr, map, slice_get, take};
 ghost use Rattle.std.specs.Option.{option_copied, option_map};
 ghost use Rattle.meaning.specs.Whole.{FitsSchema, Relations};
 ghost use Rattle.catalog.specs.FragmentLeaf.{schemas_of};
@@ -25,6 +27,8 @@ ghost use Rattle.world.specs.Machines.{AreFit};
 ghost use Rattle.world.specs.Posted.{letters_in};
 ghost use Rattle.world.specs.Refused.{IsToldOf};
 ghost use Rattle.world.specs.Runs.{AppliesWhole, IsRun, RunsOn};
+ghost use Rattle.world.specs.Steps.{Steps, answer_of};
+ghost use Rattle.world.specs.contracts.world.World.{the_row};
 ghost use Rattle.world.specs.Settled.{AreThoseOf, ShowsSerial, parts_kept, rows_shown};
 ghost use Rattle.world.specs.Telling.{committed_in};
 
@@ -59,6 +63,8 @@ use terms::text::Text;
 pub struct World<D: DeskStore, S: SiteStore> {
     machines: Machines<D, S>,
     entries: Log,
+    /// Why the last event that was refused was so; `Unsent` until one is.
+    refusal: Fault,
 }
 
 /// A world over lists is opened: the fragments rebuild these whole relations, and nothing has happened. Only want of
@@ -80,16 +86,32 @@ pub fn open(
         Ok(machines) => Ok(World {
             machines,
             entries: Log::new(alloc),
+            refusal: Fault::Unsent,
         }),
         Err(fault) => Err(fault),
     }
 }
 
 impl<D: DeskStore, S: SiteStore> World<D, S> {
-    /// An event happens, and has an entry, the last one from now on, with the letters that were put out and what
+    /// An event happens. Answers its entry, the last one from now on, with the letters that were put out and what
     /// clients heard. A committed transaction stays applied whole and once. On a fault nothing has changed: `Unsent`
     /// where no letter has the number, or no site the name; else why the machine refused, or want of memory.
-    pub fn step(&mut self, event: Event) -> Result<(), Fault>
+    pub fn step(&mut self, event: Event) -> Result<&Entry, &Fault>
+        ensures* steps { sem 𝓛 (follows_so (the_row D.row S.row) (the_row D.row S.row) self.entry.ghost_name none (λ _ _. ⊤)
+            (λ new. Steps (OfStores D.is_clean S.is_clean) (OfStores D.is_sound S.is_sound) (held D.kept S.kept) event (answer_of result) self.old new)) }
+        ensures event { IfOk result (λ entry. entry.now.event ≡ event) }
+    {
+        match self.happens(event) {
+            Ok(()) => Ok(self.entries.newest()),
+            Err(fault) => {
+                self.refusal = fault;
+                Err(&self.refusal)
+            }
+        }
+    }
+
+    /// An event happens, and has an entry, the last one from now on.
+    fn happens(&mut self, event: Event) -> Result<(), Fault>
         ensures clean { OfStores D.is_clean S.is_clean self.new.machines → OfStores D.is_clean S.is_clean self.old.machines }
         ensures sound { OfStores D.is_clean S.is_clean self.new.machines → OfStores D.is_sound S.is_sound self.old.machines → OfStores D.is_sound S.is_sound self.new.machines }
         ensures ok { (whole : Relations) (past : List (Deed (language (database (catalogue_of self.old.machines.desk.catalog)))))
@@ -164,7 +186,7 @@ impl<D: DeskStore, S: SiteStore> World<D, S> {
         ensures same { OnErr result (self.new.entries.items ≡ self.old.entries.items) }
     {
         let again = event.copy()?;
-        match self.step(again) {
+        match self.happens(again) {
             Ok(()) => Ok(()),
             Err(fault) => {
                 if fault.is_memory() {

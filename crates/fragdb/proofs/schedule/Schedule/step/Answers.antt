@@ -1,24 +1,29 @@
-use Rattle.std.proofs.Common.{◌≡◌, ap}
-use Rattle.fragdb.specs.declared.schedule.Schedule as code
+use Rattle.std.proofs.Common.{◌≡◌, OnErr, OnOk, subst}
+use Rattle.catalog.specs.Relation.{catalogue_of}
+use Rattle.store.specs.PlainDesk.{kept_of as desk_kept}
+use Rattle.store.specs.PlainSite.{kept_of}
+use Rattle.world.specs.Base.{database}
+use Rattle.world.specs.Held.{held}
+use Rattle.world.specs.Runs.{RunsOn}
+use Rattle.world.specs.Steps.{answer_of}
 use Rattle.fragdb.proofs.ReachedLemmas.{are_clean, goes_on, stays}
 use Rattle.fragdb.proofs.schedule.Schedule.step.Goals as goal
-use Rattle.fragdb.proofs.schedule.Schedule.step.Goals.{in-Some+in_ok-add_sent-in-Ok, in_default}
 
-pub returns-after-last_out-clause-runs : goal.returns-after-last_out-clause-runs
-returns-after-last_out-clause-runs c = λ whole has.
+pub returns-in_ok-add_sent-in-Ok-clause-runs : goal.returns-in_ok-add_sent-in-Ok-clause-runs
+returns-in_ok-add_sent-in-Ok-clause-runs c = λ whole has.
     let old = c.args.self.now.world in
-    let new = c.step.new.self in
+    let new = c.step.follows.lender-at-none in
+    let stepped = c.step.follows.holds-at-none in
     let clean = are_clean new.machines in
-    let same : c.match-last_out.self.world ≡ new = elim c.match-last_out.branch [
-      | in-Some+in_ok-add_sent-in-Ok w ↦ ap (λ (s : code.Schedule). s.world) w.self-is
-      | in_default w ↦ ap (λ (s : code.Schedule). s.world) w.self-is
-    ] in
-    let on = goes_on whole old new c.step.ensures.catalog (c.step.ensures.sound clean has.sound) has.reached (c.in-Ok.ensures.ok whole has.reached.0 clean has.sound has.reached.1) in
-    rw same on
+    goes_on whole old new stepped.catalog (stepped.sound clean has.sound) has.reached
+    (subst (λ r. OnOk (answer_of r) (RunsOn (database (catalogue_of old.machines.desk.catalog)) whole (held desk_kept kept_of new.machines) new.entries.items has.reached.0)) c.in-Ok.is (stepped.ok whole has.reached.0 clean has.sound has.reached.1))
 
 pub returns-in-Err-clause-runs : goal.returns-in-Err-clause-runs
 returns-in-Err-clause-runs c = λ whole has.
     let old = c.args.self.now.world in
-    let new = c.step.new.self in
+    let new = c.step.follows.lender-at-none in
+    let stepped = c.step.follows.holds-at-none in
     let clean = are_clean new.machines in
-    stays whole old new c.in-Err.ensures.catalog (c.in-Err.ensures.sound clean has.sound) (c.in-Err.ensures.err clean has.sound) c.in-Err.ensures.same has
+    stays whole old new stepped.catalog (stepped.sound clean has.sound)
+    (subst (λ r. OnErr (answer_of r) (held desk_kept kept_of new.machines ≡ held desk_kept kept_of old.machines)) c.in-Err.is (stepped.err clean has.sound))
+    (subst (λ r. OnErr (answer_of r) (new.entries.items ≡ old.entries.items)) c.in-Err.is stepped.same) has

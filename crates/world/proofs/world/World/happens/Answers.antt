@@ -1,4 +1,4 @@
--- Why `World::step` meets its contract.
+-- Why `World::happens` meets its contract.
 use Rattle.std.proofs.Common.{refl, sym, subst, ◌++◌, List}
 use Rattle.catalog.specs.Relation.{catalogue_of}
 use Rattle.desk.specs.OfCatalogue.{IsOfCatalogue}
@@ -6,7 +6,7 @@ use Rattle.world.specs.declared.event.Entry.{Entry}
 use Rattle.world.specs.Base.{database}
 use Rattle.world.specs.Held.{held}
 use Rattle.world.specs.Runs.{IsRun, RunsAreWhole, RunsOn}
-use Rattle.world.proofs.world.World.step.Goals as goal
+use Rattle.world.proofs.world.World.happens.Goals as goal
 
 pub returns-in-Err-clause-refused : goal.returns-in-Err-clause-refused
 returns-in-Err-clause-refused g c = λ whole past asked run is_call.
