@@ -1,0 +1,61 @@
+//! Why the text of a statement is refused, told with its place.
+
+use crate::around::{Around, Grammar, tables};
+use crate::hint::{Hint, put_hint};
+use crate::hints::hint;
+use crate::text::split_at;
+use crate::window::{put_place, shown};
+use meaning::schema::Schema;
+use reader::fault::{ReadFault, Rule};
+use reader::lexer::tokens;
+use reader::token::Placed;
+use std::alloc::{AllocError, Global};
+
+/// Three lines: the text, or what of it is near the fault; a caret below the fault's place; and a sentence on
+/// what was found there and what could stand there.
+pub fn explain(
+    alloc: Global,
+    schema: &Schema,
+    text: &str,
+    fault: &ReadFault,
+) -> Result<String, AllocError> {
+    let tokens = tokens_of(alloc, text)?;
+    let tables = tables(alloc, schema, tokens.as_slice())?;
+    let around = Around {
+        text,
+        grammar: Grammar::Command,
+        tokens: tokens.as_slice(),
+        tables: tables.as_slice(),
+        relations: schema.relations.as_slice(),
+    };
+    let hint = hint(alloc, &around, fault)?;
+    lines(alloc, text, fault.offset(), &hint)
+}
+
+/// The tokens of a text, none where it is refused before it has any.
+pub fn tokens_of<'a>(alloc: Global, text: &'a str) -> Result<Vec<Placed<'a>>, AllocError> {
+    match tokens(alloc, text.as_bytes()) {
+        Ok(tokens) => Ok(tokens),
+        Err(fault) => match fault.rule() {
+            Rule::Memory => Err(AllocError),
+            _ => Ok(Vec::new(alloc)),
+        },
+    }
+}
+
+/// A text, the place of a fault in it, and what is told of it, a line each.
+pub fn lines(
+    alloc: Global,
+    text: &str,
+    offset: usize,
+    hint: &Hint<'_>,
+) -> Result<String, AllocError> {
+    let (before, behind) = split_at(text, offset);
+    let before = shown(alloc, before)?;
+    let behind = shown(alloc, behind)?;
+    let mut out = String::new(alloc);
+    put_place(&mut out, before.as_slice(), behind.as_slice())?;
+    put_hint(&mut out, hint)?;
+    out.push('\n')?;
+    Ok(out)
+}
