@@ -13,6 +13,10 @@
 #![tactic(auto)]
 
 mod around;
+pub mod catalogue;
+mod cells;
+mod document;
+mod faults;
 mod found;
 mod hint;
 mod hints;
