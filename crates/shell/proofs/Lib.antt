@@ -1,1 +1,1 @@
--- What is proved of this, by topic.
+pub mod NearestLemmas

@@ -1,1 +1,3 @@
 -- What is told of a fault, in reading order.
+pub mod Nearest
+pub mod Lines

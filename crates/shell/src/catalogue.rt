@@ -4,7 +4,7 @@ use crate::cells::{Inexact, put_split};
 use crate::document::relation_at;
 use crate::faults::put_places;
 use crate::text::split_at;
-use crate::window::{put_place, shown};
+use crate::window::{line_of, put_line, shown};
 use catalog::fault::{CatFault, Cell, Rule};
 use std::alloc::{AllocError, Global};
 use terms::text::Text;
@@ -24,14 +24,14 @@ pub fn explain(alloc: Global, text: &str, fault: &CatFault) -> Result<String, Al
                 Some(span) => span.start,
                 None => 0,
             };
-            put_line(&mut out, alloc, text, offset)?;
+            put_place(&mut out, alloc, text, offset)?;
         }
     }
     Ok(out)
 }
 
 /// The line of a text in which an offset is, with a caret below it.
-fn put_line(out: &mut String, alloc: Global, text: &str, offset: usize) -> Result<(), AllocError> {
+fn put_place(out: &mut String, alloc: Global, text: &str, offset: usize) -> Result<(), AllocError> {
     let (before, behind) = split_at(text, offset);
     let before = match before.rsplit_once('\n') {
         Some((_, last)) => last,
@@ -43,7 +43,8 @@ fn put_line(out: &mut String, alloc: Global, text: &str, offset: usize) -> Resul
     };
     let before = shown(alloc, before)?;
     let behind = shown(alloc, behind)?;
-    put_place(out, before.as_slice(), behind.as_slice())
+    let line = line_of(alloc, before.as_slice(), behind.as_slice())?;
+    put_line(out, &line)
 }
 
 /// What is told of a fault of a document.

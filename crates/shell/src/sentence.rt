@@ -1,10 +1,13 @@
 //! Why the text of a statement is refused, told with its place.
 
+ghost use Rattle.std.specs.Prelude.{IfOk, string_bytes};
+ghost use Rattle.shell.specs.Lines.{AreThreeLines};
+
 use crate::around::{Around, Grammar, tables};
 use crate::hint::{Hint, put_hint};
 use crate::hints::hint;
 use crate::text::split_at;
-use crate::window::{put_place, shown};
+use crate::window::{Line, line_of, put_line, shown};
 use meaning::schema::Schema;
 use reader::fault::{ReadFault, Rule};
 use reader::lexer::tokens;
@@ -18,7 +21,9 @@ pub fn explain(
     schema: &Schema,
     text: &str,
     fault: &ReadFault,
-) -> Result<String, AllocError> {
+) -> Result<String, AllocError>
+    ensures { IfOk result (λ lines. AreThreeLines (string_bytes lines)) }
+{
     let tokens = tokens_of(alloc, text)?;
     let tables = tables(alloc, schema, tokens.as_slice())?;
     let around = Around {
@@ -49,13 +54,28 @@ pub fn lines(
     text: &str,
     offset: usize,
     hint: &Hint<'_>,
-) -> Result<String, AllocError> {
+) -> Result<String, AllocError>
+    ensures { IfOk result (λ lines. AreThreeLines (string_bytes lines)) }
+{
+    let line = line_at(alloc, text, offset)?;
+    let sentence = sentence_of(alloc, hint)?;
+    let mut out = String::new(alloc);
+    put_line(&mut out, &line)?;
+    out.push_str(sentence.as_str())?;
+    out.push('\n')?;
+    Ok(out)
+}
+
+/// The text around an offset.
+pub fn line_at(alloc: Global, text: &str, offset: usize) -> Result<Line, AllocError> {
     let (before, behind) = split_at(text, offset);
     let before = shown(alloc, before)?;
     let behind = shown(alloc, behind)?;
-    let mut out = String::new(alloc);
-    put_place(&mut out, before.as_slice(), behind.as_slice())?;
-    put_hint(&mut out, hint)?;
-    out.push('\n')?;
-    Ok(out)
+    line_of(alloc, before.as_slice(), behind.as_slice())
+}
+
+fn sentence_of(alloc: Global, hint: &Hint<'_>) -> Result<String, AllocError> {
+    let mut sentence = String::new(alloc);
+    put_hint(&mut sentence, hint)?;
+    Ok(sentence)
 }

@@ -1,5 +1,8 @@
 //! The part of a text that is shown around a place.
 
+ghost use Rattle.std.specs.Prelude.{◌≡◌, ◌++◌, OnOk, replicate, string_bytes};
+ghost use Rattle.shell.specs.Lines.{pointed};
+
 use std::alloc::{AllocError, Global};
 use unicode_width::UnicodeWidthChar;
 
@@ -63,24 +66,45 @@ fn front_within(characters: &[char], room: usize) -> &[char] {
     characters
 }
 
-/// A line with what stands before a place and behind it, or with the parts of both that are near, and below it a
-/// line with a caret at the place.
-pub fn put_place(out: &mut String, before: &[char], behind: &[char]) -> Result<(), AllocError> {
-    let is_whole = columns(before).saturating_add(columns(behind)) <= WHOLE;
-    let column = if is_whole {
-        put_characters(out, before)?;
-        put_characters(out, behind)?;
-        columns(before)
-    } else {
-        let column = put_end(out, before)?;
-        put_front(out, behind)?;
-        column
-    };
+/// A line of a text, and the column of a place in it.
+#[derive(Drop)]
+pub struct Line {
+    pub text: String,
+    pub column: usize,
+}
+
+/// What stands before a place and behind it, or the parts of both that are near.
+pub fn line_of(alloc: Global, before: &[char], behind: &[char]) -> Result<Line, AllocError> {
+    let mut text = String::new(alloc);
+    if columns(before).saturating_add(columns(behind)) <= WHOLE {
+        put_characters(&mut text, before)?;
+        put_characters(&mut text, behind)?;
+        let column = columns(before);
+        return Ok(Line { text, column });
+    }
+    let column = put_end(&mut text, before)?;
+    put_front(&mut text, behind)?;
+    Ok(Line { text, column })
+}
+
+/// The line, and below it one with a caret at its column.
+pub fn put_line(out: &mut String, line: &Line) -> Result<(), AllocError>
+    ensures { OnOk result (string_bytes out.new ≡ string_bytes out.old ++ pointed (string_bytes line.now.text) line.now.column) }
+{
+    out.push_str(line.text.as_str())?;
     out.push('\n')?;
-    for _ in 0..column {
+    put_spaces(out, line.column)?;
+    out.push_str("^\n")
+}
+
+fn put_spaces(out: &mut String, count: usize) -> Result<(), AllocError>
+    ensures { OnOk result (string_bytes out.new ≡ string_bytes out.old ++ replicate count 32) }
+{
+    for index in 0..count {
+        let _ = index;
         out.push(' ')?;
     }
-    out.push_str("^\n")
+    Ok(())
 }
 
 fn put_characters(out: &mut String, characters: &[char]) -> Result<(), AllocError> {
