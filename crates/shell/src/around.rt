@@ -9,21 +9,21 @@ use std::alloc::{AllocError, Global};
 
 /// What a text is read as.
 #[derive(Clone, Copy, Debug, PartialEq, Eq)]
-pub enum Grammar {
+pub(crate) enum Grammar {
     Command,
     Conditions,
 }
 
 /// Columns that a text can speak of.
 #[derive(Clone, Copy, Debug)]
-pub struct Table<'a> {
+pub(crate) struct Table<'a> {
     pub name: &'a str,
     pub columns: &'a [Column],
 }
 
 /// A text with its tokens, and what it can speak of.
 #[derive(Clone, Copy, Debug)]
-pub struct Around<'a> {
+pub(crate) struct Around<'a> {
     pub text: &'a str,
     pub grammar: Grammar,
     /// None where the text is refused before it has any.
@@ -33,7 +33,7 @@ pub struct Around<'a> {
 }
 
 /// The relations that a statement names and the schema has.
-pub fn tables<'a>(
+pub(crate) fn tables<'a>(
     alloc: Global,
     schema: &'a Schema,
     tokens: &'a [Placed<'a>],
@@ -50,7 +50,7 @@ pub fn tables<'a>(
 }
 
 /// A relation's columns under its name.
-pub fn table_of(relation: &RelationSchema) -> Table<'_> {
+pub(crate) fn table_of(relation: &RelationSchema) -> Table<'_> {
     Table {
         name: relation.name.as_str(),
         columns: relation.columns.as_slice(),
@@ -59,14 +59,14 @@ pub fn table_of(relation: &RelationSchema) -> Table<'_> {
 
 /// A column as it is written.
 #[derive(Clone, Copy, Debug)]
-pub struct Written<'a> {
+pub(crate) struct Written<'a> {
     pub qualifier: Option<&'a str>,
     pub name: &'a str,
 }
 
 impl<'a> Around<'a> {
     /// The column that begins with this token.
-    pub fn column_at(&self, index: usize) -> Option<Written<'a>> {
+    pub(crate) fn column_at(&self, index: usize) -> Option<Written<'a>> {
         let first = name(self.tokens, index)?;
         if is_sign(self.tokens, index.saturating_add(1), Sign::Dot) {
             let second = name(self.tokens, index.saturating_add(2))?;
@@ -83,7 +83,7 @@ impl<'a> Around<'a> {
     }
 
     /// The column that ends with this token.
-    pub fn column_to(&self, index: usize) -> Option<Written<'a>> {
+    pub(crate) fn column_to(&self, index: usize) -> Option<Written<'a>> {
         if index >= 2 && is_sign(self.tokens, index - 1, Sign::Dot) {
             self.column_at(index - 2)
         } else {
@@ -92,7 +92,7 @@ impl<'a> Around<'a> {
     }
 
     /// The column that is meant, the first one where several are.
-    pub fn meant(&self, written: Written<'_>) -> Option<&'a Column> {
+    pub(crate) fn meant(&self, written: Written<'_>) -> Option<&'a Column> {
         for table in self.tables {
             if may_be_of(table, written.qualifier) {
                 if let Some(column) = column_named(table.columns, written.name) {
@@ -105,7 +105,7 @@ impl<'a> Around<'a> {
 }
 
 /// Whether a column with this qualifier may be one of the table.
-pub fn may_be_of(table: &Table<'_>, qualifier: Option<&str>) -> bool {
+pub(crate) fn may_be_of(table: &Table<'_>, qualifier: Option<&str>) -> bool {
     match qualifier {
         None => true,
         Some(qualifier) => qualifier == table.name,

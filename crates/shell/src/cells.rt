@@ -13,13 +13,13 @@ const NODES: usize = 65_536;
 
 /// How a row lies to the branches of a split.
 #[derive(Clone, Copy, Debug, PartialEq, Eq)]
-pub enum Inexact {
+pub(crate) enum Inexact {
     Gap,
     Overlap,
 }
 
 /// The split of a relation of which the row meets no branch or several, with its branches, and what to do.
-pub fn put_split(
+pub(crate) fn put_split(
     out: &mut String,
     alloc: Global,
     relation: &Value,

@@ -11,7 +11,7 @@ const NODES: usize = 65_536;
 
 /// A node of a relation's tree.
 #[derive(Drop)]
-pub struct Node<'a> {
+pub(crate) struct Node<'a> {
     /// How it is reached from the document's root.
     pub path: String,
     pub value: &'a Value,
@@ -20,19 +20,19 @@ pub struct Node<'a> {
 }
 
 /// The table of a relation.
-pub fn relation_at<'a>(root: &'a Value, name: &str) -> Option<&'a Value> {
+pub(crate) fn relation_at<'a>(root: &'a Value, name: &str) -> Option<&'a Value> {
     root.get("relations")?.get(name)
 }
 
 /// The items of an array at a key.
-pub fn items_at<'a>(value: &'a Value, key: &str) -> &'a [Value] {
+pub(crate) fn items_at<'a>(value: &'a Value, key: &str) -> &'a [Value] {
     match value.get(key) {
         Some(found) => items_of(found),
         None => &[],
     }
 }
 
-pub fn items_of(value: &Value) -> &[Value] {
+pub(crate) fn items_of(value: &Value) -> &[Value] {
     match value.as_array() {
         Some(items) => items.as_slice(),
         None => &[],
@@ -40,12 +40,12 @@ pub fn items_of(value: &Value) -> &[Value] {
 }
 
 /// The text at a key.
-pub fn text_at<'a>(value: &'a Value, key: &str) -> Option<&'a str> {
+pub(crate) fn text_at<'a>(value: &'a Value, key: &str) -> Option<&'a str> {
     value.get(key)?.as_str()
 }
 
 /// The columns that a relation's texts say, as far as they do.
-pub fn columns_of(alloc: Global, relation: &Value) -> Result<Vec<Column>, AllocError> {
+pub(crate) fn columns_of(alloc: Global, relation: &Value) -> Result<Vec<Column>, AllocError> {
     let mut columns = Vec::new(alloc);
     for item in items_at(relation, "columns") {
         if let Some((name, kind)) = name_and_kind(item) {
@@ -66,7 +66,7 @@ fn name_and_kind(item: &Value) -> Option<(&str, Kind)> {
 }
 
 /// The nodes of a relation's tree, each before those below it.
-pub fn nodes<'a>(
+pub(crate) fn nodes<'a>(
     alloc: Global,
     relation: &'a Value,
     name: &str,

@@ -16,7 +16,7 @@ use terms::text::Text;
 use toml::Value;
 
 /// The first place in the fault's relation that breaks its rule, where the rule is one of names or conditions.
-pub fn put_places(
+pub(crate) fn put_places(
     out: &mut String,
     alloc: Global,
     root: &Value,

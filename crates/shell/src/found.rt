@@ -5,7 +5,7 @@ use std::fmt;
 
 /// What a text has at a place.
 #[derive(Clone, Copy, Debug)]
-pub enum Found<'a> {
+pub(crate) enum Found<'a> {
     /// Nothing: the text is at its end.
     End,
     /// Letters, digits and underscores that begin with a letter.
@@ -31,7 +31,7 @@ impl fmt::Display for Found<'_> {
 }
 
 /// What the text has at this offset.
-pub fn found_at(text: &str, offset: usize) -> Found<'_> {
+pub(crate) fn found_at(text: &str, offset: usize) -> Found<'_> {
     let (_, rest) = split_at(text, offset);
     match rest.chars().next() {
         None => Found::End,

@@ -9,7 +9,7 @@ use terms::value::Kind;
 
 /// What is told of a fault of a text.
 #[derive(Drop)]
-pub enum Hint<'a> {
+pub(crate) enum Hint<'a> {
     /// Nothing but a rule's sentence.
     Plain(&'static str),
     TooLong {
@@ -82,7 +82,7 @@ pub enum Hint<'a> {
     },
 }
 
-pub fn put_hint(out: &mut String, hint: &Hint<'_>) -> Result<(), AllocError> {
+pub(crate) fn put_hint(out: &mut String, hint: &Hint<'_>) -> Result<(), AllocError> {
     match hint {
         Hint::Plain(sentence) => out.push_str(sentence),
         Hint::TooLong { bytes } => write!(

@@ -13,7 +13,7 @@ use reader::fault::{ReadFault, Rule};
 use std::alloc::{AllocError, Global};
 
 /// What is told of a fault of the text.
-pub fn hint<'a>(
+pub(crate) fn hint<'a>(
     alloc: Global,
     around: &Around<'a>,
     fault: &ReadFault,
@@ -115,7 +115,7 @@ fn named<'a>(around: &Around<'a>, at: Option<usize>) -> Option<&'a str> {
 }
 
 /// The column at a token.
-pub fn column<'a>(around: &Around<'a>, at: Option<usize>) -> Option<Written<'a>> {
+pub(crate) fn column<'a>(around: &Around<'a>, at: Option<usize>) -> Option<Written<'a>> {
     around.column_at(at?)
 }
 

@@ -7,7 +7,7 @@ use crate::tokens::{is_keyword, keyword_at, name};
 use reader::keyword::Keyword;
 
 /// Something too large at a place.
-pub fn limit<'a>(around: &Around<'a>, offset: usize, at: Option<usize>) -> Hint<'a> {
+pub(crate) fn limit<'a>(around: &Around<'a>, offset: usize, at: Option<usize>) -> Hint<'a> {
     match found_at(around.text, offset) {
         Found::Integer(found) => Hint::TooLarge { found },
         Found::Text => Hint::Plain(

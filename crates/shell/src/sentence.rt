@@ -38,7 +38,7 @@ pub fn explain(
 }
 
 /// The tokens of a text, none where it is refused before it has any.
-pub fn tokens_of<'a>(alloc: Global, text: &'a str) -> Result<Vec<Placed<'a>>, AllocError> {
+pub(crate) fn tokens_of<'a>(alloc: Global, text: &'a str) -> Result<Vec<Placed<'a>>, AllocError> {
     match tokens(alloc, text.as_bytes()) {
         Ok(tokens) => Ok(tokens),
         Err(fault) => match fault.rule() {
@@ -49,7 +49,7 @@ pub fn tokens_of<'a>(alloc: Global, text: &'a str) -> Result<Vec<Placed<'a>>, Al
 }
 
 /// A text, the place of a fault in it, and what is told of it, a line each.
-pub fn lines(
+pub(crate) fn lines(
     alloc: Global,
     text: &str,
     offset: usize,
@@ -67,7 +67,7 @@ pub fn lines(
 }
 
 /// The text around an offset.
-pub fn line_at(alloc: Global, text: &str, offset: usize) -> Result<Line, AllocError> {
+pub(crate) fn line_at(alloc: Global, text: &str, offset: usize) -> Result<Line, AllocError> {
     let (before, behind) = split_at(text, offset);
     let before = shown(alloc, before)?;
     let behind = shown(alloc, behind)?;

@@ -1,7 +1,7 @@
 //! Texts, and the places of their characters.
 
 /// What stands before an offset, and the rest. An offset inside of a character or beyond the text is its end.
-pub fn split_at(text: &str, offset: usize) -> (&str, &str) {
+pub(crate) fn split_at(text: &str, offset: usize) -> (&str, &str) {
     match text.split_at_checked(offset) {
         Some(parts) => parts,
         None => (text, ""),
@@ -9,7 +9,7 @@ pub fn split_at(text: &str, offset: usize) -> (&str, &str) {
 }
 
 /// The letters, digits and underscores at the front.
-pub fn word(text: &str) -> &str {
+pub(crate) fn word(text: &str) -> &str {
     let end = text
         .as_bytes()
         .iter()
@@ -19,7 +19,7 @@ pub fn word(text: &str) -> &str {
 }
 
 /// The digits at the front.
-pub fn digits(text: &str) -> &str {
+pub(crate) fn digits(text: &str) -> &str {
     let end = text
         .as_bytes()
         .iter()
@@ -29,6 +29,6 @@ pub fn digits(text: &str) -> &str {
 }
 
 /// The text of bytes that are ASCII, as those of names are.
-pub fn ascii(bytes: &[u8]) -> &str {
+pub(crate) fn ascii(bytes: &[u8]) -> &str {
     str::from_utf8(bytes).unwrap_or("")
 }

@@ -6,19 +6,19 @@ use reader::sign::Sign;
 use reader::token::{Placed, Token};
 
 /// The number of the token that begins at this offset.
-pub fn token_at(tokens: &[Placed<'_>], offset: usize) -> Option<usize> {
+pub(crate) fn token_at(tokens: &[Placed<'_>], offset: usize) -> Option<usize> {
     tokens.iter().position(|placed| placed.offset == offset)
 }
 
 /// The name that a token is.
-pub fn name<'a>(tokens: &'a [Placed<'a>], index: usize) -> Option<&'a str> {
+pub(crate) fn name<'a>(tokens: &'a [Placed<'a>], index: usize) -> Option<&'a str> {
     match &tokens.get(index)?.token {
         Token::Name(name) => Some(ascii(name)),
         _ => None,
     }
 }
 
-pub fn is_sign(tokens: &[Placed<'_>], index: usize, wanted: Sign) -> bool {
+pub(crate) fn is_sign(tokens: &[Placed<'_>], index: usize, wanted: Sign) -> bool {
     match tokens.get(index) {
         Some(placed) => is_this_sign(&placed.token, wanted),
         None => false,
@@ -32,7 +32,7 @@ fn is_this_sign(token: &Token<'_>, wanted: Sign) -> bool {
     }
 }
 
-pub fn is_keyword(tokens: &[Placed<'_>], index: usize, wanted: Keyword) -> bool {
+pub(crate) fn is_keyword(tokens: &[Placed<'_>], index: usize, wanted: Keyword) -> bool {
     match tokens.get(index) {
         Some(placed) => is_this_keyword(&placed.token, wanted),
         None => false,
@@ -47,20 +47,20 @@ fn is_this_keyword(token: &Token<'_>, wanted: Keyword) -> bool {
 }
 
 /// The number of the first token that is this keyword.
-pub fn keyword_at(tokens: &[Placed<'_>], wanted: Keyword) -> Option<usize> {
+pub(crate) fn keyword_at(tokens: &[Placed<'_>], wanted: Keyword) -> Option<usize> {
     tokens
         .iter()
         .position(|placed| is_this_keyword(&placed.token, wanted))
 }
 
 /// The name behind the first token that is this keyword.
-pub fn name_behind<'a>(tokens: &'a [Placed<'a>], keyword: Keyword) -> Option<&'a str> {
+pub(crate) fn name_behind<'a>(tokens: &'a [Placed<'a>], keyword: Keyword) -> Option<&'a str> {
     let index = keyword_at(tokens, keyword)?;
     name(tokens, index.saturating_add(1))
 }
 
 /// How many commas stand before a token.
-pub fn commas_before(tokens: &[Placed<'_>], index: usize) -> usize {
+pub(crate) fn commas_before(tokens: &[Placed<'_>], index: usize) -> usize {
     tokens
         .iter()
         .take(index)
@@ -69,7 +69,7 @@ pub fn commas_before(tokens: &[Placed<'_>], index: usize) -> usize {
 }
 
 /// The text from a token to another one or the end.
-pub fn span<'a>(text: &'a str, tokens: &[Placed<'_>], from: usize, to: usize) -> &'a str {
+pub(crate) fn span<'a>(text: &'a str, tokens: &[Placed<'_>], from: usize, to: usize) -> &'a str {
     let Some(first) = tokens.get(from) else {
         return "";
     };

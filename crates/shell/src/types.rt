@@ -9,7 +9,7 @@ use reader::sign::Sign;
 use reader::token::Token;
 
 /// A constant or a column of another type than its place asks for.
-pub fn wrong_type<'a>(around: &Around<'a>, at: Option<usize>) -> Hint<'a> {
+pub(crate) fn wrong_type<'a>(around: &Around<'a>, at: Option<usize>) -> Hint<'a> {
     match at {
         Some(at) => wrong_type_at(around, at),
         None => OTHER,

@@ -8,7 +8,7 @@ use std::alloc::{AllocError, Global};
 
 /// Something that can stand in a text.
 #[derive(Clone, Copy, Debug, PartialEq, Eq)]
-pub enum Wanted {
+pub(crate) enum Wanted {
     Statement,
     Star,
     Name,
@@ -92,7 +92,7 @@ impl Wanted {
     }
 
     /// What it is called.
-    pub fn text(self) -> &'static str {
+    pub(crate) fn text(self) -> &'static str {
         match self {
             Wanted::Statement => "a statement",
             Wanted::Star => "`*`",
@@ -123,7 +123,7 @@ impl Wanted {
     }
 
     /// The words that it can begin with.
-    pub fn words(self) -> &'static [&'static str] {
+    pub(crate) fn words(self) -> &'static [&'static str] {
         match self {
             Wanted::Statement => &[
                 "SELECT", "INSERT", "UPDATE", "DELETE", "BEGIN", "COMMIT", "ROLLBACK",
@@ -142,7 +142,7 @@ impl Wanted {
 }
 
 /// What could stand behind the front of a text.
-pub fn wanted_behind(
+pub(crate) fn wanted_behind(
     alloc: Global,
     grammar: Grammar,
     front: &str,

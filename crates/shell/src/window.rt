@@ -16,7 +16,7 @@ const HALF: usize = 33;
 const DOTS: &str = "...";
 
 /// The characters of a text as they are shown: a space for one that has no width, as a tab.
-pub fn shown(alloc: Global, text: &str) -> Result<Vec<char>, AllocError> {
+pub(crate) fn shown(alloc: Global, text: &str) -> Result<Vec<char>, AllocError> {
     text.chars()
         .map(|character| if character.width().is_none() {
             ' '
@@ -32,7 +32,7 @@ fn columns_of(character: char) -> usize {
 }
 
 /// The columns of characters beside one another.
-pub fn columns(characters: &[char]) -> usize {
+pub(crate) fn columns(characters: &[char]) -> usize {
     characters.iter().fold(
         0,
         |sum: usize, character| sum.saturating_add(columns_of(*character)),
@@ -68,13 +68,13 @@ fn front_within(characters: &[char], room: usize) -> &[char] {
 
 /// A line of a text, and the column of a place in it.
 #[derive(Drop)]
-pub struct Line {
+pub(crate) struct Line {
     pub text: String,
     pub column: usize,
 }
 
 /// What stands before a place and behind it, or the parts of both that are near.
-pub fn line_of(alloc: Global, before: &[char], behind: &[char]) -> Result<Line, AllocError> {
+pub(crate) fn line_of(alloc: Global, before: &[char], behind: &[char]) -> Result<Line, AllocError> {
     let mut text = String::new(alloc);
     if columns(before).saturating_add(columns(behind)) <= WHOLE {
         put_characters(&mut text, before)?;
@@ -88,7 +88,7 @@ pub fn line_of(alloc: Global, before: &[char], behind: &[char]) -> Result<Line, 
 }
 
 /// The line, and below it one with a caret at its column.
-pub fn put_line(out: &mut String, line: &Line) -> Result<(), AllocError>
+pub(crate) fn put_line(out: &mut String, line: &Line) -> Result<(), AllocError>
     ensures { OnOk result (string_bytes out.new ≡ string_bytes out.old ++ pointed (string_bytes line.now.text) line.now.column) }
 {
     out.push_str(line.text.as_str())?;
