@@ -1,13 +1,14 @@
 //! Why the text of a statement is refused, told with its place.
 
-ghost use Rattle.std.specs.Prelude.{IfOk, string_bytes};
-ghost use Rattle.shell.specs.Lines.{AreThreeLines};
+ghost use Rattle.std.specs.Prelude.{◌≡◌, true, length, min, IfOk, string_bytes};
+ghost use Rattle.std.specs.List.{list_all};
+ghost use Rattle.shell.specs.Lines.{PointsAt, is_plain, is_short};
 
 use crate::around::{Around, Grammar, tables};
 use crate::hint::{Hint, put_hint};
 use crate::hints::hint;
 use crate::text::split_at;
-use crate::window::{Line, line_of, put_line, shown};
+use crate::window::{Line, WHOLE, line_of, put_line, shown};
 use meaning::schema::Schema;
 use reader::fault::{ReadFault, Rule};
 use reader::lexer::tokens;
@@ -22,7 +23,7 @@ pub fn explain(
     text: &str,
     fault: &ReadFault,
 ) -> Result<String, AllocError>
-    ensures { IfOk result (λ lines. AreThreeLines (string_bytes lines)) }
+    ensures { IfOk result (λ lines. PointsAt text.now fault.now.offset (string_bytes lines)) }
 {
     let tokens = tokens_of(alloc, text)?;
     let tables = tables(alloc, schema, tokens.as_slice())?;
@@ -55,7 +56,7 @@ pub(crate) fn lines(
     offset: usize,
     hint: &Hint<'_>,
 ) -> Result<String, AllocError>
-    ensures { IfOk result (λ lines. AreThreeLines (string_bytes lines)) }
+    ensures { IfOk result (λ lines. PointsAt text.now offset (string_bytes lines)) }
 {
     let line = line_at(alloc, text, offset)?;
     let sentence = sentence_of(alloc, hint)?;
@@ -67,11 +68,33 @@ pub(crate) fn lines(
 }
 
 /// The text around an offset.
-pub(crate) fn line_at(alloc: Global, text: &str, offset: usize) -> Result<Line, AllocError> {
+fn line_at(alloc: Global, text: &str, offset: usize) -> Result<Line, AllocError>
+    ensures whole { IfOk result (λ line. is_short text.now ≡ true → string_bytes line.text ≡ text.now) }
+    ensures below { IfOk result (λ line. is_short text.now ≡ true → line.column ≡ min offset (length text.now)) }
+{
+    if is_short(text) {
+        return Ok(Line {
+            text: String::from_str(alloc, text)?,
+            column: offset.min(text.len()),
+        });
+    }
     let (before, behind) = split_at(text, offset);
     let before = shown(alloc, before)?;
     let behind = shown(alloc, behind)?;
     line_of(alloc, before.as_slice(), behind.as_slice())
+}
+
+/// Whether a text is shown whole, and has a column for each byte.
+fn is_short(text: &str) -> bool
+    ensures { result ≡ is_short text.now }
+{
+    text.len() <= WHOLE && are_plain(text.as_bytes())
+}
+
+fn are_plain(bytes: &[u8]) -> bool
+    ensures { result ≡ list_all is_plain bytes.now }
+{
+    bytes.iter().all(|byte| *byte >= b' ' && *byte <= b'~')
 }
 
 fn sentence_of(alloc: Global, hint: &Hint<'_>) -> Result<String, AllocError> {

@@ -7,7 +7,7 @@ use std::alloc::{AllocError, Global};
 use unicode_width::UnicodeWidthChar;
 
 /// The most columns of a text that is shown whole.
-const WHOLE: usize = 72;
+pub(crate) const WHOLE: usize = 72;
 
 /// The most columns of each of its halves where it isn't, without the dots.
 const HALF: usize = 33;
