@@ -23,3 +23,10 @@ pub record PointsAt (text : List ℕ) (offset : ℕ) (lines : List ℕ) : Type 0
   pub same : lines ≡ pointed line column ++ sentence ++ 10 ∷ []
   pub whole : is_short text ≡ true → line ≡ text
   pub below : is_short text ≡ true → column ≡ min offset (length text)
+
+-- what ends with a line of text and a caret below one of its columns
+pub record EndsPointed (lines : List ℕ) : Type 0 where
+  pub front : List ℕ
+  pub line : List ℕ
+  pub column : ℕ
+  pub same : lines ≡ front ++ pointed line column

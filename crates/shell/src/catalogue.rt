@@ -1,8 +1,9 @@
 //! Why the text of a catalogue is refused, told with its place.
 
-ghost use Rattle.std.specs.Prelude.{◌≡◌, ◌++◌, true, is_some, IfOk, OnOk, string_bytes};
+ghost use Rattle.std.specs.Prelude.{◌≡◌, ◌++◌, true, false, is_some, IfOk, OnOk, string_bytes};
 ghost use Rattle.std.specs.Option.{option_copied};
 ghost use Rattle.toml.specs.Parse.{parse_document};
+ghost use Rattle.shell.specs.Lines.{EndsPointed};
 ghost use Rattle.shell.specs.Told.{Tells, relation_front, sentence};
 
 use crate::cells::{Inexact, put_split};
@@ -18,7 +19,9 @@ use toml::Value;
 /// What is told of a fault of the catalogue of this text, in lines: what is wrong, and where.
 pub fn explain(alloc: Global, text: &str, fault: &CatFault) -> Result<String, AllocError>
     // Of a document the relation and the rule's sentence, and then its place.
-    ensures { IfOk result (λ lines. is_some (parse_document text.now) ≡ true → Tells fault.now (string_bytes lines)) }
+    ensures document { IfOk result (λ lines. is_some (parse_document text.now) ≡ true → Tells fault.now (string_bytes lines)) }
+    // Of a text that is none why, and then its place.
+    ensures no_document { IfOk result (λ lines. is_some (parse_document text.now) ≡ false → EndsPointed (string_bytes lines)) }
 {
     match toml::table_from_str(alloc, text) {
         Ok(table) => of_document(alloc, &Value::Table(table), fault),
@@ -32,7 +35,9 @@ pub fn explain(alloc: Global, text: &str, fault: &CatFault) -> Result<String, Al
 }
 
 /// Why a text is no TOML, and the line in which it isn't.
-fn no_toml(alloc: Global, text: &str, error: &toml::de::Error) -> Result<String, AllocError> {
+fn no_toml(alloc: Global, text: &str, error: &toml::de::Error) -> Result<String, AllocError>
+    ensures { IfOk result (λ lines. EndsPointed (string_bytes lines)) }
+{
     let mut out = String::new(alloc);
     write!(out, "{error}")?;
     let offset = match error.span() {
@@ -44,7 +49,9 @@ fn no_toml(alloc: Global, text: &str, error: &toml::de::Error) -> Result<String,
 }
 
 /// The line of a text in which an offset is, with a caret below it.
-fn put_place(out: &mut String, alloc: Global, text: &str, offset: usize) -> Result<(), AllocError> {
+fn put_place(out: &mut String, alloc: Global, text: &str, offset: usize) -> Result<(), AllocError>
+    ensures { OnOk result (EndsPointed (string_bytes out.new)) }
+{
     let (before, behind) = split_at(text, offset);
     let before = match before.rsplit_once('\n') {
         Some((_, last)) => last,
