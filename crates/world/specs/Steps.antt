@@ -40,12 +40,12 @@ pub record Steps {D S : Type 0} (IsClean IsSound : code.Machines D S → Type 0)
   pub catalog : new.machines.desk.catalog ≡ old.machines.desk.catalog
   pub entry : IfOk answer (λ entry. (entry.event ≡ what) × (new.entries.items ≡ old.entries.items ++ entry ∷ []))
   pub ok : (whole : Relations) (past : List (Deed (language (based old)))) → IsClean new.machines → IsSound old.machines
-    → IsRun (based old) whole (hold old.machines) old.entries.items past → OnOk answer (RunsOn (based old) whole (hold new.machines) new.entries.items past)
+      → IsRun (based old) whole (hold old.machines) old.entries.items past → OnOk answer (RunsOn (based old) whole (hold new.machines) new.entries.items past)
   pub whole : (whole : Relations) (past : List (Deed (language (based old)))) → IsClean new.machines → IsSound old.machines
-    → IsRun (based old) whole (hold old.machines) old.entries.items past → OnOk answer (AppliesWhole (based old) whole (hold new.machines) new.entries.items past)
+      → IsRun (based old) whole (hold old.machines) old.entries.items past → OnOk answer (AppliesWhole (based old) whole (hold new.machines) new.entries.items past)
   pub unsent : answer ≡ Err fault.Unsent → is_unsent old.machines.desk.catalog.0 old.entries.items what ≡ true
   pub nowhere : is_unsent old.machines.desk.catalog.0 old.entries.items what ≡ true → (answer ≡ Err fault.Unsent) ⊎ (answer ≡ Err (fault.Desk refusals.Memory))
   pub refused : (whole : Relations) (past : List (Deed (language (based old)))) (asked : Call) → IsRun (based old) whole (hold old.machines) old.entries.items past → what ≡ event.Call asked
-    → IfErr answer (λ why. (why ≡ fault.Desk refusals.Memory) ⊎ IsToldOf (based old) (table_of old.machines.desk.present) asked why)
+      → IfErr answer (λ why. (why ≡ fault.Desk refusals.Memory) ⊎ IsToldOf (based old) (table_of old.machines.desk.present) asked why)
   pub err : IsClean new.machines → IsSound old.machines → OnErr answer (hold new.machines ≡ hold old.machines)
   pub same : OnErr answer (new.entries.items ≡ old.entries.items)
