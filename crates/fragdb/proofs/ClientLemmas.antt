@@ -7,6 +7,7 @@ use Rattle.meaning.specs.Whole.{FitsSchema, Relations}
 use Rattle.catalog.specs.Catalogue.{Catalogue}
 use Rattle.catalog.specs.FragmentLeaf.{catalogue_leaves, schemas_of}
 use Rattle.catalog.specs.Relation.{catalogue_of}
+use Rattle.store.specs.declared.name.Txn.{Txn}
 use Rattle.store.specs.declared.plain_desk.PlainDesk.{PlainDesk}
 use Rattle.store.specs.declared.plain_site.PlainSite.{PlainSite}
 use Rattle.store.specs.PlainDesk.{kept_of as desk_kept}
@@ -23,15 +24,16 @@ use Rattle.world.specs.Deeds.{DeedsFollow, deeds_in_vain, deeds_of}
 use Rattle.world.specs.Denying.{Declines, Denies}
 use Rattle.world.specs.Held.{OfStores, held}
 use Rattle.world.specs.Machines.{AreFit, Machines}
-use Rattle.world.specs.Obeying.{Stands}
+use Rattle.world.specs.Obeying.{Obeys, Stands, StandsOn}
 use Rattle.world.specs.Serving.{Executes, IsServed}
 use Rattle.world.specs.Settled.{AreThoseOf, parts_kept, rows_shown}
 use Rattle.world.specs.Stopping.{is_stop, stopped_by}
 use Rattle.world.specs.Telling.{Tells}
+use Rattle.world.proofs.StandingAgain.{stands_whenever}
 use Rattle.fragdb.specs.declared.reply.Reply.{Reply}
 use Rattle.fragdb.specs.PlayText.{refused_text}
 use Rattle.fragdb.specs.Reply.{Answered, Refused, Told, told_by}
-use Rattle.fragdb.specs.Client.{AnswersTask, GoesOn, IsAnswered, IsDenied, ShowsLeafAs, Standing, heard_text, standing_of}
+use Rattle.fragdb.specs.Client.{AnswersTask, GoesOn, IsAnswered, ShowsLeafAs, Standing, heard_text, standing_of}
 use Rattle.std.specs.Io.KnownBytes.{Appends}
 use Rattle.fragdb.specs.declared.fault.ProgramFault.{ProgramFault}
 use Rattle.fragdb.specs.declared.script.Item.{Item}
@@ -60,52 +62,67 @@ module _ (catalogue : Catalogue) (whole : Relations) (past : List (Deed (languag
   own_fit = subst (λ (c : Catalogue). AreFit (database c) before) (sym h.catalog) h.served.fit
 
   -- a database goes on from what has happened
-  goes_on : (later : List (Deed (language (database catalogue)))) → new.stopped ≡ None → new.machines.desk.catalog ≡ old.machines.desk.catalog → (Clean → Sound → OfStores {D = PlainDesk} {S = PlainSite} (λ _. Unit {0}) IsSound new.machines) → IsServed (database catalogue) whole after later → GoesOn catalogue whole later new
-  goes_on later going same sound served = record { going = going; catalog = ap catalogue_of same ∙ h.catalog; sound = sound (clean new.machines) h.sound; served = served }
+  goes_on : (later : List (Deed (language (database catalogue)))) → new.stopped ≡ None → new.machines.desk.catalog ≡ old.machines.desk.catalog → (Clean → Sound → OfStores {D = PlainDesk} {S = PlainSite} (λ _. Unit {0}) IsSound new.machines) → IsServed (database catalogue) whole after later → Stands (database catalogue) (fits catalogue) new.current after later → GoesOn catalogue whole later new
+  goes_on later going same sound served stands = record { going = going; catalog = ap catalogue_of same ∙ h.catalog; sound = sound (clean new.machines) h.sound; served = served; stands = stands }
 
   -- so does one of which something is shown
   pub shows_on : (new.current ≡ old.current) × (new.stopped ≡ old.stopped) → new.machines.desk.catalog ≡ old.machines.desk.catalog → (Clean → Sound → OfStores {D = PlainDesk} {S = PlainSite} (λ _. Unit {0}) IsSound new.machines) → (Clean → Sound → after ≡ before) → GoesOn catalogue whole past new
   shows_on still same sound keeps = goes_on past (still.1 ∙ h.going) same sound (subst (λ (machines : Machines). IsServed (database catalogue) whole machines past) (sym (keeps (clean new.machines) h.sound)) h.served)
+      (subst (λ (current : Option Txn). Stands (database catalogue) (fits catalogue) current after past) (sym still.0) (subst (λ (machines : Machines). Stands (database catalogue) (fits catalogue) old.current machines past) (sym (keeps (clean new.machines) h.sound)) h.stands))
 
   pub stands_still : (new.current ≡ old.current) × (new.stopped ≡ old.stopped) → (Clean → Sound → after ≡ before) → standing_of catalogue new past ≡ standing_of catalogue old past
   stands_still still keeps = rw (still.0, keeps (clean new.machines) h.sound) refl
 
-  -- a command that is executed is heard
-  pub is_heard : (text : List ℕ) (heard : List Notice) (told : List ℕ) → DeedsFollow (database own) → new.stopped ≡ None → new.machines.desk.catalog ≡ old.machines.desk.catalog → (Clean → Sound → OfStores {D = PlainDesk} {S = PlainSite} (λ _. Unit {0}) IsSound new.machines) →
+  -- whatever was done, it stands on, unless that has stopped it
+  abbrev StandsNext : Catalogue → Type 0
+  StandsNext c = (whole : Relations) (past : List (Deed (language (database c)))) → old.stopped ≡ None → Clean → Sound → IsServed (database c) whole before past → Stands (database c) (fits c) old.current before past → new.stopped ≡ None → StandsOn (database c) (fits c) whole new.current after past
+
+  stands_later : StandsNext own → new.stopped ≡ None → (later : List (Deed (language (database catalogue)))) → Stands (database catalogue) (fits catalogue) new.current after later
+  stands_later next going later =
+      let on = subst StandsNext h.catalog next whole past h.going (clean new.machines) h.sound h.served h.stands going in
+      stands_whenever (database catalogue) (fits catalogue) new.current after (past ++ on.deeds) later on.stands
+
+  -- a command that is executed does what it asks for, or something was refused on the way
+  abbrev ObeysNext : List ℕ → List Notice → Catalogue → Type 0
+  ObeysNext text heard c = (whole : Relations) (past : List (Deed (language (database c)))) → old.stopped ≡ None → Clean → Sound → IsServed (database c) whole before past → Stands (database c) (fits c) old.current before past →
+      Obeys (database c) (fits c) whole text old.current before new.current after past heard
+
+  -- and is heard
+  pub is_heard : (text : List ℕ) (heard : List Notice) (told : List ℕ) → DeedsFollow (database own) → StandsNext own → ObeysNext text heard own → new.stopped ≡ None → new.machines.desk.catalog ≡ old.machines.desk.catalog → (Clean → Sound → OfStores {D = PlainDesk} {S = PlainSite} (λ _. Unit {0}) IsSound new.machines) →
       (old.stopped ≡ None → Clean → Sound → AreFit (database own) before → Executes (database own) text old.current before new.current after heard) → told ≡ heard_text heard → IsAnswered catalogue whole (Runs text) past old new (Answered told)
-  is_heard text heard told follow going same sound executes lines =
+  is_heard text heard told follow next obeyed going same sound executes lines =
       let does : Executes (database catalogue) text old.current before new.current after heard = subst (λ (c : Catalogue). Executes (database c) text old.current before new.current after heard) h.catalog (executes h.going (clean new.machines) h.sound own_fit) in
       let law = subst (λ (c : Catalogue). DeedsFollow (database c)) h.catalog follow in
       let deeds = deeds_of (database catalogue) text old.current before new.current after heard does in
       record {
         later = past ++ deeds;
-        goes_on = goes_on (past ++ deeds) going same sound (law.executed whole text old.current new.current before after heard past h.served does);
-        answers = record { heard = heard; executes = does; happened = refl; lines = lines };
+        goes_on = goes_on (past ++ deeds) going same sound (law.executed whole text old.current new.current before after heard past h.served does) (stands_later next going (past ++ deeds));
+        answers = record { heard = heard; executes = does; whole = whole; obeys = subst (ObeysNext text heard) h.catalog obeyed whole past h.going (clean new.machines) h.sound h.served h.stands; happened = refl; lines = lines };
       }
 
   -- a command that is refused is so for its reason
   is_denied : (text : List ℕ) (refusal : Refusal) →
-      ((whole : Relations) (past : List (Deed (language (database own)))) → old.stopped ≡ None → Clean → Sound → IsServed (database own) whole before past → Stands (database own) (fits own) old.current before past → Denies (database own) text old.current before past refusal) →
-      IsDenied catalogue text (standing_of catalogue old past) refusal
+      ((whole : Relations) (past : List (Deed (language (database own)))) → old.stopped ≡ None → Clean → Sound → IsServed (database own) whole before past → Stands (database own) (fits own) old.current before past → Denies (database own) text old.current before refusal) →
+      Denies (database catalogue) text old.current before refusal
   is_denied text refusal denied =
-      let P : Catalogue → Type 0 = λ c. (whole : Relations) (past : List (Deed (language (database c)))) → IsServed (database c) whole before past → Stands (database c) (fits c) old.current before past → Denies (database c) text old.current before past refusal in
-      subst P h.catalog (λ other past served stands. denied other past h.going (clean new.machines) h.sound served stands)
+      let P : Catalogue → Type 0 = λ c. (whole : Relations) (past : List (Deed (language (database c)))) → IsServed (database c) whole before past → Stands (database c) (fits c) old.current before past → Denies (database c) text old.current before refusal in
+      subst P h.catalog (λ other past served stands. denied other past h.going (clean new.machines) h.sound served stands) whole past h.served h.stands
 
   -- a refusal that does not stop the database is told
-  pub is_turned_away : {E : Type 0} (text : List ℕ) (refusal : Refusal) (result : Result Reply E) → DeedsFollow (database own) → (is_stop refusal ≡ false → new.stopped ≡ None) → new.machines.desk.catalog ≡ old.machines.desk.catalog → (Clean → Sound → OfStores {D = PlainDesk} {S = PlainSite} (λ _. Unit {0}) IsSound new.machines) →
-      ((whole : Relations) (past : List (Deed (language (database own)))) → old.stopped ≡ None → Clean → Sound → IsServed (database own) whole before past → Stands (database own) (fits own) old.current before past → Denies (database own) text old.current before past refusal) →
+  pub is_turned_away : {E : Type 0} (text : List ℕ) (refusal : Refusal) (result : Result Reply E) → DeedsFollow (database own) → StandsNext own → (is_stop refusal ≡ false → new.stopped ≡ None) → new.machines.desk.catalog ≡ old.machines.desk.catalog → (Clean → Sound → OfStores {D = PlainDesk} {S = PlainSite} (λ _. Unit {0}) IsSound new.machines) →
+      ((whole : Relations) (past : List (Deed (language (database own)))) → old.stopped ≡ None → Clean → Sound → IsServed (database own) whole before past → Stands (database own) (fits own) old.current before past → Denies (database own) text old.current before refusal) →
       (old.stopped ≡ None → Clean → Sound → AreFit (database own) before → Declines (database own) text old.current before after refusal) →
       new.current ≡ old.current → OnOk result (is_stop refusal ≡ false) → IfOk result (λ reply. told_by reply ≡ Refused (refused_text refusal ++ 10 ∷ [])) → IfOk result (λ reply. IsAnswered catalogue whole (Runs text) past old new (told_by reply))
-  is_turned_away text refusal (Ok reply) follow going same sound denied declined still goes told =
+  is_turned_away text refusal (Ok reply) follow next going same sound denied declined still goes told =
       let declines : Declines (database catalogue) text old.current before after refusal = subst (λ (c : Catalogue). Declines (database c) text old.current before after refusal) h.catalog (declined h.going (clean new.machines) h.sound own_fit) in
       let law = subst (λ (c : Catalogue). DeedsFollow (database c)) h.catalog follow in
       let deeds = deeds_in_vain (database catalogue) text old.current before after refusal declines in
       subst (IsAnswered catalogue whole (Runs text) past old new) (sym told) (record {
         later = past ++ deeds;
-        goes_on = goes_on (past ++ deeds) (going goes) same sound (law.refused whole text old.current before after refusal past goes h.served declines);
+        goes_on = goes_on (past ++ deeds) (going goes) same sound (law.refused whole text old.current before after refusal past goes h.served declines) (stands_later next (going goes) (past ++ deeds));
         answers = record { refusal = refusal; why = is_denied text refusal denied; goes_on = goes; same = still; declines = declines; happened = refl; uncommitted = law.uncommitted text old.current before after refusal past declines; line = refl };
       })
-  is_turned_away text refusal (Err e) follow going same sound denied declined still goes told = tt
+  is_turned_away text refusal (Err e) follow next going same sound denied declined still goes told = tt
 
   -- what is shown of the whole database that the fragments are those of, and of a leaf
   pub rows_of_own : (name : List ℕ) (shown : Option (List (List Value))) → ((whole : Relations) → Clean → Sound → AreFit (database own) before → AreThoseOf (database own) before whole → FitsSchema (schemas_of own) whole → shown ≡ rows_shown (database own) whole name) →
@@ -155,11 +172,11 @@ tasks_told catalogue law (first ∷ others) old new entries so answered =
 
 -- a script over a database that was opened has run
 pub ran_from : (old new : Option (List ℕ)) (catalogue : Catalogue) (items : List Item) (opened ended : code.Solo PlainDesk PlainSite) (result : Result Bool ProgramFault) → IsServed (database catalogue) (no_rows catalogue) (held desk_kept kept_of opened.machines) [] →
-    catalogue_of opened.machines.desk.catalog ≡ catalogue → OfStores {D = PlainDesk} {S = PlainSite} (λ _. Unit {0}) IsSound opened.machines → (opened.current ≡ None) × (opened.stopped ≡ None) → AccountFollows (database catalogue) →
+    Stands (database catalogue) (fits catalogue) opened.current (held desk_kept kept_of opened.machines) [] → catalogue_of opened.machines.desk.catalog ≡ catalogue → OfStores {D = PlainDesk} {S = PlainSite} (λ _. Unit {0}) IsSound opened.machines → (opened.current ≡ None) × (opened.stopped ≡ None) → AccountFollows (database catalogue) →
     ((catalogue : Catalogue) (whole : Relations) (past : List (Deed (language (database catalogue)))) → GoesOn catalogue whole past opened → IfOk result (λ any_refused. (written : List ℕ) × Appends old new written × IsStretch catalogue whole (map task_of items) past opened ended written any_refused)) →
     IfOk result (λ any_refused. (written : List ℕ) × Appends old new written × IsRun catalogue (map task_of items) written any_refused)
-ran_from old new catalogue items opened ended (Ok any_refused) served over sound idle law works =
-    let h : GoesOn catalogue (no_rows catalogue) [] opened = record { going = idle.1; catalog = over; sound = sound; served = served } in
+ran_from old new catalogue items opened ended (Ok any_refused) served stands over sound idle law works =
+    let h : GoesOn catalogue (no_rows catalogue) [] opened = record { going = idle.1; catalog = over; sound = sound; served = served; stands = stands } in
     let work = works catalogue (no_rows catalogue) [] h in
     let stretch = work.2 in (
       work.0,
@@ -170,7 +187,8 @@ ran_from old new catalogue items opened ended (Ok any_refused) served over sound
         end = standing_of catalogue ended stretch.later;
         work = stretch.work;
         served = stretch.goes_on.served;
+        stands = stretch.goes_on.stands;
         serial = law.serial (no_rows catalogue) (held desk_kept kept_of ended.machines) _ stretch.later (tasks_told catalogue law stretch.work.answers (standing_of catalogue opened []) (standing_of catalogue ended stretch.later) [] (record { phased = refl; stated = tt; heard = refl }) stretch.work.answered) stretch.goes_on.served;
       },
     )
-ran_from old new catalogue items opened ended (Err fault) served over sound idle law works = tt
+ran_from old new catalogue items opened ended (Err fault) served stands over sound idle law works = tt

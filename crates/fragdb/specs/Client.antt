@@ -22,7 +22,7 @@ use Rattle.world.specs.Deeds.{deeds_in_vain, deeds_of}
 use Rattle.world.specs.Denying.{Declines, Denies}
 use Rattle.world.specs.Held.{OfStores, held}
 use Rattle.world.specs.Machines.{Machines}
-use Rattle.world.specs.Obeying.{Stands}
+use Rattle.world.specs.Obeying.{Obeys, Stands}
 use Rattle.world.specs.Serving.{Executes, IsServed}
 use Rattle.world.specs.Settled.{AreThoseOf, parts_kept, rows_shown}
 use Rattle.world.specs.Stopping.{is_stop}
@@ -42,34 +42,31 @@ pub record Standing (catalogue : Catalogue) : Type 0 where
 abbrev pub standing_of : (catalogue : Catalogue) → code.Solo PlainDesk PlainSite → List (Deed (language (database catalogue))) → Standing catalogue
 standing_of catalogue solo past = record { machines = held desk_kept kept_of solo.machines; current = solo.current; past = past }
 
--- nothing has stopped the database of this catalogue, whose machines stand after a run of the protocol, which began over these whole relations and to which this has happened
+-- nothing has stopped the database of this catalogue, whose machines stand after a run of the protocol, which began over these whole relations and to which this has happened; all is quiet, or the transaction that its client has begun is ready
 pub record GoesOn (catalogue : Catalogue) (whole : Relations) (past : List (Deed (language (database catalogue)))) (solo : code.Solo PlainDesk PlainSite) : Type 0 where
   pub going : solo.stopped ≡ None
   pub catalog : catalogue_of solo.machines.desk.catalog ≡ catalogue
   pub sound : OfStores (λ _. Unit {0}) IsSound solo.machines
   pub served : IsServed (database catalogue) whole (held desk_kept kept_of solo.machines) past
+  pub stands : Stands (database catalogue) (fits catalogue) solo.current (held desk_kept kept_of solo.machines) past
 
 -- what a client hears, a line for each notice
 abbrev pub heard_text : List Notice → List ℕ
 heard_text heard = flat_map (λ notice. reply_text notice.reply ++ 10 ∷ []) heard
 
--- a command is executed, all that its client hears is told, and its deeds have happened
+-- a command is executed, all that its client hears is told, and its deeds have happened. Unless something was refused on the way it has done what it asks for, as its client hears. whole: what the run began over
 pub record IsHeard (catalogue : Catalogue) (text : List ℕ) (before after : Standing catalogue) (told : List ℕ) : Type 0 where
   pub heard : List Notice
   pub executes : Executes (database catalogue) text before.current before.machines after.current after.machines heard
+  pub whole : Relations
+  pub obeys : Obeys (database catalogue) (fits catalogue) whole text before.current before.machines after.current after.machines before.past heard
   pub happened : after.past ≡ before.past ++ deeds_of (database catalogue) text before.current before.machines after.current after.machines heard executes
   pub lines : told ≡ heard_text heard
 
--- where the database stands, a command of this text is refused for its reason alone: the text is no command's, BEGIN comes inside a transaction, COMMIT or ROLLBACK outside one, or something is at a limit
-abbrev pub IsDenied : (catalogue : Catalogue) → List ℕ → Standing catalogue → Refusal → Type 0
-IsDenied catalogue text before told =
-    (whole : Relations) (past : List (Deed (language (database catalogue)))) → IsServed (database catalogue) whole before.machines past → Stands (database catalogue) (fits catalogue) before.current before.machines past →
-    Denies (database catalogue) text before.current before.machines past told
-
--- a command is refused, and that is told; the transaction that was open stays so. Nothing happens by it, except to a lone statement whose transaction had begun, and nothing is committed
+-- a command is refused for its reason alone, and that is told: the text is no command's, BEGIN comes inside a transaction, COMMIT or ROLLBACK outside one, or something is at a limit. The transaction that was open stays so. Nothing happens by it, except to a lone statement whose transaction had begun, and nothing is committed
 pub record IsTurnedAway (catalogue : Catalogue) (text : List ℕ) (before after : Standing catalogue) (told : List ℕ) : Type 0 where
   pub refusal : Refusal
-  pub why : IsDenied catalogue text before refusal
+  pub why : Denies (database catalogue) text before.current before.machines refusal
   pub goes_on : is_stop refusal ≡ false
   pub same : after.current ≡ before.current
   pub declines : Declines (database catalogue) text before.current before.machines after.machines refusal

@@ -10,9 +10,10 @@ use Rattle.catalog.specs.FragmentLeaf.{schemas_of}
 use Rattle.protocol.specs.Desk.{Deed}
 use Rattle.desk.specs.Database.{language}
 use Rattle.world.specs.Account.{said_in_vain, said_of}
-use Rattle.world.specs.Base.{database}
+use Rattle.world.specs.Base.{database, fits}
 use Rattle.world.specs.declared.event.Entry.{Entry}
 use Rattle.world.specs.declared.solo.Solo as code
+use Rattle.world.specs.Obeying.{Stands}
 use Rattle.world.specs.Runs.{IsSerialRun}
 use Rattle.world.specs.Serving.{IsServed}
 use Rattle.fragdb.specs.declared.catalog_file.CatalogFault.{CatalogFault}
@@ -79,7 +80,7 @@ pub record IsOpened (catalogue : Catalogue) (standing : Standing catalogue) : Ty
   pub none : standing.past ≡ []
   pub idle : standing.current ≡ None
 
--- A run of tasks from the opening to its end, and the serial law holds of just what was asked for and heard by them: the committed
+-- A run of tasks from the opening to its end, where all is quiet or the open transaction is ready, and the serial law holds of just what was asked for and heard by them: the committed
 -- transactions, one after another over whole relations, give the answers that were heard, and what the settled fragments rebuild.
 pub record IsRun (catalogue : Catalogue) (tasks : List Reading) (written : List ℕ) (any_refused : Bool) : Type 0 where
   pub opening : Standing catalogue
@@ -87,6 +88,7 @@ pub record IsRun (catalogue : Catalogue) (tasks : List Reading) (written : List 
   pub end : Standing catalogue
   pub work : IsWork catalogue tasks written any_refused opening end
   pub served : IsServed (database catalogue) (no_rows catalogue) end.machines end.past
+  pub stands : Stands (database catalogue) (fits catalogue) end.current end.machines end.past
   pub serial : IsSerialRun (database catalogue) (no_rows catalogue) end.machines (said_by_tasks catalogue work.answers opening end work.answered)
 
 -- a run of tasks over a database that goes on

@@ -1,5 +1,5 @@
 -- Steps of one client's machines, one after another.
-use Rattle.std.proofs.Common.{◌≡◌, ◌≤◌, arith, refl, sym, ap, ◌∙◌, subst, ℕ, suc, true, List, [], ◌∷◌, ◌++◌, map, length, append_assoc, Some, inr}
+use Rattle.std.proofs.Common.{◌≡◌, ◌≤◌, arith, refl, sym, ap, ◌∙◌, subst, false, ℕ, suc, true, List, [], ◌∷◌, ◌++◌, map, length, append_assoc, Some, inr}
 use Rattle.std.proofs.lemmas.List.{append-nil, length-map, map-append}
 use Rattle.std.proofs.lemmas.List.Elements.{filter_map-append}
 use Rattle.std.specs.List.{filter_map}
@@ -23,11 +23,11 @@ use Rattle.site.specs.declared.fault.SiteFault.TheVariants as site_faults
 use Rattle.world.specs.declared.fault.Fault.{Fault}
 use Rattle.world.specs.declared.fault.Fault.TheVariants as faults
 use Rattle.world.specs.Delivering.{Ask, Breaks, Coming, Fails, Goes, Passed_over, Scene, Serves, Taken, Turned_away, all_come, asked, at_rest, come, done_with, settled}
-use Rattle.world.specs.Machines.{AreFit, Leads, Machines, world_of}
+use Rattle.world.specs.Machines.{AreFit, Leads, Machines, is_of_site, world_of}
 use Rattle.world.specs.Taking.{IsDone, IsInRound, put_out_by, stop_of, world_at}
-use Rattle.world.specs.Reasons.{AllFounded, FirstIsFounded, HasReason, IsAstray, IsAtLimit}
+use Rattle.world.specs.Reasons.{AllFounded, FirstIsFounded, HasReason, TurnsAway}
 use Rattle.world.specs.Stopping.{is_stop}
-use Rattle.world.proofs.Reasoned.{limit_ranks}
+use Rattle.world.proofs.Reasoned.{turned_ranks}
 use Rattle.world.proofs.Running.{all_both}
 
 pub all_come_append : {L : Lang} (one other : List (Coming L)) (w : World L) → all_come (one ++ other) w ≡ all_come other (all_come one w)
@@ -157,7 +157,7 @@ module _ (db : Database) (letter : letters.Letter) (here : Scene) (after : Machi
           InRound (done_with (sent db letter) coming (world_of db here.machines (map (sent db) rest) [])).desk.txn n i (done_with (sent db letter) coming (world_of db here.machines (map (sent db) rest) [])).letters
       after_letter (Taken kept choice) reason all = (round_law {L = language db}).goes_on (world_of db here.machines (sent db letter ∷ map (sent db) rest) []) n i kept choice all
       after_letter (Turned_away choice) reason all =
-          let two = limit_ranks db here.machines letter fit reason in
+          let two = turned_ranks db here.machines letter fit reason in
           let few = all.0 in
           (round_law {L = language db}).given_up (world_of db here.machines (map (sent db) rest) []) n i (sent db letter).txn choice (one_left _ n two few) all.1
       after_letter Passed_over reason all = all.1
@@ -205,10 +205,10 @@ pub goes_settled : (db : Database) (step : World (language db) → World (langua
 goes_settled db step first here goes none = subst (λ (waiting : List letters.Letter). Goes db step first (record { machines = here.machines; waiting = waiting; heard = here.heard })) none goes
 
 -- ---- what becomes of a letter that isn't taken
-pub passed_over : (db : Database) (letter : letters.Letter) (before after : Machines) (out : List letters.Letter) (notices : List Notice) → AreFit db before → IsAstray db before letter → after ≡ before → out ≡ [] → notices ≡ [] → IsDone db letter before after out notices
-passed_over db letter before after out notices fit is_astray same none silent = record {
+pub passed_over : (db : Database) (letter : letters.Letter) (before after : Machines) (out : List letters.Letter) (notices : List Notice) → AreFit db before → is_of_site db letter ≡ false → after ≡ before → out ≡ [] → notices ≡ [] → IsDone db letter before after out notices
+passed_over db letter before after out notices fit unsent same none silent = record {
   coming = Passed_over;
-  reason = is_astray;
+  reason = unsent;
   leads = record {
     deeds = [];
     fit = subst (AreFit db) (sym same) fit;
@@ -218,11 +218,11 @@ passed_over db letter before after out notices fit is_astray same none silent = 
   };
 }
 
-pub turned_away : (db : Database) (letter : letters.Letter) (before mid after : Machines) (out : List letters.Letter) (notices : List Notice) (choice : Choice (language db)) → mid ≡ before → IsAtLimit db before letter →
+pub turned_away : (db : Database) (letter : letters.Letter) (before mid after : Machines) (out : List letters.Letter) (notices : List Notice) (choice : Choice (language db)) → mid ≡ before → TurnsAway db before letter →
     Leads db (λ w. called w (txn_name letter.txn) choice Give_up) mid after out notices → IsDone db letter before after out notices
-turned_away db letter before mid after out notices choice same limit leads = record {
+turned_away db letter before mid after out notices choice same why leads = record {
   coming = Turned_away choice;
-  reason = limit;
+  reason = why;
   leads = subst (λ (m : Machines). Leads db (λ w. called w (txn_name letter.txn) choice Give_up) m after out notices) same leads;
 }
 

@@ -26,13 +26,17 @@ use Rattle.desk.specs.Does.{IsUnread}
 use Rattle.world.specs.declared.event.Call as calls
 use Rattle.world.specs.declared.event.Call.TheVariants as call
 use Rattle.world.specs.Delivering.{IsStill}
-use Rattle.world.specs.Denying.{CommitIsDenied, IsDenied, IsTakenBack, IsUndone, IsUnreadable, Declines, Denies, DeniesForAReason, LoneIsDenied, RunIsDenied, commit_stops, is_left, is_not_decided, declines_all, declines_begin, declines_commit, declines_inside, declines_lone, declines_outside, declines_rollback, declines_statement, declines_text, finds_no_place, has_begun_but, has_not_begun, is_inside, is_no_command, is_not_committed, is_not_stated, is_outside, is_too_much, run_stops, stops, was_cut_off}
+use Rattle.world.specs.Denying.{CommitIsDenied, IsDenied, IsTakenBack, IsUndone, IsUnreadable, Declines, Denies, DeniesForAReason, LoneIsDenied, RunIsDenied, commit_stops, is_left, is_not_decided, declines_all, declines_begin, declines_commit, declines_inside, declines_lone, declines_outside, declines_rollback, declines_statement, declines_text, finds_no_number, has_begun_but, has_not_begun, is_inside, is_no_command, is_not_committed, is_not_stated, is_outside, is_too_much, run_stops, stops}
 use Rattle.world.specs.Machines.{AreFit, Machines, world_of}
-use Rattle.world.specs.Obeying.{ObeysUnlessRefused, Stands, WasAnswered}
+use Rattle.world.specs.Obeying.{ObeysUnlessRefused, Stands}
 use Rattle.world.specs.Refused.{IsRefused}
 use Rattle.world.specs.Serving.{DoesBegin, IsServed, is_end, tells}
+use Rattle.world.specs.Settling.{GrowsQuiet}
 use Rattle.world.specs.Smoothly.{rests}
 use Rattle.world.specs.Stopping.{is_stop}
+use Rattle.world.proofs.Obeying.{tells_more}
+use Rattle.world.proofs.RoomToBegin.{numbers_run_out}
+use Rattle.protocol.proofs.Basics.{clash}
 
 -- ---- what stops
 pub is_memory : (told : refusals.Refusal) → told ≡ told_as.Memory → is_stop told ≡ true
@@ -83,7 +87,14 @@ no_refusal : {A B : Type 0} (f : A → B) (found : Option A) (told : B) → foun
 no_refusal f None told none is = cc
 no_refusal f (Some x) told none is = cc
 
-module _ (db : Database) (fits : Leaf → Content → Bool) (same_schemas : db.schemas ≡ schemas_of db.catalogue) (one : OneCommandOfText) (law : ObeysUnlessRefused db fits) (whole : Relations) (text : List ℕ) where
+module _ (db : Database) (fits : Leaf → Content → Bool) (txn : Txn) (machines : Machines) (past : List (Deed (language db))) (told : refusals.Refusal) (ready : Ready (language db) fits (txn_name txn) (rests db machines past)) where
+  pub no_commit : IsRefused db machines.table (call.Commit txn) told → ⊥
+  no_commit refused = no_refusal refused_as (refusal Commit_call (txn_in db machines.table txn)) told (at_rest db fits txn machines past Commit_call refl ready) refused
+
+  pub no_rollback : IsRefused db machines.table (call.Rollback txn) told → ⊥
+  no_rollback refused = no_refusal refused_as (refusal Rollback (txn_in db machines.table txn)) told (at_rest db fits txn machines past Rollback refl ready) refused
+
+module _ (db : Database) (fits : Leaf → Content → Bool) (same_schemas : db.schemas ≡ schemas_of db.catalogue) (one : OneCommandOfText) (law : ObeysUnlessRefused db fits) (quiet : GrowsQuiet db fits) (whole : Relations) (text : List ℕ) where
   -- a statement's text is no other command's
   is_read : (statement : Statement) → IsTextOf db.schemas text (Run statement) → (told : refusals.Refusal) → IsUnread (schemas_of db.catalogue) text told → ⊥
   is_read statement spelled told unread = ⊎_elim
@@ -114,29 +125,23 @@ module _ (db : Database) (fits : Leaf → Content → Bool) (same_schemas : db.s
       (λ rest. ⊎_elim (λ unread. absurd (is_read statement spelled told unread)) (λ full. full) rest.1)
       (refused statement)
 
-  no_commit : (txn : Txn) (machines : Machines) (past : List (Deed (language db))) (told : refusals.Refusal) → Ready (language db) fits (txn_name txn) (rests db machines past) → IsRefused db machines.table (call.Commit txn) told → ⊥
-  no_commit txn machines past told ready refused = no_refusal refused_as (refusal Commit_call (txn_in db machines.table txn)) told (at_rest db fits txn machines past Commit_call refl ready) refused
-
-  no_rollback : (txn : Txn) (machines : Machines) (past : List (Deed (language db))) (told : refusals.Refusal) → Ready (language db) fits (txn_name txn) (rests db machines past) → IsRefused db machines.table (call.Rollback txn) told → ⊥
-  no_rollback txn machines past told ready refused = no_refusal refused_as (refusal Rollback (txn_in db machines.table txn)) told (at_rest db fits txn machines past Rollback refl ready) refused
-
   -- a lone statement
   module _ (before after : Machines) (past : List (Deed (language db))) (told : refusals.Refusal) (statement : Statement) (spelled : IsTextOf db.schemas text (Run statement)) (current : Option Txn) (none : current ≡ None) where
     after_begin : (txn : Txn) (began : Machines) (greeted : List Notice) (deeds : List (Deed (language db))) → DoesBegin db before txn began greeted → IsServed db whole began (past ++ deeds) → Ready (language db) fits (txn_name txn) (rests db began (past ++ deeds)) →
-        RunIsDenied db text txn greeted began after told → Denies db text current before past told
+        RunIsDenied db text txn greeted began after told → Denies db text current before told
     after_begin txn began greeted deeds begins served ready (run_stops is) = stops is
     after_begin txn began greeted deeds begins served ready (is_not_stated undone) = is_too_much statement spelled (is_full statement spelled txn began (past ++ deeds) told ready undone.refused)
     after_begin txn began greeted deeds begins served ready (is_not_committed worked answered states (commit_stops is)) = stops is
     after_begin txn began greeted deeds begins served ready (is_not_committed worked answered states (is_not_decided goes undone)) = ⊎_elim
-        (λ (done : WasAnswered db fits whole (Some txn) txn worked (past ++ deeds) answered). absurd (no_commit txn worked ((past ++ deeds) ++ done.on.deeds) told done.on.stands undone.refused))
-        (λ cut. was_cut_off txn began worked greeted answered deeds none begins states cut undone.refused)
-        (law.states whole began worked (past ++ deeds) text txn answered served ready states)
+        (λ stands_ready. absurd (no_commit db fits txn worked ((past ++ deeds) ++ states.asks.serves.deeds) told stands_ready.0 undone.refused))
+        (λ ended. clash (tells_more greeted answered ended.1) goes)
+        (quiet.states whole began worked (past ++ deeds) (txn_name txn) states.statement states.asks.choice answered served ready states.fits states.asks.within states.asks.serves)
 
-    lone : IsServed db whole before past → Stands db fits None before past → LoneIsDenied db text before after told → Denies db text current before past told
-    lone served quiet (has_not_begun (inl is)) = stops is
-    lone served quiet (has_not_begun (inr refused)) = finds_no_place none (inr (statement, spelled)) refused.0.0 refused.0.1
-    lone served quiet (has_begun_but txn began greeted begins denied) =
-        let on = (law.begins whole before began past txn greeted served quiet begins).0 in
+    lone : IsServed db whole before past → Stands db fits None before past → LoneIsDenied db text before after told → Denies db text current before told
+    lone served calm (has_not_begun (inl is)) = stops is
+    lone served calm (has_not_begun (inr refused)) = finds_no_number none (inr (statement, spelled)) refused.0.0 (numbers_run_out db before past served.fit calm refused.0.1)
+    lone served calm (has_begun_but txn began greeted begins denied) =
+        let on = (law.begins whole before began past txn greeted served calm begins).0 in
         after_begin txn began greeted on.deeds begins on.served on.stands denied
 
   -- a command
@@ -144,19 +149,19 @@ module _ (db : Database) (fits : Leaf → Content → Bool) (same_schemas : db.s
     stands_as : (other : Option Txn) → current ≡ other → Stands db fits other before past
     stands_as other is = subst (λ (c : Option Txn). Stands db fits c before past) is stands
 
-    pub denies_of : Declines db text current before after told → Denies db text current before past told
+    pub denies_of : Declines db text current before after told → Denies db text current before told
     denies_of (declines_all is) = stops is
     denies_of (declines_text none still) = is_no_command none
     denies_of (declines_inside txn some spelled is still) = is_inside txn some spelled is
     denies_of (declines_outside none spelled is still) = is_outside none spelled is
-    denies_of (declines_begin none spelled refused still) = finds_no_place none (inl spelled) refused.0 refused.1
-    denies_of (declines_commit txn some spelled refused still) = absurd (no_commit txn before past told (stands_as (Some txn) some) refused)
-    denies_of (declines_rollback txn some spelled refused still) = absurd (no_rollback txn before past told (stands_as (Some txn) some) refused)
+    denies_of (declines_begin none spelled refused still) = finds_no_number none (inl spelled) refused.0 (numbers_run_out db before past served.fit (stands_as None none) refused.1)
+    denies_of (declines_commit txn some spelled refused still) = absurd (no_commit db fits txn before past told (stands_as (Some txn) some) refused)
+    denies_of (declines_rollback txn some spelled refused still) = absurd (no_rollback db fits txn before past told (stands_as (Some txn) some) refused)
     denies_of (declines_statement txn statement some spelled refused still) = is_too_much statement spelled (is_full statement spelled txn before past told (stands_as (Some txn) some) refused)
     denies_of (declines_lone statement none spelled denied) = lone before after past told statement spelled current none served (stands_as None none) denied
 
-pub denies : (db : Database) (fits : Leaf → Content → Bool) → db.schemas ≡ schemas_of db.catalogue → OneCommandOfText → ObeysUnlessRefused db fits → DeniesForAReason db fits
-denies db fits same_schemas one law whole text current before after past told served stands declines = denies_of db fits same_schemas one law whole text current before after past told served stands declines
+pub denies : (db : Database) (fits : Leaf → Content → Bool) → db.schemas ≡ schemas_of db.catalogue → OneCommandOfText → ObeysUnlessRefused db fits → GrowsQuiet db fits → DeniesForAReason db fits
+denies db fits same_schemas one law quiet whole text current before after past told served stands declines = denies_of db fits same_schemas one law quiet whole text current before after past told served stands declines
 
 -- ---- a command, by what is refused of its call
 module _ (db : Database) (text : List ℕ) (current : Option Txn) (before after : Machines) (told : refusals.Refusal) where

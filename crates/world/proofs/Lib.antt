@@ -31,11 +31,13 @@ pub mod Beginning
 pub mod Smoothly
 pub mod BaseHoused
 pub mod Obeying
+pub mod RoomToBegin
 pub mod Denying
 pub mod Deeds
 pub mod Account
-pub mod EndsKept
+pub mod CallsKept
 pub mod NoWrites
+pub mod Sited
 pub mod EndsTold
 pub mod Quieting
 pub mod StatementEnds

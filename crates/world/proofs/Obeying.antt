@@ -28,6 +28,15 @@ pub tells_by : (is : replies.Reply → Bool) (heard : List Notice) → tells is 
 tells_by is [] = refl
 tells_by is (notice ∷ heard) = ap (λ b. is notice.reply || b) (tells_by is heard)
 
+-- an end that is told is told among more
+pub tells_more : (greeted answered : List Notice) → tells is_end answered ≡ true → tells is_end (greeted ++ answered) ≡ true
+tells_more [] answered is = is
+tells_more (notice ∷ greeted) answered is = go (is_end notice.reply) (tells_more greeted answered is)
+  where
+    go : (b : Bool) → tells is_end (greeted ++ answered) ≡ true → (b || tells is_end (greeted ++ answered)) ≡ true
+    go true e = refl
+    go false e = e
+
 those_of : (is : replies.Reply → Bool) (heard : List Notice) → map notice_of (filter (λ notice. is notice.reply) heard) ≡ filter (λ (x : Name × replies.Reply). is x.1) (map notice_of heard)
 those_of is [] = refl
 those_of is (notice ∷ heard) = go (is notice.reply) (those_of is heard)

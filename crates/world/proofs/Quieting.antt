@@ -1,5 +1,5 @@
 -- After a commit or a rollback of one client all is quiet again, whatever becomes of its letters.
-use Rattle.std.proofs.Common.{◌≡◌, refl, sym, ap, ◌∙◌, subst, Bool, true, false, List, [], ◌∷◌, ◌++◌, ◌⊎◌, inl, inr, ⊎_elim, append-nil, ℕ, Option, is_none}
+use Rattle.std.proofs.Common.{◌≡◌, refl, sym, ap, ◌∙◌, subst, Bool, true, false, List, [], ◌∷◌, ◌++◌, inr, append-nil, ℕ, Option, is_none}
 use Rattle.terms.specs.declared.leaf.Leaf.{Leaf}
 use Rattle.store.specs.Content.{Content}
 use Rattle.store.specs.declared.letter.Body as bodies
@@ -37,8 +37,9 @@ use Rattle.world.specs.Serving.{IsServed}
 use Rattle.world.specs.Smoothly.{rests}
 use Rattle.world.proofs.Smoothly.{fit_within}
 use Rattle.world.specs.Machines.{Machines, is_order, world_of}
-use Rattle.world.specs.Reasons.{AllFounded, FirstIsFounded, IsAtLimit, IsFounded, desk_is_full, site_is_full}
-use Rattle.world.specs.Settling.{FirstIsDropped, SomeDropped}
+use Rattle.world.specs.Reasons.{AllFounded, AsksElsewhere, FirstIsFounded, IsAtLimit, IsFounded, TurnsAway, desk_is_full, has_no_leaf, is_at_limit, site_is_full}
+use Rattle.world.proofs.CallsKept.{end_kept}
+use Rattle.world.proofs.Sited.{Sited, called_sited, come_sited, first_is_sited, not_passed, steady_sited}
 
 module _ {L : Lang} where
   -- ---- a transaction that has ended can't be given up
@@ -119,6 +120,15 @@ module _ (db : Database) where
   asks_little (body.Order (order.Abort ticket)) alive number is much = is
   asks_little (body.Reply reply) alive number is much = much
 
+  asks_here : (said : bodies.Body) (leaves : List Leaf) → IsBallot (body_with (statements db) (body_of said)) → AsksElsewhere leaves said → ⊥
+  asks_here (body.Order order.Open) leaves is elsewhere = is
+  asks_here (body.Order (order.Fetch fetch)) leaves is elsewhere = is
+  asks_here (body.Order (order.Intend intention)) leaves is elsewhere = is
+  asks_here (body.Order (order.Prepare prepare)) leaves is elsewhere = elsewhere
+  asks_here (body.Order (order.Commit ticket)) leaves is elsewhere = is
+  asks_here (body.Order (order.Abort ticket)) leaves is elsewhere = is
+  asks_here (body.Reply reply) leaves is elsewhere = elsewhere
+
   is_for_site : (said : bodies.Body) → is_order said ≡ false → is_for_desk (body_with (statements db) (body_of said)) ≡ true
   is_for_site (body.Order order) none = cc
   is_for_site (body.Reply (reply_kinds.Ticket ticket)) none = refl
@@ -130,8 +140,11 @@ module _ (db : Database) where
 
   ballot_taken : (w : World L) (l : Letter L) (choice : Choice L) (founded : IsFounded db w (Turned_away choice) l) → IsBallot l.body →
       (is_for_desk l.body ≡ true → (other : Choice L) → passes w true other l ≡ true) → ⊥
-  ballot_taken w l choice founded is goes = go founded.reason
+  ballot_taken w l choice founded is goes = by_reason founded.reason
     where
+      own : IsBallot (sent db founded.letter).body
+      own = subst (λ (x : Letter L). IsBallot x.body) founded.is is
+
       there : (other : Choice L) → passes (record { desk = w.desk; sites = w.sites; letters = []; past = [] }) true other l ≡ passes (world_of db founded.machines [] []) true other (sent db founded.letter)
       there other i = passes (record { desk = founded.desk i; sites = founded.sites i; letters = []; past = [] }) true other (founded.is i)
 
@@ -140,10 +153,14 @@ module _ (db : Database) where
       same_passes false other = refl
 
       go : IsAtLimit db founded.machines founded.letter → ⊥
-      go (site_is_full seat found much) = asks_little founded.letter.body seat.table.alive seat.table.number (subst (λ (x : Letter L). IsBallot x.body) founded.is is) much
+      go (site_is_full seat found much) = asks_little founded.letter.body seat.table.alive seat.table.number own much
       go (desk_is_full other for_desk past) =
           let to_desk : is_for_desk l.body ≡ true = ap (λ (x : Letter L). is_for_desk x.body) founded.is ∙ is_for_site founded.letter.body for_desk in
           clash (sym (there other) ∙ sym (same_passes (is_for_desk l.body) other) ∙ goes to_desk other) past
+
+      by_reason : TurnsAway db founded.machines founded.letter → ⊥
+      by_reason (is_at_limit limit) = go limit
+      by_reason (has_no_leaf seat found elsewhere) = asks_here founded.letter.body seat.leaves own elsewhere
 
   -- no Commit and no Abort is
   little_end : (said : bodies.Body) (alive number : ℕ) → AsksTooMuch alive number said → NoEnd (body_with (statements db) (body_of said))
@@ -155,12 +172,25 @@ module _ (db : Database) where
   little_end (body.Order (order.Abort ticket)) alive number much = much
   little_end (body.Reply reply) alive number much = absurd much
 
+  elsewhere_end : (said : bodies.Body) (leaves : List Leaf) → AsksElsewhere leaves said → NoEnd (body_with (statements db) (body_of said))
+  elsewhere_end (body.Order order.Open) leaves elsewhere = tt
+  elsewhere_end (body.Order (order.Fetch fetch)) leaves elsewhere = tt
+  elsewhere_end (body.Order (order.Intend intention)) leaves elsewhere = tt
+  elsewhere_end (body.Order (order.Prepare prepare)) leaves elsewhere = tt
+  elsewhere_end (body.Order (order.Commit ticket)) leaves elsewhere = elsewhere
+  elsewhere_end (body.Order (order.Abort ticket)) leaves elsewhere = elsewhere
+  elsewhere_end (body.Reply reply) leaves elsewhere = absurd elsewhere
+
   pub turned_no_end : (w : World L) (l : Letter L) (choice : Choice L) → IsFounded db w (Turned_away choice) l → NoEnd l.body
-  turned_no_end w l choice founded = go founded.reason
+  turned_no_end w l choice founded = by_reason founded.reason
     where
       go : IsAtLimit db founded.machines founded.letter → NoEnd l.body
       go (site_is_full seat found much) = subst (λ (x : Letter L). NoEnd x.body) (sym founded.is) (little_end founded.letter.body seat.table.alive seat.table.number much)
       go (desk_is_full other for_desk past) = desk_no_end l.body (ap (λ (x : Letter L). is_for_desk x.body) founded.is ∙ is_for_site founded.letter.body for_desk)
+
+      by_reason : TurnsAway db founded.machines founded.letter → NoEnd l.body
+      by_reason (is_at_limit limit) = go limit
+      by_reason (has_no_leaf seat found elsewhere) = subst (λ (x : Letter L). NoEnd x.body) (sym founded.is) (elsewhere_end founded.letter.body seat.leaves elsewhere)
 
   module _ (law : IsLawful L) (once : Once L.sites) where
     -- ---- the letters of what has ended
@@ -175,26 +205,26 @@ module _ (db : Database) where
     lost_within w q within = record { desk = within.desk; sites = within.sites }
 
     pub kept_end_of : (w : World L) (kept : Bool) (choice : Choice L) (l : Letter L) → IsFounded db w (Taken kept choice) l → EndKept kept l.body
-    kept_end_of w kept choice l founded = subst (λ (x : Letter L). EndKept kept x.body) (sym founded.is) founded.reason.1
+    kept_end_of w kept choice l founded = subst (λ (x : Letter L). EndKept kept x.body) (sym founded.is) (end_kept kept (sent db founded.letter).body founded.reason.1)
 
     module _ (deeds : List (Deed L)) where
-      pub one_ended : (w : World L) (c : Coming L) (letters : List (Letter L)) → w.letters ≡ letters → Within w → FirstIsFounded db w c letters → Ending deeds w → (Within (first_comes w c letters) × Ending deeds (first_comes w c letters)) ⊎ FirstIsDropped db c letters
-      one_ended w c [] e within founded here = inl (within, here)
-      one_ended w (Taken kept choice) (l ∷ q) e within founded here = inl (
+      one_ended : (w : World L) (c : Coming L) (letters : List (Letter L)) → w.letters ≡ letters → Within w → Sited w → FirstIsFounded db w c letters → Ending deeds w → Within (first_comes w c letters) × Ending deeds (first_comes w c letters)
+      one_ended w c [] e within sited founded here = (within, here)
+      one_ended w (Taken kept choice) (l ∷ q) e within sited founded here = (
         subst (λ (letters : List (Letter L)). Within (first w kept choice letters)) e (next_within law w kept choice within),
         subst (λ (letters : List (Letter L)). Ending deeds (first w kept choice letters)) e (ending_goes_on law deeds w l q e here law.touches_none within kept choice (kept_end_of w kept choice l founded)),
       )
-      one_ended w (Turned_away choice) (l ∷ q) e within founded here = inl (
+      one_ended w (Turned_away choice) (l ∷ q) e within sited founded here = (
         called_within (record w { letters = q }) l.txn choice Give_up (lost_within w q within),
         ended_gives_up l.txn (record w { letters = q }) choice deeds (ending_lost deeds w l q e (turned_no_end w l choice founded) here),
       )
-      one_ended w Passed_over (l ∷ q) e within founded here = inr tt
+      one_ended w Passed_over (l ∷ q) e within sited founded here = absurd (not_passed db law w l (first_is_sited w l q e sited) founded)
 
-      pub all_ended : (cs : List (Coming L)) (w : World L) → Within w → AllFounded db cs w → Ending deeds w → Ending deeds (all_come cs w) ⊎ SomeDropped db cs w
-      all_ended [] w within founded here = inl here
-      all_ended (c ∷ cs) w within founded here = ⊎_elim
-          (λ one. ⊎_elim (λ rest. inl rest) (λ dropped. inr (inr dropped)) (all_ended cs (come w c) one.0 founded.1 one.1))
-          (λ dropped. inr (inl dropped)) (one_ended w c w.letters refl within founded.0 here)
+      all_ended : (cs : List (Coming L)) (w : World L) → Within w → Sited w → AllFounded db cs w → Ending deeds w → Ending deeds (all_come cs w)
+      all_ended [] w within sited founded here = here
+      all_ended (c ∷ cs) w within sited founded here =
+          let one = one_ended w c w.letters refl within sited founded.0 here in
+          all_ended cs (come w c) one.0 (come_sited law w c w.letters refl sited) founded.1 one.1
 
     -- ---- the letters of a commit
     commit_kept : (kept : Bool) (c : Body L) → EndKept kept c → CommitKept (Unit {0}) kept c
@@ -237,35 +267,37 @@ module _ (db : Database) where
       given_up w l q e within choice founded (is_done ending) = is_done (ended_gives_up l.txn (record w { letters = q }) choice (before ++ Phased txn ∷ Committed txn ∷ []) (ending_lost (before ++ Phased txn ∷ Committed txn ∷ []) w l q e (turned_no_end w l choice founded) ending))
       given_up w l q e within choice founded (is_undone excuse why ending) = is_undone excuse why (ended_gives_up l.txn (record w { letters = q }) choice (before ++ Phased txn ∷ Aborted txn why ∷ []) (ending_lost (before ++ Phased txn ∷ Aborted txn why ∷ []) w l q e (turned_no_end w l choice founded) ending))
 
-      one_voted : (w : World L) (c : Coming L) (letters : List (Letter L)) → w.letters ≡ letters → Within w → FirstIsFounded db w c letters → Commits w → (Within (first_comes w c letters) × Commits (first_comes w c letters)) ⊎ FirstIsDropped db c letters
-      one_voted w c [] e within founded here = inl (within, here)
-      one_voted w (Taken kept choice) (l ∷ q) e within founded here = inl (
+      one_voted : (w : World L) (c : Coming L) (letters : List (Letter L)) → w.letters ≡ letters → Within w → Sited w → FirstIsFounded db w c letters → Commits w → Within (first_comes w c letters) × Commits (first_comes w c letters)
+      one_voted w c [] e within sited founded here = (within, here)
+      one_voted w (Taken kept choice) (l ∷ q) e within sited founded here = (
         subst (λ (letters : List (Letter L)). Within (first w kept choice letters)) e (next_within law w kept choice within),
         subst (λ (letters : List (Letter L)). Commits (first w kept choice letters)) e (commit_goes_on law once (Unit {0}) txn before w l q e within kept choice (commit_kept kept l.body (kept_end_of w kept choice l founded)) here),
       )
-      one_voted w (Turned_away choice) (l ∷ q) e within founded here = inl (called_within (record w { letters = q }) l.txn choice Give_up (lost_within w q within), given_up w l q e within choice founded here)
-      one_voted w Passed_over (l ∷ q) e within founded here = inr tt
+      one_voted w (Turned_away choice) (l ∷ q) e within sited founded here = (called_within (record w { letters = q }) l.txn choice Give_up (lost_within w q within), given_up w l q e within choice founded here)
+      one_voted w Passed_over (l ∷ q) e within sited founded here = absurd (not_passed db law w l (first_is_sited w l q e sited) founded)
 
-      pub all_voted : (cs : List (Coming L)) (w : World L) → Within w → AllFounded db cs w → Commits w → Commits (all_come cs w) ⊎ SomeDropped db cs w
-      all_voted [] w within founded here = inl here
-      all_voted (c ∷ cs) w within founded here = ⊎_elim
-          (λ one. ⊎_elim (λ rest. inl rest) (λ dropped. inr (inr dropped)) (all_voted cs (come w c) one.0 founded.1 one.1))
-          (λ dropped. inr (inl dropped)) (one_voted w c w.letters refl within founded.0 here)
+      all_voted : (cs : List (Coming L)) (w : World L) → Within w → Sited w → AllFounded db cs w → Commits w → Commits (all_come cs w)
+      all_voted [] w within sited founded here = here
+      all_voted (c ∷ cs) w within sited founded here =
+          let one = one_voted w c w.letters refl within sited founded.0 here in
+          all_voted cs (come w c) one.0 (come_sited law w c w.letters refl sited) founded.1 one.1
 
     -- ---- calls
     module _ (fits : Leaf → Content → Bool) (whole : Relations) (before after : Machines) (past : List (Deed L)) (txn : Name) (choice : Choice L) (heard : List Notice) (ready : Ready L fits txn (rests db before past)) where
       abbrev here : World L
       here = rests db before past
 
-      pub quiet_after_rollback : (served : IsServed db whole before past) (serves : Serves db (To_do txn Rollback choice) before after heard) → IsQuiet (rests db after (past ++ serves.deeds)) ⊎ SomeDropped db serves.comings (called here txn choice Rollback)
+      pub quiet_after_rollback : (served : IsServed db whole before past) (serves : Serves db (To_do txn Rollback choice) before after heard) → IsQuiet (rests db after (past ++ serves.deeds))
       quiet_after_rollback served serves =
           let within = fit_within db before [] past served.fit in
           let deeds = past ++ Rolled_back txn ∷ [] in
-          ⊎_elim (λ ended. inl (ending_quiet law deeds (rests db after (past ++ serves.deeds)) (subst (Ending deeds) (serves.is past) ended) refl)) (λ dropped. inr dropped)
-          (all_ended deeds serves.comings (called here txn choice Rollback) (called_within here txn choice Rollback within) (serves.founded past) (rollback_ends law once txn past here choice (steady_loose txn here ready.steady) within))
+          let ended = all_ended deeds serves.comings (called here txn choice Rollback) (called_within here txn choice Rollback within) (called_sited here txn choice Rollback (steady_sited txn here ready.steady)) (serves.founded past)
+          (rollback_ends law once txn past here choice (steady_loose txn here ready.steady) within) in
+          ending_quiet law deeds (rests db after (past ++ serves.deeds)) (subst (Ending deeds) (serves.is past) ended) refl
 
-      pub quiet_after_commit : (served : IsServed db whole before past) (serves : Serves db (To_do txn Commit_call choice) before after heard) → IsQuiet (rests db after (past ++ serves.deeds)) ⊎ SomeDropped db serves.comings (called here txn choice Commit_call)
+      pub quiet_after_commit : (served : IsServed db whole before past) (serves : Serves db (To_do txn Commit_call choice) before after heard) → IsQuiet (rests db after (past ++ serves.deeds))
       quiet_after_commit served serves =
           let within = fit_within db before [] past served.fit in
-          ⊎_elim (λ committing. inl ((commit_ends law once (Unit {0}) txn past (rests db after (past ++ serves.deeds)) (subst (Committing (Unit {0}) txn past) (serves.is past) committing) refl).0)) (λ dropped. inr dropped)
-          (all_voted txn past serves.comings (called here txn choice Commit_call) (called_within here txn choice Commit_call within) (serves.founded past) (commit_starts law once (Unit {0}) txn past here ready.steady choice within refl))
+          let committing = all_voted txn past serves.comings (called here txn choice Commit_call) (called_within here txn choice Commit_call within) (called_sited here txn choice Commit_call (steady_sited txn here ready.steady)) (serves.founded past)
+          (commit_starts law once (Unit {0}) txn past here ready.steady choice within refl) in
+          (commit_ends law once (Unit {0}) txn past (rests db after (past ++ serves.deeds)) (subst (Committing (Unit {0}) txn past) (serves.is past) committing) refl).0

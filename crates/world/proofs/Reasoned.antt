@@ -32,12 +32,12 @@ use Rattle.desk.specs.Does.{IsPastLimits}
 use Rattle.desk.specs.State.{desk_of}
 use Rattle.world.specs.declared.fault.Fault as faults
 use Rattle.world.specs.declared.fault.Fault.TheVariants as fault
-use Rattle.world.specs.Machines.{AreFit, Machines, is_order, world_of}
-use Rattle.world.specs.Reasons.{AsksElsewhere, DeskTells, IsAstray, IsAtLimit, SiteTells, Tells, desk_is_full, has_no_leaf, has_no_site, site_is_full}
+use Rattle.world.specs.Machines.{AreFit, Machines, is_of_site, is_order, world_of}
+use Rattle.world.specs.Reasons.{AsksElsewhere, DeskTells, IsAtLimit, SiteTells, Tells, TurnsAway, desk_is_full, has_no_leaf, is_at_limit, site_is_full}
 use Rattle.world.specs.declared.doing.Doing as doing
 use Rattle.world.specs.declared.doing.Doing.TheVariants.{Take}
 use Rattle.world.specs.Seats.{Seat, is_called, seat_of}
-use Rattle.world.specs.Taking.{is_limit, stop_of}
+use Rattle.world.specs.Taking.{stop_of, turns_away}
 use Rattle.world.proofs.Seating.{name_is}
 
 -- ---- what a site tells
@@ -94,25 +94,25 @@ desk_tells db machines letter (Err told) reply is for_desk (inr limit) full =
     inr (limit, desk_is_full past.choice for_desk (passes_is db machines letter reply is true past.choice ∙ past.past))
 
 -- ---- which case it is
-pub at_limit : (db : Database) (machines : Machines) (letter : letters.Letter) (told : faults.Fault) → Tells db machines letter told → is_limit told ≡ true → IsAtLimit db machines letter
-at_limit db machines letter (fault.Desk told) (inl memory) is = clash is (ap (λ t. is_limit (fault.Desk t)) memory)
-at_limit db machines letter (fault.Desk told) (inr full) is = full.1
-at_limit db machines letter (fault.Site site_fault.Full) tells is = site_is_full tells.0 tells.1.0 tells.1.1
-at_limit db machines letter (fault.Site site_fault.Memory) tells is = cc
-at_limit db machines letter (fault.Site (site_fault.Store why)) tells is = cc
-at_limit db machines letter (fault.Site site_fault.Stranger) tells is = cc
-at_limit db machines letter fault.Unsent tells is = cc
+pub turned_away : (db : Database) (machines : Machines) (letter : letters.Letter) (told : faults.Fault) → Tells db machines letter told → turns_away told ≡ true → TurnsAway db machines letter
+turned_away db machines letter (fault.Desk told) (inl memory) is = clash is (ap (λ t. turns_away (fault.Desk t)) memory)
+turned_away db machines letter (fault.Desk told) (inr full) is = is_at_limit full.1
+turned_away db machines letter (fault.Site site_fault.Full) tells is = is_at_limit (site_is_full tells.0 tells.1.0 tells.1.1)
+turned_away db machines letter (fault.Site site_fault.Stranger) tells is = has_no_leaf tells.0 tells.1.0 tells.1.1
+turned_away db machines letter (fault.Site site_fault.Memory) tells is = cc
+turned_away db machines letter (fault.Site (site_fault.Store why)) tells is = cc
+turned_away db machines letter fault.Unsent tells is = cc
 
-pub astray : (db : Database) (machines : Machines) (letter : letters.Letter) (told : faults.Fault) → Tells db machines letter told → stop_of told ≡ None → is_limit told ≡ false → IsAstray db machines letter
-astray db machines letter (fault.Desk told) (inl memory) goes_on is = let e = sym (ap (λ t. stop_of (fault.Desk t)) memory) ∙ goes_on in cc
-astray db machines letter (fault.Desk told) (inr full) goes_on is = let e = sym (ap (λ t. is_limit (fault.Desk t)) full.0) ∙ is in cc
-astray db machines letter (fault.Site site_fault.Stranger) tells goes_on is = has_no_leaf tells.0 tells.1.0 tells.1.1
-astray db machines letter (fault.Site site_fault.Full) tells goes_on is = cc
-astray db machines letter (fault.Site site_fault.Memory) tells goes_on is = cc
-astray db machines letter (fault.Site (site_fault.Store why)) tells goes_on is = cc
-astray db machines letter fault.Unsent tells goes_on is = has_no_site tells
+pub is_unsent : (db : Database) (machines : Machines) (letter : letters.Letter) (told : faults.Fault) → Tells db machines letter told → stop_of told ≡ None → turns_away told ≡ false → is_of_site db letter ≡ false
+is_unsent db machines letter (fault.Desk told) (inl memory) goes_on is = let e = sym (ap (λ t. stop_of (fault.Desk t)) memory) ∙ goes_on in cc
+is_unsent db machines letter (fault.Desk told) (inr full) goes_on is = let e = sym (ap (λ t. turns_away (fault.Desk t)) full.0) ∙ is in cc
+is_unsent db machines letter (fault.Site site_fault.Full) tells goes_on is = cc
+is_unsent db machines letter (fault.Site site_fault.Stranger) tells goes_on is = cc
+is_unsent db machines letter (fault.Site site_fault.Memory) tells goes_on is = cc
+is_unsent db machines letter (fault.Site (site_fault.Store why)) tells goes_on is = cc
+is_unsent db machines letter fault.Unsent tells goes_on is = tells
 
--- ---- a letter that meets a limit ranks at least two
+-- ---- a letter that is turned away ranks at least two
 module _ {L : Lang} where
   -- no more operations, and nobody begins
   abbrev Calms : Txn L → Txn L → Type 0
@@ -144,8 +144,8 @@ module _ {L : Lang} where
   calms_within : (d : Desk L) (t : Name) (y : Txn L) → Calms (d.txn t) y → is_desk_within d ≡ true → is_desk_within (desk_after d t y) ≡ true
   calms_within d t y calms within = turn_within d t y calms.0 calms.1 within
 
-pub limit_ranks : (db : Database) (machines : Machines) (letter : letters.Letter) → AreFit db machines → IsAtLimit db machines letter → 2 ≤ rank_in (desk_of db machines.table).txn (sent db letter)
-limit_ranks db machines letter fit limit = go letter.body refl limit
+pub turned_ranks : (db : Database) (machines : Machines) (letter : letters.Letter) → AreFit db machines → TurnsAway db machines letter → 2 ≤ rank_in (desk_of db machines.table).txn (sent db letter)
+turned_ranks db machines letter fit why = by_reason why
   where
     d : Desk (language db)
     d = desk_of db machines.table
@@ -174,6 +174,15 @@ limit_ranks db machines letter fit limit = go letter.body refl limit
     at_site (body.Order (order.Abort ticket)) seat much = absurd much
     at_site (body.Reply reply) seat much = absurd much
 
+    elsewhere_at : (said : bodies.Body) (leaves : List Leaf) → AsksElsewhere leaves said → 2 ≤ rank (is_reading x) (body_with (statements db) (body_of said))
+    elsewhere_at (body.Order order.Open) leaves asks = absurd asks
+    elsewhere_at (body.Order (order.Fetch fetch)) leaves asks = fetch_rank (is_reading x) _ _ _ _
+    elsewhere_at (body.Order (order.Intend intention)) leaves asks = omega arith
+    elsewhere_at (body.Order (order.Prepare prepare)) leaves asks = absurd asks
+    elsewhere_at (body.Order (order.Commit ticket)) leaves asks = absurd asks
+    elsewhere_at (body.Order (order.Abort ticket)) leaves asks = absurd asks
+    elsewhere_at (body.Reply reply) leaves asks = absurd asks
+
     at_desk : (choice : Choice (language db)) (reply : replies.Reply) → is_desk_within (desk_after d (txn_name letter.txn) (on_desk_letter (txn_name letter.txn) letter.site true choice (replied db reply) x).txn) ≡ false → 2 ≤ rank (is_reading x) (replied db reply)
     at_desk choice (reply_kinds.Ticket ticket) past = ticket_rank (is_reading x) _
     at_desk choice (reply_kinds.Refused refusal) past = omega arith
@@ -190,6 +199,10 @@ limit_ranks db machines letter fit limit = go letter.body refl limit
     go (body.Order order) is (desk_is_full choice for_desk past) = let e = sym (ap is_order is) ∙ for_desk in cc
     go (body.Reply reply) is (desk_is_full choice for_desk past) =
         subst (λ said. 2 ≤ rank (is_reading x) (body_with (statements db) (body_of said))) (sym is) (at_desk choice reply (sym (passes_is db machines letter reply is true choice) ∙ past))
+
+    by_reason : TurnsAway db machines letter → 2 ≤ rank_in d.txn (sent db letter)
+    by_reason (is_at_limit limit) = go letter.body refl limit
+    by_reason (has_no_leaf seat there asks) = elsewhere_at letter.body seat.leaves asks
 
 -- ---- the site of a name
 pub taken_same : (one other : letters.Letter) → Take one ≡ Take other → one ≡ other

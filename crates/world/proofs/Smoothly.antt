@@ -40,6 +40,7 @@ use Rattle.world.specs.Smoothly.{FindsNoRoom, FirstIsRefused, IsRefused, IsSmoot
 use Rattle.world.proofs.Beginning.{all_silent}
 use Rattle.world.proofs.Reaching.{all_explained, all_reached, asked_reached}
 use Rattle.world.proofs.Running.{all_both}
+use Rattle.world.proofs.Sited.{AreSited, IsSited, Sited, called_sited, come_sited, not_passed, steady_sited}
 
 -- fit machines are within their limits
 seats_within : (db : Database) (seats : List Seat) (name : List ℕ) → AreSeated seats → Rattle.protocol.specs.Site.is_within (states_of (statements db) seats name) ≡ true
@@ -210,31 +211,32 @@ module _ (db : Database) where
       let there : passes (record w { letters = []; past = [] }) true choice l ≡ passes (world_of db founded.machines [] []) true choice (sent db founded.letter) = λ i. passes (record { desk = founded.desk i; sites = founded.sites i; letters = []; past = [] }) true choice (founded.is i) in
       same_passes (is_for_desk l.body) w choice l ∙ there ∙ founded.reason.0
 
-  one_smooth : (w : World (language db)) (c : Coming (language db)) (l : Letter (language db)) → IsFounded db w c l → IsSmooth db w c l ⊎ IsRefused db w c l
-  one_smooth w (Taken true choice) l founded = ⊎_elim (λ room. inl (record { is_kept = refl; within = passes_there w choice l founded; room = room })) (λ full. inr full) (room_or_full (w.sites l.site) l.body)
-  one_smooth w (Taken false choice) l founded = inr founded
-  one_smooth w (Turned_away choice) l founded = inr founded
-  one_smooth w Passed_over l founded = inr founded
+module _ (db : Database) (law : IsLawful (language db)) where
+  one_smooth : (w : World (language db)) (c : Coming (language db)) (l : Letter (language db)) → IsSited l → IsFounded db w c l → IsSmooth db w c l ⊎ IsRefused db w c l
+  one_smooth w (Taken true choice) l sited founded = ⊎_elim (λ room. inl (record { is_kept = refl; within = passes_there db w choice l founded; room = room })) (λ full. inr full) (room_or_full db (w.sites l.site) l.body)
+  one_smooth w (Taken false choice) l sited founded = inr founded
+  one_smooth w (Turned_away choice) l sited founded = inr founded
+  one_smooth w Passed_over l sited founded = absurd (not_passed db law w l sited founded)
 
-  first_smooth : (w : World (language db)) (c : Coming (language db)) (letters : List (Letter (language db))) → FirstIsFounded db w c letters → FirstIsSmooth db w c letters ⊎ FirstIsRefused db w c letters
-  first_smooth w c [] founded = inl tt
-  first_smooth w c (l ∷ q) founded = one_smooth w c l founded
+  first_smooth : (w : World (language db)) (c : Coming (language db)) (letters : List (Letter (language db))) → AreSited letters → FirstIsFounded db w c letters → FirstIsSmooth db w c letters ⊎ FirstIsRefused db w c letters
+  first_smooth w c [] sited founded = inl tt
+  first_smooth w c (l ∷ q) sited founded = one_smooth w c l sited.0 founded
 
-  all_smooth : (cs : List (Coming (language db))) (w : World (language db)) → AllFounded db cs w → AllSmooth db cs w ⊎ SomeRefused db cs w
-  all_smooth [] w founded = inl tt
-  all_smooth (c ∷ cs) w founded = ⊎_elim
-      (λ smooth. ⊎_elim (λ rest. inl (smooth, rest)) (λ refused. inr (inr refused)) (all_smooth cs (come w c) founded.1))
-      (λ refused. inr (inl refused)) (first_smooth w c w.letters founded.0)
+  all_smooth : (cs : List (Coming (language db))) (w : World (language db)) → Sited w → AllFounded db cs w → AllSmooth db cs w ⊎ SomeRefused db cs w
+  all_smooth [] w sited founded = inl tt
+  all_smooth (c ∷ cs) w sited founded = ⊎_elim
+      (λ smooth. ⊎_elim (λ rest. inl (smooth, rest)) (λ refused. inr (inr refused)) (all_smooth cs (come w c) (come_sited law w c w.letters refl sited) founded.1))
+      (λ refused. inr (inl refused)) (first_smooth w c w.letters sited.letters founded.0)
 
-pub serves_unless_refused : (db : Database) (fits : Leaf → Content → Bool) → ServesSmoothly db fits → ServesUnlessRefused db fits
-serves_unless_refused db fits law = record {
+pub serves_unless_refused : (db : Database) (fits : Leaf → Content → Bool) → IsLawful (language db) → ServesSmoothly db fits → ServesUnlessRefused db fits
+serves_unless_refused db fits lawful law = record {
   answers = λ whole before after past txn statement choice heard served ready is room serves. ⊎_elim
       (λ smooth. inl (law.answers whole before after past txn statement choice heard served ready is room serves smooth)) (λ refused. inr refused)
-      (all_smooth db serves.comings (called (rests db before past) txn choice (State statement)) (serves.founded past));
+      (all_smooth db lawful serves.comings (called (rests db before past) txn choice (State statement)) (called_sited (rests db before past) txn choice (State statement) (steady_sited txn (rests db before past) ready.steady)) (serves.founded past));
   commits = λ whole before after past txn choice heard served ready serves. ⊎_elim
       (λ smooth. inl (law.commits whole before after past txn choice heard served ready serves smooth)) (λ refused. inr refused)
-      (all_smooth db serves.comings (called (rests db before past) txn choice Commit_call) (serves.founded past));
+      (all_smooth db lawful serves.comings (called (rests db before past) txn choice Commit_call) (called_sited (rests db before past) txn choice Commit_call (steady_sited txn (rests db before past) ready.steady)) (serves.founded past));
   rolls_back = λ whole before after past txn choice heard served ready serves. ⊎_elim
       (λ smooth. inl (law.rolls_back whole before after past txn choice heard served ready serves smooth)) (λ refused. inr refused)
-      (all_smooth db serves.comings (called (rests db before past) txn choice Rollback) (serves.founded past));
+      (all_smooth db lawful serves.comings (called (rests db before past) txn choice Rollback) (called_sited (rests db before past) txn choice Rollback (steady_sited txn (rests db before past) ready.steady)) (serves.founded past));
 }

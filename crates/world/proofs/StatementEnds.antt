@@ -39,8 +39,9 @@ use Rattle.world.specs.Delivering.{Serves, To_do}
 use Rattle.world.specs.Machines.{Machines, world_of}
 use Rattle.world.specs.Reasons.{AllFounded, FirstIsFounded, IsFounded}
 use Rattle.world.specs.Serving.{IsServed, is_end, tells}
-use Rattle.world.specs.Settling.{FirstIsDropped, IsDropped, SomeDropped}
 use Rattle.world.specs.Smoothly.{FindsNoRoom, rests}
+use Rattle.world.proofs.CallsKept.{FetchKept, fetch_kept}
+use Rattle.world.proofs.Sited.{Sited, called_sited, come_sited, first_is_sited, not_passed, steady_sited}
 use Rattle.world.proofs.NoWrites.{NoWrites, bare, comes_bare, is_write, reads_on, state_reads}
 use Rattle.world.proofs.Quieting.{ended_gives_up, ending_lost, kept_end_of, lost_within, turned_no_end}
 use Rattle.world.proofs.Reaching.{all_explained, all_reached}
@@ -57,11 +58,6 @@ module _ {L : Lang} where
   OfStatement (Ticket k) = Unit {0}
   OfStatement (Rows k n rows) = Unit {0}
   OfStatement said = ⊥
-
-  -- the store call that a Fetch makes is kept
-  abbrev FetchKept : Bool → Body L → Type 0
-  FetchKept kept (Fetch k n g q) = kept ≡ true
-  FetchKept kept said = Unit {0}
 
   flow_front : (k : Name) (d n : ℕ) (c : Body L) (bs : List (Body L)) → Flow k d n (c ∷ bs) → OfStatement c
   flow_front k d n (Fetch j m g q) bs flow = tt
@@ -185,22 +181,6 @@ module _ (db : Database) where
   for_site (Ack k) is = let e : false ≡ true = is in cc
   for_site (Inquire k) is = let e : false ≡ true = is in cc
 
-  -- a letter that is taken, and isn't dropped
-  not_dropped : (kept : Bool) (choice : Choice D) (b : Body D) → FetchKept kept b ⊎ IsDropped db (Taken kept choice) b
-  not_dropped true choice (Fetch k n g q) = inl refl
-  not_dropped false choice (Fetch k n g q) = inr tt
-  not_dropped kept choice Open = inl tt
-  not_dropped kept choice (Write k n g x) = inl tt
-  not_dropped kept choice (Prepare k n) = inl tt
-  not_dropped kept choice (Commit k) = inl tt
-  not_dropped kept choice (Abort k) = inl tt
-  not_dropped kept choice (Ticket k) = inl tt
-  not_dropped kept choice (Rows k n rows) = inl tt
-  not_dropped kept choice (Refused k reason) = inl tt
-  not_dropped kept choice (Voted k x) = inl tt
-  not_dropped kept choice (Ack k) = inl tt
-  not_dropped kept choice (Inquire k) = inl tt
-
   module _ (fits : Leaf → Content → Bool) (law : IsLawful D) (once : Once D.sites) (housed : IsHoused D fits) (whole : Relations) (t : Name) (s : D.Statement) (before : List (Deed D)) where
     abbrev smooth : SmoothLaw D fits
     smooth = smooth_law law once fits housed
@@ -290,35 +270,35 @@ module _ (db : Database) where
         let there : passes (record w { letters = []; past = [] }) kept choice l ≡ passes (world_of db founded.machines [] []) kept choice (sent db founded.letter) = λ i. passes (record { desk = founded.desk i; sites = founded.sites i; letters = []; past = [] }) kept choice (founded.is i) in
         same_passes (is_for_desk l.body) w kept choice l ∙ there ∙ founded.reason.0
 
+    fetch_kept_of : (w : World D) (kept : Bool) (choice : Choice D) (l : Letter D) → IsFounded db w (Taken kept choice) l → FetchKept kept l.body
+    fetch_kept_of w kept choice l founded = subst (λ (x : Letter D). FetchKept kept x.body) (sym founded.is) (fetch_kept kept (sent db founded.letter).body founded.reason.1)
+
     -- whatever becomes of a letter
-    taken_on : (w : World D) (l : Letter D) (q : List (Letter D)) (e : w.letters ≡ l ∷ q) (within : Within w) (kept : Bool) (choice : Choice D) → IsFounded db w (Taken kept choice) l → FetchKept kept l.body → IsReached whole (next w kept choice) → Stand w → Stand (next w kept choice)
-    taken_on w l q e within kept choice founded keeps reached (in_course here none) = came_on w l q e within here none kept choice keeps (passes_here w kept choice l founded) reached
-    taken_on w l q e within kept choice founded keeps reached (is_doomed d idle) = doomed_on w l q e within d idle kept choice (kept_end_of db law once w kept choice l founded)
-    taken_on w l q e within kept choice founded keeps reached (has_left deeds ending) = has_left deeds (ending_goes_on law deeds w l q e ending law.touches_none within kept choice (kept_end_of db law once w kept choice l founded))
+    taken_on : (w : World D) (l : Letter D) (q : List (Letter D)) (e : w.letters ≡ l ∷ q) (within : Within w) (kept : Bool) (choice : Choice D) → IsFounded db w (Taken kept choice) l → IsReached whole (next w kept choice) → Stand w → Stand (next w kept choice)
+    taken_on w l q e within kept choice founded reached (in_course here none) = came_on w l q e within here none kept choice (fetch_kept_of w kept choice l founded) (passes_here w kept choice l founded) reached
+    taken_on w l q e within kept choice founded reached (is_doomed d idle) = doomed_on w l q e within d idle kept choice (kept_end_of db law once w kept choice l founded)
+    taken_on w l q e within kept choice founded reached (has_left deeds ending) = has_left deeds (ending_goes_on law deeds w l q e ending law.touches_none within kept choice (kept_end_of db law once w kept choice l founded))
 
     turned_on : (w : World D) (l : Letter D) (q : List (Letter D)) (e : w.letters ≡ l ∷ q) (within : Within w) (choice : Choice D) → IsFounded db w (Turned_away choice) l → Stand w → Stand (called (record w { letters = q }) l.txn choice Give_up)
     turned_on w l q e within choice founded (in_course here none) = gives_up w l q e within (statement_loose t s before w here.course) choice founded
     turned_on w l q e within choice founded (is_doomed d idle) = gives_up w l q e within d.loose choice founded
     turned_on w l q e within choice founded (has_left deeds ending) = has_left deeds (ended_gives_up l.txn (record w { letters = q }) choice deeds (ending_lost db law once deeds w l q e (turned_no_end db w l choice founded) ending))
 
-    one_stands : (w : World D) (c : Coming D) (letters : List (Letter D)) → w.letters ≡ letters → Within w → FirstIsFounded db w c letters → IsReached whole (first_comes w c letters) → Stand w → (Within (first_comes w c letters) × Stand (first_comes w c letters)) ⊎ FirstIsDropped db c letters
-    one_stands w c [] e within founded reached here = inl (within, here)
-    one_stands w (Taken kept choice) (l ∷ q) e within founded reached here = ⊎_elim
-        (λ keeps. inl (
-          subst (λ (letters : List (Letter D)). Within (first w kept choice letters)) e (next_within law w kept choice within),
-          subst (λ (letters : List (Letter D)). Stand (first w kept choice letters)) e (taken_on w l q e within kept choice founded keeps (subst (λ (letters : List (Letter D)). IsReached whole (first w kept choice letters)) (sym e) reached) here),
-        ))
-        (λ dropped. inr dropped) (not_dropped kept choice l.body)
-    one_stands w (Turned_away choice) (l ∷ q) e within founded reached here = inl (called_within (record w { letters = q }) l.txn choice Give_up (lost_within db law once w q within), turned_on w l q e within choice founded here)
-    one_stands w Passed_over (l ∷ q) e within founded reached here = inr tt
+    one_stands : (w : World D) (c : Coming D) (letters : List (Letter D)) → w.letters ≡ letters → Within w → Sited w → FirstIsFounded db w c letters → IsReached whole (first_comes w c letters) → Stand w → Within (first_comes w c letters) × Stand (first_comes w c letters)
+    one_stands w c [] e within sited founded reached here = (within, here)
+    one_stands w (Taken kept choice) (l ∷ q) e within sited founded reached here = (
+      subst (λ (letters : List (Letter D)). Within (first w kept choice letters)) e (next_within law w kept choice within),
+      subst (λ (letters : List (Letter D)). Stand (first w kept choice letters)) e (taken_on w l q e within kept choice founded (subst (λ (letters : List (Letter D)). IsReached whole (first w kept choice letters)) (sym e) reached) here),
+    )
+    one_stands w (Turned_away choice) (l ∷ q) e within sited founded reached here = (called_within (record w { letters = q }) l.txn choice Give_up (lost_within db law once w q within), turned_on w l q e within choice founded here)
+    one_stands w Passed_over (l ∷ q) e within sited founded reached here = absurd (not_passed db law w l (first_is_sited w l q e sited) founded)
 
-    all_stand : (cs : List (Coming D)) (w : World D) → Within w → AllFounded db cs w → IsReached whole w → AllExplained (all_come cs w).past → Stand w → Stand (all_come cs w) ⊎ SomeDropped db cs w
-    all_stand [] w within founded reached explained here = inl here
-    all_stand (c ∷ cs) w within founded reached explained here =
+    all_stand : (cs : List (Coming D)) (w : World D) → Within w → Sited w → AllFounded db cs w → IsReached whole w → AllExplained (all_come cs w).past → Stand w → Stand (all_come cs w)
+    all_stand [] w within sited founded reached explained here = here
+    all_stand (c ∷ cs) w within sited founded reached explained here =
         let there : IsReached whole (come w c) = all_reached (reached_law law) whole (c ∷ []) w reached (all_explained cs (come w c) explained) in
-        ⊎_elim
-        (λ one. ⊎_elim (λ rest. inl rest) (λ dropped. inr (inr dropped)) (all_stand cs (come w c) one.0 founded.1 there explained one.1))
-        (λ dropped. inr (inl dropped)) (one_stands w c w.letters refl within founded.0 there here)
+        let one = one_stands w c w.letters refl within sited founded.0 there here in
+        all_stand cs (come w c) one.0 (come_sited law w c w.letters refl sited) founded.1 there explained one.1
 
     -- no letter waits
     stand_ends : (w : World D) → Stand w → w.letters ≡ [] → (Ready D fits t w × ((asks : List (Ask D)) × (choice : Choice D) × (w.past ≡ before ++ Stated t s ∷ Worked t s asks choice ∷ Answered t choice.0 ∷ []))) ⊎ IsQuiet w
@@ -330,7 +310,7 @@ module _ (db : Database) where
   pub quiet_or_ready : (fits : Leaf → Content → Bool) (law : IsLawful D) (once : Once D.sites) (housed : IsHoused D fits) (whole : Relations) (before after : Machines) (past : List (Deed D)) (txn : Name) (statement : Statement) (choice : Choice D) (heard : List Notice) → (served : IsServed db whole before past) →
       Ready D fits txn (rests db before past) → IsStatementOf db.schemas statement →
       is_desk_within (desk_after (desk_of db before.table) txn (on_request txn choice (State statement) ((desk_of db before.table).txn txn)).txn) ≡ true → (serves : Serves db (To_do txn (State statement) choice) before after heard) →
-      ((Ready D fits txn (rests db after (past ++ serves.deeds)) × ((answer : AnswerNow) × (map notice_of heard ≡ (txn, Answer answer) ∷ []))) ⊎ (IsQuiet (rests db after (past ++ serves.deeds)) × (tells is_end heard ≡ true))) ⊎ SomeDropped db serves.comings (called (rests db before past) txn choice (State statement))
+      (Ready D fits txn (rests db after (past ++ serves.deeds)) × ((answer : AnswerNow) × (map notice_of heard ≡ (txn, Answer answer) ∷ []))) ⊎ (IsQuiet (rests db after (past ++ serves.deeds)) × (tells is_end heard ≡ true))
   quiet_or_ready fits law once housed whole before after past txn statement choice heard served ready is room serves =
       let here = rests db before past in
       let ask = To_do txn (State statement) choice in
@@ -342,10 +322,9 @@ module _ (db : Database) where
       let ends : Told txn past (rests db after (past ++ serves.deeds)) = subst (Told txn past) (serves.is past) (all_told txn past serves.comings start (state_told here txn choice statement ready.steady.u ready.steady.known)) in
       let tells_end : IsQuiet (rests db after (past ++ serves.deeds)) → tells is_end heard ≡ true = λ quiet. ⊎_elim (λ undecided. clash undecided (quiet.decided txn))
       (λ ended. tells_by is_end heard ∙ ap (list_any (λ (x : Name × Reply). is_end x.1)) serves.replies ∙ end_heard db serves.deeds (subst (λ (deeds : List (Deed D)). list_any ends_it deeds ≡ true) (sym (same_behind past serves.deeds ends.more ends.is)) ended)) ends.says in
+      let sited = called_sited here txn choice (State statement) (steady_sited txn here ready.steady) in
+      let stand = all_stand fits law once housed whole txn statement past serves.comings start within sited (serves.founded past) reached explained begins in
       ⊎_elim
-      (λ stand. inl (⊎_elim
       (λ answered. inl (answered.0, (answered.1.1.0, heard_of db fits law once housed whole before after past heard served ask serves _ answered.1.2)))
       (λ quiet. inr (quiet, tells_end quiet))
-      (stand_ends fits law once housed whole txn statement past (rests db after (past ++ serves.deeds)) (subst (Stand fits law once housed whole txn statement past) (serves.is past) stand) refl)))
-      (λ dropped. inr dropped)
-      (all_stand fits law once housed whole txn statement past serves.comings start within (serves.founded past) reached explained begins)
+      (stand_ends fits law once housed whole txn statement past (rests db after (past ++ serves.deeds)) (subst (Stand fits law once housed whole txn statement past) (serves.is past) stand) refl)

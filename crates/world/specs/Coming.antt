@@ -5,7 +5,7 @@ use Rattle.protocol.specs.Language.{Lang}
 use Rattle.protocol.specs.Letter.{Letter}
 use Rattle.protocol.specs.World.{World, called, comes}
 
--- what becomes of a letter: it is taken, or let go at a limit and its transaction given up, or let go as one that nobody sent. kept: whether the store call that it makes is kept
+-- what becomes of a letter: it is taken, or let go and its transaction given up, or let go as one for no site that there is. kept: whether the store call that it makes is kept
 pub data Coming (L : Lang) : Type 0 where
   Taken : (kept : Bool) (choice : Choice L) → Coming L
   Turned_away : (choice : Choice L) → Coming L

@@ -1,5 +1,5 @@
 -- Why a command of one client is refused.
-use Rattle.std.specs.Prelude.{◌≡◌, ◌⊎◌, ℕ, Bool, true, false, List, ◌++◌, Option, Some, None}
+use Rattle.std.specs.Prelude.{◌≡◌, ◌≤◌, ◌⊎◌, ◌^◌, ℕ, suc, Bool, true, false, List, ◌++◌, Option, Some, None}
 use Rattle.meaning.specs.declared.schema.RelationSchema.{RelationSchema}
 use Rattle.meaning.specs.declared.statement.Statement.{Statement}
 use Rattle.meaning.specs.Whole.{Relations}
@@ -12,17 +12,16 @@ use Rattle.reader.specs.Fault.{Fault}
 use Rattle.store.specs.Content.{Content}
 use Rattle.store.specs.declared.name.Txn.{Txn}
 use Rattle.protocol.specs.Desk as protocol
-use Rattle.protocol.specs.Desk.{Deed, desk_began, is_desk_within}
+use Rattle.protocol.specs.Desk.{Deed}
 use Rattle.desk.specs.declared.refusal.Refusal as refusals
 use Rattle.desk.specs.declared.refusal.Refusal.TheVariants as refusal
 use Rattle.desk.specs.declared.reply.Notice.{Notice}
 use Rattle.desk.specs.Database.{Database, language}
-use Rattle.desk.specs.State.{desk_of}
 use Rattle.world.specs.declared.event.Call as calls
 use Rattle.world.specs.declared.event.Call.TheVariants as call
 use Rattle.world.specs.Delivering.{IsStill}
 use Rattle.world.specs.Machines.{Machines}
-use Rattle.world.specs.Obeying.{StateWasRefused, Stands}
+use Rattle.world.specs.Obeying.{Stands}
 use Rattle.world.specs.Refused.{IsRefused}
 use Rattle.world.specs.Serving.{DoesAsk, DoesBegin, DoesState, IsServed, is_end, tells}
 use Rattle.world.specs.Stopping.{is_stop}
@@ -83,19 +82,17 @@ pub data Declines (db : Database) (text : List ℕ) (current : Option Txn) (befo
   declines_lone : (statement : Statement) → current ≡ None → IsTextOf db.schemas text (Run statement) → LoneIsDenied db text before after told → Declines db text current before after told
 
 -- why a database that stands refuses a command: memory ran out or a store failed, which stops it; the text is no command's; BEGIN comes inside a
--- transaction, or COMMIT or ROLLBACK outside one; a transaction can't begin or a statement can't be stated within the limits; or something was
--- refused while a lone statement was done, and its commit can't be asked for
-pub data Denies (db : Database) (text : List ℕ) (current : Option Txn) (before : Machines) (past : List (Deed (language db))) (told : refusals.Refusal) : Type 0 where
-  stops : is_stop told ≡ true → Denies db text current before past told
-  is_no_command : IsNoCommand db.schemas text told → Denies db text current before past told
-  is_inside : (txn : Txn) → current ≡ Some txn → IsTextOf db.schemas text Begin → told ≡ refusal.Busy → Denies db text current before past told
-  is_outside : current ≡ None → IsTextOf db.schemas text Commit ⊎ IsTextOf db.schemas text Rollback → told ≡ refusal.NoTransaction → Denies db text current before past told
-  finds_no_place : current ≡ None → IsTextOf db.schemas text Begin ⊎ ((statement : Statement) × IsTextOf db.schemas text (Run statement)) → told ≡ refusal.Full → is_desk_within (desk_began (desk_of db before.table)) ≡ false → Denies db text current before past told
-  is_too_much : (statement : Statement) → IsTextOf db.schemas text (Run statement) → told ≡ refusal.Full → Denies db text current before past told
-  was_cut_off : (txn : Txn) (began worked : Machines) (greeted answered : List Notice) (deeds : List (Deed (language db))) → current ≡ None → DoesBegin db before txn began greeted → (states : DoesState db text txn began worked answered) →
-      StateWasRefused db text txn began worked answered (past ++ deeds) states → IsRefused db worked.table (call.Commit txn) told → Denies db text current before past told
+-- transaction, or COMMIT or ROLLBACK outside one; a transaction can't begin since the numbers have run out; or a statement can't be stated within
+-- the limits
+pub data Denies (db : Database) (text : List ℕ) (current : Option Txn) (before : Machines) (told : refusals.Refusal) : Type 0 where
+  stops : is_stop told ≡ true → Denies db text current before told
+  is_no_command : IsNoCommand db.schemas text told → Denies db text current before told
+  is_inside : (txn : Txn) → current ≡ Some txn → IsTextOf db.schemas text Begin → told ≡ refusal.Busy → Denies db text current before told
+  is_outside : current ≡ None → IsTextOf db.schemas text Commit ⊎ IsTextOf db.schemas text Rollback → told ≡ refusal.NoTransaction → Denies db text current before told
+  finds_no_number : current ≡ None → IsTextOf db.schemas text Begin ⊎ ((statement : Statement) × IsTextOf db.schemas text (Run statement)) → told ≡ refusal.Full → 2 ^ 63 ≤ suc before.table.number → Denies db text current before told
+  is_too_much : (statement : Statement) → IsTextOf db.schemas text (Run statement) → told ≡ refusal.Full → Denies db text current before told
 
 -- a database that stands refuses a command for no other reason
 abbrev pub DeniesForAReason : (db : Database) → (Leaf → Content → Bool) → Type 0
 DeniesForAReason db fits = (whole : Relations) (text : List ℕ) (current : Option Txn) (before after : Machines) (past : List (Deed (language db))) (told : refusals.Refusal) → IsServed db whole before past → Stands db fits current before past →
-    Declines db text current before after told → Denies db text current before past told
+    Declines db text current before after told → Denies db text current before told

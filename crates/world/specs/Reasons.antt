@@ -1,5 +1,5 @@
--- Why a letter isn't taken: a machine is at a limit with it, or it is for no machine that there is.
-use Rattle.std.specs.Prelude.{◌≡◌, ◌⊎◌, ⊤, true, false, List, [], ◌∷◌, Some}
+-- Why a letter isn't taken: a machine is at a limit with it, its site doesn't have the leaf that it is for, or there is no such site.
+use Rattle.std.specs.Prelude.{◌≡◌, ◌⊎◌, ⊤, Bool, true, false, List, [], ◌∷◌, Some}
 use Rattle.std.specs.List.{list_any}
 use Rattle.std.specs.Ordering.{is_eq}
 use Rattle.terms.specs.declared.leaf.Leaf.{Leaf}
@@ -11,8 +11,8 @@ use Rattle.store.specs.declared.order.Order as orders
 use Rattle.store.specs.declared.order.Order.TheVariants as order
 use Rattle.protocol.specs.Course.{passes}
 use Rattle.protocol.specs.Desk.{Choice}
-use Rattle.protocol.specs.Leaving.{EndKept}
-use Rattle.protocol.specs.Letter.{Letter}
+use Rattle.protocol.specs.Language.{Lang}
+use Rattle.protocol.specs.Letter.{Abort, Body, Commit, Fetch, Letter}
 use Rattle.protocol.specs.Letters.{leaf_of}
 use Rattle.protocol.specs.World.{World}
 use Rattle.site.specs.declared.fault.SiteFault as site_faults
@@ -53,10 +53,10 @@ pub data IsAtLimit (db : Database) (machines : Machines) (letter : letters.Lette
   desk_is_full : (choice : Choice (language db)) → is_order letter.body ≡ false → passes (world_of db machines [] []) true choice (sent db letter) ≡ false → IsAtLimit db machines letter
   site_is_full : (seat : Seat) → seat_of letter.site machines.seats ≡ Some seat → AsksTooMuch seat.table.alive seat.table.number letter.body → IsAtLimit db machines letter
 
--- a letter is for no machine: for no site of the database, or for a leaf that its site doesn't have
-pub data IsAstray (db : Database) (machines : Machines) (letter : letters.Letter) : Type 0 where
-  has_no_site : is_of_site db letter ≡ false → IsAstray db machines letter
-  has_no_leaf : (seat : Seat) → seat_of letter.site machines.seats ≡ Some seat → AsksElsewhere seat.leaves letter.body → IsAstray db machines letter
+-- a letter is turned away: a machine is at a limit with it, or it is for a leaf that its site doesn't have
+pub data TurnsAway (db : Database) (machines : Machines) (letter : letters.Letter) : Type 0 where
+  is_at_limit : IsAtLimit db machines letter → TurnsAway db machines letter
+  has_no_leaf : (seat : Seat) → seat_of letter.site machines.seats ≡ Some seat → AsksElsewhere seat.leaves letter.body → TurnsAway db machines letter
 
 -- why the coordinator doesn't take it
 abbrev pub DeskTells : Database → Machines → letters.Letter → refusals.Refusal → Type 0
@@ -68,11 +68,18 @@ Tells db machines letter (fault.Desk told) = DeskTells db machines letter told
 Tells db machines letter (fault.Site told) = (seat : Seat) × ((seat_of letter.site machines.seats ≡ Some seat) × SiteTells seat letter.body told)
 Tells db machines letter fault.Unsent = is_of_site db letter ≡ false
 
--- what becomes of a letter has its reason: one is taken where its step is within the limits, and a Commit or an Abort where its store call was kept, its transaction given up only where a machine is at a limit with it, and one is passed over only where it is for no machine
+-- the store call that a Fetch, a Commit or an Abort makes is kept: a store that refuses one of these stops the database
+abbrev pub CallKept : {L : Lang} → Bool → Body L → Type 0
+CallKept kept (Fetch ticket op leaf query) = kept ≡ true
+CallKept kept (Commit ticket) = kept ≡ true
+CallKept kept (Abort ticket) = kept ≡ true
+CallKept kept said = ⊤
+
+-- what becomes of a letter has its reason: one is taken where its step is within the limits, and a Fetch, a Commit or an Abort where its store call was kept, its transaction given up only where it is turned away, and one is passed over only where it is for no site of the database
 abbrev pub HasReason : (db : Database) → Machines → letters.Letter → Coming (language db) → Type 0
-HasReason db machines letter (Taken kept choice) = (passes (world_of db machines [] []) kept choice (sent db letter) ≡ true) × EndKept kept (sent db letter).body
-HasReason db machines letter (Turned_away choice) = IsAtLimit db machines letter
-HasReason db machines letter Passed_over = IsAstray db machines letter
+HasReason db machines letter (Taken kept choice) = (passes (world_of db machines [] []) kept choice (sent db letter) ≡ true) × CallKept kept (sent db letter).body
+HasReason db machines letter (Turned_away choice) = TurnsAway db machines letter
+HasReason db machines letter Passed_over = is_of_site db letter ≡ false
 
 module _ (db : Database) where
   -- a letter that comes in a world is one of machines, of which this is the world, and what becomes of it has its reason

@@ -53,12 +53,12 @@ module _ (db : Database) where
   FindsNoRoom s (Write ticket op leaf write) = (visit : Visit (language db)) × ((s.status ticket ≡ Alive visit) × ((language db).is_full leaf write visit.changes ≡ true))
   FindsNoRoom s body = ⊥
 
-  -- something is refused: a visit is full, a store call isn't kept, or the letter is let go, for its reason
+  -- something is refused: a visit is full, a store call isn't kept, or the letter is turned away, for its reason. None is passed over
   abbrev pub IsRefused : World (language db) → Coming (language db) → Letter (language db) → Type 0
   IsRefused w (Taken true choice) l = FindsNoRoom (w.sites l.site) l.body
   IsRefused w (Taken false choice) l = IsFounded db w (Taken false choice) l
   IsRefused w (Turned_away choice) l = IsFounded db w (Turned_away choice) l
-  IsRefused w Passed_over l = IsFounded db w Passed_over l
+  IsRefused w Passed_over l = ⊥
 
   abbrev pub FirstIsRefused : World (language db) → Coming (language db) → List (Letter (language db)) → Type 0
   FirstIsRefused w c [] = ⊥

@@ -51,24 +51,24 @@ world_at db here = world_of db here.machines (map (sent db) here.waiting) []
 abbrev pub IsInRound : Database → ℕ → ℕ → Scene → Type 0
 IsInRound db n i here = InRound (world_at db here).desk.txn n i (world_at db here).letters
 
--- whether a machine is at a limit
-abbrev pub is_limit_of_desk : Refusal → Bool
-is_limit_of_desk refusals.NoTransaction = false
-is_limit_of_desk refusals.Busy = false
-is_limit_of_desk refusals.Ended = false
-is_limit_of_desk refusals.Full = true
-is_limit_of_desk (refusals.Read fault) = false
-is_limit_of_desk (refusals.Aborted why) = false
-is_limit_of_desk refusals.Memory = false
-is_limit_of_desk (refusals.Store fault) = false
+-- whether a letter is turned away: a machine is at a limit, or a site doesn't have the leaf
+abbrev pub is_full_desk : Refusal → Bool
+is_full_desk refusals.NoTransaction = false
+is_full_desk refusals.Busy = false
+is_full_desk refusals.Ended = false
+is_full_desk refusals.Full = true
+is_full_desk (refusals.Read fault) = false
+is_full_desk (refusals.Aborted why) = false
+is_full_desk refusals.Memory = false
+is_full_desk (refusals.Store fault) = false
 
-abbrev pub is_limit : Fault → Bool
-is_limit (Desk refusal) = is_limit_of_desk refusal
-is_limit (Site site_faults.Memory) = false
-is_limit (Site (site_faults.Store fault)) = false
-is_limit (Site site_faults.Full) = true
-is_limit (Site site_faults.Stranger) = false
-is_limit Unsent = false
+abbrev pub turns_away : Fault → Bool
+turns_away (Desk refusal) = is_full_desk refusal
+turns_away (Site site_faults.Memory) = false
+turns_away (Site (site_faults.Store fault)) = false
+turns_away (Site site_faults.Full) = true
+turns_away (Site site_faults.Stranger) = true
+turns_away Unsent = false
 
 -- something becomes of a letter, and for a reason
 pub record IsDone (db : Database) (letter : letters.Letter) (before after : Machines) (out : List letters.Letter) (notices : List Notice) : Type 0 where

@@ -11,7 +11,7 @@ ghost use Rattle.world.specs.Held.{OfStores, held};
 ghost use Rattle.world.specs.Machines.{AreFit};
 ghost use Rattle.world.specs.Reasons.{Tells};
 ghost use Rattle.world.specs.Stopping.{is_stop};
-ghost use Rattle.world.specs.Taking.{IsDone, IsInRound, is_limit, put_out_by, scene, stop_of, world_at};
+ghost use Rattle.world.specs.Taking.{IsDone, IsInRound, put_out_by, scene, stop_of, turns_away, world_at};
 
 use crate::fault::Fault;
 use crate::happening::has_site;
@@ -63,7 +63,8 @@ fn take<D: DeskStore, S: SiteStore>(
     machines.deliver(letter, true)
 }
 
-/// A letter comes. Where a machine is at a limit the letter is let go, and its transaction given up; one that is for no machine is let go.
+/// A letter comes. Where a machine is at a limit, or the site doesn't have the leaf, the letter is let go, and its transaction given up. One
+/// that is for no site of the database is let go, and nobody hears of it; none of one client's letters is.
 fn deliver_one<D: DeskStore, S: SiteStore>(
     machines: &mut Machines<D, S>,
     letter: Letter,
@@ -81,21 +82,21 @@ fn deliver_one<D: DeskStore, S: SiteStore>(
         Ok(out) => return Ok(out),
         Err(fault) => fault,
     };
-    let limited = is_limit(&fault);
+    let is_turned_away = turns_away(&fault);
     match stopping(&fault) {
         Some(refusal) => Err(refusal),
-        None if limited => machines.give_up(txn),
+        None if is_turned_away => machines.give_up(txn),
         None => Ok(put_out(machines.alloc, Vec::new(machines.alloc))),
     }
 }
 
-/// Whether a machine is at a limit.
-fn is_limit(fault: &Fault) -> bool
-    ensures { result ≡ is_limit fault.now }
+/// Whether a letter is turned away: a machine is at a limit, or a site doesn't have the leaf.
+fn turns_away(fault: &Fault) -> bool
+    ensures { result ≡ turns_away fault.now }
 {
     matches!(
         fault,
-        Fault::Desk(Refusal::Full) | Fault::Site(SiteFault::Full)
+        Fault::Desk(Refusal::Full) | Fault::Site(SiteFault::Full) | Fault::Site(SiteFault::Stranger)
     )
 }
 

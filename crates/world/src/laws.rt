@@ -164,11 +164,12 @@ pub fn served_smoothly(catalog: &Catalog)
 pub fn served_unless_refused(catalog: &Catalog)
     ensures { ServesUnlessRefused (database (catalogue_of catalog.now)) (fits (catalogue_of catalog.now)) }
 {
+    language_is_lawful(catalog);
     served_smoothly(catalog);
 }
 
-/// A client's database, whatever is refused on the way, as long as no letter is dropped: a statement is answered and its
-/// transaction ready for more, or it has ended, which is told, and all is quiet; after a commit or a rollback all is quiet.
+/// A client's database, whatever is refused on the way: a statement is answered and its transaction ready for more, or it
+/// has ended, which is told, and all is quiet; after a commit or a rollback all is quiet.
 pub fn grows_quiet(catalog: &Catalog)
     ensures { GrowsQuiet (database (catalogue_of catalog.now)) (fits (catalogue_of catalog.now)) }
 {
@@ -178,8 +179,8 @@ pub fn grows_quiet(catalog: &Catalog)
     language_is_lawful(catalog);
 }
 
-/// A client's database that stands, all quiet or its open transaction ready, does so again after each command, whatever was
-/// refused on the way, as long as no letter was dropped.
+/// A client's database that stands, all quiet or its open transaction ready, does so again after each command, executed or
+/// refused, whatever was refused on the way, unless the command stops it.
 pub fn stands_again(catalog: &Catalog)
     ensures { StandsAgain (database (catalogue_of catalog.now)) (fits (catalogue_of catalog.now)) }
 {
@@ -199,12 +200,12 @@ pub fn obeyed_unless_refused(catalog: &Catalog)
     served_unless_refused(catalog);
 }
 
-/// A client's database that stands refuses a command only for a reason of the command's own, or for a limit, or since it stops; a lone
-/// statement also where something was refused while it was done.
+/// A client's database that stands refuses a command only for a reason of the command's own, or for a limit, or since it stops.
 pub fn denied_for_a_reason(catalog: &Catalog)
     ensures { DeniesForAReason (database (catalogue_of catalog.now)) (fits (catalogue_of catalog.now)) }
 {
     one_command();
     database_is_of_catalogue(catalog);
     obeyed_unless_refused(catalog);
+    grows_quiet(catalog);
 }

@@ -38,9 +38,8 @@ impl<D: DeskStore, S: SiteStore> Machines<D, S> {
     ghost use Rattle.world.specs.declared.fault.Fault.TheVariants as faults;
     ghost use Rattle.store.specs.declared.letter.Letter.{Letter as LetterNow};
     ghost use Rattle.protocol.specs.Course.{passes};
-    ghost use Rattle.protocol.specs.Leaving.{EndKept};
     ghost use Rattle.desk.specs.Database.{sent};
-    ghost use Rattle.world.specs.Reasons.{DeskTells, SiteTells, Tells};
+    ghost use Rattle.world.specs.Reasons.{CallKept, DeskTells, SiteTells, Tells};
     ghost use Rattle.world.specs.Refused.{IsRefused};
     ghost use Rattle.protocol.specs.World.{begins, desk_restarts};
     ghost use Rattle.desk.specs.Calls.{IsOver};
@@ -151,8 +150,8 @@ impl<D: DeskStore, S: SiteStore> Machines<D, S> {
         ensures sound { OfStores D.is_clean S.is_clean self.new → OfStores D.is_sound S.is_sound self.old → OfStores D.is_sound S.is_sound self.new }
         ensures ok { (db : Database) → IsOfCatalogue db → db.catalogue ≡ catalogue_of self.old.desk.catalog → OfStores D.is_clean S.is_clean self.new → OfStores D.is_sound S.is_sound self.old → AreFit db (held D.kept S.kept self.old) → is_of_site db letter ≡ true
             → IfOk result (λ out. Came db letter out.kept (held D.kept S.kept self.old) (held D.kept S.kept self.new) out.letters out.replies) }
-        ensures ends { (db : Database) → IsOfCatalogue db → db.catalogue ≡ catalogue_of self.old.desk.catalog → OfStores D.is_clean S.is_clean self.new → OfStores D.is_sound S.is_sound self.old → AreFit db (held D.kept S.kept self.old) → is_of_site db letter ≡ true
-            → IfOk result (λ out. EndKept out.kept (sent db letter).body) }
+        ensures keeps { (db : Database) → IsOfCatalogue db → db.catalogue ≡ catalogue_of self.old.desk.catalog → OfStores D.is_clean S.is_clean self.new → OfStores D.is_sound S.is_sound self.old → AreFit db (held D.kept S.kept self.old) → is_of_site db letter ≡ true
+            → IfOk result (λ out. CallKept out.kept (sent db letter).body) }
         ensures told { (db : Database) → IsOfCatalogue db → db.catalogue ≡ catalogue_of self.old.desk.catalog → AreFit db (held D.kept S.kept self.old) → is_of_site db letter ≡ true
             → IfErr result (Tells db (held D.kept S.kept self.old) letter) }
         ensures sent { result ≢ Err faults.Unsent }
@@ -180,8 +179,8 @@ impl<D: DeskStore, S: SiteStore> Machines<D, S> {
             → IfOk result (λ out. Leads db (happens_at db what out.kept choice) (held D.kept S.kept self.old) (held D.kept S.kept self.new) out.letters out.replies) }
         ensures within { (db : Database) (choice : Choice (language db)) (seat : Seat) (letter : LetterNow) → OfStores D.is_clean S.is_clean self.new → OfStores D.is_sound S.is_sound self.old → AreFit db (held D.kept S.kept self.old) → what ≡ things.Take letter
             → seat_of letter.site (held D.kept S.kept self.old).seats ≡ Some seat → IfOk result (λ out. passes (world_of db (held D.kept S.kept self.old) [] []) out.kept choice (sent db letter) ≡ true) }
-        ensures ends { (db : Database) (seat : Seat) (letter : LetterNow) → OfStores D.is_clean S.is_clean self.new → OfStores D.is_sound S.is_sound self.old → AreFit db (held D.kept S.kept self.old) → what ≡ things.Take letter
-            → seat_of letter.site (held D.kept S.kept self.old).seats ≡ Some seat → IfOk result (λ out. EndKept out.kept (sent db letter).body) }
+        ensures keeps { (db : Database) (seat : Seat) (letter : LetterNow) → OfStores D.is_clean S.is_clean self.new → OfStores D.is_sound S.is_sound self.old → AreFit db (held D.kept S.kept self.old) → what ≡ things.Take letter
+            → seat_of letter.site (held D.kept S.kept self.old).seats ≡ Some seat → IfOk result (λ out. CallKept out.kept (sent db letter).body) }
         ensures told { (letter : LetterNow) (seat : Seat) → what ≡ things.Take letter → seat_of letter.site (held D.kept S.kept self.old).seats ≡ Some seat → IfErr result (SiteTells seat letter.body) }
         ensures called { (site : List ℕ) → what ≡ things.Restart site → OnOk result (kept ≡ true) }
         ensures catalog { self.new.desk.catalog ≡ self.old.desk.catalog }

@@ -24,10 +24,9 @@ ghost use Rattle.world.specs.Base.{database, fits};
 ghost use Rattle.world.specs.Fault.{is_memory};
 ghost use Rattle.world.specs.Held.{OfStores, held};
 ghost use Rattle.world.specs.Machines.{AreFit};
-ghost use Rattle.world.specs.Obeying.{Obeys, Stands};
+ghost use Rattle.world.specs.Obeying.{Obeys, Stands, StandsOn};
 ghost use Rattle.world.specs.Serving.{Executes, IsServed, IsServedOn, still_open};
 ghost use Rattle.world.specs.Settled.{AreThoseOf, after_committed, parts_kept, rows_shown};
-ghost use Rattle.world.specs.StandingAgain.{DoesAgain};
 ghost use Rattle.world.specs.Stopping.{stopped_by};
 
 use crate::alone::{is_stop, run_alone, tells_end};
@@ -293,8 +292,8 @@ impl<D: DeskStore, S: SiteStore> Solo<D, S> {
 
     /// A command is executed: BEGIN, COMMIT, ROLLBACK or a statement, which outside BEGIN is a transaction of its own. All letters that it
     /// brings about come, each once, the oldest first. Says what the client hears: unless something is refused on the way, the answer of a
-    /// statement, or that its transaction has begun, was committed, or was rolled back. Whatever was refused, the next command finds all
-    /// quiet or the open transaction ready, unless a letter was dropped. A refusal that stops the database is the answer of every later command.
+    /// statement, or that its transaction has begun, was committed, or was rolled back. Whatever was refused, the command itself too, the next
+    /// one finds all quiet or the open transaction ready. A refusal that stops the database is the answer of every later command.
     pub fn execute(&mut self, text: &str) -> Result<Vec<Notice>, Refusal>
         ensures clean { OfStores D.is_clean S.is_clean self.new.machines → OfStores D.is_clean S.is_clean self.old.machines }
         ensures sound { OfStores D.is_clean S.is_clean self.new.machines → OfStores D.is_sound S.is_sound self.old.machines → OfStores D.is_sound S.is_sound self.new.machines }
@@ -310,10 +309,10 @@ impl<D: DeskStore, S: SiteStore> Solo<D, S> {
         ensures stands { (whole : Relations) (past : List (Deed (language (database (catalogue_of self.old.machines.desk.catalog))))) → self.old.stopped ≡ None → OfStores D.is_clean S.is_clean self.new.machines → OfStores D.is_sound S.is_sound self.old.machines
             → IsServed (database (catalogue_of self.old.machines.desk.catalog)) whole (held D.kept S.kept self.old.machines) past
             → Stands (database (catalogue_of self.old.machines.desk.catalog)) (fits (catalogue_of self.old.machines.desk.catalog)) self.old.current (held D.kept S.kept self.old.machines) past
-            → IfOk result (λ heard. DoesAgain (database (catalogue_of self.old.machines.desk.catalog)) (fits (catalogue_of self.old.machines.desk.catalog)) whole text.now self.old.current (held D.kept S.kept self.old.machines) self.new.current (held D.kept S.kept self.new.machines) past heard.items) }
+            → self.new.stopped ≡ None → StandsOn (database (catalogue_of self.old.machines.desk.catalog)) (fits (catalogue_of self.old.machines.desk.catalog)) whole self.new.current (held D.kept S.kept self.new.machines) past }
         ensures denied { (whole : Relations) (past : List (Deed (language (database (catalogue_of self.old.machines.desk.catalog))))) → self.old.stopped ≡ None → OfStores D.is_clean S.is_clean self.new.machines → OfStores D.is_sound S.is_sound self.old.machines
             → IsServed (database (catalogue_of self.old.machines.desk.catalog)) whole (held D.kept S.kept self.old.machines) past → Stands (database (catalogue_of self.old.machines.desk.catalog)) (fits (catalogue_of self.old.machines.desk.catalog)) self.old.current (held D.kept S.kept self.old.machines) past
-            → IfErr result (Denies (database (catalogue_of self.old.machines.desk.catalog)) text.now self.old.current (held D.kept S.kept self.old.machines) past) }
+            → IfErr result (Denies (database (catalogue_of self.old.machines.desk.catalog)) text.now self.old.current (held D.kept S.kept self.old.machines)) }
         ensures declined { self.old.stopped ≡ None → OfStores D.is_clean S.is_clean self.new.machines → OfStores D.is_sound S.is_sound self.old.machines → AreFit (database (catalogue_of self.old.machines.desk.catalog)) (held D.kept S.kept self.old.machines)
             → IfErr result (Declines (database (catalogue_of self.old.machines.desk.catalog)) text.now self.old.current (held D.kept S.kept self.old.machines) (held D.kept S.kept self.new.machines)) }
         ensures inside { (txn : TxnNow) → self.old.stopped ≡ None → self.old.current ≡ Some txn → IsTextOf (schemas_of (catalogue_of self.old.machines.desk.catalog)) text.now Begin → (result ≡ Err refusals.Busy) ⊎ (result ≡ Err refusals.Memory) }

@@ -5,7 +5,7 @@ use Rattle.world.specs.Held.{held}
 use Rattle.world.specs.Machines.{AreFit}
 use Rattle.world.proofs.Deliveries.{passed_over, turned_away}
 use Rattle.world.proofs.Moving.{if_ok}
-use Rattle.world.proofs.Reasoned.{astray, at_limit}
+use Rattle.world.proofs.Reasoned.{is_unsent, turned_away as is_turned}
 use Rattle.world.proofs.Running.{no_choice, over_of}
 use Rattle.world.proofs.delivering.deliver_one.Goals as goal
 
@@ -16,13 +16,13 @@ returns-in-None-clause-ok g c = λ db of is clean sound fit.
     let after = held g.D.DeskStore.kept g.S.SiteStore.kept c.give_up.new.self in
     let same = c.in-Err.ensures.err (c.give_up.ensures.clean clean) sound in
     let over = over_of db c.take.new.machines.desk.catalog of (is ∙ ap catalogue_of (sym c.take.ensures.catalog)) in
-    let limit = at_limit db before c.args.letter c.in-Err.fault (c.in-Err.ensures.told db of is fit) (sym c.is_limit-limited.ensures ∙ c.if-limited.true) in
-    if_ok c.give_up.result (λ out asked. turned_away db c.args.letter before mid after out.letters out.replies (no_choice db) same limit asked.leads)
+    let why = is_turned db before c.args.letter c.in-Err.fault (c.in-Err.ensures.told db of is fit) (sym c.turns_away-is_turned_away.ensures ∙ c.if-is_turned_away.true) in
+    if_ok c.give_up.result (λ out asked. turned_away db c.args.letter before mid after out.letters out.replies (no_choice db) same why asked.leads)
     (c.give_up.ensures.ok db (no_choice db) over (subst (AreFit db) (sym same) fit))
 
 pub returns-in-None-2-clause-ok : goal.returns-in-None-2-clause-ok
 returns-in-None-2-clause-ok g c = λ db of is clean sound fit.
     let before = held g.D.DeskStore.kept g.S.SiteStore.kept c.args.machines.now in
     let after = held g.D.DeskStore.kept g.S.SiteStore.kept c.take.new.machines in
-    let none = astray db before c.args.letter c.in-Err.fault (c.in-Err.ensures.told db of is fit) (sym c.stopping.ensures ∙ c.in-None-2.is) (sym c.is_limit-limited.ensures ∙ c.if-limited.false) in
+    let none = is_unsent db before c.args.letter c.in-Err.fault (c.in-Err.ensures.told db of is fit) (sym c.stopping.ensures ∙ c.in-None-2.is) (sym c.turns_away-is_turned_away.ensures ∙ c.if-is_turned_away.false) in
     passed_over db c.args.letter before after c.put_out.result.letters c.put_out.result.replies fit none (c.in-Err.ensures.err clean sound) (c.put_out.ensures.letters ∙ c.new.ensures.items) c.put_out.ensures.replies

@@ -7,4 +7,4 @@ use Rattle.world.proofs.laws.denied_for_a_reason.Goals as goal
 pub returns : goal.returns
 returns c =
     let catalogue = catalogue_of c.args.catalog.now in
-    denies (database catalogue) (fits catalogue) c.database_is_of_catalogue.ensures.of_catalogue.schemas c.one_command.ensures c.obeyed_unless_refused.ensures
+    denies (database catalogue) (fits catalogue) c.database_is_of_catalogue.ensures.of_catalogue.schemas c.one_command.ensures c.obeyed_unless_refused.ensures c.grows_quiet.ensures

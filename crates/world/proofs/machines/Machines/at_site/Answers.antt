@@ -1,12 +1,12 @@
 -- Why `at_site` meets its contract.
 use Rattle.std.proofs.Common.{Bool, ◌≡◌, ◌∙◌, ap, sym, subst, Some}
-use Rattle.protocol.specs.Leaving.{EndKept}
 use Rattle.protocol.specs.Letters.{txn_name}
 use Rattle.site.specs.State.{state_of}
 use Rattle.desk.specs.Database.{language, sent}
-use Rattle.world.proofs.EndsKept.{ends_kept}
+use Rattle.world.proofs.CallsKept.{calls_kept}
 use Rattle.world.specs.Held.{held}
 use Rattle.world.specs.Machines.{is_for_site}
+use Rattle.world.specs.Reasons.{CallKept}
 use Rattle.world.specs.Seats.{seat_of}
 use Rattle.world.specs.Seated.{SomeSeatDoes, place_of, seats_in}
 use Rattle.world.proofs.Machinery.{put_out_leads, take_within}
@@ -29,12 +29,12 @@ returns-in-Ok-clause-within g c = λ db choice seat letter clean sound fit is th
     let did = subst (λ what. SomeSeatDoes what seat before.seats after c.in-Ok.letters.items) is (c.in-Ok.ensures.ok seat clean.1 sound.1 fit.sites found) in
     take_within db before seat after c.in-Ok.letters.items fit letter choice (sym (ap is_for_site is) ∙ c.requires) did out.result.kept out.ensures.kept
 
-pub returns-in-Ok-clause-ends : goal.returns-in-Ok-clause-ends
-returns-in-Ok-clause-ends g c = λ db seat letter clean sound fit is there.
+pub returns-in-Ok-clause-keeps : goal.returns-in-Ok-clause-keeps
+returns-in-Ok-clause-keeps g c = λ db seat letter clean sound fit is there.
     let content = g.S.SiteStore.kept in
     let before = held g.D.DeskStore.kept content c.args.self.now in
     let after = seats_in content c.do_among.new.sites.items in
     let found : seat_of (place_of c.args.what) before.seats ≡ Some seat = ap (λ what. seat_of (place_of what) before.seats) is ∙ there in
     let did = subst (λ what. SomeSeatDoes what seat before.seats after c.in-Ok.letters.items) is (c.in-Ok.ensures.ok seat clean.1 sound.1 fit.sites found) in
-    subst (λ (kept : Bool). EndKept {L = language db} kept (sent db letter).body) (sym c.put_out.ensures.kept)
-    (ends_kept letter.site (txn_name letter.txn) c.in-Ok.letters.items db (state_of seat.kept seat.table) letter.body did.does.says)
+    subst (λ (kept : Bool). CallKept {L = language db} kept (sent db letter).body) (sym c.put_out.ensures.kept)
+    (calls_kept letter.site (txn_name letter.txn) c.in-Ok.letters.items db (state_of seat.kept seat.table) letter.body did.does.says)

@@ -6,7 +6,7 @@ use Rattle.meaning.specs.declared.answer.Answer.TheVariants.{Exists}
 use Rattle.world.specs.Held.{held}
 use Rattle.world.specs.Reasons.{Tells}
 use Rattle.world.proofs.machines.Machines.deliver.Goals.{in-Ok, in-Err}
-use Rattle.world.proofs.EndsKept.{any_ok, reply_ends}
+use Rattle.world.proofs.CallsKept.{any_ok, reply_keeps}
 use Rattle.world.proofs.Seating.{seat_there}
 use Rattle.world.proofs.machines.Machines.deliver.Goals as goal
 
@@ -32,11 +32,11 @@ returns-in-Err-at_site-clause-told g c = λ db of is fit of_site.
     let seat = seat_there name (held g.D.DeskStore.kept g.S.SiteStore.kept c.args.self.now).seats (subst (λ names. list_any (λ site. pointwise nat_eq site name) names ≡ true) (sym fit.names) of_site) in
     (seat.0, (seat.1, c.in-Err-at_site.ensures.told c.args.letter seat.0 refl seat.1))
 
-pub returns-in-Ok-at_site-clause-ends : goal.returns-in-Ok-at_site-clause-ends
-returns-in-Ok-at_site-clause-ends g c = λ db of is clean sound fit of_site.
+pub returns-in-Ok-at_site-clause-keeps : goal.returns-in-Ok-at_site-clause-keeps
+returns-in-Ok-at_site-clause-keeps g c = λ db of is clean sound fit of_site.
     let name = c.args.letter.site in
     let seat = seat_there name (held g.D.DeskStore.kept g.S.SiteStore.kept c.args.self.now).seats (subst (λ names. list_any (λ site. pointwise nat_eq site name) names ≡ true) (sym fit.names) of_site) in
-    c.in-Ok-at_site.ensures.ends db seat.0 c.args.letter clean sound fit refl seat.1
+    c.in-Ok-at_site.ensures.keeps db seat.0 c.args.letter clean sound fit refl seat.1
 
-pub returns-then-not-is_order-clause-ends : goal.returns-then-not-is_order-clause-ends
-returns-then-not-is_order-clause-ends g c = λ db of is clean sound fit of_site. any_ok _ (λ out. reply_ends db c.args.letter.body out.kept (sym c.is_order.ensures ∙ c.if-not-is_order.true))
+pub returns-then-not-is_order-clause-keeps : goal.returns-then-not-is_order-clause-keeps
+returns-then-not-is_order-clause-keeps g c = λ db of is clean sound fit of_site. any_ok _ (λ out. reply_keeps db c.args.letter.body out.kept (sym c.is_order.ensures ∙ c.if-not-is_order.true))

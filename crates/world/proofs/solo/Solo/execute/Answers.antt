@@ -1,5 +1,5 @@
 -- Why `execute` meets its contract.
-use Rattle.std.proofs.Common.{List, ℕ, refl, subst}
+use Rattle.std.proofs.Common.{List, ℕ, refl, sym, subst, ◌∙◌}
 use Rattle.catalog.specs.declared.relation.SplitRelation.{SplitRelation}
 use Rattle.catalog.specs.Relation.{catalogue_of}
 use Rattle.protocol.specs.Client.{ReachedLaw}
@@ -13,6 +13,7 @@ use Rattle.world.specs.StandingAgain.{StandsAgain}
 use Rattle.world.proofs.Moving.{if_ok}
 use Rattle.world.proofs.Refusing.{if_err}
 use Rattle.world.proofs.Obeying.{obeys_of}
+use Rattle.world.proofs.StandingAgain.{stands_next}
 use Rattle.world.proofs.solo.Solo.execute.Goals as goal
 
 pub returns-clause-served : goal.returns-clause-served
@@ -33,14 +34,14 @@ returns-clause-obeyed g c = λ whole past going clean sound served stands.
     (c.command-done.ensures.ok (database catalogue) of refl clean sound served.fit)
 
 pub returns-clause-stands : goal.returns-clause-stands
-returns-clause-stands g c = λ whole past going clean sound served stands.
+returns-clause-stands g c = λ whole past going clean sound served stands going_on.
     let catalogue = catalogue_of c.args.self.now.machines.desk.catalog in
     let before = held g.D.DeskStore.kept g.S.SiteStore.kept c.args.self.now.machines in
     let after = held g.D.DeskStore.kept g.S.SiteStore.kept c.command-done.new.self.machines in
     let of = subst (λ (x : List (List ℕ) × List SplitRelation). IsOfCatalogue (database (catalogue_of x))) c.catalog.ensures c.database_is_of_catalogue.ensures.of_catalogue in
     let law = subst (λ (x : List (List ℕ) × List SplitRelation). StandsAgain (database (catalogue_of x)) (fits (catalogue_of x))) c.catalog-5.ensures c.stands_again.ensures in
-    if_ok c.command-done.result (λ heard executes. (executes, law whole c.args.text.now c.args.self.now.current c.command-done.new.self.current before after past heard.items served stands executes))
-    (c.command-done.ensures.ok (database catalogue) of refl clean sound served.fit)
+    stands_next (database catalogue) (fits catalogue) law whole c.args.text.now c.args.self.now.current c.command-done.new.self.current before after past c.command-done.result (λ heard. heard.items) served stands
+    (c.command-done.ensures.ok (database catalogue) of refl clean sound served.fit) (c.command-done.ensures.denied (database catalogue) of refl clean sound served.fit) c.command-done.ensures.still (sym c.stopped_by-self.ensures ∙ going_on)
 
 pub returns-clause-denied : goal.returns-clause-denied
 returns-clause-denied g c = λ whole past going clean sound served stands.
