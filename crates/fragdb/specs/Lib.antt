@@ -17,6 +17,7 @@ pub mod CatalogFile
 pub mod Check
 pub mod Plan
 pub mod Usage
+pub mod Explaining
 pub mod Outcome
 pub mod Perform
 -- Helpers.

@@ -1,8 +1,9 @@
 -- What the words of the command line ask for.
-use Rattle.std.specs.Prelude.{◌≡◌, true, List, [], ◌∷◌, Option, Some, codes, option_map}
+use Rattle.std.specs.Prelude.{◌≡◌, Bool, true, false, List, [], ◌∷◌, Option, Some, None, bytes_eq, codes, option_map}
 use Rattle.std.specs.List.{AllByRecursion}
 use Rattle.clap.specs.Words.{App, Row, Rule, Text, first_of, new_app, new_rule, subcommand_of, with_rule, with_subcommand}
 use Rattle.clap.specs.Simple.{new_shape}
+use Rattle.clap.specs.declared.builder.action.ArgAction.TheVariants.{SetTrue}
 use Rattle.clap.specs.declared.error.kind.ErrorKind.{ErrorKind}
 use Rattle.clap.specs.declared.error.kind.ErrorKind.TheVariants.{DisplayHelp, DisplayVersion, OutOfMemory}
 use Rattle.fragdb.specs.declared.outcome.Status.{Status}
@@ -30,7 +31,11 @@ option_argument name word = record (new_rule name) { long = Some word }
 abbrev pub of_script : Text → App
 of_script name = with_rule (with_rule (new_app name) (option_argument (codes "CATALOG") (codes "catalog"))) (argument (codes "SCRIPT"))
 
--- the command line's grammar: `fragdb solo`, `fragdb check CATALOG`, `fragdb plan CATALOG STATEMENT` and `fragdb play`
+-- the command with a flag that asks for explanations
+abbrev pub explained : App → App
+explained app = with_rule app (record (option_argument (codes "EXPLAIN") (codes "explain")) { action = Some SetTrue })
+
+-- the command line's grammar: `fragdb solo`, `fragdb check CATALOG`, both with a flag, `fragdb plan CATALOG STATEMENT` and `fragdb play`
 abbrev pub program : App
 program = record {
   top = record (new_shape (codes "fragdb")) { has_version = true; subcommand_required = true };
@@ -39,21 +44,40 @@ program = record {
 
 abbrev pub usage : App
 usage =
-    with_subcommand (with_subcommand (with_subcommand (with_subcommand program (of_script (codes "solo")).top) (command_with (codes "check") (codes "CATALOG")).top)
+    with_subcommand (with_subcommand (with_subcommand (with_subcommand program (explained (of_script (codes "solo"))).top) (explained (command_with (codes "check") (codes "CATALOG"))).top)
     (command_with_two (codes "plan") (codes "CATALOG") (codes "STATEMENT")).top) (of_script (codes "play")).top
 
--- the words name this command, and give it these arguments, each under its name; none stands for one that is not given
-pub record IsGiven (words : List Text) (request : Text × List (Text × Option Text)) : Type 0 where
+-- whether a flag's value says that it is set
+abbrev pub is_set : Option Text → Bool
+is_set (Some word) = bytes_eq word (codes "true")
+is_set None = false
+
+-- the words name this command, and give it these arguments, each under its name; none stands for one that is not given; and
+-- they set just these of its flags
+pub record IsGiven (words : List Text) (request : Text × List (Text × Option Text)) (flags : List (Text × Bool)) : Type 0 where
   pub rows : List Row
   pub command : subcommand_of usage words ≡ Some (request.0, rows)
   pub arguments : AllByRecursion (λ a. first_of a.0 rows ≡ a.1) request.1
+  pub set : AllByRecursion (λ flag. is_set (first_of flag.0 rows) ≡ flag.1) flags
 
 -- a request in words: the command, and its arguments, each with its name
 abbrev pub asked : Request → Text × List (Text × Option Text)
-asked (Solo catalog script) = (codes "solo", (codes "CATALOG", option_map (λ file. file.now) catalog) ∷ (codes "SCRIPT", Some script.now) ∷ [])
-asked (Check catalog) = (codes "check", (codes "CATALOG", Some catalog.now) ∷ [])
+asked (Solo catalog script explain) = (codes "solo", (codes "CATALOG", option_map (λ file. file.now) catalog) ∷ (codes "SCRIPT", Some script.now) ∷ [])
+asked (Check catalog explain) = (codes "check", (codes "CATALOG", Some catalog.now) ∷ [])
 asked (Plan catalog statement) = (codes "plan", (codes "CATALOG", Some catalog.now) ∷ (codes "STATEMENT", Some statement.now) ∷ [])
 asked (Play catalog script) = (codes "play", (codes "CATALOG", option_map (λ file. file.now) catalog) ∷ (codes "SCRIPT", Some script.now) ∷ [])
+
+-- whether a request is to be explained where it is refused
+abbrev pub explains : Request → Bool
+explains (Solo catalog script explain) = explain
+explains (Check catalog explain) = explain
+explains _ = false
+
+-- the flags of a request's command, and whether they are set
+abbrev pub flags_of : Request → List (Text × Bool)
+flags_of (Solo catalog script explain) = (codes "EXPLAIN", explain) ∷ []
+flags_of (Check catalog explain) = (codes "EXPLAIN", explain) ∷ []
+flags_of _ = []
 
 -- the exit status where clap gives a text in place of a request
 abbrev pub usage_status : ErrorKind → Status

@@ -14,7 +14,7 @@ use std::io::Read;
 use terms::memory::Memory;
 
 /// How many bytes a catalogue may have.
-const CATALOG_LIMIT: usize = 65_536;
+pub const CATALOG_LIMIT: usize = 65_536;
 
 /// Why a file gives no catalogue.
 #[derive(Debug, Drop)]
@@ -74,7 +74,7 @@ pub fn read_catalog<'a, R: Read + Drop>(
 }
 
 /// The text that these bytes are, if they are few enough.
-fn text_of(bytes: &[u8]) -> Result<&str, CatFault>
+pub fn text_of(bytes: &[u8]) -> Result<&str, CatFault>
     ensures text { IfOk result (λ text. IsTextOf bytes.now text.now) }
     ensures none { IfErr result (λ fault. IsNoText bytes.now fault.rule) }
 {

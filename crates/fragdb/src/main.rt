@@ -12,6 +12,7 @@ mod check;
 mod client;
 mod cut;
 mod delivering;
+mod explaining;
 mod fault;
 mod input;
 mod outcome;
@@ -30,9 +31,12 @@ mod solo;
 mod usage;
 
 use crate::built_in::{BUILT_IN, BUILT_IN_NAME};
+use crate::explaining::explain_outcome;
 use crate::fault::ProgramFault;
+use crate::input::read_up_to;
 use crate::outcome::{Outcome, Status, exit};
 use crate::perform::perform;
+use crate::solo::SCRIPT_LIMIT;
 use crate::usage::{Request, read_words, show_usage, unreadable_words};
 use std::io::{BufWriter, Read, Write};
 use std::process::ExitCode;
@@ -56,32 +60,103 @@ fn run(rt: &HostRuntime) -> Status {
             return show_usage(&error, &mut output, &mut errors);
         }
     };
-    let outcome = match read_words(alloc, words.as_slice()) {
-        Ok(request) => match request.catalog() {
-            Some(file) => perform_over(rt, request, file, fs::open(rt, file), &mut output),
-            None => {
-                let catalog = Ok(BUILT_IN.as_bytes());
-                perform_over(rt, request, BUILT_IN_NAME, catalog, &mut output)
-            }
-        },
-        Err(error) => return show_usage(&error, &mut output, &mut errors),
-    };
-    exit(&mut errors, &outcome)
+    match read_words(alloc, words.as_slice()) {
+        Ok(request) => do_request(rt, request, &mut output, &mut errors),
+        Err(error) => show_usage(&error, &mut output, &mut errors),
+    }
+}
+
+/// Does what a request asks for, over the catalogue that it names or the built-in one, and tells what it came to.
+fn do_request<W: Write, E: Write>(
+    rt: &HostRuntime,
+    request: Request<'_>,
+    output: &mut W,
+    errors: &mut E,
+) -> Status {
+    match request.catalog() {
+        Some(file) => perform_over(rt, request, file, fs::open(rt, file), output, errors),
+        None => {
+            let catalog = Ok(BUILT_IN.as_bytes());
+            perform_over(rt, request, BUILT_IN_NAME, catalog, output, errors)
+        }
+    }
 }
 
 /// Opens the file that a request names, and does what it asks for, over this catalogue where it runs or plays a script.
-fn perform_over<'a, C: Read + Drop, W: Write>(
+fn perform_over<C: Read + Drop, W: Write, E: Write>(
     rt: &HostRuntime,
-    request: Request<'a>,
-    catalog_file: &'a str,
+    request: Request<'_>,
+    catalog_file: &str,
     catalog: io::Result<C>,
     output: &mut W,
-) -> Outcome<'a> {
+    errors: &mut E,
+) -> Status {
     if request.is_of_input() {
         let input = Ok(rt.stdin());
-        perform(rt.alloc(), request, catalog_file, catalog, input, output)
+        perform_on(rt, request, catalog_file, catalog, input, output, errors)
     } else {
         let input = fs::open(rt, request.file());
-        perform(rt.alloc(), request, catalog_file, catalog, input, output)
+        perform_on(rt, request, catalog_file, catalog, input, output, errors)
+    }
+}
+
+/// Does what a request asks for over this input. Where refusals are to be explained the input is read whole first, as
+/// it is looked at once more afterwards.
+fn perform_on<C: Read + Drop, R: Read + Drop, W: Write, E: Write>(
+    rt: &HostRuntime,
+    request: Request<'_>,
+    catalog_file: &str,
+    catalog: io::Result<C>,
+    input: io::Result<R>,
+    output: &mut W,
+    errors: &mut E,
+) -> Status {
+    let alloc = rt.alloc();
+    if !request.explains() {
+        let outcome = perform(alloc, request, catalog_file, catalog, input, output);
+        return exit(errors, &outcome);
+    }
+    match input {
+        Ok(input) => match read_up_to(alloc, request.file(), input, SCRIPT_LIMIT + 1) {
+            Ok(bytes) => {
+                let input = Ok(bytes.as_slice());
+                let outcome = perform(alloc, request, catalog_file, catalog, input, output);
+                let status = exit(errors, &outcome);
+                let _ = explain(rt, request, &outcome, bytes.as_slice(), errors);
+                status
+            }
+            Err(fault) => exit(errors, &Outcome::Stopped(fault)),
+        },
+        Err(error) => {
+            let input: io::Result<&[u8]> = Err(error);
+            let outcome = perform(alloc, request, catalog_file, catalog, input, output);
+            let status = exit(errors, &outcome);
+            let _ = explain(rt, request, &outcome, &[], errors);
+            status
+        }
+    }
+}
+
+/// Explains what was refused of a request, whose input had these bytes. The catalogue of a script is opened once more.
+fn explain<E: Write>(
+    rt: &HostRuntime,
+    request: Request<'_>,
+    outcome: &Outcome<'_>,
+    bytes: &[u8],
+    errors: &mut E,
+) -> io::Result<()> {
+    let alloc = rt.alloc();
+    match (request, request.catalog()) {
+        (Request::Check { catalog, .. }, _) => {
+            explain_outcome(alloc, outcome, catalog, bytes, bytes, errors)
+        }
+        (_, Some(file)) => {
+            let catalog = fs::open(rt, file)?;
+            explain_outcome(alloc, outcome, file, catalog, bytes, errors)
+        }
+        (_, None) => {
+            let catalog = BUILT_IN.as_bytes();
+            explain_outcome(alloc, outcome, BUILT_IN_NAME, catalog, bytes, errors)
+        }
     }
 }

@@ -4,6 +4,7 @@ ghost use Rattle.std.specs.Prelude.{◌≡◌, IfErr, IfOk, IfSome};
 ghost use Rattle.std.specs.Io.KnownBytes.{Keeps};
 ghost use Rattle.fragdb.specs.Perform.{IsIdle, IsStopped, IsUnread, Performs, PerformsCheck, PerformsPlan, PerformsOver, PerformsPlayOf, PerformsSolo, StopsIdle, StopsUncatalogued, StopsUnread};
 ghost use Rattle.fragdb.specs.Perform as spec;
+ghost use Rattle.fragdb.specs.Usage.{explains};
 
 use crate::catalog_file::CatalogFault;
 use crate::check::check;
@@ -24,7 +25,7 @@ impl<'a> Request<'a> {
     {
         match self {
             Request::Solo { script, .. } | Request::Play { script, .. } => script,
-            Request::Check { catalog } | Request::Plan { catalog, .. } => catalog,
+            Request::Check { catalog, .. } | Request::Plan { catalog, .. } => catalog,
         }
     }
 
@@ -35,6 +36,16 @@ impl<'a> Request<'a> {
         match self {
             Request::Solo { catalog, .. } | Request::Play { catalog, .. } => *catalog,
             _ => None,
+        }
+    }
+
+    /// Whether it is to be explained why something is refused.
+    pub fn explains(&self) -> bool
+        ensures { result ≡ explains self.now }
+    {
+        match self {
+            Request::Solo { explain, .. } | Request::Check { explain, .. } => *explain,
+            _ => false,
         }
     }
 
@@ -71,7 +82,7 @@ pub fn perform<'a, C: Read + Drop, R: Read + Drop, W: Write>(
         Request::Solo { script, .. } => {
             perform_solo(alloc, catalog_file, catalog, script, input, output)
         }
-        Request::Check { catalog: file } => perform_check(alloc, file, input, output),
+        Request::Check { catalog: file, .. } => perform_check(alloc, file, input, output),
         Request::Plan {
             catalog: file,
             statement,

@@ -45,7 +45,7 @@ impl From<OutOfMemory> for ScriptFault {
 
 /// What one line says.
 #[derive(Clone, Copy, Debug, PartialEq, Eq)]
-enum Line<'a> {
+pub enum Line<'a> {
     PassedOver,
     Asks(Item<'a>),
     Malformed,
@@ -69,7 +69,8 @@ pub fn items<'a>(alloc: Global, script: &'a [u8]) -> Result<Vec<Item<'a>>, Scrip
     Ok(items)
 }
 
-fn read_line(line: &[u8]) -> Line<'_>
+/// What a line says, which is given without its line feed.
+pub fn read_line(line: &[u8]) -> Line<'_>
     ensures { reading_of_line result ≡ reading_of line.now }
 {
     let Ok(text) = str::from_utf8(line) else {

@@ -1,16 +1,17 @@
 //! The words of the command line.
 
-ghost use Rattle.std.specs.Prelude.{◌≡◌, ◌≢◌, ◌≤◌, ◌<◌, ◌⊎◌, ◌∷◌, [], IfOk, IsOkAnd, None, Some, codes, false, length, map};
+ghost use Rattle.std.specs.Prelude.{◌≡◌, ◌≢◌, ◌≤◌, ◌<◌, ◌⊎◌, ◌∷◌, [], IfOk, IsOkAnd, None, Some, codes, false, length, map, option_map};
 ghost use Rattle.std.specs.Io.KnownBytes.{Keeps};
 ghost use Rattle.std.specs.IoError.{error_kind};
 ghost use Rattle.clap.specs.declared.builder.command.Command.TheViews.{out-Command};
 ghost use Rattle.clap.specs.Words.{app_of, kind_of};
-ghost use Rattle.fragdb.specs.Usage.{asked, command_with, command_with_two, of_script, usage, usage_status, IsGiven};
+ghost use Rattle.fragdb.specs.Usage.{asked, command_with, command_with_two, explained, explains, flags_of, of_script, usage, usage_status, IsGiven};
+ghost use Rattle.fragdb.specs.Usage as spec;
 
 use crate::fault::ProgramFault;
 use crate::outcome::{Outcome, Status, exit};
 use clap::error::ErrorKind;
-use clap::{Arg, Command, Error};
+use clap::{Arg, ArgAction, Command, Error};
 use std::alloc::{AllocError, Global};
 use std::convert::AsStr;
 use std::io;
@@ -24,10 +25,14 @@ pub enum Request<'a> {
     Solo {
         catalog: Option<&'a str>,
         script: &'a str,
+        /// Whether it is to be explained why lines are refused.
+        explain: bool,
     },
     /// To check this catalogue, a file's name.
     Check {
         catalog: &'a str,
+        /// Whether it is to be explained why it is refused.
+        explain: bool,
     },
     /// To plan this statement over the relations of this catalogue, a file's name.
     Plan {
@@ -52,6 +57,7 @@ Examples:
   echo \"INSERT INTO item VALUES (1, 3, 'a')\" | fragdb
   fragdb solo script.txt
   fragdb solo --catalog catalogue.toml script.txt
+  fragdb solo --explain script.txt
   fragdb check catalogue.toml
   fragdb plan catalogue.toml 'SELECT name FROM emp WHERE id = 7'
   fragdb play --catalog catalogue.toml schedule.txt";
@@ -91,13 +97,14 @@ const AFTER_PLAY: &str =
 
 /// What the words ask for, of which the first names the program. With no other word that is `solo -`.
 pub fn read_words<'a, S: AsStr>(alloc: Global, words: &'a [S]) -> Result<Request<'a>, Error>
-    ensures alone { length words.entry.now ≤ 1 → IsOkAnd result (λ request. asked request ≡ (codes "solo", (codes "CATALOG", None) ∷ (codes "SCRIPT", Some (codes "-")) ∷ [])) }
-    ensures given { IfOk result (λ request. 1 < length words.entry.now → IsGiven (map S.text words.entry.now) (asked request)) }
+    ensures alone { length words.entry.now ≤ 1 → IsOkAnd result (λ request. (asked request ≡ (codes "solo", (codes "CATALOG", None) ∷ (codes "SCRIPT", Some (codes "-")) ∷ [])) × (explains request ≡ false)) }
+    ensures given { IfOk result (λ request. 1 < length words.entry.now → IsGiven (map S.text words.entry.now) (asked request) (flags_of request)) }
 {
     if words.len() <= 1 {
         return Ok(Request::Solo {
             catalog: None,
             script: "-",
+            explain: false,
         });
     }
     let mut command = command(alloc)?;
@@ -106,12 +113,18 @@ pub fn read_words<'a, S: AsStr>(alloc: Global, words: &'a [S]) -> Result<Request
         && let Some(script) = solo.get_str("SCRIPT")
     {
         let catalog = solo.get_str("CATALOG");
-        return Ok(Request::Solo { catalog, script });
+        let explain = is_set(solo.get_str("EXPLAIN"));
+        return Ok(Request::Solo {
+            catalog,
+            script,
+            explain,
+        });
     }
     if let Some(("check", check)) = matches.subcommand()
         && let Some(catalog) = check.get_str("CATALOG")
     {
-        return Ok(Request::Check { catalog });
+        let explain = is_set(check.get_str("EXPLAIN"));
+        return Ok(Request::Check { catalog, explain });
     }
     if let Some(("plan", plan)) = matches.subcommand()
         && let Some(catalog) = plan.get_str("CATALOG")
@@ -126,6 +139,16 @@ pub fn read_words<'a, S: AsStr>(alloc: Global, words: &'a [S]) -> Result<Request
         return Ok(Request::Play { catalog, script });
     }
     Err(command.error(ErrorKind::MissingSubcommand, "a command is missing")?)
+}
+
+/// Whether a flag's value says that it is set.
+fn is_set(value: Option<&str>) -> bool
+    ensures { result ≡ spec.is_set (option_map (λ word. word.now) value.entry) }
+{
+    match value {
+        Some(word) => word == "true",
+        None => false,
+    }
 }
 
 /// The fault of a command line that could not be read.
@@ -161,6 +184,18 @@ fn command<'a>(alloc: Global) -> Result<Command<'a>, AllocError>
 }
 
 fn solo_command<'a>(alloc: Global) -> Result<Command<'a>, AllocError>
+    ensures shape { IfOk result (λ command. app_of command ≡ explained (of_script (codes "solo"))) }
+    ensures local { IfOk result (λ command. (out-Command command).has_globals ≡ false) }
+{
+    let explain = Arg::new(alloc, "EXPLAIN")
+        .long("explain")
+        .action(ArgAction::SetTrue)
+        .help("Explains on standard error why lines are refused");
+    plain_solo_command(alloc)?.arg(explain)
+}
+
+/// The command `solo` without its flag.
+fn plain_solo_command<'a>(alloc: Global) -> Result<Command<'a>, AllocError>
     ensures shape { IfOk result (λ command. app_of command ≡ of_script (codes "solo")) }
     ensures local { IfOk result (λ command. (out-Command command).has_globals ≡ false) }
 {
@@ -178,15 +213,20 @@ fn solo_command<'a>(alloc: Global) -> Result<Command<'a>, AllocError>
 }
 
 fn check_command<'a>(alloc: Global) -> Result<Command<'a>, AllocError>
-    ensures shape { IfOk result (λ command. app_of command ≡ command_with (codes "check") (codes "CATALOG")) }
+    ensures shape { IfOk result (λ command. app_of command ≡ explained (command_with (codes "check") (codes "CATALOG"))) }
     ensures local { IfOk result (λ command. (out-Command command).has_globals ≡ false) }
 {
     let catalog = Arg::new(alloc, "CATALOG")
         .required(true)
         .help("A file with a catalogue, in TOML");
+    let explain = Arg::new(alloc, "EXPLAIN")
+        .long("explain")
+        .action(ArgAction::SetTrue)
+        .help("Explains on standard error why the catalogue is refused");
     Command::new(alloc, "check")
         .about("Checks a catalogue and lists its fragments")
-        .arg(catalog)
+        .arg(catalog)?
+        .arg(explain)
 }
 
 fn plan_command<'a>(alloc: Global) -> Result<Command<'a>, AllocError>

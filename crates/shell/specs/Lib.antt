@@ -2,3 +2,8 @@
 pub mod Nearest
 pub mod Lines
 pub mod Told
+-- How rows are shown.
+pub mod Separated
+pub mod Csv
+pub mod Json
+pub mod Mode

@@ -1,7 +1,7 @@
 use Rattle.std.proofs.Common.{◌≡◌, ℕ, List, Some, ap, codes, map, ◌∙◌, sym}
 use Rattle.clap.specs.Words.{app_of, found_of, is_simple, subcommand_of}
-use Rattle.fragdb.specs.Usage.{usage}
-use Rattle.fragdb.proofs.UsageLemmas.{given_one, given_perhaps, given_two, subcommand_name_of-rows}
+use Rattle.fragdb.specs.Usage.{is_set, usage}
+use Rattle.fragdb.proofs.UsageLemmas.{given_flagged, given_one, given_perhaps, given_two, subcommand_name_of-rows}
 use Rattle.clap.proofs.WalkLemmas.{first_value-rows}
 use Rattle.fragdb.proofs.usage.read_words.Goals as goal
 
@@ -12,9 +12,10 @@ returns-clause-given g c =
     let name = c.in-Some-solo-default.ensures.name ∙ subcommand_name_of-rows c.in_ok-matches.matches in
     let rows = c.in-Some-solo-default.ensures.rows in
     let script = c.in-Some.ensures in
-    λ _. given_perhaps (map g.S.AsStr.text c.args.words.now) _ (codes "solo") _ (codes "CATALOG") _ (codes "SCRIPT") c.in-Some.script.now entered
+    λ _. given_flagged (map g.S.AsStr.text c.args.words.now) _ (codes "solo") _ (codes "CATALOG") _ (codes "SCRIPT") c.in-Some.script.now (codes "EXPLAIN") c.is_set-explain.result entered
     (ap (λ (t : List ℕ). Some t) (sym c.in-Some-solo-default.is-solo) ∙ name) rows
     (c.get_str-catalog.ensures ∙ first_value-rows (found_of c.in-Some-solo-default.solo.now) (codes "CATALOG")) (script ∙ first_value-rows (found_of c.in-Some-solo-default.solo.now) (codes "SCRIPT"))
+    (sym (c.is_set-explain.ensures ∙ ap is_set (c.get_str-2.ensures ∙ first_value-rows (found_of c.in-Some-solo-default.solo.now) (codes "EXPLAIN"))))
 
 pub returns-2-clause-given : goal.returns-2-clause-given
 returns-2-clause-given g c =
@@ -23,8 +24,9 @@ returns-2-clause-given g c =
     let name = c.in-Some-check-default.ensures.name ∙ subcommand_name_of-rows c.in_ok-matches.matches in
     let rows = c.in-Some-check-default.ensures.rows in
     let catalog = c.in-Some-get_str.ensures in
-    λ _. given_one (map g.S.AsStr.text c.args.words.now) _ (codes "check") _ (codes "CATALOG") c.in-Some-get_str.catalog.now entered
+    λ _. given_one (map g.S.AsStr.text c.args.words.now) _ (codes "check") _ (codes "CATALOG") c.in-Some-get_str.catalog.now (codes "EXPLAIN") c.is_set-explain-2.result entered
     (ap (λ (t : List ℕ). Some t) (sym c.in-Some-check-default.is-check) ∙ name) rows (catalog ∙ first_value-rows (found_of c.in-Some-check-default.check.now) (codes "CATALOG"))
+    (sym (c.is_set-explain-2.ensures ∙ ap is_set (c.get_str-4.ensures ∙ first_value-rows (found_of c.in-Some-check-default.check.now) (codes "EXPLAIN"))))
 
 pub returns-3-clause-given : goal.returns-3-clause-given
 returns-3-clause-given g c =
