@@ -1,6 +1,6 @@
 //! Letters of transactions that have a commit row.
 
-ghost use Rattle.std.specs.Prelude.{◌≡◌, ℕ, List, ◌⊎◌, false, map, Some, IfOk, OnErr};
+ghost use Rattle.std.specs.Prelude.{◌≤◌, ◌≡◌, ℕ, List, ◌⊎◌, false, map, Some, IfOk, OnErr};
 ghost use Rattle.protocol.specs.Desk.{on_row, on_ack};
 ghost use Rattle.protocol.specs.Letters.{txn_name, name_of};
 ghost use Rattle.store.specs.DeskContent.{IsUnchanged};
@@ -37,6 +37,7 @@ pub(crate) fn on_row<S: DeskStore>(
     kept: bool,
 ) -> Result<Turn, Memory>
     ensures clean { S.is_clean store.new → S.is_clean store.old }
+    ensures counts { S.refused store.old ≤ S.refused store.new }
     ensures sound { S.is_clean store.new → S.is_sound store.old → S.is_sound store.new }
     ensures uncalled { kept ≡ false → store.new ≡ store.old }
     ensures turn { (db : Database) → IfOk result (λ turn. IsTurn db txn (Some (standing.Committed committed.now)) turn
@@ -99,6 +100,7 @@ fn on_ack<S: DeskStore>(
     kept: bool,
 ) -> Result<Turn, Memory>
     ensures clean { S.is_clean store.new → S.is_clean store.old }
+    ensures counts { S.refused store.old ≤ S.refused store.new }
     ensures sound { S.is_clean store.new → S.is_sound store.old → S.is_sound store.new }
     ensures uncalled { kept ≡ false → store.new ≡ store.old }
     ensures turn { (db : Database) → IfOk result (λ turn. IsTurn db txn (Some (standing.Committed committed.now)) turn

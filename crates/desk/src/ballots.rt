@@ -1,6 +1,6 @@
 //! Votes come.
 
-ghost use Rattle.std.specs.Prelude.{◌≡◌, ◌⊎◌, false, None, IfOk, OnErr};
+ghost use Rattle.std.specs.Prelude.{◌≤◌, ◌≡◌, ◌⊎◌, false, None, IfOk, OnErr};
 ghost use Rattle.protocol.specs.Desk.{Choice, on_known};
 ghost use Rattle.protocol.specs.Letters.{is_no, txn_name};
 ghost use Rattle.store.specs.DeskContent.{IsUnchanged};
@@ -92,6 +92,7 @@ pub(crate) fn on_vote<S: DeskStore>(
     kept: bool,
 ) -> Result<Turn, Memory>
     ensures clean { S.is_clean store.new → S.is_clean store.old }
+    ensures counts { S.refused store.old ≤ S.refused store.new }
     ensures sound { S.is_clean store.new → S.is_sound store.old → S.is_sound store.new }
     ensures uncalled { kept ≡ false → store.new ≡ store.old }
     ensures turn { (db : Database) (choice : Choice (language db)) → AreSpots db undecided.now.spots

@@ -170,6 +170,7 @@ impl<S: DeskStore> Desk<S> {
     /// A letter comes. One of a site that the catalogue doesn't have, and one that no site sends, are passed over.
     pub fn take(&mut self, letter: &Letter) -> Result<Out, Refusal>
         ensures clean { S.is_clean self.new.store → S.is_clean self.old.store }
+        ensures counts { S.refused self.old.store ≤ S.refused self.new.store }
         ensures keeps { S.is_clean self.new.store → S.is_sound self.old.store → S.is_sound self.new.store }
         ensures ok { (db : Database) (reply : Reply) → IsOfCatalogue db → db.catalogue ≡ catalogue_of self.old.catalog → S.is_clean self.new.store → S.is_sound self.old.store → Fits db (S.kept self.old.store) (table_of self.old.present)
             → letter.now.body ≡ bodies.Reply reply → list_any (λ site. pointwise nat_eq site letter.now.site) db.sites ≡ true
@@ -193,6 +194,7 @@ impl<S: DeskStore> Desk<S> {
     /// So, but where `kept` is false the store isn't called, and counts as having refused.
     pub fn take_kept(&mut self, letter: &Letter, kept: bool) -> Result<Out, Refusal>
         ensures clean { S.is_clean self.new.store → S.is_clean self.old.store }
+        ensures counts { S.refused self.old.store ≤ S.refused self.new.store }
         ensures keeps { S.is_clean self.new.store → S.is_sound self.old.store → S.is_sound self.new.store }
         ensures uncalled { kept ≡ false → self.new.store ≡ self.old.store }
         ensures ok { (db : Database) (reply : Reply) → IsOfCatalogue db → db.catalogue ≡ catalogue_of self.old.catalog → S.is_clean self.new.store → S.is_sound self.old.store → Fits db (S.kept self.old.store) (table_of self.old.present)
@@ -228,6 +230,7 @@ impl<S: DeskStore> Desk<S> {
     /// voted YES of a decided transaction hears Commit again. On a refusal nothing has changed.
     pub fn restart(&mut self) -> Result<Out, Refusal>
         ensures clean { S.is_clean self.new.store → S.is_clean self.old.store }
+        ensures counts { S.refused self.old.store ≤ S.refused self.new.store }
         ensures sound { S.is_clean self.new.store → OnOk result (S.is_sound self.new.store) }
         ensures keeps { S.is_clean self.new.store → S.is_sound self.old.store → S.is_sound self.new.store }
         ensures ok { (db : Database) → S.is_clean self.new.store → S.is_sound self.old.store → Fits db (S.kept self.old.store) (table_of self.old.present)
@@ -249,6 +252,7 @@ impl<S: DeskStore> Desk<S> {
     /// So, but where `kept` is false the store isn't called, and counts as having refused.
     pub fn restart_kept(&mut self, kept: bool) -> Result<Out, Refusal>
         ensures clean { S.is_clean self.new.store → S.is_clean self.old.store }
+        ensures counts { S.refused self.old.store ≤ S.refused self.new.store }
         ensures sound { S.is_clean self.new.store → OnOk result (S.is_sound self.new.store) }
         ensures keeps { S.is_clean self.new.store → S.is_sound self.old.store → S.is_sound self.new.store }
         ensures uncalled { kept ≡ false → self.new.store ≡ self.old.store }
@@ -275,6 +279,7 @@ impl<S: DeskStore> Desk<S> {
     /// All that the store keeps.
     pub fn kept(&mut self) -> Result<DeskKept, Refusal>
         ensures clean { S.is_clean self.new.store → S.is_clean self.old.store }
+        ensures counts { S.refused self.old.store ≤ S.refused self.new.store }
         ensures keeps { S.is_clean self.new.store → S.is_sound self.old.store → S.is_sound self.new.store }
         ensures all { S.is_clean self.new.store → IfOk result (Lists (S.kept self.new.store)) }
         ensures same { S.is_clean self.new.store → S.is_sound self.old.store → IsUnchanged (S.kept self.old.store) (S.kept self.new.store) }

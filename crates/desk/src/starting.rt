@@ -98,6 +98,7 @@ pub(crate) fn lost(present: &Present) -> Result<Vec<Notice>, Memory>
 /// Loads what the store keeps, and begins the next life. On a refusal nothing has changed.
 pub(crate) fn begin<S: DeskStore>(store: &mut S, alloc: Global) -> Result<Beginning, Refusal>
     ensures clean { S.is_clean store.new → S.is_clean store.old }
+    ensures counts { S.refused store.old ≤ S.refused store.new }
     ensures sound { S.is_clean store.new → OnOk result (S.is_sound store.new) }
     ensures keeps { S.is_clean store.new → S.is_sound store.old → S.is_sound store.new }
     ensures rises { (db : Database) → S.is_clean store.new → IfOk result (λ begun. Rises db (S.kept store.new) (table_from begun.standings.entries 0 begun.life 0)) }
@@ -136,6 +137,7 @@ pub(crate) fn begin<S: DeskStore>(store: &mut S, alloc: Global) -> Result<Beginn
 /// changed.
 pub(crate) fn restart<S: DeskStore>(store: &mut S, present: &mut Present) -> Result<Out, Refusal>
     ensures clean { S.is_clean store.new → S.is_clean store.old }
+    ensures counts { S.refused store.old ≤ S.refused store.new }
     ensures sound { S.is_clean store.new → OnOk result (S.is_sound store.new) }
     ensures keeps { S.is_clean store.new → S.is_sound store.old → S.is_sound store.new }
     ensures ok { (db : Database) → S.is_clean store.new → S.is_sound store.old → Fits db (S.kept store.old) (table_of present.old)

@@ -1,6 +1,6 @@
 //! Letters of sites by which no statement goes on.
 
-ghost use Rattle.std.specs.Prelude.{◌≡◌, ◌≢◌, ◌⊎◌, ◌<◌, [], true, false, Option, None, Some, is_some, vec_len, IfOk, IfErr, OnErr};
+ghost use Rattle.std.specs.Prelude.{◌≤◌, ◌≡◌, ◌≢◌, ◌⊎◌, ◌<◌, [], true, false, Option, None, Some, is_some, vec_len, IfOk, IfErr, OnErr};
 ghost use Rattle.std.specs.Option.{option_copied};
 ghost use Rattle.reader.specs.Printable.{AreDistinct};
 ghost use Rattle.protocol.specs.Desk.{Choice, on_desk_letter, on_known, stays as unchanged};
@@ -106,6 +106,7 @@ fn on_open<S: DeskStore>(
 ) -> Result<Turn, Memory>
     requires { goes_on (spot_in site.now undecided.now.spots).ticket reply.now ≡ false }
     ensures clean { S.is_clean store.new → S.is_clean store.old }
+    ensures counts { S.refused store.old ≤ S.refused store.new }
     ensures sound { S.is_clean store.new → S.is_sound store.old → S.is_sound store.new }
     ensures uncalled { kept ≡ false → store.new ≡ store.old }
     ensures turn { (db : Database) (choice : Choice (language db)) → AreSpots db undecided.now.spots
@@ -138,6 +139,7 @@ fn step<S: DeskStore>(
 ) -> Result<Turn, Memory>
     requires { may_send ((table_of present.now).standing txn) site.now reply.now ≡ false }
     ensures clean { S.is_clean store.new → S.is_clean store.old }
+    ensures counts { S.refused store.old ≤ S.refused store.new }
     ensures sound { S.is_clean store.new → S.is_sound store.old → S.is_sound store.new }
     ensures uncalled { kept ≡ false → store.new ≡ store.old }
     ensures turn { (db : Database) (choice : Choice (language db)) → IsAt db ((table_of present.now).standing txn)
@@ -172,6 +174,7 @@ pub(crate) fn take<S: DeskStore>(
 ) -> Result<Out, Refusal>
     requires { may_send ((table_of present.old).standing txn) site.now reply.now ≡ false }
     ensures clean { S.is_clean store.new → S.is_clean store.old }
+    ensures counts { S.refused store.old ≤ S.refused store.new }
     ensures sound { S.is_clean store.new → S.is_sound store.old → S.is_sound store.new }
     ensures uncalled { kept ≡ false → store.new ≡ store.old }
     ensures ok { (db : Database) (choice : Choice (language db)) → AreDistinct db.sites → S.is_clean store.new → S.is_sound store.old → Fits db (S.kept store.old) (table_of present.old)

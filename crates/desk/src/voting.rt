@@ -1,6 +1,6 @@
 //! The first phase: votes, and the decision.
 
-ghost use Rattle.std.specs.Prelude.{◌≡◌, ◌⊎◌, ℕ, List, ◌==◌, ◌<◌, length, map, false, true, None, Option, IfOk, OnErr};
+ghost use Rattle.std.specs.Prelude.{◌≤◌, ◌≡◌, ◌⊎◌, ℕ, List, ◌==◌, ◌<◌, length, map, false, true, None, Option, IfOk, OnErr};
 ghost use Rattle.protocol.specs.Desk.{By_store, decides, ends_by, votes_go};
 ghost use Rattle.protocol.specs.Desk as protocol;
 ghost use Rattle.protocol.specs.Letters.{txn_name};
@@ -41,6 +41,7 @@ pub(crate) fn votes_go<S: DeskStore>(
     kept: bool,
 ) -> Result<Turn, Memory>
     ensures clean { S.is_clean store.new → S.is_clean store.old }
+    ensures counts { S.refused store.old ≤ S.refused store.new }
     ensures sound { S.is_clean store.new → S.is_sound store.old → S.is_sound store.new }
     ensures uncalled { kept ≡ false → store.new ≡ store.old }
     ensures turn { (db : Database) (old : Option StandingNow) → AreSpots db spots.items
@@ -102,6 +103,7 @@ fn decides<S: DeskStore>(
     kept: bool,
 ) -> Result<Turn, Memory>
     ensures clean { S.is_clean store.new → S.is_clean store.old }
+    ensures counts { S.refused store.old ≤ S.refused store.new }
     ensures sound { S.is_clean store.new → S.is_sound store.old → S.is_sound store.new }
     ensures uncalled { kept ≡ false → store.new ≡ store.old }
     ensures turn { (db : Database) (old : Option StandingNow) → AreSpots db spots.now → 0 < length voters.items

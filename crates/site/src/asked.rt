@@ -1,6 +1,6 @@
 //! Fetches that ask for one key.
 
-ghost use Rattle.std.specs.Prelude.{◌≡◌, ◌≢◌, Err, IfOk, IfSome, option_to_list, unwrap_or};
+ghost use Rattle.std.specs.Prelude.{◌≤◌, ◌≡◌, ◌≢◌, Err, IfOk, IfSome, option_to_list, unwrap_or};
 ghost use Rattle.std.specs.FinMap as map;
 ghost use Rattle.std.specs.List.{filter};
 ghost use Rattle.terms.specs.Cond.{conds_hold};
@@ -71,6 +71,7 @@ pub(crate) fn row_at<S: SiteStore>(
     ensures own { result ≢ Err faults.Stranger }
     ensures within { result ≢ Err faults.Full }
     ensures clean { S.is_clean store.new → S.is_clean store.old }
+    ensures counts { S.refused store.old ≤ S.refused store.new }
     ensures sound { S.is_clean store.new → S.is_sound store.old → S.is_sound store.new }
     ensures rows { S.is_clean store.new → S.is_sound store.old → IfOk result (λ rows. rows.items ≡ parts conds.now (changed leaf.now (changes_at (table_of present.now) ticket.now) ((S.kept store.old).content leaf.now))) }
     ensures same { S.is_clean store.new → S.is_sound store.old → IsUnchanged (S.kept store.old) (S.kept store.new) }

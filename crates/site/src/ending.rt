@@ -1,6 +1,6 @@
 //! Visits are prepared, and end.
 
-ghost use Rattle.std.specs.Prelude.{◌≡◌, true, [], ◌∷◌, Some, None, IfOk, OnErr, if◌then◌else◌, ◌≢◌, Err, ◌⊎◌, false};
+ghost use Rattle.std.specs.Prelude.{◌≤◌, ◌≡◌, true, [], ◌∷◌, Some, None, IfOk, OnErr, if◌then◌else◌, ◌≢◌, Err, ◌⊎◌, false};
 ghost use Rattle.store.specs.Fault.{HasRefused};
 ghost use Rattle.store.specs.declared.fault.StoreFault.TheVariants as store_faults;
 ghost use Rattle.site.specs.declared.fault.SiteFault.TheVariants as faults;
@@ -47,6 +47,7 @@ pub(crate) fn prepare<S: SiteStore>(
     ensures own { result ≢ Err faults.Stranger }
     ensures within { result ≢ Err faults.Full }
     ensures clean { S.is_clean store.new → S.is_clean store.old }
+    ensures counts { S.refused store.old ≤ S.refused store.new }
     ensures sound { S.is_clean store.new → S.is_sound store.old → S.is_sound store.new }
     ensures ok { S.is_clean store.new → S.is_sound store.old → Fits (S.kept store.old) (table_of present.old) → IfOk result (λ reply. Steps (S.kept store.old) (table_of present.old) (S.kept store.new) (table_of present.new)
         (on_prepare (kept_by reply) (txn_name txn) (name_of prepare.ticket) prepare.count ((state_of (S.kept store.old) (table_of present.old)).status (name_of prepare.ticket))) reply) }
@@ -81,6 +82,7 @@ fn keep<S: SiteStore>(
     ensures own { result ≢ Err faults.Stranger }
     ensures within { result ≢ Err faults.Full }
     ensures clean { S.is_clean store.new → S.is_clean store.old }
+    ensures counts { S.refused store.old ≤ S.refused store.new }
     ensures sound { S.is_clean store.new → S.is_sound store.old → S.is_sound store.new }
     ensures ok { S.is_clean store.new → S.is_sound store.old → Fits (S.kept store.old) (table_of present.old) → (visit : Visited) → (table_of present.old).standing ticket ≡ Some (standing.Alive visit)
         → IfOk result (λ reply. Steps (S.kept store.old) (table_of present.old) (S.kept store.new) (table_of present.new)
@@ -126,6 +128,7 @@ pub(crate) fn commit<S: SiteStore>(
     ensures own { result ≢ Err faults.Stranger }
     ensures within { result ≢ Err faults.Full }
     ensures clean { S.is_clean store.new → S.is_clean store.old }
+    ensures counts { S.refused store.old ≤ S.refused store.new }
     ensures sound { S.is_clean store.new → S.is_sound store.old → S.is_sound store.new }
     ensures ok { S.is_clean store.new → S.is_sound store.old → Fits (S.kept store.old) (table_of present.old) → IfOk result (λ reply. Steps (S.kept store.old) (table_of present.old) (S.kept store.new) (table_of present.new)
         (on_commit true (name_of ticket) ((state_of (S.kept store.old) (table_of present.old)).status (name_of ticket))) reply) }
@@ -162,6 +165,7 @@ pub(crate) fn abort<S: SiteStore>(
     ensures own { result ≢ Err faults.Stranger }
     ensures within { result ≢ Err faults.Full }
     ensures clean { S.is_clean store.new → S.is_clean store.old }
+    ensures counts { S.refused store.old ≤ S.refused store.new }
     ensures sound { S.is_clean store.new → S.is_sound store.old → S.is_sound store.new }
     ensures ok { S.is_clean store.new → S.is_sound store.old → Fits (S.kept store.old) (table_of present.old) → IfOk result (λ reply. Steps (S.kept store.old) (table_of present.old) (S.kept store.new) (table_of present.new)
         (on_abort true (name_of ticket) ((state_of (S.kept store.old) (table_of present.old)).status (name_of ticket))) reply) }

@@ -40,6 +40,7 @@ pub(crate) fn fetch<S: SiteStore>(
     ensures beyond { read_turn fetch.ticket fetch.op ((table_of present.old).locks fetch.leaf) ((table_of present.old).standing fetch.ticket) ≡ Go → 2 ^ 63 ≤ fetch.op
         → (result ≡ Err faults.Full) ⊎ ((result ≡ Err faults.Memory) ⊎ (result ≡ Err faults.Stranger)) }
     ensures clean { S.is_clean store.new → S.is_clean store.old }
+    ensures counts { S.refused store.old ≤ S.refused store.new }
     ensures sound { S.is_clean store.new → S.is_sound store.old → S.is_sound store.new }
     ensures ok { S.is_clean store.new → S.is_sound store.old → Fits (S.kept store.old) (table_of present.old) → IfOk result (λ reply. Steps (S.kept store.old) (table_of present.old) (S.kept store.new) (table_of present.new)
         (on_fetch (state_of (S.kept store.old) (table_of present.old)) true (name_of fetch.ticket) fetch.op fetch.leaf fetch.conds ((state_of (S.kept store.old) (table_of present.old)).status (name_of fetch.ticket))) reply) }

@@ -1,6 +1,6 @@
 //! The rows that a fetch answers.
 
-ghost use Rattle.std.specs.Prelude.{◌≡◌, [], IfOk, ◌≢◌, Err};
+ghost use Rattle.std.specs.Prelude.{◌≤◌, ◌≡◌, [], IfOk, ◌≢◌, Err};
 ghost use Rattle.store.specs.Fault.{HasRefused};
 ghost use Rattle.store.specs.declared.fault.StoreFault.TheVariants as store_faults;
 ghost use Rattle.site.specs.declared.fault.SiteFault.TheVariants as faults;
@@ -37,6 +37,7 @@ pub(crate) fn rows<S: SiteStore>(
     ensures own { result ≢ Err faults.Stranger }
     ensures within { result ≢ Err faults.Full }
     ensures clean { S.is_clean store.new → S.is_clean store.old }
+    ensures counts { S.refused store.old ≤ S.refused store.new }
     ensures sound { S.is_clean store.new → S.is_sound store.old → S.is_sound store.new }
     ensures rows { S.is_clean store.new → S.is_sound store.old → IfOk result (λ rows. rows.items ≡ parts conds.now (changed leaf.now (changes_at (table_of present.now) ticket.now) ((S.kept store.old).content leaf.now))) }
     ensures same { S.is_clean store.new → S.is_sound store.old → IsUnchanged (S.kept store.old) (S.kept store.new) }

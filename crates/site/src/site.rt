@@ -94,6 +94,7 @@ impl<S: SiteStore> Site<S> {
     /// Restarts: visits and their locks are lost, and the next life begins. On a fault nothing has changed.
     pub fn restart(&mut self) -> Result<(), SiteFault>
         ensures clean { S.is_clean self.new.store → S.is_clean self.old.store }
+        ensures counts { S.refused self.old.store ≤ S.refused self.new.store }
         ensures sound { S.is_clean self.new.store → OnOk result (S.is_sound self.new.store) }
         ensures keeps { S.is_clean self.new.store → S.is_sound self.old.store → S.is_sound self.new.store }
         ensures ok { S.is_clean self.new.store → S.is_sound self.old.store → Fits (S.kept self.old.store) (table_of self.old.present)
@@ -116,6 +117,7 @@ impl<S: SiteStore> Site<S> {
     pub fn restart_kept(&mut self, kept: bool) -> Result<(), SiteFault>
         ensures called { OnOk result (kept ≡ true) }
         ensures clean { S.is_clean self.new.store → S.is_clean self.old.store }
+        ensures counts { S.refused self.old.store ≤ S.refused self.new.store }
         ensures sound { S.is_clean self.new.store → OnOk result (S.is_sound self.new.store) }
         ensures keeps { S.is_clean self.new.store → S.is_sound self.old.store → S.is_sound self.new.store }
         ensures ok { S.is_clean self.new.store → S.is_sound self.old.store → Fits (S.kept self.old.store) (table_of self.old.present)
@@ -154,6 +156,7 @@ impl<S: SiteStore> Site<S> {
     /// All that the store keeps.
     pub fn kept(&mut self) -> Result<SiteKept, SiteFault>
         ensures clean { S.is_clean self.new.store → S.is_clean self.old.store }
+        ensures counts { S.refused self.old.store ≤ S.refused self.new.store }
         ensures keeps { S.is_clean self.new.store → S.is_sound self.old.store → S.is_sound self.new.store }
         ensures all { S.is_clean self.new.store → IfOk result (Lists (S.kept self.new.store)) }
         ensures same { S.is_clean self.new.store → S.is_sound self.old.store → IsUnchanged (S.kept self.old.store) (S.kept self.new.store) }
@@ -173,6 +176,7 @@ impl<S: SiteStore> Site<S> {
     /// that make them of nothing. Nothing is changed by this.
     pub fn settled(&mut self, decided: &[Txn]) -> Result<Changes, SiteFault>
         ensures clean { S.is_clean self.new.store → S.is_clean self.old.store }
+        ensures counts { S.refused self.old.store ≤ S.refused self.new.store }
         ensures sound { S.is_clean self.new.store → S.is_sound self.old.store → S.is_sound self.new.store }
         ensures ok { S.is_clean self.new.store → S.is_sound self.old.store → Fits (S.kept self.old.store) (table_of self.old.present)
             → IfOk result (AreSettled decided.now (S.kept self.old.store) (table_of self.old.present).tickets) }
@@ -197,6 +201,7 @@ impl<S: SiteStore> Site<S> {
         ensures full { result ≡ Err faults.Full → AsksTooMuch self.old.present.alive self.old.present.number letter.body }
         ensures beyond { AsksBeyond (table_of self.old.present) letter.body → (result ≡ Err faults.Full) ⊎ ((result ≡ Err faults.Memory) ⊎ (result ≡ Err faults.Stranger)) }
         ensures clean { S.is_clean self.new.store → S.is_clean self.old.store }
+        ensures counts { S.refused self.old.store ≤ S.refused self.new.store }
         ensures sound { S.is_clean self.new.store → S.is_sound self.old.store → S.is_sound self.new.store }
         ensures ok { S.is_clean self.new.store → S.is_sound self.old.store → Fits (S.kept self.old.store) (table_of self.old.present)
             → IfOk result (λ letters. Takes (S.kept self.old.store) (table_of self.old.present) (S.kept self.new.store) (table_of self.new.present) letter letters.items) }
@@ -220,6 +225,7 @@ impl<S: SiteStore> Site<S> {
         ensures full { result ≡ Err faults.Full → AsksTooMuch self.old.present.alive self.old.present.number letter.body }
         ensures beyond { AsksBeyond (table_of self.old.present) letter.body → (result ≡ Err faults.Full) ⊎ ((result ≡ Err faults.Memory) ⊎ (result ≡ Err faults.Stranger)) }
         ensures clean { S.is_clean self.new.store → S.is_clean self.old.store }
+        ensures counts { S.refused self.old.store ≤ S.refused self.new.store }
         ensures sound { S.is_clean self.new.store → S.is_sound self.old.store → S.is_sound self.new.store }
         ensures ok { S.is_clean self.new.store → S.is_sound self.old.store → Fits (S.kept self.old.store) (table_of self.old.present)
             → IfOk result (λ letters. Takes (S.kept self.old.store) (table_of self.old.present) (S.kept self.new.store) (table_of self.new.present) letter letters.items) }
@@ -328,6 +334,7 @@ fn obey<S: SiteStore>(
     ensures full { result ≡ Err faults.Full → IsTooMuch present.old.alive present.old.number order }
     ensures beyond { IsBeyond (table_of present.old) order → (result ≡ Err faults.Full) ⊎ ((result ≡ Err faults.Memory) ⊎ (result ≡ Err faults.Stranger)) }
     ensures clean { S.is_clean store.new → S.is_clean store.old }
+    ensures counts { S.refused store.old ≤ S.refused store.new }
     ensures sound { S.is_clean store.new → S.is_sound store.old → S.is_sound store.new }
     ensures ok { S.is_clean store.new → S.is_sound store.old → Fits (S.kept store.old) (table_of present.old) → IfOk result (λ reply. Steps (S.kept store.old) (table_of present.old) (S.kept store.new) (table_of present.new)
         (on_letter (state_of (S.kept store.old) (table_of present.old)) (txn_name txn) (kept_by reply) (order_body order)) reply) }

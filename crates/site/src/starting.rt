@@ -46,6 +46,7 @@ pub(crate) fn begin<S: SiteStore>(
     leaves: &[Leaf],
 ) -> Result<Beginning, SiteFault>
     ensures clean { S.is_clean store.new → S.is_clean store.old }
+    ensures counts { S.refused store.old ≤ S.refused store.new }
     ensures sound { S.is_clean store.new → OnOk result (S.is_sound store.new) }
     ensures keeps { S.is_clean store.new → S.is_sound store.old → S.is_sound store.new }
     ensures ok { S.is_clean store.new → IfOk result (λ begun. Begins (S.kept store.new) (table_from begun.resting.standings begun.resting.locks.items 0 begun.life 0)) }
