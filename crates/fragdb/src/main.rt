@@ -33,11 +33,11 @@ mod usage;
 use crate::built_in::{BUILT_IN, BUILT_IN_NAME};
 use crate::explaining::explain_outcome;
 use crate::fault::ProgramFault;
-use crate::input::read_up_to;
 use crate::outcome::{Outcome, Status, exit};
 use crate::perform::perform;
 use crate::solo::SCRIPT_LIMIT;
 use crate::usage::{Request, read_words, show_usage, unreadable_words};
+use std::alloc::Global;
 use std::io::{BufWriter, Read, Write};
 use std::process::ExitCode;
 use std::{env, fs, io};
@@ -111,30 +111,62 @@ fn perform_on<C: Read + Drop, R: Read + Drop, W: Write, E: Write>(
     output: &mut W,
     errors: &mut E,
 ) -> Status {
-    let alloc = rt.alloc();
     if !request.explains() {
-        let outcome = perform(alloc, request, catalog_file, catalog, input, output);
+        let outcome = perform(rt.alloc(), request, catalog_file, catalog, input, output);
         return exit(errors, &outcome);
     }
-    match input {
-        Ok(input) => match read_up_to(alloc, request.file(), input, SCRIPT_LIMIT + 1) {
-            Ok(bytes) => {
-                let input = Ok(bytes.as_slice());
-                let outcome = perform(alloc, request, catalog_file, catalog, input, output);
-                let status = exit(errors, &outcome);
-                let _ = explain(rt, request, &outcome, bytes.as_slice(), errors);
-                status
-            }
-            Err(fault) => exit(errors, &Outcome::Stopped(fault)),
-        },
+    match read_whole(rt.alloc(), input) {
+        Ok(bytes) => {
+            let bytes = bytes.as_slice();
+            explain_performed(
+                rt,
+                request,
+                catalog_file,
+                catalog,
+                Ok(bytes),
+                output,
+                errors,
+            )
+        }
         Err(error) => {
-            let input: io::Result<&[u8]> = Err(error);
-            let outcome = perform(alloc, request, catalog_file, catalog, input, output);
-            let status = exit(errors, &outcome);
-            let _ = explain(rt, request, &outcome, &[], errors);
-            status
+            explain_performed(
+                rt,
+                request,
+                catalog_file,
+                catalog,
+                Err(error),
+                output,
+                errors,
+            )
         }
     }
+}
+
+/// All that an input gives, or one byte more than a script may have.
+fn read_whole<R: Read + Drop>(alloc: Global, input: io::Result<R>) -> io::Result<Vec<u8>> {
+    let mut bytes = Vec::new(alloc);
+    input?.take(SCRIPT_LIMIT + 1).read_to_end(&mut bytes)?;
+    Ok(bytes)
+}
+
+/// Does what a request asks for over these bytes, and explains what was refused of it.
+fn explain_performed<C: Read + Drop, W: Write, E: Write>(
+    rt: &HostRuntime,
+    request: Request<'_>,
+    catalog_file: &str,
+    catalog: io::Result<C>,
+    input: io::Result<&[u8]>,
+    output: &mut W,
+    errors: &mut E,
+) -> Status {
+    let bytes: &[u8] = match &input {
+        Ok(bytes) => bytes,
+        Err(_) => &[],
+    };
+    let outcome = perform(rt.alloc(), request, catalog_file, catalog, input, output);
+    let status = exit(errors, &outcome);
+    let _ = explain(rt, request, &outcome, bytes, errors);
+    status
 }
 
 /// Explains what was refused of a request, whose input had these bytes. The catalogue of a script is opened once more.
