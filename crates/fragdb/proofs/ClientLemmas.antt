@@ -30,6 +30,8 @@ use Rattle.world.specs.Settled.{AreThoseOf, parts_kept, rows_shown}
 use Rattle.world.specs.Stopping.{is_stop, stopped_by}
 use Rattle.world.specs.Telling.{Tells}
 use Rattle.world.proofs.StandingAgain.{stands_whenever}
+use Rattle.shell.specs.declared.mode.Mode.{Mode}
+use Rattle.shell.specs.Mode.{line_in}
 use Rattle.fragdb.specs.declared.reply.Reply.{Reply}
 use Rattle.fragdb.specs.PlayText.{refused_text}
 use Rattle.fragdb.specs.Reply.{Answered, Refused, Told, told_by}
@@ -88,9 +90,9 @@ module _ (catalogue : Catalogue) (whole : Relations) (past : List (Deed (languag
       Obeys (database c) (fits c) whole text old.current before new.current after past heard
 
   -- and is heard
-  pub is_heard : (text : List ℕ) (heard : List Notice) (told : List ℕ) → DeedsFollow (database own) → StandsNext own → ObeysNext text heard own → new.stopped ≡ None → new.machines.desk.catalog ≡ old.machines.desk.catalog → (Clean → Sound → OfStores {D = PlainDesk} {S = PlainSite} (λ _. Unit {0}) IsSound new.machines) →
-      (old.stopped ≡ None → Clean → Sound → AreFit (database own) before → Executes (database own) text old.current before new.current after heard) → told ≡ heard_text heard → IsAnswered catalogue whole (Runs text) past old new (Answered told)
-  is_heard text heard told follow next obeyed going same sound executes lines =
+  pub is_heard : (mode : Mode) (text : List ℕ) (heard : List Notice) (told : List ℕ) → DeedsFollow (database own) → StandsNext own → ObeysNext text heard own → new.stopped ≡ None → new.machines.desk.catalog ≡ old.machines.desk.catalog → (Clean → Sound → OfStores {D = PlainDesk} {S = PlainSite} (λ _. Unit {0}) IsSound new.machines) →
+      (old.stopped ≡ None → Clean → Sound → AreFit (database own) before → Executes (database own) text old.current before new.current after heard) → told ≡ heard_text mode heard → IsAnswered mode catalogue whole (Runs text) past old new (Answered told)
+  is_heard mode text heard told follow next obeyed going same sound executes lines =
       let does : Executes (database catalogue) text old.current before new.current after heard = subst (λ (c : Catalogue). Executes (database c) text old.current before new.current after heard) h.catalog (executes h.going (clean new.machines) h.sound own_fit) in
       let law = subst (λ (c : Catalogue). DeedsFollow (database c)) h.catalog follow in
       let deeds = deeds_of (database catalogue) text old.current before new.current after heard does in
@@ -109,20 +111,20 @@ module _ (catalogue : Catalogue) (whole : Relations) (past : List (Deed (languag
       subst P h.catalog (λ other past served stands. denied other past h.going (clean new.machines) h.sound served stands) whole past h.served h.stands
 
   -- a refusal that does not stop the database is told
-  pub is_turned_away : {E : Type 0} (text : List ℕ) (refusal : Refusal) (result : Result Reply E) → DeedsFollow (database own) → StandsNext own → (is_stop refusal ≡ false → new.stopped ≡ None) → new.machines.desk.catalog ≡ old.machines.desk.catalog → (Clean → Sound → OfStores {D = PlainDesk} {S = PlainSite} (λ _. Unit {0}) IsSound new.machines) →
+  pub is_turned_away : {E : Type 0} (mode : Mode) (text : List ℕ) (refusal : Refusal) (result : Result Reply E) → DeedsFollow (database own) → StandsNext own → (is_stop refusal ≡ false → new.stopped ≡ None) → new.machines.desk.catalog ≡ old.machines.desk.catalog → (Clean → Sound → OfStores {D = PlainDesk} {S = PlainSite} (λ _. Unit {0}) IsSound new.machines) →
       ((whole : Relations) (past : List (Deed (language (database own)))) → old.stopped ≡ None → Clean → Sound → IsServed (database own) whole before past → Stands (database own) (fits own) old.current before past → Denies (database own) text old.current before refusal) →
       (old.stopped ≡ None → Clean → Sound → AreFit (database own) before → Declines (database own) text old.current before after refusal) →
-      new.current ≡ old.current → OnOk result (is_stop refusal ≡ false) → IfOk result (λ reply. told_by reply ≡ Refused (refused_text refusal ++ 10 ∷ [])) → IfOk result (λ reply. IsAnswered catalogue whole (Runs text) past old new (told_by reply))
-  is_turned_away text refusal (Ok reply) follow next going same sound denied declined still goes told =
+      new.current ≡ old.current → OnOk result (is_stop refusal ≡ false) → IfOk result (λ reply. told_by reply ≡ Refused (line_in mode (refused_text refusal))) → IfOk result (λ reply. IsAnswered mode catalogue whole (Runs text) past old new (told_by reply))
+  is_turned_away mode text refusal (Ok reply) follow next going same sound denied declined still goes told =
       let declines : Declines (database catalogue) text old.current before after refusal = subst (λ (c : Catalogue). Declines (database c) text old.current before after refusal) h.catalog (declined h.going (clean new.machines) h.sound own_fit) in
       let law = subst (λ (c : Catalogue). DeedsFollow (database c)) h.catalog follow in
       let deeds = deeds_in_vain (database catalogue) text old.current before after refusal declines in
-      subst (IsAnswered catalogue whole (Runs text) past old new) (sym told) (record {
+      subst (IsAnswered mode catalogue whole (Runs text) past old new) (sym told) (record {
         later = past ++ deeds;
         goes_on = goes_on (past ++ deeds) (going goes) same sound (law.refused whole text old.current before after refusal past goes h.served declines) (stands_later next (going goes) (past ++ deeds));
         answers = record { refusal = refusal; why = is_denied text refusal denied; goes_on = goes; same = still; declines = declines; happened = refl; uncommitted = law.uncommitted text old.current before after refusal past declines; line = refl };
       })
-  is_turned_away text refusal (Err e) follow next going same sound denied declined still goes told = tt
+  is_turned_away mode text refusal (Err e) follow next going same sound denied declined still goes told = tt
 
   -- what is shown of the whole database that the fragments are those of, and of a leaf
   pub rows_of_own : (name : List ℕ) (shown : Option (List (List Value))) → ((whole : Relations) → Clean → Sound → AreFit (database own) before → AreThoseOf (database own) before whole → FitsSchema (schemas_of own) whole → shown ≡ rows_shown (database own) whole name) →
@@ -142,40 +144,40 @@ not_stopped result refusal stopped is here goes = is ∙ ap (λ done. stopped_by
 still_told : (catalogue : Catalogue) (old new : Standing catalogue) (entries : List Entry) → Tells (database catalogue) entries old.past → new ≡ old → Tells (database catalogue) (entries ++ []) new.past
 still_told catalogue old new entries so same = subst (λ (standing : Standing catalogue). Tells (database catalogue) (entries ++ []) standing.past) (sym same) (subst (λ es. Tells (database catalogue) es old.past) (sym (append-nil entries)) so)
 
-leaf_still : (catalogue : Catalogue) (name : List ℕ) (leaf : Option Leaf) (old new : Standing catalogue) (told : List ℕ) → ShowsLeafAs catalogue name leaf old new told → new ≡ old
-leaf_still catalogue name None old new told shows = shows.0
-leaf_still catalogue name (Some leaf) old new told shows = shows.0
+leaf_still : (mode : Mode) (catalogue : Catalogue) (name : List ℕ) (leaf : Option Leaf) (old new : Standing catalogue) (told : List ℕ) → ShowsLeafAs mode catalogue name leaf old new told → new ≡ old
+leaf_still mode catalogue name None old new told shows = shows.0
+leaf_still mode catalogue name (Some leaf) old new told shows = shows.0
 
 -- what tasks asked for and heard tells what has happened
-task_told : (catalogue : Catalogue) (law : AccountFollows (database catalogue)) (task : Reading) (old new : Standing catalogue) (told : Told) (entries : List Entry) → Tells (database catalogue) entries old.past → (answers : AnswersTask catalogue task old new told) →
-    Tells (database catalogue) (entries ++ said_by catalogue task old new told answers) new.past
-task_told catalogue law Nothing old new told entries so answers = absurd answers
-task_told catalogue law (Runs text) old new (Answered told) entries so answers =
+task_told : (mode : Mode) (catalogue : Catalogue) (law : AccountFollows (database catalogue)) (task : Reading) (old new : Standing catalogue) (told : Told) (entries : List Entry) → Tells (database catalogue) entries old.past → (answers : AnswersTask mode catalogue task old new told) →
+    Tells (database catalogue) (entries ++ said_by mode catalogue task old new told answers) new.past
+task_told mode catalogue law Nothing old new told entries so answers = absurd answers
+task_told mode catalogue law (Runs text) old new (Answered told) entries so answers =
     let said = said_of (database catalogue) text old.current old.machines new.current new.machines answers.heard answers.executes in
     subst (Tells (database catalogue) (entries ++ said)) (sym answers.happened) (law.executed text old.current new.current old.machines new.machines answers.heard entries old.past so answers.executes)
-task_told catalogue law (Runs text) old new (Refused told) entries so answers =
+task_told mode catalogue law (Runs text) old new (Refused told) entries so answers =
     let said = said_in_vain (database catalogue) text old.current old.machines new.machines answers.refusal answers.declines in
     subst (Tells (database catalogue) (entries ++ said)) (sym answers.happened) (law.refused text old.current old.machines new.machines answers.refusal entries old.past so answers.declines)
-task_told catalogue law (ShowsRelation name) old new (Answered told) entries so answers = still_told catalogue old new entries so answers.0
-task_told catalogue law (ShowsRelation name) old new (Refused told) entries so answers = absurd answers
-task_told catalogue law (ShowsLeaf name) old new (Answered told) entries so answers = still_told catalogue old new entries so (leaf_still catalogue name (written_leaf name (catalogue_leaves catalogue)) old new told answers)
-task_told catalogue law (ShowsLeaf name) old new (Refused told) entries so answers = absurd answers
-task_told catalogue law Unreadable old new told entries so answers = absurd answers
+task_told mode catalogue law (ShowsRelation name) old new (Answered told) entries so answers = still_told catalogue old new entries so answers.0
+task_told mode catalogue law (ShowsRelation name) old new (Refused told) entries so answers = absurd answers
+task_told mode catalogue law (ShowsLeaf name) old new (Answered told) entries so answers = still_told catalogue old new entries so (leaf_still mode catalogue name (written_leaf name (catalogue_leaves catalogue)) old new told answers)
+task_told mode catalogue law (ShowsLeaf name) old new (Refused told) entries so answers = absurd answers
+task_told mode catalogue law Unreadable old new told entries so answers = absurd answers
 
-tasks_told : (catalogue : Catalogue) (law : AccountFollows (database catalogue)) (answers : List (Reading × Told)) (old new : Standing catalogue) (entries : List Entry) → Tells (database catalogue) entries old.past → (answered : AnswersTasks catalogue answers old new) →
-    Tells (database catalogue) (entries ++ said_by_tasks catalogue answers old new answered) new.past
-tasks_told catalogue law [] old new entries so same = still_told catalogue old new entries so same
-tasks_told catalogue law (first ∷ others) old new entries so answered =
-    let said = said_by catalogue first.0 old answered.0 first.1 answered.1 in
-    subst (λ es. Tells (database catalogue) es new.past) (append_assoc entries said (said_by_tasks catalogue others answered.0 new answered.2))
-    (tasks_told catalogue law others answered.0 new (entries ++ said) (task_told catalogue law first.0 old answered.0 first.1 entries so answered.1) answered.2)
+tasks_told : (mode : Mode) (catalogue : Catalogue) (law : AccountFollows (database catalogue)) (answers : List (Reading × Told)) (old new : Standing catalogue) (entries : List Entry) → Tells (database catalogue) entries old.past → (answered : AnswersTasks mode catalogue answers old new) →
+    Tells (database catalogue) (entries ++ said_by_tasks mode catalogue answers old new answered) new.past
+tasks_told mode catalogue law [] old new entries so same = still_told catalogue old new entries so same
+tasks_told mode catalogue law (first ∷ others) old new entries so answered =
+    let said = said_by mode catalogue first.0 old answered.0 first.1 answered.1 in
+    subst (λ es. Tells (database catalogue) es new.past) (append_assoc entries said (said_by_tasks mode catalogue others answered.0 new answered.2))
+    (tasks_told mode catalogue law others answered.0 new (entries ++ said) (task_told mode catalogue law first.0 old answered.0 first.1 entries so answered.1) answered.2)
 
 -- a script over a database that was opened has run
-pub ran_from : (old new : Option (List ℕ)) (catalogue : Catalogue) (items : List Item) (opened ended : code.Solo PlainDesk PlainSite) (result : Result Bool ProgramFault) → IsServed (database catalogue) (no_rows catalogue) (held desk_kept kept_of opened.machines) [] →
+pub ran_from : (mode : Mode) (old new : Option (List ℕ)) (catalogue : Catalogue) (items : List Item) (opened ended : code.Solo PlainDesk PlainSite) (result : Result Bool ProgramFault) → IsServed (database catalogue) (no_rows catalogue) (held desk_kept kept_of opened.machines) [] →
     Stands (database catalogue) (fits catalogue) opened.current (held desk_kept kept_of opened.machines) [] → catalogue_of opened.machines.desk.catalog ≡ catalogue → OfStores {D = PlainDesk} {S = PlainSite} (λ _. Unit {0}) IsSound opened.machines → (opened.current ≡ None) × (opened.stopped ≡ None) → AccountFollows (database catalogue) →
-    ((catalogue : Catalogue) (whole : Relations) (past : List (Deed (language (database catalogue)))) → GoesOn catalogue whole past opened → IfOk result (λ any_refused. (written : List ℕ) × Appends old new written × IsStretch catalogue whole (map task_of items) past opened ended written any_refused)) →
-    IfOk result (λ any_refused. (written : List ℕ) × Appends old new written × IsRun catalogue (map task_of items) written any_refused)
-ran_from old new catalogue items opened ended (Ok any_refused) served stands over sound idle law works =
+    ((catalogue : Catalogue) (whole : Relations) (past : List (Deed (language (database catalogue)))) → GoesOn catalogue whole past opened → IfOk result (λ any_refused. (written : List ℕ) × Appends old new written × IsStretch mode catalogue whole (map task_of items) past opened ended written any_refused)) →
+    IfOk result (λ any_refused. (written : List ℕ) × Appends old new written × IsRun mode catalogue (map task_of items) written any_refused)
+ran_from mode old new catalogue items opened ended (Ok any_refused) served stands over sound idle law works =
     let h : GoesOn catalogue (no_rows catalogue) [] opened = record { going = idle.1; catalog = over; sound = sound; served = served; stands = stands } in
     let work = works catalogue (no_rows catalogue) [] h in
     let stretch = work.2 in (
@@ -188,7 +190,7 @@ ran_from old new catalogue items opened ended (Ok any_refused) served stands ove
         work = stretch.work;
         served = stretch.goes_on.served;
         stands = stretch.goes_on.stands;
-        serial = law.serial (no_rows catalogue) (held desk_kept kept_of ended.machines) _ stretch.later (tasks_told catalogue law stretch.work.answers (standing_of catalogue opened []) (standing_of catalogue ended stretch.later) [] (record { phased = refl; stated = tt; heard = refl }) stretch.work.answered) stretch.goes_on.served;
+        serial = law.serial (no_rows catalogue) (held desk_kept kept_of ended.machines) _ stretch.later (tasks_told mode catalogue law stretch.work.answers (standing_of catalogue opened []) (standing_of catalogue ended stretch.later) [] (record { phased = refl; stated = tt; heard = refl }) stretch.work.answered) stretch.goes_on.served;
       },
     )
-ran_from old new catalogue items opened ended (Err fault) served stands over sound idle law works = tt
+ran_from mode old new catalogue items opened ended (Err fault) served stands over sound idle law works = tt

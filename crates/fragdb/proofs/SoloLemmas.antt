@@ -19,6 +19,7 @@ use Rattle.desk.proofs.Spots.{text_is}
 use Rattle.site.specs.declared.site.Site.{Site}
 use Rattle.world.specs.declared.machines.Machines as code
 use Rattle.world.specs.Held.{OfStores}
+use Rattle.shell.specs.declared.mode.Mode.{Mode}
 use Rattle.fragdb.specs.Client.{AnswersTask, Standing}
 use Rattle.fragdb.specs.PlayLoad.{emptied}
 use Rattle.fragdb.specs.Script.{Reading, task_of}
@@ -46,22 +47,22 @@ or_false true = refl
 or_false false = refl
 
 -- one more task, after others
-one_more : (catalogue : Catalogue) (answers : List (Reading × Told)) (old middle new : Standing catalogue) (task : Reading) (told : Told) → AnswersTasks catalogue answers old middle → AnswersTask catalogue task middle new told → AnswersTasks catalogue (answers ++ (task, told) ∷ []) old new
-one_more catalogue [] old middle new task told done next =
-    let P : Standing catalogue → Type 0 = λ standing. AnswersTask catalogue task standing new told in
+one_more : (mode : Mode) (catalogue : Catalogue) (answers : List (Reading × Told)) (old middle new : Standing catalogue) (task : Reading) (told : Told) → AnswersTasks mode catalogue answers old middle → AnswersTask mode catalogue task middle new told → AnswersTasks mode catalogue (answers ++ (task, told) ∷ []) old new
+one_more mode catalogue [] old middle new task told done next =
+    let P : Standing catalogue → Type 0 = λ standing. AnswersTask mode catalogue task standing new told in
     (new, subst P done next, refl)
-one_more catalogue (first ∷ others) old middle new task told done next = (done.0, done.1, one_more catalogue others done.0 middle new task told done.2 next)
+one_more mode catalogue (first ∷ others) old middle new task told done next = (done.0, done.1, one_more mode catalogue others done.0 middle new task told done.2 next)
 
 -- nothing is done yet
-pub IsWork-none : (catalogue : Catalogue) (standing : Standing catalogue) → IsWork catalogue [] [] false standing standing
-IsWork-none catalogue standing = record { answers = []; in_order = refl; answered = refl; lines = refl; refused = refl }
+pub IsWork-none : (mode : Mode) (catalogue : Catalogue) (standing : Standing catalogue) → IsWork mode catalogue [] [] false standing standing
+IsWork-none mode catalogue standing = record { answers = []; in_order = refl; answered = refl; lines = refl; refused = refl }
 
 -- one more answer
-IsWork-more : (catalogue : Catalogue) (tasks : List Reading) (written : List ℕ) (any_refused : Bool) (old middle new : Standing catalogue) (task : Reading) (told : Told) → IsWork catalogue tasks written any_refused old middle → AnswersTask catalogue task middle new told → IsWork catalogue (tasks ++ task ∷ []) (written ++ text_of told) (any_refused || is_refusal told) old new
-IsWork-more catalogue tasks written any_refused old middle new task told h next = record {
+IsWork-more : (mode : Mode) (catalogue : Catalogue) (tasks : List Reading) (written : List ℕ) (any_refused : Bool) (old middle new : Standing catalogue) (task : Reading) (told : Told) → IsWork mode catalogue tasks written any_refused old middle → AnswersTask mode catalogue task middle new told → IsWork mode catalogue (tasks ++ task ∷ []) (written ++ text_of told) (any_refused || is_refusal told) old new
+IsWork-more mode catalogue tasks written any_refused old middle new task told h next = record {
   answers = h.answers ++ (task, told) ∷ [];
   in_order = map-append (λ p. p.0) h.answers ((task, told) ∷ []) ∙ ap (λ front. front ++ task ∷ []) h.in_order;
-  answered = one_more catalogue h.answers old middle new task told h.answered next;
+  answered = one_more mode catalogue h.answers old middle new task told h.answered next;
   lines = ap₂ (λ front back. front ++ back) h.lines (sym (append-nil (text_of told)))
       ∙ sym (flat_map-append (λ p. text_of p.1) h.answers ((task, told) ∷ []));
   refused = ap₂ (λ front back. front || back) h.refused (sym (or_false (is_refusal told)))
@@ -69,9 +70,9 @@ IsWork-more catalogue tasks written any_refused old middle new task told h next 
 }
 
 -- the same, at the next of some items
-pub IsWork-next : (catalogue : Catalogue) (items : List Item) (i : ℕ) (d : Item) (written : List ℕ) (any_refused : Bool) (old middle new : Standing catalogue) (told : Told) (line : List ℕ) (is_refused : Bool) → i < length items → IsWork catalogue (map task_of (take i items)) written any_refused old middle → AnswersTask catalogue (task_of (get_or items i d)) middle new told → line ≡ text_of told → is_refused ≡ is_refusal told → IsWork catalogue (map task_of (take (i + 1) items)) (written ++ line) (any_refused || is_refused) old new
-IsWork-next catalogue items i d written any_refused old middle new told line is_refused within h next is_line is_so =
-    rw (map_more task_of items i d within, is_line, is_so) (IsWork-more catalogue (map task_of (take i items)) written any_refused old middle new (task_of (get_or items i d)) told h next)
+pub IsWork-next : (mode : Mode) (catalogue : Catalogue) (items : List Item) (i : ℕ) (d : Item) (written : List ℕ) (any_refused : Bool) (old middle new : Standing catalogue) (told : Told) (line : List ℕ) (is_refused : Bool) → i < length items → IsWork mode catalogue (map task_of (take i items)) written any_refused old middle → AnswersTask mode catalogue (task_of (get_or items i d)) middle new told → line ≡ text_of told → is_refused ≡ is_refusal told → IsWork mode catalogue (map task_of (take (i + 1) items)) (written ++ line) (any_refused || is_refused) old new
+IsWork-next mode catalogue items i d written any_refused old middle new told line is_refused within h next is_line is_so =
+    rw (map_more task_of items i d within, is_line, is_so) (IsWork-more mode catalogue (map task_of (take i items)) written any_refused old middle new (task_of (get_or items i d)) told h next)
 
 -- the empty relations of a schema fit it
 keeps_none : (schemas : List RelationSchema) (whole : Relations) (name : List ℕ) → finite.get whole name ≡ Some [] → finite.get (emptied schemas whole) name ≡ Some []
@@ -112,11 +113,11 @@ Keeps-same None = tt
 Keeps-same (Some bytes) = refl
 
 -- a script of which all bytes were read ran or was stopped
-pub ran : (catalogue : Catalogue) (known : Option (List ℕ)) (file : Bor (List ℕ)) (read : List ℕ) (old new : Option (List ℕ)) (result : Result Bool ProgramFault) → IfSome known (λ bytes. read ≡ bytes) → length read ≤ longest → RunsOrStops catalogue read old new result → IfSome known (λ script. RunsScript catalogue file script old new result)
-ran catalogue None file read old new result all short ran_so = tt
-ran catalogue (Some bytes) file read old new result all short ran_so = subst (λ (script : List ℕ). RunsScript catalogue file script old new result) all (of_read result ran_so)
+pub ran : (mode : Mode) (catalogue : Catalogue) (known : Option (List ℕ)) (file : Bor (List ℕ)) (read : List ℕ) (old new : Option (List ℕ)) (result : Result Bool ProgramFault) → IfSome known (λ bytes. read ≡ bytes) → length read ≤ longest → RunsOrStops mode catalogue read old new result → IfSome known (λ script. RunsScript mode catalogue file script old new result)
+ran mode catalogue None file read old new result all short ran_so = tt
+ran mode catalogue (Some bytes) file read old new result all short ran_so = subst (λ (script : List ℕ). RunsScript mode catalogue file script old new result) all (of_read result ran_so)
   where
-    of_read : (result : Result Bool ProgramFault) → RunsOrStops catalogue read old new result → RunsScript catalogue file read old new result
+    of_read : (result : Result Bool ProgramFault) → RunsOrStops mode catalogue read old new result → RunsScript mode catalogue file read old new result
     of_read (Ok any_refused) h = h
     of_read (Err (CannotRead name)) h = absurd h
     of_read (Err ScriptTooLong) h = absurd h
@@ -126,25 +127,25 @@ ran catalogue (Some bytes) file read old new result all short ran_so = subst (λ
     of_read (Err CannotWrite) h = h
 
 -- a script that was not read to its end, or is too long: nothing is written
-pub unread : (catalogue : Catalogue) (known : Option (List ℕ)) (file : Bor (List ℕ)) (fault : ProgramFault) (output : Option (List ℕ)) → IsOfRead file fault → (fault ≡ ScriptTooLong → IfSome known (λ bytes. longest < length bytes)) → IfSome known (λ script. RunsScript catalogue file script output output (Err fault))
-unread catalogue None file fault output why long = tt
-unread catalogue (Some bytes) file (CannotRead name) output why long = (named why, Keeps-same output)
+pub unread : (mode : Mode) (catalogue : Catalogue) (known : Option (List ℕ)) (file : Bor (List ℕ)) (fault : ProgramFault) (output : Option (List ℕ)) → IsOfRead file fault → (fault ≡ ScriptTooLong → IfSome known (λ bytes. longest < length bytes)) → IfSome known (λ script. RunsScript mode catalogue file script output output (Err fault))
+unread mode catalogue None file fault output why long = tt
+unread mode catalogue (Some bytes) file (CannotRead name) output why long = (named why, Keeps-same output)
   where
     named : IsOfRead file (CannotRead name) → name ≡ file
     named (inl memory) = absurd (cc)
     named (inr (inl too_long)) = absurd (cc)
     named (inr (inr same)) = cc
-unread catalogue (Some bytes) file ScriptTooLong output why long = (long refl, Keeps-same output)
-unread catalogue (Some bytes) file (Malformed line) output (inl memory) long = absurd (cc)
-unread catalogue (Some bytes) file (Malformed line) output (inr (inl too_long)) long = absurd (cc)
-unread catalogue (Some bytes) file (Malformed line) output (inr (inr same)) long = absurd (cc)
-unread catalogue (Some bytes) file Memory output why long = λ refused. Keeps-same output
-unread catalogue (Some bytes) file (Store why) output (inl memory) long = absurd (cc)
-unread catalogue (Some bytes) file (Store why) output (inr (inl too_long)) long = absurd (cc)
-unread catalogue (Some bytes) file (Store why) output (inr (inr same)) long = absurd (cc)
-unread catalogue (Some bytes) file CannotWrite output (inl memory) long = absurd (cc)
-unread catalogue (Some bytes) file CannotWrite output (inr (inl too_long)) long = absurd (cc)
-unread catalogue (Some bytes) file CannotWrite output (inr (inr same)) long = absurd (cc)
+unread mode catalogue (Some bytes) file ScriptTooLong output why long = (long refl, Keeps-same output)
+unread mode catalogue (Some bytes) file (Malformed line) output (inl memory) long = absurd (cc)
+unread mode catalogue (Some bytes) file (Malformed line) output (inr (inl too_long)) long = absurd (cc)
+unread mode catalogue (Some bytes) file (Malformed line) output (inr (inr same)) long = absurd (cc)
+unread mode catalogue (Some bytes) file Memory output why long = λ refused. Keeps-same output
+unread mode catalogue (Some bytes) file (Store why) output (inl memory) long = absurd (cc)
+unread mode catalogue (Some bytes) file (Store why) output (inr (inl too_long)) long = absurd (cc)
+unread mode catalogue (Some bytes) file (Store why) output (inr (inr same)) long = absurd (cc)
+unread mode catalogue (Some bytes) file CannotWrite output (inl memory) long = absurd (cc)
+unread mode catalogue (Some bytes) file CannotWrite output (inr (inl too_long)) long = absurd (cc)
+unread mode catalogue (Some bytes) file CannotWrite output (inr (inr same)) long = absurd (cc)
 
 -- a script that may run ran, or was stopped
 pub run_or_stopped : (catalogue : Catalogue) (script : List ℕ) (old new : Option (List ℕ)) (fault : ProgramFault) → IsAccepted script → IsOfRun fault → StopsRun script old new fault

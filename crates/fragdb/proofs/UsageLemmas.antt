@@ -2,6 +2,7 @@
 use Rattle.std.proofs.Common.{◌≡◌, Bool, Box, Global, List, [], ◌∷◌, Option, Some, None, refl, sym, ◌∙◌, option_map}
 use Rattle.clap.specs.Words.{Row, Text, first_of, subcommand_name_of, subcommand_of, subcommand_rows, subcommand_rows_of}
 use Rattle.std.specs.Box.{box_value}
+use Rattle.std.specs.List.{AllByRecursion}
 use Rattle.clap.specs.declared.parser.matches.SubCommand.{SubCommand, out-SubCommand}
 use Rattle.clap.specs.declared.parser.matches.ArgMatches.{ArgMatches, out-ArgMatches}
 use Rattle.fragdb.specs.Usage.{IsGiven, is_set, usage}
@@ -34,7 +35,7 @@ pub given_perhaps : (words : List Text) (entered : Option (Text × List Row)) (n
     one ≡ first_of first rows → Some two ≡ first_of second rows → IsGiven words (name, (first, one) ∷ (second, Some two) ∷ []) []
 given_perhaps words entered name rows first one second two e n r s t = record { rows = rows; command = command_is words entered name rows e n r; arguments = (sym s, (sym t, tt)); set = tt }
 
--- the same with a flag
-pub given_flagged : (words : List Text) (entered : Option (Text × List Row)) (name : Text) (rows : List Row) (first : Text) (one : Option Text) (second two flag : Text) (set : Bool) → entered ≡ subcommand_of usage words → Some name ≡ option_map (λ p. p.0) entered →
-    Some rows ≡ option_map (λ p. p.1) entered → one ≡ first_of first rows → Some two ≡ first_of second rows → is_set (first_of flag rows) ≡ set → IsGiven words (name, (first, one) ∷ (second, Some two) ∷ []) ((flag, set) ∷ [])
-given_flagged words entered name rows first one second two flag set e n r s t f = record { rows = rows; command = command_is words entered name rows e n r; arguments = (sym s, (sym t, tt)); set = (f, tt) }
+-- the same with flags
+pub given_flagged : (words : List Text) (entered : Option (Text × List Row)) (name : Text) (rows : List Row) (first : Text) (one : Option Text) (second two : Text) (flags : List (Text × Bool)) → entered ≡ subcommand_of usage words → Some name ≡ option_map (λ p. p.0) entered →
+    Some rows ≡ option_map (λ p. p.1) entered → one ≡ first_of first rows → Some two ≡ first_of second rows → AllByRecursion (λ flag. is_set (first_of flag.0 rows) ≡ flag.1) flags → IsGiven words (name, (first, one) ∷ (second, Some two) ∷ []) flags
+given_flagged words entered name rows first one second two flags e n r s t f = record { rows = rows; command = command_is words entered name rows e n r; arguments = (sym s, (sym t, tt)); set = f }

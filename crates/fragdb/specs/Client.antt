@@ -1,5 +1,5 @@
 -- What the commands of a script come to over a database for one client, and what is shown of it.
-use Rattle.std.specs.Prelude.{◌≡◌, ◌⊎◌, ℕ, false, List, [], ◌∷◌, ◌++◌, flat_map, Option, Some, None}
+use Rattle.std.specs.Prelude.{◌≡◌, ◌⊎◌, ℕ, false, List, ◌++◌, flat_map, Option, Some, None}
 use Rattle.terms.specs.declared.leaf.Leaf.{Leaf}
 use Rattle.meaning.specs.Whole.{FitsSchema, Relations}
 use Rattle.catalog.specs.Catalogue.{Catalogue}
@@ -15,6 +15,8 @@ use Rattle.protocol.specs.Desk.{Deed}
 use Rattle.protocol.specs.Serial.{committed}
 use Rattle.desk.specs.declared.refusal.Refusal.{Refusal}
 use Rattle.desk.specs.declared.reply.Notice.{Notice}
+use Rattle.desk.specs.declared.reply.Reply.{Reply}
+use Rattle.desk.specs.declared.reply.Reply.TheVariants as reply
 use Rattle.desk.specs.Database.{language}
 use Rattle.world.specs.declared.solo.Solo as code
 use Rattle.world.specs.Base.{database, fits}
@@ -26,6 +28,8 @@ use Rattle.world.specs.Obeying.{Obeys, Stands}
 use Rattle.world.specs.Serving.{Executes, IsServed}
 use Rattle.world.specs.Settled.{AreThoseOf, parts_kept, rows_shown}
 use Rattle.world.specs.Stopping.{is_stop}
+use Rattle.shell.specs.declared.mode.Mode.{Mode}
+use Rattle.shell.specs.Mode.{answer_in, line_in}
 use Rattle.fragdb.specs.declared.fault.ProgramFault.{ProgramFault}
 use Rattle.fragdb.specs.declared.fault.ProgramFault.TheVariants.{Memory, Store}
 use Rattle.fragdb.specs.PlayText.{refused_text, reply_text}
@@ -50,21 +54,26 @@ pub record GoesOn (catalogue : Catalogue) (whole : Relations) (past : List (Deed
   pub served : IsServed (database catalogue) whole (held desk_kept kept_of solo.machines) past
   pub stands : Stands (database catalogue) (fits catalogue) solo.current (held desk_kept kept_of solo.machines) past
 
--- what a client hears, a line for each notice
-abbrev pub heard_text : List Notice → List ℕ
-heard_text heard = flat_map (λ notice. reply_text notice.reply ++ 10 ∷ []) heard
+-- a reply to a client: an answer as it is shown, and any other in a line
+abbrev pub reply_in : Mode → Reply → List ℕ
+reply_in mode (reply.Answer answer) = answer_in mode answer
+reply_in mode other = line_in mode (reply_text other)
+
+-- what a client hears, notice by notice
+abbrev pub heard_text : Mode → List Notice → List ℕ
+heard_text mode heard = flat_map (λ notice. reply_in mode notice.reply) heard
 
 -- a command is executed, all that its client hears is told, and its deeds have happened. Unless something was refused on the way it has done what it asks for, as its client hears. whole: what the run began over
-pub record IsHeard (catalogue : Catalogue) (text : List ℕ) (before after : Standing catalogue) (told : List ℕ) : Type 0 where
+pub record IsHeard (mode : Mode) (catalogue : Catalogue) (text : List ℕ) (before after : Standing catalogue) (told : List ℕ) : Type 0 where
   pub heard : List Notice
   pub executes : Executes (database catalogue) text before.current before.machines after.current after.machines heard
   pub whole : Relations
   pub obeys : Obeys (database catalogue) (fits catalogue) whole text before.current before.machines after.current after.machines before.past heard
   pub happened : after.past ≡ before.past ++ deeds_of (database catalogue) text before.current before.machines after.current after.machines heard executes
-  pub lines : told ≡ heard_text heard
+  pub lines : told ≡ heard_text mode heard
 
 -- a command is refused for its reason alone, and that is told: the text is no command's, BEGIN comes inside a transaction, COMMIT or ROLLBACK outside one, or something is at a limit. The transaction that was open stays so. Nothing happens by it, except to a lone statement whose transaction had begun, and nothing is committed
-pub record IsTurnedAway (catalogue : Catalogue) (text : List ℕ) (before after : Standing catalogue) (told : List ℕ) : Type 0 where
+pub record IsTurnedAway (mode : Mode) (catalogue : Catalogue) (text : List ℕ) (before after : Standing catalogue) (told : List ℕ) : Type 0 where
   pub refusal : Refusal
   pub why : Denies (database catalogue) text before.current before.machines refusal
   pub goes_on : is_stop refusal ≡ false
@@ -72,44 +81,44 @@ pub record IsTurnedAway (catalogue : Catalogue) (text : List ℕ) (before after 
   pub declines : Declines (database catalogue) text before.current before.machines after.machines refusal
   pub happened : after.past ≡ before.past ++ deeds_in_vain (database catalogue) text before.current before.machines after.machines refusal declines
   pub uncommitted : committed after.past ≡ committed before.past
-  pub line : told ≡ refused_text refusal ++ 10 ∷ []
+  pub line : told ≡ line_in mode (refused_text refusal)
 
 -- what a command is answered by
-abbrev pub AnswersLine : (catalogue : Catalogue) → List ℕ → Standing catalogue → Standing catalogue → Told → Type 0
-AnswersLine catalogue text before after (Answered told) = IsHeard catalogue text before after told
-AnswersLine catalogue text before after (Refused told) = IsTurnedAway catalogue text before after told
+abbrev pub AnswersLine : (mode : Mode) (catalogue : Catalogue) → List ℕ → Standing catalogue → Standing catalogue → Told → Type 0
+AnswersLine mode catalogue text before after (Answered told) = IsHeard mode catalogue text before after told
+AnswersLine mode catalogue text before after (Refused told) = IsTurnedAway mode catalogue text before after told
 
 -- a relation is shown with the rows that it has in the whole database that the settled fragments are those of
-abbrev pub ShowsRelation : (catalogue : Catalogue) → List ℕ → Standing catalogue → Standing catalogue → List ℕ → Type 0
-ShowsRelation catalogue name before after told =
-    (after ≡ before) × ((whole : Relations) → AreThoseOf (database catalogue) before.machines whole → FitsSchema (schemas_of catalogue) whole → told ≡ relation_text catalogue name (rows_shown (database catalogue) whole name))
+abbrev pub ShowsRelation : (mode : Mode) (catalogue : Catalogue) → List ℕ → Standing catalogue → Standing catalogue → List ℕ → Type 0
+ShowsRelation mode catalogue name before after told =
+    (after ≡ before) × ((whole : Relations) → AreThoseOf (database catalogue) before.machines whole → FitsSchema (schemas_of catalogue) whole → told ≡ relation_text mode catalogue name (rows_shown (database catalogue) whole name))
 
 -- a leaf is shown with the parts that its site keeps; name: how it was asked for
-abbrev pub ShowsPartsOf : (catalogue : Catalogue) → List ℕ → Leaf → Standing catalogue → Standing catalogue → List ℕ → Type 0
-ShowsPartsOf catalogue name leaf before after told = (after ≡ before) × (told ≡ parts_text catalogue name leaf (parts_kept (database catalogue) before.machines leaf))
+abbrev pub ShowsPartsOf : (mode : Mode) (catalogue : Catalogue) → List ℕ → Leaf → Standing catalogue → Standing catalogue → List ℕ → Type 0
+ShowsPartsOf mode catalogue name leaf before after told = (after ≡ before) × (told ≡ parts_text mode catalogue name leaf (parts_kept (database catalogue) before.machines leaf))
 
-abbrev pub ShowsLeafAs : (catalogue : Catalogue) → List ℕ → Option Leaf → Standing catalogue → Standing catalogue → List ℕ → Type 0
-ShowsLeafAs catalogue name None before after told = (after ≡ before) × (told ≡ no_leaf_text name)
-ShowsLeafAs catalogue name (Some leaf) before after told = ShowsPartsOf catalogue name leaf before after told
+abbrev pub ShowsLeafAs : (mode : Mode) (catalogue : Catalogue) → List ℕ → Option Leaf → Standing catalogue → Standing catalogue → List ℕ → Type 0
+ShowsLeafAs mode catalogue name None before after told = (after ≡ before) × (told ≡ no_leaf_text mode name)
+ShowsLeafAs mode catalogue name (Some leaf) before after told = ShowsPartsOf mode catalogue name leaf before after told
 
-abbrev pub ShowsLeaf : (catalogue : Catalogue) → List ℕ → Standing catalogue → Standing catalogue → List ℕ → Type 0
-ShowsLeaf catalogue name before after told = ShowsLeafAs catalogue name (written_leaf name (catalogue_leaves catalogue)) before after told
+abbrev pub ShowsLeaf : (mode : Mode) (catalogue : Catalogue) → List ℕ → Standing catalogue → Standing catalogue → List ℕ → Type 0
+ShowsLeaf mode catalogue name before after told = ShowsLeafAs mode catalogue name (written_leaf name (catalogue_leaves catalogue)) before after told
 
 -- what a task is answered by, and where the client stands before it and after it
-abbrev pub AnswersTask : (catalogue : Catalogue) → Reading → Standing catalogue → Standing catalogue → Told → Type 0
-AnswersTask catalogue Nothing before after told = ⊥
-AnswersTask catalogue (Runs text) before after told = AnswersLine catalogue text before after told
-AnswersTask catalogue (To_show_relation name) before after (Answered told) = ShowsRelation catalogue name before after told
-AnswersTask catalogue (To_show_relation name) before after (Refused told) = ⊥
-AnswersTask catalogue (To_show_leaf name) before after (Answered told) = ShowsLeaf catalogue name before after told
-AnswersTask catalogue (To_show_leaf name) before after (Refused told) = ⊥
-AnswersTask catalogue Unreadable before after told = ⊥
+abbrev pub AnswersTask : (mode : Mode) (catalogue : Catalogue) → Reading → Standing catalogue → Standing catalogue → Told → Type 0
+AnswersTask mode catalogue Nothing before after told = ⊥
+AnswersTask mode catalogue (Runs text) before after told = AnswersLine mode catalogue text before after told
+AnswersTask mode catalogue (To_show_relation name) before after (Answered told) = ShowsRelation mode catalogue name before after told
+AnswersTask mode catalogue (To_show_relation name) before after (Refused told) = ⊥
+AnswersTask mode catalogue (To_show_leaf name) before after (Answered told) = ShowsLeaf mode catalogue name before after told
+AnswersTask mode catalogue (To_show_leaf name) before after (Refused told) = ⊥
+AnswersTask mode catalogue Unreadable before after told = ⊥
 
 -- a task is answered, and the database goes on from what has happened by then
-pub record IsAnswered (catalogue : Catalogue) (whole : Relations) (task : Reading) (past : List (Deed (language (database catalogue)))) (old new : code.Solo PlainDesk PlainSite) (told : Told) : Type 0 where
+pub record IsAnswered (mode : Mode) (catalogue : Catalogue) (whole : Relations) (task : Reading) (past : List (Deed (language (database catalogue)))) (old new : code.Solo PlainDesk PlainSite) (told : Told) : Type 0 where
   pub later : List (Deed (language (database catalogue)))
   pub goes_on : GoesOn catalogue whole later new
-  pub answers : AnswersTask catalogue task (standing_of catalogue old past) (standing_of catalogue new later) told
+  pub answers : AnswersTask mode catalogue task (standing_of catalogue old past) (standing_of catalogue new later) told
 
 -- a fault that may stop a database, or come while its answers are put together
 abbrev pub IsOfClient : ProgramFault → Type 0

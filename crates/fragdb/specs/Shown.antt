@@ -6,7 +6,6 @@ use Rattle.terms.specs.declared.value.Value.{Value}
 use Rattle.terms.specs.Leaf.{leaf_text}
 use Rattle.meaning.specs.declared.answer.Answer.TheVariants.{Rows}
 use Rattle.meaning.specs.Whole.{Relations}
-use Rattle.reader.specs.PrintAnswer.{answer_text}
 use Rattle.catalog.specs.declared.fragment_leaf.FragmentLeaf.{FragmentLeaf}
 use Rattle.catalog.specs.Catalogue.{Catalogue}
 use Rattle.catalog.specs.FragmentLeaf.{catalogue_leaves, leaf_named, schemas_of}
@@ -16,30 +15,33 @@ use Rattle.world.specs.declared.fault.Fault.{Fault}
 use Rattle.world.specs.Base.{database}
 use Rattle.world.specs.Machines.{Machines}
 use Rattle.world.specs.Settled.{ShowsSerial, parts_kept}
+use Rattle.shell.specs.declared.mode.Mode.{Mode}
+use Rattle.shell.specs.declared.mode.Mode.TheVariants.{Tabs}
+use Rattle.shell.specs.Mode.{answer_in, line_in}
 use Rattle.fragdb.specs.Check.{columns_of, names_of_columns}
 use Rattle.fragdb.specs.PlayText.{Naming, leaf_columns}
 use Rattle.fragdb.specs.Schedule.{IsReached, refusal_text}
 
 -- rows under the names of their columns
-abbrev pub rows_text : List (List ℕ) → List (List Value) → List ℕ
-rows_text columns rows = answer_text (Rows columns rows) ++ 10 ∷ []
+abbrev pub rows_text : Mode → List (List ℕ) → List (List Value) → List ℕ
+rows_text mode columns rows = answer_in mode (Rows columns rows)
 
 -- what is told where a store fails while this is shown
 abbrev pub failed_text : List ℕ → Fault → List ℕ
 failed_text name why = refusal_text (record { client = name; site = name; missing = [] }) why
 
 -- the rows of a relation, if there is one
-abbrev pub relation_text : Catalogue → List ℕ → Option (List (List Value)) → List ℕ
-relation_text catalogue name None = codes "no relation " ++ name ++ 10 ∷ []
-relation_text catalogue name (Some rows) = rows_text (names_of_columns (columns_of (schemas_of catalogue) name)) rows
+abbrev pub relation_text : Mode → Catalogue → List ℕ → Option (List (List Value)) → List ℕ
+relation_text mode catalogue name None = line_in mode (codes "no relation " ++ name)
+relation_text mode catalogue name (Some rows) = rows_text mode (names_of_columns (columns_of (schemas_of catalogue) name)) rows
 
-abbrev pub no_leaf_text : List ℕ → List ℕ
-no_leaf_text name = codes "no leaf " ++ name ++ 10 ∷ []
+abbrev pub no_leaf_text : Mode → List ℕ → List ℕ
+no_leaf_text mode name = line_in mode (codes "no leaf " ++ name)
 
 -- the parts of a leaf, if there is one
-abbrev pub parts_text : Catalogue → List ℕ → Leaf → Option (List (List Value)) → List ℕ
-parts_text catalogue name leaf None = no_leaf_text name
-parts_text catalogue name leaf (Some parts) = rows_text (leaf_columns catalogue (leaf_named leaf (catalogue_leaves catalogue))) parts
+abbrev pub parts_text : Mode → Catalogue → List ℕ → Leaf → Option (List (List Value)) → List ℕ
+parts_text mode catalogue name leaf None = no_leaf_text mode name
+parts_text mode catalogue name leaf (Some parts) = rows_text mode (leaf_columns catalogue (leaf_named leaf (catalogue_leaves catalogue))) parts
 
 -- the first of some leaves whose name is written so
 abbrev pub written_leaf : List ℕ → List FragmentLeaf → Option Leaf
@@ -53,15 +55,15 @@ names_text named txns = flat_map (λ txn. named txn ++ 10 ∷ []) txns
 -- what is shown of a relation after a run over whole relations, or why it is not: the rows that the committed transactions make of it, one after another
 abbrev pub IsShownRelation : Catalogue → Relations → List Entry → List ℕ → List ℕ → Type 0
 IsShownRelation catalogue whole entries name text =
-    ((found : Option (List (List Value))) × ShowsSerial (database catalogue) whole entries name found × (text ≡ relation_text catalogue name found)) ⊎ ((why : Fault) × (text ≡ failed_text name why))
+    ((found : Option (List (List Value))) × ShowsSerial (database catalogue) whole entries name found × (text ≡ relation_text Tabs catalogue name found)) ⊎ ((why : Fault) × (text ≡ failed_text name why))
 
 -- the same of a leaf: the parts that are kept of it where a run with these entries leads to
 abbrev pub IsShownParts : Catalogue → Relations → List Entry → List ℕ → Leaf → List ℕ → Type 0
 IsShownParts catalogue whole entries name leaf text =
-    ((machines : Machines) × IsReached catalogue whole machines entries × (text ≡ parts_text catalogue name leaf (parts_kept (database catalogue) machines leaf))) ⊎ ((why : Fault) × (text ≡ failed_text name why))
+    ((machines : Machines) × IsReached catalogue whole machines entries × (text ≡ parts_text Tabs catalogue name leaf (parts_kept (database catalogue) machines leaf))) ⊎ ((why : Fault) × (text ≡ failed_text name why))
 
 abbrev pub IsShownAs : Catalogue → Relations → List Entry → List ℕ → Option Leaf → List ℕ → Type 0
-IsShownAs catalogue whole entries name None text = text ≡ no_leaf_text name
+IsShownAs catalogue whole entries name None text = text ≡ no_leaf_text Tabs name
 IsShownAs catalogue whole entries name (Some leaf) text = IsShownParts catalogue whole entries name leaf text
 
 abbrev pub IsShownLeaf : Catalogue → Relations → List Entry → List ℕ → List ℕ → Type 0

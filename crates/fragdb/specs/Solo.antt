@@ -16,6 +16,7 @@ use Rattle.world.specs.declared.solo.Solo as code
 use Rattle.world.specs.Obeying.{Stands}
 use Rattle.world.specs.Runs.{IsSerialRun}
 use Rattle.world.specs.Serving.{IsServed}
+use Rattle.shell.specs.declared.mode.Mode.{Mode}
 use Rattle.fragdb.specs.declared.catalog_file.CatalogFault.{CatalogFault}
 use Rattle.fragdb.specs.declared.catalog_file.CatalogFault.TheVariants.{Program, Refused}
 use Rattle.fragdb.specs.declared.fault.ProgramFault.{ProgramFault}
@@ -47,26 +48,26 @@ abbrev pub IsOfRead : Bor (List ℕ) → ProgramFault → Type 0
 IsOfRead file fault = (fault ≡ Memory) ⊎ ((fault ≡ ScriptTooLong) ⊎ (fault ≡ CannotRead file))
 
 -- tasks, one after another, with the answer to each
-abbrev pub AnswersTasks : (catalogue : Catalogue) → List (Reading × Told) → Standing catalogue → Standing catalogue → Type 0
-AnswersTasks catalogue [] before after = after ≡ before
-AnswersTasks catalogue (first ∷ others) before after = (middle : Standing catalogue) × AnswersTask catalogue first.0 before middle first.1 × AnswersTasks catalogue others middle after
+abbrev pub AnswersTasks : (mode : Mode) (catalogue : Catalogue) → List (Reading × Told) → Standing catalogue → Standing catalogue → Type 0
+AnswersTasks mode catalogue [] before after = after ≡ before
+AnswersTasks mode catalogue (first ∷ others) before after = (middle : Standing catalogue) × AnswersTask mode catalogue first.0 before middle first.1 × AnswersTasks mode catalogue others middle after
 
 -- the calls that a task made, each with all that was heard of it
-abbrev pub said_by : (catalogue : Catalogue) (task : Reading) (before after : Standing catalogue) (told : Told) → AnswersTask catalogue task before after told → List Entry
-said_by catalogue (Runs text) before after (Answered told) answers = said_of (database catalogue) text before.current before.machines after.current after.machines answers.heard answers.executes
-said_by catalogue (Runs text) before after (Refused told) answers = said_in_vain (database catalogue) text before.current before.machines after.machines answers.refusal answers.declines
-said_by catalogue task before after told answers = []
+abbrev pub said_by : (mode : Mode) (catalogue : Catalogue) (task : Reading) (before after : Standing catalogue) (told : Told) → AnswersTask mode catalogue task before after told → List Entry
+said_by mode catalogue (Runs text) before after (Answered told) answers = said_of (database catalogue) text before.current before.machines after.current after.machines answers.heard answers.executes
+said_by mode catalogue (Runs text) before after (Refused told) answers = said_in_vain (database catalogue) text before.current before.machines after.machines answers.refusal answers.declines
+said_by mode catalogue task before after told answers = []
 
 -- so of tasks, one after another
-abbrev pub said_by_tasks : (catalogue : Catalogue) (answers : List (Reading × Told)) (before after : Standing catalogue) → AnswersTasks catalogue answers before after → List Entry
-said_by_tasks catalogue [] before after same = []
-said_by_tasks catalogue (first ∷ others) before after so = said_by catalogue first.0 before so.0 first.1 so.1 ++ said_by_tasks catalogue others so.0 after so.2
+abbrev pub said_by_tasks : (mode : Mode) (catalogue : Catalogue) (answers : List (Reading × Told)) (before after : Standing catalogue) → AnswersTasks mode catalogue answers before after → List Entry
+said_by_tasks mode catalogue [] before after same = []
+said_by_tasks mode catalogue (first ∷ others) before after so = said_by mode catalogue first.0 before so.0 first.1 so.1 ++ said_by_tasks mode catalogue others so.0 after so.2
 
 -- What tasks come to from where a client stands: one answer to each, in order, all of which is written, and whether a line was refused.
-pub record IsWork (catalogue : Catalogue) (tasks : List Reading) (written : List ℕ) (any_refused : Bool) (before after : Standing catalogue) : Type 0 where
+pub record IsWork (mode : Mode) (catalogue : Catalogue) (tasks : List Reading) (written : List ℕ) (any_refused : Bool) (before after : Standing catalogue) : Type 0 where
   pub answers : List (Reading × Told)
   pub in_order : map (λ p. p.0) answers ≡ tasks
-  pub answered : AnswersTasks catalogue answers before after
+  pub answered : AnswersTasks mode catalogue answers before after
   pub lines : written ≡ flat_map (λ p. text_of p.1) answers
   pub refused : any_refused ≡ list_any (λ p. is_refusal p.1) answers
 
@@ -82,25 +83,25 @@ pub record IsOpened (catalogue : Catalogue) (standing : Standing catalogue) : Ty
 
 -- A run of tasks from the opening to its end, where all is quiet or the open transaction is ready, and the serial law holds of just what was asked for and heard by them: the committed
 -- transactions, one after another over whole relations, give the answers that were heard, and what the settled fragments rebuild.
-pub record IsRun (catalogue : Catalogue) (tasks : List Reading) (written : List ℕ) (any_refused : Bool) : Type 0 where
+pub record IsRun (mode : Mode) (catalogue : Catalogue) (tasks : List Reading) (written : List ℕ) (any_refused : Bool) : Type 0 where
   pub opening : Standing catalogue
   pub opened : IsOpened catalogue opening
   pub end : Standing catalogue
-  pub work : IsWork catalogue tasks written any_refused opening end
+  pub work : IsWork mode catalogue tasks written any_refused opening end
   pub served : IsServed (database catalogue) (no_rows catalogue) end.machines end.past
   pub stands : Stands (database catalogue) (fits catalogue) end.current end.machines end.past
-  pub serial : IsSerialRun (database catalogue) (no_rows catalogue) end.machines (said_by_tasks catalogue work.answers opening end work.answered)
+  pub serial : IsSerialRun (database catalogue) (no_rows catalogue) end.machines (said_by_tasks mode catalogue work.answers opening end work.answered)
 
 -- a run of tasks over a database that goes on
-pub record IsStretch (catalogue : Catalogue) (whole : Relations) (tasks : List Reading) (past : List (Deed (language (database catalogue)))) (old new : code.Solo PlainDesk PlainSite) (written : List ℕ) (any_refused : Bool) : Type 0 where
+pub record IsStretch (mode : Mode) (catalogue : Catalogue) (whole : Relations) (tasks : List Reading) (past : List (Deed (language (database catalogue)))) (old new : code.Solo PlainDesk PlainSite) (written : List ℕ) (any_refused : Bool) : Type 0 where
   pub later : List (Deed (language (database catalogue)))
   pub goes_on : GoesOn catalogue whole later new
-  pub work : IsWork catalogue tasks written any_refused (standing_of catalogue old past) (standing_of catalogue new later)
+  pub work : IsWork mode catalogue tasks written any_refused (standing_of catalogue old past) (standing_of catalogue new later)
 
 -- a script that may run has run to its end, and all that its lines are answered by was written
-abbrev pub HasRun : Catalogue → List ℕ → Option (List ℕ) → Option (List ℕ) → Bool → Type 0
-HasRun catalogue script old new any_refused =
-    IsAccepted script × ((written : List ℕ) × Appends old new written × IsRun catalogue (tasks_of_lines (lines_of script)) written any_refused)
+abbrev pub HasRun : Mode → Catalogue → List ℕ → Option (List ℕ) → Option (List ℕ) → Bool → Type 0
+HasRun mode catalogue script old new any_refused =
+    IsAccepted script × ((written : List ℕ) × Appends old new written × IsRun mode catalogue (tasks_of_lines (lines_of script)) written any_refused)
 
 -- what stopped a script, of which all bytes were read
 abbrev pub StopsRun : List ℕ → Option (List ℕ) → Option (List ℕ) → ProgramFault → Type 0
@@ -112,9 +113,9 @@ StopsRun script old new (CannotRead name) = ⊥
 StopsRun script old new ScriptTooLong = ⊥
 
 -- a script that is short enough ran to its end, or was stopped
-abbrev pub RunsOrStops : Catalogue → List ℕ → Option (List ℕ) → Option (List ℕ) → Result Bool ProgramFault → Type 0
-RunsOrStops catalogue script old new (Ok any_refused) = HasRun catalogue script old new any_refused
-RunsOrStops catalogue script old new (Err fault) = StopsRun script old new fault
+abbrev pub RunsOrStops : Mode → Catalogue → List ℕ → Option (List ℕ) → Option (List ℕ) → Result Bool ProgramFault → Type 0
+RunsOrStops mode catalogue script old new (Ok any_refused) = HasRun mode catalogue script old new any_refused
+RunsOrStops mode catalogue script old new (Err fault) = StopsRun script old new fault
 
 -- what stopped the script of this file
 abbrev pub StopsScript : Bor (List ℕ) → List ℕ → Option (List ℕ) → Option (List ℕ) → ProgramFault → Type 0
@@ -126,22 +127,22 @@ StopsScript file script old new (Store why) = IsAccepted script
 StopsScript file script old new CannotWrite = IsAccepted script
 
 -- the script of a file ran to its end, or was stopped
-abbrev pub RunsScript : Catalogue → Bor (List ℕ) → List ℕ → Option (List ℕ) → Option (List ℕ) → Result Bool ProgramFault → Type 0
-RunsScript catalogue file script old new (Ok any_refused) = HasRun catalogue script old new any_refused
-RunsScript catalogue file script old new (Err fault) = StopsScript file script old new fault
+abbrev pub RunsScript : Mode → Catalogue → Bor (List ℕ) → List ℕ → Option (List ℕ) → Option (List ℕ) → Result Bool ProgramFault → Type 0
+RunsScript mode catalogue file script old new (Ok any_refused) = HasRun mode catalogue script old new any_refused
+RunsScript mode catalogue file script old new (Err fault) = StopsScript file script old new fault
 
 -- these bytes are of a valid catalogue, over which the script of this file ran to its end, or was stopped
-pub record IsRunOf (bytes : List ℕ) (file : Bor (List ℕ)) (script : List ℕ) (old new : Option (List ℕ)) (result : Result Bool ProgramFault) : Type 0 where
+pub record IsRunOf (mode : Mode) (bytes : List ℕ) (file : Bor (List ℕ)) (script : List ℕ) (old new : Option (List ℕ)) (result : Result Bool ProgramFault) : Type 0 where
   pub catalogue : Catalogue
   pub text : IsCatalogueFile bytes catalogue
   pub valid : IsValidCatalogue catalogue
-  pub ran : RunsScript catalogue file script old new result
+  pub ran : RunsScript mode catalogue file script old new result
 
 -- The run of a script over a catalogue, each the bytes of a file. The catalogue is looked at first, and where it is none nothing is written.
-abbrev pub RunsFiles : Bor (List ℕ) → List ℕ → Bor (List ℕ) → List ℕ → Option (List ℕ) → Option (List ℕ) → Result Bool CatalogFault → Type 0
-RunsFiles catalog bytes file script old new (Ok any_refused) = IsRunOf bytes file script old new (Ok any_refused)
-RunsFiles catalog bytes file script old new (Err (Refused fault)) = RefusesFile bytes fault.relation fault.rule × Keeps old new
-RunsFiles catalog bytes file script old new (Err (Program fault)) = (IsOfInput catalog fault × Keeps old new) ⊎ IsRunOf bytes file script old new (Err fault)
+abbrev pub RunsFiles : Mode → Bor (List ℕ) → List ℕ → Bor (List ℕ) → List ℕ → Option (List ℕ) → Option (List ℕ) → Result Bool CatalogFault → Type 0
+RunsFiles mode catalog bytes file script old new (Ok any_refused) = IsRunOf mode bytes file script old new (Ok any_refused)
+RunsFiles mode catalog bytes file script old new (Err (Refused fault)) = RefusesFile bytes fault.relation fault.rule × Keeps old new
+RunsFiles mode catalog bytes file script old new (Err (Program fault)) = (IsOfInput catalog fault × Keeps old new) ⊎ IsRunOf mode bytes file script old new (Err fault)
 
 -- why nothing runs where the script can't be opened: the catalogue is none, or that is told
 abbrev pub IsUnrun : Bor (List ℕ) → List ℕ → Bor (List ℕ) → Result Bool CatalogFault → Type 0

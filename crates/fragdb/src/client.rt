@@ -1,12 +1,13 @@
 //! The client of a script: what each item is answered by.
 
-ghost use Rattle.std.specs.Prelude.{◌≡◌, ◌++◌, ◌∷◌, [], false, List, IfErr, IfOk, OnOk, string_bytes};
+ghost use Rattle.std.specs.Prelude.{◌≡◌, ◌++◌, false, List, IfErr, IfOk, OnOk, string_bytes};
 ghost use Rattle.catalog.specs.Catalogue.{Catalogue};
 ghost use Rattle.meaning.specs.Whole.{Relations};
 ghost use Rattle.protocol.specs.Desk.{Deed};
 ghost use Rattle.desk.specs.Database.{language};
 ghost use Rattle.world.specs.Base.{database as base};
 ghost use Rattle.world.specs.Stopping.{is_stop};
+ghost use Rattle.shell.specs.Mode.{line_in};
 ghost use Rattle.fragdb.specs.Client as client;
 ghost use Rattle.fragdb.specs.Client.{GoesOn, IsAnswered, IsOfClient, ShowsPartsOf, standing_of};
 ghost use Rattle.fragdb.specs.PlayText as spec;
@@ -19,7 +20,8 @@ use crate::reply::Reply;
 use crate::script::Item;
 use crate::shown::{leaf_written, no_leaf, parts_text, relation_text};
 use desk::refusal::Refusal;
-use desk::reply::Notice;
+use desk::reply::{Notice, Reply as Heard};
+use shell::mode::{Mode, put_answer, put_line, show_line};
 use site::fault::SiteFault;
 use std::alloc::Global;
 use store::plain_desk::PlainDesk;
@@ -37,67 +39,72 @@ pub type Database = Solo<PlainDesk, PlainSite>;
 /// What an item is answered by.
 pub fn answer<'a>(
     alloc: Global,
+    mode: Mode,
     database: &mut Database,
     item: Item<'_>,
 ) -> Result<Reply, ProgramFault<'a>>
-    ensures answers { (catalogue : Catalogue) (whole : Relations) (past : List (Deed (language (base catalogue)))) → GoesOn catalogue whole past database.old → IfOk result (λ reply. IsAnswered catalogue whole (task_of item.entry) past database.old database.new (told_by reply)) }
+    ensures answers { (catalogue : Catalogue) (whole : Relations) (past : List (Deed (language (base catalogue)))) → GoesOn catalogue whole past database.old → IfOk result (λ reply. IsAnswered mode catalogue whole (task_of item.entry) past database.old database.new (told_by reply)) }
     ensures err { IfErr result IsOfClient }
 {
     match item {
-        Item::Statement(text) => command(alloc, database, text),
-        Item::Show(name) => Ok(Reply::Answer(relation_shown(alloc, database, name)?)),
-        Item::Leaf(name) => Ok(Reply::Answer(leaf_shown(alloc, database, name)?)),
+        Item::Statement(text) => command(alloc, mode, database, text),
+        Item::Show(name) => Ok(Reply::Answer(relation_shown(alloc, mode, database, name)?)),
+        Item::Leaf(name) => Ok(Reply::Answer(leaf_shown(alloc, mode, database, name)?)),
     }
 }
 
 /// What the command of this text is answered by.
 fn command<'a>(
     alloc: Global,
+    mode: Mode,
     database: &mut Database,
     text: &str,
 ) -> Result<Reply, ProgramFault<'a>>
-    ensures answers { (catalogue : Catalogue) (whole : Relations) (past : List (Deed (language (base catalogue)))) → GoesOn catalogue whole past database.old → IfOk result (λ reply. IsAnswered catalogue whole (Runs text.now) past database.old database.new (told_by reply)) }
+    ensures answers { (catalogue : Catalogue) (whole : Relations) (past : List (Deed (language (base catalogue)))) → GoesOn catalogue whole past database.old → IfOk result (λ reply. IsAnswered mode catalogue whole (Runs text.now) past database.old database.new (told_by reply)) }
     ensures err { IfErr result IsOfClient }
 {
     deeds_follow(database.catalog());
     match database.execute(text) {
-        Ok(heard) => Ok(Reply::Answer(heard_text(alloc, heard.as_slice())?)),
-        Err(refusal) => refused(alloc, refusal),
+        Ok(heard) => Ok(Reply::Answer(heard_text(alloc, mode, heard.as_slice())?)),
+        Err(refusal) => refused(alloc, mode, refusal),
     }
 }
 
-/// What a client hears, a line for each notice.
-fn heard_text(alloc: Global, heard: &[Notice]) -> Result<String, Memory>
-    ensures { IfOk result (λ text. string_bytes text ≡ client.heard_text heard.now) }
+/// What a client hears, notice by notice.
+fn heard_text(alloc: Global, mode: Mode, heard: &[Notice]) -> Result<String, Memory>
+    ensures { IfOk result (λ text. string_bytes text ≡ client.heard_text mode heard.now) }
 {
     let mut text = String::new(alloc);
     for notice in heard {
-        put_notice(&mut text, notice)?;
+        put_notice(&mut text, mode, notice)?;
     }
     Ok(text)
 }
 
-fn put_notice(out: &mut String, notice: &Notice) -> Result<(), Memory>
-    ensures { OnOk result (string_bytes out.new ≡ string_bytes out.old ++ spec.reply_text notice.now.reply ++ 10 ∷ []) }
+fn put_notice(out: &mut String, mode: Mode, notice: &Notice) -> Result<(), Memory>
+    ensures { OnOk result (string_bytes out.new ≡ string_bytes out.old ++ client.reply_in mode notice.now.reply) }
 {
-    let text = reply_text(*out.allocator(), &notice.reply)?;
-    writeln!(out, "{text}")?;
-    Ok(())
+    match &notice.reply {
+        Heard::Answer(answer) => put_answer(out, mode, answer),
+        other => {
+            let text = reply_text(*out.allocator(), other)?;
+            put_line(out, mode, text.as_str())
+        }
+    }
 }
 
 /// What is told of a refusal, unless it stops the database.
-fn refused<'a>(alloc: Global, refusal: Refusal) -> Result<Reply, ProgramFault<'a>>
+fn refused<'a>(alloc: Global, mode: Mode, refusal: Refusal) -> Result<Reply, ProgramFault<'a>>
     ensures goes_on { OnOk result (is_stop refusal ≡ false) }
-    ensures told { IfOk result (λ reply. told_by reply ≡ Refused (spec.refused_text refusal ++ 10 ∷ [])) }
+    ensures told { IfOk result (λ reply. told_by reply ≡ Refused (line_in mode (spec.refused_text refusal))) }
     ensures err { IfErr result IsOfClient }
 {
     match refusal {
         Refusal::Memory => Err(ProgramFault::Memory),
         Refusal::Store(fault) => Err(ProgramFault::Store { fault }),
         other => {
-            let mut text = refused_text(alloc, other)?;
-            text.push('\n')?;
-            Ok(Reply::Refusal(text))
+            let text = refused_text(alloc, other)?;
+            Ok(Reply::Refusal(show_line(alloc, mode, text.as_str())?))
         }
     }
 }
@@ -105,15 +112,16 @@ fn refused<'a>(alloc: Global, refusal: Refusal) -> Result<Reply, ProgramFault<'a
 /// A relation as the fragments rebuild it.
 fn relation_shown<'a>(
     alloc: Global,
+    mode: Mode,
     database: &mut Database,
     name: &str,
 ) -> Result<String, ProgramFault<'a>>
-    ensures shown { (catalogue : Catalogue) (whole : Relations) (past : List (Deed (language (base catalogue)))) → GoesOn catalogue whole past database.old → IfOk result (λ text. IsAnswered catalogue whole (ShowsRelation name.now) past database.old database.new (Answered (string_bytes text))) }
+    ensures shown { (catalogue : Catalogue) (whole : Relations) (past : List (Deed (language (base catalogue)))) → GoesOn catalogue whole past database.old → IfOk result (λ text. IsAnswered mode catalogue whole (ShowsRelation name.now) past database.old database.new (Answered (string_bytes text))) }
     ensures err { IfErr result IsOfClient }
 {
     let name = Text::copy_of(alloc, name)?;
     match database.rebuilt(&name) {
-        Ok(found) => Ok(relation_text(alloc, database.catalog(), &name, found)?),
+        Ok(found) => Ok(relation_text(alloc, mode, database.catalog(), &name, found)?),
         Err(fault) => Err(stopped(fault)),
     }
 }
@@ -121,29 +129,31 @@ fn relation_shown<'a>(
 /// The parts that the leaf of this name keeps.
 fn leaf_shown<'a>(
     alloc: Global,
+    mode: Mode,
     database: &mut Database,
     name: &str,
 ) -> Result<String, ProgramFault<'a>>
-    ensures shown { (catalogue : Catalogue) (whole : Relations) (past : List (Deed (language (base catalogue)))) → GoesOn catalogue whole past database.old → IfOk result (λ text. IsAnswered catalogue whole (ShowsLeaf name.now) past database.old database.new (Answered (string_bytes text))) }
+    ensures shown { (catalogue : Catalogue) (whole : Relations) (past : List (Deed (language (base catalogue)))) → GoesOn catalogue whole past database.old → IfOk result (λ text. IsAnswered mode catalogue whole (ShowsLeaf name.now) past database.old database.new (Answered (string_bytes text))) }
     ensures err { IfErr result IsOfClient }
 {
     match leaf_written(alloc, database.catalog().leaves(), name)? {
-        Some(leaf) => parts_shown(alloc, database, &leaf, name),
-        None => Ok(no_leaf(alloc, name)?),
+        Some(leaf) => parts_shown(alloc, mode, database, &leaf, name),
+        None => Ok(no_leaf(alloc, mode, name)?),
     }
 }
 
 fn parts_shown<'a>(
     alloc: Global,
+    mode: Mode,
     database: &mut Database,
     leaf: &Leaf,
     name: &str,
 ) -> Result<String, ProgramFault<'a>>
-    ensures shown { (catalogue : Catalogue) (whole : Relations) (past : List (Deed (language (base catalogue)))) → GoesOn catalogue whole past database.old → IfOk result (λ text. GoesOn catalogue whole past database.new × ShowsPartsOf catalogue name.now leaf.now (standing_of catalogue database.old past) (standing_of catalogue database.new past) (string_bytes text)) }
+    ensures shown { (catalogue : Catalogue) (whole : Relations) (past : List (Deed (language (base catalogue)))) → GoesOn catalogue whole past database.old → IfOk result (λ text. GoesOn catalogue whole past database.new × ShowsPartsOf mode catalogue name.now leaf.now (standing_of catalogue database.old past) (standing_of catalogue database.new past) (string_bytes text)) }
     ensures err { IfErr result IsOfClient }
 {
     match database.parts(leaf) {
-        Ok(found) => Ok(parts_text(alloc, database.catalog(), leaf, name, found)?),
+        Ok(found) => Ok(parts_text(alloc, mode, database.catalog(), leaf, name, found)?),
         Err(fault) => Err(stopped(fault)),
     }
 }

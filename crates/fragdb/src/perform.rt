@@ -14,6 +14,7 @@ use crate::plan_text::{PlanFault, plan};
 use crate::play::play_files;
 use crate::solo::solo_files;
 use crate::usage::Request;
+use shell::mode::Mode;
 use std::alloc::Global;
 use std::io;
 use std::io::{Read, Write};
@@ -79,8 +80,8 @@ pub fn perform<'a, C: Read + Drop, R: Read + Drop, W: Write>(
     ensures quiet { IfErr input (λ error. Keeps (W.contents output.old) (W.contents output.new)) }
 {
     match request {
-        Request::Solo { script, .. } => {
-            perform_solo(alloc, catalog_file, catalog, script, input, output)
+        Request::Solo { script, mode, .. } => {
+            perform_solo(alloc, mode, catalog_file, catalog, script, input, output)
         }
         Request::Check { catalog: file, .. } => perform_check(alloc, file, input, output),
         Request::Plan {
@@ -96,20 +97,21 @@ pub fn perform<'a, C: Read + Drop, R: Read + Drop, W: Write>(
 /// Runs a script over a catalogue that was opened under this name.
 fn perform_solo<'a, C: Read + Drop, R: Read + Drop, W: Write>(
     alloc: Global,
+    mode: Mode,
     file: &'a str,
     catalog: io::Result<C>,
     script: &'a str,
     input: io::Result<R>,
     output: &mut W,
 ) -> Outcome<'a>
-    ensures ran { IfOk catalog (λ opened. IfSome (C.remaining opened) (λ bytes. IfOk input (λ reader. IfSome (R.remaining reader) (λ text. PerformsSolo file.entry bytes script.entry text (W.contents output.old) (W.contents output.new) result)))) }
+    ensures ran { IfOk catalog (λ opened. IfSome (C.remaining opened) (λ bytes. IfOk input (λ reader. IfSome (R.remaining reader) (λ text. PerformsSolo mode file.entry bytes script.entry text (W.contents output.old) (W.contents output.new) result)))) }
     ensures uncatalogued { IfErr catalog (λ error. IsUnread file.entry result × Keeps (W.contents output.old) (W.contents output.new)) }
     ensures idle { IfOk catalog (λ opened. IfSome (C.remaining opened) (λ bytes. IfErr input (λ error. IsIdle file.entry bytes script.entry result))) }
     ensures unread { IfErr input (λ error. IsStopped result) }
     ensures quiet { IfErr input (λ error. Keeps (W.contents output.old) (W.contents output.new)) }
 {
     match catalog {
-        Ok(catalog) => of_script(solo_files(alloc, file, catalog, script, input, output)),
+        Ok(catalog) => of_script(solo_files(alloc, mode, file, catalog, script, input, output)),
         Err(error) => unread(file, &error),
     }
 }

@@ -18,7 +18,7 @@ use catalog::catalogue::Catalog;
 use catalog::fragment_leaf::FragmentLeaf;
 use desk::refusal::Refusal;
 use meaning::answer::Answer;
-use reader::print_answer::print_answer;
+use shell::mode::{Mode, show, show_line};
 use site::fault::SiteFault;
 use std::alloc::Global;
 use terms::copy::{TryCopy, copy_all};
@@ -32,12 +32,19 @@ use world::fault::Fault;
 use world::history::Committed;
 
 /// Rows under the names of their columns.
-fn rows_text(alloc: Global, columns: Vec<Text>, rows: Vec<Row>) -> Result<String, Memory>
-    ensures { IfOk result (λ text. string_bytes text ≡ spec.rows_text columns.items rows.items) }
+fn rows_text(
+    alloc: Global,
+    mode: Mode,
+    columns: Vec<Text>,
+    rows: Vec<Row>,
+) -> Result<String, Memory>
+    ensures { IfOk result (λ text. string_bytes text ≡ spec.rows_text mode columns.items rows.items) }
 {
-    let mut text = print_answer(alloc, &Answer::Rows(Seq::new(columns), Seq::new(rows)))?;
-    text.push('\n')?;
-    Ok(text)
+    show(
+        alloc,
+        mode,
+        &Answer::Rows(Seq::new(columns), Seq::new(rows)),
+    )
 }
 
 /// Parts as rows.
@@ -54,37 +61,42 @@ fn rows_of(alloc: Global, parts: &[Part]) -> Result<Vec<Row>, Memory>
 /// The rows of the relation of this name, if there is one.
 pub fn relation_text(
     alloc: Global,
+    mode: Mode,
     catalog: &Catalog,
     name: &Text,
     found: Option<Vec<Row>>,
 ) -> Result<String, Memory>
-    ensures { IfOk result (λ text. string_bytes text ≡ spec.relation_text (catalogue_of catalog.now) name.now (option_map (λ rows. rows.items) found)) }
+    ensures { IfOk result (λ text. string_bytes text ≡ spec.relation_text mode (catalogue_of catalog.now) name.now (option_map (λ rows. rows.items) found)) }
 {
     match found {
         Some(rows) => {
             let columns = columns_of(catalog.schema(), name);
-            rows_text(alloc, column_names(alloc, columns)?, rows)
+            rows_text(alloc, mode, column_names(alloc, columns)?, rows)
         }
-        None => Ok(format!(in alloc; "no relation {name}\n")?),
+        None => {
+            let text = format!(in alloc; "no relation {name}")?;
+            show_line(alloc, mode, text.as_str())
+        }
     }
 }
 
 /// The parts of this leaf, if there is one; `name` is what it is called where there is none.
 pub fn parts_text(
     alloc: Global,
+    mode: Mode,
     catalog: &Catalog,
     leaf: &Leaf,
     name: &str,
     found: Option<Vec<Part>>,
 ) -> Result<String, Memory>
-    ensures { IfOk result (λ text. string_bytes text ≡ spec.parts_text (catalogue_of catalog.now) name.now leaf.now (option_map (λ parts. parts.items) found)) }
+    ensures { IfOk result (λ text. string_bytes text ≡ spec.parts_text mode (catalogue_of catalog.now) name.now leaf.now (option_map (λ parts. parts.items) found)) }
 {
     match found {
         Some(parts) => {
             let columns = leaf_columns(alloc, catalog, leaf)?;
-            rows_text(alloc, columns, rows_of(alloc, parts.as_slice())?)
+            rows_text(alloc, mode, columns, rows_of(alloc, parts.as_slice())?)
         }
-        None => no_leaf(alloc, name),
+        None => no_leaf(alloc, mode, name),
     }
 }
 
@@ -115,10 +127,11 @@ pub fn leaf_written(
     Ok(None)
 }
 
-pub fn no_leaf(alloc: Global, name: &str) -> Result<String, Memory>
-    ensures { IfOk result (λ text. string_bytes text ≡ no_leaf_text name.now) }
+pub fn no_leaf(alloc: Global, mode: Mode, name: &str) -> Result<String, Memory>
+    ensures { IfOk result (λ text. string_bytes text ≡ no_leaf_text mode name.now) }
 {
-    Ok(format!(in alloc; "no leaf {name}\n")?)
+    let text = format!(in alloc; "no leaf {name}")?;
+    show_line(alloc, mode, text.as_str())
 }
 
 /// Puts the name of each of these transactions in a line.
@@ -148,7 +161,7 @@ impl Schedule {
         ensures catalog { self.new.world.machines.desk.catalog ≡ self.old.world.machines.desk.catalog }
     {
         match self.world.rebuilt(name) {
-            Ok(found) => relation_text(alloc, self.world.catalog(), name, found),
+            Ok(found) => relation_text(alloc, Mode::Tabs, self.world.catalog(), name, found),
             Err(fault) => failed(alloc, name.as_str(), fault),
         }
     }
@@ -162,7 +175,7 @@ impl Schedule {
     {
         match leaf_written(alloc, self.world.catalog().leaves(), name.as_str())? {
             Some(leaf) => self.parts(alloc, &leaf, name.as_str()),
-            None => no_leaf(alloc, name.as_str()),
+            None => no_leaf(alloc, Mode::Tabs, name.as_str()),
         }
     }
 
@@ -173,7 +186,7 @@ impl Schedule {
         ensures catalog { self.new.world.machines.desk.catalog ≡ self.old.world.machines.desk.catalog }
     {
         match self.world.parts(leaf) {
-            Ok(found) => parts_text(alloc, self.world.catalog(), leaf, name, found),
+            Ok(found) => parts_text(alloc, Mode::Tabs, self.world.catalog(), leaf, name, found),
             Err(fault) => failed(alloc, name, fault),
         }
     }

@@ -19,6 +19,7 @@ use crate::input::read_up_to;
 use crate::play_load::empty_relations;
 use crate::script::{Item, items};
 use catalog::catalogue::Catalog;
+use shell::mode::Mode;
 use std::alloc::Global;
 use std::io;
 use std::io::{Read, Write};
@@ -32,20 +33,21 @@ pub const SCRIPT_LIMIT: u64 = 1_048_576;
 /// `catalog_file` names. The catalogue is read first.
 pub fn solo_files<'a, C: Read + Drop, R: Read + Drop, W: Write>(
     alloc: Global,
+    mode: Mode,
     catalog_file: &'a str,
     catalog: C,
     file: &'a str,
     input: io::Result<R>,
     output: &mut W,
 ) -> Result<bool, CatalogFault<'a>>
-    ensures opened { IfSome (C.remaining catalog) (λ bytes. IfOk input (λ reader. IfSome (R.remaining reader) (λ script. RunsFiles catalog_file.entry bytes file.entry script (W.contents output.old) (W.contents output.new) result))) }
+    ensures opened { IfSome (C.remaining catalog) (λ bytes. IfOk input (λ reader. IfSome (R.remaining reader) (λ script. RunsFiles mode catalog_file.entry bytes file.entry script (W.contents output.old) (W.contents output.new) result))) }
     ensures unread { IfErr input (λ error. IfSome (C.remaining catalog) (λ bytes. IsUnrun catalog_file.entry bytes file.entry result)) }
     ensures idle { IfErr input (λ error. is_err result ≡ true) }
     ensures quiet { IfErr input (λ error. Keeps (W.contents output.old) (W.contents output.new)) }
 {
     match read_catalog(alloc, catalog_file, catalog) {
         Ok(catalog) => match input {
-            Ok(input) => match solo(alloc, catalog, file, input, output) {
+            Ok(input) => match solo(alloc, mode, catalog, file, input, output) {
                 Ok(any_refused) => Ok(any_refused),
                 Err(fault) => Err(CatalogFault::Program(fault)),
             },
@@ -60,29 +62,31 @@ pub fn solo_files<'a, C: Read + Drop, R: Read + Drop, W: Write>(
 /// often, and flushes once: give it an output with a buffer.
 pub fn solo<'a, R: Read + Drop, W: Write>(
     alloc: Global,
+    mode: Mode,
     catalog: Catalog,
     file: &'a str,
     input: R,
     output: &mut W,
 ) -> Result<bool, ProgramFault<'a>>
-    ensures { IfSome (R.remaining input) (λ script. RunsScript (catalogue_of catalog) file.entry script (W.contents output.old) (W.contents output.new) result) }
+    ensures { IfSome (R.remaining input) (λ script. RunsScript mode (catalogue_of catalog) file.entry script (W.contents output.old) (W.contents output.new) result) }
 {
     let script = read_script(alloc, file, input)?;
-    run_script(alloc, catalog, script.as_slice(), output)
+    run_script(alloc, mode, catalog, script.as_slice(), output)
 }
 
 /// Runs a script of which all bytes were read.
 fn run_script<'a, W: Write>(
     alloc: Global,
+    mode: Mode,
     catalog: Catalog,
     script: &[u8],
     output: &mut W,
 ) -> Result<bool, ProgramFault<'a>>
     requires { length script.now ≤ longest }
-    ensures { RunsOrStops (catalogue_of catalog) script.now (W.contents output.old) (W.contents output.new) result }
+    ensures { RunsOrStops mode (catalogue_of catalog) script.now (W.contents output.old) (W.contents output.new) result }
 {
     let items = items(alloc, script)?;
-    let outcome = run(alloc, catalog, items.as_slice(), output);
+    let outcome = run(alloc, mode, catalog, items.as_slice(), output);
     // What was answered before a fault goes out too.
     let flushed = output.flush();
     let any_refused = outcome?;
@@ -112,11 +116,12 @@ pub fn read_script<'a, R: Read + Drop>(
 /// Runs the items in order over a new database, and writes each answer. Answers whether a line was refused.
 fn run<'a, W: Write>(
     alloc: Global,
+    mode: Mode,
     catalog: Catalog,
     items: &[Item<'_>],
     output: &mut W,
 ) -> Result<bool, ProgramFault<'a>>
-    ensures ok { IfOk result (λ any_refused. (written : List ℕ) × Appends (W.contents output.old) (W.contents output.new) written × IsRun (catalogue_of catalog) (map task_of items.now) written any_refused) }
+    ensures ok { IfOk result (λ any_refused. (written : List ℕ) × Appends (W.contents output.old) (W.contents output.new) written × IsRun mode (catalogue_of catalog) (map task_of items.now) written any_refused) }
     ensures err { IfErr result IsOfRun }
 {
     account_follows(&catalog);
@@ -125,23 +130,24 @@ fn run<'a, W: Write>(
     let Ok(mut database) = open(alloc, &catalog, &whole) else {
         return Err(ProgramFault::Memory);
     };
-    run_items(alloc, &mut database, items, output)
+    run_items(alloc, mode, &mut database, items, output)
 }
 
 /// Runs the items over this database.
 fn run_items<'a, W: Write>(
     alloc: Global,
+    mode: Mode,
     database: &mut Database,
     items: &[Item<'_>],
     output: &mut W,
 ) -> Result<bool, ProgramFault<'a>>
     ensures ok { (catalogue : Catalogue) (whole : Relations) (past : List (Deed (language (base catalogue)))) → GoesOn catalogue whole past database.old → IfOk result (λ any_refused. (written : List ℕ) × Appends (W.contents output.old) (W.contents output.new) written
-        × IsStretch catalogue whole (map task_of items.now) past database.old database.new written any_refused) }
+        × IsStretch mode catalogue whole (map task_of items.now) past database.old database.new written any_refused) }
     ensures err { IfErr result IsOfRun }
 {
     let mut any_refused = false;
     for item in items {
-        let reply = answer(alloc, database, *item)?;
+        let reply = answer(alloc, mode, database, *item)?;
         any_refused |= reply.is_refusal();
         output
             .write_all(reply.text().as_bytes())

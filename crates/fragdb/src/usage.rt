@@ -1,17 +1,19 @@
 //! The words of the command line.
 
-ghost use Rattle.std.specs.Prelude.{◌≡◌, ◌≢◌, ◌≤◌, ◌<◌, ◌⊎◌, ◌∷◌, [], IfOk, IsOkAnd, None, Some, codes, false, length, map, option_map};
+ghost use Rattle.std.specs.Prelude.{◌≡◌, ◌≢◌, ◌≤◌, ◌<◌, ◌⊎◌, ◌∷◌, [], IfOk, IfSome, IsOkAnd, None, Some, codes, false, length, map, option_map};
 ghost use Rattle.std.specs.Io.KnownBytes.{Keeps};
 ghost use Rattle.std.specs.IoError.{error_kind};
 ghost use Rattle.clap.specs.declared.builder.command.Command.TheViews.{out-Command};
-ghost use Rattle.clap.specs.Words.{app_of, kind_of};
-ghost use Rattle.fragdb.specs.Usage.{asked, command_with, command_with_two, explained, explains, flags_of, of_script, usage, usage_status, IsGiven};
+ghost use Rattle.clap.specs.Matches.{first_value};
+ghost use Rattle.clap.specs.Words.{app_of, found_of, kind_of};
+ghost use Rattle.fragdb.specs.Usage.{asked, command_with, command_with_two, explained, flags_of, is_csv, is_json, of_script, shown, usage, usage_status, IsGiven};
 ghost use Rattle.fragdb.specs.Usage as spec;
 
 use crate::fault::ProgramFault;
 use crate::outcome::{Outcome, Status, exit};
 use clap::error::ErrorKind;
-use clap::{Arg, ArgAction, Command, Error};
+use clap::{Arg, ArgAction, ArgMatches, Command, Error};
+use shell::mode::Mode;
 use std::alloc::{AllocError, Global};
 use std::convert::AsStr;
 use std::io;
@@ -27,6 +29,8 @@ pub enum Request<'a> {
         script: &'a str,
         /// Whether it is to be explained why lines are refused.
         explain: bool,
+        /// How answers are shown.
+        mode: Mode,
     },
     /// To check this catalogue, a file's name.
     Check {
@@ -58,6 +62,7 @@ Examples:
   fragdb solo script.txt
   fragdb solo --catalog catalogue.toml script.txt
   fragdb solo --explain script.txt
+  fragdb solo --json script.txt
   fragdb check catalogue.toml
   fragdb plan catalogue.toml 'SELECT name FROM emp WHERE id = 7'
   fragdb play --catalog catalogue.toml schedule.txt";
@@ -95,9 +100,12 @@ const AFTER_PLAY: &str =
   .leaf item.1                                the rows that a fragment keeps
   .committed                                  which transactions are committed";
 
+/// What is told where answers are to be shown in two ways.
+const TWO_MODES: &str = "the argument '--csv' cannot be used with '--json'";
+
 /// What the words ask for, of which the first names the program. With no other word that is `solo -`.
 pub fn read_words<'a, S: AsStr>(alloc: Global, words: &'a [S]) -> Result<Request<'a>, Error>
-    ensures alone { length words.entry.now ≤ 1 → IsOkAnd result (λ request. (asked request ≡ (codes "solo", (codes "CATALOG", None) ∷ (codes "SCRIPT", Some (codes "-")) ∷ [])) × (explains request ≡ false)) }
+    ensures alone { length words.entry.now ≤ 1 → IsOkAnd result (λ request. (asked request ≡ (codes "solo", (codes "CATALOG", None) ∷ (codes "SCRIPT", Some (codes "-")) ∷ [])) × (flags_of request ≡ (codes "EXPLAIN", false) ∷ (codes "CSV", false) ∷ (codes "JSON", false) ∷ [])) }
     ensures given { IfOk result (λ request. 1 < length words.entry.now → IsGiven (map S.text words.entry.now) (asked request) (flags_of request)) }
 {
     if words.len() <= 1 {
@@ -105,8 +113,16 @@ pub fn read_words<'a, S: AsStr>(alloc: Global, words: &'a [S]) -> Result<Request
             catalog: None,
             script: "-",
             explain: false,
+            mode: Mode::Tabs,
         });
     }
+    read_given(alloc, words)
+}
+
+/// What the words ask for, of which the first names the program.
+fn read_given<'a, S: AsStr>(alloc: Global, words: &'a [S]) -> Result<Request<'a>, Error>
+    ensures { IfOk result (λ request. IsGiven (map S.text words.entry.now) (asked request) (flags_of request)) }
+{
     let mut command = command(alloc)?;
     let matches = command.try_get_matches_from_mut(words)?;
     if let Some(("solo", solo)) = matches.subcommand()
@@ -114,10 +130,14 @@ pub fn read_words<'a, S: AsStr>(alloc: Global, words: &'a [S]) -> Result<Request
     {
         let catalog = solo.get_str("CATALOG");
         let explain = is_set(solo.get_str("EXPLAIN"));
+        let Some(mode) = mode_given(solo) else {
+            return Err(command.error(ErrorKind::ArgumentConflict, TWO_MODES)?);
+        };
         return Ok(Request::Solo {
             catalog,
             script,
             explain,
+            mode,
         });
     }
     if let Some(("check", check)) = matches.subcommand()
@@ -139,6 +159,21 @@ pub fn read_words<'a, S: AsStr>(alloc: Global, words: &'a [S]) -> Result<Request
         return Ok(Request::Play { catalog, script });
     }
     Err(command.error(ErrorKind::MissingSubcommand, "a command is missing")?)
+}
+
+/// How answers are to be shown, unless the words after `solo` ask for two ways.
+fn mode_given(solo: &ArgMatches<'_>) -> Option<Mode>
+    ensures csv { IfSome result (λ mode. is_csv mode ≡ spec.is_set (first_value (found_of solo.now) (codes "CSV"))) }
+    ensures json { IfSome result (λ mode. is_json mode ≡ spec.is_set (first_value (found_of solo.now) (codes "JSON"))) }
+{
+    let csv = is_set(solo.get_str("CSV"));
+    let json = is_set(solo.get_str("JSON"));
+    match (csv, json) {
+        (false, false) => Some(Mode::Tabs),
+        (true, false) => Some(Mode::Csv),
+        (false, true) => Some(Mode::Json),
+        (true, true) => None,
+    }
 }
 
 /// Whether a flag's value says that it is set.
@@ -184,6 +219,22 @@ fn command<'a>(alloc: Global) -> Result<Command<'a>, AllocError>
 }
 
 fn solo_command<'a>(alloc: Global) -> Result<Command<'a>, AllocError>
+    ensures shape { IfOk result (λ command. app_of command ≡ shown (explained (of_script (codes "solo")))) }
+    ensures local { IfOk result (λ command. (out-Command command).has_globals ≡ false) }
+{
+    let csv = Arg::new(alloc, "CSV")
+        .long("csv")
+        .action(ArgAction::SetTrue)
+        .help("Shows rows as comma-separated values");
+    let json = Arg::new(alloc, "JSON")
+        .long("json")
+        .action(ArgAction::SetTrue)
+        .help("Shows each row as a JSON object in a line");
+    explained_solo_command(alloc)?.arg(csv)?.arg(json)
+}
+
+/// The command `solo` with one flag.
+fn explained_solo_command<'a>(alloc: Global) -> Result<Command<'a>, AllocError>
     ensures shape { IfOk result (λ command. app_of command ≡ explained (of_script (codes "solo"))) }
     ensures local { IfOk result (λ command. (out-Command command).has_globals ≡ false) }
 {
@@ -194,7 +245,7 @@ fn solo_command<'a>(alloc: Global) -> Result<Command<'a>, AllocError>
     plain_solo_command(alloc)?.arg(explain)
 }
 
-/// The command `solo` without its flag.
+/// The command `solo` without its flags.
 fn plain_solo_command<'a>(alloc: Global) -> Result<Command<'a>, AllocError>
     ensures shape { IfOk result (λ command. app_of command ≡ of_script (codes "solo")) }
     ensures local { IfOk result (λ command. (out-Command command).has_globals ≡ false) }

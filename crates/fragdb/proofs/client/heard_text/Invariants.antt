@@ -3,4 +3,4 @@ use Rattle.fragdb.specs.Client as client
 use Rattle.fragdb.proofs.client.heard_text.Given as goal
 
 abbrev pub invariant-loop-notice : goal.invariant-loop-notice
-invariant-loop-notice l = string_bytes l.text ≡ client.heard_text (take l.notice-index l.heard)
+invariant-loop-notice l = string_bytes l.text ≡ client.heard_text l.mode (take l.notice-index l.heard)

@@ -15,7 +15,7 @@ returns-in-Some-clause-shown c = λ catalogue whole past h.
     IfOk-weaker c.parts_shown.result _ _ (λ text shown. record {
       later = past;
       goes_on = shown.0;
-      answers = subst (λ (found : Option Leaf). ShowsLeafAs catalogue c.args.name.now found (standing_of catalogue c.args.database.now past) (standing_of catalogue c.parts_shown.new.database past) (string_bytes text)) is shown.1;
+      answers = subst (λ (found : Option Leaf). ShowsLeafAs c.args.mode catalogue c.args.name.now found (standing_of catalogue c.args.database.now past) (standing_of catalogue c.parts_shown.new.database past) (string_bytes text)) is shown.1;
     }) (c.parts_shown.ensures.shown catalogue whole past h)
 
 pub returns-in_ok-no_leaf-in-None-clause-shown : goal.returns-in_ok-no_leaf-in-None-clause-shown
@@ -27,5 +27,5 @@ returns-in_ok-no_leaf-in-None-clause-shown c = λ catalogue whole past h.
     record {
       later = past;
       goes_on = h;
-      answers = subst (λ (found : Option Leaf). ShowsLeafAs catalogue c.args.name.now found here here (string_bytes c.in_ok-no_leaf-in-None.field-0)) is (refl, c.in_ok-no_leaf-in-None.ensures);
+      answers = subst (λ (found : Option Leaf). ShowsLeafAs c.args.mode catalogue c.args.name.now found here here (string_bytes c.in_ok-no_leaf-in-None.field-0)) is (refl, c.in_ok-no_leaf-in-None.ensures);
     }

@@ -14,7 +14,7 @@ returns-in_ok-parts_text-in-Ok-clause-shown c = λ catalogue whole past h.
       shows_on catalogue whole past old new h c.parts.ensures.still c.parts.ensures.catalog c.parts.ensures.sound c.parts.ensures.same,
       (
         stands_still catalogue whole past old new h c.parts.ensures.still c.parts.ensures.same,
-        c.in_ok-parts_text-in-Ok.ensures ∙ ap (λ (other : Catalogue). parts_text other c.args.name.now c.args.leaf.now found) over
-            ∙ ap (λ shown. parts_text catalogue c.args.name.now c.args.leaf.now shown) (parts_of_own catalogue whole past old new h c.args.leaf.now found c.in-Ok.ensures.parts),
+        c.in_ok-parts_text-in-Ok.ensures ∙ ap (λ (other : Catalogue). parts_text c.args.mode other c.args.name.now c.args.leaf.now found) over
+            ∙ ap (λ shown. parts_text c.args.mode catalogue c.args.name.now c.args.leaf.now shown) (parts_of_own catalogue whole past old new h c.args.leaf.now found c.in-Ok.ensures.parts),
       ),
     )

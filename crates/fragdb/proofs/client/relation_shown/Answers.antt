@@ -21,8 +21,8 @@ returns-in-Ok-clause-shown c = λ catalogue whole past h.
       answers = (
         stands_still catalogue whole past old new h c.rebuilt.ensures.still c.rebuilt.ensures.same,
         λ other those fits.
-            c.in_ok-relation_text-in-Ok.ensures ∙ ap (λ (over : Catalogue). relation_text over name found) over
-            ∙ ap (λ shown. relation_text catalogue name shown) (rows_of_own catalogue whole past old new h name found c.in-Ok.ensures.rows other those fits)
-            ∙ ap (λ (n : List ℕ). relation_text catalogue n (rows_shown (database catalogue) other n)) named,
+            c.in_ok-relation_text-in-Ok.ensures ∙ ap (λ (over : Catalogue). relation_text c.args.mode over name found) over
+            ∙ ap (λ shown. relation_text c.args.mode catalogue name shown) (rows_of_own catalogue whole past old new h name found c.in-Ok.ensures.rows other those fits)
+            ∙ ap (λ (n : List ℕ). relation_text c.args.mode catalogue n (rows_shown (database catalogue) other n)) named,
       );
     }

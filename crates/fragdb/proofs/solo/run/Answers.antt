@@ -17,7 +17,7 @@ pub returns-clause-ok : goal.returns-clause-ok
 returns-clause-ok g c =
     let empty = c.in_ok-whole.ensures ∙ ap (λ schemas. emptied schemas finite.empty) c.schema.ensures.schemas in
     let fits_schema = subst (FitsSchema (schemas_of (catalogue_of c.args.catalog))) (sym empty) (emptied-fits (schemas_of (catalogue_of c.args.catalog))) in
-    ran_from (g.W.Write.contents c.args.output.now) (g.W.Write.contents c.run_items.new.output) (catalogue_of c.args.catalog) c.args.items.now c.in-Ok.database c.run_items.new.database c.run_items.result
+    ran_from c.args.mode (g.W.Write.contents c.args.output.now) (g.W.Write.contents c.run_items.new.output) (catalogue_of c.args.catalog) c.args.items.now c.in-Ok.database c.run_items.new.database c.run_items.result
     (subst (λ (whole : Relations). IsServed (database (catalogue_of c.args.catalog)) whole (held desk_kept kept_of c.in-Ok.database.machines) []) empty (c.in-Ok.ensures.served fits_schema))
     (c.in-Ok.ensures.stands fits_schema)
     c.in-Ok.ensures.catalog c.in-Ok.ensures.sound c.in-Ok.ensures.idle c.account_follows.ensures c.run_items.ensures.ok

@@ -10,7 +10,7 @@ use Rattle.fragdb.proofs.SoloLemmas.{Appends-more, IsWork-next, IsWork-none, at_
 use Rattle.fragdb.proofs.solo.run_items.Goals as goal
 
 pub loop-item-init : goal.loop-item-init
-loop-item-init g c = λ catalogue whole past h. ([], search rules, record { later = past; goes_on = h; work = IsWork-none catalogue (standing_of catalogue c.args.database.now past) })
+loop-item-init g c = λ catalogue whole past h. ([], search rules, record { later = past; goes_on = h; work = IsWork-none c.args.mode catalogue (standing_of catalogue c.args.database.now past) })
 
 pub loop-item-preserved : goal.loop-item-preserved
 loop-item-preserved g c = λ catalogue whole past begun.
@@ -26,7 +26,7 @@ loop-item-preserved g c = λ catalogue whole past begun.
       record {
         later = answered.later;
         goes_on = answered.goes_on;
-        work = IsWork-next catalogue c.args.items.now c.loop-item.item-index _ so_far.0 c.loop-item.any_refused (standing_of catalogue c.args.database.now past) (standing_of catalogue c.loop-item.database stretch.later) (standing_of catalogue c.answer.new.database answered.later) (told_by c.in_ok-reply.reply) line c.is_refusal-any_refused.result (omega arith) stretch.work answered.answers c.text.ensures c.is_refusal-any_refused.ensures;
+        work = IsWork-next c.args.mode catalogue c.args.items.now c.loop-item.item-index _ so_far.0 c.loop-item.any_refused (standing_of catalogue c.args.database.now past) (standing_of catalogue c.loop-item.database stretch.later) (standing_of catalogue c.answer.new.database answered.later) (told_by c.in_ok-reply.reply) line c.is_refusal-any_refused.result (omega arith) stretch.work answered.answers c.text.ensures c.is_refusal-any_refused.ensures;
       },
     )
 
@@ -34,4 +34,4 @@ pub returns-clause-ok : goal.returns-clause-ok
 returns-clause-ok g c = λ catalogue whole past begun.
     let done = c.loop-item.invariant catalogue whole past begun in
     let all : take c.loop-item.item-index c.args.items.now ≡ c.args.items.now = take_all c.loop-item.item-index c.args.items.now (omega arith) in
-    (done.0, done.1, subst (λ (items : List Item). IsStretch catalogue whole (map task_of items) past c.args.database.now c.loop-item.database done.0 c.loop-item.any_refused) all done.2)
+    (done.0, done.1, subst (λ (items : List Item). IsStretch c.args.mode catalogue whole (map task_of items) past c.args.database.now c.loop-item.database done.0 c.loop-item.any_refused) all done.2)

@@ -12,4 +12,4 @@ use Rattle.fragdb.proofs.solo.run_items.Given as goal
 
 abbrev pub invariant-loop-item : goal.invariant-loop-item
 invariant-loop-item g l = (catalogue : Catalogue) (whole : Relations) (past : List (Deed (language (database catalogue)))) → GoesOn catalogue whole past l.initial.database →
-    (written : List ℕ) × Appends (g.W.Write.contents l.initial.output) (g.W.Write.contents l.output) written × IsStretch catalogue whole (map task_of (take l.item-index l.items)) past l.initial.database l.database written l.any_refused
+    (written : List ℕ) × Appends (g.W.Write.contents l.initial.output) (g.W.Write.contents l.output) written × IsStretch l.mode catalogue whole (map task_of (take l.item-index l.items)) past l.initial.database l.database written l.any_refused

@@ -8,6 +8,7 @@ use Rattle.store.specs.PlainSite.{kept_of}
 use Rattle.world.specs.Base.{database}
 use Rattle.world.specs.Held.{held}
 use Rattle.world.specs.Settled.{parts_kept}
+use Rattle.shell.specs.declared.mode.Mode.TheVariants.{Tabs}
 use Rattle.fragdb.specs.Shown.{parts_text}
 use Rattle.fragdb.proofs.ReachedLemmas.{are_clean, looks}
 use Rattle.fragdb.proofs.schedule.Schedule.parts.Goals as goal
@@ -19,7 +20,7 @@ returns-in-Ok-clause-shown c = λ whole has.
     let found = option_map (λ parts. parts.items) c.in-Ok.found in
     let kept : found ≡ parts_kept (database catalogue) machines c.args.leaf.now = c.in-Ok.ensures.parts (are_clean c.parts.new.self.machines) has.sound has.reached.1.fit in
     let over = ap catalogue_of (c.catalog.ensures ∙ c.parts.ensures.catalog) in
-    IfOk-weaker c.parts_text.result _ _ (λ text h. inl (machines, has.reached, h ∙ ap (λ (catalogue : Catalogue). parts_text catalogue c.args.name.now c.args.leaf.now found) over ∙ ap (parts_text catalogue c.args.name.now c.args.leaf.now) kept)) c.parts_text.ensures
+    IfOk-weaker c.parts_text.result _ _ (λ text h. inl (machines, has.reached, h ∙ ap (λ (catalogue : Catalogue). parts_text Tabs catalogue c.args.name.now c.args.leaf.now found) over ∙ ap (parts_text Tabs catalogue c.args.name.now c.args.leaf.now) kept)) c.parts_text.ensures
 
 pub returns-in-Ok-clause-runs : goal.returns-in-Ok-clause-runs
 returns-in-Ok-clause-runs c = λ whole has. looks whole c.args.self.now.world c.parts.new.self c.parts.ensures.catalog c.parts.ensures.sound c.parts.ensures.same c.parts.ensures.entries has
