@@ -17,6 +17,8 @@ pub(crate) struct Node<'a> {
     pub value: &'a Value,
     /// The `of` of the group around it, if it is in one.
     pub within: Option<&'a Value>,
+    /// The key that it has besides those of a node: `columns` of a relation, `where` of a branch, `of` of a group.
+    pub beside: &'static str,
 }
 
 /// The table of a relation.
@@ -56,7 +58,8 @@ pub(crate) fn columns_of(alloc: Global, relation: &Value) -> Result<Vec<Column>,
     Ok(columns)
 }
 
-fn name_and_kind(item: &Value) -> Option<(&str, Kind)> {
+/// The name and the type that a column's text says, if it does.
+pub(crate) fn name_and_kind(item: &Value) -> Option<(&str, Kind)> {
     let (name, word) = item.as_str()?.split_once(' ')?;
     match word {
         "int" => Some((name, Kind::Int)),
@@ -77,13 +80,14 @@ pub(crate) fn nodes<'a>(
         path: format!(in alloc; "relations.{name}")?,
         value: relation,
         within: None,
+        beside: "columns",
     })?;
     for _ in 0..NODES {
         let Some(node) = waiting.pop() else {
             return Ok(found);
         };
-        push_below(alloc, &mut waiting, &node, "rows")?;
-        push_below(alloc, &mut waiting, &node, "cols")?;
+        push_below(alloc, &mut waiting, &node, "rows", "where")?;
+        push_below(alloc, &mut waiting, &node, "cols", "of")?;
         found.push(node)?;
     }
     Ok(found)
@@ -95,6 +99,7 @@ fn push_below<'a>(
     waiting: &mut Vec<Node<'a>>,
     node: &Node<'a>,
     key: &str,
+    beside: &'static str,
 ) -> Result<(), AllocError> {
     let items = items_at(node.value, key);
     for before in 0..items.len() {
@@ -104,6 +109,7 @@ fn push_below<'a>(
             path: format!(in alloc; "{}.{key}[{index}]", node.path)?,
             value,
             within: value.get("of").or(node.within),
+            beside,
         })?;
     }
     Ok(())

@@ -3,7 +3,8 @@
 use crate::around::{Around, Grammar, Table};
 use crate::document::{Node, columns_of, items_at, items_of, nodes, relation_at, text_at};
 use crate::hints::hint;
-use crate::nearest::nearest;
+use crate::keys::{put_document_keys, put_listed, put_meant, put_node_keys};
+use crate::misnamed::{put_columns, put_formless, put_groups, put_sites};
 use crate::sentence::{lines, tokens_of};
 use catalog::fault::{CatFault, Rule};
 use meaning::schema::Column;
@@ -15,7 +16,7 @@ use terms::copy::TryCopy;
 use terms::text::Text;
 use toml::Value;
 
-/// The first place in the fault's relation that breaks its rule, where the rule is one of names or conditions.
+/// The first place that breaks the fault's rule, where the rule is one of names, columns or conditions.
 pub(crate) fn put_places(
     out: &mut String,
     alloc: Global,
@@ -23,11 +24,33 @@ pub(crate) fn put_places(
     fault: &CatFault,
 ) -> Result<(), AllocError> {
     let Some(name) = fault.relation() else {
+        return put_outside(out, alloc, root, fault.rule());
+    };
+    let Some(relation) = relation_at(root, name.as_str()) else {
         return Ok(());
     };
-    match relation_at(root, name.as_str()) {
-        Some(relation) => put_place_in(out, alloc, root, relation, name, fault.rule()),
-        None => Ok(()),
+    match fault.rule() {
+        Rule::Name | Rule::Twice | Rule::KeyType => {
+            put_columns(out, alloc, relation, name.as_str(), fault.rule())
+        }
+        Rule::ColumnTwice | Rule::ColumnLost => {
+            put_groups(out, alloc, relation, name.as_str(), fault.rule())
+        }
+        _ => put_place_in(out, alloc, root, relation, name, fault.rule()),
+    }
+}
+
+/// The first place outside all relations that breaks a rule.
+fn put_outside(
+    out: &mut String,
+    alloc: Global,
+    root: &Value,
+    rule: &Rule,
+) -> Result<(), AllocError> {
+    match rule {
+        Rule::Name | Rule::Twice => put_sites(out, alloc, root, rule),
+        Rule::Field => put_document_keys(out, alloc, root),
+        _ => Ok(()),
     }
 }
 
@@ -39,6 +62,12 @@ fn put_place_in(
     name: &Text,
     rule: &Rule,
 ) -> Result<(), AllocError> {
+    if matches!(rule, Rule::Field)
+        && (put_formless(out, relation, name.as_str())?
+            || put_node_keys(out, alloc, relation, name.as_str())?)
+    {
+        return Ok(());
+    }
     let columns = columns_of(alloc, relation)?;
     let nodes = nodes(alloc, relation, name.as_str())?;
     for node in nodes.as_slice() {
@@ -93,16 +122,8 @@ fn put_name(
     names: &[&str],
 ) -> Result<(), AllocError> {
     write!(out, "{path}.{key} has `{name}`; there are ")?;
-    for (index, name) in names.iter().enumerate() {
-        if index > 0 {
-            out.push_str(", ")?;
-        }
-        out.push_str(name)?;
-    }
-    match nearest(alloc, name, names)? {
-        Some(near) => writeln!(out, "; did you mean `{near}`?"),
-        None => writeln!(out, ""),
-    }
+    put_listed(out, names)?;
+    put_meant(out, alloc, name, names)
 }
 
 /// Tells a name in an `of` that is no column; whether the node has one.
@@ -167,7 +188,8 @@ fn columns_within(
     Ok(found)
 }
 
-fn is_within(within: Option<&Value>, name: &str) -> bool {
+/// Whether the array of a group's columns has this name; without a group all are within.
+pub(crate) fn is_within(within: Option<&Value>, name: &str) -> bool {
     match within {
         None => true,
         Some(names) => items_of(names).iter().any(|item| is_text(item, name)),
