@@ -1,6 +1,6 @@
 //! A database for one client at a time.
 
-ghost use Rattle.std.specs.Prelude.{◌≡◌, ◌≢◌, ◌⊎◌, ℕ, true, List, [], None, Some, Err, IfErr, IfOk, OnErr, OnOk};
+ghost use Rattle.std.specs.Prelude.{◌≡◌, ◌≢◌, ◌⊎◌, ℕ, true, List, [], None, Some, Err, IfErr, IfOk, OnErr, OnOk, is_some};
 ghost use Rattle.std.specs.Option.{option_map};
 ghost use Rattle.meaning.specs.Whole.{FitsSchema, Relations};
 ghost use Rattle.catalog.specs.FragmentLeaf.{schemas_of};
@@ -340,6 +340,13 @@ impl<D: DeskStore, S: SiteStore> Solo<D, S> {
         ensures { result.now ≡ self.now.machines.desk.catalog }
     {
         self.machines.desk.catalog()
+    }
+
+    /// Whether the client has begun a transaction that has not ended.
+    pub fn is_open(&self) -> bool
+        ensures { result ≡ is_some self.now.current }
+    {
+        self.current.is_some()
     }
 
     /// The parts that are kept of a leaf, by their keys; none of a leaf that the catalogue doesn't have. Nothing
