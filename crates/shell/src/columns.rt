@@ -1,6 +1,6 @@
 //! Rows in columns, aligned by the places of a line that texts take in a terminal.
 
-ghost use Rattle.std.specs.Prelude.{◌≡◌, ◌++◌, IfOk, OnOk, chars, option_map, replicate, slice_get, string_bytes};
+ghost use Rattle.std.specs.Prelude.{◌≡◌, ◌<◌, ◌++◌, IfOk, OnOk, replicate, slice_get, string_bytes};
 ghost use Rattle.std.specs.List.{flat_map};
 ghost use Rattle.shell.specs.Columns as spec;
 ghost use Rattle.shell.specs.Columns.{aligned, at_left, at_right, field, filling, gap, line_of, names_line, row_line, rule_line, shown_character, shown_text, table, widths_from};
@@ -36,16 +36,16 @@ fn width_at(alloc: Global, rows: &[Row], place: usize, name: &Text) -> Result<us
 {
     let mut width = name.as_str().width();
     for row in rows {
-        width = width.max(field_width(alloc, row.values().get(place))?);
+        width = width.max(field_width(alloc, row.values(), place)?);
     }
     Ok(width)
 }
 
-/// How many places a value takes, none where there is none.
-fn field_width(alloc: Global, value: Option<&Value>) -> Result<usize, AllocError>
-    ensures { IfOk result (λ width. width ≡ spec.field_width (option_map (λ value. value.now) value.entry)) }
+/// How many places the value at a place of a row takes, none where there is none.
+fn field_width(alloc: Global, values: &[Value], place: usize) -> Result<usize, AllocError>
+    ensures { IfOk result (λ width. width ≡ spec.field_width (slice_get values.now place)) }
 {
-    match value {
+    match values.get(place) {
         Some(value) => {
             let text = field_of(alloc, value)?;
             Ok(text.as_str().width())

@@ -1,4 +1,4 @@
-use Rattle.std.proofs.Common.{◌≡◌, ◌++◌, string_bytes}
+use Rattle.std.proofs.Common.{◌≡◌, string_bytes}
 use Rattle.std.specs.List.{flat_map}
 use Rattle.shell.specs.Columns.{at_left}
 use Rattle.shell.proofs.columns.put_names.Given as goal

@@ -1,4 +1,4 @@
-use Rattle.std.proofs.Common.{◌≡◌, ◌++◌, string_bytes}
+use Rattle.std.proofs.Common.{◌≡◌, string_bytes}
 use Rattle.std.specs.List.{flat_map}
 use Rattle.shell.specs.Columns.{aligned}
 use Rattle.shell.proofs.columns.put_row.Given as goal

@@ -1,6 +1,6 @@
 use Rattle.std.proofs.Common.{◌≡◌, ◌++◌, take, string_bytes}
 use Rattle.std.specs.List.{flat_map}
-use Rattle.shell.specs.Columns.{names_line, row_line, rule_line}
+use Rattle.shell.specs.Columns.{row_line}
 use Rattle.shell.proofs.columns.put_table.Given as goal
 
 abbrev pub invariant-loop-row : goal.invariant-loop-row
