@@ -22,6 +22,16 @@ pub record TellsLine (number : ℕ) (text : List ℕ) (offset : ℕ) (old new : 
 abbrev pub TellsOrKeeps : ℕ → List ℕ → Option (List ℕ) → Option (List ℕ) → Type 0
 TellsOrKeeps number text old new = Keeps old new ⊎ ((offset : ℕ) × TellsLine number text offset old new)
 
+-- from old to new are written three lines: a text, a caret below the place at this offset, and a sentence
+pub record Explains (text : List ℕ) (offset : ℕ) (old new : Option (List ℕ)) : Type 0 where
+  pub lines : List ℕ
+  pub points : PointsAt text offset lines
+  pub told : Appends old new lines
+
+-- so of one of a text's places, or nothing is written
+abbrev pub ExplainsOrKeeps : List ℕ → Option (List ℕ) → Option (List ℕ) → Type 0
+ExplainsOrKeeps text old new = Keeps old new ⊎ ((offset : ℕ) × Explains text offset old new)
+
 -- from old to new is written what is told of a catalogue's fault, where these bytes are few enough and a text: of a document
 -- the fault itself, and of any other text a place in it
 abbrev pub TellsCatalogue : List ℕ → CatFault → Option (List ℕ) → Option (List ℕ) → Type 0

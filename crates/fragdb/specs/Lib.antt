@@ -16,6 +16,9 @@ pub mod Play
 pub mod CatalogFile
 pub mod Check
 pub mod Plan
+pub mod Dot
+pub mod Listing
+pub mod Session
 pub mod Usage
 pub mod Explaining
 pub mod Outcome

@@ -16,24 +16,25 @@ use Rattle.fragdb.specs.declared.plan_text.PlanFault.TheVariants as plan
 use Rattle.fragdb.specs.Input.{IsOfInput}
 use Rattle.fragdb.specs.Plan.{PlansFile}
 use Rattle.fragdb.specs.Play.{PlaysFiles}
+use Rattle.fragdb.specs.Session.{RunsSession}
 use Rattle.fragdb.specs.Solo.{RunsFiles}
 
 -- the file that a request names
 abbrev pub file_of : Request → Bor (List ℕ)
-file_of (Solo name file explain mode) = file
+file_of (Solo name file explain interactive mode) = file
 file_of (Check file explain) = file
 file_of (Plan file statement) = file
 file_of (Play name file) = file
 
 -- the file of a catalogue that a request names besides, if it names one
 abbrev pub catalog_of : Request → Option (Bor (List ℕ))
-catalog_of (Solo name file explain mode) = name
+catalog_of (Solo name file explain interactive mode) = name
 catalog_of (Play name file) = name
 catalog_of _ = None
 
 -- whether a script is read from standard input
 abbrev pub is_of_input : Request → Bool
-is_of_input (Solo name file explain mode) = bytes_eq file.now (codes "-")
+is_of_input (Solo name file explain interactive mode) = bytes_eq file.now (codes "-")
 is_of_input (Play name file) = bytes_eq file.now (codes "-")
 is_of_input _ = false
 
@@ -66,6 +67,14 @@ PerformsSolo mode name bytes file script old new (Refused fault) = RunsFiles mod
 PerformsSolo mode name bytes file script old new (RefusedStatement fault) = ⊥
 PerformsSolo mode name bytes file script old new (Stopped fault) = RunsFiles mode name bytes file script old new (Err (catalog.Program fault))
 
+-- the outcome of a session over the catalogue of a file
+abbrev pub PerformsSession : Bor (List ℕ) → List ℕ → Bor (List ℕ) → Option (List ℕ) → Option (List ℕ) → Outcome → Type 0
+PerformsSession name bytes file old new Done = RunsSession name bytes file old new (Ok tt)
+PerformsSession name bytes file old new SomeRefused = ⊥
+PerformsSession name bytes file old new (Refused fault) = RunsSession name bytes file old new (Err (catalog.Refused fault))
+PerformsSession name bytes file old new (RefusedStatement fault) = ⊥
+PerformsSession name bytes file old new (Stopped fault) = RunsSession name bytes file old new (Err (catalog.Program fault))
+
 -- a catalogue's outcome
 abbrev pub PerformsCheck : Bor (List ℕ) → List ℕ → Option (List ℕ) → Option (List ℕ) → Outcome → Type 0
 PerformsCheck file bytes old new Done = ChecksFile file bytes old new (Ok tt)
@@ -92,13 +101,13 @@ PerformsPlayOf name bytes file script old new (Stopped fault) = PlaysFiles name 
 
 -- the outcome of a request of a script, which is run or played over a catalogue
 abbrev pub PerformsOver : Request → Bor (List ℕ) → List ℕ → List ℕ → Option (List ℕ) → Option (List ℕ) → Outcome → Type 0
-PerformsOver (Solo given file explain mode) name bytes script old new outcome = PerformsSolo mode name bytes file script old new outcome
+PerformsOver (Solo given file explain interactive mode) name bytes script old new outcome = PerformsSolo mode name bytes file script old new outcome
 PerformsOver (Play given file) name bytes script old new outcome = PerformsPlayOf name bytes file script old new outcome
 PerformsOver other name bytes script old new outcome = Unit
 
 -- what is written from old to new, and the outcome, where the file has these bytes; of a script it is told apart
 abbrev pub Performs : Request → List ℕ → Option (List ℕ) → Option (List ℕ) → Outcome → Type 0
-Performs (Solo name file explain mode) bytes old new outcome = Unit
+Performs (Solo name file explain interactive mode) bytes old new outcome = Unit
 Performs (Check file explain) bytes old new outcome = PerformsCheck file bytes old new outcome
 Performs (Plan file statement) bytes old new outcome = PerformsPlan file statement.now bytes old new outcome
 Performs (Play name file) bytes old new outcome = Unit
@@ -121,7 +130,7 @@ IsStopped (Stopped fault) = Unit
 
 -- the outcome of a script whose catalogue can't be opened: that is told, and nothing is written
 abbrev pub StopsUncatalogued : Request → Bor (List ℕ) → Option (List ℕ) → Option (List ℕ) → Outcome → Type 0
-StopsUncatalogued (Solo given file explain mode) name old new outcome = IsUnread name outcome × Keeps old new
+StopsUncatalogued (Solo given file explain interactive mode) name old new outcome = IsUnread name outcome × Keeps old new
 StopsUncatalogued (Play given file) name old new outcome = IsUnread name outcome × Keeps old new
 StopsUncatalogued other name old new outcome = Unit
 
@@ -134,13 +143,13 @@ IsIdle name bytes file (RefusedStatement fault) = ⊥
 IsIdle name bytes file (Stopped fault) = IsOfInput name fault ⊎ IsOfInput file fault
 
 abbrev pub StopsIdle : Request → Bor (List ℕ) → List ℕ → Outcome → Type 0
-StopsIdle (Solo given file explain mode) name bytes outcome = IsIdle name bytes file outcome
+StopsIdle (Solo given file explain interactive mode) name bytes outcome = IsIdle name bytes file outcome
 StopsIdle (Play given file) name bytes outcome = IsIdle name bytes file outcome
 StopsIdle other name bytes outcome = Unit
 
 -- the outcome where the file that is asked for can't be opened; a script may be stopped by its catalogue before
 abbrev pub StopsUnread : Request → Outcome → Type 0
-StopsUnread (Solo name file explain mode) outcome = IsStopped outcome
+StopsUnread (Solo name file explain interactive mode) outcome = IsStopped outcome
 StopsUnread (Check file explain) outcome = IsUnread file outcome
 StopsUnread (Plan file statement) outcome = IsUnread file outcome
 StopsUnread (Play name file) outcome = IsStopped outcome

@@ -52,6 +52,12 @@ pub record IsPlanText (catalogue : Catalogue) (statement : Statement) (text : Li
   pub are : AreFetchesOf catalogue statement fetches
   pub same : text ≡ plan_text catalogue fetches
 
+-- the text of the plan of the statement that another text is one of
+pub record IsPlanOf (catalogue : Catalogue) (typed : List ℕ) (text : List ℕ) : Type 0 where
+  pub statement : Statement
+  pub read : IsTextOf (schemas_of catalogue) typed (Run statement)
+  pub planned : IsPlanText catalogue statement text
+
 -- a refusal of a text that is no statement's
 pub record IsNoStatementOf (schema : List RelationSchema) (text : List ℕ) (fault : Fault) : Type 0 where
   pub is_rule : fault.rule ≢ rules.Memory

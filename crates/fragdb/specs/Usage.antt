@@ -7,7 +7,7 @@ use Rattle.clap.specs.declared.builder.action.ArgAction.TheVariants.{SetTrue}
 use Rattle.clap.specs.declared.error.kind.ErrorKind.{ErrorKind}
 use Rattle.clap.specs.declared.error.kind.ErrorKind.TheVariants.{DisplayHelp, DisplayVersion, OutOfMemory}
 use Rattle.shell.specs.declared.mode.Mode.{Mode}
-use Rattle.shell.specs.declared.mode.Mode.TheVariants.{Csv, Json}
+use Rattle.shell.specs.declared.mode.Mode.TheVariants.{Columns, Csv, Json}
 use Rattle.fragdb.specs.declared.outcome.Status.{Status}
 use Rattle.fragdb.specs.declared.outcome.Status.TheVariants as status
 use Rattle.fragdb.specs.declared.usage.Request.{Request}
@@ -43,7 +43,11 @@ explained app = with_rule app (flag (codes "EXPLAIN") (codes "explain"))
 
 -- the command with flags that say how answers are shown
 abbrev pub shown : App → App
-shown app = with_rule (with_rule app (flag (codes "CSV") (codes "csv"))) (flag (codes "JSON") (codes "json"))
+shown app = with_rule (with_rule (with_rule app (flag (codes "COLUMNS") (codes "columns"))) (flag (codes "CSV") (codes "csv"))) (flag (codes "JSON") (codes "json"))
+
+-- the command with a flag that asks for a session
+abbrev pub held : App → App
+held app = with_rule app (flag (codes "INTERACTIVE") (codes "interactive"))
 
 -- the command line's grammar: `fragdb solo`, `fragdb check CATALOG`, both with flags, `fragdb plan CATALOG STATEMENT` and `fragdb play`
 abbrev pub program : App
@@ -54,7 +58,7 @@ program = record {
 
 abbrev pub usage : App
 usage =
-    with_subcommand (with_subcommand (with_subcommand (with_subcommand program (shown (explained (of_script (codes "solo")))).top) (explained (command_with (codes "check") (codes "CATALOG"))).top)
+    with_subcommand (with_subcommand (with_subcommand (with_subcommand program (shown (held (explained (of_script (codes "solo"))))).top) (explained (command_with (codes "check") (codes "CATALOG"))).top)
     (command_with_two (codes "plan") (codes "CATALOG") (codes "STATEMENT")).top) (of_script (codes "play")).top
 
 -- whether a flag's value says that it is set
@@ -72,18 +76,22 @@ pub record IsGiven (words : List Text) (request : Text × List (Text × Option T
 
 -- a request in words: the command, and its arguments, each with its name
 abbrev pub asked : Request → Text × List (Text × Option Text)
-asked (Solo catalog script explain mode) = (codes "solo", (codes "CATALOG", option_map (λ file. file.now) catalog) ∷ (codes "SCRIPT", Some script.now) ∷ [])
+asked (Solo catalog script explain interactive mode) = (codes "solo", (codes "CATALOG", option_map (λ file. file.now) catalog) ∷ (codes "SCRIPT", Some script.now) ∷ [])
 asked (Check catalog explain) = (codes "check", (codes "CATALOG", Some catalog.now) ∷ [])
 asked (Plan catalog statement) = (codes "plan", (codes "CATALOG", Some catalog.now) ∷ (codes "STATEMENT", Some statement.now) ∷ [])
 asked (Play catalog script) = (codes "play", (codes "CATALOG", option_map (λ file. file.now) catalog) ∷ (codes "SCRIPT", Some script.now) ∷ [])
 
 -- whether a request is to be explained where it is refused
 abbrev pub explains : Request → Bool
-explains (Solo catalog script explain mode) = explain
+explains (Solo catalog script explain interactive mode) = explain
 explains (Check catalog explain) = explain
 explains _ = false
 
--- whether answers are shown as CSV, and whether as JSON
+-- whether answers are shown in columns, as CSV, or as JSON
+abbrev pub is_columns : Mode → Bool
+is_columns Columns = true
+is_columns _ = false
+
 abbrev pub is_csv : Mode → Bool
 is_csv Csv = true
 is_csv _ = false
@@ -94,7 +102,7 @@ is_json _ = false
 
 -- the flags of a request's command, and whether they are set
 abbrev pub flags_of : Request → List (Text × Bool)
-flags_of (Solo catalog script explain mode) = (codes "EXPLAIN", explain) ∷ (codes "CSV", is_csv mode) ∷ (codes "JSON", is_json mode) ∷ []
+flags_of (Solo catalog script explain interactive mode) = (codes "EXPLAIN", explain) ∷ (codes "INTERACTIVE", interactive) ∷ (codes "COLUMNS", is_columns mode) ∷ (codes "CSV", is_csv mode) ∷ (codes "JSON", is_json mode) ∷ []
 flags_of (Check catalog explain) = (codes "EXPLAIN", explain) ∷ []
 flags_of _ = []
 

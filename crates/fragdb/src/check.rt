@@ -82,7 +82,7 @@ fn put_leaves(out: &mut String, catalog: &Catalog) -> Result<(), Memory>
 }
 
 /// A leaf's line: its name, its site, its columns, and its conditions if it has any.
-fn put_leaf(
+pub fn put_leaf(
     out: &mut String,
     sites: &[Text],
     schema: &Schema,

@@ -4,7 +4,7 @@ ghost use Rattle.std.specs.Prelude.{◌≡◌, None, OnOk};
 ghost use Rattle.std.specs.Io.KnownBytes.{Keeps};
 ghost use Rattle.reader.specs.Command.{IsTextOf};
 ghost use Rattle.reader.specs.declared.command.Command.{Command as CommandOf};
-ghost use Rattle.fragdb.specs.Explaining.{TellsCatalogue, TellsLine, TellsOrKeeps};
+ghost use Rattle.fragdb.specs.Explaining.{Explains, ExplainsOrKeeps, TellsCatalogue, TellsLine, TellsOrKeeps};
 
 use crate::catalog_file::{CATALOG_LIMIT, read_catalog, text_of};
 use crate::input::read_up_to;
@@ -94,6 +94,37 @@ fn explain_line<E: Write>(
         Some(fault) => tell_line(alloc, schema, number, text, &fault, errors),
         None => Ok(()),
     }
+}
+
+/// Explains why a text is refused, if it is.
+pub fn explain_text<E: Write>(
+    alloc: Global,
+    schema: &Schema,
+    text: &str,
+    errors: &mut E,
+) -> io::Result<()>
+    // Nothing is written of the text of a command.
+    ensures quiet { (command : CommandOf) → IsTextOf schema.now.relations text.now command → Keeps (E.contents errors.old) (E.contents errors.new) }
+    ensures told { OnOk result (ExplainsOrKeeps text.now (E.contents errors.old) (E.contents errors.new)) }
+{
+    match refusal_of(alloc, schema, text) {
+        Some(fault) => explain_fault(alloc, schema, text, &fault, errors),
+        None => Ok(()),
+    }
+}
+
+/// Writes why a text is refused.
+pub fn explain_fault<E: Write>(
+    alloc: Global,
+    schema: &Schema,
+    text: &str,
+    fault: &ReadFault,
+    errors: &mut E,
+) -> io::Result<()>
+    ensures { OnOk result (Explains text.now fault.now.offset (E.contents errors.old) (E.contents errors.new)) }
+{
+    let lines = sentence::explain(alloc, schema, text, fault)?;
+    write!(errors, "{lines}")
 }
 
 /// Why a text is refused, if it is, and not for want of memory.

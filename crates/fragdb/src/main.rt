@@ -12,9 +12,11 @@ mod check;
 mod client;
 mod cut;
 mod delivering;
+mod dot;
 mod explaining;
 mod fault;
 mod input;
+mod listing;
 mod outcome;
 mod perform;
 mod plan_text;
@@ -26,19 +28,22 @@ mod play_text;
 mod reply;
 mod schedule;
 mod script;
+mod session;
+mod session_word;
 mod shown;
 mod solo;
+mod typed;
 mod usage;
 
 use crate::built_in::{BUILT_IN, BUILT_IN_NAME};
 use crate::explaining::explain_outcome;
 use crate::fault::ProgramFault;
 use crate::outcome::{Outcome, Status, exit};
-use crate::perform::perform;
+use crate::perform::{perform, perform_session};
 use crate::solo::SCRIPT_LIMIT;
 use crate::usage::{Request, read_words, show_usage, unreadable_words};
 use std::alloc::Global;
-use std::io::{BufWriter, Read, Write};
+use std::io::{BufWriter, IsTerminal, Read, Write};
 use std::process::ExitCode;
 use std::{env, fs, io};
 
@@ -111,6 +116,9 @@ fn perform_on<C: Read + Drop, R: Read + Drop, W: Write, E: Write>(
     output: &mut W,
     errors: &mut E,
 ) -> Status {
+    if begins_session(rt, &request) {
+        return have_session(rt, request, catalog_file, catalog, input, output, errors);
+    }
     if !request.explains() {
         let outcome = perform(rt.alloc(), request, catalog_file, catalog, input, output);
         return exit(errors, &outcome);
@@ -140,6 +148,38 @@ fn perform_on<C: Read + Drop, R: Read + Drop, W: Write, E: Write>(
             )
         }
     }
+}
+
+/// Whether a person types what is asked for, or it is asked for as if one did.
+fn begins_session(rt: &HostRuntime, request: &Request<'_>) -> bool {
+    let is_at_terminal = rt.stdin().is_terminal() && rt.stdout().is_terminal();
+    request.is_interactive() || request.is_typed() && is_at_terminal
+}
+
+/// Has a session, and explains why its catalogue is refused, if it is.
+fn have_session<C: Read + Drop, R: Read + Drop, W: Write, E: Write>(
+    rt: &HostRuntime,
+    request: Request<'_>,
+    catalog_file: &str,
+    catalog: io::Result<C>,
+    input: io::Result<R>,
+    output: &mut W,
+    errors: &mut E,
+) -> Status {
+    let alloc = rt.alloc();
+    let outcome = perform_session(
+        alloc,
+        rt,
+        request,
+        catalog_file,
+        catalog,
+        input,
+        output,
+        errors,
+    );
+    let status = exit(errors, &outcome);
+    let _ = explain(rt, request, &outcome, &[], errors);
+    status
 }
 
 /// All that an input gives, or one byte more than a script may have.

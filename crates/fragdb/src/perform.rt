@@ -2,7 +2,7 @@
 
 ghost use Rattle.std.specs.Prelude.{◌≡◌, IfErr, IfOk, IfSome};
 ghost use Rattle.std.specs.Io.KnownBytes.{Keeps};
-ghost use Rattle.fragdb.specs.Perform.{IsIdle, IsStopped, IsUnread, Performs, PerformsCheck, PerformsPlan, PerformsOver, PerformsPlayOf, PerformsSolo, StopsIdle, StopsUncatalogued, StopsUnread};
+ghost use Rattle.fragdb.specs.Perform.{IsIdle, IsStopped, IsUnread, Performs, PerformsCheck, PerformsPlan, PerformsOver, PerformsPlayOf, PerformsSession, PerformsSolo, StopsIdle, StopsUncatalogued, StopsUnread};
 ghost use Rattle.fragdb.specs.Perform as spec;
 ghost use Rattle.fragdb.specs.Usage.{explains};
 
@@ -12,12 +12,14 @@ use crate::fault::ProgramFault;
 use crate::outcome::Outcome;
 use crate::plan_text::{PlanFault, plan};
 use crate::play::play_files;
+use crate::session::session_files;
 use crate::solo::solo_files;
 use crate::usage::Request;
 use shell::mode::Mode;
 use std::alloc::Global;
 use std::io;
 use std::io::{Read, Write};
+use std::time::Clock;
 
 impl<'a> Request<'a> {
     /// The file that is to be read: a script or a catalogue.
@@ -47,6 +49,30 @@ impl<'a> Request<'a> {
         match self {
             Request::Solo { explain, .. } | Request::Check { explain, .. } => *explain,
             _ => false,
+        }
+    }
+
+    /// Whether each line is to be asked for, wherever it comes from.
+    pub fn is_interactive(&self) -> bool {
+        match self {
+            Request::Solo { interactive, .. } => *interactive,
+            _ => false,
+        }
+    }
+
+    /// Whether lines for a database are to be read from standard input.
+    pub fn is_typed(&self) -> bool {
+        match self {
+            Request::Solo { script, .. } => *script == "-",
+            _ => false,
+        }
+    }
+
+    /// How answers are to be shown.
+    pub fn mode(&self) -> Mode {
+        match self {
+            Request::Solo { mode, .. } => *mode,
+            _ => Mode::Tabs,
         }
     }
 
@@ -113,6 +139,38 @@ fn perform_solo<'a, C: Read + Drop, R: Read + Drop, W: Write>(
     match catalog {
         Ok(catalog) => of_script(solo_files(alloc, mode, file, catalog, script, input, output)),
         Err(error) => unread(file, &error),
+    }
+}
+
+/// Has a session over a catalogue that was opened under this name, with the lines that `input` gives.
+pub fn perform_session<'a, K: Clock, C: Read + Drop, R: Read + Drop, W: Write, E: Write>(
+    alloc: Global,
+    clock: &K,
+    request: Request<'a>,
+    catalog_file: &'a str,
+    catalog: io::Result<C>,
+    input: io::Result<R>,
+    output: &mut W,
+    errors: &mut E,
+) -> Outcome<'a>
+    ensures held { IfOk catalog (λ opened. IfSome (C.remaining opened) (λ bytes. PerformsSession catalog_file.entry bytes (spec.file_of request.entry) (W.contents output.old) (W.contents output.new) result)) }
+    ensures uncatalogued { IfErr catalog (λ error. IsUnread catalog_file.entry result × Keeps (W.contents output.old) (W.contents output.new)) }
+{
+    let mode = request.mode();
+    let file = request.file();
+    match catalog {
+        Ok(catalog) => of_check(session_files(
+            alloc,
+            clock,
+            mode,
+            catalog_file,
+            catalog,
+            file,
+            input,
+            output,
+            errors,
+        )),
+        Err(error) => unread(catalog_file, &error),
     }
 }
 

@@ -10,7 +10,7 @@ ghost use Rattle.reader.specs.declared.command.Command.TheVariants.{Run};
 ghost use Rattle.reader.specs.Command.{IsTextOf};
 ghost use Rattle.std.specs.Io.KnownBytes.{Appends};
 ghost use Rattle.fragdb.specs.CatalogFile.{IsCatalogueFile};
-ghost use Rattle.fragdb.specs.Plan.{IsOpenFault, IsPlanText, IsPlanWriteFault, IsReadFault, PlansFile, count_line, fault_of_catalogue, fault_of_reading, fetch_line, site_text};
+ghost use Rattle.fragdb.specs.Plan.{IsOpenFault, IsPlanOf, IsPlanText, IsPlanWriteFault, IsReadFault, PlansFile, count_line, fault_of_catalogue, fault_of_reading, fetch_line, site_text};
 
 use crate::catalog_file::{CatalogFault, read_catalog};
 use crate::check::{columns_of, put_site, put_where, write_text};
@@ -79,6 +79,14 @@ pub fn plan<'a, R: Read + Drop, W: Write>(
     let statement = read_statement(alloc, catalog.schema(), statement)?;
     let text = plan_of(alloc, &catalog, &statement)?;
     write_plan(output, text.as_str())
+}
+
+/// What is shown of the plan of a statement of this text.
+pub fn plan_typed<'a>(alloc: Global, catalog: &Catalog, text: &str) -> Result<String, PlanFault<'a>>
+    ensures { IfOk result (λ shown. IsPlanOf (catalogue_of catalog.now) text.now (string_bytes shown)) }
+{
+    let statement = read_statement(alloc, catalog.schema(), text)?;
+    plan_of(alloc, catalog, &statement)
 }
 
 /// The catalogue that `input` gives.

@@ -6,7 +6,7 @@ ghost use Rattle.std.specs.IoError.{error_kind};
 ghost use Rattle.clap.specs.declared.builder.command.Command.TheViews.{out-Command};
 ghost use Rattle.clap.specs.Matches.{first_value};
 ghost use Rattle.clap.specs.Words.{app_of, found_of, kind_of};
-ghost use Rattle.fragdb.specs.Usage.{asked, command_with, command_with_two, explained, flags_of, is_csv, is_json, of_script, shown, usage, usage_status, IsGiven};
+ghost use Rattle.fragdb.specs.Usage.{asked, command_with, command_with_two, explained, flags_of, held, is_columns, is_csv, is_json, of_script, shown, usage, usage_status, IsGiven};
 ghost use Rattle.fragdb.specs.Usage as spec;
 
 use crate::fault::ProgramFault;
@@ -29,6 +29,8 @@ pub enum Request<'a> {
         script: &'a str,
         /// Whether it is to be explained why lines are refused.
         explain: bool,
+        /// Whether each line is to be asked for and answered at once, wherever it comes from.
+        interactive: bool,
         /// How answers are shown.
         mode: Mode,
     },
@@ -101,11 +103,11 @@ const AFTER_PLAY: &str =
   .committed                                  which transactions are committed";
 
 /// What is told where answers are to be shown in two ways.
-const TWO_MODES: &str = "the argument '--csv' cannot be used with '--json'";
+const TWO_MODES: &str = "only one of '--columns', '--csv' and '--json' can be used";
 
 /// What the words ask for, of which the first names the program. With no other word that is `solo -`.
 pub fn read_words<'a, S: AsStr>(alloc: Global, words: &'a [S]) -> Result<Request<'a>, Error>
-    ensures alone { length words.entry.now ≤ 1 → IsOkAnd result (λ request. (asked request ≡ (codes "solo", (codes "CATALOG", None) ∷ (codes "SCRIPT", Some (codes "-")) ∷ [])) × (flags_of request ≡ (codes "EXPLAIN", false) ∷ (codes "CSV", false) ∷ (codes "JSON", false) ∷ [])) }
+    ensures alone { length words.entry.now ≤ 1 → IsOkAnd result (λ request. (asked request ≡ (codes "solo", (codes "CATALOG", None) ∷ (codes "SCRIPT", Some (codes "-")) ∷ [])) × (flags_of request ≡ (codes "EXPLAIN", false) ∷ (codes "INTERACTIVE", false) ∷ (codes "COLUMNS", false) ∷ (codes "CSV", false) ∷ (codes "JSON", false) ∷ [])) }
     ensures given { IfOk result (λ request. 1 < length words.entry.now → IsGiven (map S.text words.entry.now) (asked request) (flags_of request)) }
 {
     if words.len() <= 1 {
@@ -113,6 +115,7 @@ pub fn read_words<'a, S: AsStr>(alloc: Global, words: &'a [S]) -> Result<Request
             catalog: None,
             script: "-",
             explain: false,
+            interactive: false,
             mode: Mode::Tabs,
         });
     }
@@ -130,6 +133,7 @@ fn read_given<'a, S: AsStr>(alloc: Global, words: &'a [S]) -> Result<Request<'a>
     {
         let catalog = solo.get_str("CATALOG");
         let explain = is_set(solo.get_str("EXPLAIN"));
+        let interactive = is_set(solo.get_str("INTERACTIVE"));
         let Some(mode) = mode_given(solo) else {
             return Err(command.error(ErrorKind::ArgumentConflict, TWO_MODES)?);
         };
@@ -137,6 +141,7 @@ fn read_given<'a, S: AsStr>(alloc: Global, words: &'a [S]) -> Result<Request<'a>
             catalog,
             script,
             explain,
+            interactive,
             mode,
         });
     }
@@ -163,16 +168,19 @@ fn read_given<'a, S: AsStr>(alloc: Global, words: &'a [S]) -> Result<Request<'a>
 
 /// How answers are to be shown, unless the words after `solo` ask for two ways.
 fn mode_given(solo: &ArgMatches<'_>) -> Option<Mode>
+    ensures columns { IfSome result (λ mode. is_columns mode ≡ spec.is_set (first_value (found_of solo.now) (codes "COLUMNS"))) }
     ensures csv { IfSome result (λ mode. is_csv mode ≡ spec.is_set (first_value (found_of solo.now) (codes "CSV"))) }
     ensures json { IfSome result (λ mode. is_json mode ≡ spec.is_set (first_value (found_of solo.now) (codes "JSON"))) }
 {
+    let columns = is_set(solo.get_str("COLUMNS"));
     let csv = is_set(solo.get_str("CSV"));
     let json = is_set(solo.get_str("JSON"));
-    match (csv, json) {
-        (false, false) => Some(Mode::Tabs),
-        (true, false) => Some(Mode::Csv),
-        (false, true) => Some(Mode::Json),
-        (true, true) => None,
+    match (columns, csv, json) {
+        (false, false, false) => Some(Mode::Tabs),
+        (true, false, false) => Some(Mode::Columns),
+        (false, true, false) => Some(Mode::Csv),
+        (false, false, true) => Some(Mode::Json),
+        _ => None,
     }
 }
 
@@ -219,9 +227,13 @@ fn command<'a>(alloc: Global) -> Result<Command<'a>, AllocError>
 }
 
 fn solo_command<'a>(alloc: Global) -> Result<Command<'a>, AllocError>
-    ensures shape { IfOk result (λ command. app_of command ≡ shown (explained (of_script (codes "solo")))) }
+    ensures shape { IfOk result (λ command. app_of command ≡ shown (held (explained (of_script (codes "solo"))))) }
     ensures local { IfOk result (λ command. (out-Command command).has_globals ≡ false) }
 {
+    let columns = Arg::new(alloc, "COLUMNS")
+        .long("columns")
+        .action(ArgAction::SetTrue)
+        .help("Shows rows in aligned columns");
     let csv = Arg::new(alloc, "CSV")
         .long("csv")
         .action(ArgAction::SetTrue)
@@ -230,7 +242,19 @@ fn solo_command<'a>(alloc: Global) -> Result<Command<'a>, AllocError>
         .long("json")
         .action(ArgAction::SetTrue)
         .help("Shows each row as a JSON object in a line");
-    explained_solo_command(alloc)?.arg(csv)?.arg(json)
+    held_solo_command(alloc)?.arg(columns)?.arg(csv)?.arg(json)
+}
+
+/// The command `solo` with the flags that don't say how answers are shown.
+fn held_solo_command<'a>(alloc: Global) -> Result<Command<'a>, AllocError>
+    ensures shape { IfOk result (λ command. app_of command ≡ held (explained (of_script (codes "solo")))) }
+    ensures local { IfOk result (λ command. (out-Command command).has_globals ≡ false) }
+{
+    let interactive = Arg::new(alloc, "INTERACTIVE")
+        .long("interactive")
+        .action(ArgAction::SetTrue)
+        .help("Asks for each line, and answers it at once, as at a terminal");
+    explained_solo_command(alloc)?.arg(interactive)
 }
 
 /// The command `solo` with one flag.

@@ -6,4 +6,5 @@ pub mod Told
 pub mod Separated
 pub mod Csv
 pub mod Json
+pub mod Columns
 pub mod Mode

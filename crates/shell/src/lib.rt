@@ -2,7 +2,7 @@
 //!
 //! Stands on the reader and the catalogue. Public are `sentence`, which explains why a statement's text is
 //! refused, `catalogue`, which does so for a catalogue, `nearest`, the name that a word was likely meant
-//! to be, and `mode`, which shows answers with tabs, as `csv` or as `json`.
+//! to be, and `mode`, which shows answers with tabs, in `columns`, as `csv` or as `json`.
 //!
 //! ```text
 //! explain(alloc, &schema, "SELECT nam FROM item", &fault)?
@@ -15,6 +15,7 @@
 mod around;
 pub mod catalogue;
 mod cells;
+pub mod columns;
 pub mod csv;
 mod document;
 mod faults;

@@ -1,9 +1,10 @@
 //! How answers are shown.
 
-ghost use Rattle.std.specs.Prelude.{◌≡◌, ◌++◌, IfOk, OnOk, string_bytes};
+ghost use Rattle.std.specs.Prelude.{◌≡◌, ◌∷◌, ◌++◌, [], IfOk, OnOk, string_bytes};
 ghost use Rattle.reader.specs.PrintAnswer.{answer_text};
 ghost use Rattle.shell.specs.Mode.{answer_in, line_in};
 
+use crate::columns::put_columns;
 use crate::csv::{put_csv, put_csv_line};
 use crate::json::{put_json, put_json_line};
 use meaning::answer::Answer;
@@ -16,6 +17,8 @@ use terms::memory::Memory;
 pub enum Mode {
     /// Fields are parted by tabs, and the rows are counted.
     Tabs,
+    /// Fields stand below one another.
+    Columns,
     /// Comma-separated values.
     Csv,
     /// An object of JSON in each line.
@@ -27,7 +30,7 @@ pub fn put_line(out: &mut String, mode: Mode, text: &str) -> Result<(), Memory>
     ensures { OnOk result (string_bytes out.new ≡ string_bytes out.old ++ line_in mode text.now) }
 {
     match mode {
-        Mode::Tabs => put_plain(out, text)?,
+        Mode::Tabs | Mode::Columns => put_plain(out, text)?,
         Mode::Csv => put_csv_line(out, text)?,
         Mode::Json => put_json_line(out, text)?,
     }
@@ -44,7 +47,7 @@ pub fn show_line(alloc: Global, mode: Mode, text: &str) -> Result<String, Memory
 }
 
 fn put_plain(out: &mut String, text: &str) -> Result<(), Memory>
-    ensures { OnOk result (string_bytes out.new ≡ string_bytes out.old ++ line_in Mode.Tabs text.now) }
+    ensures { OnOk result (string_bytes out.new ≡ string_bytes out.old ++ text.now ++ 10 ∷ []) }
 {
     out.push_str(text)?;
     out.push('\n')?;
@@ -65,6 +68,10 @@ pub fn put_answer(out: &mut String, mode: Mode, answer: &Answer) -> Result<(), M
     ensures { OnOk result (string_bytes out.new ≡ string_bytes out.old ++ answer_in mode answer.now) }
 {
     match (mode, answer) {
+        (Mode::Columns, Answer::Rows(header, rows)) => {
+            put_columns(out, header.as_slice(), rows.as_slice())?;
+            Ok(())
+        }
         (Mode::Csv, Answer::Rows(header, rows)) => {
             put_csv(out, header.as_slice(), rows.as_slice())?;
             Ok(())

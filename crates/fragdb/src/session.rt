@@ -1,0 +1,296 @@
+//! A session: what a person types is answered at once.
+
+ghost use Rattle.std.specs.Prelude.{◌≡◌, ◌≢◌, ℕ, List, IfErr, IfOk, IfSome, OnOk, false, true};
+ghost use Rattle.std.specs.Io.KnownBytes.{Appends, Keeps};
+ghost use Rattle.std.specs.Str.{is_utf8};
+ghost use Rattle.catalog.specs.Relation.{catalogue_of};
+ghost use Rattle.fragdb.specs.Input.{IsOfOutput};
+ghost use Rattle.fragdb.specs.Session.{IsOfSession, IsSession, RunsSession, Talks};
+ghost use Rattle.fragdb.specs.Session as spec;
+ghost use Rattle.fragdb.specs.Solo.{IsOfRun};
+
+use crate::catalog_file::{CatalogFault, read_catalog};
+use crate::client::Database;
+use crate::explaining::explain_text;
+use crate::fault::ProgramFault;
+use crate::play_load::empty_relations;
+use crate::script::Item;
+use crate::session_word::{State, Turn, take_item, take_word, tell, write_text};
+use crate::typed::{Typed, is_whole, next_line};
+use catalog::catalogue::Catalog;
+use shell::mode::Mode;
+use std::alloc::Global;
+use std::io;
+use std::io::{BufRead, BufReader, Read, Write};
+use std::time::{Clock, Instant};
+use world::laws::account_follows;
+use world::solo::open;
+
+/// What a session begins with.
+const GREETING: &str =
+    "fragdb 0.1.0, a relational database in fragments; .help tells what can be typed\n";
+
+/// Answers what `input` gives, line by line, over a new database of the catalogue that `catalog` gives. `file` and
+/// `catalog_file` name them in a fault. The catalogue is read first.
+pub fn session_files<'a, K: Clock, C: Read + Drop, R: Read + Drop, W: Write, E: Write>(
+    alloc: Global,
+    clock: &K,
+    mode: Mode,
+    catalog_file: &'a str,
+    catalog: C,
+    file: &'a str,
+    input: io::Result<R>,
+    output: &mut W,
+    errors: &mut E,
+) -> Result<(), CatalogFault<'a>>
+    ensures { IfSome (C.remaining catalog) (λ bytes. RunsSession catalog_file.entry bytes file.entry (W.contents output.old) (W.contents output.new) result) }
+{
+    match read_catalog(alloc, catalog_file, catalog) {
+        Ok(catalog) => {
+            match open_session(alloc, clock, mode, &catalog, file, input, output, errors) {
+                Ok(()) => Ok(()),
+                Err(fault) => Err(CatalogFault::Program(fault)),
+            }
+        }
+        Err(fault) => Err(fault),
+    }
+}
+
+/// Answers what `input` gives, if it could be opened.
+fn open_session<'a, K: Clock, R: Read + Drop, W: Write, E: Write>(
+    alloc: Global,
+    clock: &K,
+    mode: Mode,
+    catalog: &Catalog,
+    file: &'a str,
+    input: io::Result<R>,
+    output: &mut W,
+    errors: &mut E,
+) -> Result<(), ProgramFault<'a>>
+    ensures ok { OnOk result ((written : List ℕ) × Appends (W.contents output.old) (W.contents output.new) written × IsSession (catalogue_of catalog.now) written) }
+    ensures err { IfErr result (IsOfSession file.entry) }
+{
+    let input = input.map_err(|error| ProgramFault::reading(file, &error))?;
+    let mut input = BufReader::new(alloc, input).map_err(|error| ProgramFault::reading(
+        file, &error,
+    ))?;
+    session(
+        alloc, clock, mode, catalog, file, &mut input, output, errors,
+    )
+}
+
+/// Answers what is typed, line by line, over a new database of this catalogue, until the input ends or the end is
+/// asked for. What is wrong with a line is told to `errors`, and costs that line alone.
+pub fn session<'a, K: Clock, R: BufRead, W: Write, E: Write>(
+    alloc: Global,
+    clock: &K,
+    mode: Mode,
+    catalog: &Catalog,
+    file: &'a str,
+    input: &mut R,
+    output: &mut W,
+    errors: &mut E,
+) -> Result<(), ProgramFault<'a>>
+    ensures ok { OnOk result ((written : List ℕ) × Appends (W.contents output.old) (W.contents output.new) written × IsSession (catalogue_of catalog.now) written) }
+    ensures err { IfErr result (IsOfSession file.entry) }
+{
+    account_follows(catalog);
+    let whole = empty_relations(alloc, catalog.schema())?;
+    // Lists refuse for want of memory alone.
+    let Ok(mut database) = open(alloc, catalog, &whole) else {
+        return Err(ProgramFault::Memory);
+    };
+    talk(
+        alloc,
+        clock,
+        mode,
+        &mut database,
+        file,
+        input,
+        output,
+        errors,
+    )
+}
+
+/// Greets, and answers line by line.
+fn talk<'a, K: Clock, R: BufRead, W: Write, E: Write>(
+    alloc: Global,
+    clock: &K,
+    mode: Mode,
+    database: &mut Database,
+    file: &'a str,
+    input: &mut R,
+    output: &mut W,
+    errors: &mut E,
+) -> Result<(), ProgramFault<'a>>
+    ensures ok { OnOk result (Talks (W.contents output.old) (W.contents output.new) database.old database.new) }
+    ensures err { IfErr result (IsOfSession file.entry) }
+{
+    write_text(output, GREETING)?;
+    let mut state = State::new(alloc, mode);
+    for _ in 0..u64::MAX {
+        let turn = take_turn(
+            alloc, clock, database, &mut state, file, input, output, errors,
+        )?;
+        if turn == Turn::Ends {
+            return Ok(());
+        }
+    }
+    Ok(())
+}
+
+/// Asks for a line, and answers it.
+fn take_turn<'a, K: Clock, R: BufRead, W: Write, E: Write>(
+    alloc: Global,
+    clock: &K,
+    database: &mut Database,
+    state: &mut State,
+    file: &'a str,
+    input: &mut R,
+    output: &mut W,
+    errors: &mut E,
+) -> Result<Turn, ProgramFault<'a>>
+    ensures ok { OnOk result (Talks (W.contents output.old) (W.contents output.new) database.old database.new) }
+    ensures err { IfErr result (IsOfSession file.entry) }
+{
+    write_text(output, prompt(!state.typed.is_empty(), database.is_open()))?;
+    match next_line(alloc, file, input)? {
+        Typed::Line(line) => {
+            let begun = Instant::now(clock);
+            let turn = take_bytes(alloc, database, state, line.as_slice(), output, errors)?;
+            if turn == Turn::Answered && state.is_timed {
+                tell_time(alloc, clock, begun, errors);
+            }
+            Ok(turn)
+        }
+        Typed::Dropped => {
+            state.typed.clear();
+            write_text(output, "\n")?;
+            Ok(Turn::GoesOn)
+        }
+        Typed::End => {
+            write_text(output, "\n")?;
+            Ok(Turn::Ends)
+        }
+    }
+}
+
+/// What asks for a line.
+fn prompt(is_more: bool, is_open: bool) -> &'static str
+    ensures { result.now ≡ spec.prompt_text is_more is_open }
+{
+    if is_more {
+        "   ...> "
+    } else if is_open {
+        "fragdb*> "
+    } else {
+        "fragdb> "
+    }
+}
+
+/// Tells how long an answer took, if the clock could be read.
+fn tell_time<K: Clock, E: Write>(
+    alloc: Global,
+    clock: &K,
+    begun: io::Result<Instant>,
+    errors: &mut E,
+) {
+    if let Ok(begun) = begun
+        && let Ok(took) = begun.elapsed(clock)
+        && let Ok(text) = format!(in alloc;
+            "time {}.{:06} s\n",
+            took.as_secs(),
+            took.subsec_micros()
+        )
+    {
+        tell(errors, text.as_str());
+    }
+}
+
+/// Answers a line, which is given without its end. One that is no text changes nothing.
+fn take_bytes<'a, W: Write, E: Write>(
+    alloc: Global,
+    database: &mut Database,
+    state: &mut State,
+    line: &[u8],
+    output: &mut W,
+    errors: &mut E,
+) -> Result<Turn, ProgramFault<'a>>
+    ensures ok { OnOk result (Talks (W.contents output.old) (W.contents output.new) database.old database.new) }
+    ensures malformed { is_utf8 line.now ≡ false → IfOk result (λ turn. (turn ≡ Turn.GoesOn) × (database.new ≡ database.old) × (W.contents output.new ≡ W.contents output.old)) }
+    ensures err { IfErr result IsOfRun }
+{
+    match str::from_utf8(line) {
+        Ok(text) => take_line(
+            alloc,
+            database,
+            state,
+            text.trim_ascii_end(),
+            output,
+            errors,
+        ),
+        Err(_) => {
+            tell(errors, "the line is no UTF-8\n");
+            Ok(Turn::GoesOn)
+        }
+    }
+}
+
+/// Answers a line, or keeps it where it begins a statement that isn't whole.
+fn take_line<'a, W: Write, E: Write>(
+    alloc: Global,
+    database: &mut Database,
+    state: &mut State,
+    line: &str,
+    output: &mut W,
+    errors: &mut E,
+) -> Result<Turn, ProgramFault<'a>>
+    ensures ok { OnOk result (Talks (W.contents output.old) (W.contents output.new) database.old database.new) }
+    ensures err { IfErr result IsOfRun }
+{
+    if state.typed.is_empty() {
+        match line.as_bytes().first() {
+            None | Some(b'#') => Ok(Turn::GoesOn),
+            Some(b'.') => take_word(alloc, database, state, line, output, errors),
+            Some(_) => take_part(alloc, database, state, line, output, errors),
+        }
+    } else {
+        state.typed.push('\n')?;
+        take_part(alloc, database, state, line, output, errors)
+    }
+}
+
+/// Answers the statement that has been typed with this line, if it is whole. An empty line ends one too.
+fn take_part<'a, W: Write, E: Write>(
+    alloc: Global,
+    database: &mut Database,
+    state: &mut State,
+    line: &str,
+    output: &mut W,
+    errors: &mut E,
+) -> Result<Turn, ProgramFault<'a>>
+    ensures ok { OnOk result (Talks (W.contents output.old) (W.contents output.new) database.old database.new) }
+    ensures err { IfErr result IsOfRun }
+{
+    state.typed.push_str(line)?;
+    let ends = line.is_empty()
+        || is_whole(alloc, database.catalog().schema(), state.typed.as_str())?;
+    if !ends {
+        return Ok(Turn::GoesOn);
+    }
+    take_item(
+        alloc,
+        state.mode,
+        database,
+        Item::Statement(state.typed.as_str()),
+        output,
+    )?;
+    let _ = explain_text(
+        alloc,
+        database.catalog().schema(),
+        state.typed.as_str(),
+        errors,
+    );
+    state.typed.clear();
+    Ok(Turn::Answered)
+}

@@ -1,0 +1,368 @@
+//! The shell's own commands in a session.
+
+ghost use Rattle.std.specs.Prelude.{◌≡◌, ◌≢◌, ℕ, List, IfErr, IfOk, OnOk, string_bytes};
+ghost use Rattle.std.specs.Io.KnownBytes.{Appends};
+ghost use Rattle.catalog.specs.Relation.{catalogue_of};
+ghost use Rattle.fragdb.specs.Input.{IsOfOutput};
+ghost use Rattle.fragdb.specs.Session.{IsAsideOf, Talks};
+ghost use Rattle.fragdb.specs.Solo.{IsOfRun};
+
+use crate::client::{Database, answer};
+use crate::dot::{WORDS, Word, mode_named, read, switch_named};
+use crate::explaining::explain_fault;
+use crate::fault::ProgramFault;
+use crate::listing::{leaves_text, schema_text, tables_text};
+use crate::plan_text::{PlanFault, plan_typed};
+use crate::script::{Item, is_word};
+use catalog::catalogue::Catalog;
+use shell::mode::Mode;
+use shell::nearest::nearest;
+use std::alloc::{AllocError, Global};
+use std::io::Write;
+use terms::memory::Memory;
+
+/// What help tells.
+const HELP: &str =
+    "A statement, BEGIN, COMMIT or ROLLBACK ends with its line where it is whole, or at a semicolon.
+.help               this text
+.tables             the relations
+.schema [RELATION]  their columns
+.leaves [RELATION]  their fragments, with sites, columns and conditions
+.show RELATION      the rows of a relation, rebuilt
+.leaf LEAF          the rows of a fragment
+.plan STATEMENT     which fragments a statement reads
+.timer on|off       tells how long each answer takes
+.mode MODE          shows answers in tabs, columns, csv or json
+.quit               the end, as Ctrl-D
+rlwrap fragdb has a history, and lines that can be edited.
+";
+
+/// What a session keeps besides its database.
+#[derive(Drop)]
+pub struct State {
+    /// How answers are shown.
+    pub mode: Mode,
+    /// Whether it is told how long answers take.
+    pub is_timed: bool,
+    /// The lines of a statement that isn't whole.
+    pub typed: String,
+}
+
+impl State {
+    /// A session in which nothing has been typed.
+    pub fn new(alloc: Global, mode: Mode) -> State {
+        State {
+            mode,
+            is_timed: false,
+            typed: String::new(alloc),
+        }
+    }
+}
+
+/// What comes of a line.
+#[derive(Clone, Copy, Debug, PartialEq, Eq)]
+pub enum Turn {
+    /// Something was answered.
+    Answered,
+    /// Nothing was asked of the database.
+    GoesOn,
+    /// The session ends.
+    Ends,
+}
+
+/// Does what a line asks for that begins with a dot.
+pub fn take_word<'a, W: Write, E: Write>(
+    alloc: Global,
+    database: &mut Database,
+    state: &mut State,
+    line: &str,
+    output: &mut W,
+    errors: &mut E,
+) -> Result<Turn, ProgramFault<'a>>
+    ensures ok { OnOk result (Talks (W.contents output.old) (W.contents output.new) database.old database.new) }
+    ensures err { IfErr result IsOfRun }
+{
+    match read(line) {
+        (Some(word), rest) => {
+            take_known(
+                alloc,
+                database,
+                state,
+                word,
+                rest.trim_ascii(),
+                output,
+                errors,
+            )
+        }
+        (None, _) => {
+            tell_unknown(alloc, line, errors)?;
+            Ok(Turn::GoesOn)
+        }
+    }
+}
+
+/// Does what this word asks for, with what stands behind it.
+fn take_known<'a, W: Write, E: Write>(
+    alloc: Global,
+    database: &mut Database,
+    state: &mut State,
+    word: Word,
+    rest: &str,
+    output: &mut W,
+    errors: &mut E,
+) -> Result<Turn, ProgramFault<'a>>
+    ensures ok { OnOk result (Talks (W.contents output.old) (W.contents output.new) database.old database.new) }
+    ensures err { IfErr result IsOfRun }
+{
+    match word {
+        Word::Help | Word::Tables | Word::Quit => {
+            take_lone(alloc, database, word, rest, output, errors)
+        }
+        Word::Schema | Word::Leaves => take_listing(alloc, database, word, rest, output, errors),
+        Word::Show => take_named(
+            alloc,
+            state.mode,
+            database,
+            Item::Show(rest),
+            rest,
+            output,
+            errors,
+        ),
+        Word::Leaf => take_named(
+            alloc,
+            state.mode,
+            database,
+            Item::Leaf(rest),
+            rest,
+            output,
+            errors,
+        ),
+        Word::Plan => take_plan(alloc, database, rest, output, errors),
+        Word::Timer | Word::Mode => {
+            if !set(state, word, rest) {
+                tell_wanted(alloc, word, errors)?;
+            }
+            Ok(Turn::GoesOn)
+        }
+    }
+}
+
+/// Does what a word asks for that stands alone.
+fn take_lone<'a, W: Write, E: Write>(
+    alloc: Global,
+    database: &mut Database,
+    word: Word,
+    rest: &str,
+    output: &mut W,
+    errors: &mut E,
+) -> Result<Turn, ProgramFault<'a>>
+    ensures ok { OnOk result (Talks (W.contents output.old) (W.contents output.new) database.old database.new) }
+    ensures err { IfErr result IsOfRun }
+{
+    if !rest.is_empty() {
+        tell_wanted(alloc, word, errors)?;
+        return Ok(Turn::GoesOn);
+    }
+    match word {
+        Word::Quit => return Ok(Turn::Ends),
+        Word::Tables => {
+            let text = tables_text(alloc, database.catalog())?;
+            write_text(output, text.as_str())?;
+        }
+        _ => write_text(output, HELP)?,
+    }
+    Ok(Turn::GoesOn)
+}
+
+/// Lists columns or leaves, of each relation or of the one of this name.
+fn take_listing<'a, W: Write, E: Write>(
+    alloc: Global,
+    database: &mut Database,
+    word: Word,
+    asked: &str,
+    output: &mut W,
+    errors: &mut E,
+) -> Result<Turn, ProgramFault<'a>>
+    ensures ok { OnOk result (Talks (W.contents output.old) (W.contents output.new) database.old database.new) }
+    ensures err { IfErr result IsOfRun }
+{
+    if !asked.is_empty() && !is_word(asked) {
+        tell_wanted(alloc, word, errors)?;
+        return Ok(Turn::GoesOn);
+    }
+    let text = listing(alloc, database.catalog(), word, asked)?;
+    if text.is_empty() {
+        tell_no_relation(alloc, database.catalog(), asked, errors)?;
+    }
+    write_text(output, text.as_str())?;
+    Ok(Turn::GoesOn)
+}
+
+/// The columns of relations, or their leaves.
+fn listing(alloc: Global, catalog: &Catalog, word: Word, asked: &str) -> Result<String, Memory>
+    ensures { IfOk result (λ text. IsAsideOf (catalogue_of catalog.now) (string_bytes text)) }
+{
+    match word {
+        Word::Leaves => leaves_text(alloc, catalog, asked),
+        _ => schema_text(alloc, catalog, asked),
+    }
+}
+
+/// Shows what is named, where a name is given.
+fn take_named<'a, W: Write, E: Write>(
+    alloc: Global,
+    mode: Mode,
+    database: &mut Database,
+    item: Item<'_>,
+    name: &str,
+    output: &mut W,
+    errors: &mut E,
+) -> Result<Turn, ProgramFault<'a>>
+    ensures ok { OnOk result (Talks (W.contents output.old) (W.contents output.new) database.old database.new) }
+    ensures err { IfErr result IsOfRun }
+{
+    if !is_word(name) {
+        let word = if matches!(item, Item::Show(_)) {
+            Word::Show
+        } else {
+            Word::Leaf
+        };
+        tell_wanted(alloc, word, errors)?;
+        return Ok(Turn::GoesOn);
+    }
+    take_item(alloc, mode, database, item, output)?;
+    Ok(Turn::Answered)
+}
+
+/// Answers one thing that is asked for.
+pub fn take_item<'a, W: Write>(
+    alloc: Global,
+    mode: Mode,
+    database: &mut Database,
+    item: Item<'_>,
+    output: &mut W,
+) -> Result<(), ProgramFault<'a>>
+    ensures ok { OnOk result (Talks (W.contents output.old) (W.contents output.new) database.old database.new) }
+    ensures err { IfErr result IsOfRun }
+{
+    let reply = answer(alloc, mode, database, item)?;
+    write_text(output, reply.text())
+}
+
+/// Shows which leaves a statement reads.
+fn take_plan<'a, W: Write, E: Write>(
+    alloc: Global,
+    database: &mut Database,
+    statement: &str,
+    output: &mut W,
+    errors: &mut E,
+) -> Result<Turn, ProgramFault<'a>>
+    ensures ok { OnOk result (Talks (W.contents output.old) (W.contents output.new) database.old database.new) }
+    ensures err { IfErr result IsOfRun }
+{
+    if statement.is_empty() {
+        tell_wanted(alloc, Word::Plan, errors)?;
+        return Ok(Turn::GoesOn);
+    }
+    match plan_typed(alloc, database.catalog(), statement) {
+        Ok(text) => write_text(output, text.as_str())?,
+        Err(PlanFault::Statement(fault)) => {
+            let text = format!(in alloc; "refused read {fault}\n")?;
+            tell(errors, text.as_str());
+            let schema = database.catalog().schema();
+            let _ = explain_fault(alloc, schema, statement, &fault, errors);
+        }
+        Err(_) => return Err(ProgramFault::Memory),
+    }
+    Ok(Turn::GoesOn)
+}
+
+/// Sets how answers are shown, or whether it is told how long they take; whether what is asked for is known.
+fn set(state: &mut State, word: Word, rest: &str) -> bool {
+    match (word, mode_named(rest), switch_named(rest)) {
+        (Word::Mode, Some(mode), _) => {
+            state.mode = mode;
+            true
+        }
+        (Word::Timer, _, Some(switch)) => {
+            state.is_timed = switch;
+            true
+        }
+        _ => false,
+    }
+}
+
+/// How a word is to be typed.
+fn usage_of(word: Word) -> &'static str {
+    match word {
+        Word::Help => ".help",
+        Word::Tables => ".tables",
+        Word::Schema => ".schema [RELATION]",
+        Word::Leaves => ".leaves [RELATION]",
+        Word::Show => ".show RELATION",
+        Word::Leaf => ".leaf LEAF",
+        Word::Plan => ".plan STATEMENT",
+        Word::Timer => ".timer on|off",
+        Word::Mode => ".mode tabs|columns|csv|json",
+        Word::Quit => ".quit",
+    }
+}
+
+/// Tells how a word is to be typed.
+fn tell_wanted<E: Write>(alloc: Global, word: Word, errors: &mut E) -> Result<(), AllocError> {
+    let text = format!(in alloc; "wanted: {}\n", usage_of(word))?;
+    tell(errors, text.as_str());
+    Ok(())
+}
+
+/// Tells that the shell has no such word, and which one was likely meant.
+fn tell_unknown<E: Write>(alloc: Global, line: &str, errors: &mut E) -> Result<(), AllocError> {
+    let word = match line.split_once(' ') {
+        Some((front, _)) => front,
+        None => line,
+    };
+    let text = match nearest(alloc, word, &WORDS)? {
+        Some(name) => format!(in alloc; "no command {word}; did you mean {name}?\n")?,
+        None => format!(in alloc; "no command {word}; .help lists them\n")?,
+    };
+    tell(errors, text.as_str());
+    Ok(())
+}
+
+/// Tells that there is no such relation, and which one was likely meant.
+fn tell_no_relation<E: Write>(
+    alloc: Global,
+    catalog: &Catalog,
+    asked: &str,
+    errors: &mut E,
+) -> Result<(), AllocError> {
+    let mut names = Vec::new(alloc);
+    for relation in catalog.schema().relations.as_slice() {
+        names.push(relation.name.as_str())?;
+    }
+    let text = match nearest(alloc, asked, names.as_slice())? {
+        Some(name) => format!(in alloc; "no relation {asked}; did you mean {name}?\n")?,
+        None => format!(in alloc; "no relation {asked}; .tables lists them\n")?,
+    };
+    tell(errors, text.as_str());
+    Ok(())
+}
+
+/// Writes a text, and waits until it is written.
+pub fn write_text<'a, W: Write>(output: &mut W, text: &str) -> Result<(), ProgramFault<'a>>
+    ensures written { OnOk result (Appends (W.contents output.old) (W.contents output.new) text.now) }
+    ensures err { IfErr result IsOfOutput }
+{
+    output
+        .write_all(text.as_bytes())
+        .map_err(|error| ProgramFault::writing(&error))?;
+    output
+        .flush()
+        .map_err(|error| ProgramFault::writing(&error))?;
+    Ok(())
+}
+
+/// Tells what was wrong with a line. Where the standard error is closed nobody can be told.
+pub fn tell<E: Write>(errors: &mut E, text: &str) {
+    let _ = errors.write_all(text.as_bytes());
+}

@@ -1,0 +1,119 @@
+//! What is typed: a line at a time, and whether a statement ends where its text does.
+
+ghost use Rattle.std.specs.Prelude.{◌≡◌, ◌≤◌, IfErr, IfOk, length};
+ghost use Rattle.fragdb.specs.Input.{IsOfInput};
+ghost use Rattle.fragdb.specs.Solo.{IsOfRun};
+
+use crate::fault::ProgramFault;
+use meaning::schema::Schema;
+use reader::fault::Rule;
+use reader::read::read;
+use std::alloc::{AllocFailed, Global};
+use std::io::BufRead;
+
+/// The byte that drops a line: what Ctrl-C gives at a terminal that does not end programs by it.
+const DROP: u8 = 3;
+
+/// What is typed up to the end of a line.
+#[derive(Debug, Drop)]
+pub enum Typed {
+    /// A line, without its end.
+    Line(Vec<u8>),
+    /// A line that was dropped.
+    Dropped,
+    /// Nothing more comes.
+    End,
+}
+
+/// How much of what has come is of a line.
+#[derive(Clone, Copy, Debug, PartialEq, Eq)]
+enum Front {
+    /// All of it, and the line goes on.
+    All,
+    /// So many bytes, with a line feed behind them.
+    Whole(usize),
+    /// So many bytes, and they are dropped with the byte behind them.
+    Dropped(usize),
+}
+
+/// The next line that is typed. It ends at a line feed, or is dropped at its other end, or ends with the input.
+pub fn next_line<'a, R: BufRead>(
+    alloc: Global,
+    file: &'a str,
+    input: &mut R,
+) -> Result<Typed, ProgramFault<'a>>
+    ensures { IfErr result (IsOfInput file.entry) }
+{
+    let mut line = Vec::new(alloc);
+    for _ in 0..u64::MAX {
+        let buffer = input
+            .fill_buf()
+            .map_err(|error| ProgramFault::reading(file, &error))?;
+        let came = buffer.len();
+        if came == 0 {
+            return Ok(if line.is_empty() {
+                Typed::End
+            } else {
+                Typed::Line(line)
+            });
+        }
+        let front = front_of(buffer);
+        if let Err(_failed) = line.extend_from_slice(kept_of(buffer, front)) {
+            return Err(ProgramFault::Memory);
+        }
+        input.consume(used_of(came, front));
+        match front {
+            Front::All => {}
+            Front::Whole(_) => return Ok(Typed::Line(line)),
+            Front::Dropped(_) => return Ok(Typed::Dropped),
+        }
+    }
+    Ok(Typed::End)
+}
+
+/// How much of these bytes is of the line.
+fn front_of(bytes: &[u8]) -> Front {
+    match bytes
+        .iter()
+        .position(|byte| *byte == b'\n' || *byte == DROP)
+    {
+        Some(place) => match bytes.get(place) {
+            Some(3) => Front::Dropped(place),
+            _ => Front::Whole(place),
+        },
+        None => Front::All,
+    }
+}
+
+/// The bytes that are kept.
+fn kept_of(bytes: &[u8], front: Front) -> &[u8] {
+    match front {
+        Front::All => bytes,
+        Front::Whole(place) | Front::Dropped(place) => bytes.get(..place).unwrap_or(bytes),
+    }
+}
+
+/// How many bytes are used up, of so many that came.
+fn used_of(came: usize, front: Front) -> usize {
+    match front {
+        Front::All => came,
+        Front::Whole(place) | Front::Dropped(place) => place.saturating_add(1),
+    }
+}
+
+/// Whether a statement ends where its text does: at a semicolon, or since it is one, or is none whatever follows.
+pub fn is_whole<'a>(alloc: Global, schema: &Schema, text: &str) -> Result<bool, ProgramFault<'a>>
+    ensures { IfErr result IsOfRun }
+{
+    if text.ends_with(';') {
+        return Ok(true);
+    }
+    match read(alloc, text, schema) {
+        Ok(_) => Ok(true),
+        Err(fault) => match fault.rule() {
+            Rule::Memory => Err(ProgramFault::Memory),
+            Rule::Syntax => Ok(fault.offset() < text.len()),
+            _ => Ok(true),
+        },
+    }
+}
