@@ -22,13 +22,13 @@ command_is words (Some (entered_name, entered_rows)) name rows e n r =
     let rows_is : entered_rows ≡ rows = cc in
     sym e ∙ rw (name_is, rows_is) refl
 
--- a command with one argument, and one with two
-pub given_one : (words : List Text) (entered : Option (Text × List Row)) (name : Text) (rows : List Row) (argument value flag : Text) (set : Bool) → entered ≡ subcommand_of usage words → Some name ≡ option_map (λ p. p.0) entered → Some rows ≡ option_map (λ p. p.1) entered → Some value ≡ first_of argument rows → is_set (first_of flag rows) ≡ set → IsGiven words (name, (argument, Some value) ∷ []) ((flag, set) ∷ [])
-given_one words entered name rows argument value flag set e n r s f = record { rows = rows; command = command_is words entered name rows e n r; arguments = (sym s, tt); set = (f, tt) }
+-- a command with one argument and flags, and one with two
+pub given_one : (words : List Text) (entered : Option (Text × List Row)) (name : Text) (rows : List Row) (argument value : Text) (flags : List (Text × Bool)) → entered ≡ subcommand_of usage words → Some name ≡ option_map (λ p. p.0) entered → Some rows ≡ option_map (λ p. p.1) entered → Some value ≡ first_of argument rows → AllByRecursion (λ flag. is_set (first_of flag.0 rows) ≡ flag.1) flags → IsGiven words (name, (argument, Some value) ∷ []) flags
+given_one words entered name rows argument value flags e n r s f = record { rows = rows; command = command_is words entered name rows e n r; arguments = (sym s, tt); set = f }
 
-pub given_two : (words : List Text) (entered : Option (Text × List Row)) (name : Text) (rows : List Row) (first one second two : Text) → entered ≡ subcommand_of usage words → Some name ≡ option_map (λ p. p.0) entered → Some rows ≡ option_map (λ p. p.1) entered →
-    Some one ≡ first_of first rows → Some two ≡ first_of second rows → IsGiven words (name, (first, Some one) ∷ (second, Some two) ∷ []) []
-given_two words entered name rows first one second two e n r s t = record { rows = rows; command = command_is words entered name rows e n r; arguments = (sym s, (sym t, tt)); set = tt }
+pub given_two : (words : List Text) (entered : Option (Text × List Row)) (name : Text) (rows : List Row) (first one second two : Text) (flags : List (Text × Bool)) → entered ≡ subcommand_of usage words → Some name ≡ option_map (λ p. p.0) entered → Some rows ≡ option_map (λ p. p.1) entered →
+    Some one ≡ first_of first rows → Some two ≡ first_of second rows → AllByRecursion (λ flag. is_set (first_of flag.0 rows) ≡ flag.1) flags → IsGiven words (name, (first, Some one) ∷ (second, Some two) ∷ []) flags
+given_two words entered name rows first one second two flags e n r s t f = record { rows = rows; command = command_is words entered name rows e n r; arguments = (sym s, (sym t, tt)); set = f }
 
 -- a command with an argument that need not be given, and one that must
 pub given_perhaps : (words : List Text) (entered : Option (Text × List Row)) (name : Text) (rows : List Row) (first : Text) (one : Option Text) (second two : Text) → entered ≡ subcommand_of usage words → Some name ≡ option_map (λ p. p.0) entered → Some rows ≡ option_map (λ p. p.1) entered →

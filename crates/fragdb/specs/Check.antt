@@ -1,5 +1,5 @@
 -- What the program says of a catalogue.
-use Rattle.std.specs.Prelude.{◌≡◌, ◌⊎◌, ℕ, List, [], ◌∷◌, ◌++◌, Option, Result, Ok, Err, codes, length, map, option_map, unwrap_or}
+use Rattle.std.specs.Prelude.{◌≡◌, ◌⊎◌, ℕ, Bool, if◌then◌else◌, List, [], ◌∷◌, ◌++◌, Option, Result, Ok, Err, codes, length, map, option_map, unwrap_or}
 use Rattle.std.specs.Borrow.{Bor}
 use Rattle.std.specs.Fmt.{decimal}
 use Rattle.std.specs.Io.KnownBytes.{Appends, Keeps}
@@ -19,18 +19,8 @@ use Rattle.fragdb.specs.declared.catalog_file.CatalogFault.TheVariants.{Program,
 use Rattle.fragdb.specs.declared.fault.ProgramFault.TheVariants.{CannotWrite}
 use Rattle.fragdb.specs.CatalogFile.{IsCatalogueFile, IsFileOfNoneValid, RefusesFile}
 use Rattle.fragdb.specs.Input.{IsOfInput, IsOfOutput}
-
--- the columns of the relation of this name, none where it is not there
-abbrev pub columns_of : List RelationSchema → List ℕ → List Column
-columns_of relations name = unwrap_or (option_map (λ relation. relation.columns) (relation_named name relations)) []
-
-abbrev pub names_of_columns : List Column → List (List ℕ)
-names_of_columns columns = map (λ column. column.name) columns
-
--- conditions on columns of these names, if there are any
-abbrev pub where_text : List (List ℕ) → List Cond → List ℕ
-where_text names [] = []
-where_text names (cond ∷ conds) = codes " where " ++ conds_bytes names (cond ∷ conds)
+pub use Rattle.fragdb.specs.Columns.{columns_of, names_of_columns, where_text}
+use Rattle.fragdb.specs.FragmentTree.{trees_text}
 
 -- what is said of a leaf of which the relation has columns of these names: the leaf's name, its site, its columns and its conditions
 abbrev pub leaf_over : List (List ℕ) → List (List ℕ) → FragmentLeaf → List ℕ
@@ -55,16 +45,16 @@ accepted_line catalogue = counts_text (length catalogue.sites) (length catalogue
 abbrev pub leaf_lines : Catalogue → List ℕ
 leaf_lines catalogue = flat_map (leaf_line catalogue.sites (schemas_of catalogue)) (catalogue_leaves catalogue)
 
--- what is said of a catalogue
-abbrev pub check_text : Catalogue → List ℕ
-check_text catalogue = accepted_line catalogue ++ leaf_lines catalogue
+-- what is said of a catalogue: how much it has, and its leaves, or its trees
+abbrev pub check_text : Bool → Catalogue → List ℕ
+check_text tree catalogue = accepted_line catalogue ++ (if tree then trees_text catalogue else leaf_lines catalogue)
 
 -- these bytes are of a valid catalogue, of which all was said on this output
-pub record IsChecked (old new : Option (List ℕ)) (bytes : List ℕ) : Type 0 where
+pub record IsChecked (tree : Bool) (old new : Option (List ℕ)) (bytes : List ℕ) : Type 0 where
   pub catalogue : Catalogue
   pub file : IsCatalogueFile bytes catalogue
   pub valid : IsValidCatalogue catalogue
-  pub said : Appends old new (check_text catalogue)
+  pub said : Appends old new (check_text tree catalogue)
 
 -- a fault of a write: memory ran out, or nobody reads
 abbrev pub IsWriteFault : CatalogFault → Type 0
@@ -72,7 +62,7 @@ IsWriteFault (Program fault) = IsOfOutput fault
 IsWriteFault (Refused fault) = ⊥
 
 -- the check of a file of these bytes: all is said of it, or it is refused and nothing is said, or something stopped the check
-abbrev pub ChecksFile : Bor (List ℕ) → List ℕ → Option (List ℕ) → Option (List ℕ) → Result Unit CatalogFault → Type 0
-ChecksFile file bytes old new (Ok done) = IsChecked old new bytes
-ChecksFile file bytes old new (Err (Refused fault)) = RefusesFile bytes fault.relation fault.rule × Keeps old new
-ChecksFile file bytes old new (Err (Program fault)) = (IsOfInput file fault ⊎ (fault ≡ CannotWrite)) × (IsFileOfNoneValid bytes → Keeps old new)
+abbrev pub ChecksFile : Bool → Bor (List ℕ) → List ℕ → Option (List ℕ) → Option (List ℕ) → Result Unit CatalogFault → Type 0
+ChecksFile tree file bytes old new (Ok done) = IsChecked tree old new bytes
+ChecksFile tree file bytes old new (Err (Refused fault)) = RefusesFile bytes fault.relation fault.rule × Keeps old new
+ChecksFile tree file bytes old new (Err (Program fault)) = (IsOfInput file fault ⊎ (fault ≡ CannotWrite)) × (IsFileOfNoneValid bytes → Keeps old new)

@@ -14,7 +14,14 @@ pub mod Client
 pub mod Solo
 pub mod Play
 pub mod CatalogFile
+pub mod Columns
+pub mod SchemaLine
+pub mod Level
+pub mod FragmentTree
 pub mod Check
+pub mod FetchLine
+pub mod PlanLines
+pub mod PlanTree
 pub mod Plan
 pub mod Dot
 pub mod Listing

@@ -6,18 +6,11 @@ use Rattle.reader.specs.PrintStatement.{separated_bytes}
 use Rattle.catalog.specs.Catalogue.{Catalogue, kind_word}
 use Rattle.catalog.specs.FragmentLeaf.{catalogue_leaves, schemas_of}
 use Rattle.fragdb.specs.Check.{leaf_line}
+pub use Rattle.fragdb.specs.SchemaLine.{column_text, schema_line}
 
 -- the name of each relation in a line
 abbrev pub tables_text : Catalogue → List ℕ
 tables_text catalogue = flat_map (λ relation. relation.name ++ 10 ∷ []) (schemas_of catalogue)
-
--- a column with its type
-abbrev pub column_text : Column → List ℕ
-column_text column = column.name ++ 32 ∷ kind_word column.kind
-
--- a relation with its columns, in a line
-abbrev pub schema_line : RelationSchema → List ℕ
-schema_line relation = relation.name ++ codes " (" ++ separated_bytes column_text (codes ", ") relation.columns ++ codes ")" ++ 10 ∷ []
 
 -- whether this is asked for: all is, where no name is given
 abbrev pub is_asked : List ℕ → List ℕ → Bool

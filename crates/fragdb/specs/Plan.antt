@@ -1,5 +1,5 @@
 -- What the program shows of a statement's plan.
-use Rattle.std.specs.Prelude.{◌≡◌, ◌≢◌, ◌⊎◌, ℕ, ◌==◌, if◌then◌else◌, List, [], ◌∷◌, ◌++◌, Option, Some, None, Result, Ok, Err, codes, length}
+use Rattle.std.specs.Prelude.{◌≡◌, ◌≢◌, ◌⊎◌, ℕ, Bool, true, false, ◌==◌, if◌then◌else◌, List, [], ◌∷◌, ◌++◌, Option, Some, None, Result, Ok, Err, codes, length}
 use Rattle.std.specs.Borrow.{Bor}
 use Rattle.std.specs.Fmt.{decimal}
 use Rattle.std.specs.Io.KnownBytes.{Appends, Keeps}
@@ -25,22 +25,9 @@ use Rattle.fragdb.specs.declared.fault.ProgramFault.TheVariants.{CannotWrite, Me
 use Rattle.fragdb.specs.declared.plan_text.PlanFault.{PlanFault}
 use Rattle.fragdb.specs.declared.plan_text.PlanFault.TheVariants as plan
 use Rattle.fragdb.specs.CatalogFile.{IsCatalogueFile, RefusesFile}
-use Rattle.fragdb.specs.Check.{columns_of, names_of_columns, where_text}
+pub use Rattle.fragdb.specs.FetchLine.{count_line, fetch_line, site_text}
+use Rattle.fragdb.specs.PlanTree.{IsPlanTree}
 use Rattle.fragdb.specs.Input.{IsOfInput, IsOfOutput}
-
--- the name of a leaf's site, nothing where the leaf is not there
-abbrev pub site_text : List (List ℕ) → Option FragmentLeaf → List ℕ
-site_text sites None = []
-site_text sites (Some leaf) = name_in sites leaf.site
-
--- a fetch's leaf, the leaf's site, and the conditions that it carries, by the names of the leaf's columns
-abbrev pub fetch_line : Catalogue → Fetch → List ℕ
-fetch_line catalogue fetch =
-    leaf_text fetch.leaf ++ 32 ∷ site_text catalogue.sites (leaf_named fetch.leaf (catalogue_leaves catalogue))
-    ++ where_text (names_of_columns (listed fetch.columns (columns_of (schemas_of catalogue) fetch.leaf.relation))) fetch.conds ++ 10 ∷ []
-
-abbrev pub count_line : ℕ → List ℕ
-count_line count = if count == 1 then codes "1 fetch" ++ 10 ∷ [] else decimal count ++ codes " fetches" ++ 10 ∷ []
 
 -- a line for each fetch, and how many there are
 abbrev pub plan_text : Catalogue → List Fetch → List ℕ
@@ -57,6 +44,11 @@ pub record IsPlanOf (catalogue : Catalogue) (typed : List ℕ) (text : List ℕ)
   pub statement : Statement
   pub read : IsTextOf (schemas_of catalogue) typed (Run statement)
   pub planned : IsPlanText catalogue statement text
+
+-- what is shown of the plan of a statement: its fetches, or its tree
+abbrev pub IsShownPlan : Bool → Catalogue → Statement → List ℕ → Type 0
+IsShownPlan true catalogue statement text = IsPlanTree catalogue statement text
+IsShownPlan false catalogue statement text = IsPlanText catalogue statement text
 
 -- a refusal of a text that is no statement's
 pub record IsNoStatementOf (schema : List RelationSchema) (text : List ℕ) (fault : Fault) : Type 0 where
@@ -94,14 +86,14 @@ abbrev pub fault_of_reading : Fault → PlanFault
 fault_of_reading fault = fault_by_rule fault fault.rule
 
 -- these bytes are of a valid catalogue, the text is one of a statement of its schema, and its plan was written
-pub record IsPlanned (text : List ℕ) (old new : Option (List ℕ)) (bytes : List ℕ) : Type 0 where
+pub record IsPlanned (tree : Bool) (text : List ℕ) (old new : Option (List ℕ)) (bytes : List ℕ) : Type 0 where
   pub catalogue : Catalogue
   pub file : IsCatalogueFile bytes catalogue
   pub valid : IsValidCatalogue catalogue
   pub statement : Statement
   pub read : IsTextOf (schemas_of catalogue) text (Run statement)
   pub shown : List ℕ
-  pub planned : IsPlanText catalogue statement shown
+  pub planned : IsShownPlan tree catalogue statement shown
   pub said : Appends old new shown
 
 -- these bytes are of a valid catalogue, the text is one of no statement of its schema, and nothing was written
@@ -113,8 +105,8 @@ pub record IsRefusedStatement (text : List ℕ) (old new : Option (List ℕ)) (b
   pub quiet : Keeps old new
 
 -- what the command does with a file of these bytes and the text of a statement
-abbrev pub PlansFile : Bor (List ℕ) → List ℕ → List ℕ → Option (List ℕ) → Option (List ℕ) → Result Unit PlanFault → Type 0
-PlansFile file text bytes old new (Ok done) = IsPlanned text old new bytes
-PlansFile file text bytes old new (Err (plan.Catalogue fault)) = RefusesFile bytes fault.relation fault.rule × Keeps old new
-PlansFile file text bytes old new (Err (plan.Statement fault)) = IsRefusedStatement text old new bytes fault
-PlansFile file text bytes old new (Err (plan.Program fault)) = IsOfInput file fault ⊎ (fault ≡ CannotWrite)
+abbrev pub PlansFile : Bool → Bor (List ℕ) → List ℕ → List ℕ → Option (List ℕ) → Option (List ℕ) → Result Unit PlanFault → Type 0
+PlansFile tree file text bytes old new (Ok done) = IsPlanned tree text old new bytes
+PlansFile tree file text bytes old new (Err (plan.Catalogue fault)) = RefusesFile bytes fault.relation fault.rule × Keeps old new
+PlansFile tree file text bytes old new (Err (plan.Statement fault)) = IsRefusedStatement text old new bytes fault
+PlansFile tree file text bytes old new (Err (plan.Program fault)) = IsOfInput file fault ⊎ (fault ≡ CannotWrite)

@@ -41,6 +41,10 @@ flag name word = record (option_argument name word) { action = Some SetTrue }
 abbrev pub explained : App → App
 explained app = with_rule app (flag (codes "EXPLAIN") (codes "explain"))
 
+-- the command with a flag that asks for a tree
+abbrev pub treed : App → App
+treed app = with_rule app (flag (codes "TREE") (codes "tree"))
+
 -- the command with flags that say how answers are shown
 abbrev pub shown : App → App
 shown app = with_rule (with_rule (with_rule app (flag (codes "COLUMNS") (codes "columns"))) (flag (codes "CSV") (codes "csv"))) (flag (codes "JSON") (codes "json"))
@@ -58,8 +62,8 @@ program = record {
 
 abbrev pub usage : App
 usage =
-    with_subcommand (with_subcommand (with_subcommand (with_subcommand program (shown (held (explained (of_script (codes "solo"))))).top) (explained (command_with (codes "check") (codes "CATALOG"))).top)
-    (command_with_two (codes "plan") (codes "CATALOG") (codes "STATEMENT")).top) (of_script (codes "play")).top
+    with_subcommand (with_subcommand (with_subcommand (with_subcommand program (shown (held (explained (of_script (codes "solo"))))).top) (treed (explained (command_with (codes "check") (codes "CATALOG")))).top)
+    (treed (command_with_two (codes "plan") (codes "CATALOG") (codes "STATEMENT"))).top) (of_script (codes "play")).top
 
 -- whether a flag's value says that it is set
 abbrev pub is_set : Option Text → Bool
@@ -77,14 +81,14 @@ pub record IsGiven (words : List Text) (request : Text × List (Text × Option T
 -- a request in words: the command, and its arguments, each with its name
 abbrev pub asked : Request → Text × List (Text × Option Text)
 asked (Solo catalog script explain interactive mode) = (codes "solo", (codes "CATALOG", option_map (λ file. file.now) catalog) ∷ (codes "SCRIPT", Some script.now) ∷ [])
-asked (Check catalog explain) = (codes "check", (codes "CATALOG", Some catalog.now) ∷ [])
-asked (Plan catalog statement) = (codes "plan", (codes "CATALOG", Some catalog.now) ∷ (codes "STATEMENT", Some statement.now) ∷ [])
+asked (Check catalog explain tree) = (codes "check", (codes "CATALOG", Some catalog.now) ∷ [])
+asked (Plan catalog statement tree) = (codes "plan", (codes "CATALOG", Some catalog.now) ∷ (codes "STATEMENT", Some statement.now) ∷ [])
 asked (Play catalog script) = (codes "play", (codes "CATALOG", option_map (λ file. file.now) catalog) ∷ (codes "SCRIPT", Some script.now) ∷ [])
 
 -- whether a request is to be explained where it is refused
 abbrev pub explains : Request → Bool
 explains (Solo catalog script explain interactive mode) = explain
-explains (Check catalog explain) = explain
+explains (Check catalog explain tree) = explain
 explains _ = false
 
 -- whether answers are shown in columns, as CSV, or as JSON
@@ -103,7 +107,8 @@ is_json _ = false
 -- the flags of a request's command, and whether they are set
 abbrev pub flags_of : Request → List (Text × Bool)
 flags_of (Solo catalog script explain interactive mode) = (codes "EXPLAIN", explain) ∷ (codes "INTERACTIVE", interactive) ∷ (codes "COLUMNS", is_columns mode) ∷ (codes "CSV", is_csv mode) ∷ (codes "JSON", is_json mode) ∷ []
-flags_of (Check catalog explain) = (codes "EXPLAIN", explain) ∷ []
+flags_of (Check catalog explain tree) = (codes "EXPLAIN", explain) ∷ (codes "TREE", tree) ∷ []
+flags_of (Plan catalog statement tree) = (codes "TREE", tree) ∷ []
 flags_of _ = []
 
 -- the exit status where clap gives a text in place of a request

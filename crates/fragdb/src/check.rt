@@ -10,6 +10,7 @@ ghost use Rattle.fragdb.specs.Check.{ChecksFile, IsWriteFault, accepted_line, le
 
 use crate::catalog_file::{CatalogFault, read_catalog};
 use crate::fault::ProgramFault;
+use crate::fragment_tree::put_trees;
 use catalog::catalogue::Catalog;
 use catalog::fragment_leaf::FragmentLeaf;
 use meaning::schema::{Column, Schema};
@@ -21,17 +22,18 @@ use terms::memory::Memory;
 use terms::text::Text;
 
 /// Checks the catalogue that `input` gives, which `file` names in a fault: where it is accepted, its
-/// counts and its fragments are written to `output`, and else nothing is.
+/// counts and its fragments, as lines or as trees, are written to `output`, and else nothing is.
 pub fn check<'a, R: Read + Drop, W: Write>(
     alloc: Global,
     file: &'a str,
+    tree: bool,
     input: R,
     output: &mut W,
 ) -> Result<(), CatalogFault<'a>>
-    ensures { IfSome (R.remaining input) (λ bytes. ChecksFile file.entry bytes (W.contents output.old) (W.contents output.new) result) }
+    ensures { IfSome (R.remaining input) (λ bytes. ChecksFile tree file.entry bytes (W.contents output.old) (W.contents output.new) result) }
 {
     let catalog = read_catalog(alloc, file, input)?;
-    let text = check_text(alloc, &catalog)?;
+    let text = check_text(alloc, tree, &catalog)?;
     write_text(output, text.as_str())
 }
 
@@ -49,13 +51,17 @@ pub fn write_text<'a, W: Write>(output: &mut W, text: &str) -> Result<(), Catalo
     Ok(())
 }
 
-/// How much a catalogue has, and a line for each leaf.
-fn check_text(alloc: Global, catalog: &Catalog) -> Result<String, Memory>
-    ensures { IfOk result (λ text. string_bytes text ≡ spec.check_text (catalogue_of catalog.now)) }
+/// How much a catalogue has, and a line for each leaf, or its trees.
+fn check_text(alloc: Global, tree: bool, catalog: &Catalog) -> Result<String, Memory>
+    ensures { IfOk result (λ text. string_bytes text ≡ spec.check_text tree (catalogue_of catalog.now)) }
 {
     let mut text = String::new(alloc);
     put_counts(&mut text, catalog)?;
-    put_leaves(&mut text, catalog)?;
+    if tree {
+        put_trees(&mut text, catalog)?;
+    } else {
+        put_leaves(&mut text, catalog)?;
+    }
     Ok(text)
 }
 
@@ -122,7 +128,7 @@ pub fn columns_of<'a>(schema: &'a Schema, relation: &Text) -> &'a [Column]
 }
 
 /// The names of columns at these places.
-fn put_names(out: &mut String, columns: &[Column], places: &[usize]) -> Result<(), Memory>
+pub fn put_names(out: &mut String, columns: &[Column], places: &[usize]) -> Result<(), Memory>
     ensures { OnOk result (string_bytes out.new ≡ string_bytes out.old ++ separated_bytes (name_in (names_of_columns columns.now)) (codes ", ") places.now) }
 {
     let Some((first, others)) = places.split_first() else {
@@ -136,7 +142,8 @@ fn put_names(out: &mut String, columns: &[Column], places: &[usize]) -> Result<(
     Ok(())
 }
 
-fn put_name(out: &mut String, columns: &[Column], place: usize) -> Result<(), Memory>
+/// The name of the column at a place, nothing where there is none.
+pub fn put_name(out: &mut String, columns: &[Column], place: usize) -> Result<(), Memory>
     ensures { OnOk result (string_bytes out.new ≡ string_bytes out.old ++ name_in (names_of_columns columns.now) place) }
 {
     if let Some(column) = columns.get(place) {

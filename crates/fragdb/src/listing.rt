@@ -83,7 +83,7 @@ fn put_leaf_asked(
 }
 
 /// A relation with its columns, in a line.
-fn put_schema(out: &mut String, relation: &RelationSchema) -> Result<(), Memory>
+pub fn put_schema(out: &mut String, relation: &RelationSchema) -> Result<(), Memory>
     ensures { OnOk result (string_bytes out.new ≡ string_bytes out.old ++ schema_line relation.now) }
 {
     write!(out, "{} (", relation.name)?;

@@ -109,11 +109,16 @@ pub fn perform<'a, C: Read + Drop, R: Read + Drop, W: Write>(
         Request::Solo { script, mode, .. } => {
             perform_solo(alloc, mode, catalog_file, catalog, script, input, output)
         }
-        Request::Check { catalog: file, .. } => perform_check(alloc, file, input, output),
+        Request::Check {
+            catalog: file,
+            tree,
+            ..
+        } => perform_check(alloc, file, tree, input, output),
         Request::Plan {
             catalog: file,
             statement,
-        } => perform_plan(alloc, file, statement, input, output),
+            tree,
+        } => perform_plan(alloc, file, statement, tree, input, output),
         Request::Play { script, .. } => {
             perform_play(alloc, catalog_file, catalog, script, input, output)
         }
@@ -178,15 +183,16 @@ pub fn perform_session<'a, K: Clock, C: Read + Drop, R: Read + Drop, W: Write, E
 fn perform_check<'a, R: Read + Drop, W: Write>(
     alloc: Global,
     file: &'a str,
+    tree: bool,
     input: io::Result<R>,
     output: &mut W,
 ) -> Outcome<'a>
-    ensures opened { IfOk input (λ reader. IfSome (R.remaining reader) (λ bytes. PerformsCheck file.entry bytes (W.contents output.old) (W.contents output.new) result)) }
+    ensures opened { IfOk input (λ reader. IfSome (R.remaining reader) (λ bytes. PerformsCheck tree file.entry bytes (W.contents output.old) (W.contents output.new) result)) }
     ensures unread { IfErr input (λ error. IsUnread file.entry result) }
     ensures quiet { IfErr input (λ error. Keeps (W.contents output.old) (W.contents output.new)) }
 {
     match input {
-        Ok(input) => of_check(check(alloc, file, input, output)),
+        Ok(input) => of_check(check(alloc, file, tree, input, output)),
         Err(error) => unread(file, &error),
     }
 }
@@ -196,15 +202,16 @@ fn perform_plan<'a, R: Read + Drop, W: Write>(
     alloc: Global,
     file: &'a str,
     statement: &'a str,
+    tree: bool,
     input: io::Result<R>,
     output: &mut W,
 ) -> Outcome<'a>
-    ensures opened { IfOk input (λ reader. IfSome (R.remaining reader) (λ bytes. PerformsPlan file.entry statement.now bytes (W.contents output.old) (W.contents output.new) result)) }
+    ensures opened { IfOk input (λ reader. IfSome (R.remaining reader) (λ bytes. PerformsPlan tree file.entry statement.now bytes (W.contents output.old) (W.contents output.new) result)) }
     ensures unread { IfErr input (λ error. IsUnread file.entry result) }
     ensures quiet { IfErr input (λ error. Keeps (W.contents output.old) (W.contents output.new)) }
 {
     match input {
-        Ok(input) => of_plan(plan(alloc, file, statement, input, output)),
+        Ok(input) => of_plan(plan(alloc, file, statement, tree, input, output)),
         Err(error) => unread(file, &error),
     }
 }

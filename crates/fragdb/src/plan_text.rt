@@ -10,11 +10,12 @@ ghost use Rattle.reader.specs.declared.command.Command.TheVariants.{Run};
 ghost use Rattle.reader.specs.Command.{IsTextOf};
 ghost use Rattle.std.specs.Io.KnownBytes.{Appends};
 ghost use Rattle.fragdb.specs.CatalogFile.{IsCatalogueFile};
-ghost use Rattle.fragdb.specs.Plan.{IsOpenFault, IsPlanOf, IsPlanText, IsPlanWriteFault, IsReadFault, PlansFile, count_line, fault_of_catalogue, fault_of_reading, fetch_line, site_text};
+ghost use Rattle.fragdb.specs.Plan.{IsOpenFault, IsPlanOf, IsPlanText, IsPlanWriteFault, IsReadFault, IsShownPlan, PlansFile, count_line, fault_of_catalogue, fault_of_reading, fetch_line, site_text};
 
 use crate::catalog_file::{CatalogFault, read_catalog};
 use crate::check::{columns_of, put_site, put_where, write_text};
 use crate::fault::ProgramFault;
+use crate::plan_tree::tree_text;
 use catalog::catalogue::Catalog;
 use catalog::fault::CatFault;
 use meaning::listed::listed;
@@ -64,20 +65,21 @@ impl From<Memory> for PlanFault<'_> {
 }
 
 /// Plans a statement over the catalogue that `input` gives, which `file` names in a fault: writes to
-/// `output` which fragments it reads, each with its site and the conditions that the read carries, and
-/// how many. Nothing is written where the catalogue or the statement is refused.
+/// `output` which fragments it reads, each with its site and the conditions that the read carries, as lines or at
+/// the tips of its plan's tree, and how many. Nothing is written where the catalogue or the statement is refused.
 pub fn plan<'a, R: Read + Drop, W: Write>(
     alloc: Global,
     file: &'a str,
     statement: &str,
+    tree: bool,
     input: R,
     output: &mut W,
 ) -> Result<(), PlanFault<'a>>
-    ensures { IfSome (R.remaining input) (λ bytes. PlansFile file.entry statement.now bytes (W.contents output.old) (W.contents output.new) result) }
+    ensures { IfSome (R.remaining input) (λ bytes. PlansFile tree file.entry statement.now bytes (W.contents output.old) (W.contents output.new) result) }
 {
     let catalog = open_catalog(alloc, file, input)?;
     let statement = read_statement(alloc, catalog.schema(), statement)?;
-    let text = plan_of(alloc, &catalog, &statement)?;
+    let text = shown_plan(alloc, tree, &catalog, &statement)?;
     write_plan(output, text.as_str())
 }
 
@@ -146,6 +148,24 @@ fn refusal<'a>(fault: ReadFault) -> PlanFault<'a>
     }
 }
 
+/// What is shown of a statement's plan, its fetches or its tree, if there is memory for it.
+fn shown_plan<'a>(
+    alloc: Global,
+    tree: bool,
+    catalog: &Catalog,
+    statement: &Statement,
+) -> Result<String, PlanFault<'a>>
+    requires { IsStatementOf (schemas_of (catalogue_of catalog.now)) statement.now }
+    ensures text { IfOk result (λ text. IsShownPlan tree (catalogue_of catalog.now) statement.now (string_bytes text)) }
+    ensures faults { IfErr result (λ fault. fault ≡ PlanFault.Program ProgramFault.Memory) }
+{
+    if tree {
+        Ok(tree_text(alloc, catalog, statement)?)
+    } else {
+        plan_of(alloc, catalog, statement)
+    }
+}
+
 /// What is shown of a statement's plan, if there is memory for it.
 fn plan_of<'a>(
     alloc: Global,
@@ -174,7 +194,7 @@ fn planned(alloc: Global, catalog: &Catalog, statement: &Statement) -> Result<St
 }
 
 /// A fetch's line: its leaf, the leaf's site, and the conditions that it carries, if there are any.
-fn put_fetch(out: &mut String, catalog: &Catalog, fetch: &Fetch) -> Result<(), Memory>
+pub fn put_fetch(out: &mut String, catalog: &Catalog, fetch: &Fetch) -> Result<(), Memory>
     ensures { OnOk result (string_bytes out.new ≡ string_bytes out.old ++ fetch_line (catalogue_of catalog.now) fetch.now) }
 {
     let columns = columns_of(catalog.schema(), &fetch.leaf.relation);
@@ -197,7 +217,8 @@ fn put_site_of(out: &mut String, catalog: &Catalog, leaf: &Leaf) -> Result<(), M
     }
 }
 
-fn put_count(out: &mut String, count: usize) -> Result<(), Memory>
+/// How many fetches there are, in a line.
+pub fn put_count(out: &mut String, count: usize) -> Result<(), Memory>
     ensures { OnOk result (string_bytes out.new ≡ string_bytes out.old ++ count_line count) }
 {
     match count {

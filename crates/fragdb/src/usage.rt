@@ -6,7 +6,7 @@ ghost use Rattle.std.specs.IoError.{error_kind};
 ghost use Rattle.clap.specs.declared.builder.command.Command.TheViews.{out-Command};
 ghost use Rattle.clap.specs.Matches.{first_value};
 ghost use Rattle.clap.specs.Words.{app_of, found_of, kind_of};
-ghost use Rattle.fragdb.specs.Usage.{asked, command_with, command_with_two, explained, flags_of, held, is_columns, is_csv, is_json, of_script, shown, usage, usage_status, IsGiven};
+ghost use Rattle.fragdb.specs.Usage.{asked, command_with, command_with_two, explained, flags_of, held, is_columns, is_csv, is_json, of_script, shown, treed, usage, usage_status, IsGiven};
 ghost use Rattle.fragdb.specs.Usage as spec;
 
 use crate::fault::ProgramFault;
@@ -39,11 +39,15 @@ pub enum Request<'a> {
         catalog: &'a str,
         /// Whether it is to be explained why it is refused.
         explain: bool,
+        /// Whether its fragments are shown as trees.
+        tree: bool,
     },
     /// To plan this statement over the relations of this catalogue, a file's name.
     Plan {
         catalog: &'a str,
         statement: &'a str,
+        /// Whether the plan is shown as a tree.
+        tree: bool,
     },
     /// To play this script of schedules, a file's name, or `-` for standard input, over a world of this
     /// catalogue, a file's name, or over one of the built-in catalogue.
@@ -65,8 +69,8 @@ Examples:
   fragdb solo --catalog catalogue.toml script.txt
   fragdb solo --explain script.txt
   fragdb solo --json script.txt
-  fragdb check catalogue.toml
-  fragdb plan catalogue.toml 'SELECT name FROM emp WHERE id = 7'
+  fragdb check --tree catalogue.toml
+  fragdb plan --tree catalogue.toml 'SELECT name FROM emp WHERE id = 7'
   fragdb play --catalog catalogue.toml schedule.txt";
 
 /// What stands after the help of `solo`.
@@ -149,13 +153,23 @@ fn read_given<'a, S: AsStr>(alloc: Global, words: &'a [S]) -> Result<Request<'a>
         && let Some(catalog) = check.get_str("CATALOG")
     {
         let explain = is_set(check.get_str("EXPLAIN"));
-        return Ok(Request::Check { catalog, explain });
+        let tree = is_set(check.get_str("TREE"));
+        return Ok(Request::Check {
+            catalog,
+            explain,
+            tree,
+        });
     }
     if let Some(("plan", plan)) = matches.subcommand()
         && let Some(catalog) = plan.get_str("CATALOG")
         && let Some(statement) = plan.get_str("STATEMENT")
     {
-        return Ok(Request::Plan { catalog, statement });
+        let tree = is_set(plan.get_str("TREE"));
+        return Ok(Request::Plan {
+            catalog,
+            statement,
+            tree,
+        });
     }
     if let Some(("play", play)) = matches.subcommand()
         && let Some(script) = play.get_str("SCRIPT")
@@ -288,7 +302,7 @@ fn plain_solo_command<'a>(alloc: Global) -> Result<Command<'a>, AllocError>
 }
 
 fn check_command<'a>(alloc: Global) -> Result<Command<'a>, AllocError>
-    ensures shape { IfOk result (λ command. app_of command ≡ explained (command_with (codes "check") (codes "CATALOG"))) }
+    ensures shape { IfOk result (λ command. app_of command ≡ treed (explained (command_with (codes "check") (codes "CATALOG")))) }
     ensures local { IfOk result (λ command. (out-Command command).has_globals ≡ false) }
 {
     let catalog = Arg::new(alloc, "CATALOG")
@@ -298,14 +312,19 @@ fn check_command<'a>(alloc: Global) -> Result<Command<'a>, AllocError>
         .long("explain")
         .action(ArgAction::SetTrue)
         .help("Explains on standard error why the catalogue is refused");
+    let tree = Arg::new(alloc, "TREE")
+        .long("tree")
+        .action(ArgAction::SetTrue)
+        .help("Shows the fragments of each relation as a tree");
     Command::new(alloc, "check")
         .about("Checks a catalogue and lists its fragments")
         .arg(catalog)?
-        .arg(explain)
+        .arg(explain)?
+        .arg(tree)
 }
 
 fn plan_command<'a>(alloc: Global) -> Result<Command<'a>, AllocError>
-    ensures shape { IfOk result (λ command. app_of command ≡ command_with_two (codes "plan") (codes "CATALOG") (codes "STATEMENT")) }
+    ensures shape { IfOk result (λ command. app_of command ≡ treed (command_with_two (codes "plan") (codes "CATALOG") (codes "STATEMENT"))) }
     ensures local { IfOk result (λ command. (out-Command command).has_globals ≡ false) }
 {
     let catalog = Arg::new(alloc, "CATALOG")
@@ -314,10 +333,15 @@ fn plan_command<'a>(alloc: Global) -> Result<Command<'a>, AllocError>
     let statement = Arg::new(alloc, "STATEMENT")
         .required(true)
         .help("A statement over the catalogue's relations");
+    let tree = Arg::new(alloc, "TREE")
+        .long("tree")
+        .action(ArgAction::SetTrue)
+        .help("Shows the plan as a tree");
     Command::new(alloc, "plan")
         .about("Shows which fragments a statement reads, and with which conditions")
         .arg(catalog)?
-        .arg(statement)
+        .arg(statement)?
+        .arg(tree)
 }
 
 fn play_command<'a>(alloc: Global) -> Result<Command<'a>, AllocError>

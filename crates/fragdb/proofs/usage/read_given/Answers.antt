@@ -30,9 +30,11 @@ returns-2 g c =
     let name = c.in-Some-check-default.ensures.name ∙ subcommand_name_of-rows c.in_ok-matches.matches in
     let rows = c.in-Some-check-default.ensures.rows in
     let catalog = c.in-Some-get_str.ensures in
-    given_one (map g.S.AsStr.text c.args.words.now) _ (codes "check") _ (codes "CATALOG") c.in-Some-get_str.catalog.now (codes "EXPLAIN") c.is_set-explain-2.result entered
-    (ap (λ (t : List ℕ). Some t) (sym c.in-Some-check-default.is-check) ∙ name) rows (catalog ∙ first_value-rows (found_of c.in-Some-check-default.check.now) (codes "CATALOG"))
-    (sym (c.is_set-explain-2.ensures ∙ ap is_set (c.get_str-4.ensures ∙ first_value-rows (found_of c.in-Some-check-default.check.now) (codes "EXPLAIN"))))
+    given_one (map g.S.AsStr.text c.args.words.now) _ (codes "check") _ (codes "CATALOG") c.in-Some-get_str.catalog.now _ entered
+    (ap (λ (t : List ℕ). Some t) (sym c.in-Some-check-default.is-check) ∙ name) rows (catalog ∙ first_value-rows (found_of c.in-Some-check-default.check.now) (codes "CATALOG")) (
+      sym (c.is_set-explain-2.ensures ∙ ap is_set (c.get_str-4.ensures ∙ first_value-rows (found_of c.in-Some-check-default.check.now) (codes "EXPLAIN"))),
+      (sym (c.is_set-tree.ensures ∙ ap is_set (c.get_str-5.ensures ∙ first_value-rows (found_of c.in-Some-check-default.check.now) (codes "TREE"))), tt),
+    )
 
 pub returns-3 : goal.returns-3
 returns-3 g c =
@@ -40,9 +42,10 @@ returns-3 g c =
     let entered = (c.in_ok-matches.ensures.ok.2 (ap is_simple usage_is)).1 ∙ ap (λ a. subcommand_of a (map g.S.AsStr.text c.args.words.now)) usage_is in
     let name = c.in-Some-plan-default.ensures.name ∙ subcommand_name_of-rows c.in_ok-matches.matches in
     let rows = c.in-Some-plan-default.ensures.rows in
-    given_two (map g.S.AsStr.text c.args.words.now) _ (codes "plan") _ (codes "CATALOG") c.in-Some-get_str-2.catalog.now (codes "STATEMENT") c.in-Some-get_str-3.statement.now entered
+    given_two (map g.S.AsStr.text c.args.words.now) _ (codes "plan") _ (codes "CATALOG") c.in-Some-get_str-2.catalog.now (codes "STATEMENT") c.in-Some-get_str-3.statement.now _ entered
     (ap (λ (t : List ℕ). Some t) (sym c.in-Some-plan-default.is-plan) ∙ name) rows
     (c.in-Some-get_str-2.ensures ∙ first_value-rows (found_of c.in-Some-plan-default.plan.now) (codes "CATALOG")) (c.in-Some-get_str-3.ensures ∙ first_value-rows (found_of c.in-Some-plan-default.plan.now) (codes "STATEMENT"))
+    (sym (c.is_set-tree-2.ensures ∙ ap is_set (c.get_str-8.ensures ∙ first_value-rows (found_of c.in-Some-plan-default.plan.now) (codes "TREE"))), tt)
 
 pub returns-4 : goal.returns-4
 returns-4 g c =

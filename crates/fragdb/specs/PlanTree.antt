@@ -1,0 +1,48 @@
+-- What the program shows of a statement's plan as a tree.
+use Rattle.std.specs.Prelude.{◌≡◌, ℕ, if◌then◌else◌, List, [], ◌∷◌, ◌++◌, Option, Some, None, codes, length, map}
+use Rattle.meaning.specs.declared.schema.Column.{Column}
+use Rattle.meaning.specs.declared.schema.RelationSchema.{RelationSchema}
+use Rattle.meaning.specs.declared.statement.Join.{Join}
+use Rattle.meaning.specs.declared.statement.Statement.{Statement}
+use Rattle.meaning.specs.declared.statement.Statement.TheVariants as statement
+use Rattle.catalog.specs.Catalogue.{Catalogue}
+use Rattle.catalog.specs.FragmentLeaf.{schemas_of}
+use Rattle.plan.specs.declared.fetch.Fetch.{Fetch}
+use Rattle.plan.specs.Located.{located}
+use Rattle.plan.specs.Reduced.{is_fetched, reduced}
+use Rattle.plan.specs.Stated.{AreFetchesOf}
+use Rattle.fragdb.specs.Columns.{columns_of}
+use Rattle.fragdb.specs.FetchLine.{count_line}
+use Rattle.plan.specs.Shape.{Shape}
+use Rattle.fragdb.specs.Level.{line}
+use Rattle.fragdb.specs.PlanLines.{plan_lines, reads_nothing}
+use Rattle.fragdb.specs.declared.plan_lines.Within.TheVariants.{Nothing}
+
+-- a column by its name with its relation's
+abbrev pub qualified : List ℕ → Column → Column
+qualified relation column = record { name = relation ++ 46 ∷ column.name; kind = column.kind }
+
+abbrev pub qualified_all : List RelationSchema → List ℕ → List Column
+qualified_all relations name = map (qualified name) (columns_of relations name)
+
+-- the columns of a select's rows: with their relations' names exactly in a join
+abbrev pub select_columns : List RelationSchema → List ℕ → Option Join → List Column
+select_columns relations name None = columns_of relations name
+select_columns relations name (Some join) = qualified_all relations name ++ qualified_all relations join.relation.name
+
+-- the columns of the rows that a statement is to find
+abbrev pub statement_columns : List RelationSchema → Statement → List Column
+statement_columns relations (statement.Select select) = select_columns relations select.from.name select.join
+statement_columns relations (statement.Insert insert) = columns_of relations insert.into
+statement_columns relations (statement.Update update) = columns_of relations update.relation.name
+statement_columns relations (statement.Delete delete) = columns_of relations delete.relation.name
+
+-- the lines of a plan of rows over these columns
+abbrev pub tree_lines : Catalogue → List Column → Shape → List ℕ
+tree_lines catalogue columns plan = if reads_nothing plan then line [] (codes "nothing") else plan_lines catalogue columns Nothing [] plan
+
+-- The text of the plan of a statement as a tree: of its plan without the reads of leaves that it can't need, and how many fetches there are.
+pub record IsPlanTree (catalogue : Catalogue) (statement : Statement) (text : List ℕ) : Type 0 where
+  pub fetches : List Fetch
+  pub are : AreFetchesOf catalogue statement fetches
+  pub same : text ≡ tree_lines catalogue (statement_columns (schemas_of catalogue) statement) (reduced (is_fetched fetches) (located catalogue statement)) ++ count_line (length fetches)
