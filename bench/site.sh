@@ -1,10 +1,12 @@
 #!/usr/bin/env bash
 # Times a site over lists: a fetch by key, and preparing and applying one write, with 2,500 and with 20,000 parts in
 # the leaf, and with 10 and with 1,000 visits that have locks on another leaf. Fails where the larger number costs more
-# than 1.3 times the smaller. In each of these 500 keys are asked for in turn, which lie evenly all over the leaf: so
-# what is compared is what a site does, and not how much of the leaf the processor's caches hold. With all keys of the
-# leaf in turn the caches count: those times are told too, without a limit, and where valgrind is at hand the
-# instructions, with it.
+# than 1.3 times the smaller. So that what is compared is what a site does, and not how much of the leaf the processor's
+# caches hold, the caches are in the same state before and after: in the first pairs 500 keys are asked for in turn,
+# which lie evenly all over the leaf, so that they are warm, and in the cold pair all keys are, and the nearer caches
+# are filled with something else before each fetch and each write. With all keys in turn and nothing else between, the
+# small leaf stays in a nearer cache and the large one doesn't: those times are told too, without a limit, and where
+# valgrind is at hand the instructions, with it.
 # Works on a copy of the repository with the work that earlier checks kept, so check the crate `site` first; the program
 # that it times is bench/site/main.rt.in. With a PROGRAM that was built so, it times that.
 #
@@ -22,9 +24,13 @@ import tempfile
 TOP, MOST = sys.argv[1], 1.3
 # Rounds at least, and at most: other work on the machine only adds time, so what is too much is measured on.
 LEAST_ROUNDS, MOST_ROUNDS = 15, 120
-# Parts, visits and keys, before and after.
+# Parts, visits and keys, before and after; cold: the nearer caches are emptied before each fetch and each write.
 FEW = (2500, 10, 500)
-PAIRS = {"20,000 parts for 2,500": (FEW, (20000, 10, 500)), "1,000 visits for 10": (FEW, (2500, 1000, 500))}
+PAIRS = {
+    "20,000 parts for 2,500": (FEW, (20000, 10, 500)),
+    "20,000 parts for 2,500, cold": ((2500, 10, 2500, "cold"), (20000, 10, 20000, "cold")),
+    "1,000 visits for 10": (FEW, (2500, 1000, 500)),
+}
 ALL_KEYS = {"20,000 parts for 2,500, all keys": ((2500, 10, 2500), (20000, 10, 20000))}
 
 
