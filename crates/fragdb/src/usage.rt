@@ -69,7 +69,9 @@ Examples:
   fragdb solo --catalog catalogue.toml script.txt
   fragdb solo --explain script.txt
   fragdb solo --json script.txt
+  fragdb check catalogue.toml
   fragdb check --tree catalogue.toml
+  fragdb plan catalogue.toml 'SELECT name FROM emp WHERE id = 7'
   fragdb plan --tree catalogue.toml 'SELECT name FROM emp WHERE id = 7'
   fragdb play --catalog catalogue.toml schedule.txt";
 
