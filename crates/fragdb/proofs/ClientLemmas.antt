@@ -141,7 +141,7 @@ pub not_stopped : {T : Type 0} (result : Result T Refusal) (refusal : Refusal) (
 not_stopped result refusal stopped is here goes = is ∙ ap (λ done. stopped_by done) here ∙ rw (goes) refl
 
 -- where nothing has happened the same is told
-still_told : (catalogue : Catalogue) (old new : Standing catalogue) (entries : List Entry) → Tells (database catalogue) entries old.past → new ≡ old → Tells (database catalogue) (entries ++ []) new.past
+pub still_told : (catalogue : Catalogue) (old new : Standing catalogue) (entries : List Entry) → Tells (database catalogue) entries old.past → new ≡ old → Tells (database catalogue) (entries ++ []) new.past
 still_told catalogue old new entries so same = subst (λ (standing : Standing catalogue). Tells (database catalogue) (entries ++ []) standing.past) (sym same) (subst (λ es. Tells (database catalogue) es old.past) (sym (append-nil entries)) so)
 
 leaf_still : (mode : Mode) (catalogue : Catalogue) (name : List ℕ) (leaf : Option Leaf) (old new : Standing catalogue) (told : List ℕ) → ShowsLeafAs mode catalogue name leaf old new told → new ≡ old
@@ -149,7 +149,7 @@ leaf_still mode catalogue name None old new told shows = shows.0
 leaf_still mode catalogue name (Some leaf) old new told shows = shows.0
 
 -- what tasks asked for and heard tells what has happened
-task_told : (mode : Mode) (catalogue : Catalogue) (law : AccountFollows (database catalogue)) (task : Reading) (old new : Standing catalogue) (told : Told) (entries : List Entry) → Tells (database catalogue) entries old.past → (answers : AnswersTask mode catalogue task old new told) →
+pub task_told : (mode : Mode) (catalogue : Catalogue) (law : AccountFollows (database catalogue)) (task : Reading) (old new : Standing catalogue) (told : Told) (entries : List Entry) → Tells (database catalogue) entries old.past → (answers : AnswersTask mode catalogue task old new told) →
     Tells (database catalogue) (entries ++ said_by mode catalogue task old new told answers) new.past
 task_told mode catalogue law Nothing old new told entries so answers = absurd answers
 task_told mode catalogue law (Runs text) old new (Answered told) entries so answers =

@@ -16,3 +16,4 @@ pub mod ReachedLemmas
 pub mod LoadedLemmas
 pub mod PlayLemmas
 pub mod PerformLemmas
+pub mod SessionLemmas

@@ -1,57 +1,85 @@
 -- Lemmas on a session.
-use Rattle.std.proofs.Common.{◌≡◌, ◌++◌, ◌∷◌, [], ap, ap₂, append-nil, refl, sym, subst, ◌∙◌, ℕ, List, Option, OnOk, IfOk, Result, Ok, Err}
+use Rattle.std.proofs.Common.{◌≡◌, ◌++◌, ◌∷◌, [], Bool, IfOk, OnOk, ap₂, append-nil, append_assoc, is_ok, refl, sym, subst, true, tt, ◌∙◌, ℕ, List, Option, None, Some, Result, Ok, Err}
 use Rattle.std.specs.Io.KnownBytes.{Appends}
 use Rattle.std.specs.List.{flat_map}
 use Rattle.std.proofs.lemmas.Grind.{flat_map-append}
 use Rattle.meaning.specs.Whole.{Relations}
 use Rattle.catalog.specs.Catalogue.{Catalogue}
+use Rattle.catalog.specs.Relation.{catalogue_of}
 use Rattle.protocol.specs.Desk.{Deed}
 use Rattle.store.specs.declared.plain_desk.PlainDesk.{PlainDesk}
 use Rattle.store.specs.declared.plain_site.PlainSite.{PlainSite}
+use Rattle.store.specs.PlainDesk.{kept_of as desk_kept}
+use Rattle.store.specs.PlainSite.{IsSound, kept_of}
 use Rattle.desk.specs.Database.{language}
-use Rattle.world.specs.Base.{database}
+use Rattle.world.specs.declared.event.Entry.{Entry}
 use Rattle.world.specs.declared.solo.Solo as code
-use Rattle.fragdb.specs.Client.{AnswersTask, GoesOn, IsAnswered, Standing, standing_of}
-use Rattle.fragdb.specs.Reply.{Told, text_of}
-use Rattle.fragdb.specs.Script.{Reading}
-use Rattle.fragdb.specs.Session.{Aside, Beside, IsTalk, Piece, Reply, Talks, aside_text, piece_text, replies, reply_in}
-use Rattle.fragdb.specs.Solo.{AnswersTasks}
+use Rattle.world.specs.Account.{AccountFollows}
+use Rattle.world.specs.Base.{database, fits}
+use Rattle.world.specs.Held.{OfStores, held}
+use Rattle.world.specs.Obeying.{Stands}
+use Rattle.world.specs.Serving.{IsServed}
+use Rattle.world.specs.Telling.{Tells}
+use Rattle.fragdb.specs.declared.fault.ProgramFault.{ProgramFault}
+use Rattle.fragdb.specs.Client.{GoesOn, IsAnswered, Standing, standing_of}
+use Rattle.fragdb.specs.Reply.{text_of}
+use Rattle.fragdb.specs.Session.{Answer, AnswersEach, Aside, Beside, Exchange, IsAsideOf, IsSession, IsTalk, Talks, aside_text, exchange_in, exchanges_in, piece_text, said_by_each}
+use Rattle.fragdb.specs.Solo.{no_rows, said_by}
+use Rattle.fragdb.proofs.ClientLemmas.{still_told, task_told}
 use Rattle.fragdb.proofs.SoloLemmas.{Appends-more}
 
--- some tasks, and then others
-pub then_others : (catalogue : Catalogue) (first others : List (Reading × Told)) (old middle new : Standing catalogue) → AnswersTasks catalogue first old middle → AnswersTasks catalogue others middle new → AnswersTasks catalogue (first ++ others) old new
-then_others catalogue [] others old middle new same rest = subst (λ (s : Standing catalogue). AnswersTasks catalogue others s new) same rest
+-- some exchanges, and then others
+then_others : (catalogue : Catalogue) (first others : List Exchange) (old middle new : Standing catalogue) → AnswersEach catalogue first old middle → AnswersEach catalogue others middle new → AnswersEach catalogue (first ++ others) old new
+then_others catalogue [] others old middle new same rest = subst (λ (s : Standing catalogue). AnswersEach catalogue others s new) same rest
 then_others catalogue (one ∷ first) others old middle new done rest = (done.0, done.1, then_others catalogue first others done.0 middle new done.2 rest)
 
-module _ (catalogue : Catalogue) (whole : Relations) where
-  -- nothing is written
-  pub talk_none : (past : List (Deed (language (database catalogue)))) (old : code.Solo PlainDesk PlainSite) → GoesOn catalogue whole past old → IsTalk catalogue whole past old old []
-  talk_none past old h = record { later = past; goes_on = h; pieces = []; answered = refl; lines = refl }
+-- nothing is written
+Appends-none : (known : Option (List ℕ)) → Appends known known []
+Appends-none None = tt
+Appends-none (Some bytes) = sym (append-nil bytes)
 
-  -- something besides answers
-  pub talk_aside : (past : List (Deed (language (database catalogue)))) (old : code.Solo PlainDesk PlainSite) (aside : Aside) (written : List ℕ) → GoesOn catalogue whole past old → written ≡ aside_text catalogue aside → IsTalk catalogue whole past old old written
-  talk_aside past old aside written h is = record { later = past; goes_on = h; pieces = Beside aside ∷ []; answered = refl; lines = is ∙ sym (append-nil (aside_text catalogue aside)) }
+-- nothing is answered and nothing written
+pub talks_none : (output : Option (List ℕ)) (old : code.Solo PlainDesk PlainSite) → Talks output output old old
+talks_none output old = λ catalogue whole past h. ([], Appends-none output, record { later = past; goes_on = h; pieces = []; answered = refl; lines = refl })
 
-  -- an answer
-  pub talk_reply : (past : List (Deed (language (database catalogue)))) (old new : code.Solo PlainDesk PlainSite) (task : Reading) (told : Told) (written : List ℕ) → IsAnswered catalogue whole task past old new told → written ≡ text_of told → IsTalk catalogue whole past old new written
-  talk_reply past old new task told written answered is = record {
-    later = answered.later;
-    goes_on = answered.goes_on;
-    pieces = Reply task told ∷ [];
-    answered = (standing_of catalogue new answered.later, answered.answers, refl);
-    lines = is ∙ sym (append-nil (text_of told));
-  }
+-- something besides answers is written, whatever the catalogue
+pub talks_aside : (before after : Option (List ℕ)) (old : code.Solo PlainDesk PlainSite) (text : List ℕ) → Appends before after text → ((catalogue : Catalogue) → IsAsideOf catalogue text) → Talks before after old old
+talks_aside before after old text wrote beside = λ catalogue whole past h.
+    let aside = beside catalogue in
+    (text, wrote, record { later = past; goes_on = h; pieces = Beside aside.0 ∷ []; answered = refl; lines = aside.1 ∙ sym (append-nil (aside_text catalogue aside.0)) })
 
-  -- a stretch, and then another
-  pub talk_then : (past : List (Deed (language (database catalogue)))) (old middle new : code.Solo PlainDesk PlainSite) (first second : List ℕ) → (one : IsTalk catalogue whole past old middle first) → IsTalk catalogue whole one.later middle new second → IsTalk catalogue whole past old new (first ++ second)
-  talk_then past old middle new first second one two = record {
-    later = two.later;
-    goes_on = two.goes_on;
-    pieces = one.pieces ++ two.pieces;
-    answered = subst (λ (done : List (Reading × Told)). AnswersTasks catalogue done (standing_of catalogue old past) (standing_of catalogue new two.later)) (sym (flat_map-append reply_in one.pieces two.pieces))
-        (then_others catalogue (replies one.pieces) (replies two.pieces) (standing_of catalogue old past) (standing_of catalogue middle one.later) (standing_of catalogue new two.later) one.answered two.answered);
-    lines = ap₂ (λ front back. front ++ back) one.lines two.lines ∙ sym (flat_map-append (piece_text catalogue) one.pieces two.pieces);
-  }
+-- something is written that is told of the catalogue
+pub talks_of : (before after : Option (List ℕ)) (old : code.Solo PlainDesk PlainSite) (text : List ℕ) → Appends before after text → IsAsideOf (catalogue_of old.machines.desk.catalog) text → Talks before after old old
+talks_of before after old text wrote beside = λ catalogue whole past h.
+    let aside = subst (λ (c : Catalogue). IsAsideOf c text) h.catalog beside in
+    (text, wrote, record { later = past; goes_on = h; pieces = Beside aside.0 ∷ []; answered = refl; lines = aside.1 ∙ sym (append-nil (aside_text catalogue aside.0)) })
+
+-- an answer is written
+pub talks_answer : (before after : Option (List ℕ)) (old new : code.Solo PlainDesk PlainSite) (exchange : Exchange) (text : List ℕ) → Appends before after text → text ≡ text_of exchange.told →
+    ((catalogue : Catalogue) (whole : Relations) (past : List (Deed (language (database catalogue)))) → GoesOn catalogue whole past old → IsAnswered exchange.mode catalogue whole exchange.task past old new exchange.told) → Talks before after old new
+talks_answer before after old new exchange text wrote is answers = λ catalogue whole past h.
+    let answered = answers catalogue whole past h in (
+      text,
+      wrote,
+      record {
+        later = answered.later;
+        goes_on = answered.goes_on;
+        pieces = Answer exchange ∷ [];
+        answered = (standing_of catalogue new answered.later, answered.answers, refl);
+        lines = is ∙ sym (append-nil (text_of exchange.told));
+      },
+    )
+
+-- a stretch, and then another
+talk_then : (catalogue : Catalogue) (whole : Relations) (past : List (Deed (language (database catalogue)))) (old middle new : code.Solo PlainDesk PlainSite) (first second : List ℕ) → (one : IsTalk catalogue whole past old middle first) → IsTalk catalogue whole one.later middle new second → IsTalk catalogue whole past old new (first ++ second)
+talk_then catalogue whole past old middle new first second one two = record {
+  later = two.later;
+  goes_on = two.goes_on;
+  pieces = one.pieces ++ two.pieces;
+  answered = subst (λ (done : List Exchange). AnswersEach catalogue done (standing_of catalogue old past) (standing_of catalogue new two.later)) (sym (flat_map-append (exchange_in catalogue) one.pieces two.pieces))
+      (then_others catalogue (exchanges_in catalogue one.pieces) (exchanges_in catalogue two.pieces) (standing_of catalogue old past) (standing_of catalogue middle one.later) (standing_of catalogue new two.later) one.answered two.answered);
+  lines = ap₂ (λ front back. front ++ back) one.lines two.lines ∙ sym (flat_map-append (piece_text catalogue) one.pieces two.pieces);
+}
 
 -- one call, and then another
 pub talks_then : (first second third : Option (List ℕ)) (old middle new : code.Solo PlainDesk PlainSite) → Talks first second old middle → Talks second third middle new → Talks first third old new
@@ -59,3 +87,36 @@ talks_then first second third old middle new one two = λ catalogue whole past h
     let done = one catalogue whole past h in
     let more = two catalogue whole done.2.later done.2.goes_on in
     (done.0 ++ more.0, Appends-more first second third done.0 more.0 done.1 more.1, talk_then catalogue whole past old middle new done.0 more.0 done.2 more.2)
+
+-- what exchanges asked for and heard tells what has happened
+each_told : (catalogue : Catalogue) (law : AccountFollows (database catalogue)) (exchanges : List Exchange) (old new : Standing catalogue) (entries : List Entry) → Tells (database catalogue) entries old.past → (answered : AnswersEach catalogue exchanges old new) →
+    Tells (database catalogue) (entries ++ said_by_each catalogue exchanges old new answered) new.past
+each_told catalogue law [] old new entries so same = still_told catalogue old new entries so same
+each_told catalogue law (first ∷ others) old new entries so answered =
+    let said = said_by first.mode catalogue first.task old answered.0 first.told answered.1 in
+    subst (λ es. Tells (database catalogue) es new.past) (append_assoc entries said (said_by_each catalogue others answered.0 new answered.2))
+    (each_told catalogue law others answered.0 new (entries ++ said) (task_told first.mode catalogue law first.task old answered.0 first.told entries so answered.1) answered.2)
+
+-- there was a session over a database that was opened
+pub held_from : (old new : Option (List ℕ)) (catalogue : Catalogue) (opened ended : code.Solo PlainDesk PlainSite) (result : Result Unit ProgramFault) → IsServed (database catalogue) (no_rows catalogue) (held desk_kept kept_of opened.machines) [] →
+    Stands (database catalogue) (fits catalogue) opened.current (held desk_kept kept_of opened.machines) [] → catalogue_of opened.machines.desk.catalog ≡ catalogue → OfStores {D = PlainDesk} {S = PlainSite} (λ _. Unit {0}) IsSound opened.machines → (opened.current ≡ None) × (opened.stopped ≡ None) → AccountFollows (database catalogue) →
+    OnOk result (Talks old new opened ended) → OnOk result ((written : List ℕ) × Appends old new written × IsSession catalogue written)
+held_from old new catalogue opened ended (Ok done) served stands over sound idle law talks =
+    let h : GoesOn catalogue (no_rows catalogue) [] opened = record { going = idle.1; catalog = over; sound = sound; served = served; stands = stands } in
+    let talk = talks catalogue (no_rows catalogue) [] h in
+    let stretch = talk.2 in (
+      talk.0,
+      talk.1,
+      record {
+        opening = standing_of catalogue opened [];
+        opened = record { served = served; none = refl; idle = idle.0 };
+        end = standing_of catalogue ended stretch.later;
+        pieces = stretch.pieces;
+        answered = stretch.answered;
+        lines = stretch.lines;
+        served = stretch.goes_on.served;
+        stands = stretch.goes_on.stands;
+        serial = law.serial (no_rows catalogue) (held desk_kept kept_of ended.machines) _ stretch.later (each_told catalogue law (exchanges_in catalogue stretch.pieces) (standing_of catalogue opened []) (standing_of catalogue ended stretch.later) [] (record { phased = refl; stated = tt; heard = refl }) stretch.answered) stretch.goes_on.served;
+      },
+    )
+held_from old new catalogue opened ended (Err fault) served stands over sound idle law talks = tt

@@ -15,6 +15,8 @@ use crate::listing::{leaves_text, schema_text, tables_text};
 use crate::plan_text::{PlanFault, plan_typed};
 use crate::script::{Item, is_word};
 use catalog::catalogue::Catalog;
+use meaning::schema::Schema;
+use reader::fault::ReadFault;
 use shell::mode::Mode;
 use shell::nearest::nearest;
 use std::alloc::{AllocError, Global};
@@ -265,16 +267,43 @@ fn take_plan<'a, W: Write, E: Write>(
         return Ok(Turn::GoesOn);
     }
     match plan_typed(alloc, database.catalog(), statement) {
-        Ok(text) => write_text(output, text.as_str())?,
-        Err(PlanFault::Statement(fault)) => {
-            let text = format!(in alloc; "refused read {fault}\n")?;
-            tell(errors, text.as_str());
-            let schema = database.catalog().schema();
-            let _ = explain_fault(alloc, schema, statement, &fault, errors);
+        Ok(text) => {
+            write_text(output, text.as_str())?;
+            Ok(Turn::GoesOn)
         }
-        Err(_) => return Err(ProgramFault::Memory),
+        Err(fault) => {
+            tell_unplanned(alloc, database.catalog().schema(), statement, fault, errors)?;
+            Ok(Turn::GoesOn)
+        }
     }
-    Ok(Turn::GoesOn)
+}
+
+/// Tells why a statement has no plan.
+fn tell_unplanned<'a, E: Write>(
+    alloc: Global,
+    schema: &Schema,
+    statement: &str,
+    fault: PlanFault<'_>,
+    errors: &mut E,
+) -> Result<(), ProgramFault<'a>>
+    ensures { IfErr result IsOfRun }
+{
+    let Some(fault) = refusal_in(fault) else {
+        return Err(ProgramFault::Memory);
+    };
+    let text = format!(in alloc; "refused read {fault}\n")?;
+    tell(errors, text.as_str());
+    let _ = explain_fault(alloc, schema, statement, &fault, errors);
+    Ok(())
+}
+
+/// The refusal of a statement, if its plan was refused for that.
+fn refusal_in(fault: PlanFault<'_>) -> Option<ReadFault> {
+    match fault {
+        PlanFault::Statement(fault) => Some(fault),
+        PlanFault::Catalogue(_fault) => None,
+        PlanFault::Program(_fault) => None,
+    }
 }
 
 /// Sets how answers are shown, or whether it is told how long they take; whether what is asked for is known.

@@ -58,7 +58,8 @@ pub enum Request<'a> {
 }
 
 /// What stands after the program's help.
-const AFTER_HELP: &str = "With no argument: solo -, a script from standard input.
+const AFTER_HELP: &str =
+    "With no argument: solo -, a script from standard input; at a terminal, a session.
 
 Exit status: 0 done; 1 a catalogue, a script or a statement was refused, a file could not be read,
 or nobody reads the output; 2 a mistake on the command line; 3 a store failed; 4 out of memory.
@@ -69,6 +70,7 @@ Examples:
   fragdb solo --catalog catalogue.toml script.txt
   fragdb solo --explain script.txt
   fragdb solo --json script.txt
+  fragdb solo --interactive --catalog catalogue.toml -
   fragdb check catalogue.toml
   fragdb check --tree catalogue.toml
   fragdb plan catalogue.toml 'SELECT name FROM emp WHERE id = 7'
@@ -86,7 +88,24 @@ const AFTER_SOLO: &str =
   .leaf item.1                           the rows that a fragment keeps
 
 Without --catalog the relation item(id int, zone int, label text) is built in: rows with zone < 10 are
-kept in item.1, the others in item.2.";
+kept in item.1, the others in item.2.
+
+At a terminal, with the script -, each line is asked for and answered at once; so it is anywhere with
+--interactive. A statement may then have several lines, a malformed line costs itself alone, and it is
+explained why a line is refused:
+
+  fragdb> INSERT INTO item
+     ...> VALUES (1, 3, 'a');
+  changed 1
+  fragdb> SELECT zon FROM item
+  refused read 5 NoColumn at 7
+  SELECT zon FROM item
+         ^
+  no column `zon`; item has id, zone, label; did you mean `zone`?
+  fragdb> .help
+
+rlwrap fragdb has a history, and lines that can be edited. bin/fragdb starts the program so that Ctrl-C
+drops a line; docs/SHELL.md tells more.";
 
 /// What stands after the help of `play`.
 const AFTER_PLAY: &str =
@@ -109,7 +128,8 @@ const AFTER_PLAY: &str =
   .committed                                  which transactions are committed";
 
 /// What is told where answers are to be shown in two ways.
-const TWO_MODES: &str = "only one of '--columns', '--csv' and '--json' can be used";
+const TWO_MODES: &str =
+    "the arguments '--columns', '--csv' and '--json' cannot be used with one another";
 
 /// What the words ask for, of which the first names the program. With no other word that is `solo -`.
 pub fn read_words<'a, S: AsStr>(alloc: Global, words: &'a [S]) -> Result<Request<'a>, Error>
