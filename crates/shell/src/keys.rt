@@ -90,7 +90,7 @@ fn put_unknown(
         return Ok(true);
     };
     for (key, _) in table.iter() {
-        if !known.contains(&key.as_str()) {
+        if !is_among(key.as_str(), known) {
             write!(out, "{path} has the unknown key `{key}`; there can be ")?;
             put_listed(out, known)?;
             put_meant(out, alloc, key.as_str(), known)?;
@@ -98,6 +98,11 @@ fn put_unknown(
         }
     }
     Ok(false)
+}
+
+/// Whether a name is one of these.
+pub(crate) fn is_among(name: &str, names: &[&str]) -> bool {
+    names.iter().any(|other| *other == name)
 }
 
 /// Names, with commas between.

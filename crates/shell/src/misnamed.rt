@@ -3,6 +3,7 @@
 
 use crate::document::{Node, items_at, name_and_kind, nodes};
 use crate::faults::is_within;
+use crate::keys::is_among;
 use catalog::fault::Rule;
 use reader::word::is_name;
 use std::alloc::{AllocError, Global};
@@ -187,17 +188,27 @@ fn put_lost(
         grouped.extend_from_slice(texts.as_slice())?;
     }
     let around = around(alloc, relation, node)?;
-    for column in around.as_slice() {
-        if !grouped.as_slice().contains(column) {
+    match first_lost(around.as_slice(), grouped.as_slice()) {
+        Some(column) => {
+            let path = &node.path;
             writeln!(
                 out,
-                "{}.cols: no group has `{column}`; add it to the `of` of one of them",
-                node.path
+                "{path}.cols: no group has `{column}`; add it to the `of` of one of them"
             )?;
-            return Ok(true);
+            Ok(true)
+        }
+        None => Ok(false),
+    }
+}
+
+/// The first of these columns that is in no group.
+fn first_lost<'a>(around: &[&'a str], grouped: &[&str]) -> Option<&'a str> {
+    for column in around {
+        if !is_among(column, grouped) {
+            return Some(*column);
         }
     }
-    Ok(false)
+    None
 }
 
 /// The columns of the group around a node, in the relation's order; without one, all but the key.
