@@ -22,13 +22,14 @@ use Rattle.world.specs.Account.{AccountFollows, said_in_vain, said_of}
 use Rattle.world.specs.Base.{database, fits}
 use Rattle.world.specs.Deeds.{DeedsFollow, deeds_in_vain, deeds_of}
 use Rattle.world.specs.Denying.{Declines, Denies}
-use Rattle.world.specs.Held.{OfStores, held}
+use Rattle.world.specs.Held.{OfStores, held, unrefused}
 use Rattle.world.specs.Machines.{AreFit, Machines}
 use Rattle.world.specs.Obeying.{Obeys, Stands, StandsOn}
 use Rattle.world.specs.Serving.{Executes, IsServed}
 use Rattle.world.specs.Settled.{AreThoseOf, parts_kept, rows_shown}
 use Rattle.world.specs.Stopping.{is_stop, stopped_by}
 use Rattle.world.specs.Telling.{Tells}
+use Rattle.world.proofs.Counting.{same_unrefused}
 use Rattle.world.proofs.StandingAgain.{stands_whenever}
 use Rattle.shell.specs.declared.mode.Mode.{Mode}
 use Rattle.shell.specs.Mode.{line_in}
@@ -49,10 +50,10 @@ module _ (catalogue : Catalogue) (whole : Relations) (past : List (Deed (languag
   own = catalogue_of old.machines.desk.catalog
 
   abbrev before : Machines
-  before = held desk_kept kept_of old.machines
+  before = unrefused desk_kept kept_of old.machines
 
   abbrev after : Machines
-  after = held desk_kept kept_of new.machines
+  after = unrefused desk_kept kept_of new.machines
 
   abbrev Clean : Type 0
   Clean = OfStores {D = PlainDesk} {S = PlainSite} (λ _. Unit {0}) (λ _. Unit {0}) new.machines
@@ -63,17 +64,21 @@ module _ (catalogue : Catalogue) (whole : Relations) (past : List (Deed (languag
   own_fit : AreFit (database own) before
   own_fit = subst (λ (c : Catalogue). AreFit (database c) before) (sym h.catalog) h.served.fit
 
+  -- stores that never refuse count no refusals
+  same_machines : held desk_kept kept_of new.machines ≡ held desk_kept kept_of old.machines → after ≡ before
+  same_machines same = same_unrefused desk_kept kept_of new.machines old.machines same
+
   -- a database goes on from what has happened
   goes_on : (later : List (Deed (language (database catalogue)))) → new.stopped ≡ None → new.machines.desk.catalog ≡ old.machines.desk.catalog → (Clean → Sound → OfStores {D = PlainDesk} {S = PlainSite} (λ _. Unit {0}) IsSound new.machines) → IsServed (database catalogue) whole after later → Stands (database catalogue) (fits catalogue) new.current after later → GoesOn catalogue whole later new
   goes_on later going same sound served stands = record { going = going; catalog = ap catalogue_of same ∙ h.catalog; sound = sound (clean new.machines) h.sound; served = served; stands = stands }
 
   -- so does one of which something is shown
-  pub shows_on : (new.current ≡ old.current) × (new.stopped ≡ old.stopped) → new.machines.desk.catalog ≡ old.machines.desk.catalog → (Clean → Sound → OfStores {D = PlainDesk} {S = PlainSite} (λ _. Unit {0}) IsSound new.machines) → (Clean → Sound → after ≡ before) → GoesOn catalogue whole past new
-  shows_on still same sound keeps = goes_on past (still.1 ∙ h.going) same sound (subst (λ (machines : Machines). IsServed (database catalogue) whole machines past) (sym (keeps (clean new.machines) h.sound)) h.served)
-      (subst (λ (current : Option Txn). Stands (database catalogue) (fits catalogue) current after past) (sym still.0) (subst (λ (machines : Machines). Stands (database catalogue) (fits catalogue) old.current machines past) (sym (keeps (clean new.machines) h.sound)) h.stands))
+  pub shows_on : (new.current ≡ old.current) × (new.stopped ≡ old.stopped) → new.machines.desk.catalog ≡ old.machines.desk.catalog → (Clean → Sound → OfStores {D = PlainDesk} {S = PlainSite} (λ _. Unit {0}) IsSound new.machines) → (Clean → Sound → held desk_kept kept_of new.machines ≡ held desk_kept kept_of old.machines) → GoesOn catalogue whole past new
+  shows_on still same sound keeps = goes_on past (still.1 ∙ h.going) same sound (subst (λ (machines : Machines). IsServed (database catalogue) whole machines past) (sym (same_machines (keeps (clean new.machines) h.sound))) h.served)
+      (subst (λ (current : Option Txn). Stands (database catalogue) (fits catalogue) current after past) (sym still.0) (subst (λ (machines : Machines). Stands (database catalogue) (fits catalogue) old.current machines past) (sym (same_machines (keeps (clean new.machines) h.sound))) h.stands))
 
-  pub stands_still : (new.current ≡ old.current) × (new.stopped ≡ old.stopped) → (Clean → Sound → after ≡ before) → standing_of catalogue new past ≡ standing_of catalogue old past
-  stands_still still keeps = rw (still.0, keeps (clean new.machines) h.sound) refl
+  pub stands_still : (new.current ≡ old.current) × (new.stopped ≡ old.stopped) → (Clean → Sound → held desk_kept kept_of new.machines ≡ held desk_kept kept_of old.machines) → standing_of catalogue new past ≡ standing_of catalogue old past
+  stands_still still keeps = rw (still.0, same_machines (keeps (clean new.machines) h.sound)) refl
 
   -- whatever was done, it stands on, unless that has stopped it
   abbrev StandsNext : Catalogue → Type 0
@@ -173,8 +178,8 @@ tasks_told mode catalogue law (first ∷ others) old new entries so answered =
     (tasks_told mode catalogue law others answered.0 new (entries ++ said) (task_told mode catalogue law first.0 old answered.0 first.1 entries so answered.1) answered.2)
 
 -- a script over a database that was opened has run
-pub ran_from : (mode : Mode) (old new : Option (List ℕ)) (catalogue : Catalogue) (items : List Item) (opened ended : code.Solo PlainDesk PlainSite) (result : Result Bool ProgramFault) → IsServed (database catalogue) (no_rows catalogue) (held desk_kept kept_of opened.machines) [] →
-    Stands (database catalogue) (fits catalogue) opened.current (held desk_kept kept_of opened.machines) [] → catalogue_of opened.machines.desk.catalog ≡ catalogue → OfStores {D = PlainDesk} {S = PlainSite} (λ _. Unit {0}) IsSound opened.machines → (opened.current ≡ None) × (opened.stopped ≡ None) → AccountFollows (database catalogue) →
+pub ran_from : (mode : Mode) (old new : Option (List ℕ)) (catalogue : Catalogue) (items : List Item) (opened ended : code.Solo PlainDesk PlainSite) (result : Result Bool ProgramFault) → IsServed (database catalogue) (no_rows catalogue) (unrefused desk_kept kept_of opened.machines) [] →
+    Stands (database catalogue) (fits catalogue) opened.current (unrefused desk_kept kept_of opened.machines) [] → catalogue_of opened.machines.desk.catalog ≡ catalogue → OfStores {D = PlainDesk} {S = PlainSite} (λ _. Unit {0}) IsSound opened.machines → (opened.current ≡ None) × (opened.stopped ≡ None) → AccountFollows (database catalogue) →
     ((catalogue : Catalogue) (whole : Relations) (past : List (Deed (language (database catalogue)))) → GoesOn catalogue whole past opened → IfOk result (λ any_refused. (written : List ℕ) × Appends old new written × IsStretch mode catalogue whole (map task_of items) past opened ended written any_refused)) →
     IfOk result (λ any_refused. (written : List ℕ) × Appends old new written × IsRun mode catalogue (map task_of items) written any_refused)
 ran_from mode old new catalogue items opened ended (Ok any_refused) served stands over sound idle law works =
@@ -190,7 +195,7 @@ ran_from mode old new catalogue items opened ended (Ok any_refused) served stand
         work = stretch.work;
         served = stretch.goes_on.served;
         stands = stretch.goes_on.stands;
-        serial = law.serial (no_rows catalogue) (held desk_kept kept_of ended.machines) _ stretch.later (tasks_told mode catalogue law stretch.work.answers (standing_of catalogue opened []) (standing_of catalogue ended stretch.later) [] (record { phased = refl; stated = tt; heard = refl }) stretch.work.answered) stretch.goes_on.served;
+        serial = law.serial (no_rows catalogue) (unrefused desk_kept kept_of ended.machines) _ stretch.later (tasks_told mode catalogue law stretch.work.answers (standing_of catalogue opened []) (standing_of catalogue ended stretch.later) [] (record { phased = refl; stated = tt; heard = refl }) stretch.work.answered) stretch.goes_on.served;
       },
     )
 ran_from mode old new catalogue items opened ended (Err fault) served stands over sound idle law works = tt

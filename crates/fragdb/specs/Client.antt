@@ -22,7 +22,7 @@ use Rattle.world.specs.declared.solo.Solo as code
 use Rattle.world.specs.Base.{database, fits}
 use Rattle.world.specs.Deeds.{deeds_in_vain, deeds_of}
 use Rattle.world.specs.Denying.{Declines, Denies}
-use Rattle.world.specs.Held.{OfStores, held}
+use Rattle.world.specs.Held.{OfStores, unrefused}
 use Rattle.world.specs.Machines.{Machines}
 use Rattle.world.specs.Obeying.{Obeys, Stands}
 use Rattle.world.specs.Serving.{Executes, IsServed}
@@ -44,15 +44,15 @@ pub record Standing (catalogue : Catalogue) : Type 0 where
   pub past : List (Deed (language (database catalogue)))
 
 abbrev pub standing_of : (catalogue : Catalogue) → code.Solo PlainDesk PlainSite → List (Deed (language (database catalogue))) → Standing catalogue
-standing_of catalogue solo past = record { machines = held desk_kept kept_of solo.machines; current = solo.current; past = past }
+standing_of catalogue solo past = record { machines = unrefused desk_kept kept_of solo.machines; current = solo.current; past = past }
 
 -- nothing has stopped the database of this catalogue, whose machines stand after a run of the protocol, which began over these whole relations and to which this has happened; all is quiet, or the transaction that its client has begun is ready
 pub record GoesOn (catalogue : Catalogue) (whole : Relations) (past : List (Deed (language (database catalogue)))) (solo : code.Solo PlainDesk PlainSite) : Type 0 where
   pub going : solo.stopped ≡ None
   pub catalog : catalogue_of solo.machines.desk.catalog ≡ catalogue
   pub sound : OfStores (λ _. Unit {0}) IsSound solo.machines
-  pub served : IsServed (database catalogue) whole (held desk_kept kept_of solo.machines) past
-  pub stands : Stands (database catalogue) (fits catalogue) solo.current (held desk_kept kept_of solo.machines) past
+  pub served : IsServed (database catalogue) whole (unrefused desk_kept kept_of solo.machines) past
+  pub stands : Stands (database catalogue) (fits catalogue) solo.current (unrefused desk_kept kept_of solo.machines) past
 
 -- a reply to a client: an answer as it is shown, and any other in a line
 abbrev pub reply_in : Mode → Reply → List ℕ

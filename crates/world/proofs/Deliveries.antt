@@ -1,5 +1,5 @@
 -- Steps of one client's machines, one after another.
-use Rattle.std.proofs.Common.{◌≡◌, ◌≤◌, arith, refl, sym, ap, ◌∙◌, subst, false, ℕ, suc, true, List, [], ◌∷◌, ◌++◌, map, length, append_assoc, Some, inr}
+use Rattle.std.proofs.Common.{◌≡◌, ◌≤◌, arith, refl, sym, ap, ◌∙◌, subst, Bool, false, ℕ, suc, true, List, [], ◌∷◌, ◌++◌, map, length, append_assoc, Some, inl, inr, ⊎_elim}
 use Rattle.std.proofs.lemmas.List.{append-nil, length-map, map-append}
 use Rattle.std.proofs.lemmas.List.Elements.{filter_map-append}
 use Rattle.std.specs.List.{filter_map}
@@ -22,12 +22,14 @@ use Rattle.desk.specs.Turn.{told}
 use Rattle.site.specs.declared.fault.SiteFault.TheVariants as site_faults
 use Rattle.world.specs.declared.fault.Fault.{Fault}
 use Rattle.world.specs.declared.fault.Fault.TheVariants as faults
+use Rattle.world.specs.Counted.{HaveRefused, IsKept, KeptUnless, NoFewer}
 use Rattle.world.specs.Delivering.{Ask, Breaks, Coming, Fails, Goes, Passed_over, Scene, Serves, Taken, Turned_away, all_come, asked, at_rest, come, done_with, settled}
 use Rattle.world.specs.Machines.{AreFit, Leads, Machines, is_of_site, world_of}
-use Rattle.world.specs.Taking.{IsDone, IsInRound, put_out_by, stop_of, world_at}
+use Rattle.world.specs.Taking.{CameUnless, IsDone, IsInRound, put_out_by, stop_of, world_at}
 use Rattle.world.specs.Reasons.{AllFounded, FirstIsFounded, HasReason, TurnsAway}
 use Rattle.world.specs.Stopping.{is_stop}
 use Rattle.world.proofs.Reasoned.{turned_ranks}
+use Rattle.world.proofs.Counting.{fit_counted, kept_then, leads_counted, no_fewer, no_fewer_then, with_counts}
 use Rattle.world.proofs.Running.{all_both}
 
 pub all_come_append : {L : Lang} (one other : List (Coming L)) (w : World L) → all_come (one ++ other) w ≡ all_come other (all_come one w)
@@ -46,17 +48,20 @@ nothing_goes db here fit = record {
   fit = fit;
   is = λ past. ap (world_of db here.machines (map (sent db) here.waiting)) (sym (append-nil past));
   founded = λ past. tt;
+  counts = no_fewer here.machines.refused;
+  kept = inl tt;
   explained = tt;
   replies = sym (append-nil (map notice_of here.heard));
 }
 
-pub nothing_breaks : (db : Database) (here : Scene) (after : Machines) → after ≡ here.machines → AreFit db here.machines → Breaks db (λ w. w) here after
-nothing_breaks db here after same fit = record {
+-- a, b: how often stores have refused before and after
+pub nothing_breaks : (db : Database) (before after : Machines) (a b : List ℕ) (waiting : List letters.Letter) (heard : List Notice) → after ≡ before → AreFit db before → Breaks db (λ w. w) (record { machines = with_counts before a; waiting = waiting; heard = heard }) (with_counts after b)
+nothing_breaks db before after a b waiting heard same fit = record {
   comings = [];
   deeds = [];
-  left = map (sent db) here.waiting;
-  fit = subst (AreFit db) (sym same) fit;
-  is = λ past i. world_of db (sym same i) (map (sent db) here.waiting) (sym (append-nil past) i);
+  left = map (sent db) waiting;
+  fit = fit_counted db after b (subst (AreFit db) (sym same) fit);
+  is = λ past i. world_of db (sym same i) (map (sent db) waiting) (sym (append-nil past) i);
   explained = tt;
 }
 
@@ -73,6 +78,8 @@ module _ (db : Database) (step : World (language db) → World (language db)) (f
         ∙ other.is (past ++ one.deeds)
         ∙ ap (world_of db third.machines (map (sent db) third.waiting)) (append_assoc past one.deeds other.deeds);
     founded = λ past. founded_append db one.comings other.comings (step (world_of db first.machines (map (sent db) first.waiting) past)) (one.founded past) (subst (AllFounded db other.comings) (sym (one.is past)) (other.founded (past ++ one.deeds)));
+    counts = no_fewer_then first.machines.refused second.machines.refused third.machines.refused one.counts other.counts;
+    kept = kept_then one.comings other.comings first.machines.refused second.machines.refused third.machines.refused one.counts other.counts one.kept other.kept;
     explained = all_both Explained one.deeds other.deeds one.explained other.explained;
     replies = other.replies
         ∙ ap (λ heard. heard ++ filter_map (told db) other.deeds) one.replies
@@ -128,6 +135,8 @@ module _ (db : Database) (letter : letters.Letter) (here : Scene) (after : Machi
           (record { machines = here.machines; letter = letter; desk = refl; sites = refl; is = refl; reason = done.reason }),
       tt,
     );
+    counts = subst (λ (m : Machines). NoFewer here.machines.refused m.refused) (sym machines) done.counts;
+    kept = subst (λ (m : Machines). KeptUnless (done.coming ∷ []) here.machines.refused m.refused) (sym machines) (⊎_elim (λ kept. inl (kept, tt)) (λ refused. inr refused) done.kept);
     explained = done.leads.explained;
     replies = ap (map notice_of) heard ∙ map-append notice_of here.heard notices ∙ ap (λ more. map notice_of here.heard ++ more) done.leads.replies;
   }
@@ -163,7 +172,7 @@ module _ (db : Database) (letter : letters.Letter) (here : Scene) (after : Machi
       after_letter Passed_over reason all = all.1
 
 -- a call, and then its letters
-module _ (db : Database) (ask : Ask (language db)) (before mid : Machines) (out : Out) (leads : Leads db (asked ask) before mid out.letters out.replies) where
+module _ (db : Database) (ask : Ask (language db)) (before mid : Machines) (out : Out) (leads : Leads db (asked ask) before mid out.letters out.replies) (counts : NoFewer before.refused mid.refused) where
   called_goes : Goes db (asked ask) (at_rest before) (put_out_by mid out)
   called_goes = record {
     comings = [];
@@ -171,6 +180,8 @@ module _ (db : Database) (ask : Ask (language db)) (before mid : Machines) (out 
     fit = leads.fit;
     is = λ past. leads.is [] past;
     founded = λ past. tt;
+    counts = counts;
+    kept = inl tt;
     explained = leads.explained;
     replies = leads.replies;
   }
@@ -204,27 +215,41 @@ all_nine db here = (round_law {L = language db}).nine (world_at db here)
 pub goes_settled : (db : Database) (step : World (language db) → World (language db)) (first here : Scene) → Goes db step first here → here.waiting ≡ [] → Goes db step first (settled here.machines here.heard)
 goes_settled db step first here goes none = subst (λ (waiting : List letters.Letter). Goes db step first (record { machines = here.machines; waiting = waiting; heard = here.heard })) none goes
 
--- ---- what becomes of a letter that isn't taken
-pub passed_over : (db : Database) (letter : letters.Letter) (before after : Machines) (out : List letters.Letter) (notices : List Notice) → AreFit db before → is_of_site db letter ≡ false → after ≡ before → out ≡ [] → notices ≡ [] → IsDone db letter before after out notices
-passed_over db letter before after out notices fit unsent same none silent = record {
-  coming = Passed_over;
-  reason = unsent;
-  leads = record {
-    deeds = [];
-    fit = subst (AreFit db) (sym same) fit;
-    is = λ waiting past i. world_of db (sym same i) ((sym (append-nil waiting) ∙ ap (λ (put : List letters.Letter). waiting ++ map (sent db) put) (sym none)) i) (sym (append-nil past) i);
-    explained = tt;
-    replies = ap (map notice_of) silent;
-  };
-}
+-- ---- what becomes of a letter. a, b: how often stores have refused before and after
+module _ (db : Database) (letter : letters.Letter) (before after : Machines) (out : List letters.Letter) (notices : List Notice) (a b : List ℕ) (counts : NoFewer a b) where
+  pub was_taken : CameUnless (HaveRefused a b) db letter before after out notices → IsDone db letter (with_counts before a) (with_counts after b) out notices
+  was_taken taken = record {
+    coming = Taken taken.kept taken.came.choice;
+    reason = (taken.came.within, taken.ends);
+    leads = leads_counted db _ before after a b out notices taken.came.leads;
+    counts = counts;
+    kept = ⊎_elim (λ is. inl (subst (λ (kept : Bool). IsKept {L = language db} (Taken kept taken.came.choice)) (sym is) tt)) (λ refused. inr refused) taken.spared;
+  }
 
-pub turned_away : (db : Database) (letter : letters.Letter) (before mid after : Machines) (out : List letters.Letter) (notices : List Notice) (choice : Choice (language db)) → mid ≡ before → TurnsAway db before letter →
-    Leads db (λ w. called w (txn_name letter.txn) choice Give_up) mid after out notices → IsDone db letter before after out notices
-turned_away db letter before mid after out notices choice same why leads = record {
-  coming = Turned_away choice;
-  reason = why;
-  leads = subst (λ (m : Machines). Leads db (λ w. called w (txn_name letter.txn) choice Give_up) m after out notices) same leads;
-}
+  pub passed_over : AreFit db before → is_of_site db letter ≡ false → after ≡ before → out ≡ [] → notices ≡ [] → IsDone db letter (with_counts before a) (with_counts after b) out notices
+  passed_over fit unsent same none silent = record {
+    coming = Passed_over;
+    reason = unsent;
+    leads = leads_counted db (λ w. w) before after a b out notices (record {
+      deeds = [];
+      fit = subst (AreFit db) (sym same) fit;
+      is = λ waiting past i. world_of db (sym same i) ((sym (append-nil waiting) ∙ ap (λ (put : List letters.Letter). waiting ++ map (sent db) put) (sym none)) i) (sym (append-nil past) i);
+      explained = tt;
+      replies = ap (map notice_of) silent;
+    });
+    counts = counts;
+    kept = inl tt;
+  }
+
+  pub turned_away : (mid : Machines) (choice : Choice (language db)) → mid ≡ before → TurnsAway db (with_counts before a) letter →
+      Leads db (λ w. called w (txn_name letter.txn) choice Give_up) mid after out notices → IsDone db letter (with_counts before a) (with_counts after b) out notices
+  turned_away mid choice same why leads = record {
+    coming = Turned_away choice;
+    reason = why;
+    leads = leads_counted db (λ w. called w (txn_name letter.txn) choice Give_up) before after a b out notices (subst (λ (m : Machines). Leads db (λ w. called w (txn_name letter.txn) choice Give_up) m after out notices) same leads);
+    counts = counts;
+    kept = inl tt;
+  }
 
 pub stop_stops : (fault : Fault) (refusal : Refusal) → stop_of fault ≡ Some refusal → is_stop refusal ≡ true
 stop_stops (faults.Desk refusals.NoTransaction) refusal e = cc

@@ -25,6 +25,8 @@ pub mod InTurn
 pub mod InSerial
 pub mod Follow
 pub mod Reasoned
+pub mod Counting
+pub mod Spared
 pub mod Deliveries
 pub mod Reaching
 pub mod Beginning

@@ -39,7 +39,7 @@ use Rattle.protocol.proofs.OtherStatements.{after_same, give_up_same, inquiries_
 
 -- the coordinator is another one
 abbrev pub with_desk : Machines → DeskContent → Table → Machines
-with_desk machines desk table = record { desk = desk; table = table; seats = machines.seats }
+with_desk machines desk table = record { desk = desk; table = table; seats = machines.seats; refused = machines.refused }
 
 -- a turn of the coordinator
 module _ (db : Database) (before : Machines) (kept : DeskContent) (after : Table) (txn : names.Txn) (wanted : Turn (language db)) (out : List letters.Letter) (notices : List Notice) (fit : AreFit db before) (steps : Steps db before.table kept after txn wanted out notices) where
@@ -144,7 +144,17 @@ reply_leads db before kept after letter reply is keeps out notices fit takes = r
 
 -- the sites are others
 abbrev pub with_seats : Machines → List Seat → Machines
-with_seats machines seats = record { desk = machines.desk; table = machines.table; seats = seats }
+with_seats machines seats = record { desk = machines.desk; table = machines.table; seats = seats; refused = machines.refused }
+
+-- an order is for no coordinator
+pub order_is : (db : Database) (body : bodies.Body) → is_order body ≡ true → is_for_desk (body_with (statements db) (body_of body)) ≡ false
+order_is db (body.Order order.Open) is = refl
+order_is db (body.Order (order.Fetch fetch)) is = refl
+order_is db (body.Order (order.Intend intention)) is = refl
+order_is db (body.Order (order.Prepare prepare)) is = refl
+order_is db (body.Order (order.Commit ticket)) is = refl
+order_is db (body.Order (order.Abort ticket)) is = refl
+order_is db (body.Reply reply) is = absurd cc
 
 -- ---- something is done at a site
 module _ (db : Database) (before : Machines) (seat : Seat) (after : List Seat) (out : List letters.Letter) (fit : AreFit db before) where
@@ -177,15 +187,6 @@ module _ (db : Database) (before : Machines) (seat : Seat) (after : List Seat) (
       replies = refl;
     }
 
-  order_is : (body : bodies.Body) → is_order body ≡ true → is_for_desk (body_with (statements db) (body_of body)) ≡ false
-  order_is (body.Order order.Open) is = refl
-  order_is (body.Order (order.Fetch fetch)) is = refl
-  order_is (body.Order (order.Intend intention)) is = refl
-  order_is (body.Order (order.Prepare prepare)) is = refl
-  order_is (body.Order (order.Commit ticket)) is = refl
-  order_is (body.Order (order.Abort ticket)) is = refl
-  order_is (body.Reply reply) is = absurd cc
-
   put_out : (letters : List letters.Letter) → map (letter_with (statements db)) (map letter_of letters) ≡ map (sent db) letters
   put_out [] = refl
   put_out (l ∷ ls) = ap (λ rest. sent db l ∷ rest) (put_out ls)
@@ -195,7 +196,7 @@ module _ (db : Database) (before : Machines) (seat : Seat) (after : List Seat) (
       let S = statements db in
       let act : SiteState (language db) → Act (language db) = λ s. on_letter s (txn_name letter.txn) (kept_in out) (body_with S (body_of letter.body)) in
       site_leads letter.site did.new did.moves (λ w. comes w (kept_in out) choice (sent db letter)) (λ s. site_after s (act s)) (λ s. addressed letter.site (txn_name letter.txn) (said s (act s)))
-      (λ waiting past. ap (λ (b : Bool). comes_to b (world_of db before waiting past) (kept_in out) choice (sent db letter)) (order_is letter.body order))
+      (λ waiting past. ap (λ (b : Bool). comes_to b (world_of db before waiting past) (kept_in out) choice (sent db letter)) (order_is db letter.body order))
       (letter_state S letter out seat did.new did.does) (letter_said S letter out seat did.new did.does)
   done_leads (GiveUp site ticket) choice order did =
       let S = statements db in
@@ -233,7 +234,7 @@ module _ (db : Database) (before : Machines) (seat : Seat) (after : List Seat) (
       let w = world_of db before [] [] in
       let said = body_with S (body_of letter.body) in
       ap (λ (k : Bool). passes w k choice (sent db letter)) same_kept
-      ∙ ap (λ (b : Bool). passes_to b w (kept_in out) choice (sent db letter)) (order_is letter.body order)
+      ∙ ap (λ (b : Bool). passes_to b w (kept_in out) choice (sent db letter)) (order_is db letter.body order)
       ∙ ap (λ s. is_within (site_after s (on_letter s (txn_name letter.txn) (kept_in out) said))) (state_there S letter.site before.seats seat did.moves.there)
       ∙ ap is_within (letter_state S letter out seat did.new did.does)
       ∙ (within_same S (state_of did.new.kept did.new.table) ∙ fits_within did.new.kept did.new.table did.moves.seated)

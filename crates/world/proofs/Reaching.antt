@@ -12,6 +12,7 @@ use Rattle.protocol.specs.World.{World, addressed, comes_to, site_steps, turned,
 use Rattle.desk.specs.declared.reply.Notice.{Notice}
 use Rattle.desk.specs.declared.reply.Out.{Out}
 use Rattle.desk.specs.Database.{Database, language}
+use Rattle.world.specs.Counted.{NoFewer}
 use Rattle.world.specs.Delivering.{Ask, Breaks, Coming, Fails, Goes, Passed_over, Serves, Taken, To_begin, To_do, Turned_away, all_come, asked, come, first_comes, settled}
 use Rattle.world.specs.Machines.{AreFit, Leads, Machines, world_of}
 use Rattle.world.specs.Serving.{IsServed, IsServedOn}
@@ -114,7 +115,7 @@ module _ (db : Database) (law : ReachedLaw (language db)) (whole : Relations) wh
       record { deeds = one.deeds ++ two.deeds; served = subst (IsServed db whole after) (append_assoc past one.deeds two.deeds) two.served }
 
   -- a call and its letters, whether they went well or failed
-  pub call_served : {T E : Type 0} (ask : Ask (language db)) (before mid after : Machines) (out : Out) (past : List (Deed (language db))) (result : Result T E) (items : T → List Notice) → IsServed db whole before past → Leads db (asked ask) before mid out.letters out.replies →
+  pub call_served : {T E : Type 0} (ask : Ask (language db)) (before mid after : Machines) (out : Out) (past : List (Deed (language db))) (result : Result T E) (items : T → List Notice) → IsServed db whole before past → Leads db (asked ask) before mid out.letters out.replies → NoFewer before.refused mid.refused →
       IfOk result (λ x. Goes db (λ w. w) (put_out_by mid out) (settled after (items x))) → OnErr result (Breaks db (λ w. w) (put_out_by mid out) after) → IsServedOn db whole after past
-  call_served ask before mid after out past (Ok x) items served leads went failed = serves_on ask before after (items x) past served (call_serves db ask before mid out leads after (items x) went)
-  call_served ask before mid after out past (Err e) items served leads went failed = fails_on before after past served (call_fails db ask before mid out leads after failed)
+  call_served ask before mid after out past (Ok x) items served leads counts went failed = serves_on ask before after (items x) past served (call_serves db ask before mid out leads counts after (items x) went)
+  call_served ask before mid after out past (Err e) items served leads counts went failed = fails_on before after past served (call_fails db ask before mid out leads counts after failed)

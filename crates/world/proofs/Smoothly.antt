@@ -31,6 +31,7 @@ use Rattle.desk.specs.declared.reply.Reply.TheVariants.{Begun}
 use Rattle.desk.specs.Database.{Database, language, sent, statements}
 use Rattle.desk.specs.State.{desk_of, notice_of}
 use Rattle.desk.specs.Turn.{told}
+use Rattle.world.specs.Counted.{AllKept, IsKept}
 use Rattle.world.specs.Delivering.{Ask, Coming, Passed_over, Serves, Taken, To_begin, To_do, Turned_away, all_come, asked, come, first_comes}
 use Rattle.world.specs.Machines.{AreFit, Machines, world_of}
 use Rattle.world.specs.Seats.{AreSeated, Seat, is_called, state_at, states_of}
@@ -211,32 +212,33 @@ module _ (db : Database) where
       let there : passes (record w { letters = []; past = [] }) true choice l ≡ passes (world_of db founded.machines [] []) true choice (sent db founded.letter) = λ i. passes (record { desk = founded.desk i; sites = founded.sites i; letters = []; past = [] }) true choice (founded.is i) in
       same_passes (is_for_desk l.body) w choice l ∙ there ∙ founded.reason.0
 
-module _ (db : Database) (law : IsLawful (language db)) where
-  one_smooth : (w : World (language db)) (c : Coming (language db)) (l : Letter (language db)) → IsSited l → IsFounded db w c l → IsSmooth db w c l ⊎ IsRefused db w c l
-  one_smooth w (Taken true choice) l sited founded = ⊎_elim (λ room. inl (record { is_kept = refl; within = passes_there db w choice l founded; room = room })) (λ full. inr full) (room_or_full db (w.sites l.site) l.body)
-  one_smooth w (Taken false choice) l sited founded = inr founded
-  one_smooth w (Turned_away choice) l sited founded = inr founded
-  one_smooth w Passed_over l sited founded = absurd (not_passed db law w l sited founded)
+-- Unkept: what is the case where a store call isn't kept
+module _ (db : Database) (law : IsLawful (language db)) (Unkept : Type 0) where
+  one_smooth : (w : World (language db)) (c : Coming (language db)) (l : Letter (language db)) → IsSited l → IsFounded db w c l → IsKept c ⊎ Unkept → IsSmooth db w c l ⊎ IsRefused db Unkept w c l
+  one_smooth w (Taken true choice) l sited founded kept = ⊎_elim (λ room. inl (record { is_kept = refl; within = passes_there db w choice l founded; room = room })) (λ full. inr full) (room_or_full db (w.sites l.site) l.body)
+  one_smooth w (Taken false choice) l sited founded kept = ⊎_elim (λ wrong. absurd wrong) (λ unkept. inr (unkept, founded)) kept
+  one_smooth w (Turned_away choice) l sited founded kept = inr founded
+  one_smooth w Passed_over l sited founded kept = absurd (not_passed db law w l sited founded)
 
-  first_smooth : (w : World (language db)) (c : Coming (language db)) (letters : List (Letter (language db))) → AreSited letters → FirstIsFounded db w c letters → FirstIsSmooth db w c letters ⊎ FirstIsRefused db w c letters
-  first_smooth w c [] sited founded = inl tt
-  first_smooth w c (l ∷ q) sited founded = one_smooth w c l sited.0 founded
+  first_smooth : (w : World (language db)) (c : Coming (language db)) (letters : List (Letter (language db))) → AreSited letters → FirstIsFounded db w c letters → IsKept c ⊎ Unkept → FirstIsSmooth db w c letters ⊎ FirstIsRefused db Unkept w c letters
+  first_smooth w c [] sited founded kept = inl tt
+  first_smooth w c (l ∷ q) sited founded kept = one_smooth w c l sited.0 founded kept
 
-  all_smooth : (cs : List (Coming (language db))) (w : World (language db)) → Sited w → AllFounded db cs w → AllSmooth db cs w ⊎ SomeRefused db cs w
-  all_smooth [] w sited founded = inl tt
-  all_smooth (c ∷ cs) w sited founded = ⊎_elim
-      (λ smooth. ⊎_elim (λ rest. inl (smooth, rest)) (λ refused. inr (inr refused)) (all_smooth cs (come w c) (come_sited law w c w.letters refl sited) founded.1))
-      (λ refused. inr (inl refused)) (first_smooth w c w.letters sited.letters founded.0)
+  all_smooth : (cs : List (Coming (language db))) (w : World (language db)) → Sited w → AllFounded db cs w → AllKept cs ⊎ Unkept → AllSmooth db cs w ⊎ SomeRefused db Unkept cs w
+  all_smooth [] w sited founded kept = inl tt
+  all_smooth (c ∷ cs) w sited founded kept = ⊎_elim
+      (λ smooth. ⊎_elim (λ rest. inl (smooth, rest)) (λ refused. inr (inr refused)) (all_smooth cs (come w c) (come_sited law w c w.letters refl sited) founded.1 (⊎_elim (λ all. inl all.1) (λ unkept. inr unkept) kept)))
+      (λ refused. inr (inl refused)) (first_smooth w c w.letters sited.letters founded.0 (⊎_elim (λ all. inl all.0) (λ unkept. inr unkept) kept))
 
 pub serves_unless_refused : (db : Database) (fits : Leaf → Content → Bool) → IsLawful (language db) → ServesSmoothly db fits → ServesUnlessRefused db fits
 serves_unless_refused db fits lawful law = record {
   answers = λ whole before after past txn statement choice heard served ready is room serves. ⊎_elim
       (λ smooth. inl (law.answers whole before after past txn statement choice heard served ready is room serves smooth)) (λ refused. inr refused)
-      (all_smooth db lawful serves.comings (called (rests db before past) txn choice (State statement)) (called_sited (rests db before past) txn choice (State statement) (steady_sited txn (rests db before past) ready.steady)) (serves.founded past));
+      (all_smooth db lawful _ serves.comings (called (rests db before past) txn choice (State statement)) (called_sited (rests db before past) txn choice (State statement) (steady_sited txn (rests db before past) ready.steady)) (serves.founded past) serves.kept);
   commits = λ whole before after past txn choice heard served ready serves. ⊎_elim
       (λ smooth. inl (law.commits whole before after past txn choice heard served ready serves smooth)) (λ refused. inr refused)
-      (all_smooth db lawful serves.comings (called (rests db before past) txn choice Commit_call) (called_sited (rests db before past) txn choice Commit_call (steady_sited txn (rests db before past) ready.steady)) (serves.founded past));
+      (all_smooth db lawful _ serves.comings (called (rests db before past) txn choice Commit_call) (called_sited (rests db before past) txn choice Commit_call (steady_sited txn (rests db before past) ready.steady)) (serves.founded past) serves.kept);
   rolls_back = λ whole before after past txn choice heard served ready serves. ⊎_elim
       (λ smooth. inl (law.rolls_back whole before after past txn choice heard served ready serves smooth)) (λ refused. inr refused)
-      (all_smooth db lawful serves.comings (called (rests db before past) txn choice Rollback) (called_sited (rests db before past) txn choice Rollback (steady_sited txn (rests db before past) ready.steady)) (serves.founded past));
+      (all_smooth db lawful _ serves.comings (called (rests db before past) txn choice Rollback) (called_sited (rests db before past) txn choice Rollback (steady_sited txn (rests db before past) ready.steady)) (serves.founded past) serves.kept);
 }

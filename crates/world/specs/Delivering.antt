@@ -12,6 +12,7 @@ use Rattle.desk.specs.declared.reply.Notice.{Notice}
 use Rattle.desk.specs.Database.{Database, language, sent}
 use Rattle.desk.specs.State.{notice_of}
 use Rattle.desk.specs.Turn.{told}
+use Rattle.world.specs.Counted.{KeptUnless, NoFewer}
 use Rattle.world.specs.Machines.{AreFit, Machines, world_of}
 use Rattle.world.specs.Reasons.{AllFounded}
 
@@ -31,13 +32,15 @@ pub record Scene : Type 0 where
   pub waiting : List letters.Letter
   pub heard : List Notice
 
--- a step of the machines, after which some letters come, of each of which becomes what it does for a reason: deeds are done, among them no statement that isn't explained, and the client hears of them
+-- a step of the machines, after which some letters come, of each of which becomes what it does for a reason, and each store call is kept unless a store refuses: deeds are done, among them no statement that isn't explained, and the client hears of them
 pub record Goes (db : Database) (step : World (language db) → World (language db)) (before after : Scene) : Type 0 where
   pub comings : List (Coming (language db))
   pub deeds : List (Deed (language db))
   pub fit : AreFit db after.machines
   pub is : (past : List (Deed (language db))) → all_come comings (step (world_of db before.machines (map (sent db) before.waiting) past)) ≡ world_of db after.machines (map (sent db) after.waiting) (past ++ deeds)
   pub founded : (past : List (Deed (language db))) → AllFounded db comings (step (world_of db before.machines (map (sent db) before.waiting) past))
+  pub counts : NoFewer before.machines.refused after.machines.refused
+  pub kept : KeptUnless comings before.machines.refused after.machines.refused
   pub explained : AllExplained deeds
   pub replies : map notice_of after.heard ≡ map notice_of before.heard ++ filter_map (told db) deeds
 

@@ -2,6 +2,7 @@
 pub mod Fault
 pub mod Seats
 pub mod Seated
+pub mod Counted
 pub mod Machines
 pub mod Held
 pub mod Filling

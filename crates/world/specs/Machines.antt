@@ -26,11 +26,13 @@ use Rattle.world.specs.declared.doing.Doing as doing
 use Rattle.world.specs.declared.doing.Doing.TheVariants.{GiveUp, Inquire, Restart, Take}
 use Rattle.world.specs.Seats.{AreSeated, Seat, states_of}
 
--- the coordinator, by what its store keeps and what it has in memory, and the sites
+-- the coordinator, by what its store keeps and what it has in memory, and the sites. refused: how often the medium of each store has
+-- refused, the coordinator's first; none where that isn't counted
 pub record Machines : Type 0 where
   pub desk : DeskContent
   pub table : Table
   pub seats : List Seat
+  pub refused : List ℕ
 
 -- the world of the machines; letters: those that wait, or all that were sent, past: what happened to transactions
 abbrev pub world_of : (db : Database) → Machines → List (Letter (language db)) → List (Deed (language db)) → World (language db)

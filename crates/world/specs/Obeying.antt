@@ -42,13 +42,13 @@ module _ (db : Database) (fits : Leaf → Content → Bool) where
 
 -- something was refused while a statement was done, or a commit or a rollback
 abbrev pub StateWasRefused : (db : Database) (text : List ℕ) (txn : Txn) (before after : Machines) (heard : List Notice) → List (Deed (language db)) → DoesState db text txn before after heard → Type 0
-StateWasRefused db text txn before after heard past does = WasRefused db (To_do (txn_name txn) (State does.statement) does.asks.choice) before past does.asks.serves.comings
+StateWasRefused db text txn before after heard past does = WasRefused db (To_do (txn_name txn) (State does.statement) does.asks.choice) before after past does.asks.serves.comings
 
 abbrev pub CommitWasRefused : (db : Database) (txn : Txn) (before after : Machines) (heard : List Notice) → List (Deed (language db)) → DoesAsk db Commit_call txn before after heard → Type 0
-CommitWasRefused db txn before after heard past does = WasRefused db (To_do (txn_name txn) Commit_call does.choice) before past does.serves.comings
+CommitWasRefused db txn before after heard past does = WasRefused db (To_do (txn_name txn) Commit_call does.choice) before after past does.serves.comings
 
 abbrev pub RollbackWasRefused : (db : Database) (txn : Txn) (before after : Machines) (heard : List Notice) → List (Deed (language db)) → DoesAsk db Rollback txn before after heard → Type 0
-RollbackWasRefused db txn before after heard past does = WasRefused db (To_do (txn_name txn) Rollback does.choice) before past does.serves.comings
+RollbackWasRefused db txn before after heard past does = WasRefused db (To_do (txn_name txn) Rollback does.choice) before after past does.serves.comings
 
 -- or while the commit of a lone statement was asked for, and one was done
 abbrev pub DecisionWasRefused : (db : Database) → Txn → List Notice → Machines → Machines → List Notice → List (Deed (language db)) → Type 0

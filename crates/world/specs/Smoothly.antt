@@ -17,6 +17,7 @@ use Rattle.desk.specs.declared.reply.Notice.{Notice}
 use Rattle.desk.specs.declared.reply.Reply.TheVariants.{Answer, Begun, Committed, RolledBack}
 use Rattle.desk.specs.Database.{Database, language}
 use Rattle.desk.specs.State.{desk_of, notice_of}
+use Rattle.world.specs.Counted.{HaveRefused}
 use Rattle.world.specs.Delivering.{Ask, Coming, Passed_over, Serves, Taken, To_begin, To_do, Turned_away, asked, come}
 use Rattle.world.specs.Machines.{Machines, world_of}
 use Rattle.world.specs.Reasons.{IsFounded}
@@ -53,25 +54,26 @@ module _ (db : Database) where
   FindsNoRoom s (Write ticket op leaf write) = (visit : Visit (language db)) × ((s.status ticket ≡ Alive visit) × ((language db).is_full leaf write visit.changes ≡ true))
   FindsNoRoom s body = ⊥
 
-  -- something is refused: a visit is full, a store call isn't kept, or the letter is turned away, for its reason. None is passed over
-  abbrev pub IsRefused : World (language db) → Coming (language db) → Letter (language db) → Type 0
-  IsRefused w (Taken true choice) l = FindsNoRoom (w.sites l.site) l.body
-  IsRefused w (Taken false choice) l = IsFounded db w (Taken false choice) l
-  IsRefused w (Turned_away choice) l = IsFounded db w (Turned_away choice) l
-  IsRefused w Passed_over l = ⊥
+  -- something is refused: a visit is full, a store call isn't kept, or the letter is turned away, for its reason. None is passed over.
+  -- Unkept: what is the case where a store call isn't kept
+  abbrev pub IsRefused : Type 0 → World (language db) → Coming (language db) → Letter (language db) → Type 0
+  IsRefused Unkept w (Taken true choice) l = FindsNoRoom (w.sites l.site) l.body
+  IsRefused Unkept w (Taken false choice) l = Unkept × IsFounded db w (Taken false choice) l
+  IsRefused Unkept w (Turned_away choice) l = IsFounded db w (Turned_away choice) l
+  IsRefused Unkept w Passed_over l = ⊥
 
-  abbrev pub FirstIsRefused : World (language db) → Coming (language db) → List (Letter (language db)) → Type 0
-  FirstIsRefused w c [] = ⊥
-  FirstIsRefused w c (l ∷ q) = IsRefused w c l
+  abbrev pub FirstIsRefused : Type 0 → World (language db) → Coming (language db) → List (Letter (language db)) → Type 0
+  FirstIsRefused Unkept w c [] = ⊥
+  FirstIsRefused Unkept w c (l ∷ q) = IsRefused Unkept w c l
 
   -- so with one of the letters that come
-  abbrev pub SomeRefused : List (Coming (language db)) → World (language db) → Type 0
-  SomeRefused [] w = ⊥
-  SomeRefused (c ∷ cs) w = FirstIsRefused w c w.letters ⊎ SomeRefused cs (come w c)
+  abbrev pub SomeRefused : Type 0 → List (Coming (language db)) → World (language db) → Type 0
+  SomeRefused Unkept [] w = ⊥
+  SomeRefused Unkept (c ∷ cs) w = FirstIsRefused Unkept w c w.letters ⊎ SomeRefused Unkept cs (come w c)
 
-  -- so in a call
-  abbrev pub WasRefused : Ask (language db) → Machines → List (Deed (language db)) → List (Coming (language db)) → Type 0
-  WasRefused ask before past comings = SomeRefused comings (asked ask (rests db before past))
+  -- so in a call: a store call isn't kept only where the medium of a store has refused in the call
+  abbrev pub WasRefused : Ask (language db) → Machines → Machines → List (Deed (language db)) → List (Coming (language db)) → Type 0
+  WasRefused ask before after past comings = SomeRefused (HaveRefused before.refused after.refused) comings (asked ask (rests db before past))
 
 -- served machines, call by call, where all letters come smoothly: a transaction begins where all is quiet, each statement is answered, and a commit is told, after which all is quiet again
 pub record ServesSmoothly (db : Database) (fits : Leaf → Content → Bool) : Type 0 where
@@ -96,10 +98,10 @@ pub record ServesUnlessRefused (db : Database) (fits : Leaf → Content → Bool
       Ready (language db) fits txn (rests db before past) → IsStatementOf db.schemas statement →
       is_desk_within (desk_after (desk_of db before.table) txn (on_request txn choice (State statement) ((desk_of db before.table).txn txn)).txn) ≡ true →
       (serves : Serves db (To_do txn (State statement) choice) before after heard) →
-      (Ready (language db) fits txn (rests db after (past ++ serves.deeds)) × ((answer : AnswerNow) × (map notice_of heard ≡ (txn, Answer answer) ∷ []))) ⊎ WasRefused db (To_do txn (State statement) choice) before past serves.comings
+      (Ready (language db) fits txn (rests db after (past ++ serves.deeds)) × ((answer : AnswerNow) × (map notice_of heard ≡ (txn, Answer answer) ∷ []))) ⊎ WasRefused db (To_do txn (State statement) choice) before after past serves.comings
   pub commits : (whole : Relations) (before after : Machines) (past : List (Deed (language db))) (txn : Name) (choice : Choice (language db)) (heard : List Notice) → IsServed db whole before past →
       Ready (language db) fits txn (rests db before past) → (serves : Serves db (To_do txn Commit_call choice) before after heard) →
-      (IsQuiet (rests db after (past ++ serves.deeds)) × (map notice_of heard ≡ (txn, Committed) ∷ [])) ⊎ WasRefused db (To_do txn Commit_call choice) before past serves.comings
+      (IsQuiet (rests db after (past ++ serves.deeds)) × (map notice_of heard ≡ (txn, Committed) ∷ [])) ⊎ WasRefused db (To_do txn Commit_call choice) before after past serves.comings
   pub rolls_back : (whole : Relations) (before after : Machines) (past : List (Deed (language db))) (txn : Name) (choice : Choice (language db)) (heard : List Notice) → IsServed db whole before past →
       Ready (language db) fits txn (rests db before past) → (serves : Serves db (To_do txn Rollback choice) before after heard) →
-      (IsQuiet (rests db after (past ++ serves.deeds)) × (map notice_of heard ≡ (txn, RolledBack) ∷ [])) ⊎ WasRefused db (To_do txn Rollback choice) before past serves.comings
+      (IsQuiet (rests db after (past ++ serves.deeds)) × (map notice_of heard ≡ (txn, RolledBack) ∷ [])) ⊎ WasRefused db (To_do txn Rollback choice) before after past serves.comings

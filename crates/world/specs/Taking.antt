@@ -1,5 +1,5 @@
 -- One letter of one client's machines.
-use Rattle.std.specs.Prelude.{ℕ, Bool, true, false, List, [], map, Option, Some, None}
+use Rattle.std.specs.Prelude.{◌≡◌, ◌⊎◌, ℕ, Bool, true, false, List, [], map, Option, Some, None}
 use Rattle.site.specs.declared.fault.SiteFault.TheVariants as site_faults
 use Rattle.store.specs.declared.letter.Letter as letters
 use Rattle.protocol.specs.Rounds.{InRound}
@@ -13,8 +13,9 @@ use Rattle.world.specs.declared.delivering.Post.{Post}
 use Rattle.world.specs.declared.fault.Fault.{Fault}
 use Rattle.world.specs.declared.fault.Fault.TheVariants.{Desk, Site, Unsent}
 use Rattle.world.specs.Delivering.{Coming, Scene, done_with}
-use Rattle.world.specs.Machines.{Leads, Machines, world_of}
-use Rattle.world.specs.Reasons.{HasReason}
+use Rattle.world.specs.Counted.{HaveRefused, IsKept, NoFewer}
+use Rattle.world.specs.Machines.{Came, Leads, Machines, world_of}
+use Rattle.world.specs.Reasons.{CallKept, HasReason}
 
 -- the refusal that stops one client's machines, if the fault is one that does
 abbrev pub stop_of_desk : Refusal → Option Refusal
@@ -70,8 +71,18 @@ turns_away (Site site_faults.Full) = true
 turns_away (Site site_faults.Stranger) = true
 turns_away Unsent = false
 
--- something becomes of a letter, and for a reason
+-- a letter comes to the machine that it is for, and its step is within the limits; its store call is kept, and a Fetch's, a Commit's or an
+-- Abort's always is, unless this is so
+pub record CameUnless (Refused : Type 0) (db : Database) (letter : letters.Letter) (before after : Machines) (out : List letters.Letter) (notices : List Notice) : Type 0 where
+  pub kept : Bool
+  pub came : Came db letter kept before after out notices
+  pub ends : CallKept kept (sent db letter).body
+  pub spared : (kept ≡ true) ⊎ Refused
+
+-- something becomes of a letter, and for a reason; its store call is kept, unless a store has refused
 pub record IsDone (db : Database) (letter : letters.Letter) (before after : Machines) (out : List letters.Letter) (notices : List Notice) : Type 0 where
   pub coming : Coming (language db)
   pub reason : HasReason db before letter coming
   pub leads : Leads db (done_with (sent db letter) coming) before after out notices
+  pub counts : NoFewer before.refused after.refused
+  pub kept : IsKept coming ⊎ HaveRefused before.refused after.refused

@@ -44,6 +44,9 @@ impl<D: DeskStore, S: SiteStore> Machines<D, S> {
     ghost use Rattle.protocol.specs.World.{begins, desk_restarts};
     ghost use Rattle.desk.specs.Calls.{IsOver};
     ghost use Rattle.desk.specs.Database.{Database, language};
+    ghost use Rattle.world.specs.Counted.{HaveRefused, NoFewer, counts};
+    ghost use Rattle.world.specs.Taking.{CameUnless};
+    ghost use Rattle.site.specs.Refusals.{AsksToKeep};
     ghost use Rattle.world.specs.Held.{OfStores, held};
     ghost use Rattle.world.specs.Machines.{AreFit, Asked, Came, Leads, Stated, happens_at, is_for_site, is_of_site, is_order, world_of};
     ghost use Rattle.catalog.specs.Relation.{catalogue_of};
@@ -60,6 +63,7 @@ impl<D: DeskStore, S: SiteStore> Machines<D, S> {
         ensures full { (db : Database) → IsOver db self.old.desk.catalog.0 → AreFit db (held D.kept S.kept self.old)
             → IfErr result (λ told. (told ≡ refusals.Memory) ⊎ IsRefused db (table_of self.old.desk.present) calls.Begin told) }
         ensures catalog { self.new.desk.catalog ≡ self.old.desk.catalog }
+        ensures uncalled { counts D.refused S.refused self.new ≡ counts D.refused S.refused self.old }
         ensures err { OnErr result (held D.kept S.kept self.new ≡ held D.kept S.kept self.old) }
     {
         self.desk.begin()
@@ -73,6 +77,7 @@ impl<D: DeskStore, S: SiteStore> Machines<D, S> {
             → IfOk result (λ out. Asked db txn choice Commit_call (held D.kept S.kept self.old) (held D.kept S.kept self.new) out.letters out.replies) }
         ensures told { (db : Database) → IfErr result (λ told. (told ≡ refusals.Memory) ⊎ IsRefused db (table_of self.old.desk.present) (calls.Commit txn) told) }
         ensures catalog { self.new.desk.catalog ≡ self.old.desk.catalog }
+        ensures uncalled { counts D.refused S.refused self.new ≡ counts D.refused S.refused self.old }
         ensures err { OnErr result (held D.kept S.kept self.new ≡ held D.kept S.kept self.old) }
     {
         self.desk.commit(txn)
@@ -86,6 +91,7 @@ impl<D: DeskStore, S: SiteStore> Machines<D, S> {
             → IfOk result (λ out. Asked db txn choice Rollback (held D.kept S.kept self.old) (held D.kept S.kept self.new) out.letters out.replies) }
         ensures told { (db : Database) → IfErr result (λ told. (told ≡ refusals.Memory) ⊎ IsRefused db (table_of self.old.desk.present) (calls.Rollback txn) told) }
         ensures catalog { self.new.desk.catalog ≡ self.old.desk.catalog }
+        ensures uncalled { counts D.refused S.refused self.new ≡ counts D.refused S.refused self.old }
         ensures err { OnErr result (held D.kept S.kept self.new ≡ held D.kept S.kept self.old) }
     {
         self.desk.rollback(txn)
@@ -99,6 +105,7 @@ impl<D: DeskStore, S: SiteStore> Machines<D, S> {
             → IfOk result (λ out. Asked db txn choice Give_up (held D.kept S.kept self.old) (held D.kept S.kept self.new) out.letters out.replies) }
         ensures own { IfErr result (λ told. told ≡ refusals.Memory) }
         ensures catalog { self.new.desk.catalog ≡ self.old.desk.catalog }
+        ensures uncalled { counts D.refused S.refused self.new ≡ counts D.refused S.refused self.old }
         ensures err { OnErr result (held D.kept S.kept self.new ≡ held D.kept S.kept self.old) }
     {
         self.desk.give_up(txn)
@@ -125,6 +132,7 @@ impl<D: DeskStore, S: SiteStore> Machines<D, S> {
             → IfOk result (λ out. Stated db txn text.now (held D.kept S.kept self.old) (held D.kept S.kept self.new) out.letters out.replies) }
         ensures told { (db : Database) → db.catalogue ≡ catalogue_of self.old.desk.catalog → IfErr result (λ told. (told ≡ refusals.Memory) ⊎ IsRefused db (table_of self.old.desk.present) (calls.State txn text.now) told) }
         ensures catalog { self.new.desk.catalog ≡ self.old.desk.catalog }
+        ensures uncalled { counts D.refused S.refused self.new ≡ counts D.refused S.refused self.old }
         ensures err { OnErr result (held D.kept S.kept self.new ≡ held D.kept S.kept self.old) }
     {
         self.desk.statement(txn, text)
@@ -138,7 +146,9 @@ impl<D: DeskStore, S: SiteStore> Machines<D, S> {
             → IfOk result (λ out. Came db letter.now out.kept (held D.kept S.kept self.old) (held D.kept S.kept self.new) out.letters out.replies) }
         ensures told { (db : Database) → IsOfCatalogue db → db.catalogue ≡ catalogue_of self.old.desk.catalog → AreFit db (held D.kept S.kept self.old) → is_order letter.now.body ≡ false → is_of_site db letter.now ≡ true
             → IfErr result (DeskTells db (held D.kept S.kept self.old) letter.now) }
+        ensures refusal { IfOk result (λ out. out.kept ≡ false → (kept ≡ false) ⊎ HaveRefused (counts D.refused S.refused self.old) (counts D.refused S.refused self.new)) }
         ensures catalog { self.new.desk.catalog ≡ self.old.desk.catalog }
+        ensures counts { NoFewer (counts D.refused S.refused self.old) (counts D.refused S.refused self.new) }
         ensures err { OfStores D.is_clean S.is_clean self.new → OfStores D.is_sound S.is_sound self.old → OnErr result (held D.kept S.kept self.new ≡ held D.kept S.kept self.old) }
     {
         self.desk.take_kept(letter, kept)
@@ -154,8 +164,11 @@ impl<D: DeskStore, S: SiteStore> Machines<D, S> {
             → IfOk result (λ out. CallKept out.kept (sent db letter).body) }
         ensures told { (db : Database) → IsOfCatalogue db → db.catalogue ≡ catalogue_of self.old.desk.catalog → AreFit db (held D.kept S.kept self.old) → is_of_site db letter ≡ true
             → IfErr result (Tells db (held D.kept S.kept self.old) letter) }
+        ensures spared { (db : Database) → IsOfCatalogue db → db.catalogue ≡ catalogue_of self.old.desk.catalog → OfStores D.is_clean S.is_clean self.new → OfStores D.is_sound S.is_sound self.old → AreFit db (held D.kept S.kept self.old) → is_of_site db letter ≡ true
+            → IfOk result (λ out. CameUnless ((kept ≡ false) ⊎ HaveRefused (counts D.refused S.refused self.old) (counts D.refused S.refused self.new)) db letter (held D.kept S.kept self.old) (held D.kept S.kept self.new) out.letters out.replies) }
         ensures sent { result ≢ Err faults.Unsent }
         ensures catalog { self.new.desk.catalog ≡ self.old.desk.catalog }
+        ensures counts { NoFewer (counts D.refused S.refused self.old) (counts D.refused S.refused self.new) }
         ensures err { OfStores D.is_clean S.is_clean self.new → OfStores D.is_sound S.is_sound self.old → OnErr result (held D.kept S.kept self.new ≡ held D.kept S.kept self.old) }
     {
         if !is_order(&letter.body) {
@@ -182,8 +195,11 @@ impl<D: DeskStore, S: SiteStore> Machines<D, S> {
         ensures keeps { (db : Database) (seat : Seat) (letter : LetterNow) → OfStores D.is_clean S.is_clean self.new → OfStores D.is_sound S.is_sound self.old → AreFit db (held D.kept S.kept self.old) → what ≡ things.Take letter
             → seat_of letter.site (held D.kept S.kept self.old).seats ≡ Some seat → IfOk result (λ out. CallKept out.kept (sent db letter).body) }
         ensures told { (letter : LetterNow) (seat : Seat) → what ≡ things.Take letter → seat_of letter.site (held D.kept S.kept self.old).seats ≡ Some seat → IfErr result (SiteTells seat letter.body) }
+        ensures vote { (letter : LetterNow) (seat : Seat) → what ≡ things.Take letter → seat_of letter.site (held D.kept S.kept self.old).seats ≡ Some seat → AsksToKeep seat.table letter.body
+            → IfOk result (λ out. out.kept ≡ false → (kept ≡ false) ⊎ HaveRefused (counts D.refused S.refused self.old) (counts D.refused S.refused self.new)) }
         ensures called { (site : List ℕ) → what ≡ things.Restart site → OnOk result (kept ≡ true) }
         ensures catalog { self.new.desk.catalog ≡ self.old.desk.catalog }
+        ensures counts { NoFewer (counts D.refused S.refused self.old) (counts D.refused S.refused self.new) }
         ensures err { OfStores D.is_clean S.is_clean self.new → OfStores D.is_sound S.is_sound self.old → OnErr result (held D.kept S.kept self.new ≡ held D.kept S.kept self.old) }
     {
         match do_among(self.alloc, &mut self.sites, what, kept) {

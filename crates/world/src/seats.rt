@@ -1,7 +1,11 @@
 //! The sites of a database, each under its name.
 
-ghost use Rattle.std.specs.Prelude.{◌≡◌, ℕ, List, Some, IfErr, IfOk, OnErr, OnOk, true};
+ghost use Rattle.std.specs.Prelude.{◌≡◌, ◌≤◌, ◌⊎◌, ℕ, List, Some, IfErr, IfOk, OnErr, OnOk, false, true};
 ghost use Rattle.store.specs.declared.letter.Letter.{Letter as LetterNow};
+ghost use Rattle.store.specs.Fault.{HasRefused};
+ghost use Rattle.protocol.specs.Letters.{kept_in};
+ghost use Rattle.site.specs.Refusals.{AsksToKeep};
+ghost use Rattle.world.specs.Counted.{HaveRefused, NoFewer, counts_of};
 ghost use Rattle.world.specs.declared.doing.Doing.TheVariants as things;
 ghost use Rattle.std.specs.List.{AllByRecursion};
 ghost use Rattle.world.specs.Reasons.{SiteTells};
@@ -32,6 +36,8 @@ fn do_one<S: SiteStore>(
 ) -> Result<Vec<Letter>, SiteFault>
     ensures clean { S.is_clean site.new.store → S.is_clean site.old.store }
     ensures sound { S.is_clean site.new.store → S.is_sound site.old.store → S.is_sound site.new.store }
+    ensures counts { S.refused site.old.store ≤ S.refused site.new.store }
+    ensures vote { (letter : LetterNow) → what ≡ things.Take letter → AsksToKeep (seat_from S.kept site.old).table letter.body → IfOk result (λ letters. kept_in letters.items ≡ false → (kept ≡ false) ⊎ HasRefused (S.refused site.old.store) (S.refused site.new.store)) }
     ensures ok { S.is_clean site.new.store → S.is_sound site.old.store → IsSeated (seat_from S.kept site.old)
         → IfOk result (λ letters. SeatDoes what (seat_from S.kept site.old) (seat_from S.kept site.new) letters.items) }
     ensures called { (site : List ℕ) → what ≡ things.Restart site → OnOk result (kept ≡ true) }
@@ -64,6 +70,9 @@ fn do_at<S: SiteStore>(
 ) -> Result<Vec<Letter>, SiteFault>
     ensures clean { AllByRecursion (λ site. S.is_clean site.store) sites.new → AllByRecursion (λ site. S.is_clean site.store) sites.old }
     ensures sound { AllByRecursion (λ site. S.is_clean site.store) sites.new → AllByRecursion (λ site. S.is_sound site.store) sites.old → AllByRecursion (λ site. S.is_sound site.store) sites.new }
+    ensures counts { NoFewer (counts_of S.refused sites.old) (counts_of S.refused sites.new) }
+    ensures vote { (letter : LetterNow) (seat : Seat) → what ≡ things.Take letter → seat_of letter.site (seats_in S.kept sites.old) ≡ Some seat → AsksToKeep seat.table letter.body
+        → IfOk result (λ letters. kept_in letters.items ≡ false → (kept ≡ false) ⊎ HaveRefused (counts_of S.refused sites.old) (counts_of S.refused sites.new)) }
     ensures ok { (seat : Seat) → AllByRecursion (λ site. S.is_clean site.store) sites.new → AllByRecursion (λ site. S.is_sound site.store) sites.old → AreSeated (seats_in S.kept sites.old) → seat_of (place_of what) (seats_in S.kept sites.old) ≡ Some seat
         → IfOk result (λ letters. SomeSeatDoes what seat (seats_in S.kept sites.old) (seats_in S.kept sites.new) letters.items) }
     ensures called { (site : List ℕ) → what ≡ things.Restart site → OnOk result (kept ≡ true) }
@@ -88,6 +97,9 @@ pub(crate) fn do_among<S: SiteStore>(
 ) -> Result<Vec<Letter>, SiteFault>
     ensures clean { AllByRecursion (λ site. S.is_clean site.store) sites.new.items → AllByRecursion (λ site. S.is_clean site.store) sites.old.items }
     ensures sound { AllByRecursion (λ site. S.is_clean site.store) sites.new.items → AllByRecursion (λ site. S.is_sound site.store) sites.old.items → AllByRecursion (λ site. S.is_sound site.store) sites.new.items }
+    ensures counts { NoFewer (counts_of S.refused sites.old.items) (counts_of S.refused sites.new.items) }
+    ensures vote { (letter : LetterNow) (seat : Seat) → what ≡ things.Take letter → seat_of letter.site (seats_in S.kept sites.old.items) ≡ Some seat → AsksToKeep seat.table letter.body
+        → IfOk result (λ letters. kept_in letters.items ≡ false → (kept ≡ false) ⊎ HaveRefused (counts_of S.refused sites.old.items) (counts_of S.refused sites.new.items)) }
     ensures ok { (seat : Seat) → AllByRecursion (λ site. S.is_clean site.store) sites.new.items → AllByRecursion (λ site. S.is_sound site.store) sites.old.items → AreSeated (seats_in S.kept sites.old.items) → seat_of (place_of what) (seats_in S.kept sites.old.items) ≡ Some seat
         → IfOk result (λ letters. SomeSeatDoes what seat (seats_in S.kept sites.old.items) (seats_in S.kept sites.new.items) letters.items) }
     ensures called { (site : List ℕ) → what ≡ things.Restart site → OnOk result (kept ≡ true) }

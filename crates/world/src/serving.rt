@@ -12,7 +12,7 @@ ghost use Rattle.desk.specs.declared.refusal.Refusal.TheVariants as refusals;
 ghost use Rattle.world.specs.declared.event.Call.TheVariants as call;
 ghost use Rattle.world.specs.Denying.{IsDenied};
 ghost use Rattle.world.specs.Delivering.{Serves, To_begin};
-ghost use Rattle.world.specs.Held.{OfStores, held};
+ghost use Rattle.world.specs.Held.{OfStores, counted};
 ghost use Rattle.world.specs.Machines.{AreFit};
 ghost use Rattle.world.specs.Serving.{DoesAsk, DoesBegin, DoesState, IsServed, IsServedOn};
 
@@ -52,12 +52,12 @@ fn greet<D: DeskStore, S: SiteStore>(machines: &mut Machines<D, S>) -> Result<Ve
     ensures clean { OfStores D.is_clean S.is_clean machines.new → OfStores D.is_clean S.is_clean machines.old }
     ensures sound { OfStores D.is_clean S.is_clean machines.new → OfStores D.is_sound S.is_sound machines.old → OfStores D.is_sound S.is_sound machines.new }
     ensures catalog { machines.new.desk.catalog ≡ machines.old.desk.catalog }
-    ensures ok { (db : Database) → IsOfCatalogue db → db.catalogue ≡ catalogue_of machines.old.desk.catalog → OfStores D.is_clean S.is_clean machines.new → OfStores D.is_sound S.is_sound machines.old → AreFit db (held D.kept S.kept machines.old)
-        → IfOk result (λ heard. Serves db To_begin (held D.kept S.kept machines.old) (held D.kept S.kept machines.new) heard.items) }
-    ensures denied { (db : Database) → IsOfCatalogue db → db.catalogue ≡ catalogue_of machines.old.desk.catalog → OfStores D.is_clean S.is_clean machines.new → OfStores D.is_sound S.is_sound machines.old → AreFit db (held D.kept S.kept machines.old)
-        → IfErr result (IsDenied db (held D.kept S.kept machines.old) (held D.kept S.kept machines.new) call.Begin) }
+    ensures ok { (db : Database) → IsOfCatalogue db → db.catalogue ≡ catalogue_of machines.old.desk.catalog → OfStores D.is_clean S.is_clean machines.new → OfStores D.is_sound S.is_sound machines.old → AreFit db (counted D.kept S.kept D.refused S.refused machines.old)
+        → IfOk result (λ heard. Serves db To_begin (counted D.kept S.kept D.refused S.refused machines.old) (counted D.kept S.kept D.refused S.refused machines.new) heard.items) }
+    ensures denied { (db : Database) → IsOfCatalogue db → db.catalogue ≡ catalogue_of machines.old.desk.catalog → OfStores D.is_clean S.is_clean machines.new → OfStores D.is_sound S.is_sound machines.old → AreFit db (counted D.kept S.kept D.refused S.refused machines.old)
+        → IfErr result (IsDenied db (counted D.kept S.kept D.refused S.refused machines.old) (counted D.kept S.kept D.refused S.refused machines.new) call.Begin) }
     ensures served { (db : Database) (whole : Relations) (past : List (Deed (language db))) → IsOfCatalogue db → ReachedLaw (language db) → db.catalogue ≡ catalogue_of machines.old.desk.catalog → OfStores D.is_clean S.is_clean machines.new → OfStores D.is_sound S.is_sound machines.old
-        → IsServed db whole (held D.kept S.kept machines.old) past → IsServedOn db whole (held D.kept S.kept machines.new) past }
+        → IsServed db whole (counted D.kept S.kept D.refused S.refused machines.old) past → IsServedOn db whole (counted D.kept S.kept D.refused S.refused machines.new) past }
 {
     match machines.begin() {
         Ok(out) => settle(machines, out),
@@ -72,12 +72,12 @@ pub(crate) fn begin<D: DeskStore, S: SiteStore>(
     ensures clean { OfStores D.is_clean S.is_clean machines.new → OfStores D.is_clean S.is_clean machines.old }
     ensures sound { OfStores D.is_clean S.is_clean machines.new → OfStores D.is_sound S.is_sound machines.old → OfStores D.is_sound S.is_sound machines.new }
     ensures catalog { machines.new.desk.catalog ≡ machines.old.desk.catalog }
-    ensures ok { (db : Database) → IsOfCatalogue db → db.catalogue ≡ catalogue_of machines.old.desk.catalog → OfStores D.is_clean S.is_clean machines.new → OfStores D.is_sound S.is_sound machines.old → AreFit db (held D.kept S.kept machines.old)
-        → IfOk result (λ begun. DoesBegin db (held D.kept S.kept machines.old) begun.txn (held D.kept S.kept machines.new) begun.heard.items) }
-    ensures denied { (db : Database) → IsOfCatalogue db → db.catalogue ≡ catalogue_of machines.old.desk.catalog → OfStores D.is_clean S.is_clean machines.new → OfStores D.is_sound S.is_sound machines.old → AreFit db (held D.kept S.kept machines.old)
-        → IfErr result (IsDenied db (held D.kept S.kept machines.old) (held D.kept S.kept machines.new) call.Begin) }
+    ensures ok { (db : Database) → IsOfCatalogue db → db.catalogue ≡ catalogue_of machines.old.desk.catalog → OfStores D.is_clean S.is_clean machines.new → OfStores D.is_sound S.is_sound machines.old → AreFit db (counted D.kept S.kept D.refused S.refused machines.old)
+        → IfOk result (λ begun. DoesBegin db (counted D.kept S.kept D.refused S.refused machines.old) begun.txn (counted D.kept S.kept D.refused S.refused machines.new) begun.heard.items) }
+    ensures denied { (db : Database) → IsOfCatalogue db → db.catalogue ≡ catalogue_of machines.old.desk.catalog → OfStores D.is_clean S.is_clean machines.new → OfStores D.is_sound S.is_sound machines.old → AreFit db (counted D.kept S.kept D.refused S.refused machines.old)
+        → IfErr result (IsDenied db (counted D.kept S.kept D.refused S.refused machines.old) (counted D.kept S.kept D.refused S.refused machines.new) call.Begin) }
     ensures served { (db : Database) (whole : Relations) (past : List (Deed (language db))) → IsOfCatalogue db → ReachedLaw (language db) → db.catalogue ≡ catalogue_of machines.old.desk.catalog → OfStores D.is_clean S.is_clean machines.new → OfStores D.is_sound S.is_sound machines.old
-        → IsServed db whole (held D.kept S.kept machines.old) past → IsServedOn db whole (held D.kept S.kept machines.new) past }
+        → IsServed db whole (counted D.kept S.kept D.refused S.refused machines.old) past → IsServedOn db whole (counted D.kept S.kept D.refused S.refused machines.new) past }
 {
     match greet(machines) {
         Ok(heard) => named(heard),
@@ -94,12 +94,12 @@ pub(crate) fn state<D: DeskStore, S: SiteStore>(
     ensures clean { OfStores D.is_clean S.is_clean machines.new → OfStores D.is_clean S.is_clean machines.old }
     ensures sound { OfStores D.is_clean S.is_clean machines.new → OfStores D.is_sound S.is_sound machines.old → OfStores D.is_sound S.is_sound machines.new }
     ensures catalog { machines.new.desk.catalog ≡ machines.old.desk.catalog }
-    ensures ok { (db : Database) → IsOfCatalogue db → db.catalogue ≡ catalogue_of machines.old.desk.catalog → OfStores D.is_clean S.is_clean machines.new → OfStores D.is_sound S.is_sound machines.old → AreFit db (held D.kept S.kept machines.old)
-        → IfOk result (λ heard. DoesState db text.now txn (held D.kept S.kept machines.old) (held D.kept S.kept machines.new) heard.items) }
-    ensures denied { (db : Database) → IsOfCatalogue db → db.catalogue ≡ catalogue_of machines.old.desk.catalog → OfStores D.is_clean S.is_clean machines.new → OfStores D.is_sound S.is_sound machines.old → AreFit db (held D.kept S.kept machines.old)
-        → IfErr result (IsDenied db (held D.kept S.kept machines.old) (held D.kept S.kept machines.new) (call.State txn text.now)) }
+    ensures ok { (db : Database) → IsOfCatalogue db → db.catalogue ≡ catalogue_of machines.old.desk.catalog → OfStores D.is_clean S.is_clean machines.new → OfStores D.is_sound S.is_sound machines.old → AreFit db (counted D.kept S.kept D.refused S.refused machines.old)
+        → IfOk result (λ heard. DoesState db text.now txn (counted D.kept S.kept D.refused S.refused machines.old) (counted D.kept S.kept D.refused S.refused machines.new) heard.items) }
+    ensures denied { (db : Database) → IsOfCatalogue db → db.catalogue ≡ catalogue_of machines.old.desk.catalog → OfStores D.is_clean S.is_clean machines.new → OfStores D.is_sound S.is_sound machines.old → AreFit db (counted D.kept S.kept D.refused S.refused machines.old)
+        → IfErr result (IsDenied db (counted D.kept S.kept D.refused S.refused machines.old) (counted D.kept S.kept D.refused S.refused machines.new) (call.State txn text.now)) }
     ensures served { (db : Database) (whole : Relations) (past : List (Deed (language db))) → IsOfCatalogue db → ReachedLaw (language db) → db.catalogue ≡ catalogue_of machines.old.desk.catalog → OfStores D.is_clean S.is_clean machines.new → OfStores D.is_sound S.is_sound machines.old
-        → IsServed db whole (held D.kept S.kept machines.old) past → IsServedOn db whole (held D.kept S.kept machines.new) past }
+        → IsServed db whole (counted D.kept S.kept D.refused S.refused machines.old) past → IsServedOn db whole (counted D.kept S.kept D.refused S.refused machines.new) past }
 {
     match machines.statement(txn, text) {
         Ok(out) => settle(machines, out),
@@ -115,12 +115,12 @@ pub(crate) fn commit<D: DeskStore, S: SiteStore>(
     ensures clean { OfStores D.is_clean S.is_clean machines.new → OfStores D.is_clean S.is_clean machines.old }
     ensures sound { OfStores D.is_clean S.is_clean machines.new → OfStores D.is_sound S.is_sound machines.old → OfStores D.is_sound S.is_sound machines.new }
     ensures catalog { machines.new.desk.catalog ≡ machines.old.desk.catalog }
-    ensures ok { (db : Database) → IsOfCatalogue db → db.catalogue ≡ catalogue_of machines.old.desk.catalog → OfStores D.is_clean S.is_clean machines.new → OfStores D.is_sound S.is_sound machines.old → AreFit db (held D.kept S.kept machines.old)
-        → IfOk result (λ heard. DoesAsk db Commit_call txn (held D.kept S.kept machines.old) (held D.kept S.kept machines.new) heard.items) }
-    ensures denied { (db : Database) → IsOfCatalogue db → db.catalogue ≡ catalogue_of machines.old.desk.catalog → OfStores D.is_clean S.is_clean machines.new → OfStores D.is_sound S.is_sound machines.old → AreFit db (held D.kept S.kept machines.old)
-        → IfErr result (IsDenied db (held D.kept S.kept machines.old) (held D.kept S.kept machines.new) (call.Commit txn)) }
+    ensures ok { (db : Database) → IsOfCatalogue db → db.catalogue ≡ catalogue_of machines.old.desk.catalog → OfStores D.is_clean S.is_clean machines.new → OfStores D.is_sound S.is_sound machines.old → AreFit db (counted D.kept S.kept D.refused S.refused machines.old)
+        → IfOk result (λ heard. DoesAsk db Commit_call txn (counted D.kept S.kept D.refused S.refused machines.old) (counted D.kept S.kept D.refused S.refused machines.new) heard.items) }
+    ensures denied { (db : Database) → IsOfCatalogue db → db.catalogue ≡ catalogue_of machines.old.desk.catalog → OfStores D.is_clean S.is_clean machines.new → OfStores D.is_sound S.is_sound machines.old → AreFit db (counted D.kept S.kept D.refused S.refused machines.old)
+        → IfErr result (IsDenied db (counted D.kept S.kept D.refused S.refused machines.old) (counted D.kept S.kept D.refused S.refused machines.new) (call.Commit txn)) }
     ensures served { (db : Database) (whole : Relations) (past : List (Deed (language db))) → IsOfCatalogue db → ReachedLaw (language db) → db.catalogue ≡ catalogue_of machines.old.desk.catalog → OfStores D.is_clean S.is_clean machines.new → OfStores D.is_sound S.is_sound machines.old
-        → IsServed db whole (held D.kept S.kept machines.old) past → IsServedOn db whole (held D.kept S.kept machines.new) past }
+        → IsServed db whole (counted D.kept S.kept D.refused S.refused machines.old) past → IsServedOn db whole (counted D.kept S.kept D.refused S.refused machines.new) past }
 {
     match machines.commit(txn) {
         Ok(out) => settle(machines, out),
@@ -136,12 +136,12 @@ pub(crate) fn roll_back<D: DeskStore, S: SiteStore>(
     ensures clean { OfStores D.is_clean S.is_clean machines.new → OfStores D.is_clean S.is_clean machines.old }
     ensures sound { OfStores D.is_clean S.is_clean machines.new → OfStores D.is_sound S.is_sound machines.old → OfStores D.is_sound S.is_sound machines.new }
     ensures catalog { machines.new.desk.catalog ≡ machines.old.desk.catalog }
-    ensures ok { (db : Database) → IsOfCatalogue db → db.catalogue ≡ catalogue_of machines.old.desk.catalog → OfStores D.is_clean S.is_clean machines.new → OfStores D.is_sound S.is_sound machines.old → AreFit db (held D.kept S.kept machines.old)
-        → IfOk result (λ heard. DoesAsk db Rollback txn (held D.kept S.kept machines.old) (held D.kept S.kept machines.new) heard.items) }
-    ensures denied { (db : Database) → IsOfCatalogue db → db.catalogue ≡ catalogue_of machines.old.desk.catalog → OfStores D.is_clean S.is_clean machines.new → OfStores D.is_sound S.is_sound machines.old → AreFit db (held D.kept S.kept machines.old)
-        → IfErr result (IsDenied db (held D.kept S.kept machines.old) (held D.kept S.kept machines.new) (call.Rollback txn)) }
+    ensures ok { (db : Database) → IsOfCatalogue db → db.catalogue ≡ catalogue_of machines.old.desk.catalog → OfStores D.is_clean S.is_clean machines.new → OfStores D.is_sound S.is_sound machines.old → AreFit db (counted D.kept S.kept D.refused S.refused machines.old)
+        → IfOk result (λ heard. DoesAsk db Rollback txn (counted D.kept S.kept D.refused S.refused machines.old) (counted D.kept S.kept D.refused S.refused machines.new) heard.items) }
+    ensures denied { (db : Database) → IsOfCatalogue db → db.catalogue ≡ catalogue_of machines.old.desk.catalog → OfStores D.is_clean S.is_clean machines.new → OfStores D.is_sound S.is_sound machines.old → AreFit db (counted D.kept S.kept D.refused S.refused machines.old)
+        → IfErr result (IsDenied db (counted D.kept S.kept D.refused S.refused machines.old) (counted D.kept S.kept D.refused S.refused machines.new) (call.Rollback txn)) }
     ensures served { (db : Database) (whole : Relations) (past : List (Deed (language db))) → IsOfCatalogue db → ReachedLaw (language db) → db.catalogue ≡ catalogue_of machines.old.desk.catalog → OfStores D.is_clean S.is_clean machines.new → OfStores D.is_sound S.is_sound machines.old
-        → IsServed db whole (held D.kept S.kept machines.old) past → IsServedOn db whole (held D.kept S.kept machines.new) past }
+        → IsServed db whole (counted D.kept S.kept D.refused S.refused machines.old) past → IsServedOn db whole (counted D.kept S.kept D.refused S.refused machines.new) past }
 {
     match machines.rollback(txn) {
         Ok(out) => settle(machines, out),

@@ -22,7 +22,7 @@ ghost use Rattle.desk.specs.declared.refusal.Refusal.TheVariants as refusals;
 ghost use Rattle.world.specs.declared.fault.Fault.TheVariants as faults;
 ghost use Rattle.world.specs.Base.{database, fits};
 ghost use Rattle.world.specs.Fault.{is_memory};
-ghost use Rattle.world.specs.Held.{OfStores, held};
+ghost use Rattle.world.specs.Held.{OfStores, counted, held, unrefused};
 ghost use Rattle.world.specs.Machines.{AreFit};
 ghost use Rattle.world.specs.Obeying.{Obeys, Stands, StandsOn};
 ghost use Rattle.world.specs.Serving.{Executes, IsServed, IsServedOn, still_open};
@@ -76,9 +76,9 @@ pub fn open(
     whole: &Whole,
 ) -> Result<Solo<PlainDesk, PlainSite>, Fault>
     ensures served { FitsSchema (schemas_of (catalogue_of catalog.now)) whole.now
-        → IfOk result (λ solo. IsServed (database (catalogue_of catalog.now)) whole.now (held desk_kept kept_of solo.machines) []) }
+        → IfOk result (λ solo. IsServed (database (catalogue_of catalog.now)) whole.now (unrefused desk_kept kept_of solo.machines) []) }
     ensures stands { FitsSchema (schemas_of (catalogue_of catalog.now)) whole.now
-        → IfOk result (λ solo. Stands (database (catalogue_of catalog.now)) (fits (catalogue_of catalog.now)) solo.current (held desk_kept kept_of solo.machines) []) }
+        → IfOk result (λ solo. Stands (database (catalogue_of catalog.now)) (fits (catalogue_of catalog.now)) solo.current (unrefused desk_kept kept_of solo.machines) []) }
     ensures catalog { IfOk result (λ solo. catalogue_of solo.machines.desk.catalog ≡ catalogue_of catalog.now) }
     ensures sound { IfOk result (λ solo. OfStores (λ _. Unit {0}) IsSound solo.machines) }
     ensures idle { IfOk result (λ solo. (solo.current ≡ None) × (solo.stopped ≡ None)) }
@@ -146,13 +146,13 @@ impl<D: DeskStore, S: SiteStore> Solo<D, S> {
         ensures clean { OfStores D.is_clean S.is_clean self.new.machines → OfStores D.is_clean S.is_clean self.old.machines }
         ensures sound { OfStores D.is_clean S.is_clean self.new.machines → OfStores D.is_sound S.is_sound self.old.machines → OfStores D.is_sound S.is_sound self.new.machines }
         ensures catalog { self.new.machines.desk.catalog ≡ self.old.machines.desk.catalog }
-        ensures ok { (db : Database) (text : List ℕ) → IsOfCatalogue db → db.catalogue ≡ catalogue_of self.old.machines.desk.catalog → OfStores D.is_clean S.is_clean self.new.machines → OfStores D.is_sound S.is_sound self.old.machines → AreFit db (held D.kept S.kept self.old.machines)
-            → IsTextOf db.schemas text Begin → IfOk result (λ heard. Executes db text self.old.current (held D.kept S.kept self.old.machines) self.new.current (held D.kept S.kept self.new.machines) heard.items) }
-        ensures denied { (db : Database) (text : List ℕ) → IsOfCatalogue db → db.catalogue ≡ catalogue_of self.old.machines.desk.catalog → OfStores D.is_clean S.is_clean self.new.machines → OfStores D.is_sound S.is_sound self.old.machines → AreFit db (held D.kept S.kept self.old.machines)
-            → IsTextOf db.schemas text Begin → IfErr result (Declines db text self.old.current (held D.kept S.kept self.old.machines) (held D.kept S.kept self.new.machines)) }
+        ensures ok { (db : Database) (text : List ℕ) → IsOfCatalogue db → db.catalogue ≡ catalogue_of self.old.machines.desk.catalog → OfStores D.is_clean S.is_clean self.new.machines → OfStores D.is_sound S.is_sound self.old.machines → AreFit db (counted D.kept S.kept D.refused S.refused self.old.machines)
+            → IsTextOf db.schemas text Begin → IfOk result (λ heard. Executes db text self.old.current (counted D.kept S.kept D.refused S.refused self.old.machines) self.new.current (counted D.kept S.kept D.refused S.refused self.new.machines) heard.items) }
+        ensures denied { (db : Database) (text : List ℕ) → IsOfCatalogue db → db.catalogue ≡ catalogue_of self.old.machines.desk.catalog → OfStores D.is_clean S.is_clean self.new.machines → OfStores D.is_sound S.is_sound self.old.machines → AreFit db (counted D.kept S.kept D.refused S.refused self.old.machines)
+            → IsTextOf db.schemas text Begin → IfErr result (Declines db text self.old.current (counted D.kept S.kept D.refused S.refused self.old.machines) (counted D.kept S.kept D.refused S.refused self.new.machines)) }
         ensures inside { (txn : TxnNow) → self.old.current ≡ Some txn → result ≡ Err refusals.Busy }
         ensures served { (db : Database) (whole : Relations) (past : List (Deed (language db))) → IsOfCatalogue db → ReachedLaw (language db) → db.catalogue ≡ catalogue_of self.old.machines.desk.catalog → OfStores D.is_clean S.is_clean self.new.machines → OfStores D.is_sound S.is_sound self.old.machines
-            → IsServed db whole (held D.kept S.kept self.old.machines) past → IsServedOn db whole (held D.kept S.kept self.new.machines) past }
+            → IsServed db whole (counted D.kept S.kept D.refused S.refused self.old.machines) past → IsServedOn db whole (counted D.kept S.kept D.refused S.refused self.new.machines) past }
         ensures still { OnErr result (self.new.current ≡ self.old.current) }
     {
         match self.current {
@@ -172,13 +172,13 @@ impl<D: DeskStore, S: SiteStore> Solo<D, S> {
         ensures clean { OfStores D.is_clean S.is_clean self.new.machines → OfStores D.is_clean S.is_clean self.old.machines }
         ensures sound { OfStores D.is_clean S.is_clean self.new.machines → OfStores D.is_sound S.is_sound self.old.machines → OfStores D.is_sound S.is_sound self.new.machines }
         ensures catalog { self.new.machines.desk.catalog ≡ self.old.machines.desk.catalog }
-        ensures ok { (db : Database) (text : List ℕ) → IsOfCatalogue db → db.catalogue ≡ catalogue_of self.old.machines.desk.catalog → OfStores D.is_clean S.is_clean self.new.machines → OfStores D.is_sound S.is_sound self.old.machines → AreFit db (held D.kept S.kept self.old.machines)
-            → IsTextOf db.schemas text Commit → IfOk result (λ heard. Executes db text self.old.current (held D.kept S.kept self.old.machines) self.new.current (held D.kept S.kept self.new.machines) heard.items) }
-        ensures denied { (db : Database) (text : List ℕ) → IsOfCatalogue db → db.catalogue ≡ catalogue_of self.old.machines.desk.catalog → OfStores D.is_clean S.is_clean self.new.machines → OfStores D.is_sound S.is_sound self.old.machines → AreFit db (held D.kept S.kept self.old.machines)
-            → IsTextOf db.schemas text Commit → IfErr result (Declines db text self.old.current (held D.kept S.kept self.old.machines) (held D.kept S.kept self.new.machines)) }
+        ensures ok { (db : Database) (text : List ℕ) → IsOfCatalogue db → db.catalogue ≡ catalogue_of self.old.machines.desk.catalog → OfStores D.is_clean S.is_clean self.new.machines → OfStores D.is_sound S.is_sound self.old.machines → AreFit db (counted D.kept S.kept D.refused S.refused self.old.machines)
+            → IsTextOf db.schemas text Commit → IfOk result (λ heard. Executes db text self.old.current (counted D.kept S.kept D.refused S.refused self.old.machines) self.new.current (counted D.kept S.kept D.refused S.refused self.new.machines) heard.items) }
+        ensures denied { (db : Database) (text : List ℕ) → IsOfCatalogue db → db.catalogue ≡ catalogue_of self.old.machines.desk.catalog → OfStores D.is_clean S.is_clean self.new.machines → OfStores D.is_sound S.is_sound self.old.machines → AreFit db (counted D.kept S.kept D.refused S.refused self.old.machines)
+            → IsTextOf db.schemas text Commit → IfErr result (Declines db text self.old.current (counted D.kept S.kept D.refused S.refused self.old.machines) (counted D.kept S.kept D.refused S.refused self.new.machines)) }
         ensures outside { self.old.current ≡ None → result ≡ Err refusals.NoTransaction }
         ensures served { (db : Database) (whole : Relations) (past : List (Deed (language db))) → IsOfCatalogue db → ReachedLaw (language db) → db.catalogue ≡ catalogue_of self.old.machines.desk.catalog → OfStores D.is_clean S.is_clean self.new.machines → OfStores D.is_sound S.is_sound self.old.machines
-            → IsServed db whole (held D.kept S.kept self.old.machines) past → IsServedOn db whole (held D.kept S.kept self.new.machines) past }
+            → IsServed db whole (counted D.kept S.kept D.refused S.refused self.old.machines) past → IsServedOn db whole (counted D.kept S.kept D.refused S.refused self.new.machines) past }
         ensures still { OnErr result (self.new.current ≡ self.old.current) }
     {
         let Some(txn) = self.current else {
@@ -198,13 +198,13 @@ impl<D: DeskStore, S: SiteStore> Solo<D, S> {
         ensures clean { OfStores D.is_clean S.is_clean self.new.machines → OfStores D.is_clean S.is_clean self.old.machines }
         ensures sound { OfStores D.is_clean S.is_clean self.new.machines → OfStores D.is_sound S.is_sound self.old.machines → OfStores D.is_sound S.is_sound self.new.machines }
         ensures catalog { self.new.machines.desk.catalog ≡ self.old.machines.desk.catalog }
-        ensures ok { (db : Database) (text : List ℕ) → IsOfCatalogue db → db.catalogue ≡ catalogue_of self.old.machines.desk.catalog → OfStores D.is_clean S.is_clean self.new.machines → OfStores D.is_sound S.is_sound self.old.machines → AreFit db (held D.kept S.kept self.old.machines)
-            → IsTextOf db.schemas text Rollback → IfOk result (λ heard. Executes db text self.old.current (held D.kept S.kept self.old.machines) self.new.current (held D.kept S.kept self.new.machines) heard.items) }
-        ensures denied { (db : Database) (text : List ℕ) → IsOfCatalogue db → db.catalogue ≡ catalogue_of self.old.machines.desk.catalog → OfStores D.is_clean S.is_clean self.new.machines → OfStores D.is_sound S.is_sound self.old.machines → AreFit db (held D.kept S.kept self.old.machines)
-            → IsTextOf db.schemas text Rollback → IfErr result (Declines db text self.old.current (held D.kept S.kept self.old.machines) (held D.kept S.kept self.new.machines)) }
+        ensures ok { (db : Database) (text : List ℕ) → IsOfCatalogue db → db.catalogue ≡ catalogue_of self.old.machines.desk.catalog → OfStores D.is_clean S.is_clean self.new.machines → OfStores D.is_sound S.is_sound self.old.machines → AreFit db (counted D.kept S.kept D.refused S.refused self.old.machines)
+            → IsTextOf db.schemas text Rollback → IfOk result (λ heard. Executes db text self.old.current (counted D.kept S.kept D.refused S.refused self.old.machines) self.new.current (counted D.kept S.kept D.refused S.refused self.new.machines) heard.items) }
+        ensures denied { (db : Database) (text : List ℕ) → IsOfCatalogue db → db.catalogue ≡ catalogue_of self.old.machines.desk.catalog → OfStores D.is_clean S.is_clean self.new.machines → OfStores D.is_sound S.is_sound self.old.machines → AreFit db (counted D.kept S.kept D.refused S.refused self.old.machines)
+            → IsTextOf db.schemas text Rollback → IfErr result (Declines db text self.old.current (counted D.kept S.kept D.refused S.refused self.old.machines) (counted D.kept S.kept D.refused S.refused self.new.machines)) }
         ensures outside { self.old.current ≡ None → result ≡ Err refusals.NoTransaction }
         ensures served { (db : Database) (whole : Relations) (past : List (Deed (language db))) → IsOfCatalogue db → ReachedLaw (language db) → db.catalogue ≡ catalogue_of self.old.machines.desk.catalog → OfStores D.is_clean S.is_clean self.new.machines → OfStores D.is_sound S.is_sound self.old.machines
-            → IsServed db whole (held D.kept S.kept self.old.machines) past → IsServedOn db whole (held D.kept S.kept self.new.machines) past }
+            → IsServed db whole (counted D.kept S.kept D.refused S.refused self.old.machines) past → IsServedOn db whole (counted D.kept S.kept D.refused S.refused self.new.machines) past }
         ensures still { OnErr result (self.new.current ≡ self.old.current) }
     {
         let Some(txn) = self.current else {
@@ -224,12 +224,12 @@ impl<D: DeskStore, S: SiteStore> Solo<D, S> {
         ensures clean { OfStores D.is_clean S.is_clean self.new.machines → OfStores D.is_clean S.is_clean self.old.machines }
         ensures sound { OfStores D.is_clean S.is_clean self.new.machines → OfStores D.is_sound S.is_sound self.old.machines → OfStores D.is_sound S.is_sound self.new.machines }
         ensures catalog { self.new.machines.desk.catalog ≡ self.old.machines.desk.catalog }
-        ensures ok { (db : Database) → IsOfCatalogue db → db.catalogue ≡ catalogue_of self.old.machines.desk.catalog → OfStores D.is_clean S.is_clean self.new.machines → OfStores D.is_sound S.is_sound self.old.machines → AreFit db (held D.kept S.kept self.old.machines)
-            → IfOk result (λ heard. Executes db text.now self.old.current (held D.kept S.kept self.old.machines) self.new.current (held D.kept S.kept self.new.machines) heard.items) }
-        ensures denied { (db : Database) (statement : Statement) → IsOfCatalogue db → db.catalogue ≡ catalogue_of self.old.machines.desk.catalog → OfStores D.is_clean S.is_clean self.new.machines → OfStores D.is_sound S.is_sound self.old.machines → AreFit db (held D.kept S.kept self.old.machines)
-            → IsTextOf db.schemas text.now (Run statement) → IfErr result (Declines db text.now self.old.current (held D.kept S.kept self.old.machines) (held D.kept S.kept self.new.machines)) }
+        ensures ok { (db : Database) → IsOfCatalogue db → db.catalogue ≡ catalogue_of self.old.machines.desk.catalog → OfStores D.is_clean S.is_clean self.new.machines → OfStores D.is_sound S.is_sound self.old.machines → AreFit db (counted D.kept S.kept D.refused S.refused self.old.machines)
+            → IfOk result (λ heard. Executes db text.now self.old.current (counted D.kept S.kept D.refused S.refused self.old.machines) self.new.current (counted D.kept S.kept D.refused S.refused self.new.machines) heard.items) }
+        ensures denied { (db : Database) (statement : Statement) → IsOfCatalogue db → db.catalogue ≡ catalogue_of self.old.machines.desk.catalog → OfStores D.is_clean S.is_clean self.new.machines → OfStores D.is_sound S.is_sound self.old.machines → AreFit db (counted D.kept S.kept D.refused S.refused self.old.machines)
+            → IsTextOf db.schemas text.now (Run statement) → IfErr result (Declines db text.now self.old.current (counted D.kept S.kept D.refused S.refused self.old.machines) (counted D.kept S.kept D.refused S.refused self.new.machines)) }
         ensures served { (db : Database) (whole : Relations) (past : List (Deed (language db))) → IsOfCatalogue db → ReachedLaw (language db) → db.catalogue ≡ catalogue_of self.old.machines.desk.catalog → OfStores D.is_clean S.is_clean self.new.machines → OfStores D.is_sound S.is_sound self.old.machines
-            → IsServed db whole (held D.kept S.kept self.old.machines) past → IsServedOn db whole (held D.kept S.kept self.new.machines) past }
+            → IsServed db whole (counted D.kept S.kept D.refused S.refused self.old.machines) past → IsServedOn db whole (counted D.kept S.kept D.refused S.refused self.new.machines) past }
         ensures still { OnErr result (self.new.current ≡ self.old.current) }
     {
         match self.current {
@@ -249,14 +249,14 @@ impl<D: DeskStore, S: SiteStore> Solo<D, S> {
         ensures clean { OfStores D.is_clean S.is_clean self.new.machines → OfStores D.is_clean S.is_clean self.old.machines }
         ensures sound { OfStores D.is_clean S.is_clean self.new.machines → OfStores D.is_sound S.is_sound self.old.machines → OfStores D.is_sound S.is_sound self.new.machines }
         ensures catalog { self.new.machines.desk.catalog ≡ self.old.machines.desk.catalog }
-        ensures ok { (db : Database) → IsOfCatalogue db → db.catalogue ≡ catalogue_of self.old.machines.desk.catalog → OfStores D.is_clean S.is_clean self.new.machines → OfStores D.is_sound S.is_sound self.old.machines → AreFit db (held D.kept S.kept self.old.machines)
-            → IsTextOf db.schemas text.now command.now → IfOk result (λ heard. Executes db text.now self.old.current (held D.kept S.kept self.old.machines) self.new.current (held D.kept S.kept self.new.machines) heard.items) }
-        ensures denied { (db : Database) → IsOfCatalogue db → db.catalogue ≡ catalogue_of self.old.machines.desk.catalog → OfStores D.is_clean S.is_clean self.new.machines → OfStores D.is_sound S.is_sound self.old.machines → AreFit db (held D.kept S.kept self.old.machines)
-            → IsTextOf db.schemas text.now command.now → IfErr result (Declines db text.now self.old.current (held D.kept S.kept self.old.machines) (held D.kept S.kept self.new.machines)) }
+        ensures ok { (db : Database) → IsOfCatalogue db → db.catalogue ≡ catalogue_of self.old.machines.desk.catalog → OfStores D.is_clean S.is_clean self.new.machines → OfStores D.is_sound S.is_sound self.old.machines → AreFit db (counted D.kept S.kept D.refused S.refused self.old.machines)
+            → IsTextOf db.schemas text.now command.now → IfOk result (λ heard. Executes db text.now self.old.current (counted D.kept S.kept D.refused S.refused self.old.machines) self.new.current (counted D.kept S.kept D.refused S.refused self.new.machines) heard.items) }
+        ensures denied { (db : Database) → IsOfCatalogue db → db.catalogue ≡ catalogue_of self.old.machines.desk.catalog → OfStores D.is_clean S.is_clean self.new.machines → OfStores D.is_sound S.is_sound self.old.machines → AreFit db (counted D.kept S.kept D.refused S.refused self.old.machines)
+            → IsTextOf db.schemas text.now command.now → IfErr result (Declines db text.now self.old.current (counted D.kept S.kept D.refused S.refused self.old.machines) (counted D.kept S.kept D.refused S.refused self.new.machines)) }
         ensures inside { (txn : TxnNow) → self.old.current ≡ Some txn → command.now ≡ Begin → result ≡ Err refusals.Busy }
         ensures outside { self.old.current ≡ None → (command.now ≡ Commit) ⊎ (command.now ≡ Rollback) → result ≡ Err refusals.NoTransaction }
         ensures served { (db : Database) (whole : Relations) (past : List (Deed (language db))) → IsOfCatalogue db → ReachedLaw (language db) → db.catalogue ≡ catalogue_of self.old.machines.desk.catalog → OfStores D.is_clean S.is_clean self.new.machines → OfStores D.is_sound S.is_sound self.old.machines
-            → IsServed db whole (held D.kept S.kept self.old.machines) past → IsServedOn db whole (held D.kept S.kept self.new.machines) past }
+            → IsServed db whole (counted D.kept S.kept D.refused S.refused self.old.machines) past → IsServedOn db whole (counted D.kept S.kept D.refused S.refused self.new.machines) past }
         ensures still { OnErr result (self.new.current ≡ self.old.current) }
     {
         match command {
@@ -272,15 +272,15 @@ impl<D: DeskStore, S: SiteStore> Solo<D, S> {
         ensures clean { OfStores D.is_clean S.is_clean self.new.machines → OfStores D.is_clean S.is_clean self.old.machines }
         ensures sound { OfStores D.is_clean S.is_clean self.new.machines → OfStores D.is_sound S.is_sound self.old.machines → OfStores D.is_sound S.is_sound self.new.machines }
         ensures catalog { self.new.machines.desk.catalog ≡ self.old.machines.desk.catalog }
-        ensures ok { (db : Database) → IsOfCatalogue db → db.catalogue ≡ catalogue_of self.old.machines.desk.catalog → OfStores D.is_clean S.is_clean self.new.machines → OfStores D.is_sound S.is_sound self.old.machines → AreFit db (held D.kept S.kept self.old.machines)
-            → IfOk result (λ heard. Executes db text.now self.old.current (held D.kept S.kept self.old.machines) self.new.current (held D.kept S.kept self.new.machines) heard.items) }
-        ensures denied { (db : Database) → IsOfCatalogue db → db.catalogue ≡ catalogue_of self.old.machines.desk.catalog → OfStores D.is_clean S.is_clean self.new.machines → OfStores D.is_sound S.is_sound self.old.machines → AreFit db (held D.kept S.kept self.old.machines)
-            → IfErr result (Declines db text.now self.old.current (held D.kept S.kept self.old.machines) (held D.kept S.kept self.new.machines)) }
+        ensures ok { (db : Database) → IsOfCatalogue db → db.catalogue ≡ catalogue_of self.old.machines.desk.catalog → OfStores D.is_clean S.is_clean self.new.machines → OfStores D.is_sound S.is_sound self.old.machines → AreFit db (counted D.kept S.kept D.refused S.refused self.old.machines)
+            → IfOk result (λ heard. Executes db text.now self.old.current (counted D.kept S.kept D.refused S.refused self.old.machines) self.new.current (counted D.kept S.kept D.refused S.refused self.new.machines) heard.items) }
+        ensures denied { (db : Database) → IsOfCatalogue db → db.catalogue ≡ catalogue_of self.old.machines.desk.catalog → OfStores D.is_clean S.is_clean self.new.machines → OfStores D.is_sound S.is_sound self.old.machines → AreFit db (counted D.kept S.kept D.refused S.refused self.old.machines)
+            → IfErr result (Declines db text.now self.old.current (counted D.kept S.kept D.refused S.refused self.old.machines) (counted D.kept S.kept D.refused S.refused self.new.machines)) }
         ensures inside { (txn : TxnNow) → self.old.current ≡ Some txn → IsTextOf (schemas_of (catalogue_of self.old.machines.desk.catalog)) text.now Begin → (result ≡ Err refusals.Busy) ⊎ (result ≡ Err refusals.Memory) }
         ensures outside { self.old.current ≡ None → IsTextOf (schemas_of (catalogue_of self.old.machines.desk.catalog)) text.now Commit ⊎ IsTextOf (schemas_of (catalogue_of self.old.machines.desk.catalog)) text.now Rollback → (result ≡ Err refusals.NoTransaction) ⊎ (result ≡ Err refusals.Memory) }
         ensures unread { ((given : CommandNow) → IsTextOf (schemas_of (catalogue_of self.old.machines.desk.catalog)) text.now given → ⊥) → OnOk result ⊥ × IfErr result (IsUnreadable (schemas_of (catalogue_of self.old.machines.desk.catalog)) text.now) }
         ensures served { (db : Database) (whole : Relations) (past : List (Deed (language db))) → IsOfCatalogue db → ReachedLaw (language db) → db.catalogue ≡ catalogue_of self.old.machines.desk.catalog → OfStores D.is_clean S.is_clean self.new.machines → OfStores D.is_sound S.is_sound self.old.machines
-            → IsServed db whole (held D.kept S.kept self.old.machines) past → IsServedOn db whole (held D.kept S.kept self.new.machines) past }
+            → IsServed db whole (counted D.kept S.kept D.refused S.refused self.old.machines) past → IsServedOn db whole (counted D.kept S.kept D.refused S.refused self.new.machines) past }
         ensures still { OnErr result (self.new.current ≡ self.old.current) }
     {
         one_command();
@@ -292,29 +292,31 @@ impl<D: DeskStore, S: SiteStore> Solo<D, S> {
 
     /// A command is executed: BEGIN, COMMIT, ROLLBACK or a statement, which outside BEGIN is a transaction of its own. All letters that it
     /// brings about come, each once, the oldest first. Says what the client hears: unless something is refused on the way, the answer of a
-    /// statement, or that its transaction has begun, was committed, or was rolled back. Whatever was refused, the command itself too, the next
-    /// one finds all quiet or the open transaction ready. A refusal that stops the database is the answer of every later command.
+    /// statement, or that its transaction has begun, was committed, or was rolled back. What is refused is a letter, by a machine at a limit
+    /// or for a leaf that its site doesn't have, a write, by a full visit, or a store call, and that only where the medium of a store has
+    /// refused meanwhile. Whatever was refused, the command itself too, the next one finds all quiet or the open transaction ready. A refusal
+    /// that stops the database is the answer of every later command.
     pub fn execute(&mut self, text: &str) -> Result<Vec<Notice>, Refusal>
         ensures clean { OfStores D.is_clean S.is_clean self.new.machines → OfStores D.is_clean S.is_clean self.old.machines }
         ensures sound { OfStores D.is_clean S.is_clean self.new.machines → OfStores D.is_sound S.is_sound self.old.machines → OfStores D.is_sound S.is_sound self.new.machines }
         ensures catalog { self.new.machines.desk.catalog ≡ self.old.machines.desk.catalog }
-        ensures executes { self.old.stopped ≡ None → OfStores D.is_clean S.is_clean self.new.machines → OfStores D.is_sound S.is_sound self.old.machines → AreFit (database (catalogue_of self.old.machines.desk.catalog)) (held D.kept S.kept self.old.machines)
-            → IfOk result (λ heard. Executes (database (catalogue_of self.old.machines.desk.catalog)) text.now self.old.current (held D.kept S.kept self.old.machines) self.new.current (held D.kept S.kept self.new.machines) heard.items) }
+        ensures executes { self.old.stopped ≡ None → OfStores D.is_clean S.is_clean self.new.machines → OfStores D.is_sound S.is_sound self.old.machines → AreFit (database (catalogue_of self.old.machines.desk.catalog)) (counted D.kept S.kept D.refused S.refused self.old.machines)
+            → IfOk result (λ heard. Executes (database (catalogue_of self.old.machines.desk.catalog)) text.now self.old.current (counted D.kept S.kept D.refused S.refused self.old.machines) self.new.current (counted D.kept S.kept D.refused S.refused self.new.machines) heard.items) }
         ensures served { (whole : Relations) (past : List (Deed (language (database (catalogue_of self.old.machines.desk.catalog))))) → OfStores D.is_clean S.is_clean self.new.machines → OfStores D.is_sound S.is_sound self.old.machines
-            → IsServed (database (catalogue_of self.old.machines.desk.catalog)) whole (held D.kept S.kept self.old.machines) past → IsServedOn (database (catalogue_of self.old.machines.desk.catalog)) whole (held D.kept S.kept self.new.machines) past }
+            → IsServed (database (catalogue_of self.old.machines.desk.catalog)) whole (counted D.kept S.kept D.refused S.refused self.old.machines) past → IsServedOn (database (catalogue_of self.old.machines.desk.catalog)) whole (counted D.kept S.kept D.refused S.refused self.new.machines) past }
         ensures obeyed { (whole : Relations) (past : List (Deed (language (database (catalogue_of self.old.machines.desk.catalog))))) → self.old.stopped ≡ None → OfStores D.is_clean S.is_clean self.new.machines → OfStores D.is_sound S.is_sound self.old.machines
-            → IsServed (database (catalogue_of self.old.machines.desk.catalog)) whole (held D.kept S.kept self.old.machines) past
-            → Stands (database (catalogue_of self.old.machines.desk.catalog)) (fits (catalogue_of self.old.machines.desk.catalog)) self.old.current (held D.kept S.kept self.old.machines) past
-            → IfOk result (λ heard. Obeys (database (catalogue_of self.old.machines.desk.catalog)) (fits (catalogue_of self.old.machines.desk.catalog)) whole text.now self.old.current (held D.kept S.kept self.old.machines) self.new.current (held D.kept S.kept self.new.machines) past heard.items) }
+            → IsServed (database (catalogue_of self.old.machines.desk.catalog)) whole (counted D.kept S.kept D.refused S.refused self.old.machines) past
+            → Stands (database (catalogue_of self.old.machines.desk.catalog)) (fits (catalogue_of self.old.machines.desk.catalog)) self.old.current (counted D.kept S.kept D.refused S.refused self.old.machines) past
+            → IfOk result (λ heard. Obeys (database (catalogue_of self.old.machines.desk.catalog)) (fits (catalogue_of self.old.machines.desk.catalog)) whole text.now self.old.current (counted D.kept S.kept D.refused S.refused self.old.machines) self.new.current (counted D.kept S.kept D.refused S.refused self.new.machines) past heard.items) }
         ensures stands { (whole : Relations) (past : List (Deed (language (database (catalogue_of self.old.machines.desk.catalog))))) → self.old.stopped ≡ None → OfStores D.is_clean S.is_clean self.new.machines → OfStores D.is_sound S.is_sound self.old.machines
-            → IsServed (database (catalogue_of self.old.machines.desk.catalog)) whole (held D.kept S.kept self.old.machines) past
-            → Stands (database (catalogue_of self.old.machines.desk.catalog)) (fits (catalogue_of self.old.machines.desk.catalog)) self.old.current (held D.kept S.kept self.old.machines) past
-            → self.new.stopped ≡ None → StandsOn (database (catalogue_of self.old.machines.desk.catalog)) (fits (catalogue_of self.old.machines.desk.catalog)) whole self.new.current (held D.kept S.kept self.new.machines) past }
+            → IsServed (database (catalogue_of self.old.machines.desk.catalog)) whole (counted D.kept S.kept D.refused S.refused self.old.machines) past
+            → Stands (database (catalogue_of self.old.machines.desk.catalog)) (fits (catalogue_of self.old.machines.desk.catalog)) self.old.current (counted D.kept S.kept D.refused S.refused self.old.machines) past
+            → self.new.stopped ≡ None → StandsOn (database (catalogue_of self.old.machines.desk.catalog)) (fits (catalogue_of self.old.machines.desk.catalog)) whole self.new.current (counted D.kept S.kept D.refused S.refused self.new.machines) past }
         ensures denied { (whole : Relations) (past : List (Deed (language (database (catalogue_of self.old.machines.desk.catalog))))) → self.old.stopped ≡ None → OfStores D.is_clean S.is_clean self.new.machines → OfStores D.is_sound S.is_sound self.old.machines
-            → IsServed (database (catalogue_of self.old.machines.desk.catalog)) whole (held D.kept S.kept self.old.machines) past → Stands (database (catalogue_of self.old.machines.desk.catalog)) (fits (catalogue_of self.old.machines.desk.catalog)) self.old.current (held D.kept S.kept self.old.machines) past
-            → IfErr result (Denies (database (catalogue_of self.old.machines.desk.catalog)) text.now self.old.current (held D.kept S.kept self.old.machines)) }
-        ensures declined { self.old.stopped ≡ None → OfStores D.is_clean S.is_clean self.new.machines → OfStores D.is_sound S.is_sound self.old.machines → AreFit (database (catalogue_of self.old.machines.desk.catalog)) (held D.kept S.kept self.old.machines)
-            → IfErr result (Declines (database (catalogue_of self.old.machines.desk.catalog)) text.now self.old.current (held D.kept S.kept self.old.machines) (held D.kept S.kept self.new.machines)) }
+            → IsServed (database (catalogue_of self.old.machines.desk.catalog)) whole (counted D.kept S.kept D.refused S.refused self.old.machines) past → Stands (database (catalogue_of self.old.machines.desk.catalog)) (fits (catalogue_of self.old.machines.desk.catalog)) self.old.current (counted D.kept S.kept D.refused S.refused self.old.machines) past
+            → IfErr result (Denies (database (catalogue_of self.old.machines.desk.catalog)) text.now self.old.current (counted D.kept S.kept D.refused S.refused self.old.machines)) }
+        ensures declined { self.old.stopped ≡ None → OfStores D.is_clean S.is_clean self.new.machines → OfStores D.is_sound S.is_sound self.old.machines → AreFit (database (catalogue_of self.old.machines.desk.catalog)) (counted D.kept S.kept D.refused S.refused self.old.machines)
+            → IfErr result (Declines (database (catalogue_of self.old.machines.desk.catalog)) text.now self.old.current (counted D.kept S.kept D.refused S.refused self.old.machines) (counted D.kept S.kept D.refused S.refused self.new.machines)) }
         ensures inside { (txn : TxnNow) → self.old.stopped ≡ None → self.old.current ≡ Some txn → IsTextOf (schemas_of (catalogue_of self.old.machines.desk.catalog)) text.now Begin → (result ≡ Err refusals.Busy) ⊎ (result ≡ Err refusals.Memory) }
         ensures outside { self.old.stopped ≡ None → self.old.current ≡ None → IsTextOf (schemas_of (catalogue_of self.old.machines.desk.catalog)) text.now Commit ⊎ IsTextOf (schemas_of (catalogue_of self.old.machines.desk.catalog)) text.now Rollback → (result ≡ Err refusals.NoTransaction) ⊎ (result ≡ Err refusals.Memory) }
         ensures unread { self.old.stopped ≡ None → ((given : CommandNow) → IsTextOf (schemas_of (catalogue_of self.old.machines.desk.catalog)) text.now given → ⊥) → OnOk result ⊥ × IfErr result (IsUnreadable (schemas_of (catalogue_of self.old.machines.desk.catalog)) text.now) }
@@ -355,8 +357,8 @@ impl<D: DeskStore, S: SiteStore> Solo<D, S> {
         ensures sent { result ≢ Err faults.Unsent }
         ensures clean { OfStores D.is_clean S.is_clean self.new.machines → OfStores D.is_clean S.is_clean self.old.machines }
         ensures sound { OfStores D.is_clean S.is_clean self.new.machines → OfStores D.is_sound S.is_sound self.old.machines → OfStores D.is_sound S.is_sound self.new.machines }
-        ensures parts { OfStores D.is_clean S.is_clean self.new.machines → OfStores D.is_sound S.is_sound self.old.machines → AreFit (database (catalogue_of self.old.machines.desk.catalog)) (held D.kept S.kept self.old.machines)
-            → IfOk result (λ shown. option_map (λ parts. parts.items) shown ≡ parts_kept (database (catalogue_of self.old.machines.desk.catalog)) (held D.kept S.kept self.old.machines) leaf.now) }
+        ensures parts { OfStores D.is_clean S.is_clean self.new.machines → OfStores D.is_sound S.is_sound self.old.machines → AreFit (database (catalogue_of self.old.machines.desk.catalog)) (counted D.kept S.kept D.refused S.refused self.old.machines)
+            → IfOk result (λ shown. option_map (λ parts. parts.items) shown ≡ parts_kept (database (catalogue_of self.old.machines.desk.catalog)) (counted D.kept S.kept D.refused S.refused self.old.machines) leaf.now) }
         ensures same { OfStores D.is_clean S.is_clean self.new.machines → OfStores D.is_sound S.is_sound self.old.machines → held D.kept S.kept self.new.machines ≡ held D.kept S.kept self.old.machines }
         ensures still { (self.new.current ≡ self.old.current) × (self.new.stopped ≡ self.old.stopped) }
         ensures catalog { self.new.machines.desk.catalog ≡ self.old.machines.desk.catalog }
@@ -371,11 +373,11 @@ impl<D: DeskStore, S: SiteStore> Solo<D, S> {
         ensures sent { result ≢ Err faults.Unsent }
         ensures clean { OfStores D.is_clean S.is_clean self.new.machines → OfStores D.is_clean S.is_clean self.old.machines }
         ensures sound { OfStores D.is_clean S.is_clean self.new.machines → OfStores D.is_sound S.is_sound self.old.machines → OfStores D.is_sound S.is_sound self.new.machines }
-        ensures rows { (whole : Relations) → OfStores D.is_clean S.is_clean self.new.machines → OfStores D.is_sound S.is_sound self.old.machines → AreFit (database (catalogue_of self.old.machines.desk.catalog)) (held D.kept S.kept self.old.machines)
-            → AreThoseOf (database (catalogue_of self.old.machines.desk.catalog)) (held D.kept S.kept self.old.machines) whole → FitsSchema (schemas_of (catalogue_of self.old.machines.desk.catalog)) whole
+        ensures rows { (whole : Relations) → OfStores D.is_clean S.is_clean self.new.machines → OfStores D.is_sound S.is_sound self.old.machines → AreFit (database (catalogue_of self.old.machines.desk.catalog)) (counted D.kept S.kept D.refused S.refused self.old.machines)
+            → AreThoseOf (database (catalogue_of self.old.machines.desk.catalog)) (counted D.kept S.kept D.refused S.refused self.old.machines) whole → FitsSchema (schemas_of (catalogue_of self.old.machines.desk.catalog)) whole
             → IfOk result (λ shown. option_map (λ rows. rows.items) shown ≡ rows_shown (database (catalogue_of self.old.machines.desk.catalog)) whole relation.now) }
         ensures served { (whole : Relations) (past : List (Deed (language (database (catalogue_of self.old.machines.desk.catalog))))) → OfStores D.is_clean S.is_clean self.new.machines → OfStores D.is_sound S.is_sound self.old.machines
-            → IsServed (database (catalogue_of self.old.machines.desk.catalog)) whole (held D.kept S.kept self.old.machines) past
+            → IsServed (database (catalogue_of self.old.machines.desk.catalog)) whole (counted D.kept S.kept D.refused S.refused self.old.machines) past
             → IfOk result (λ shown. option_map (λ rows. rows.items) shown ≡ rows_shown (database (catalogue_of self.old.machines.desk.catalog)) (after_committed (database (catalogue_of self.old.machines.desk.catalog)) past whole) relation.now) }
         ensures same { OfStores D.is_clean S.is_clean self.new.machines → OfStores D.is_sound S.is_sound self.old.machines → held D.kept S.kept self.new.machines ≡ held D.kept S.kept self.old.machines }
         ensures still { (self.new.current ≡ self.old.current) × (self.new.stopped ≡ self.old.stopped) }

@@ -6,7 +6,7 @@ use Rattle.catalog.specs.Relation.{catalogue_of}
 use Rattle.store.specs.PlainDesk.{kept_of as desk_kept}
 use Rattle.store.specs.PlainSite.{kept_of}
 use Rattle.world.specs.Base.{database}
-use Rattle.world.specs.Held.{held}
+use Rattle.world.specs.Held.{unrefused}
 use Rattle.world.specs.Serving.{IsServed}
 use Rattle.fragdb.specs.PlayLoad.{emptied}
 use Rattle.fragdb.proofs.ClientLemmas.{ran_from}
@@ -18,6 +18,6 @@ returns-clause-ok g c =
     let empty = c.in_ok-whole.ensures ∙ ap (λ schemas. emptied schemas finite.empty) c.schema.ensures.schemas in
     let fits_schema = subst (FitsSchema (schemas_of (catalogue_of c.args.catalog))) (sym empty) (emptied-fits (schemas_of (catalogue_of c.args.catalog))) in
     ran_from c.args.mode (g.W.Write.contents c.args.output.now) (g.W.Write.contents c.run_items.new.output) (catalogue_of c.args.catalog) c.args.items.now c.in-Ok.database c.run_items.new.database c.run_items.result
-    (subst (λ (whole : Relations). IsServed (database (catalogue_of c.args.catalog)) whole (held desk_kept kept_of c.in-Ok.database.machines) []) empty (c.in-Ok.ensures.served fits_schema))
+    (subst (λ (whole : Relations). IsServed (database (catalogue_of c.args.catalog)) whole (unrefused desk_kept kept_of c.in-Ok.database.machines) []) empty (c.in-Ok.ensures.served fits_schema))
     (c.in-Ok.ensures.stands fits_schema)
     c.in-Ok.ensures.catalog c.in-Ok.ensures.sound c.in-Ok.ensures.idle c.account_follows.ensures c.run_items.ensures.ok

@@ -1,7 +1,7 @@
 -- Why `commit_alone` meets its contract.
 use Rattle.std.proofs.Common.{◌∙◌, sym, ap}
 use Rattle.catalog.specs.Relation.{catalogue_of}
-use Rattle.world.specs.Held.{held}
+use Rattle.world.specs.Held.{counted}
 use Rattle.world.proofs.Moving.{if_ok}
 use Rattle.world.proofs.Reaching.{then_on}
 use Rattle.world.proofs.Refusing.{if_err}
@@ -16,7 +16,7 @@ returns-in-Ok-clause-ok g c = λ db of is clean sound fit.
 
 pub returns-in-Err-clause-served : goal.returns-in-Err-clause-served
 returns-in-Err-clause-served g c = λ db whole past of law is clean sound served.
-    then_on db law whole (held g.D.DeskStore.kept g.S.SiteStore.kept c.args.machines.now) (held g.D.DeskStore.kept g.S.SiteStore.kept c.commit.new.machines) (held g.D.DeskStore.kept g.S.SiteStore.kept c.take_back.new.machines) past
+    then_on db law whole (counted g.D.DeskStore.kept g.S.SiteStore.kept g.D.DeskStore.refused g.S.SiteStore.refused c.args.machines.now) (counted g.D.DeskStore.kept g.S.SiteStore.kept g.D.DeskStore.refused g.S.SiteStore.refused c.commit.new.machines) (counted g.D.DeskStore.kept g.S.SiteStore.kept g.D.DeskStore.refused g.S.SiteStore.refused c.take_back.new.machines) past
     (c.commit.ensures.served db whole past of law is (c.take_back.ensures.clean clean) sound served)
     (λ more so. c.take_back.ensures.served db whole more of law (is ∙ ap catalogue_of (sym c.commit.ensures.catalog)) clean (c.commit.ensures.sound (c.take_back.ensures.clean clean) sound) so)
 
@@ -25,8 +25,8 @@ returns-in-Ok-clause-denied g c = λ db of is clean sound fit. if_err c.hears.re
 
 pub returns-in-Err-clause-denied : goal.returns-in-Err-clause-denied
 returns-in-Err-clause-denied g c = λ db of is clean sound fit.
-    let before = held g.D.DeskStore.kept g.S.SiteStore.kept c.args.machines.now in
-    let middle = held g.D.DeskStore.kept g.S.SiteStore.kept c.commit.new.machines in
-    let after = held g.D.DeskStore.kept g.S.SiteStore.kept c.take_back.new.machines in
+    let before = counted g.D.DeskStore.kept g.S.SiteStore.kept g.D.DeskStore.refused g.S.SiteStore.refused c.args.machines.now in
+    let middle = counted g.D.DeskStore.kept g.S.SiteStore.kept g.D.DeskStore.refused g.S.SiteStore.refused c.commit.new.machines in
+    let after = counted g.D.DeskStore.kept g.S.SiteStore.kept g.D.DeskStore.refused g.S.SiteStore.refused c.take_back.new.machines in
     taken_back db c.args.txn (call.Commit c.args.txn) before middle after c.take_back.result c.in-Err.refusal c.take_back.ensures.told (c.in-Err.ensures.denied db of is (c.take_back.ensures.clean clean) sound fit)
     (λ fit_middle. c.take_back.ensures.taken db of (is ∙ ap catalogue_of (sym c.commit.ensures.catalog)) clean (c.commit.ensures.sound (c.take_back.ensures.clean clean) sound) fit_middle)

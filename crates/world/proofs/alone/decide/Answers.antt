@@ -1,6 +1,6 @@
 -- Why `decide` meets its contract.
 use Rattle.std.proofs.Common.{◌≡◌, ◌∙◌, refl, sym, ap, true, false}
-use Rattle.world.specs.Held.{held}
+use Rattle.world.specs.Held.{counted}
 use Rattle.world.specs.Serving.{did_decide, had_ended, is_end, tells}
 use Rattle.world.proofs.Denying.{not_decided}
 use Rattle.world.proofs.Moving.{if_ok}
@@ -15,7 +15,7 @@ returns-then-tells_end-clause-ok g c = λ db of is clean sound fit.
 
 pub returns-then-tells_end-clause-served : goal.returns-then-tells_end-clause-served
 returns-then-tells_end-clause-served g c = λ db whole past of law is clean sound served.
-    let here = held g.D.DeskStore.kept g.S.SiteStore.kept c.args.machines.now in
+    let here = counted g.D.DeskStore.kept g.S.SiteStore.kept g.D.DeskStore.refused g.S.SiteStore.refused c.args.machines.now in
     same_on db law whole here here past served refl
 
 pub returns-clause-ok : goal.returns-clause-ok
@@ -26,4 +26,4 @@ returns-clause-ok g c = λ db of is clean sound fit.
 pub returns-clause-denied : goal.returns-clause-denied
 returns-clause-denied g c = λ db of is clean sound fit.
     let goes_on : tells is_end c.args.told.items ≡ false = ap (tells is_end) (sym c.as_slice.ensures.value) ∙ sym c.tells_end.ensures ∙ c.if-tells_end.false in
-    if_err c.commit_alone.result (λ told denied. not_decided db c.args.txn c.args.told.items (held g.D.DeskStore.kept g.S.SiteStore.kept c.args.machines.now) (held g.D.DeskStore.kept g.S.SiteStore.kept c.commit_alone.new.machines) told goes_on denied) (c.commit_alone.ensures.denied db of is clean sound fit)
+    if_err c.commit_alone.result (λ told denied. not_decided db c.args.txn c.args.told.items (counted g.D.DeskStore.kept g.S.SiteStore.kept g.D.DeskStore.refused g.S.SiteStore.refused c.args.machines.now) (counted g.D.DeskStore.kept g.S.SiteStore.kept g.D.DeskStore.refused g.S.SiteStore.refused c.commit_alone.new.machines) told goes_on denied) (c.commit_alone.ensures.denied db of is clean sound fit)

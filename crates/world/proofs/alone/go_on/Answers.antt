@@ -1,7 +1,7 @@
 -- Why `go_on` meets its contract.
 use Rattle.std.proofs.Common.{refl, subst, List}
 use Rattle.desk.specs.declared.reply.Notice.{Notice}
-use Rattle.world.specs.Held.{held}
+use Rattle.world.specs.Held.{counted}
 use Rattle.world.specs.Serving.{DoesDecide}
 use Rattle.world.proofs.Moving.{if_ok}
 use Rattle.world.proofs.Reaching.{same_on}
@@ -12,17 +12,17 @@ use Rattle.world.proofs.alone.go_on.Goals as goal
 
 pub returns-in-Ok-clause-ok : goal.returns-in-Ok-clause-ok
 returns-in-Ok-clause-ok g c = λ db of is clean sound fit.
-    if_ok c.decide.result (λ heard decides. subst (λ (told : List Notice). DoesDecide db c.args.txn told (held g.D.DeskStore.kept g.S.SiteStore.kept c.args.machines.now) (held g.D.DeskStore.kept g.S.SiteStore.kept c.decide.new.machines) heard.items) c.in-Ok.ensures.all decides)
+    if_ok c.decide.result (λ heard decides. subst (λ (told : List Notice). DoesDecide db c.args.txn told (counted g.D.DeskStore.kept g.S.SiteStore.kept g.D.DeskStore.refused g.S.SiteStore.refused c.args.machines.now) (counted g.D.DeskStore.kept g.S.SiteStore.kept g.D.DeskStore.refused g.S.SiteStore.refused c.decide.new.machines) heard.items) c.in-Ok.ensures.all decides)
     (c.decide.ensures.ok db of is clean sound fit)
 
 pub returns-in-Err-clause-served : goal.returns-in-Err-clause-served
 returns-in-Err-clause-served g c = λ db whole past of law is clean sound served.
-    let here = held g.D.DeskStore.kept g.S.SiteStore.kept c.args.machines.now in
+    let here = counted g.D.DeskStore.kept g.S.SiteStore.kept g.D.DeskStore.refused g.S.SiteStore.refused c.args.machines.now in
     same_on db law whole here here past served refl
 
 pub returns-in-Ok-clause-denied : goal.returns-in-Ok-clause-denied
 returns-in-Ok-clause-denied g c = λ db of is clean sound fit.
-    if_err c.decide.result (λ why denied. subst (λ (told : List Notice). CommitIsDenied db c.args.txn told (held g.D.DeskStore.kept g.S.SiteStore.kept c.args.machines.now) (held g.D.DeskStore.kept g.S.SiteStore.kept c.decide.new.machines) why) c.in-Ok.ensures.all denied)
+    if_err c.decide.result (λ why denied. subst (λ (told : List Notice). CommitIsDenied db c.args.txn told (counted g.D.DeskStore.kept g.S.SiteStore.kept g.D.DeskStore.refused g.S.SiteStore.refused c.args.machines.now) (counted g.D.DeskStore.kept g.S.SiteStore.kept g.D.DeskStore.refused g.S.SiteStore.refused c.decide.new.machines) why) c.in-Ok.ensures.all denied)
     (c.decide.ensures.denied db of is clean sound fit)
 
 pub returns-in-Err-clause-denied : goal.returns-in-Err-clause-denied

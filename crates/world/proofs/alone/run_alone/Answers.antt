@@ -1,7 +1,7 @@
 -- Why `run_alone` meets its contract.
 use Rattle.std.proofs.Common.{◌∙◌, sym, ap}
 use Rattle.catalog.specs.Relation.{catalogue_of}
-use Rattle.world.specs.Held.{held}
+use Rattle.world.specs.Held.{counted}
 use Rattle.world.proofs.Moving.{if_ok}
 use Rattle.world.proofs.Reaching.{then_on}
 use Rattle.world.proofs.Refusing.{if_err}
@@ -11,19 +11,19 @@ use Rattle.world.proofs.alone.run_alone.Goals as goal
 pub returns-in-Ok-clause-ok : goal.returns-in-Ok-clause-ok
 returns-in-Ok-clause-ok g c = λ db of is clean sound fit.
     let begun = c.in-Ok.ensures.ok db of is (c.run_begun.ensures.clean clean) sound fit in
-    if_ok c.run_begun.result (λ heard runs. record { txn = c.in-Ok.begun.txn; began = held g.D.DeskStore.kept g.S.SiteStore.kept c.begin.new.machines; greeted = c.in-Ok.begun.heard.items; begun = begun; runs = runs })
+    if_ok c.run_begun.result (λ heard runs. record { txn = c.in-Ok.begun.txn; began = counted g.D.DeskStore.kept g.S.SiteStore.kept g.D.DeskStore.refused g.S.SiteStore.refused c.begin.new.machines; greeted = c.in-Ok.begun.heard.items; begun = begun; runs = runs })
     (c.run_begun.ensures.ok db of (is ∙ ap catalogue_of (sym c.begin.ensures.catalog)) clean (c.begin.ensures.sound (c.run_begun.ensures.clean clean) sound) begun.serves.fit)
 
 pub returns-in-Ok-clause-served : goal.returns-in-Ok-clause-served
 returns-in-Ok-clause-served g c = λ db whole past of law is clean sound served.
-    then_on db law whole (held g.D.DeskStore.kept g.S.SiteStore.kept c.args.machines.now) (held g.D.DeskStore.kept g.S.SiteStore.kept c.begin.new.machines) (held g.D.DeskStore.kept g.S.SiteStore.kept c.run_begun.new.machines) past
+    then_on db law whole (counted g.D.DeskStore.kept g.S.SiteStore.kept g.D.DeskStore.refused g.S.SiteStore.refused c.args.machines.now) (counted g.D.DeskStore.kept g.S.SiteStore.kept g.D.DeskStore.refused g.S.SiteStore.refused c.begin.new.machines) (counted g.D.DeskStore.kept g.S.SiteStore.kept g.D.DeskStore.refused g.S.SiteStore.refused c.run_begun.new.machines) past
     (c.begin.ensures.served db whole past of law is (c.run_begun.ensures.clean clean) sound served)
     (λ more so. c.run_begun.ensures.served db whole more of law (is ∙ ap catalogue_of (sym c.begin.ensures.catalog)) clean (c.begin.ensures.sound (c.run_begun.ensures.clean clean) sound) so)
 
 pub returns-in-Ok-clause-denied : goal.returns-in-Ok-clause-denied
 returns-in-Ok-clause-denied g c = λ db of is clean sound fit.
     let begun = c.in-Ok.ensures.ok db of is (c.run_begun.ensures.clean clean) sound fit in
-    if_err c.run_begun.result (λ told denied. has_begun_but c.in-Ok.begun.txn (held g.D.DeskStore.kept g.S.SiteStore.kept c.begin.new.machines) c.in-Ok.begun.heard.items begun denied)
+    if_err c.run_begun.result (λ told denied. has_begun_but c.in-Ok.begun.txn (counted g.D.DeskStore.kept g.S.SiteStore.kept g.D.DeskStore.refused g.S.SiteStore.refused c.begin.new.machines) c.in-Ok.begun.heard.items begun denied)
     (c.run_begun.ensures.denied db of (is ∙ ap catalogue_of (sym c.begin.ensures.catalog)) clean (c.begin.ensures.sound (c.run_begun.ensures.clean clean) sound) begun.serves.fit)
 
 pub returns-in-Err-clause-denied : goal.returns-in-Err-clause-denied

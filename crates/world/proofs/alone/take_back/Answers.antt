@@ -1,6 +1,6 @@
 -- Why `take_back` meets its contract.
 use Rattle.std.proofs.Common.{◌∙◌, inr, refl, sym}
-use Rattle.world.specs.Held.{held}
+use Rattle.world.specs.Held.{counted}
 use Rattle.world.specs.Denying.{is_rolled_back}
 use Rattle.world.proofs.Denying.{rolled_back}
 use Rattle.world.proofs.Reaching.{same_on}
@@ -8,7 +8,7 @@ use Rattle.world.proofs.alone.take_back.Goals as goal
 
 pub returns-then-is_stop-clause-served : goal.returns-then-is_stop-clause-served
 returns-then-is_stop-clause-served g c = λ db whole past of law is clean sound served.
-    let here = held g.D.DeskStore.kept g.S.SiteStore.kept c.args.machines.now in
+    let here = counted g.D.DeskStore.kept g.S.SiteStore.kept g.D.DeskStore.refused g.S.SiteStore.refused c.args.machines.now in
     same_on db law whole here here past served refl
 
 pub returns-in-Ok-clause-taken : goal.returns-in-Ok-clause-taken
@@ -16,4 +16,4 @@ returns-in-Ok-clause-taken g c = λ db of is clean sound fit. inr (is_rolled_bac
 
 pub returns-else-is_stop-2-clause-taken : goal.returns-else-is_stop-2-clause-taken
 returns-else-is_stop-2-clause-taken g c = λ db of is clean sound fit.
-    rolled_back db c.args.txn (held g.D.DeskStore.kept g.S.SiteStore.kept c.args.machines.now) (held g.D.DeskStore.kept g.S.SiteStore.kept c.roll_back.new.machines) c.args.refusal c.in-Err.other (sym c.is_stop-in-Err.ensures ∙ c.if-is_stop-2.false) (c.in-Err.ensures.denied db of is clean sound fit)
+    rolled_back db c.args.txn (counted g.D.DeskStore.kept g.S.SiteStore.kept g.D.DeskStore.refused g.S.SiteStore.refused c.args.machines.now) (counted g.D.DeskStore.kept g.S.SiteStore.kept g.D.DeskStore.refused g.S.SiteStore.refused c.roll_back.new.machines) c.args.refusal c.in-Err.other (sym c.is_stop-in-Err.ensures ∙ c.if-is_stop-2.false) (c.in-Err.ensures.denied db of is clean sound fit)

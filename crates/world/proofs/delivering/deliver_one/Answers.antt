@@ -1,8 +1,10 @@
 -- Why `deliver_one` meets its contract.
 use Rattle.std.proofs.Common.{◌∙◌, sym, ap, subst}
 use Rattle.catalog.specs.Relation.{catalogue_of}
-use Rattle.world.specs.Held.{held}
+use Rattle.world.specs.Counted.{counts}
+use Rattle.world.specs.Held.{counted, held}
 use Rattle.world.specs.Machines.{AreFit}
+use Rattle.world.proofs.Counting.{fit_uncounted, no_fewer_then, none_fewer}
 use Rattle.world.proofs.Deliveries.{passed_over, turned_away}
 use Rattle.world.proofs.Moving.{if_ok}
 use Rattle.world.proofs.Reasoned.{is_unsent, turned_away as is_turned}
@@ -11,18 +13,27 @@ use Rattle.world.proofs.delivering.deliver_one.Goals as goal
 
 pub returns-in-None-clause-ok : goal.returns-in-None-clause-ok
 returns-in-None-clause-ok g c = λ db of is clean sound fit.
-    let before = held g.D.DeskStore.kept g.S.SiteStore.kept c.args.machines.now in
-    let mid = held g.D.DeskStore.kept g.S.SiteStore.kept c.take.new.machines in
-    let after = held g.D.DeskStore.kept g.S.SiteStore.kept c.give_up.new.self in
+    let content = g.S.SiteStore.kept in
+    let told = c.in-Err.ensures.told db of is fit in
+    let before = held g.D.DeskStore.kept content c.args.machines.now in
+    let mid = held g.D.DeskStore.kept content c.take.new.machines in
+    let after = held g.D.DeskStore.kept content c.give_up.new.self in
+    let old = counts g.D.DeskStore.refused g.S.SiteStore.refused c.args.machines.now in
+    let more = counts g.D.DeskStore.refused g.S.SiteStore.refused c.take.new.machines in
+    let new = counts g.D.DeskStore.refused g.S.SiteStore.refused c.give_up.new.self in
     let same = c.in-Err.ensures.err (c.give_up.ensures.clean clean) sound in
     let over = over_of db c.take.new.machines.desk.catalog of (is ∙ ap catalogue_of (sym c.take.ensures.catalog)) in
-    let why = is_turned db before c.args.letter c.in-Err.fault (c.in-Err.ensures.told db of is fit) (sym c.turns_away-is_turned_away.ensures ∙ c.if-is_turned_away.true) in
-    if_ok c.give_up.result (λ out asked. turned_away db c.args.letter before mid after out.letters out.replies (no_choice db) same why asked.leads)
-    (c.give_up.ensures.ok db (no_choice db) over (subst (AreFit db) (sym same) fit))
+    let why = is_turned db (counted g.D.DeskStore.kept content g.D.DeskStore.refused g.S.SiteStore.refused c.args.machines.now) c.args.letter c.in-Err.fault told (sym c.turns_away-is_turned_away.ensures ∙ c.if-is_turned_away.true) in
+    if_ok c.give_up.result (λ out asked. turned_away db c.args.letter before after out.letters out.replies old new (no_fewer_then old more new c.take.ensures.counts (none_fewer more new c.give_up.ensures.uncalled)) mid (no_choice db) same why asked.leads)
+    (c.give_up.ensures.ok db (no_choice db) over (subst (AreFit db) (sym same) (fit_uncounted db before old fit)))
 
 pub returns-in-None-2-clause-ok : goal.returns-in-None-2-clause-ok
 returns-in-None-2-clause-ok g c = λ db of is clean sound fit.
-    let before = held g.D.DeskStore.kept g.S.SiteStore.kept c.args.machines.now in
-    let after = held g.D.DeskStore.kept g.S.SiteStore.kept c.take.new.machines in
-    let none = is_unsent db before c.args.letter c.in-Err.fault (c.in-Err.ensures.told db of is fit) (sym c.stopping.ensures ∙ c.in-None-2.is) (sym c.turns_away-is_turned_away.ensures ∙ c.if-is_turned_away.false) in
-    passed_over db c.args.letter before after c.put_out.result.letters c.put_out.result.replies fit none (c.in-Err.ensures.err clean sound) (c.put_out.ensures.letters ∙ c.new.ensures.items) c.put_out.ensures.replies
+    let content = g.S.SiteStore.kept in
+    let told = c.in-Err.ensures.told db of is fit in
+    let before = held g.D.DeskStore.kept content c.args.machines.now in
+    let after = held g.D.DeskStore.kept content c.take.new.machines in
+    let old = counts g.D.DeskStore.refused g.S.SiteStore.refused c.args.machines.now in
+    let new = counts g.D.DeskStore.refused g.S.SiteStore.refused c.take.new.machines in
+    let none = is_unsent db (counted g.D.DeskStore.kept content g.D.DeskStore.refused g.S.SiteStore.refused c.args.machines.now) c.args.letter c.in-Err.fault told (sym c.stopping.ensures ∙ c.in-None-2.is) (sym c.turns_away-is_turned_away.ensures ∙ c.if-is_turned_away.false) in
+    passed_over db c.args.letter before after c.put_out.result.letters c.put_out.result.replies old new c.take.ensures.counts (fit_uncounted db before old fit) none (c.in-Err.ensures.err clean sound) (c.put_out.ensures.letters ∙ c.new.ensures.items) c.put_out.ensures.replies

@@ -1,7 +1,7 @@
 -- Why `deliver_round` meets its contract.
 use Rattle.std.proofs.Common.{◌≡◌, ◌∙◌, ◌+◌, ◌-◌, ℕ, suc, length, refl, sym, ap, subst, arith}
 use Rattle.catalog.specs.Relation.{catalogue_of}
-use Rattle.world.specs.Held.{held}
+use Rattle.world.specs.Held.{counted}
 use Rattle.world.specs.Taking.{IsInRound, scene}
 use Rattle.world.proofs.Deliveries.{all_in_round, nothing_goes, then_breaks, then_goes}
 use Rattle.world.proofs.Moving.{on_any_err}
@@ -9,7 +9,7 @@ use Rattle.world.proofs.delivering.deliver_round.Goals as goal
 
 pub loop-init : goal.loop-init
 loop-init g c =
-    let here = scene (held g.D.DeskStore.kept g.S.SiteStore.kept c.args.machines.now) c.args.post.now in
+    let here = scene (counted g.D.DeskStore.kept g.S.SiteStore.kept g.D.DeskStore.refused g.S.SiteStore.refused c.args.machines.now) c.args.post.now in
     let count : c.len-end.result - 0 ≡ length c.args.post.now.waiting.items = omega (arith, c.len-end.ensures, c.args.post.now.waiting.ok.0) in
     record {
       clean = λ x. x;
@@ -21,9 +21,9 @@ loop-init g c =
 
 pub loop-preserved : goal.loop-preserved
 loop-preserved g c =
-    let first = scene (held g.D.DeskStore.kept g.S.SiteStore.kept c.args.machines.now) c.args.post.now in
-    let here = scene (held g.D.DeskStore.kept g.S.SiteStore.kept c.loop.machines) c.loop.post in
-    let there = scene (held g.D.DeskStore.kept g.S.SiteStore.kept c.deliver_next.new.machines) c.deliver_next.new.post in
+    let first = scene (counted g.D.DeskStore.kept g.S.SiteStore.kept g.D.DeskStore.refused g.S.SiteStore.refused c.args.machines.now) c.args.post.now in
+    let here = scene (counted g.D.DeskStore.kept g.S.SiteStore.kept g.D.DeskStore.refused g.S.SiteStore.refused c.loop.machines) c.loop.post in
+    let there = scene (counted g.D.DeskStore.kept g.S.SiteStore.kept g.D.DeskStore.refused g.S.SiteStore.refused c.deliver_next.new.machines) c.deliver_next.new.post in
     let one_less : c.len-end.result - c.loop.counter ≡ suc (c.len-end.result - (c.loop.counter + 1)) = omega (arith, c.loop-test.true) in
     record {
       clean = λ x. c.loop.invariant.clean (c.deliver_next.ensures.clean x);
@@ -41,14 +41,14 @@ loop-preserved g c =
 
 pub returns-clause-ranks : goal.returns-clause-ranks
 returns-clause-ranks g c = λ db n of is clean sound fit ranks.
-    let here = scene (held g.D.DeskStore.kept g.S.SiteStore.kept c.loop.machines) c.loop.post in
+    let here = scene (counted g.D.DeskStore.kept g.S.SiteStore.kept g.D.DeskStore.refused g.S.SiteStore.refused c.loop.machines) c.loop.post in
     let over : c.len-end.result - c.loop.counter ≡ 0 = omega (arith, c.loop-test.false) in
     subst (λ (k : ℕ). IsInRound db n k here) over (c.loop.invariant.ranks db n of is clean sound fit ranks)
 
 pub returns-in_err-deliver_next-clause-err : goal.returns-in_err-deliver_next-clause-err
 returns-in_err-deliver_next-clause-err g c = λ db of is clean sound fit.
-    let first = scene (held g.D.DeskStore.kept g.S.SiteStore.kept c.args.machines.now) c.args.post.now in
-    let here = scene (held g.D.DeskStore.kept g.S.SiteStore.kept c.loop.machines) c.loop.post in
+    let first = scene (counted g.D.DeskStore.kept g.S.SiteStore.kept g.D.DeskStore.refused g.S.SiteStore.refused c.args.machines.now) c.args.post.now in
+    let here = scene (counted g.D.DeskStore.kept g.S.SiteStore.kept g.D.DeskStore.refused g.S.SiteStore.refused c.loop.machines) c.loop.post in
     let so_far = c.loop.invariant.goes db of is (c.deliver_next.ensures.clean clean) sound fit in
-    on_any_err c.from_residual.result (then_breaks db (λ w. w) first here so_far (held g.D.DeskStore.kept g.S.SiteStore.kept c.deliver_next.new.machines)
+    on_any_err c.from_residual.result (then_breaks db (λ w. w) first here so_far (counted g.D.DeskStore.kept g.S.SiteStore.kept g.D.DeskStore.refused g.S.SiteStore.refused c.deliver_next.new.machines)
     (c.in_err-deliver_next.ensures.err db of (is ∙ ap catalogue_of (sym c.loop.invariant.catalog)) clean (c.loop.invariant.sound (c.deliver_next.ensures.clean clean) sound) so_far.fit))

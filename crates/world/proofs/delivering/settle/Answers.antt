@@ -2,7 +2,7 @@
 use Rattle.std.proofs.Common.{◌≡◌, ◌∙◌, ◌+◌, ◌-◌, ℕ, suc, refl, sym, ap, subst, arith}
 use Rattle.catalog.specs.Relation.{catalogue_of}
 use Rattle.protocol.specs.Rounds.{RanksUnder}
-use Rattle.world.specs.Held.{held}
+use Rattle.world.specs.Held.{counted}
 use Rattle.world.specs.Taking.{put_out_by, scene, world_at}
 use Rattle.world.proofs.Deliveries.{alike_goes, all_nine, goes_settled, none_left, then_breaks, then_goes}
 use Rattle.world.proofs.Moving.{on_any_err}
@@ -10,7 +10,7 @@ use Rattle.world.proofs.delivering.settle.Goals as goal
 
 pub loop-init : goal.loop-init
 loop-init g c =
-    let m = held g.D.DeskStore.kept g.S.SiteStore.kept c.args.machines.now in
+    let m = counted g.D.DeskStore.kept g.S.SiteStore.kept g.D.DeskStore.refused g.S.SiteStore.refused c.args.machines.now in
     record {
       clean = λ x. x;
       sound = λ x s. s;
@@ -21,9 +21,9 @@ loop-init g c =
 
 pub loop-preserved : goal.loop-preserved
 loop-preserved g c =
-    let first = put_out_by (held g.D.DeskStore.kept g.S.SiteStore.kept c.args.machines.now) c.args.out in
-    let here = scene (held g.D.DeskStore.kept g.S.SiteStore.kept c.loop.machines) c.loop.post in
-    let there = scene (held g.D.DeskStore.kept g.S.SiteStore.kept c.deliver_round.new.machines) c.deliver_round.new.post in
+    let first = put_out_by (counted g.D.DeskStore.kept g.S.SiteStore.kept g.D.DeskStore.refused g.S.SiteStore.refused c.args.machines.now) c.args.out in
+    let here = scene (counted g.D.DeskStore.kept g.S.SiteStore.kept g.D.DeskStore.refused g.S.SiteStore.refused c.loop.machines) c.loop.post in
+    let there = scene (counted g.D.DeskStore.kept g.S.SiteStore.kept g.D.DeskStore.refused g.S.SiteStore.refused c.deliver_round.new.machines) c.deliver_round.new.post in
     let one_less : 9 - c.loop.counter ≡ suc (8 - c.loop.counter) = omega (arith, c.loop-test.true) in
     let same : 8 - c.loop.counter ≡ 9 - (c.loop.counter + 1) = omega arith in
     record {
@@ -43,15 +43,15 @@ loop-preserved g c =
 
 pub returns-clause-ok : goal.returns-clause-ok
 returns-clause-ok g c = λ db of is clean sound fit.
-    let first = put_out_by (held g.D.DeskStore.kept g.S.SiteStore.kept c.args.machines.now) c.args.out in
-    let here = scene (held g.D.DeskStore.kept g.S.SiteStore.kept c.loop.machines) c.loop.post in
+    let first = put_out_by (counted g.D.DeskStore.kept g.S.SiteStore.kept g.D.DeskStore.refused g.S.SiteStore.refused c.args.machines.now) c.args.out in
+    let here = scene (counted g.D.DeskStore.kept g.S.SiteStore.kept g.D.DeskStore.refused g.S.SiteStore.refused c.loop.machines) c.loop.post in
     let over : 9 - c.loop.counter ≡ 0 = omega (arith, c.loop-test.false) in
     goes_settled db (λ w. w) first here (c.loop.invariant.goes db of is clean sound fit) (none_left db here (subst (λ (k : ℕ). RanksUnder k (world_at db here)) over (c.loop.invariant.ranks db of is clean sound fit)))
 
 pub returns-in_err-deliver_round-clause-err : goal.returns-in_err-deliver_round-clause-err
 returns-in_err-deliver_round-clause-err g c = λ db of is clean sound fit.
-    let first = put_out_by (held g.D.DeskStore.kept g.S.SiteStore.kept c.args.machines.now) c.args.out in
-    let here = scene (held g.D.DeskStore.kept g.S.SiteStore.kept c.loop.machines) c.loop.post in
+    let first = put_out_by (counted g.D.DeskStore.kept g.S.SiteStore.kept g.D.DeskStore.refused g.S.SiteStore.refused c.args.machines.now) c.args.out in
+    let here = scene (counted g.D.DeskStore.kept g.S.SiteStore.kept g.D.DeskStore.refused g.S.SiteStore.refused c.loop.machines) c.loop.post in
     let so_far = c.loop.invariant.goes db of is (c.deliver_round.ensures.clean clean) sound fit in
-    on_any_err c.from_residual.result (then_breaks db (λ w. w) first here so_far (held g.D.DeskStore.kept g.S.SiteStore.kept c.deliver_round.new.machines)
+    on_any_err c.from_residual.result (then_breaks db (λ w. w) first here so_far (counted g.D.DeskStore.kept g.S.SiteStore.kept g.D.DeskStore.refused g.S.SiteStore.refused c.deliver_round.new.machines)
     (c.in_err-deliver_round.ensures.err db of (is ∙ ap catalogue_of (sym c.loop.invariant.catalog)) clean (c.loop.invariant.sound (c.deliver_round.ensures.clean clean) sound) so_far.fit))

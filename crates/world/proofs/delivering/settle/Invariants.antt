@@ -5,7 +5,7 @@ use Rattle.protocol.specs.Rounds.{RanksUnder}
 use Rattle.desk.specs.Database.{Database}
 use Rattle.desk.specs.OfCatalogue.{IsOfCatalogue}
 use Rattle.world.specs.Delivering.{Goes}
-use Rattle.world.specs.Held.{OfStores, held}
+use Rattle.world.specs.Held.{OfStores, counted}
 use Rattle.world.specs.Machines.{AreFit}
 use Rattle.world.specs.Taking.{put_out_by, scene, world_at}
 use Rattle.world.proofs.delivering.settle.Given as goal
@@ -16,7 +16,7 @@ invariant-loop g l = record {
   sound : OfStores g.D.DeskStore.is_clean g.S.SiteStore.is_clean l.machines → OfStores g.D.DeskStore.is_sound g.S.SiteStore.is_sound l.fn.machines → OfStores g.D.DeskStore.is_sound g.S.SiteStore.is_sound l.machines;
   catalog : l.machines.desk.catalog ≡ l.fn.machines.desk.catalog;
   goes : (db : Database) → IsOfCatalogue db → db.catalogue ≡ catalogue_of l.fn.machines.desk.catalog → OfStores g.D.DeskStore.is_clean g.S.SiteStore.is_clean l.machines → OfStores g.D.DeskStore.is_sound g.S.SiteStore.is_sound l.fn.machines
-      → AreFit db (held g.D.DeskStore.kept g.S.SiteStore.kept l.fn.machines) → Goes db (λ w. w) (put_out_by (held g.D.DeskStore.kept g.S.SiteStore.kept l.fn.machines) l.fn.out) (scene (held g.D.DeskStore.kept g.S.SiteStore.kept l.machines) l.post);
+      → AreFit db (counted g.D.DeskStore.kept g.S.SiteStore.kept g.D.DeskStore.refused g.S.SiteStore.refused l.fn.machines) → Goes db (λ w. w) (put_out_by (counted g.D.DeskStore.kept g.S.SiteStore.kept g.D.DeskStore.refused g.S.SiteStore.refused l.fn.machines) l.fn.out) (scene (counted g.D.DeskStore.kept g.S.SiteStore.kept g.D.DeskStore.refused g.S.SiteStore.refused l.machines) l.post);
   ranks : (db : Database) → IsOfCatalogue db → db.catalogue ≡ catalogue_of l.fn.machines.desk.catalog → OfStores g.D.DeskStore.is_clean g.S.SiteStore.is_clean l.machines → OfStores g.D.DeskStore.is_sound g.S.SiteStore.is_sound l.fn.machines
-      → AreFit db (held g.D.DeskStore.kept g.S.SiteStore.kept l.fn.machines) → RanksUnder (9 - l.counter) (world_at db (scene (held g.D.DeskStore.kept g.S.SiteStore.kept l.machines) l.post));
+      → AreFit db (counted g.D.DeskStore.kept g.S.SiteStore.kept g.D.DeskStore.refused g.S.SiteStore.refused l.fn.machines) → RanksUnder (9 - l.counter) (world_at db (scene (counted g.D.DeskStore.kept g.S.SiteStore.kept g.D.DeskStore.refused g.S.SiteStore.refused l.machines) l.post));
 }

@@ -1,8 +1,11 @@
 -- Why `do_at` meets its contract.
-use Rattle.std.proofs.Common.{◌≡◌, ◌∙◌, ◌∷◌, ap, sym, subst, Some}
+use Rattle.std.proofs.Common.{◌≡◌, ◌∙◌, ◌∷◌, ap, sym, subst, Some, inl, inr, ⊎_elim}
+use Rattle.site.specs.Refusals.{AsksToKeep}
+use Rattle.world.specs.Counted.{HaveRefused, NoFewer, counts_of}
 use Rattle.world.specs.Seated.{place_of, seat_from, seats_in}
-use Rattle.world.specs.Seats.{is_called, seat_of}
-use Rattle.world.proofs.Moving.{all_there, first_seated, first_takes, other_takes, rest_seated, there_later}
+use Rattle.world.specs.Seats.{Seat, is_called, seat_of}
+use Rattle.world.proofs.Counting.{at_most, first_is, no_fewer}
+use Rattle.world.proofs.Moving.{all_there, first_seated, first_takes, if_ok, other_takes, rest_seated, there_later}
 use Rattle.world.proofs.Reasoned.{first_tells}
 use Rattle.world.proofs.seats.+do_at.Goals as goal
 
@@ -44,3 +47,37 @@ returns-clause-told g t c = λ letter seat is there.
     let here : seat_of letter.site (seat_from content site ∷ seats_in content rest) ≡ Some seat = subst (λ all. seat_of letter.site (seats_in content all) ≡ Some seat) c.in-Some.ensures.cases.0 there in
     let called = ap (λ what. is_called (place_of what) (seat_from content site)) (sym is) ∙ (ap (λ n. is_called n (seat_from content site)) (sym c.site.ensures) ∙ sym c.is_called.ensures ∙ c.if-not-is_called.false) in
     first_tells c.do_one.result (seat_from content site) seat (seats_in content rest) letter called here (c.do_one.ensures.told letter is called)
+
+pub returns-then-not-is_called-clause-counts : goal.returns-then-not-is_called-clause-counts
+returns-then-not-is_called-clause-counts g t c =
+    let refused = g.S.SiteStore.refused in
+    subst (λ all. NoFewer (counts_of refused all) (counts_of refused (c.in-Some.site.now ∷ c.do_at.new.sites))) (sym c.in-Some.ensures.cases.0) (at_most (refused c.in-Some.site.now.store), c.do_at.ensures.counts)
+
+pub returns-clause-counts : goal.returns-clause-counts
+returns-clause-counts g t c =
+    let refused = g.S.SiteStore.refused in
+    let rest = c.in-Some.rest.now in
+    subst (λ all. NoFewer (counts_of refused all) (counts_of refused (c.do_one.new.site ∷ rest))) (sym c.in-Some.ensures.cases.0) (c.do_one.ensures.counts, no_fewer (counts_of refused rest))
+
+pub returns-then-not-is_called-clause-vote : goal.returns-then-not-is_called-clause-vote
+returns-then-not-is_called-clause-vote g t c = λ letter seat is there keeps.
+    let content = g.S.SiteStore.kept in
+    let refused = g.S.SiteStore.refused in
+    let site = c.in-Some.site.now in
+    let rest = c.in-Some.rest.now in
+    let here : seat_of letter.site (seat_from content site ∷ seats_in content rest) ≡ Some seat = subst (λ all. seat_of letter.site (seats_in content all) ≡ Some seat) c.in-Some.ensures.cases.0 there in
+    let apart = ap (λ what. is_called (place_of what) (seat_from content site)) (sym is) ∙ (ap (λ n. is_called n (seat_from content site)) (sym c.site.ensures) ∙ sym c.is_called.ensures ∙ c.if-not-is_called.true) in
+    if_ok c.do_at.result (λ letters refuses none. ⊎_elim (λ unmade. inl unmade) (λ more. inr (subst (λ all. HaveRefused (counts_of refused all) (counts_of refused (site ∷ c.do_at.new.sites))) (sym c.in-Some.ensures.cases.0) (inr more))) (refuses none))
+    (c.do_at.ensures.vote letter seat is (there_later letter.site (seat_from content site) seat (seats_in content rest) apart here) keeps)
+
+pub returns-clause-vote : goal.returns-clause-vote
+returns-clause-vote g t c = λ letter seat is there keeps.
+    let content = g.S.SiteStore.kept in
+    let refused = g.S.SiteStore.refused in
+    let site = c.in-Some.site.now in
+    let rest = c.in-Some.rest.now in
+    let here : seat_of letter.site (seat_from content site ∷ seats_in content rest) ≡ Some seat = subst (λ all. seat_of letter.site (seats_in content all) ≡ Some seat) c.in-Some.ensures.cases.0 there in
+    let called = ap (λ what. is_called (place_of what) (seat_from content site)) (sym is) ∙ (ap (λ n. is_called n (seat_from content site)) (sym c.site.ensures) ∙ sym c.is_called.ensures ∙ c.if-not-is_called.false) in
+    let same = first_is letter.site (seat_from content site) seat (seats_in content rest) called here in
+    if_ok c.do_one.result (λ letters refuses none. ⊎_elim (λ unmade. inl unmade) (λ more. inr (subst (λ all. HaveRefused (counts_of refused all) (counts_of refused (c.do_one.new.site ∷ rest))) (sym c.in-Some.ensures.cases.0) (inl more))) (refuses none))
+    (c.do_one.ensures.vote letter is (subst (λ (s : Seat). AsksToKeep s.table letter.body) (sym same) keeps))

@@ -1,5 +1,5 @@
 -- Why `begin` meets its contract.
-use Rattle.world.specs.Held.{held}
+use Rattle.world.specs.Held.{counted}
 use Rattle.world.proofs.Beginning.{begin_done}
 use Rattle.world.proofs.Moving.{if_both}
 use Rattle.std.proofs.Common.{inr}
@@ -9,13 +9,13 @@ use Rattle.world.proofs.serving.begin.Goals as goal
 
 pub returns-in-Ok-clause-ok : goal.returns-in-Ok-clause-ok
 returns-in-Ok-clause-ok g c = λ db of is clean sound fit.
-    if_both c.named.result (λ begun same first. begin_done db (held g.D.DeskStore.kept g.S.SiteStore.kept c.args.machines.now) (held g.D.DeskStore.kept g.S.SiteStore.kept c.greet.new.machines) c.in-Ok.heard.items (c.in-Ok.ensures.ok db of is clean sound fit) begun.txn begun.heard.items same first)
+    if_both c.named.result (λ begun same first. begin_done db (counted g.D.DeskStore.kept g.S.SiteStore.kept g.D.DeskStore.refused g.S.SiteStore.refused c.args.machines.now) (counted g.D.DeskStore.kept g.S.SiteStore.kept g.D.DeskStore.refused g.S.SiteStore.refused c.greet.new.machines) c.in-Ok.heard.items (c.in-Ok.ensures.ok db of is clean sound fit) begun.txn begun.heard.items same first)
     c.named.ensures.same c.named.ensures.first
 
 pub returns-in-Ok-clause-denied : goal.returns-in-Ok-clause-denied
 returns-in-Ok-clause-denied g c = λ db of is clean sound fit.
-    let before = held g.D.DeskStore.kept g.S.SiteStore.kept c.args.machines.now in
-    let after = held g.D.DeskStore.kept g.S.SiteStore.kept c.greet.new.machines in
+    let before = counted g.D.DeskStore.kept g.S.SiteStore.kept g.D.DeskStore.refused g.S.SiteStore.refused c.args.machines.now in
+    let after = counted g.D.DeskStore.kept g.S.SiteStore.kept g.D.DeskStore.refused g.S.SiteStore.refused c.greet.new.machines in
     let serves = c.in-Ok.ensures.ok db of is clean sound fit in
     if_errs c.named.result (λ told full none. inr ((full, begin_unheard db before after c.in-Ok.heard.items serves none), begin_still db before after c.in-Ok.heard.items serves none))
     c.named.ensures.full c.named.ensures.none

@@ -1,5 +1,5 @@
 -- Why `at_site` meets its contract.
-use Rattle.std.proofs.Common.{Bool, ◌≡◌, ◌∙◌, ap, sym, subst, Some}
+use Rattle.std.proofs.Common.{Bool, ◌≡◌, ◌∙◌, ap, sym, subst, Some, inl, inr, ⊎_elim}
 use Rattle.protocol.specs.Letters.{txn_name}
 use Rattle.site.specs.State.{state_of}
 use Rattle.desk.specs.Database.{language, sent}
@@ -10,6 +10,7 @@ use Rattle.world.specs.Reasons.{CallKept}
 use Rattle.world.specs.Seats.{seat_of}
 use Rattle.world.specs.Seated.{SomeSeatDoes, place_of, seats_in}
 use Rattle.world.proofs.Machinery.{put_out_leads, take_within}
+use Rattle.world.proofs.Counting.{at_most}
 use Rattle.world.proofs.machines.Machines.at_site.Goals as goal
 
 pub returns-in-Ok-clause-ok : goal.returns-in-Ok-clause-ok
@@ -38,3 +39,12 @@ returns-in-Ok-clause-keeps g c = λ db seat letter clean sound fit is there.
     let did = subst (λ what. SomeSeatDoes what seat before.seats after c.in-Ok.letters.items) is (c.in-Ok.ensures.ok seat clean.1 sound.1 fit.sites found) in
     subst (λ (kept : Bool). CallKept {L = language db} kept (sent db letter).body) (sym c.put_out.ensures.kept)
     (calls_kept letter.site (txn_name letter.txn) c.in-Ok.letters.items db (state_of seat.kept seat.table) letter.body did.does.says)
+
+pub returns-in-Ok-clause-vote : goal.returns-in-Ok-clause-vote
+returns-in-Ok-clause-vote g c = λ letter seat is there keeps none. ⊎_elim (λ unmade. inl unmade) (λ more. inr (inr more)) (c.in-Ok.ensures.vote letter seat is there keeps (sym c.put_out.ensures.kept ∙ none))
+
+pub returns-in-Ok-clause-counts : goal.returns-in-Ok-clause-counts
+returns-in-Ok-clause-counts g c = (at_most (g.D.DeskStore.refused c.args.self.now.desk.store), c.do_among.ensures.counts)
+
+pub returns-in-Err-clause-counts : goal.returns-in-Err-clause-counts
+returns-in-Err-clause-counts g c = (at_most (g.D.DeskStore.refused c.args.self.now.desk.store), c.do_among.ensures.counts)

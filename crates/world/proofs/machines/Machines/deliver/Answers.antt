@@ -1,13 +1,16 @@
 -- Why `deliver` meets its contract.
-use Rattle.std.proofs.Common.{◌≡◌, nat_eq, true, [], refl, sym, subst, ◌∙◌, IfErr}
+use Rattle.std.proofs.Common.{◌≡◌, ◌⊎◌, nat_eq, true, false, [], refl, sym, subst, ◌∙◌, IfErr, IfOk}
 use Rattle.std.specs.Cmp.Lexicographic.{pointwise}
 use Rattle.std.specs.List.{list_any}
 use Rattle.meaning.specs.declared.answer.Answer.TheVariants.{Exists}
+use Rattle.world.specs.Counted.{HaveRefused, counts}
 use Rattle.world.specs.Held.{held}
 use Rattle.world.specs.Reasons.{Tells}
+use Rattle.world.specs.Taking.{CameUnless}
 use Rattle.world.proofs.machines.Machines.deliver.Goals.{in-Ok, in-Err}
 use Rattle.world.proofs.CallsKept.{any_ok, reply_keeps}
 use Rattle.world.proofs.Seating.{seat_there}
+use Rattle.world.proofs.Spared.{order_spared, reply_spared}
 use Rattle.world.proofs.machines.Machines.deliver.Goals as goal
 
 -- an order evaluates nothing, so any answer will do
@@ -40,3 +43,28 @@ returns-in-Ok-at_site-clause-keeps g c = λ db of is clean sound fit of_site.
 
 pub returns-then-not-is_order-clause-keeps : goal.returns-then-not-is_order-clause-keeps
 returns-then-not-is_order-clause-keeps g c = λ db of is clean sound fit of_site. any_ok _ (λ out. reply_keeps db c.args.letter.body out.kept (sym c.is_order.ensures ∙ c.if-not-is_order.true))
+
+pub returns-in-Ok-at_site-clause-spared : goal.returns-in-Ok-at_site-clause-spared
+returns-in-Ok-at_site-clause-spared g c = λ db of is clean sound fit of_site.
+    let name = c.args.letter.site in
+    let before = held g.D.DeskStore.kept g.S.SiteStore.kept c.args.self.now in
+    let after = held g.D.DeskStore.kept g.S.SiteStore.kept c.at_site.new.self in
+    let out = c.in-Ok-at_site.out in
+    let seat = seat_there name before.seats (subst (λ names. list_any (λ site. pointwise nat_eq site name) names ≡ true) (sym fit.names) of_site) in
+    order_spared ((c.args.kept ≡ false) ⊎ HaveRefused (counts g.D.DeskStore.refused g.S.SiteStore.refused c.args.self.now) (counts g.D.DeskStore.refused g.S.SiteStore.refused c.at_site.new.self)) db c.args.letter before after out.letters out.replies out.kept seat.0 seat.1
+    (sym c.is_order.ensures ∙ c.if-not-is_order.false)
+    (c.in-Ok-at_site.ensures.keeps db seat.0 c.args.letter clean sound fit refl seat.1)
+    (record { choice = (Exists, []); within = c.in-Ok-at_site.ensures.within db (Exists, []) seat.0 c.args.letter clean sound fit refl seat.1; leads = c.in-Ok-at_site.ensures.ok db (Exists, []) seat.0 clean sound fit seat.1 })
+    (λ asks. c.in-Ok-at_site.ensures.vote c.args.letter seat.0 refl seat.1 asks)
+
+pub returns-then-not-is_order-clause-spared : goal.returns-then-not-is_order-clause-spared
+returns-then-not-is_order-clause-spared g c = λ db of is clean sound fit of_site.
+    let before = held g.D.DeskStore.kept g.S.SiteStore.kept c.args.self.now in
+    let after = held g.D.DeskStore.kept g.S.SiteStore.kept c.reply.new.self in
+    let Refused = (c.args.kept ≡ false) ⊎ HaveRefused (counts g.D.DeskStore.refused g.S.SiteStore.refused c.args.self.now) (counts g.D.DeskStore.refused g.S.SiteStore.refused c.reply.new.self) in
+    let no_order = sym c.is_order.ensures ∙ c.if-not-is_order.true in
+    elim c.match-reply.branch [
+      | in-Ok w ↦ subst (λ result. IfOk result (λ out. CameUnless Refused db c.args.letter before after out.letters out.replies)) (sym w.result-is)
+          (reply_spared Refused db c.args.letter before after w.in-Ok.out.letters w.in-Ok.out.replies w.in-Ok.out.kept (reply_keeps db c.args.letter.body w.in-Ok.out.kept no_order) (w.in-Ok.ensures.ok db of is clean sound fit no_order of_site) w.in-Ok.ensures.refusal)
+      | in-Err w ↦ subst (λ result. IfOk result (λ out. CameUnless Refused db c.args.letter before after out.letters out.replies)) (sym w.result-is) tt
+    ]

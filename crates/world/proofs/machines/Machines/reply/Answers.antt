@@ -1,6 +1,9 @@
 -- Why `reply` meets its contract.
+use Rattle.std.proofs.Common.{inl, inr, ⊎_elim}
 use Rattle.desk.specs.State.{table_of}
+use Rattle.world.specs.Counted.{counts_of}
 use Rattle.world.specs.Held.{held}
+use Rattle.world.proofs.Counting.{no_fewer}
 use Rattle.world.proofs.Machinery.{reply_leads, reply_of}
 use Rattle.world.proofs.Moving.{if_ok}
 use Rattle.world.proofs.Reasoned.{desk_tells}
@@ -19,3 +22,9 @@ returns-clause-told g c = λ db of is fit no_order of_site.
     let before = held g.D.DeskStore.kept g.S.SiteStore.kept c.args.self.now in
     let said = reply_of c.args.letter.now.body no_order in
     desk_tells db before c.args.letter.now c.take_kept.result said.0 said.1 no_order c.take_kept.ensures.own (c.take_kept.ensures.full db said.0 of is fit.desk said.1 of_site)
+
+pub returns-clause-counts : goal.returns-clause-counts
+returns-clause-counts g c = (c.take_kept.ensures.counts, no_fewer (counts_of g.S.SiteStore.refused c.args.self.now.sites.items))
+
+pub returns-clause-refusal : goal.returns-clause-refusal
+returns-clause-refusal g c = if_ok c.take_kept.result (λ out refuses none. ⊎_elim (λ unmade. inl unmade) (λ refused. inr (inl refused)) (refuses none)) c.take_kept.ensures.refusal

@@ -2,7 +2,7 @@
 use Rattle.std.proofs.Common.{◌∙◌, List, ap, refl, subst, sym, ℕ, inl, inr, ⊎_elim, Err}
 use Rattle.reader.specs.declared.command.Command.TheVariants.{Begin, Commit, Rollback}
 use Rattle.world.specs.Denying.{IsUnreadable}
-use Rattle.world.specs.Held.{held}
+use Rattle.world.specs.Held.{counted}
 use Rattle.world.proofs.Denying.{as_before, only_memory, text_declines}
 use Rattle.meaning.specs.declared.schema.RelationSchema.{RelationSchema}
 use Rattle.reader.specs.Command.{IsTextOf}
@@ -23,7 +23,7 @@ returns-in-Ok-clause-denied g c = λ db of is clean sound fit.
 
 pub returns-in-Err-clause-denied : goal.returns-in-Err-clause-denied
 returns-in-Err-clause-denied g c = λ db of is clean sound fit.
-    text_declines db c.args.text.now c.args.self.now.current (held g.D.DeskStore.kept g.S.SiteStore.kept c.args.self.now.machines) (held g.D.DeskStore.kept g.S.SiteStore.kept c.args.self.now.machines) c.in-Err.refusal (as_before db (held g.D.DeskStore.kept g.S.SiteStore.kept c.args.self.now.machines) (held g.D.DeskStore.kept g.S.SiteStore.kept c.args.self.now.machines) fit refl)
+    text_declines db c.args.text.now c.args.self.now.current (counted g.D.DeskStore.kept g.S.SiteStore.kept g.D.DeskStore.refused g.S.SiteStore.refused c.args.self.now.machines) (counted g.D.DeskStore.kept g.S.SiteStore.kept g.D.DeskStore.refused g.S.SiteStore.refused c.args.self.now.machines) c.in-Err.refusal (as_before db (counted g.D.DeskStore.kept g.S.SiteStore.kept g.D.DeskStore.refused g.S.SiteStore.refused c.args.self.now.machines) (counted g.D.DeskStore.kept g.S.SiteStore.kept g.D.DeskStore.refused g.S.SiteStore.refused c.args.self.now.machines) fit refl)
     (subst (λ (schemas : List RelationSchema). IsUnreadable schemas c.args.text.now c.in-Err.refusal) (ap (λ (x : List (List ℕ) × List SplitRelation). schemas_of (catalogue_of x)) c.catalog.ensures ∙ ap schemas_of (sym is) ∙ sym of.schemas) c.in-Err.ensures.unread)
 
 pub returns-in-Ok-clause-inside : goal.returns-in-Ok-clause-inside

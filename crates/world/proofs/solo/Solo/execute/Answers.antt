@@ -6,7 +6,7 @@ use Rattle.protocol.specs.Client.{ReachedLaw}
 use Rattle.desk.specs.Database.{language}
 use Rattle.desk.specs.OfCatalogue.{IsOfCatalogue}
 use Rattle.world.specs.Base.{database, fits}
-use Rattle.world.specs.Held.{held}
+use Rattle.world.specs.Held.{counted}
 use Rattle.world.specs.Obeying.{ObeysUnlessRefused}
 use Rattle.world.specs.Denying.{DeniesForAReason}
 use Rattle.world.specs.StandingAgain.{StandsAgain}
@@ -26,8 +26,8 @@ returns-clause-served g c = λ whole past clean sound served.
 pub returns-clause-obeyed : goal.returns-clause-obeyed
 returns-clause-obeyed g c = λ whole past going clean sound served stands.
     let catalogue = catalogue_of c.args.self.now.machines.desk.catalog in
-    let before = held g.D.DeskStore.kept g.S.SiteStore.kept c.args.self.now.machines in
-    let after = held g.D.DeskStore.kept g.S.SiteStore.kept c.command-done.new.self.machines in
+    let before = counted g.D.DeskStore.kept g.S.SiteStore.kept g.D.DeskStore.refused g.S.SiteStore.refused c.args.self.now.machines in
+    let after = counted g.D.DeskStore.kept g.S.SiteStore.kept g.D.DeskStore.refused g.S.SiteStore.refused c.command-done.new.self.machines in
     let of = subst (λ (x : List (List ℕ) × List SplitRelation). IsOfCatalogue (database (catalogue_of x))) c.catalog.ensures c.database_is_of_catalogue.ensures.of_catalogue in
     let law = subst (λ (x : List (List ℕ) × List SplitRelation). ObeysUnlessRefused (database (catalogue_of x)) (fits (catalogue_of x))) c.catalog-3.ensures c.obeyed_unless_refused.ensures in
     if_ok c.command-done.result (λ heard executes. obeys_of (database catalogue) (fits catalogue) law whole c.args.text.now before after past heard.items served c.args.self.now.current c.command-done.new.self.current stands executes)
@@ -36,8 +36,8 @@ returns-clause-obeyed g c = λ whole past going clean sound served stands.
 pub returns-clause-stands : goal.returns-clause-stands
 returns-clause-stands g c = λ whole past going clean sound served stands going_on.
     let catalogue = catalogue_of c.args.self.now.machines.desk.catalog in
-    let before = held g.D.DeskStore.kept g.S.SiteStore.kept c.args.self.now.machines in
-    let after = held g.D.DeskStore.kept g.S.SiteStore.kept c.command-done.new.self.machines in
+    let before = counted g.D.DeskStore.kept g.S.SiteStore.kept g.D.DeskStore.refused g.S.SiteStore.refused c.args.self.now.machines in
+    let after = counted g.D.DeskStore.kept g.S.SiteStore.kept g.D.DeskStore.refused g.S.SiteStore.refused c.command-done.new.self.machines in
     let of = subst (λ (x : List (List ℕ) × List SplitRelation). IsOfCatalogue (database (catalogue_of x))) c.catalog.ensures c.database_is_of_catalogue.ensures.of_catalogue in
     let law = subst (λ (x : List (List ℕ) × List SplitRelation). StandsAgain (database (catalogue_of x)) (fits (catalogue_of x))) c.catalog-5.ensures c.stands_again.ensures in
     stands_next (database catalogue) (fits catalogue) law whole c.args.text.now c.args.self.now.current c.command-done.new.self.current before after past c.command-done.result (λ heard. heard.items) served stands
@@ -46,8 +46,8 @@ returns-clause-stands g c = λ whole past going clean sound served stands going_
 pub returns-clause-denied : goal.returns-clause-denied
 returns-clause-denied g c = λ whole past going clean sound served stands.
     let catalogue = catalogue_of c.args.self.now.machines.desk.catalog in
-    let before = held g.D.DeskStore.kept g.S.SiteStore.kept c.args.self.now.machines in
-    let after = held g.D.DeskStore.kept g.S.SiteStore.kept c.command-done.new.self.machines in
+    let before = counted g.D.DeskStore.kept g.S.SiteStore.kept g.D.DeskStore.refused g.S.SiteStore.refused c.args.self.now.machines in
+    let after = counted g.D.DeskStore.kept g.S.SiteStore.kept g.D.DeskStore.refused g.S.SiteStore.refused c.command-done.new.self.machines in
     let of = subst (λ (x : List (List ℕ) × List SplitRelation). IsOfCatalogue (database (catalogue_of x))) c.catalog.ensures c.database_is_of_catalogue.ensures.of_catalogue in
     let law = subst (λ (x : List (List ℕ) × List SplitRelation). DeniesForAReason (database (catalogue_of x)) (fits (catalogue_of x))) c.catalog-4.ensures c.denied_for_a_reason.ensures in
     if_err c.command-done.result (λ told declines. law whole c.args.text.now c.args.self.now.current before after past told served stands declines)

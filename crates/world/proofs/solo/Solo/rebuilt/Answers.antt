@@ -4,15 +4,17 @@ use Rattle.catalog.specs.Relation.{catalogue_of}
 use Rattle.protocol.specs.Client.{ReachedLaw}
 use Rattle.desk.specs.Database.{language}
 use Rattle.world.specs.Base.{database}
-use Rattle.world.specs.Held.{held}
+use Rattle.world.specs.Counted.{counts}
+use Rattle.world.specs.Held.{counted, held}
 use Rattle.world.specs.Machines.{world_of}
 use Rattle.world.specs.Settled.{after_committed}
+use Rattle.world.proofs.Counting.{fit_uncounted}
 use Rattle.world.proofs.solo.Solo.rebuilt.Goals as goal
 
 pub returns-clause-served : goal.returns-clause-served
 returns-clause-served g c = λ whole past clean sound served.
     let db = database (catalogue_of c.args.self.now.machines.desk.catalog) in
-    let machines = held g.D.DeskStore.kept g.S.SiteStore.kept c.args.self.now.machines in
+    let machines = counted g.D.DeskStore.kept g.S.SiteStore.kept g.D.DeskStore.refused g.S.SiteStore.refused c.args.self.now.machines in
     let law = subst (λ x. ReachedLaw (language (database (catalogue_of x)))) c.catalog.ensures c.one_client_is_a_run.ensures in
     let rests = world_of db machines [] past in
-    c.rebuilt.ensures.rows (after_committed db past whole) clean sound served.fit (law.serial whole rests served.reached).rebuilt (law.is_whole whole rests served.reached)
+    c.rebuilt.ensures.rows (after_committed db past whole) clean sound (fit_uncounted db (held g.D.DeskStore.kept g.S.SiteStore.kept c.args.self.now.machines) (counts g.D.DeskStore.refused g.S.SiteStore.refused c.args.self.now.machines) served.fit) (law.serial whole rests served.reached).rebuilt (law.is_whole whole rests served.reached)

@@ -1,7 +1,7 @@
 -- Why `rolls_back` meets its contract.
 use Rattle.std.proofs.Common.{inr, refl}
 use Rattle.world.specs.Serving.{did_roll_back}
-use Rattle.world.specs.Held.{held}
+use Rattle.world.specs.Held.{counted}
 use Rattle.world.specs.Denying.{declines_outside}
 use Rattle.world.proofs.Denying.{as_before, rollback_declines}
 use Rattle.world.proofs.solo.Solo.rolls_back.Goals as goal
@@ -10,7 +10,7 @@ pub returns-in-Ok-clause-ok : goal.returns-in-Ok-clause-ok
 returns-in-Ok-clause-ok g c = λ db text of is clean sound fit spelled. did_roll_back c.in-Some.txn spelled c.in-Some.is refl (c.in-Ok.ensures.ok db of is clean sound fit)
 
 pub returns-in-Err-clause-denied : goal.returns-in-Err-clause-denied
-returns-in-Err-clause-denied g c = λ db text of is clean sound fit spelled. rollback_declines db text c.args.self.now.current (held g.D.DeskStore.kept g.S.SiteStore.kept c.args.self.now.machines) (held g.D.DeskStore.kept g.S.SiteStore.kept c.roll_back.new.machines) c.in-Err.refusal c.in-Some.txn c.in-Some.is spelled (c.in-Err.ensures.denied db of is clean sound fit)
+returns-in-Err-clause-denied g c = λ db text of is clean sound fit spelled. rollback_declines db text c.args.self.now.current (counted g.D.DeskStore.kept g.S.SiteStore.kept g.D.DeskStore.refused g.S.SiteStore.refused c.args.self.now.machines) (counted g.D.DeskStore.kept g.S.SiteStore.kept g.D.DeskStore.refused g.S.SiteStore.refused c.roll_back.new.machines) c.in-Err.refusal c.in-Some.txn c.in-Some.is spelled (c.in-Err.ensures.denied db of is clean sound fit)
 
 pub returns-in_default-clause-denied : goal.returns-in_default-clause-denied
-returns-in_default-clause-denied g c = λ db text of is clean sound fit spelled. declines_outside c.in_default.is (inr spelled) refl (as_before db (held g.D.DeskStore.kept g.S.SiteStore.kept c.args.self.now.machines) (held g.D.DeskStore.kept g.S.SiteStore.kept c.args.self.now.machines) fit refl)
+returns-in_default-clause-denied g c = λ db text of is clean sound fit spelled. declines_outside c.in_default.is (inr spelled) refl (as_before db (counted g.D.DeskStore.kept g.S.SiteStore.kept g.D.DeskStore.refused g.S.SiteStore.refused c.args.self.now.machines) (counted g.D.DeskStore.kept g.S.SiteStore.kept g.D.DeskStore.refused g.S.SiteStore.refused c.args.self.now.machines) fit refl)

@@ -2,7 +2,7 @@
 use Rattle.std.proofs.Common.{◌∙◌, sym}
 use Rattle.world.specs.Serving.{did_run, did_state, still_open}
 use Rattle.world.proofs.Moving.{if_ok}
-use Rattle.world.specs.Held.{held}
+use Rattle.world.specs.Held.{counted}
 use Rattle.world.proofs.Denying.{statement_declines}
 use Rattle.world.proofs.Refusing.{if_err}
 use Rattle.world.specs.Denying.{declines_lone}
@@ -18,4 +18,4 @@ pub returns-in-None-clause-denied : goal.returns-in-None-clause-denied
 returns-in-None-clause-denied g c = λ db statement of is clean sound fit spelled. if_err c.run_alone.result (λ told denied. declines_lone statement c.in-None.is spelled denied) (c.run_alone.ensures.denied db of is clean sound fit)
 
 pub returns-in-Err-clause-denied : goal.returns-in-Err-clause-denied
-returns-in-Err-clause-denied g c = λ db statement of is clean sound fit spelled. statement_declines db c.args.text.now c.args.self.now.current (held g.D.DeskStore.kept g.S.SiteStore.kept c.args.self.now.machines) (held g.D.DeskStore.kept g.S.SiteStore.kept c.state.new.machines) c.in-Err.refusal c.in-Some.txn statement c.in-Some.is spelled (c.in-Err.ensures.denied db of is clean sound fit)
+returns-in-Err-clause-denied g c = λ db statement of is clean sound fit spelled. statement_declines db c.args.text.now c.args.self.now.current (counted g.D.DeskStore.kept g.S.SiteStore.kept g.D.DeskStore.refused g.S.SiteStore.refused c.args.self.now.machines) (counted g.D.DeskStore.kept g.S.SiteStore.kept g.D.DeskStore.refused g.S.SiteStore.refused c.state.new.machines) c.in-Err.refusal c.in-Some.txn statement c.in-Some.is spelled (c.in-Err.ensures.denied db of is clean sound fit)
