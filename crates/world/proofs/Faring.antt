@@ -177,8 +177,8 @@ module _ (db : Database) (fits : Leaf → Content → Bool) (reached : ReachedLa
   one_fares transaction (Unbegun refusal) before after past served stands run = (finds_no_place (ap Unbegun run.1.0) run.1.1, still_quiet before after past served stands run.2)
   one_fares transaction (Ran course) before after past served stands run =
       let begun = (obeys.begins whole before run.0 past course.txn course.greeted served stands run.1).0 in
-      let ends = course_fares transaction.end course.txn transaction.texts course.came run.2.0 run.0 after (past ++ begun.deeds) begun.served begun.stands run.2.1 in
-      (⊎_elim (λ same. ends_as_asked same) (λ refused. was_refused course run.0 begun.deeds refl run.1 begun.served refused) ends.1, since None after past begun.deeds ends.0)
+      let over = course_fares transaction.end course.txn transaction.texts course.came run.2.0 run.0 after (past ++ begun.deeds) begun.served begun.stands run.2.1 in
+      (⊎_elim (λ same. ends_as_asked same) (λ refused. was_refused course run.0 begun.deeds refl run.1 begun.served refused) over.1, since None after past begun.deeds over.0)
 
   -- what they come to, and where the machines stand after them
   pub record Fared (transactions : List Transaction) (came : List outcomes.Outcome) (before after : Machines) (past : List (Deed (language db))) : Type 0 where
