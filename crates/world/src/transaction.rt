@@ -81,6 +81,13 @@ fn commits(came: &Came) -> bool
     }
 }
 
+/// Whether one of these tells its client so.
+fn tell_commit(came: &[Came]) -> bool
+    ensures { result ≡ list_any tells_commit came.now }
+{
+    came.iter().any(|one| commits(one))
+}
+
 impl Outcome {
     /// Whether its client heard that it was committed.
     pub fn is_committed(&self) -> bool
@@ -88,7 +95,7 @@ impl Outcome {
     {
         match self {
             Outcome::Unbegun(_) => false,
-            Outcome::Ran(course) => course.came.as_slice().iter().any(commits),
+            Outcome::Ran(course) => tell_commit(course.came.as_slice()),
         }
     }
 }

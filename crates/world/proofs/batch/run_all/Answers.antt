@@ -50,23 +50,23 @@ returns-clause-ok g c = λ db of is clean sound fit.
 pub returns-in-Err-clause-stops : goal.returns-in-Err-clause-stops
 returns-in-Err-clause-stops g c = λ db of is clean sound fit law.
     let before = held g.D.DeskStore.kept g.S.SiteStore.kept c.args.machines.now in
-    let middle = held g.D.DeskStore.kept g.S.SiteStore.kept c.loop-transaction.machines in
-    let after = held g.D.DeskStore.kept g.S.SiteStore.kept c.run_one.new.machines in
-    let clean_here = c.run_one.ensures.clean clean in
-    stops_here db c.args.transactions.now c.loop-transaction.transaction-index _ c.transaction-item.result c.loop-transaction.outcomes.items before middle after (omega arith) c.transaction-item.is _ (c.stop-in-Err.ensures.0 ∙ c.make_room.ensures.items)
-    (c.loop-transaction.invariant.runs db of is clean_here sound fit)
-    (λ whole past served. c.run_one.ensures.served db whole past of law (is ∙ ap catalogue_of (sym c.loop-transaction.invariant.catalog)) clean (c.loop-transaction.invariant.sound clean_here sound) served)
-
-pub returns-in-Err-make_room-clause-stops : goal.returns-in-Err-make_room-clause-stops
-returns-in-Err-make_room-clause-stops g c = λ db of is clean sound fit law.
-    let before = held g.D.DeskStore.kept g.S.SiteStore.kept c.args.machines.now in
     let here = held g.D.DeskStore.kept g.S.SiteStore.kept c.loop-transaction.machines in
     stops_here db c.args.transactions.now c.loop-transaction.transaction-index _ c.transaction-item.result c.loop-transaction.outcomes.items before here here (omega arith) c.transaction-item.is _ (c.stop.ensures.0 ∙ c.make_room.ensures.items)
     (c.loop-transaction.invariant.runs db of is clean sound fit)
     (λ whole past served. same_on db law whole here here past served refl)
 
-pub returns-in-Err-clause-served : goal.returns-in-Err-clause-served
-returns-in-Err-clause-served g c = λ db whole past of law is clean sound served.
+pub returns-in-Err-run_one-clause-stops : goal.returns-in-Err-run_one-clause-stops
+returns-in-Err-run_one-clause-stops g c = λ db of is clean sound fit law.
+    let before = held g.D.DeskStore.kept g.S.SiteStore.kept c.args.machines.now in
+    let middle = held g.D.DeskStore.kept g.S.SiteStore.kept c.loop-transaction.machines in
+    let after = held g.D.DeskStore.kept g.S.SiteStore.kept c.run_one.new.machines in
+    let clean_here = c.run_one.ensures.clean clean in
+    stops_here db c.args.transactions.now c.loop-transaction.transaction-index _ c.transaction-item.result c.loop-transaction.outcomes.items before middle after (omega arith) c.transaction-item.is _ (c.stop-in-Err-run_one.ensures.0 ∙ c.make_room.ensures.items)
+    (c.loop-transaction.invariant.runs db of is clean_here sound fit)
+    (λ whole past served. c.run_one.ensures.served db whole past of law (is ∙ ap catalogue_of (sym c.loop-transaction.invariant.catalog)) clean (c.loop-transaction.invariant.sound clean_here sound) served)
+
+pub returns-in-Err-run_one-clause-served : goal.returns-in-Err-run_one-clause-served
+returns-in-Err-run_one-clause-served g c = λ db whole past of law is clean sound served.
     then_on db law whole (held g.D.DeskStore.kept g.S.SiteStore.kept c.args.machines.now) (held g.D.DeskStore.kept g.S.SiteStore.kept c.loop-transaction.machines) (held g.D.DeskStore.kept g.S.SiteStore.kept c.run_one.new.machines) past
     (c.loop-transaction.invariant.served db whole past of law is (c.run_one.ensures.clean clean) sound served)
     (λ more so. c.run_one.ensures.served db whole more of law (is ∙ ap catalogue_of (sym c.loop-transaction.invariant.catalog)) clean (c.loop-transaction.invariant.sound (c.run_one.ensures.clean clean) sound) so)
