@@ -65,4 +65,4 @@ returns-in-Err-clause-denied g c = λ db of is clean sound fit.
     let mid = held g.D.DeskStore.kept g.S.SiteStore.kept c.statement.new.self in
     let old = counts g.D.DeskStore.refused g.S.SiteStore.refused c.args.machines.now in
     let new = counts g.D.DeskStore.refused g.S.SiteStore.refused c.statement.new.self in
-    still_denied db (with_counts before old) (with_counts mid new) (call.State c.args.txn c.args.text.now) c.in-Err.refusal fit (same_counted before mid old new c.in-Err.ensures.err c.statement.ensures.uncalled) (c.in-Err.ensures.told db is)
+    still_denied db (with_counts before old) (with_counts mid new) (call.State c.args.txn c.args.text.now) c.in-Err.refusal fit (same_counted before mid old new c.in-Err.ensures.err c.statement.ensures.uncalled) (c.in-Err.ensures.told db of is (fit_uncounted db before old fit))
