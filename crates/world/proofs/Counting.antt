@@ -1,8 +1,7 @@
 -- Machines of which refusals are counted.
-use Rattle.std.proofs.Common.{◌≡◌, ◌≤◌, ◌<◌, ◌-◌, ◌^◌, ◌≢◌, refl, sym, ap, subst, ◌∙◌, ℕ, Bool, true, false, List, [], ◌∷◌, ◌++◌, map, ◌⊎◌, inl, inr, ⊎_elim, Some, arith}
+use Rattle.std.proofs.Common.{◌≡◌, ◌≤◌, ◌<◌, ◌-◌, ◌^◌, refl, sym, ap, subst, ◌∙◌, ℕ, true, false, List, [], ◌∷◌, ◌++◌, map, ◌⊎◌, inl, inr, ⊎_elim, Some, arith}
 use Rattle.store.specs.declared.letter.Letter as letters
 use Rattle.store.specs.DeskContent.{DeskContent}
-use Rattle.store.specs.Fault.{HasRefused}
 use Rattle.store.specs.SiteContent.{SiteContent}
 use Rattle.protocol.specs.Language.{Lang}
 use Rattle.protocol.specs.World.{World}

@@ -1,29 +1,26 @@
 -- A letter that asks for no store call does the same whether one would be kept or not.
-use Rattle.std.proofs.Common.{◌≡◌, refl, sym, ap, ◌∙◌, subst, ℕ, ◌==◌, nat_eq, Bool, true, false, List, [], ◌++◌, Option, Some, None, inl, inr, ◌⊎◌, ⊎_elim, if◌then◌else◌}
+use Rattle.std.proofs.Common.{◌≡◌, refl, sym, ap, ◌∙◌, subst, ◌==◌, nat_eq, Bool, true, false, List, [], Option, Some, None, inl, inr, ◌⊎◌, ⊎_elim, if◌then◌else◌}
 use Rattle.std.specs.FinMap as fin
-use Rattle.terms.specs.declared.leaf.Leaf.{Leaf}
 use Rattle.store.specs.declared.letter.Body as bodies
 use Rattle.store.specs.declared.letter.Body.TheVariants as body
 use Rattle.store.specs.declared.letter.Letter as letters
-use Rattle.store.specs.declared.name.Ticket.{Ticket}
 use Rattle.store.specs.declared.order.Order.TheVariants as order
 use Rattle.store.specs.declared.order.Prepare.{Prepare as ToPrepare}
 use Rattle.store.specs.declared.prepared.Prepared.{Prepared as Row}
-use Rattle.protocol.specs.Desk.{Choice}
 use Rattle.protocol.specs.Language.{Lang, Name}
 use Rattle.protocol.specs.Letter.{Body, Open, Fetch, Write, Prepare, Commit, Abort, Ticket as GivesTicket, Rows, Refused, Voted, Ack, Inquire, is_for_desk}
-use Rattle.protocol.specs.Letters.{body_of, name_of, ticket_of, txn_name}
-use Rattle.protocol.specs.Site.{Act, SiteState, is_within, on_letter, on_prepare, said, site_after}
+use Rattle.protocol.specs.Letters.{body_of, name_of, txn_name}
+use Rattle.protocol.specs.Site.{SiteState, is_within, on_letter, on_prepare, said, site_after}
 use Rattle.protocol.specs.Statements.{body_with, status_with}
-use Rattle.protocol.specs.World.{World, addressed, comes, comes_to, site_steps}
-use Rattle.protocol.specs.Course.{passes, passes_to}
+use Rattle.protocol.specs.World.{World, addressed, comes_to, site_steps}
+use Rattle.protocol.specs.Course.{passes_to}
 use Rattle.desk.specs.declared.reply.Notice.{Notice}
 use Rattle.desk.specs.Database.{Database, language, sent, statements}
 use Rattle.site.specs.declared.standing.Standing as standings
 use Rattle.site.specs.declared.standing.Standing.TheVariants as standing
 use Rattle.site.specs.Refusals.{AsksToKeep}
-use Rattle.site.specs.State.{Table, stands, state_of, visiting}
-use Rattle.world.specs.Machines.{Came, Leads, Machines, is_order, world_of}
+use Rattle.site.specs.State.{Table, stands, visiting}
+use Rattle.world.specs.Machines.{Came, Machines, is_order, world_of}
 use Rattle.world.specs.Reasons.{CallKept}
 use Rattle.world.specs.Seats.{Seat, seat_of, state_at, states_of}
 use Rattle.world.specs.Taking.{CameUnless}
