@@ -122,7 +122,7 @@ module _ (db : Database) (fits : Leaf → Content → Bool) (same_schemas : db.s
       IsRefused db machines.table (call.State txn text) told → told ≡ told_as.Full
   is_full statement spelled txn machines past told ready refused = ⊎_elim
       (λ stays. absurd (no_refusal refused_as (refusal (State statement) (txn_in db machines.table txn)) told (at_rest db fits txn machines past (State statement) refl ready) stays))
-      (λ rest. ⊎_elim (λ unread. absurd (is_read statement spelled told unread)) (λ full. full) rest.1)
+      (λ rest. ⊎_elim (λ unread. absurd (is_read statement spelled told unread)) (λ full. full.0) rest.1)
       (refused statement)
 
   -- a lone statement

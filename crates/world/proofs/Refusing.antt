@@ -1,5 +1,5 @@
 -- Why the coordinator refuses a statement doesn't hang on the statement.
-use Rattle.std.proofs.Common.{◌≡◌, refl, sym, ap, ◌∙◌, subst, ℕ, List, [], Some, None, Result, Ok, Err, IfErr, ◌⊎◌, inl, inr}
+use Rattle.std.proofs.Common.{◌≡◌, refl, sym, ap, ◌∙◌, subst, ℕ, List, [], Some, None, Result, Ok, Err, IfErr, ◌⊎◌, inl, inr, ⊎_elim}
 use Rattle.std.specs.Option.{option_map}
 use Rattle.meaning.specs.declared.statement.Statement.{Statement}
 use Rattle.meaning.specs.declared.statement.Statement.TheVariants as statements
@@ -14,7 +14,7 @@ use Rattle.desk.specs.declared.refusal.Refusal.{Refusal}
 use Rattle.desk.specs.declared.refusal.Refusal.TheVariants.{Full, Memory}
 use Rattle.desk.specs.Calls.{refused_as, txn_in}
 use Rattle.desk.specs.Database.{Database}
-use Rattle.desk.specs.Does.{IsUnread}
+use Rattle.desk.specs.Does.{IsUnread, StatesPastLimits}
 use Rattle.desk.specs.State.{Table}
 use Rattle.world.specs.declared.event.Call.TheVariants as call
 use Rattle.world.specs.Refused.{IsRefused}
@@ -44,10 +44,16 @@ Told db table txn text catalog s told = (told ≡ Memory) ⊎ (option_map refuse
     ⊎ ((refusal (State s) (txn_in db table txn) ≡ None) × (IsUnread (schemas_of (catalogue_of catalog)) text told ⊎ (told ≡ Full)))
 
 pub statement_refused : {T : Type 0} (db : Database) (table : Table) (txn : names.Txn) (text : List ℕ) (catalog : List (List ℕ) × List SplitRelation) → db.catalogue ≡ catalogue_of catalog → (result : Result T Refusal) →
-    ((s : Statement) → IfErr result (Told db table txn text catalog s)) → IfErr result (λ told. (told ≡ Memory) ⊎ IsRefused db table (call.State txn text) told)
-statement_refused db table txn text catalog is result all = if_err result (λ told at. go told at) (all some)
+    ((s : Statement) → IfErr result (Told db table txn text catalog s)) → (result ≡ Err Full → StatesPastLimits db table txn text) → IfErr result (λ told. (told ≡ Memory) ⊎ IsRefused db table (call.State txn text) told)
+statement_refused db table txn text catalog is (Ok out) all past = tt
+statement_refused {T} db table txn text catalog is (Err told) all past = go (all some)
   where
-    go : (told : Refusal) → Told db table txn text catalog some told → (told ≡ Memory) ⊎ IsRefused db table (call.State txn text) told
-    go told (inl memory) = inl memory
-    go told (inr (inl refused)) = inr (λ s. inl (ap (option_map refused_as) (same_refusal s some (txn_in db table txn)) ∙ refused))
-    go told (inr (inr late)) = inr (λ s. inr (same_refusal s some (txn_in db table txn) ∙ late.0, subst (λ (c : Catalogue). IsUnread (schemas_of c) text told ⊎ (told ≡ Full)) (sym is) late.1))
+    go : Told db table txn text catalog some told → (told ≡ Memory) ⊎ IsRefused db table (call.State txn text) told
+    go (inl memory) = inl memory
+    go (inr (inl refused)) = inr (λ s. inl (ap (option_map refused_as) (same_refusal s some (txn_in db table txn)) ∙ refused))
+    go (inr (inr late)) = inr (λ s. inr (
+      same_refusal s some (txn_in db table txn) ∙ late.0,
+      ⊎_elim
+          (λ unread. inl (subst (λ (c : Catalogue). IsUnread (schemas_of c) text told) (sym is) unread))
+          (λ full. inr (full, past (ap Err full))) late.1,
+    ))

@@ -123,7 +123,8 @@ impl<D: DeskStore, S: SiteStore> Machines<D, S> {
         ensures sound { OfStores D.is_clean S.is_clean self.new → OfStores D.is_sound S.is_sound self.old → OfStores D.is_sound S.is_sound self.new }
         ensures ok { (db : Database) → IsOfCatalogue db → db.catalogue ≡ catalogue_of self.old.desk.catalog → AreFit db (held D.kept S.kept self.old)
             → IfOk result (λ out. Stated db txn text.now (held D.kept S.kept self.old) (held D.kept S.kept self.new) out.letters out.replies) }
-        ensures told { (db : Database) → db.catalogue ≡ catalogue_of self.old.desk.catalog → IfErr result (λ told. (told ≡ refusals.Memory) ⊎ IsRefused db (table_of self.old.desk.present) (calls.State txn text.now) told) }
+        ensures told { (db : Database) → IsOfCatalogue db → db.catalogue ≡ catalogue_of self.old.desk.catalog → AreFit db (held D.kept S.kept self.old)
+            → IfErr result (λ told. (told ≡ refusals.Memory) ⊎ IsRefused db (table_of self.old.desk.present) (calls.State txn text.now) told) }
         ensures catalog { self.new.desk.catalog ≡ self.old.desk.catalog }
         ensures err { OnErr result (held D.kept S.kept self.new ≡ held D.kept S.kept self.old) }
     {

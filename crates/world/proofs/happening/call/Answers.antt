@@ -77,7 +77,7 @@ returns-in-Begin-clause-refused g c = λ db of is fit.
 pub returns-in-State-clause-refused : goal.returns-in-State-clause-refused
 returns-in-State-clause-refused g c = λ db of is fit.
     subst (λ (asked : calls.Call). IfErr c.statement.result (λ told. (told ≡ refusals.Memory) ⊎ IsRefused db (table_of c.args.machines.now.desk.present) asked told)) (sym c.in-State.is)
-    (subst (λ text. IfErr c.statement.result (λ told. (told ≡ refusals.Memory) ⊎ IsRefused db (table_of c.args.machines.now.desk.present) (call.State c.in-State.txn text) told)) c.as_str.ensures (c.statement.ensures.told db is))
+    (subst (λ text. IfErr c.statement.result (λ told. (told ≡ refusals.Memory) ⊎ IsRefused db (table_of c.args.machines.now.desk.present) (call.State c.in-State.txn text) told)) c.as_str.ensures (c.statement.ensures.told db of is fit))
 
 pub returns-in-Commit-clause-refused : goal.returns-in-Commit-clause-refused
 returns-in-Commit-clause-refused g c = λ db of is fit.

@@ -44,4 +44,4 @@ returns-in-Ok-clause-denied g c = λ db of is clean sound fit. if_err c.settle.r
 
 pub returns-in-Err-clause-denied : goal.returns-in-Err-clause-denied
 returns-in-Err-clause-denied g c = λ db of is clean sound fit.
-    still_denied db (held g.D.DeskStore.kept g.S.SiteStore.kept c.args.machines.now) (held g.D.DeskStore.kept g.S.SiteStore.kept c.statement.new.self) (call.State c.args.txn c.args.text.now) c.in-Err.refusal fit c.in-Err.ensures.err (c.in-Err.ensures.told db is)
+    still_denied db (held g.D.DeskStore.kept g.S.SiteStore.kept c.args.machines.now) (held g.D.DeskStore.kept g.S.SiteStore.kept c.statement.new.self) (call.State c.args.txn c.args.text.now) c.in-Err.refusal fit c.in-Err.ensures.err (c.in-Err.ensures.told db of is fit)

@@ -24,4 +24,4 @@ returns-clause-ok g c = λ db of is fit.
     }) (λ s. c.statement.ensures.accepted db s) (c.statement.ensures.ok db of is fit.desk)
 
 pub returns-clause-told : goal.returns-clause-told
-returns-clause-told g c = λ db is. statement_refused db (table_of c.args.self.now.desk.present) c.args.txn c.args.text.now c.args.self.now.desk.catalog is c.statement.result (c.statement.ensures.told db)
+returns-clause-told g c = λ db of is fit. statement_refused db (table_of c.args.self.now.desk.present) c.args.txn c.args.text.now c.args.self.now.desk.catalog is c.statement.result (c.statement.ensures.told db) (c.statement.ensures.full db of is fit.desk)
