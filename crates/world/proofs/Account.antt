@@ -92,7 +92,7 @@ module _ (db : Database) where
       with_letters To_begin call.Begin before after heard does.serves (Began (next_txn (desk_of db before.table)) ∷ [])
       (ap (λ (b : Bool). (if b then begun (world_of db before [] []) else world_of db before [] []).past) does.within) refl tt
 
-  commit_shown : (before after : Machines) (txn : Txn) (heard : List Notice) (does : DoesAsk db Commit_call txn before after heard) → Shows db (event.Call (call.Commit txn)) does.serves.deeds
+  pub commit_shown : (before after : Machines) (txn : Txn) (heard : List Notice) (does : DoesAsk db Commit_call txn before after heard) → Shows db (event.Call (call.Commit txn)) does.serves.deeds
   commit_shown before after txn heard does =
       let turn = on_request (txn_name txn) does.choice Commit_call (txn_in db before.table txn) in
       let shown = commit_shows (txn_name txn) does.choice (txn_in db before.table txn) does.accepted in
@@ -112,7 +112,7 @@ module _ (db : Database) where
       (subst (AreStated db ((txn, text) ∷ [])) (sym shown.1) (refl, does.spelled, tt))
 
   -- a call more is told
-  told_more : (entries : List Entry) (past : List (Deed (language db))) → Tells db entries past → (what : calls.Call) (ask : Ask (language db)) (before after : Machines) (heard : List Notice) (serves : Serves db ask before after heard) → Shows db (event.Call what) serves.deeds →
+  pub told_more : (entries : List Entry) (past : List (Deed (language db))) → Tells db entries past → (what : calls.Call) (ask : Ask (language db)) (before after : Machines) (heard : List Notice) (serves : Serves db ask before after heard) → Shows db (event.Call what) serves.deeds →
       Tells db (entries ++ said what heard ∷ []) (past ++ serves.deeds)
   told_more entries past so what ask before after heard serves shows = tells_more db entries (said what heard) past serves.deeds so shows serves.replies
 
@@ -130,15 +130,15 @@ module _ (db : Database) where
   decision_told txn told before after heard entries past so (did_decide goes commits) =
       told_more entries past so (call.Commit txn) (To_do (txn_name txn) Commit_call commits.asks.choice) before after commits.decided commits.asks.serves (commit_shown before after txn commits.decided commits.asks)
 
-  begin_told : (before after : Machines) (txn : Txn) (heard : List Notice) (entries : List Entry) (past : List (Deed (language db))) → Tells db entries past → (does : DoesBegin db before txn after heard) → Tells db (entries ++ said call.Begin heard ∷ []) (past ++ does.serves.deeds)
+  pub begin_told : (before after : Machines) (txn : Txn) (heard : List Notice) (entries : List Entry) (past : List (Deed (language db))) → Tells db entries past → (does : DoesBegin db before txn after heard) → Tells db (entries ++ said call.Begin heard ∷ []) (past ++ does.serves.deeds)
   begin_told before after txn heard entries past so does = told_more entries past so call.Begin To_begin before after heard does.serves (begin_shows before after txn heard does)
 
-  state_told : (text : List ℕ) (before after : Machines) (txn : Txn) (heard : List Notice) (entries : List Entry) (past : List (Deed (language db))) → Tells db entries past → (does : DoesState db text txn before after heard) →
+  pub state_told : (text : List ℕ) (before after : Machines) (txn : Txn) (heard : List Notice) (entries : List Entry) (past : List (Deed (language db))) → Tells db entries past → (does : DoesState db text txn before after heard) →
       Tells db (entries ++ said (call.State txn text) heard ∷ []) (past ++ does.asks.serves.deeds)
   state_told text before after txn heard entries past so does =
       told_more entries past so (call.State txn text) (To_do (txn_name txn) (State does.statement) does.asks.choice) before after heard does.asks.serves (state_shown text before after txn heard does)
 
-  rollback_told : (before after : Machines) (txn : Txn) (heard : List Notice) (entries : List Entry) (past : List (Deed (language db))) → Tells db entries past → (does : DoesAsk db Rollback txn before after heard) →
+  pub rollback_told : (before after : Machines) (txn : Txn) (heard : List Notice) (entries : List Entry) (past : List (Deed (language db))) → Tells db entries past → (does : DoesAsk db Rollback txn before after heard) →
       Tells db (entries ++ said (call.Rollback txn) heard ∷ []) (past ++ does.serves.deeds)
   rollback_told before after txn heard entries past so does = told_more entries past so (call.Rollback txn) (To_do (txn_name txn) Rollback does.choice) before after heard does.serves (rollback_shown before after txn heard does)
 

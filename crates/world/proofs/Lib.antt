@@ -42,3 +42,6 @@ pub mod EndsTold
 pub mod Quieting
 pub mod StatementEnds
 pub mod StandingAgain
+pub mod Batches
+pub mod BatchTold
+pub mod Faring

@@ -31,3 +31,5 @@ pub mod StandingAgain
 pub mod Denying
 pub mod Deeds
 pub mod Account
+pub mod Batch
+pub mod Faring

@@ -119,7 +119,7 @@ pub(crate) fn add(heard: &mut Vec<Notice>, more: Vec<Notice>) -> Result<(), Refu
 }
 
 /// Whether one of these notices tells that a transaction was committed.
-fn tells_commit(heard: &[Notice]) -> bool
+pub(crate) fn tells_commit(heard: &[Notice]) -> bool
     ensures { result ≡ tells is_commit heard.now }
 {
     heard

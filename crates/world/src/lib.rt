@@ -8,6 +8,7 @@
 #![tactic(auto)]
 
 mod alone;
+mod batch;
 mod delivering;
 mod doing;
 pub mod event;
@@ -24,4 +25,5 @@ mod seats;
 mod serving;
 mod settled;
 pub mod solo;
+pub mod transaction;
 pub mod world;

@@ -21,25 +21,32 @@ ghost use Rattle.desk.specs.declared.refusal.Refusal.{Refusal as RefusalNow};
 ghost use Rattle.desk.specs.declared.refusal.Refusal.TheVariants as refusals;
 ghost use Rattle.world.specs.declared.fault.Fault.TheVariants as faults;
 ghost use Rattle.world.specs.Base.{database, fits};
+ghost use Rattle.world.specs.Faring.{HasRun, WasStopped};
 ghost use Rattle.world.specs.Fault.{is_memory};
 ghost use Rattle.world.specs.Held.{OfStores, held};
 ghost use Rattle.world.specs.Machines.{AreFit};
 ghost use Rattle.world.specs.Obeying.{Obeys, Stands, StandsOn};
 ghost use Rattle.world.specs.Serving.{Executes, IsServed, IsServedOn, still_open};
 ghost use Rattle.world.specs.Settled.{AreThoseOf, after_committed, parts_kept, rows_shown};
-ghost use Rattle.world.specs.Stopping.{stopped_by};
+ghost use Rattle.world.specs.Stopping.{is_stop, stopped_by};
+ghost use Rattle.world.specs.Telling.{Tells};
+ghost use Rattle.world.specs.declared.event.Entry.{Entry as EntryNow};
+ghost use Rattle.world.specs.declared.transaction.Stop.{Stop as StopNow};
+ghost use Rattle.world.specs.declared.transaction.Unfinished.TheVariants.{Stopped, Unstarted};
 
 use crate::alone::{is_stop, run_alone, tells_end};
+use crate::batch::run_all;
 use crate::fault::Fault;
 use crate::laws::{
-    database_is_of_catalogue, denied_for_a_reason, obeyed_unless_refused, one_client_is_a_run,
-    stands_again,
+    account_follows, database_is_of_catalogue, denied_for_a_reason, grows_quiet,
+    obeyed_unless_refused, one_client_is_a_run, served_is_serial, stands_again,
 };
 use crate::machines::Machines;
 use crate::opening::start;
 use crate::rebuilding::rebuilt;
 use crate::serving::{begin, commit, roll_back, state};
 use crate::settled::kept_parts;
+use crate::transaction::{Outcome, Transaction, Unfinished};
 use catalog::catalogue::Catalog;
 use desk::refusal::Refusal;
 use desk::reply::Notice;
@@ -333,6 +340,49 @@ impl<D: DeskStore, S: SiteStore> Solo<D, S> {
         let done = self.command(text);
         self.stopped = stopped_by(&done);
         done
+    }
+
+    /// Transactions are run, one after another: each begins, its texts are stated while it is open, and its end is asked for. A text that is
+    /// refused is passed over. Unless something is refused on the way each ends as its client asks for, and the committed ones answer as
+    /// they do one after another over whole relations. Where memory runs out or a store fails, the transaction at that place and the
+    /// database are stopped, and that is the answer of every later command. None is run while one of the client is open.
+    pub fn run(&mut self, transactions: &[Transaction]) -> Result<Vec<Outcome>, Unfinished>
+        ensures clean { OfStores D.is_clean S.is_clean self.new.machines → OfStores D.is_clean S.is_clean self.old.machines }
+        ensures sound { OfStores D.is_clean S.is_clean self.new.machines → OfStores D.is_sound S.is_sound self.old.machines → OfStores D.is_sound S.is_sound self.new.machines }
+        ensures catalog { self.new.machines.desk.catalog ≡ self.old.machines.desk.catalog }
+        ensures ran { (whole : Relations) (entries : List EntryNow) (past : List (Deed (language (database (catalogue_of self.old.machines.desk.catalog))))) → OfStores D.is_clean S.is_clean self.new.machines → OfStores D.is_sound S.is_sound self.old.machines
+            → IsServed (database (catalogue_of self.old.machines.desk.catalog)) whole (held D.kept S.kept self.old.machines) past → Tells (database (catalogue_of self.old.machines.desk.catalog)) entries past
+            → IfOk result (λ outcomes. HasRun (database (catalogue_of self.old.machines.desk.catalog)) (fits (catalogue_of self.old.machines.desk.catalog)) whole transactions.now outcomes.items (held D.kept S.kept self.old.machines) (held D.kept S.kept self.new.machines) entries past) }
+        ensures broke { (whole : Relations) (entries : List EntryNow) (past : List (Deed (language (database (catalogue_of self.old.machines.desk.catalog))))) (stop : StopNow) → OfStores D.is_clean S.is_clean self.new.machines → OfStores D.is_sound S.is_sound self.old.machines
+            → IsServed (database (catalogue_of self.old.machines.desk.catalog)) whole (held D.kept S.kept self.old.machines) past → Tells (database (catalogue_of self.old.machines.desk.catalog)) entries past → result ≡ Err (Stopped stop)
+            → WasStopped (database (catalogue_of self.old.machines.desk.catalog)) (fits (catalogue_of self.old.machines.desk.catalog)) whole transactions.now stop.done (held D.kept S.kept self.old.machines) (held D.kept S.kept self.new.machines) entries past }
+        ensures served { (whole : Relations) (past : List (Deed (language (database (catalogue_of self.old.machines.desk.catalog))))) → OfStores D.is_clean S.is_clean self.new.machines → OfStores D.is_sound S.is_sound self.old.machines
+            → IsServed (database (catalogue_of self.old.machines.desk.catalog)) whole (held D.kept S.kept self.old.machines) past → IsServedOn (database (catalogue_of self.old.machines.desk.catalog)) whole (held D.kept S.kept self.new.machines) past }
+        ensures busy { (txn : TxnNow) → self.old.stopped ≡ None → self.old.current ≡ Some txn → (result ≡ Err (Unstarted refusals.Busy)) × (self.new ≡ self.old) }
+        ensures stopped { (refusal : RefusalNow) → self.old.stopped ≡ Some refusal → (result ≡ Err (Unstarted refusal)) × (self.new ≡ self.old) }
+        ensures starts { self.old.stopped ≡ None → self.old.current ≡ None → IfErr result (λ told. (stop : StopNow) × (told ≡ Stopped stop) × (is_stop stop.refusal ≡ true) × (self.new.stopped ≡ Some stop.refusal)) }
+        ensures goes_on { OnOk result ((self.new.stopped ≡ None) × (self.new.current ≡ None)) }
+        ensures still { self.new.current ≡ self.old.current }
+    {
+        if let Some(refusal) = self.stopped {
+            return Err(Unfinished::Unstarted(refusal));
+        }
+        if self.current.is_some() {
+            return Err(Unfinished::Unstarted(Refusal::Busy));
+        }
+        database_is_of_catalogue(self.machines.desk.catalog());
+        one_client_is_a_run(self.machines.desk.catalog());
+        account_follows(self.machines.desk.catalog());
+        served_is_serial(self.machines.desk.catalog());
+        obeyed_unless_refused(self.machines.desk.catalog());
+        grows_quiet(self.machines.desk.catalog());
+        match run_all(&mut self.machines, transactions) {
+            Ok(outcomes) => Ok(outcomes),
+            Err(stop) => {
+                self.stopped = Some(stop.refusal);
+                Err(Unfinished::Stopped(stop))
+            }
+        }
     }
 
     /// The catalogue.

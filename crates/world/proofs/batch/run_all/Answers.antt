@@ -1,0 +1,72 @@
+-- Why `run_all` meets its contract.
+use Rattle.std.proofs.Common.{◌∙◌, ◌+◌, ◌++◌, ◌∷◌, List, [], refl, sym, ap, subst, take, arith}
+use Rattle.std.proofs.lemmas.List.{take_all}
+use Rattle.catalog.specs.Relation.{catalogue_of}
+use Rattle.world.specs.declared.transaction.Outcome as outcomes
+use Rattle.world.specs.declared.transaction.Transaction.{Transaction}
+use Rattle.world.specs.Batch.{RunsAll}
+use Rattle.world.specs.Held.{held}
+use Rattle.world.proofs.Batches.{all_fit, runs_next, stops_here}
+use Rattle.world.proofs.Reaching.{same_on, then_on}
+use Rattle.world.proofs.batch.run_all.Goals as goal
+
+pub loop-transaction-init : goal.loop-transaction-init
+loop-transaction-init g c =
+    let here = held g.D.DeskStore.kept g.S.SiteStore.kept c.args.machines.now in
+    record {
+      clean = λ x. x;
+      sound = λ x s. s;
+      catalog = refl;
+      runs = λ db of is clean sound fit. subst (λ (done : List outcomes.Outcome). RunsAll db [] done here here) (sym c.new-outcomes.ensures.items) refl;
+      served = λ db whole past of law is clean sound served. same_on db law whole here here past served refl;
+    }
+
+pub loop-transaction-preserved : goal.loop-transaction-preserved
+loop-transaction-preserved g c =
+    let before = held g.D.DeskStore.kept g.S.SiteStore.kept c.args.machines.now in
+    let middle = held g.D.DeskStore.kept g.S.SiteStore.kept c.loop-transaction.machines in
+    let after = held g.D.DeskStore.kept g.S.SiteStore.kept c.run_one.new.machines in
+    record {
+      clean = λ x. c.loop-transaction.invariant.clean (c.run_one.ensures.clean x);
+      sound = λ x s. c.run_one.ensures.sound x (c.loop-transaction.invariant.sound (c.run_one.ensures.clean x) s);
+      catalog = c.run_one.ensures.catalog ∙ c.loop-transaction.invariant.catalog;
+      runs = λ db of is clean sound fit.
+          let clean_here = c.run_one.ensures.clean clean in
+          let so_far = c.loop-transaction.invariant.runs db of is clean_here sound fit in
+          let one = c.in-Ok.ensures.ok db of (is ∙ ap catalogue_of (sym c.loop-transaction.invariant.catalog)) clean (c.loop-transaction.invariant.sound clean_here sound) (all_fit db _ c.loop-transaction.outcomes.items before middle fit so_far) in
+          subst (λ (done : List outcomes.Outcome). RunsAll db (take (c.loop-transaction.transaction-index + 1) c.args.transactions.now) done before after) (sym (c.push_reserved.ensures.items ∙ ap (λ (done : List outcomes.Outcome). done ++ c.in-Ok.outcome ∷ []) c.make_room.ensures.items))
+          (runs_next db c.args.transactions.now c.loop-transaction.transaction-index _ c.transaction-item.result c.loop-transaction.outcomes.items before middle after (omega arith) c.transaction-item.is c.in-Ok.outcome so_far one);
+      served = λ db whole past of law is clean sound served.
+          then_on db law whole before middle after past
+          (c.loop-transaction.invariant.served db whole past of law is (c.run_one.ensures.clean clean) sound served)
+          (λ more so. c.run_one.ensures.served db whole more of law (is ∙ ap catalogue_of (sym c.loop-transaction.invariant.catalog)) clean (c.loop-transaction.invariant.sound (c.run_one.ensures.clean clean) sound) so);
+    }
+
+pub returns-clause-ok : goal.returns-clause-ok
+returns-clause-ok g c = λ db of is clean sound fit.
+    subst (λ (all : List Transaction). RunsAll db all c.loop-transaction.outcomes.items (held g.D.DeskStore.kept g.S.SiteStore.kept c.args.machines.now) (held g.D.DeskStore.kept g.S.SiteStore.kept c.loop-transaction.machines))
+    (take_all c.loop-transaction.transaction-index c.args.transactions.now (omega arith)) (c.loop-transaction.invariant.runs db of is clean sound fit)
+
+pub returns-in-Err-clause-stops : goal.returns-in-Err-clause-stops
+returns-in-Err-clause-stops g c = λ db of is clean sound fit law.
+    let before = held g.D.DeskStore.kept g.S.SiteStore.kept c.args.machines.now in
+    let here = held g.D.DeskStore.kept g.S.SiteStore.kept c.loop-transaction.machines in
+    stops_here db c.args.transactions.now c.loop-transaction.transaction-index _ c.transaction-item.result c.loop-transaction.outcomes.items before here here (omega arith) c.transaction-item.is _ (c.stop.ensures.0 ∙ c.make_room.ensures.items)
+    (c.loop-transaction.invariant.runs db of is clean sound fit)
+    (λ whole past served. same_on db law whole here here past served refl)
+
+pub returns-in-Err-run_one-clause-stops : goal.returns-in-Err-run_one-clause-stops
+returns-in-Err-run_one-clause-stops g c = λ db of is clean sound fit law.
+    let before = held g.D.DeskStore.kept g.S.SiteStore.kept c.args.machines.now in
+    let middle = held g.D.DeskStore.kept g.S.SiteStore.kept c.loop-transaction.machines in
+    let after = held g.D.DeskStore.kept g.S.SiteStore.kept c.run_one.new.machines in
+    let clean_here = c.run_one.ensures.clean clean in
+    stops_here db c.args.transactions.now c.loop-transaction.transaction-index _ c.transaction-item.result c.loop-transaction.outcomes.items before middle after (omega arith) c.transaction-item.is _ (c.stop-in-Err-run_one.ensures.0 ∙ c.make_room.ensures.items)
+    (c.loop-transaction.invariant.runs db of is clean_here sound fit)
+    (λ whole past served. c.run_one.ensures.served db whole past of law (is ∙ ap catalogue_of (sym c.loop-transaction.invariant.catalog)) clean (c.loop-transaction.invariant.sound clean_here sound) served)
+
+pub returns-in-Err-run_one-clause-served : goal.returns-in-Err-run_one-clause-served
+returns-in-Err-run_one-clause-served g c = λ db whole past of law is clean sound served.
+    then_on db law whole (held g.D.DeskStore.kept g.S.SiteStore.kept c.args.machines.now) (held g.D.DeskStore.kept g.S.SiteStore.kept c.loop-transaction.machines) (held g.D.DeskStore.kept g.S.SiteStore.kept c.run_one.new.machines) past
+    (c.loop-transaction.invariant.served db whole past of law is (c.run_one.ensures.clean clean) sound served)
+    (λ more so. c.run_one.ensures.served db whole more of law (is ∙ ap catalogue_of (sym c.loop-transaction.invariant.catalog)) clean (c.loop-transaction.invariant.sound (c.run_one.ensures.clean clean) sound) so)

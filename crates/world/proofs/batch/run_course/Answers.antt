@@ -1,0 +1,35 @@
+-- Why `run_course` meets its contract.
+use Rattle.std.proofs.Common.{◌∙◌, Bool, List, refl, sym, ap, subst}
+use Rattle.catalog.specs.Relation.{catalogue_of}
+use Rattle.world.specs.Held.{held}
+use Rattle.world.specs.declared.transaction.Came as cames
+use Rattle.world.specs.Batch.{Makes, calls_of}
+use Rattle.world.proofs.Batches.{course_made, makes_fit}
+use Rattle.world.proofs.Reaching.{then_on}
+use Rattle.world.proofs.batch.run_course.Goals as goal
+
+pub returns-clause-ok : goal.returns-clause-ok
+returns-clause-ok g c = λ db of is clean sound fit.
+    let before = held g.D.DeskStore.kept g.S.SiteStore.kept c.args.machines.now in
+    let middle = held g.D.DeskStore.kept g.S.SiteStore.kept c.state_all.new.machines in
+    let after = held g.D.DeskStore.kept g.S.SiteStore.kept c.finish.new.machines in
+    let stated = c.in_ok-stated.ensures.ok db of is (c.finish.ensures.clean clean) sound fit in
+    let fit_here = makes_fit db _ c.in_ok-stated.stated.came.items c.in_ok-stated.stated.ended before middle fit stated in
+    let finished = c.in_ok-came.ensures.ok db of (is ∙ ap catalogue_of (sym c.state_all.ensures.catalog)) clean (c.state_all.ensures.sound (c.finish.ensures.clean clean) sound) fit_here in (
+      refl,
+      c.new.ensures,
+      subst (λ (came : List cames.Came). (ended : Bool) × Makes db (calls_of c.args.transaction.now c.args.begun.txn) came ended before after) (sym c.new-2.ensures)
+          (course_made db c.args.transaction.now c.args.begun.txn c.as_slice.result.now c.in_ok-stated.stated.came.items c.in_ok-came.came.items c.in_ok-stated.stated.ended before middle after c.as_slice.ensures stated finished),
+    )
+
+pub returns-clause-served : goal.returns-clause-served
+returns-clause-served g c = λ db whole past of law is clean sound served.
+    then_on db law whole (held g.D.DeskStore.kept g.S.SiteStore.kept c.args.machines.now) (held g.D.DeskStore.kept g.S.SiteStore.kept c.state_all.new.machines) (held g.D.DeskStore.kept g.S.SiteStore.kept c.finish.new.machines) past
+    (c.state_all.ensures.served db whole past of law is (c.finish.ensures.clean clean) sound served)
+    (λ more so. c.finish.ensures.served db whole more of law (is ∙ ap catalogue_of (sym c.state_all.ensures.catalog)) clean (c.state_all.ensures.sound (c.finish.ensures.clean clean) sound) so)
+
+pub returns-in_err-came-clause-served : goal.returns-in_err-came-clause-served
+returns-in_err-came-clause-served g c = λ db whole past of law is clean sound served.
+    then_on db law whole (held g.D.DeskStore.kept g.S.SiteStore.kept c.args.machines.now) (held g.D.DeskStore.kept g.S.SiteStore.kept c.state_all.new.machines) (held g.D.DeskStore.kept g.S.SiteStore.kept c.finish.new.machines) past
+    (c.state_all.ensures.served db whole past of law is (c.finish.ensures.clean clean) sound served)
+    (λ more so. c.finish.ensures.served db whole more of law (is ∙ ap catalogue_of (sym c.state_all.ensures.catalog)) clean (c.state_all.ensures.sound (c.finish.ensures.clean clean) sound) so)

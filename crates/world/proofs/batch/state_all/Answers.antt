@@ -1,0 +1,76 @@
+-- Why `state_all` meets its contract.
+use Rattle.std.proofs.Common.{◌∙◌, ◌+◌, ◌++◌, ◌∷◌, [], List, ℕ, false, true, refl, sym, ap, subst, map, take, arith}
+use Rattle.std.proofs.lemmas.List.{take_all}
+use Rattle.catalog.specs.Relation.{catalogue_of}
+use Rattle.world.specs.declared.event.Call.TheVariants as call
+use Rattle.world.specs.declared.transaction.Came as cames
+use Rattle.world.specs.Batch.{Makes}
+use Rattle.world.specs.Held.{held}
+use Rattle.world.proofs.Batches.{came_of, makes_fit, next_last, next_open}
+use Rattle.world.proofs.Reaching.{same_on, then_on}
+use Rattle.world.proofs.batch.state_all.Goals as goal
+
+pub loop-text-init : goal.loop-text-init
+loop-text-init g c =
+    let here = held g.D.DeskStore.kept g.S.SiteStore.kept c.args.machines.now in
+    record {
+      clean = λ x. x;
+      sound = λ x s. s;
+      catalog = refl;
+      makes = λ db of is clean sound fit. subst (λ (came : List cames.Came). Makes db [] came false here here) (sym c.new-came.ensures.items) (refl, refl);
+      served = λ db whole past of law is clean sound served. same_on db law whole here here past served refl;
+    }
+
+pub loop-text-preserved : goal.loop-text-preserved
+loop-text-preserved g c =
+    let before = held g.D.DeskStore.kept g.S.SiteStore.kept c.args.machines.now in
+    let middle = held g.D.DeskStore.kept g.S.SiteStore.kept c.loop-text.machines in
+    let after = held g.D.DeskStore.kept g.S.SiteStore.kept c.state.new.machines in
+    record {
+      clean = λ x. c.loop-text.invariant.clean (c.state.ensures.clean x);
+      sound = λ x s. c.state.ensures.sound x (c.loop-text.invariant.sound (c.state.ensures.clean x) s);
+      catalog = c.state.ensures.catalog ∙ c.loop-text.invariant.catalog;
+      makes = λ db of is clean sound fit.
+          let so_far = c.loop-text.invariant.makes db of is (c.state.ensures.clean clean) sound fit in
+          let fit_here = makes_fit db _ c.loop-text.came.items false before middle fit so_far in
+          let here = is ∙ ap catalogue_of (sym c.loop-text.invariant.catalog) in
+          let sound_here = c.loop-text.invariant.sound (c.state.ensures.clean clean) sound in
+          let comes = came_of db (call.State c.args.txn c.as_str.result.now) middle after _ (λ heard. heard.items) c.state.result c.told.result c.in_ok-one.one c.in_ok-one.was c.told.ensures.heard c.told.ensures.refused
+          (c.state.ensures.ok db of here clean sound_here fit_here) (c.state.ensures.denied db of here clean sound_here fit_here) in
+          subst (λ (came : List cames.Came). Makes db (map (λ (text : List ℕ). call.State c.args.txn text) (take (c.loop-text.text-index + 1) c.args.texts.now)) came false before after) (sym (c.push_reserved.ensures.items ∙ ap (λ (came : List cames.Came). came ++ c.in_ok-one.one ∷ []) c.make_room.ensures.items))
+          (next_open db c.args.txn c.args.texts.now c.loop-text.text-index _ c.as_str.result.now c.loop-text.came.items c.in_ok-one.one before middle after (omega arith) (c.as_str.ensures ∙ c.text-item.is) so_far comes (sym (c.has_ended-ended.ensures c.args.txn c.as_str.result.now) ∙ c.if-ended.false));
+      served = λ db whole past of law is clean sound served.
+          then_on db law whole before middle after past (c.loop-text.invariant.served db whole past of law is (c.state.ensures.clean clean) sound served)
+          (λ more so. c.state.ensures.served db whole more of law (is ∙ ap catalogue_of (sym c.loop-text.invariant.catalog)) clean (c.loop-text.invariant.sound (c.state.ensures.clean clean) sound) so);
+    }
+
+pub returns-then-ended-clause-ok : goal.returns-then-ended-clause-ok
+returns-then-ended-clause-ok g c = λ db of is clean sound fit.
+    let before = held g.D.DeskStore.kept g.S.SiteStore.kept c.args.machines.now in
+    let middle = held g.D.DeskStore.kept g.S.SiteStore.kept c.loop-text.machines in
+    let after = held g.D.DeskStore.kept g.S.SiteStore.kept c.state.new.machines in
+    let so_far = c.loop-text.invariant.makes db of is (c.state.ensures.clean clean) sound fit in
+    let fit_here = makes_fit db _ c.loop-text.came.items false before middle fit so_far in
+    let here = is ∙ ap catalogue_of (sym c.loop-text.invariant.catalog) in
+    let sound_here = c.loop-text.invariant.sound (c.state.ensures.clean clean) sound in
+    let comes = came_of db (call.State c.args.txn c.as_str.result.now) middle after _ (λ heard. heard.items) c.state.result c.told.result c.in_ok-one.one c.in_ok-one.was c.told.ensures.heard c.told.ensures.refused
+    (c.state.ensures.ok db of here clean sound_here fit_here) (c.state.ensures.denied db of here clean sound_here fit_here) in
+    subst (λ (came : List cames.Came). Makes db (map (λ (text : List ℕ). call.State c.args.txn text) c.args.texts.now) came true before after) (sym (c.push_reserved.ensures.items ∙ ap (λ (came : List cames.Came). came ++ c.in_ok-one.one ∷ []) c.make_room.ensures.items))
+    (next_last db c.args.txn c.args.texts.now c.loop-text.text-index _ c.as_str.result.now c.loop-text.came.items c.in_ok-one.one before middle after (omega arith) (c.as_str.ensures ∙ c.text-item.is) so_far comes (sym (c.has_ended-ended.ensures c.args.txn c.as_str.result.now) ∙ c.if-ended.true))
+
+pub returns-then-ended-clause-served : goal.returns-then-ended-clause-served
+returns-then-ended-clause-served g c = λ db whole past of law is clean sound served.
+    then_on db law whole (held g.D.DeskStore.kept g.S.SiteStore.kept c.args.machines.now) (held g.D.DeskStore.kept g.S.SiteStore.kept c.loop-text.machines) (held g.D.DeskStore.kept g.S.SiteStore.kept c.state.new.machines) past
+    (c.loop-text.invariant.served db whole past of law is (c.state.ensures.clean clean) sound served)
+    (λ more so. c.state.ensures.served db whole more of law (is ∙ ap catalogue_of (sym c.loop-text.invariant.catalog)) clean (c.loop-text.invariant.sound (c.state.ensures.clean clean) sound) so)
+
+pub returns-in_err-one-clause-served : goal.returns-in_err-one-clause-served
+returns-in_err-one-clause-served g c = λ db whole past of law is clean sound served.
+    then_on db law whole (held g.D.DeskStore.kept g.S.SiteStore.kept c.args.machines.now) (held g.D.DeskStore.kept g.S.SiteStore.kept c.loop-text.machines) (held g.D.DeskStore.kept g.S.SiteStore.kept c.state.new.machines) past
+    (c.loop-text.invariant.served db whole past of law is (c.state.ensures.clean clean) sound served)
+    (λ more so. c.state.ensures.served db whole more of law (is ∙ ap catalogue_of (sym c.loop-text.invariant.catalog)) clean (c.loop-text.invariant.sound (c.state.ensures.clean clean) sound) so)
+
+pub returns-clause-ok : goal.returns-clause-ok
+returns-clause-ok g c = λ db of is clean sound fit.
+    subst (λ (texts : List (List ℕ)). Makes db (map (λ (text : List ℕ). call.State c.args.txn text) texts) c.loop-text.came.items false (held g.D.DeskStore.kept g.S.SiteStore.kept c.args.machines.now) (held g.D.DeskStore.kept g.S.SiteStore.kept c.loop-text.machines))
+    (take_all c.loop-text.text-index c.args.texts.now (omega arith)) (c.loop-text.invariant.makes db of is clean sound fit)

@@ -1,0 +1,282 @@
+//! Transactions that a client hands over, one after another.
+
+ghost use Rattle.std.specs.Prelude.{◌≡◌, ◌⊎◌, ◌<◌, ◌++◌, ◌∷◌, ℕ, vec_len, vec_capacity, List, Bool, [], true, false, map, Err, Ok, IfErr, IfOk, OnErr, OnOk};
+ghost use Rattle.meaning.specs.Whole.{Relations};
+ghost use Rattle.catalog.specs.Relation.{catalogue_of};
+ghost use Rattle.protocol.specs.Client.{ReachedLaw};
+ghost use Rattle.protocol.specs.Desk.{Deed};
+ghost use Rattle.desk.specs.Database.{Database, language};
+ghost use Rattle.desk.specs.OfCatalogue.{IsOfCatalogue};
+ghost use Rattle.desk.specs.declared.refusal.Refusal.TheVariants as refusals;
+ghost use Rattle.world.specs.declared.event.Call.TheVariants as call;
+ghost use Rattle.store.specs.declared.name.Txn.{Txn as TxnNow};
+ghost use Rattle.world.specs.declared.transaction.End.TheVariants as end;
+ghost use Rattle.world.specs.declared.transaction.Came.TheVariants.{Heard, Refused};
+ghost use Rattle.world.specs.Batch.{Makes, MakesMore, RunsAll, RunsOne, StopsAt, calls_of, calls_of_end, has_ended};
+ghost use Rattle.world.specs.Held.{OfStores, held};
+ghost use Rattle.world.specs.Machines.{AreFit};
+ghost use Rattle.world.specs.Serving.{IsServed, IsServedOn};
+ghost use Rattle.world.specs.Stopping.{is_stop};
+
+use crate::alone::{is_stop, tells_end};
+use crate::machines::Machines;
+use crate::serving::{Begun, begin, commit, roll_back, state};
+use crate::transaction::{Came, Course, End, Outcome, Stop, Transaction};
+use desk::refusal::Refusal;
+use desk::reply::Notice;
+use store::desk_store::DeskStore;
+use store::name::Txn;
+use store::site_store::SiteStore;
+use terms::seq::Seq;
+use terms::text::Text;
+
+/// What came of the texts of a transaction, and whether it has ended by one of them.
+#[derive(Drop)]
+struct Stated {
+    came: Vec<Came>,
+    ended: bool,
+}
+
+/// What came of a call, unless it stops the database.
+fn told(done: Result<Vec<Notice>, Refusal>) -> Result<Came, Refusal>
+    ensures heard { IfOk done (λ heard. result ≡ Ok (Heard heard.items)) }
+    ensures refused { IfErr done (λ refusal. ((is_stop refusal ≡ true) × (result ≡ Err refusal)) ⊎ ((is_stop refusal ≡ false) × (result ≡ Ok (Refused refusal)))) }
+    ensures own { IfErr result (λ refusal. is_stop refusal ≡ true) }
+{
+    match done {
+        Ok(heard) => Ok(Came::Heard(Seq::new(heard))),
+        Err(refusal) => {
+            if is_stop(&refusal) {
+                Err(refusal)
+            } else {
+                Ok(Came::Refused(refusal))
+            }
+        }
+    }
+}
+
+/// Room for one more item. The items stay.
+fn make_room<T: Drop>(items: &mut Vec<T>) -> Result<(), Refusal>
+    ensures items { items.new.items ≡ items.old.items }
+    ensures ok { OnOk result (vec_len items.new < vec_capacity items.new) }
+    ensures own { IfErr result (λ refusal. is_stop refusal ≡ true) }
+{
+    match items.try_reserve(1) {
+        Ok(()) => Ok(()),
+        Err(_) => Err(Refusal::Memory),
+    }
+}
+
+/// Whether what came of a statement tells that its transaction has ended.
+fn has_ended(came: &Came) -> bool
+    ensures { (txn : TxnNow) (text : List ℕ) → result ≡ has_ended (call.State txn text) came.now }
+{
+    match came {
+        Came::Heard(heard) => tells_end(heard.as_slice()),
+        Came::Refused(_) => false,
+    }
+}
+
+/// Whether the commit of which this came was refused, so that its transaction is still open.
+fn is_refused(came: &Came) -> bool
+    ensures refused { (txn : TxnNow) → result ≡ true → has_ended (call.Commit txn) came.now ≡ false }
+    ensures done { (txn : TxnNow) → result ≡ false → has_ended (call.Commit txn) came.now ≡ true }
+{
+    matches!(came, Came::Refused(_))
+}
+
+/// What stopped a transaction, after these were run.
+fn stop(done: Vec<Outcome>, refusal: Refusal) -> Stop
+    ensures { (result.done ≡ done.items) × (result.refusal ≡ refusal) }
+{
+    Stop {
+        done: Seq::new(done),
+        refusal,
+    }
+}
+
+/// The texts of a transaction are stated, one after another while it is open.
+fn state_all<D: DeskStore, S: SiteStore>(
+    machines: &mut Machines<D, S>,
+    txn: Txn,
+    texts: &[Text],
+) -> Result<Stated, Refusal>
+    ensures clean { OfStores D.is_clean S.is_clean machines.new → OfStores D.is_clean S.is_clean machines.old }
+    ensures sound { OfStores D.is_clean S.is_clean machines.new → OfStores D.is_sound S.is_sound machines.old → OfStores D.is_sound S.is_sound machines.new }
+    ensures catalog { machines.new.desk.catalog ≡ machines.old.desk.catalog }
+    ensures own { IfErr result (λ refusal. is_stop refusal ≡ true) }
+    ensures ok { (db : Database) → IsOfCatalogue db → db.catalogue ≡ catalogue_of machines.old.desk.catalog → OfStores D.is_clean S.is_clean machines.new → OfStores D.is_sound S.is_sound machines.old → AreFit db (held D.kept S.kept machines.old)
+        → IfOk result (λ stated. Makes db (map (λ text. call.State txn text) texts.now) stated.came.items stated.ended (held D.kept S.kept machines.old) (held D.kept S.kept machines.new)) }
+    ensures served { (db : Database) (whole : Relations) (past : List (Deed (language db))) → IsOfCatalogue db → ReachedLaw (language db) → db.catalogue ≡ catalogue_of machines.old.desk.catalog → OfStores D.is_clean S.is_clean machines.new → OfStores D.is_sound S.is_sound machines.old
+        → IsServed db whole (held D.kept S.kept machines.old) past → IsServedOn db whole (held D.kept S.kept machines.new) past }
+{
+    let mut came = Vec::new(machines.alloc);
+    for text in texts {
+        make_room(&mut came)?;
+        let one = told(state(machines, txn, text.as_str()))?;
+        let ended = has_ended(&one);
+        came.push_reserved(one);
+        if ended {
+            return Ok(Stated { came, ended: true });
+        }
+    }
+    Ok(Stated { came, ended: false })
+}
+
+/// An open transaction is rolled back.
+fn ask_rollback<D: DeskStore, S: SiteStore>(
+    machines: &mut Machines<D, S>,
+    txn: Txn,
+    came: Vec<Came>,
+) -> Result<Vec<Came>, Refusal>
+    ensures clean { OfStores D.is_clean S.is_clean machines.new → OfStores D.is_clean S.is_clean machines.old }
+    ensures sound { OfStores D.is_clean S.is_clean machines.new → OfStores D.is_sound S.is_sound machines.old → OfStores D.is_sound S.is_sound machines.new }
+    ensures catalog { machines.new.desk.catalog ≡ machines.old.desk.catalog }
+    ensures own { IfErr result (λ refusal. is_stop refusal ≡ true) }
+    ensures ok { (db : Database) → IsOfCatalogue db → db.catalogue ≡ catalogue_of machines.old.desk.catalog → OfStores D.is_clean S.is_clean machines.new → OfStores D.is_sound S.is_sound machines.old → AreFit db (held D.kept S.kept machines.old)
+        → IfOk result (λ all. MakesMore db (calls_of_end end.Rollback txn) came.items all.items (held D.kept S.kept machines.old) (held D.kept S.kept machines.new)) }
+    ensures served { (db : Database) (whole : Relations) (past : List (Deed (language db))) → IsOfCatalogue db → ReachedLaw (language db) → db.catalogue ≡ catalogue_of machines.old.desk.catalog → OfStores D.is_clean S.is_clean machines.new → OfStores D.is_sound S.is_sound machines.old
+        → IsServed db whole (held D.kept S.kept machines.old) past → IsServedOn db whole (held D.kept S.kept machines.new) past }
+{
+    let mut came = came;
+    make_room(&mut came)?;
+    let one = told(roll_back(machines, txn))?;
+    came.push_reserved(one);
+    Ok(came)
+}
+
+/// The commit of an open transaction is asked for; where that is refused, it is rolled back.
+fn ask_commit<D: DeskStore, S: SiteStore>(
+    machines: &mut Machines<D, S>,
+    txn: Txn,
+    came: Vec<Came>,
+) -> Result<Vec<Came>, Refusal>
+    ensures clean { OfStores D.is_clean S.is_clean machines.new → OfStores D.is_clean S.is_clean machines.old }
+    ensures sound { OfStores D.is_clean S.is_clean machines.new → OfStores D.is_sound S.is_sound machines.old → OfStores D.is_sound S.is_sound machines.new }
+    ensures catalog { machines.new.desk.catalog ≡ machines.old.desk.catalog }
+    ensures own { IfErr result (λ refusal. is_stop refusal ≡ true) }
+    ensures ok { (db : Database) → IsOfCatalogue db → db.catalogue ≡ catalogue_of machines.old.desk.catalog → OfStores D.is_clean S.is_clean machines.new → OfStores D.is_sound S.is_sound machines.old → AreFit db (held D.kept S.kept machines.old)
+        → IfOk result (λ all. MakesMore db (calls_of_end end.Commit txn) came.items all.items (held D.kept S.kept machines.old) (held D.kept S.kept machines.new)) }
+    ensures served { (db : Database) (whole : Relations) (past : List (Deed (language db))) → IsOfCatalogue db → ReachedLaw (language db) → db.catalogue ≡ catalogue_of machines.old.desk.catalog → OfStores D.is_clean S.is_clean machines.new → OfStores D.is_sound S.is_sound machines.old
+        → IsServed db whole (held D.kept S.kept machines.old) past → IsServedOn db whole (held D.kept S.kept machines.new) past }
+{
+    let mut came = came;
+    make_room(&mut came)?;
+    let one = told(commit(machines, txn))?;
+    let refused = is_refused(&one);
+    came.push_reserved(one);
+    if refused {
+        ask_rollback(machines, txn, came)
+    } else {
+        Ok(came)
+    }
+}
+
+/// The end of a transaction is asked for, if it is open.
+fn finish<D: DeskStore, S: SiteStore>(
+    machines: &mut Machines<D, S>,
+    txn: Txn,
+    stated: Stated,
+    end: End,
+) -> Result<Vec<Came>, Refusal>
+    ensures clean { OfStores D.is_clean S.is_clean machines.new → OfStores D.is_clean S.is_clean machines.old }
+    ensures sound { OfStores D.is_clean S.is_clean machines.new → OfStores D.is_sound S.is_sound machines.old → OfStores D.is_sound S.is_sound machines.new }
+    ensures catalog { machines.new.desk.catalog ≡ machines.old.desk.catalog }
+    ensures own { IfErr result (λ refusal. is_stop refusal ≡ true) }
+    ensures ok { (db : Database) → IsOfCatalogue db → db.catalogue ≡ catalogue_of machines.old.desk.catalog → OfStores D.is_clean S.is_clean machines.new → OfStores D.is_sound S.is_sound machines.old → AreFit db (held D.kept S.kept machines.old)
+        → (stated.ended ≡ false → IfOk result (λ all. MakesMore db (calls_of_end end txn) stated.came.items all.items (held D.kept S.kept machines.old) (held D.kept S.kept machines.new))) × (stated.ended ≡ true → IfOk result (λ all. (all.items ≡ stated.came.items) × (held D.kept S.kept machines.new ≡ held D.kept S.kept machines.old))) }
+    ensures served { (db : Database) (whole : Relations) (past : List (Deed (language db))) → IsOfCatalogue db → ReachedLaw (language db) → db.catalogue ≡ catalogue_of machines.old.desk.catalog → OfStores D.is_clean S.is_clean machines.new → OfStores D.is_sound S.is_sound machines.old
+        → IsServed db whole (held D.kept S.kept machines.old) past → IsServedOn db whole (held D.kept S.kept machines.new) past }
+{
+    let Stated { came, ended } = stated;
+    if ended {
+        return Ok(came);
+    }
+    match end {
+        End::Commit => ask_commit(machines, txn, came),
+        End::Rollback => ask_rollback(machines, txn, came),
+    }
+}
+
+/// A transaction that has begun is run to its end.
+fn run_course<D: DeskStore, S: SiteStore>(
+    machines: &mut Machines<D, S>,
+    begun: Begun,
+    transaction: &Transaction,
+) -> Result<Course, Refusal>
+    ensures clean { OfStores D.is_clean S.is_clean machines.new → OfStores D.is_clean S.is_clean machines.old }
+    ensures sound { OfStores D.is_clean S.is_clean machines.new → OfStores D.is_sound S.is_sound machines.old → OfStores D.is_sound S.is_sound machines.new }
+    ensures catalog { machines.new.desk.catalog ≡ machines.old.desk.catalog }
+    ensures own { IfErr result (λ refusal. is_stop refusal ≡ true) }
+    ensures ok { (db : Database) → IsOfCatalogue db → db.catalogue ≡ catalogue_of machines.old.desk.catalog → OfStores D.is_clean S.is_clean machines.new → OfStores D.is_sound S.is_sound machines.old → AreFit db (held D.kept S.kept machines.old)
+        → IfOk result (λ course. (course.txn ≡ begun.txn) × (course.greeted ≡ begun.heard.items) × ((ended : Bool) × Makes db (calls_of transaction.now begun.txn) course.came ended (held D.kept S.kept machines.old) (held D.kept S.kept machines.new))) }
+    ensures served { (db : Database) (whole : Relations) (past : List (Deed (language db))) → IsOfCatalogue db → ReachedLaw (language db) → db.catalogue ≡ catalogue_of machines.old.desk.catalog → OfStores D.is_clean S.is_clean machines.new → OfStores D.is_sound S.is_sound machines.old
+        → IsServed db whole (held D.kept S.kept machines.old) past → IsServedOn db whole (held D.kept S.kept machines.new) past }
+{
+    let Begun { txn, heard } = begun;
+    let stated = state_all(machines, txn, transaction.texts.as_slice())?;
+    let came = finish(machines, txn, stated, transaction.end)?;
+    Ok(Course {
+        txn,
+        greeted: Seq::new(heard),
+        came: Seq::new(came),
+    })
+}
+
+/// A transaction is run.
+fn run_one<D: DeskStore, S: SiteStore>(
+    machines: &mut Machines<D, S>,
+    transaction: &Transaction,
+) -> Result<Outcome, Refusal>
+    ensures clean { OfStores D.is_clean S.is_clean machines.new → OfStores D.is_clean S.is_clean machines.old }
+    ensures sound { OfStores D.is_clean S.is_clean machines.new → OfStores D.is_sound S.is_sound machines.old → OfStores D.is_sound S.is_sound machines.new }
+    ensures catalog { machines.new.desk.catalog ≡ machines.old.desk.catalog }
+    ensures own { IfErr result (λ refusal. is_stop refusal ≡ true) }
+    ensures ok { (db : Database) → IsOfCatalogue db → db.catalogue ≡ catalogue_of machines.old.desk.catalog → OfStores D.is_clean S.is_clean machines.new → OfStores D.is_sound S.is_sound machines.old → AreFit db (held D.kept S.kept machines.old)
+        → IfOk result (λ outcome. RunsOne db transaction.now outcome (held D.kept S.kept machines.old) (held D.kept S.kept machines.new)) }
+    ensures served { (db : Database) (whole : Relations) (past : List (Deed (language db))) → IsOfCatalogue db → ReachedLaw (language db) → db.catalogue ≡ catalogue_of machines.old.desk.catalog → OfStores D.is_clean S.is_clean machines.new → OfStores D.is_sound S.is_sound machines.old
+        → IsServed db whole (held D.kept S.kept machines.old) past → IsServedOn db whole (held D.kept S.kept machines.new) past }
+{
+    match begin(machines) {
+        Ok(begun) => match run_course(machines, begun, transaction) {
+            Ok(course) => Ok(Outcome::Ran(course)),
+            Err(refusal) => Err(refusal),
+        },
+        Err(refusal) => {
+            if is_stop(&refusal) {
+                Err(refusal)
+            } else {
+                Ok(Outcome::Unbegun(refusal))
+            }
+        }
+    }
+}
+
+/// Transactions are run, one after another.
+pub(crate) fn run_all<D: DeskStore, S: SiteStore>(
+    machines: &mut Machines<D, S>,
+    transactions: &[Transaction],
+) -> Result<Vec<Outcome>, Stop>
+    ensures clean { OfStores D.is_clean S.is_clean machines.new → OfStores D.is_clean S.is_clean machines.old }
+    ensures sound { OfStores D.is_clean S.is_clean machines.new → OfStores D.is_sound S.is_sound machines.old → OfStores D.is_sound S.is_sound machines.new }
+    ensures catalog { machines.new.desk.catalog ≡ machines.old.desk.catalog }
+    ensures own { IfErr result (λ stop. is_stop stop.refusal ≡ true) }
+    ensures ok { (db : Database) → IsOfCatalogue db → db.catalogue ≡ catalogue_of machines.old.desk.catalog → OfStores D.is_clean S.is_clean machines.new → OfStores D.is_sound S.is_sound machines.old → AreFit db (held D.kept S.kept machines.old)
+        → IfOk result (λ outcomes. RunsAll db transactions.now outcomes.items (held D.kept S.kept machines.old) (held D.kept S.kept machines.new)) }
+    ensures stops { (db : Database) → IsOfCatalogue db → db.catalogue ≡ catalogue_of machines.old.desk.catalog → OfStores D.is_clean S.is_clean machines.new → OfStores D.is_sound S.is_sound machines.old → AreFit db (held D.kept S.kept machines.old)
+        → ReachedLaw (language db) → IfErr result (λ stop. StopsAt db transactions.now stop.done (held D.kept S.kept machines.old) (held D.kept S.kept machines.new)) }
+    ensures served { (db : Database) (whole : Relations) (past : List (Deed (language db))) → IsOfCatalogue db → ReachedLaw (language db) → db.catalogue ≡ catalogue_of machines.old.desk.catalog → OfStores D.is_clean S.is_clean machines.new → OfStores D.is_sound S.is_sound machines.old
+        → IsServed db whole (held D.kept S.kept machines.old) past → IsServedOn db whole (held D.kept S.kept machines.new) past }
+{
+    let mut outcomes = Vec::new(machines.alloc);
+    for transaction in transactions {
+        if let Err(refusal) = make_room(&mut outcomes) {
+            return Err(stop(outcomes, refusal));
+        }
+        match run_one(machines, transaction) {
+            Ok(outcome) => outcomes.push_reserved(outcome),
+            Err(refusal) => return Err(stop(outcomes, refusal)),
+        }
+    }
+    Ok(outcomes)
+}
