@@ -20,4 +20,6 @@ mod sites;
 #[cfg(test)]
 mod statements;
 #[cfg(test)]
+mod transactions;
+#[cfg(test)]
 mod worlds;

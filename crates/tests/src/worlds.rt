@@ -72,7 +72,7 @@ fn opened(alloc: Global, load: &str) -> Result<World<PlainDesk, PlainSite>, Memo
 }
 
 /// A client's database, without rows.
-fn opened_for_one(alloc: Global) -> Result<Solo<PlainDesk, PlainSite>, Memory> {
+pub(crate) fn opened_for_one(alloc: Global) -> Result<Solo<PlainDesk, PlainSite>, Memory> {
     let catalog = catalog(alloc, EMP_AND_DEPT)?;
     let whole = empty(alloc, catalog.schema())?;
     match open_client(alloc, &catalog, &whole) {
