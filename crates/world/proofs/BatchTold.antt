@@ -1,5 +1,5 @@
 -- What was asked for and heard of transactions that are run one after another tells what has happened.
-use Rattle.std.proofs.Common.{◌≡◌, refl, sym, ap, ◌∙◌, subst, ℕ, Bool, true, false, List, [], ◌∷◌, ◌++◌, append_assoc, append-nil, ⊎_elim}
+use Rattle.std.proofs.Common.{◌≡◌, refl, sym, ap, ◌∙◌, subst, Bool, false, List, [], ◌∷◌, ◌++◌, append_assoc, append-nil, ⊎_elim}
 use Rattle.meaning.specs.Whole.{Relations}
 use Rattle.protocol.specs.Client.{ReachedLaw}
 use Rattle.protocol.specs.Desk.{Commit_call, Deed, Rollback, State}

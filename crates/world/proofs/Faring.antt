@@ -1,8 +1,7 @@
 -- What transactions come to that are run one after another.
-use Rattle.std.proofs.Common.{◌≡◌, refl, sym, ap, ap₂, ◌∙◌, subst, ℕ, Bool, true, false, ◌||◌, List, [], ◌∷◌, ◌++◌, map, append_assoc, append-nil, ◌⊎◌, inl, inr, ⊎_elim, Option, Some, None}
+use Rattle.std.proofs.Common.{◌≡◌, refl, sym, ap, ◌∙◌, subst, ℕ, Bool, true, false, ◌||◌, List, [], ◌∷◌, ◌++◌, map, append_assoc, append-nil, ◌⊎◌, inl, inr, ⊎_elim, Option, Some, None}
 use Rattle.std.specs.List.{list_any}
 use Rattle.terms.specs.declared.leaf.Leaf.{Leaf}
-use Rattle.meaning.specs.declared.answer.Answer.{Answer as AnswerNow}
 use Rattle.meaning.specs.Whole.{Relations}
 use Rattle.store.specs.Content.{Content}
 use Rattle.store.specs.declared.name.Txn.{Txn}
@@ -36,7 +35,6 @@ use Rattle.world.specs.Machines.{Machines}
 use Rattle.world.specs.Obeying.{ObeysUnlessRefused, Stands, StandsOn}
 use Rattle.world.specs.Serving.{IsServed, ServedIsSerial, is_commit, is_end, tells}
 use Rattle.world.specs.Settling.{GrowsQuiet}
-use Rattle.world.specs.Smoothly.{rests}
 use Rattle.world.specs.Telling.{Tells}
 use Rattle.world.proofs.BatchTold.{all_told, goes_on}
 use Rattle.world.proofs.Batches.{as_many}

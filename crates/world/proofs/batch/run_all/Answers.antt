@@ -1,5 +1,5 @@
 -- Why `run_all` meets its contract.
-use Rattle.std.proofs.Common.{◌≡◌, ◌∙◌, ◌+◌, ◌++◌, ◌∷◌, List, [], refl, sym, ap, subst, take, arith}
+use Rattle.std.proofs.Common.{◌∙◌, ◌+◌, ◌++◌, ◌∷◌, List, [], refl, sym, ap, subst, take, arith}
 use Rattle.std.proofs.lemmas.List.{take_all}
 use Rattle.catalog.specs.Relation.{catalogue_of}
 use Rattle.world.specs.declared.transaction.Outcome as outcomes

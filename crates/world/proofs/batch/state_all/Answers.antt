@@ -1,9 +1,7 @@
 -- Why `state_all` meets its contract.
-use Rattle.std.proofs.Common.{◌≡◌, ◌∙◌, ◌+◌, ◌++◌, ◌∷◌, [], List, Bool, ℕ, false, true, refl, sym, ap, subst, map, take, arith}
+use Rattle.std.proofs.Common.{◌∙◌, ◌+◌, ◌++◌, ◌∷◌, [], List, ℕ, false, true, refl, sym, ap, subst, map, take, arith}
 use Rattle.std.proofs.lemmas.List.{take_all}
 use Rattle.catalog.specs.Relation.{catalogue_of}
-use Rattle.desk.specs.Database.{Database}
-use Rattle.desk.specs.declared.reply.Notice.{Notice}
 use Rattle.world.specs.declared.event.Call.TheVariants as call
 use Rattle.world.specs.declared.transaction.Came as cames
 use Rattle.world.specs.Batch.{Makes}
