@@ -18,8 +18,14 @@ returns g c =
     (c.get_str-catalog.ensures ∙ first_value-rows (found_of c.in-Some-solo-default.solo.now) (codes "CATALOG")) (script ∙ first_value-rows (found_of c.in-Some-solo-default.solo.now) (codes "SCRIPT")) (
       sym (c.is_set-explain.ensures ∙ ap is_set (c.get_str-2.ensures ∙ first_value-rows (found_of c.in-Some-solo-default.solo.now) (codes "EXPLAIN"))),
       (
-        sym (shown.csv ∙ ap is_set (first_value-rows (found_of c.in-Some-solo-default.solo.now) (codes "CSV"))),
-        (sym (shown.json ∙ ap is_set (first_value-rows (found_of c.in-Some-solo-default.solo.now) (codes "JSON"))), tt),
+        sym (c.is_set-interactive.ensures ∙ ap is_set (c.get_str-3.ensures ∙ first_value-rows (found_of c.in-Some-solo-default.solo.now) (codes "INTERACTIVE"))),
+        (
+          sym (shown.columns ∙ ap is_set (first_value-rows (found_of c.in-Some-solo-default.solo.now) (codes "COLUMNS"))),
+          (
+            sym (shown.csv ∙ ap is_set (first_value-rows (found_of c.in-Some-solo-default.solo.now) (codes "CSV"))),
+            (sym (shown.json ∙ ap is_set (first_value-rows (found_of c.in-Some-solo-default.solo.now) (codes "JSON"))), tt),
+          ),
+        ),
       ),
     )
 
@@ -32,7 +38,7 @@ returns-2 g c =
     let catalog = c.in-Some-get_str.ensures in
     given_one (map g.S.AsStr.text c.args.words.now) _ (codes "check") _ (codes "CATALOG") c.in-Some-get_str.catalog.now (codes "EXPLAIN") c.is_set-explain-2.result entered
     (ap (λ (t : List ℕ). Some t) (sym c.in-Some-check-default.is-check) ∙ name) rows (catalog ∙ first_value-rows (found_of c.in-Some-check-default.check.now) (codes "CATALOG"))
-    (sym (c.is_set-explain-2.ensures ∙ ap is_set (c.get_str-4.ensures ∙ first_value-rows (found_of c.in-Some-check-default.check.now) (codes "EXPLAIN"))))
+    (sym (c.is_set-explain-2.ensures ∙ ap is_set (c.get_str-5.ensures ∙ first_value-rows (found_of c.in-Some-check-default.check.now) (codes "EXPLAIN"))))
 
 pub returns-3 : goal.returns-3
 returns-3 g c =
