@@ -3,6 +3,7 @@ use Rattle.std.specs.Prelude.{◌⊎◌, ℕ, Bool, true, false, List, Option, N
 use Rattle.std.specs.Borrow.{Bor}
 use Rattle.std.specs.Io.KnownBytes.{Keeps}
 use Rattle.shell.specs.declared.mode.Mode.{Mode}
+use Rattle.shell.specs.declared.mode.Mode.TheVariants.{Tabs}
 use Rattle.fragdb.specs.declared.outcome.Outcome.{Outcome}
 use Rattle.fragdb.specs.declared.outcome.Outcome.TheVariants.{Done, SomeRefused, Refused, RefusedStatement, Stopped}
 use Rattle.fragdb.specs.declared.usage.Request.{Request}
@@ -37,6 +38,21 @@ abbrev pub is_of_input : Request → Bool
 is_of_input (Solo name file explain interactive mode) = bytes_eq file.now (codes "-")
 is_of_input (Play name file) = bytes_eq file.now (codes "-")
 is_of_input _ = false
+
+-- whether each line is to be asked for, wherever it comes from
+abbrev pub is_interactive : Request → Bool
+is_interactive (Solo name file explain interactive mode) = interactive
+is_interactive _ = false
+
+-- whether lines for a database are read from standard input
+abbrev pub is_typed : Request → Bool
+is_typed (Solo name file explain interactive mode) = bytes_eq file.now (codes "-")
+is_typed _ = false
+
+-- how answers are to be shown
+abbrev pub mode_of : Request → Mode
+mode_of (Solo name file explain interactive mode) = mode
+mode_of _ = Tabs
 
 -- what the end of a script comes to, and that of a check
 abbrev pub outcome_of_script : Result Bool CatalogFault → Outcome

@@ -118,9 +118,9 @@ pub record IsTalk (catalogue : Catalogue) (whole : Relations) (past : List (Deed
   pub lines : written ≡ flat_map (piece_text catalogue) pieces
 
 -- what a call has come to: whatever has happened before, all that it has written is a stretch of a session
-abbrev pub Talks : Option (List ℕ) → Option (List ℕ) → code.Solo PlainDesk PlainSite → code.Solo PlainDesk PlainSite → Type 0
-Talks before after old new = (catalogue : Catalogue) (whole : Relations) (past : List (Deed (language (database catalogue)))) → GoesOn catalogue whole past old →
-    (written : List ℕ) × Appends before after written × IsTalk catalogue whole past old new written
+pub record Talks (before after : Option (List ℕ)) (old new : code.Solo PlainDesk PlainSite) : Type 0 where
+  pub stretch : (catalogue : Catalogue) (whole : Relations) (past : List (Deed (language (database catalogue)))) → GoesOn catalogue whole past old →
+      (written : List ℕ) × Appends before after written × IsTalk catalogue whole past old new written
 
 -- A session from the opening to its end, where all is quiet or the open transaction is ready, and the serial law holds of just what was asked for and heard in it: the committed
 -- transactions, one after another over whole relations, give the answers that were heard, and what the settled fragments rebuild.

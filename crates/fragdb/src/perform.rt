@@ -53,7 +53,9 @@ impl<'a> Request<'a> {
     }
 
     /// Whether each line is to be asked for, wherever it comes from.
-    pub fn is_interactive(&self) -> bool {
+    pub fn is_interactive(&self) -> bool
+        ensures { result ≡ spec.is_interactive self.now }
+    {
         match self {
             Request::Solo { interactive, .. } => *interactive,
             _ => false,
@@ -61,7 +63,9 @@ impl<'a> Request<'a> {
     }
 
     /// Whether lines for a database are to be read from standard input.
-    pub fn is_typed(&self) -> bool {
+    pub fn is_typed(&self) -> bool
+        ensures { result ≡ spec.is_typed self.now }
+    {
         match self {
             Request::Solo { script, .. } => *script == "-",
             _ => false,
@@ -69,7 +73,9 @@ impl<'a> Request<'a> {
     }
 
     /// How answers are to be shown.
-    pub fn mode(&self) -> Mode {
+    pub fn mode(&self) -> Mode
+        ensures { result ≡ spec.mode_of self.now }
+    {
         match self {
             Request::Solo { mode, .. } => *mode,
             _ => Mode::Tabs,

@@ -1,8 +1,8 @@
 //! A session: what a person types is answered at once.
 
-ghost use Rattle.std.specs.Prelude.{◌≡◌, ◌≢◌, ℕ, List, IfErr, IfOk, IfSome, OnOk, false, true};
+ghost use Rattle.std.specs.Prelude.{◌≡◌, ℕ, List, IfErr, IfOk, IfSome, OnOk};
 ghost use Rattle.std.specs.Io.KnownBytes.{Appends, Keeps};
-ghost use Rattle.std.specs.Str.{is_utf8};
+ghost use Rattle.std.specs.Str.{IsUtf8};
 ghost use Rattle.catalog.specs.Relation.{catalogue_of};
 ghost use Rattle.fragdb.specs.Input.{IsOfOutput};
 ghost use Rattle.fragdb.specs.Session.{IsOfSession, IsSession, RunsSession, Talks};
@@ -128,7 +128,8 @@ fn talk<'a, K: Clock, R: BufRead, W: Write, E: Write>(
 {
     write_text(output, GREETING)?;
     let mut state = State::new(alloc, mode);
-    for _ in 0..u64::MAX {
+    for number in 0..u64::MAX {
+        let _ = number;
         let turn = take_turn(
             alloc, clock, database, &mut state, file, input, output, errors,
         )?;
@@ -217,7 +218,7 @@ fn take_bytes<'a, W: Write, E: Write>(
     errors: &mut E,
 ) -> Result<Turn, ProgramFault<'a>>
     ensures ok { OnOk result (Talks (W.contents output.old) (W.contents output.new) database.old database.new) }
-    ensures malformed { is_utf8 line.now ≡ false → IfOk result (λ turn. (turn ≡ Turn.GoesOn) × (database.new ≡ database.old) × (W.contents output.new ≡ W.contents output.old)) }
+    ensures malformed { ¬ (IsUtf8 line.now) → IfOk result (λ turn. (turn ≡ Turn.GoesOn) × (database.new ≡ database.old) × (W.contents output.new ≡ W.contents output.old)) }
     ensures err { IfErr result IsOfRun }
 {
     match str::from_utf8(line) {

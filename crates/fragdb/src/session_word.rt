@@ -166,14 +166,17 @@ fn take_lone<'a, W: Write, E: Write>(
         return Ok(Turn::GoesOn);
     }
     match word {
-        Word::Quit => return Ok(Turn::Ends),
+        Word::Quit => Ok(Turn::Ends),
         Word::Tables => {
             let text = tables_text(alloc, database.catalog())?;
             write_text(output, text.as_str())?;
+            Ok(Turn::GoesOn)
         }
-        _ => write_text(output, HELP)?,
+        _ => {
+            write_text(output, HELP)?;
+            Ok(Turn::GoesOn)
+        }
     }
-    Ok(Turn::GoesOn)
 }
 
 /// Lists columns or leaves, of each relation or of the one of this name.

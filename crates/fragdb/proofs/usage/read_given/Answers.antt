@@ -18,8 +18,14 @@ returns g c =
     (c.get_str-catalog.ensures ∙ first_value-rows (found_of c.in-Some-solo-default.solo.now) (codes "CATALOG")) (script ∙ first_value-rows (found_of c.in-Some-solo-default.solo.now) (codes "SCRIPT")) (
       sym (c.is_set-explain.ensures ∙ ap is_set (c.get_str-2.ensures ∙ first_value-rows (found_of c.in-Some-solo-default.solo.now) (codes "EXPLAIN"))),
       (
-        sym (shown.csv ∙ ap is_set (first_value-rows (found_of c.in-Some-solo-default.solo.now) (codes "CSV"))),
-        (sym (shown.json ∙ ap is_set (first_value-rows (found_of c.in-Some-solo-default.solo.now) (codes "JSON"))), tt),
+        sym (c.is_set-interactive.ensures ∙ ap is_set (c.get_str-3.ensures ∙ first_value-rows (found_of c.in-Some-solo-default.solo.now) (codes "INTERACTIVE"))),
+        (
+          sym (shown.columns ∙ ap is_set (first_value-rows (found_of c.in-Some-solo-default.solo.now) (codes "COLUMNS"))),
+          (
+            sym (shown.csv ∙ ap is_set (first_value-rows (found_of c.in-Some-solo-default.solo.now) (codes "CSV"))),
+            (sym (shown.json ∙ ap is_set (first_value-rows (found_of c.in-Some-solo-default.solo.now) (codes "JSON"))), tt),
+          ),
+        ),
       ),
     )
 
@@ -32,8 +38,8 @@ returns-2 g c =
     let catalog = c.in-Some-get_str.ensures in
     given_one (map g.S.AsStr.text c.args.words.now) _ (codes "check") _ (codes "CATALOG") c.in-Some-get_str.catalog.now _ entered
     (ap (λ (t : List ℕ). Some t) (sym c.in-Some-check-default.is-check) ∙ name) rows (catalog ∙ first_value-rows (found_of c.in-Some-check-default.check.now) (codes "CATALOG")) (
-      sym (c.is_set-explain-2.ensures ∙ ap is_set (c.get_str-4.ensures ∙ first_value-rows (found_of c.in-Some-check-default.check.now) (codes "EXPLAIN"))),
-      (sym (c.is_set-tree.ensures ∙ ap is_set (c.get_str-5.ensures ∙ first_value-rows (found_of c.in-Some-check-default.check.now) (codes "TREE"))), tt),
+      sym (c.is_set-explain-2.ensures ∙ ap is_set (c.get_str-5.ensures ∙ first_value-rows (found_of c.in-Some-check-default.check.now) (codes "EXPLAIN"))),
+      (sym (c.is_set-tree.ensures ∙ ap is_set (c.get_str-6.ensures ∙ first_value-rows (found_of c.in-Some-check-default.check.now) (codes "TREE"))), tt),
     )
 
 pub returns-3 : goal.returns-3
@@ -45,7 +51,7 @@ returns-3 g c =
     given_two (map g.S.AsStr.text c.args.words.now) _ (codes "plan") _ (codes "CATALOG") c.in-Some-get_str-2.catalog.now (codes "STATEMENT") c.in-Some-get_str-3.statement.now _ entered
     (ap (λ (t : List ℕ). Some t) (sym c.in-Some-plan-default.is-plan) ∙ name) rows
     (c.in-Some-get_str-2.ensures ∙ first_value-rows (found_of c.in-Some-plan-default.plan.now) (codes "CATALOG")) (c.in-Some-get_str-3.ensures ∙ first_value-rows (found_of c.in-Some-plan-default.plan.now) (codes "STATEMENT"))
-    (sym (c.is_set-tree-2.ensures ∙ ap is_set (c.get_str-8.ensures ∙ first_value-rows (found_of c.in-Some-plan-default.plan.now) (codes "TREE"))), tt)
+    (sym (c.is_set-tree-2.ensures ∙ ap is_set (c.get_str-9.ensures ∙ first_value-rows (found_of c.in-Some-plan-default.plan.now) (codes "TREE"))), tt)
 
 pub returns-4 : goal.returns-4
 returns-4 g c =

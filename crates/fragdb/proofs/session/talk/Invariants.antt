@@ -1,0 +1,5 @@
+use Rattle.fragdb.specs.Session.{Talks}
+use Rattle.fragdb.proofs.session.talk.Given as goal
+
+abbrev pub invariant-loop-number : goal.invariant-loop-number
+invariant-loop-number g l = Talks (g.W.Write.contents l.fn.output) (g.W.Write.contents l.output) l.fn.database l.database
