@@ -45,9 +45,12 @@ explained app = with_rule app (flag (codes "EXPLAIN") (codes "explain"))
 abbrev pub treed : App → App
 treed app = with_rule app (flag (codes "TREE") (codes "tree"))
 
--- the command with flags that say how answers are shown
+-- the command with flags that say how answers are shown: in columns, or in another way
+abbrev pub columned : App → App
+columned app = with_rule app (flag (codes "COLUMNS") (codes "columns"))
+
 abbrev pub shown : App → App
-shown app = with_rule (with_rule (with_rule app (flag (codes "COLUMNS") (codes "columns"))) (flag (codes "CSV") (codes "csv"))) (flag (codes "JSON") (codes "json"))
+shown app = with_rule (with_rule (columned app) (flag (codes "CSV") (codes "csv"))) (flag (codes "JSON") (codes "json"))
 
 -- the command with a flag that asks for a session
 abbrev pub held : App → App

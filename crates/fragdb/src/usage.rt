@@ -6,7 +6,7 @@ ghost use Rattle.std.specs.IoError.{error_kind};
 ghost use Rattle.clap.specs.declared.builder.command.Command.TheViews.{out-Command};
 ghost use Rattle.clap.specs.Matches.{first_value};
 ghost use Rattle.clap.specs.Words.{app_of, found_of, kind_of};
-ghost use Rattle.fragdb.specs.Usage.{asked, command_with, command_with_two, explained, flags_of, held, is_columns, is_csv, is_json, of_script, shown, treed, usage, usage_status, IsGiven};
+ghost use Rattle.fragdb.specs.Usage.{asked, columned, command_with, command_with_two, explained, flags_of, held, is_columns, is_csv, is_json, of_script, shown, treed, usage, usage_status, IsGiven};
 ghost use Rattle.fragdb.specs.Usage as spec;
 
 use crate::fault::ProgramFault;
@@ -266,10 +266,6 @@ fn solo_command<'a>(alloc: Global) -> Result<Command<'a>, AllocError>
     ensures shape { IfOk result (λ command. app_of command ≡ shown (held (explained (of_script (codes "solo"))))) }
     ensures local { IfOk result (λ command. (out-Command command).has_globals ≡ false) }
 {
-    let columns = Arg::new(alloc, "COLUMNS")
-        .long("columns")
-        .action(ArgAction::SetTrue)
-        .help("Shows rows in aligned columns");
     let csv = Arg::new(alloc, "CSV")
         .long("csv")
         .action(ArgAction::SetTrue)
@@ -278,19 +274,25 @@ fn solo_command<'a>(alloc: Global) -> Result<Command<'a>, AllocError>
         .long("json")
         .action(ArgAction::SetTrue)
         .help("Shows each row as a JSON object in a line");
-    held_solo_command(alloc)?.arg(columns)?.arg(csv)?.arg(json)
+    columned_solo_command(alloc)?.arg(csv)?.arg(json)
 }
 
-/// The command `solo` with the flags that don't say how answers are shown.
-fn held_solo_command<'a>(alloc: Global) -> Result<Command<'a>, AllocError>
-    ensures shape { IfOk result (λ command. app_of command ≡ held (explained (of_script (codes "solo")))) }
+/// The command `solo` with its flags but two.
+fn columned_solo_command<'a>(alloc: Global) -> Result<Command<'a>, AllocError>
+    ensures shape { IfOk result (λ command. app_of command ≡ columned (held (explained (of_script (codes "solo"))))) }
     ensures local { IfOk result (λ command. (out-Command command).has_globals ≡ false) }
 {
     let interactive = Arg::new(alloc, "INTERACTIVE")
         .long("interactive")
         .action(ArgAction::SetTrue)
         .help("Asks for each line, and answers it at once, as at a terminal");
-    explained_solo_command(alloc)?.arg(interactive)
+    let columns = Arg::new(alloc, "COLUMNS")
+        .long("columns")
+        .action(ArgAction::SetTrue)
+        .help("Shows rows in aligned columns");
+    explained_solo_command(alloc)?
+        .arg(interactive)?
+        .arg(columns)
 }
 
 /// The command `solo` with one flag.
@@ -327,6 +329,18 @@ fn check_command<'a>(alloc: Global) -> Result<Command<'a>, AllocError>
     ensures shape { IfOk result (λ command. app_of command ≡ treed (explained (command_with (codes "check") (codes "CATALOG")))) }
     ensures local { IfOk result (λ command. (out-Command command).has_globals ≡ false) }
 {
+    let tree = Arg::new(alloc, "TREE")
+        .long("tree")
+        .action(ArgAction::SetTrue)
+        .help("Shows the fragments of each relation as a tree");
+    explained_check_command(alloc)?.arg(tree)
+}
+
+/// The command `check` with one flag.
+fn explained_check_command<'a>(alloc: Global) -> Result<Command<'a>, AllocError>
+    ensures shape { IfOk result (λ command. app_of command ≡ explained (command_with (codes "check") (codes "CATALOG"))) }
+    ensures local { IfOk result (λ command. (out-Command command).has_globals ≡ false) }
+{
     let catalog = Arg::new(alloc, "CATALOG")
         .required(true)
         .help("A file with a catalogue, in TOML");
@@ -334,19 +348,26 @@ fn check_command<'a>(alloc: Global) -> Result<Command<'a>, AllocError>
         .long("explain")
         .action(ArgAction::SetTrue)
         .help("Explains on standard error why the catalogue is refused");
-    let tree = Arg::new(alloc, "TREE")
-        .long("tree")
-        .action(ArgAction::SetTrue)
-        .help("Shows the fragments of each relation as a tree");
     Command::new(alloc, "check")
         .about("Checks a catalogue and lists its fragments")
         .arg(catalog)?
-        .arg(explain)?
-        .arg(tree)
+        .arg(explain)
 }
 
 fn plan_command<'a>(alloc: Global) -> Result<Command<'a>, AllocError>
     ensures shape { IfOk result (λ command. app_of command ≡ treed (command_with_two (codes "plan") (codes "CATALOG") (codes "STATEMENT"))) }
+    ensures local { IfOk result (λ command. (out-Command command).has_globals ≡ false) }
+{
+    let tree = Arg::new(alloc, "TREE")
+        .long("tree")
+        .action(ArgAction::SetTrue)
+        .help("Shows the plan as a tree");
+    plain_plan_command(alloc)?.arg(tree)
+}
+
+/// The command `plan` without its flag.
+fn plain_plan_command<'a>(alloc: Global) -> Result<Command<'a>, AllocError>
+    ensures shape { IfOk result (λ command. app_of command ≡ command_with_two (codes "plan") (codes "CATALOG") (codes "STATEMENT")) }
     ensures local { IfOk result (λ command. (out-Command command).has_globals ≡ false) }
 {
     let catalog = Arg::new(alloc, "CATALOG")
@@ -355,15 +376,10 @@ fn plan_command<'a>(alloc: Global) -> Result<Command<'a>, AllocError>
     let statement = Arg::new(alloc, "STATEMENT")
         .required(true)
         .help("A statement over the catalogue's relations");
-    let tree = Arg::new(alloc, "TREE")
-        .long("tree")
-        .action(ArgAction::SetTrue)
-        .help("Shows the plan as a tree");
     Command::new(alloc, "plan")
         .about("Shows which fragments a statement reads, and with which conditions")
         .arg(catalog)?
-        .arg(statement)?
-        .arg(tree)
+        .arg(statement)
 }
 
 fn play_command<'a>(alloc: Global) -> Result<Command<'a>, AllocError>
