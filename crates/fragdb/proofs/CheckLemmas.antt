@@ -12,13 +12,13 @@ use Rattle.fragdb.specs.CatalogFile.{IsCatalogueFile}
 use Rattle.fragdb.specs.Check.{ChecksFile, IsWriteFault, check_text, counts_text}
 
 -- all was said of a valid catalogue, or the write failed
-pub said : (known : Option (List ℕ)) (tree : Bool) (file : Bor (List ℕ)) (old new : Option (List ℕ)) (catalogue : Catalogue) (text : List ℕ) (result : Result Unit CatalogFault) → IfSome known (λ bytes. IsCatalogueFile bytes catalogue) → IsValidCatalogue catalogue → text ≡ check_text tree catalogue → OnOk result (Appends old new text) → IfErr result IsWriteFault → IfSome known (λ bytes. ChecksFile tree file bytes old new result)
-said None tree file old new catalogue text result of valid is written faults = tt
-said (Some bytes) tree file old new catalogue text (Ok done) of valid is written faults =
+pub said : (known : Option (List ℕ)) (as_tree : Bool) (file : Bor (List ℕ)) (old new : Option (List ℕ)) (catalogue : Catalogue) (text : List ℕ) (result : Result Unit CatalogFault) → IfSome known (λ bytes. IsCatalogueFile bytes catalogue) → IsValidCatalogue catalogue → text ≡ check_text as_tree catalogue → OnOk result (Appends old new text) → IfErr result IsWriteFault → IfSome known (λ bytes. ChecksFile as_tree file bytes old new result)
+said None as_tree file old new catalogue text result of valid is written faults = tt
+said (Some bytes) as_tree file old new catalogue text (Ok done) of valid is written faults =
     record { catalogue = catalogue; file = of; valid = valid; said = subst (λ (line : List ℕ). Appends old new line) is written }
-said (Some bytes) tree file old new catalogue text (Err (Refused fault)) of valid is written faults = absurd faults
-said (Some bytes) tree file old new catalogue text (Err (Program fault)) of valid is written (inl memory) = (inl (inl memory), λ none. absurd (none catalogue of valid))
-said (Some bytes) tree file old new catalogue text (Err (Program fault)) of valid is written (inr closed) = (inr closed, λ none. absurd (none catalogue of valid))
+said (Some bytes) as_tree file old new catalogue text (Err (Refused fault)) of valid is written faults = absurd faults
+said (Some bytes) as_tree file old new catalogue text (Err (Program fault)) of valid is written (inl memory) = (inl (inl memory), λ none. absurd (none catalogue of valid))
+said (Some bytes) as_tree file old new catalogue text (Err (Program fault)) of valid is written (inr closed) = (inr closed, λ none. absurd (none catalogue of valid))
 
 -- a line in its parts, and the marks between them
 pub line_of : (old name site columns conds blank opening close feed a b c d e f all : List ℕ) → a ≡ old ++ (name ++ blank) → b ≡ a ++ site → c ≡ b ++ opening → d ≡ c ++ columns → e ≡ d ++ close → f ≡ e ++ conds → all ≡ f ++ feed →

@@ -45,19 +45,19 @@ refused_by schema text fault rules.Count is none = record { is_rule = λ memory.
 refused_by schema text fault rules.Limit is none = record { is_rule = λ memory. cc; none = λ s. none (λ memory. cc) (Run s) }
 
 -- a plan was written, or the write failed
-pub shown_plan : (known : Option (List ℕ)) (tree : Bool) (file : Bor (List ℕ)) (text : List ℕ) (old new : Option (List ℕ)) (catalogue : Catalogue) (statement : Statement) (shown written : List ℕ) (result : Result Unit PlanFault) → IfSome known (λ bytes. IsCatalogueFile bytes catalogue) → IsValidCatalogue catalogue →
-    IsTextOf (schemas_of catalogue) text (Run statement) → IsShownPlan tree catalogue statement shown → written ≡ shown → OnOk result (Appends old new written) → IfErr result IsPlanWriteFault → IfSome known (λ bytes. PlansFile tree file text bytes old new result)
-shown_plan None tree file text old new catalogue statement shown written result of valid read planned same said faults = tt
-shown_plan (Some bytes) tree file text old new catalogue statement shown written (Ok done) of valid read planned same said faults =
+pub shown_plan : (known : Option (List ℕ)) (as_tree : Bool) (file : Bor (List ℕ)) (text : List ℕ) (old new : Option (List ℕ)) (catalogue : Catalogue) (statement : Statement) (shown written : List ℕ) (result : Result Unit PlanFault) → IfSome known (λ bytes. IsCatalogueFile bytes catalogue) → IsValidCatalogue catalogue →
+    IsTextOf (schemas_of catalogue) text (Run statement) → IsShownPlan as_tree catalogue statement shown → written ≡ shown → OnOk result (Appends old new written) → IfErr result IsPlanWriteFault → IfSome known (λ bytes. PlansFile as_tree file text bytes old new result)
+shown_plan None as_tree file text old new catalogue statement shown written result of valid read planned same said faults = tt
+shown_plan (Some bytes) as_tree file text old new catalogue statement shown written (Ok done) of valid read planned same said faults =
     record { catalogue = catalogue; file = of; valid = valid; statement = statement; read = read; shown = shown; planned = planned; said = subst (λ (line : List ℕ). Appends old new line) same said }
-shown_plan (Some bytes) tree file text old new catalogue statement shown written (Err (Program fault)) of valid read planned same said (inl memory) = inl (inl memory)
-shown_plan (Some bytes) tree file text old new catalogue statement shown written (Err (Program fault)) of valid read planned same said (inr closed) = inr closed
-shown_plan (Some bytes) tree file text old new catalogue statement shown written (Err (Refused fault)) of valid read planned same said faults = absurd faults
-shown_plan (Some bytes) tree file text old new catalogue statement shown written (Err (NoStatement fault)) of valid read planned same said faults = absurd faults
+shown_plan (Some bytes) as_tree file text old new catalogue statement shown written (Err (Program fault)) of valid read planned same said (inl memory) = inl (inl memory)
+shown_plan (Some bytes) as_tree file text old new catalogue statement shown written (Err (Program fault)) of valid read planned same said (inr closed) = inr closed
+shown_plan (Some bytes) as_tree file text old new catalogue statement shown written (Err (Refused fault)) of valid read planned same said faults = absurd faults
+shown_plan (Some bytes) as_tree file text old new catalogue statement shown written (Err (NoStatement fault)) of valid read planned same said faults = absurd faults
 
 -- memory ran out
-pub out_of_memory : (known : Option (List ℕ)) (tree : Bool) (file : Bor (List ℕ)) (text : List ℕ) (old new : Option (List ℕ)) (result : Result Unit PlanFault) (fault : PlanFault) → result ≡ Err fault → fault ≡ Program Memory → IfSome known (λ bytes. PlansFile tree file text bytes old new result)
-out_of_memory None tree file text old new result fault is memory = tt
-out_of_memory (Some bytes) tree file text old new result fault is memory =
+pub out_of_memory : (known : Option (List ℕ)) (as_tree : Bool) (file : Bor (List ℕ)) (text : List ℕ) (old new : Option (List ℕ)) (result : Result Unit PlanFault) (fault : PlanFault) → result ≡ Err fault → fault ≡ Program Memory → IfSome known (λ bytes. PlansFile as_tree file text bytes old new result)
+out_of_memory None as_tree file text old new result fault is memory = tt
+out_of_memory (Some bytes) as_tree file text old new result fault is memory =
     let same : Err (Program Memory) ≡ result = cc in
-    subst (λ (r : Result Unit PlanFault). PlansFile tree file text bytes old new r) same (inl (inl refl))
+    subst (λ (r : Result Unit PlanFault). PlansFile as_tree file text bytes old new r) same (inl (inl refl))

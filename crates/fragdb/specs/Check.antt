@@ -47,14 +47,14 @@ leaf_lines catalogue = flat_map (leaf_line catalogue.sites (schemas_of catalogue
 
 -- what is said of a catalogue: how much it has, and its leaves, or its trees
 abbrev pub check_text : Bool → Catalogue → List ℕ
-check_text tree catalogue = accepted_line catalogue ++ (if tree then trees_text catalogue else leaf_lines catalogue)
+check_text as_tree catalogue = accepted_line catalogue ++ (if as_tree then trees_text catalogue else leaf_lines catalogue)
 
 -- these bytes are of a valid catalogue, of which all was said on this output
-pub record IsChecked (tree : Bool) (old new : Option (List ℕ)) (bytes : List ℕ) : Type 0 where
+pub record IsChecked (as_tree : Bool) (old new : Option (List ℕ)) (bytes : List ℕ) : Type 0 where
   pub catalogue : Catalogue
   pub file : IsCatalogueFile bytes catalogue
   pub valid : IsValidCatalogue catalogue
-  pub said : Appends old new (check_text tree catalogue)
+  pub said : Appends old new (check_text as_tree catalogue)
 
 -- a fault of a write: memory ran out, or nobody reads
 abbrev pub IsWriteFault : CatalogFault → Type 0
@@ -63,6 +63,6 @@ IsWriteFault (Refused fault) = ⊥
 
 -- the check of a file of these bytes: all is said of it, or it is refused and nothing is said, or something stopped the check
 abbrev pub ChecksFile : Bool → Bor (List ℕ) → List ℕ → Option (List ℕ) → Option (List ℕ) → Result Unit CatalogFault → Type 0
-ChecksFile tree file bytes old new (Ok done) = IsChecked tree old new bytes
-ChecksFile tree file bytes old new (Err (Refused fault)) = RefusesFile bytes fault.relation fault.rule × Keeps old new
-ChecksFile tree file bytes old new (Err (Program fault)) = (IsOfInput file fault ⊎ (fault ≡ CannotWrite)) × (IsFileOfNoneValid bytes → Keeps old new)
+ChecksFile as_tree file bytes old new (Ok done) = IsChecked as_tree old new bytes
+ChecksFile as_tree file bytes old new (Err (Refused fault)) = RefusesFile bytes fault.relation fault.rule × Keeps old new
+ChecksFile as_tree file bytes old new (Err (Program fault)) = (IsOfInput file fault ⊎ (fault ≡ CannotWrite)) × (IsFileOfNoneValid bytes → Keeps old new)

@@ -23,8 +23,8 @@ use Rattle.fragdb.specs.Solo.{RunsFiles}
 -- the file that a request names
 abbrev pub file_of : Request → Bor (List ℕ)
 file_of (Solo name file explain interactive mode) = file
-file_of (Check file explain tree) = file
-file_of (Plan file statement tree) = file
+file_of (Check file explain as_tree) = file
+file_of (Plan file statement as_tree) = file
 file_of (Play name file) = file
 
 -- the file of a catalogue that a request names besides, if it names one
@@ -93,19 +93,19 @@ PerformsSession name bytes file old new (Stopped fault) = RunsSession name bytes
 
 -- a catalogue's outcome
 abbrev pub PerformsCheck : Bool → Bor (List ℕ) → List ℕ → Option (List ℕ) → Option (List ℕ) → Outcome → Type 0
-PerformsCheck tree file bytes old new Done = ChecksFile tree file bytes old new (Ok tt)
-PerformsCheck tree file bytes old new SomeRefused = ⊥
-PerformsCheck tree file bytes old new (Refused fault) = ChecksFile tree file bytes old new (Err (catalog.Refused fault))
-PerformsCheck tree file bytes old new (RefusedStatement fault) = ⊥
-PerformsCheck tree file bytes old new (Stopped fault) = ChecksFile tree file bytes old new (Err (catalog.Program fault))
+PerformsCheck as_tree file bytes old new Done = ChecksFile as_tree file bytes old new (Ok tt)
+PerformsCheck as_tree file bytes old new SomeRefused = ⊥
+PerformsCheck as_tree file bytes old new (Refused fault) = ChecksFile as_tree file bytes old new (Err (catalog.Refused fault))
+PerformsCheck as_tree file bytes old new (RefusedStatement fault) = ⊥
+PerformsCheck as_tree file bytes old new (Stopped fault) = ChecksFile as_tree file bytes old new (Err (catalog.Program fault))
 
 -- a plan's outcome
 abbrev pub PerformsPlan : Bool → Bor (List ℕ) → List ℕ → List ℕ → Option (List ℕ) → Option (List ℕ) → Outcome → Type 0
-PerformsPlan tree file statement bytes old new Done = PlansFile tree file statement bytes old new (Ok tt)
-PerformsPlan tree file statement bytes old new SomeRefused = ⊥
-PerformsPlan tree file statement bytes old new (Refused fault) = PlansFile tree file statement bytes old new (Err (plan.Catalogue fault))
-PerformsPlan tree file statement bytes old new (RefusedStatement fault) = PlansFile tree file statement bytes old new (Err (plan.Statement fault))
-PerformsPlan tree file statement bytes old new (Stopped fault) = PlansFile tree file statement bytes old new (Err (plan.Program fault))
+PerformsPlan as_tree file statement bytes old new Done = PlansFile as_tree file statement bytes old new (Ok tt)
+PerformsPlan as_tree file statement bytes old new SomeRefused = ⊥
+PerformsPlan as_tree file statement bytes old new (Refused fault) = PlansFile as_tree file statement bytes old new (Err (plan.Catalogue fault))
+PerformsPlan as_tree file statement bytes old new (RefusedStatement fault) = PlansFile as_tree file statement bytes old new (Err (plan.Statement fault))
+PerformsPlan as_tree file statement bytes old new (Stopped fault) = PlansFile as_tree file statement bytes old new (Err (plan.Program fault))
 
 -- the outcome of a play over the catalogue of a file
 abbrev pub PerformsPlayOf : Bor (List ℕ) → List ℕ → Bor (List ℕ) → List ℕ → Option (List ℕ) → Option (List ℕ) → Outcome → Type 0
@@ -124,8 +124,8 @@ PerformsOver other name bytes script old new outcome = Unit
 -- what is written from old to new, and the outcome, where the file has these bytes; of a script it is told apart
 abbrev pub Performs : Request → List ℕ → Option (List ℕ) → Option (List ℕ) → Outcome → Type 0
 Performs (Solo name file explain interactive mode) bytes old new outcome = Unit
-Performs (Check file explain tree) bytes old new outcome = PerformsCheck tree file bytes old new outcome
-Performs (Plan file statement tree) bytes old new outcome = PerformsPlan tree file statement.now bytes old new outcome
+Performs (Check file explain as_tree) bytes old new outcome = PerformsCheck as_tree file bytes old new outcome
+Performs (Plan file statement as_tree) bytes old new outcome = PerformsPlan as_tree file statement.now bytes old new outcome
 Performs (Play name file) bytes old new outcome = Unit
 
 -- the outcome where this file can't be opened
@@ -166,6 +166,6 @@ StopsIdle other name bytes outcome = Unit
 -- the outcome where the file that is asked for can't be opened; a script may be stopped by its catalogue before
 abbrev pub StopsUnread : Request → Outcome → Type 0
 StopsUnread (Solo name file explain interactive mode) outcome = IsStopped outcome
-StopsUnread (Check file explain tree) outcome = IsUnread file outcome
-StopsUnread (Plan file statement tree) outcome = IsUnread file outcome
+StopsUnread (Check file explain as_tree) outcome = IsUnread file outcome
+StopsUnread (Plan file statement as_tree) outcome = IsUnread file outcome
 StopsUnread (Play name file) outcome = IsStopped outcome

@@ -86,14 +86,14 @@ abbrev pub fault_of_reading : Fault → PlanFault
 fault_of_reading fault = fault_by_rule fault fault.rule
 
 -- these bytes are of a valid catalogue, the text is one of a statement of its schema, and its plan was written
-pub record IsPlanned (tree : Bool) (text : List ℕ) (old new : Option (List ℕ)) (bytes : List ℕ) : Type 0 where
+pub record IsPlanned (as_tree : Bool) (text : List ℕ) (old new : Option (List ℕ)) (bytes : List ℕ) : Type 0 where
   pub catalogue : Catalogue
   pub file : IsCatalogueFile bytes catalogue
   pub valid : IsValidCatalogue catalogue
   pub statement : Statement
   pub read : IsTextOf (schemas_of catalogue) text (Run statement)
   pub shown : List ℕ
-  pub planned : IsShownPlan tree catalogue statement shown
+  pub planned : IsShownPlan as_tree catalogue statement shown
   pub said : Appends old new shown
 
 -- these bytes are of a valid catalogue, the text is one of no statement of its schema, and nothing was written
@@ -106,7 +106,7 @@ pub record IsRefusedStatement (text : List ℕ) (old new : Option (List ℕ)) (b
 
 -- what the command does with a file of these bytes and the text of a statement
 abbrev pub PlansFile : Bool → Bor (List ℕ) → List ℕ → List ℕ → Option (List ℕ) → Option (List ℕ) → Result Unit PlanFault → Type 0
-PlansFile tree file text bytes old new (Ok done) = IsPlanned tree text old new bytes
-PlansFile tree file text bytes old new (Err (plan.Catalogue fault)) = RefusesFile bytes fault.relation fault.rule × Keeps old new
-PlansFile tree file text bytes old new (Err (plan.Statement fault)) = IsRefusedStatement text old new bytes fault
-PlansFile tree file text bytes old new (Err (plan.Program fault)) = IsOfInput file fault ⊎ (fault ≡ CannotWrite)
+PlansFile as_tree file text bytes old new (Ok done) = IsPlanned as_tree text old new bytes
+PlansFile as_tree file text bytes old new (Err (plan.Catalogue fault)) = RefusesFile bytes fault.relation fault.rule × Keeps old new
+PlansFile as_tree file text bytes old new (Err (plan.Statement fault)) = IsRefusedStatement text old new bytes fault
+PlansFile as_tree file text bytes old new (Err (plan.Program fault)) = IsOfInput file fault ⊎ (fault ≡ CannotWrite)

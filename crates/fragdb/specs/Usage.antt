@@ -84,14 +84,14 @@ pub record IsGiven (words : List Text) (request : Text × List (Text × Option T
 -- a request in words: the command, and its arguments, each with its name
 abbrev pub asked : Request → Text × List (Text × Option Text)
 asked (Solo catalog script explain interactive mode) = (codes "solo", (codes "CATALOG", option_map (λ file. file.now) catalog) ∷ (codes "SCRIPT", Some script.now) ∷ [])
-asked (Check catalog explain tree) = (codes "check", (codes "CATALOG", Some catalog.now) ∷ [])
-asked (Plan catalog statement tree) = (codes "plan", (codes "CATALOG", Some catalog.now) ∷ (codes "STATEMENT", Some statement.now) ∷ [])
+asked (Check catalog explain as_tree) = (codes "check", (codes "CATALOG", Some catalog.now) ∷ [])
+asked (Plan catalog statement as_tree) = (codes "plan", (codes "CATALOG", Some catalog.now) ∷ (codes "STATEMENT", Some statement.now) ∷ [])
 asked (Play catalog script) = (codes "play", (codes "CATALOG", option_map (λ file. file.now) catalog) ∷ (codes "SCRIPT", Some script.now) ∷ [])
 
 -- whether a request is to be explained where it is refused
 abbrev pub explains : Request → Bool
 explains (Solo catalog script explain interactive mode) = explain
-explains (Check catalog explain tree) = explain
+explains (Check catalog explain as_tree) = explain
 explains _ = false
 
 -- whether answers are shown in columns, as CSV, or as JSON
@@ -110,8 +110,8 @@ is_json _ = false
 -- the flags of a request's command, and whether they are set
 abbrev pub flags_of : Request → List (Text × Bool)
 flags_of (Solo catalog script explain interactive mode) = (codes "EXPLAIN", explain) ∷ (codes "INTERACTIVE", interactive) ∷ (codes "COLUMNS", is_columns mode) ∷ (codes "CSV", is_csv mode) ∷ (codes "JSON", is_json mode) ∷ []
-flags_of (Check catalog explain tree) = (codes "EXPLAIN", explain) ∷ (codes "TREE", tree) ∷ []
-flags_of (Plan catalog statement tree) = (codes "TREE", tree) ∷ []
+flags_of (Check catalog explain as_tree) = (codes "EXPLAIN", explain) ∷ (codes "TREE", as_tree) ∷ []
+flags_of (Plan catalog statement as_tree) = (codes "TREE", as_tree) ∷ []
 flags_of _ = []
 
 -- the exit status where clap gives a text in place of a request
