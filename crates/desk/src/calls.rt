@@ -57,6 +57,7 @@ pub(crate) fn call_begin(present: &mut Present, sites: &[Text]) -> Result<Out, R
         → IfOk result (λ out. Begins db (table_of present.old) kept (table_of present.new) out.letters out.replies) }
     ensures kept { IfOk result (λ out. out.kept ≡ true) }
     ensures err { OnErr result (table_of present.new ≡ table_of present.old) }
+    ensures own { IfErr result (λ told. (told ≡ refusals.Memory) ⊎ (told ≡ refusals.Full)) }
     ensures full { (db : Database) (kept : DeskContent) → IsOver db sites.now → Fits db kept (table_of present.old)
         → IfErr result (λ told. (told ≡ refusals.Memory) ⊎ ((told ≡ refusals.Full) × (is_desk_within (desk_began (desk_of db (table_of present.old))) ≡ false))) }
 {

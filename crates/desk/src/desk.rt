@@ -99,6 +99,7 @@ impl<S: DeskStore> Desk<S> {
         ensures ok { (db : Database) → IsOver db self.old.catalog.0 → Fits db (S.kept self.old.store) (table_of self.old.present)
             → IfOk result (λ out. Begins db (table_of self.old.present) (S.kept self.new.store) (table_of self.new.present) out.letters out.replies) }
         ensures kept { IfOk result (λ out. out.kept ≡ true) }
+        ensures own { IfErr result (λ told. (told ≡ refusals.Memory) ⊎ (told ≡ refusals.Full)) }
         ensures full { (db : Database) → IsOver db self.old.catalog.0 → Fits db (S.kept self.old.store) (table_of self.old.present)
             → IfErr result (λ told. (told ≡ refusals.Memory) ⊎ ((told ≡ refusals.Full) × (is_desk_within (desk_began (desk_of db (table_of self.old.present))) ≡ false))) }
         ensures err { OnErr result (table_of self.new.present ≡ table_of self.old.present) }
@@ -286,6 +287,7 @@ impl<S: DeskStore> Desk<S> {
         ensures memory { self.new.present ≡ self.old.present }
         ensures refusal { result ≡ Err (refusals.Store store_faults.Refused) → HasRefused (S.refused self.old.store) (S.refused self.new.store) }
         ensures intact { S.is_clean self.new.store → S.is_sound self.old.store → result ≢ Err (refusals.Store store_faults.Damaged) }
+        ensures own { IfErr result (λ told. (told ≡ refusals.Memory) ⊎ (told ≡ refusals.Store store_faults.Refused) ⊎ (told ≡ refusals.Store store_faults.Damaged)) }
         ensures catalog { self.new.catalog ≡ self.old.catalog }
     {
         match self.store.load() {

@@ -1,7 +1,6 @@
 -- Lemmas on a session.
-use Rattle.std.proofs.Common.{◌≡◌, ◌++◌, ◌∷◌, [], Bool, IfOk, OnOk, ap₂, append-nil, append_assoc, is_ok, refl, sym, subst, true, ◌∙◌, ℕ, List, Option, None, Some, Result, Ok, Err}
+use Rattle.std.proofs.Common.{◌≡◌, ◌++◌, ◌∷◌, [], OnOk, ap₂, append-nil, append_assoc, refl, sym, subst, ◌∙◌, ℕ, List, Option, None, Some, Result, Ok, Err}
 use Rattle.std.specs.Io.KnownBytes.{Appends}
-use Rattle.std.specs.List.{flat_map}
 use Rattle.std.proofs.lemmas.Grind.{flat_map-append}
 use Rattle.meaning.specs.Whole.{Relations}
 use Rattle.catalog.specs.Catalogue.{Catalogue}
@@ -23,7 +22,7 @@ use Rattle.world.specs.Telling.{Tells}
 use Rattle.fragdb.specs.declared.fault.ProgramFault.{ProgramFault}
 use Rattle.fragdb.specs.Client.{GoesOn, IsAnswered, Standing, standing_of}
 use Rattle.fragdb.specs.Reply.{text_of}
-use Rattle.fragdb.specs.Session.{Answer, AnswersEach, Aside, Beside, Exchange, IsAsideOf, IsSession, IsTalk, Talks, aside_text, exchange_in, exchanges_in, piece_text, said_by_each}
+use Rattle.fragdb.specs.Session.{Answer, AnswersEach, Beside, Exchange, IsAsideOf, IsSession, IsTalk, Talks, aside_text, exchange_in, exchanges_in, piece_text, said_by_each}
 use Rattle.fragdb.specs.Solo.{no_rows, said_by}
 use Rattle.fragdb.proofs.ClientLemmas.{still_told, task_told}
 use Rattle.fragdb.proofs.SoloLemmas.{Appends-more}

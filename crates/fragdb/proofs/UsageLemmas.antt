@@ -1,11 +1,20 @@
 -- Lemmas on the words of the command line.
-use Rattle.std.proofs.Common.{◌≡◌, Bool, Box, Global, List, [], ◌∷◌, Option, Some, None, refl, sym, ◌∙◌, option_map}
-use Rattle.clap.specs.Words.{Row, Text, first_of, subcommand_name_of, subcommand_of, subcommand_rows, subcommand_rows_of}
+use Rattle.std.proofs.Common.{◌≡◌, Bool, Box, Global, List, [], ◌∷◌, inl, inr, Option, Some, None, codes, refl, sym, ◌∙◌, option_map, ap, ap₂, subst, Result, Ok, Err, IfOk, IfErr, IsErrAnd}
+use Rattle.clap.specs.Words.{Row, Text, first_of, rows_of, subcommand_name_of, subcommand_of, subcommand_rows, subcommand_rows_of}
+use Rattle.clap.specs.Matches.{first_value}
+use Rattle.clap.specs.declared.parser.matches.Found.{Found}
+use Rattle.clap.proofs.WalkLemmas.{first_value-rows}
 use Rattle.std.specs.Box.{box_value}
 use Rattle.std.specs.List.{AllByRecursion}
 use Rattle.clap.specs.declared.parser.matches.SubCommand.{SubCommand, out-SubCommand}
 use Rattle.clap.specs.declared.parser.matches.ArgMatches.{ArgMatches, out-ArgMatches}
-use Rattle.fragdb.specs.Usage.{IsGiven, is_set, usage}
+use Rattle.fragdb.specs.declared.usage.Request.{Request}
+use Rattle.clap.specs.declared.error.kind.ErrorKind.{ErrorKind}
+use Rattle.clap.specs.declared.error.kind.ErrorKind.TheVariants.{ArgumentConflict, MissingRequiredArgument, OutOfMemory}
+use Rattle.clap.specs.declared.error.Error.{Error}
+use Rattle.clap.specs.Words.{kind_of}
+use Rattle.shell.specs.declared.mode.Mode.{Mode}
+use Rattle.fragdb.specs.Usage.{Asks, IsGiven, IsMisuse, mode_of_flags, no_memory, no_script, two_modes, asked, flags_of, is_interactive, is_set, script_of, usage}
 
 pub subcommand_name_of-rows : (m : ArgMatches) → subcommand_name_of m ≡ option_map (λ p. p.0) (subcommand_rows_of m)
 subcommand_name_of-rows m = go (out-ArgMatches m).subcommand
@@ -35,7 +44,44 @@ pub given_perhaps : (words : List Text) (entered : Option (Text × List Row)) (n
     one ≡ first_of first rows → Some two ≡ first_of second rows → IsGiven words (name, (first, one) ∷ (second, Some two) ∷ []) []
 given_perhaps words entered name rows first one second two e n r s t = record { rows = rows; command = command_is words entered name rows e n r; arguments = (sym s, (sym t, tt)); set = tt }
 
--- the same with flags
-pub given_flagged : (words : List Text) (entered : Option (Text × List Row)) (name : Text) (rows : List Row) (first : Text) (one : Option Text) (second two : Text) (flags : List (Text × Bool)) → entered ≡ subcommand_of usage words → Some name ≡ option_map (λ p. p.0) entered →
-    Some rows ≡ option_map (λ p. p.1) entered → one ≡ first_of first rows → Some two ≡ first_of second rows → AllByRecursion (λ flag. is_set (first_of flag.0 rows) ≡ flag.1) flags → IsGiven words (name, (first, one) ∷ (second, Some two) ∷ []) flags
-given_flagged words entered name rows first one second two flags e n r s t f = record { rows = rows; command = command_is words entered name rows e n r; arguments = (sym s, (sym t, tt)); set = f }
+-- what `solo` asks for: its script is named, or left out where each line is to be asked for
+pub solo_asks : (words : List Text) (entered : Option (Text × List Row)) (rows : List Row) (request : Request) (at_terminal : Bool) → entered ≡ subcommand_of usage words → Some (codes "solo") ≡ option_map (λ p. p.0) entered → Some rows ≡ option_map (λ p. p.1) entered →
+    asked request ≡ (codes "solo", (codes "CATALOG", first_of (codes "CATALOG") rows) ∷ (codes "SCRIPT", script_of (first_of (codes "SCRIPT") rows) (is_interactive request) at_terminal) ∷ []) →
+    AllByRecursion (λ flag. is_set (first_of flag.0 rows) ≡ flag.1) (flags_of request) → Asks words at_terminal request
+solo_asks words entered rows request at_terminal e n r a f = go (first_of (codes "SCRIPT") rows) refl
+  where
+    given : (script : Option Text) → first_of (codes "SCRIPT") rows ≡ script → IsGiven words (codes "solo", (codes "CATALOG", first_of (codes "CATALOG") rows) ∷ (codes "SCRIPT", script) ∷ []) (flags_of request)
+    given script is_script = record { rows = rows; command = command_is words entered (codes "solo") rows e n r; arguments = (refl, (is_script, tt)); set = f }
+
+    request_of : Option Text → Text × List (Text × Option Text)
+    request_of script = (codes "solo", (codes "CATALOG", first_of (codes "CATALOG") rows) ∷ (codes "SCRIPT", script_of script (is_interactive request) at_terminal) ∷ [])
+
+    go : (script : Option Text) → first_of (codes "SCRIPT") rows ≡ script → Asks words at_terminal request
+    go (Some name) is_script = inl (subst (λ q. IsGiven words q (flags_of request)) (sym (a ∙ ap request_of is_script)) (given (Some name) is_script))
+    go None is_script = inr (record { catalog = first_of (codes "CATALOG") rows; given = given None is_script; asks = a ∙ ap request_of is_script })
+
+-- flags of rows, where they are set as they were found
+pub flags_found : (found : Found) (flags : List (Text × Bool)) → AllByRecursion (λ flag. is_set (first_value found flag.0) ≡ flag.1) flags → AllByRecursion (λ flag. is_set (first_of flag.0 (rows_of found)) ≡ flag.1) flags
+flags_found found [] h = tt
+flags_found found (flag ∷ flags) (is, rest) = (sym (ap is_set (first_value-rows found flag.0)) ∙ is, flags_found found flags rest)
+
+-- what `solo` asks for, where its arguments were found so
+pub solo_answers : {E : Type 0} (words : List Text) (entered : Option (Text × List Row)) (found : Found) (at_terminal : Bool) → entered ≡ subcommand_of usage words → Some (codes "solo") ≡ option_map (λ p. p.0) entered → Some (rows_of found) ≡ option_map (λ p. p.1) entered → (answered : Result Request E) →
+    IfOk answered (λ request. asked request ≡ (codes "solo", (codes "CATALOG", first_value found (codes "CATALOG")) ∷ (codes "SCRIPT", script_of (first_value found (codes "SCRIPT")) (is_interactive request) at_terminal) ∷ [])) →
+    IfOk answered (λ request. AllByRecursion (λ flag. is_set (first_value found flag.0) ≡ flag.1) (flags_of request)) → IfOk answered (λ request. Asks words at_terminal request)
+solo_answers words entered found at_terminal e n r (Err error) a f = tt
+solo_answers words entered found at_terminal e n r (Ok request) a f =
+    let given : Option Text → Option Text → Text × List (Text × Option Text) = λ catalog script. (codes "solo", (codes "CATALOG", catalog) ∷ (codes "SCRIPT", script_of script (is_interactive request) at_terminal) ∷ []) in
+    solo_asks words entered (rows_of found) request at_terminal e n r (a ∙ ap₂ given (first_value-rows found (codes "CATALOG")) (first_value-rows found (codes "SCRIPT"))) (flags_found found (flags_of request) f)
+
+-- what is wrong with the words after `solo`
+pub no_script_named : (found : Found) (at_terminal interactive : Bool) (script : Option Text) (kind : ErrorKind) → kind ≡ MissingRequiredArgument → interactive ≡ is_set (first_value found (codes "INTERACTIVE")) → script ≡ script_of (first_value found (codes "SCRIPT")) interactive at_terminal → script ≡ None → IsMisuse found at_terminal kind
+no_script_named found at_terminal interactive script kind k i s n = subst (IsMisuse found at_terminal) (sym k) (no_script (subst (λ b. script_of (first_value found (codes "SCRIPT")) b at_terminal ≡ None) i (sym s ∙ n)))
+
+pub two_ways : (found : Found) (at_terminal : Bool) (mode : Option Mode) (kind : ErrorKind) → kind ≡ ArgumentConflict →
+    mode ≡ mode_of_flags (is_set (first_value found (codes "COLUMNS"))) (is_set (first_value found (codes "CSV"))) (is_set (first_value found (codes "JSON"))) → mode ≡ None → IsMisuse found at_terminal kind
+two_ways found at_terminal mode kind k m n = subst (IsMisuse found at_terminal) (sym k) (two_modes (sym m ∙ n))
+
+pub memory_ran_out : {T : Type 0} (found : Found) (at_terminal : Bool) (answered : Result T Error) → IsErrAnd answered (λ error. kind_of error ≡ OutOfMemory) → IfErr answered (λ error. IsMisuse found at_terminal (kind_of error))
+memory_ran_out found at_terminal (Ok request) k = tt
+memory_ran_out found at_terminal (Err error) k = subst (IsMisuse found at_terminal) (sym k) no_memory

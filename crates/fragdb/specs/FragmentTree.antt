@@ -1,15 +1,13 @@
 -- What the program shows of a catalogue as trees: each relation with its columns, and below it how it is split, down to the leaves.
 use Rattle.std.specs.Prelude.{ℕ, List, [], ◌∷◌, ◌++◌, bytes_eq, if◌then◌else◌, codes, flat_map, map}
 use Rattle.terms.specs.Leaf.{leaf_text}
-use Rattle.terms.specs.declared.cond.Cond.{Cond}
-use Rattle.meaning.specs.declared.schema.Column.{Column}
 use Rattle.meaning.specs.declared.schema.RelationSchema.{RelationSchema}
 use Rattle.reader.specs.PrintStatement.{conds_bytes, separated_bytes}
 use Rattle.reader.specs.Written.{name_in}
 use Rattle.catalog.specs.declared.fragment_leaf.FragmentLeaf.{FragmentLeaf}
 use Rattle.catalog.specs.declared.path.Step.{Step}
 use Rattle.catalog.specs.declared.path.Step.TheVariants.{Row, Col}
-use Rattle.catalog.specs.Catalogue.{Catalogue, kind_word}
+use Rattle.catalog.specs.Catalogue.{Catalogue}
 use Rattle.catalog.specs.FragmentLeaf.{leaves_in, relation_named, schemas_of}
 use Rattle.fragdb.specs.Columns.{names_of_columns}
 use Rattle.fragdb.specs.SchemaLine.{schema_line}

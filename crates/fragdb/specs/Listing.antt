@@ -1,9 +1,6 @@
 -- What is told of a catalogue to a person who asks.
-use Rattle.std.specs.Prelude.{ℕ, ◌==◌, ◌||◌, Bool, List, [], ◌∷◌, ◌++◌, if◌then◌else◌, bytes_eq, codes, flat_map, length}
-use Rattle.meaning.specs.declared.schema.Column.{Column}
-use Rattle.meaning.specs.declared.schema.RelationSchema.{RelationSchema}
-use Rattle.reader.specs.PrintStatement.{separated_bytes}
-use Rattle.catalog.specs.Catalogue.{Catalogue, kind_word}
+use Rattle.std.specs.Prelude.{ℕ, ◌==◌, ◌||◌, Bool, List, [], ◌∷◌, ◌++◌, if◌then◌else◌, bytes_eq, flat_map, length}
+use Rattle.catalog.specs.Catalogue.{Catalogue}
 use Rattle.catalog.specs.FragmentLeaf.{catalogue_leaves, schemas_of}
 use Rattle.fragdb.specs.Check.{leaf_line}
 pub use Rattle.fragdb.specs.SchemaLine.{column_text, schema_line}

@@ -39,11 +39,6 @@ is_of_input (Solo name file explain interactive mode) = bytes_eq file.now (codes
 is_of_input (Play name file) = bytes_eq file.now (codes "-")
 is_of_input _ = false
 
--- whether each line is to be asked for, wherever it comes from
-abbrev pub is_interactive : Request → Bool
-is_interactive (Solo name file explain interactive mode) = interactive
-is_interactive _ = false
-
 -- whether lines for a database are read from standard input
 abbrev pub is_typed : Request → Bool
 is_typed (Solo name file explain interactive mode) = bytes_eq file.now (codes "-")

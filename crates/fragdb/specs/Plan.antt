@@ -1,22 +1,17 @@
 -- What the program shows of a statement's plan.
-use Rattle.std.specs.Prelude.{◌≡◌, ◌≢◌, ◌⊎◌, ℕ, Bool, true, false, ◌==◌, if◌then◌else◌, List, [], ◌∷◌, ◌++◌, Option, Some, None, Result, Ok, Err, codes, length}
+use Rattle.std.specs.Prelude.{◌≡◌, ◌≢◌, ◌⊎◌, ℕ, Bool, true, false, List, ◌++◌, Option, Result, Ok, Err, length}
 use Rattle.std.specs.Borrow.{Bor}
-use Rattle.std.specs.Fmt.{decimal}
 use Rattle.std.specs.Io.KnownBytes.{Appends, Keeps}
 use Rattle.std.specs.List.{flat_map}
-use Rattle.terms.specs.Leaf.{leaf_text}
 use Rattle.meaning.specs.declared.schema.RelationSchema.{RelationSchema}
 use Rattle.meaning.specs.declared.statement.Statement.{Statement}
-use Rattle.meaning.specs.Listed.{listed}
 use Rattle.reader.specs.declared.command.Command.TheVariants.{Run}
 use Rattle.reader.specs.declared.fault.Rule.{Rule}
 use Rattle.reader.specs.declared.fault.Rule.TheVariants as rules
 use Rattle.reader.specs.Command.{IsTextOf}
 use Rattle.reader.specs.Fault.{Fault}
-use Rattle.reader.specs.Written.{name_in}
-use Rattle.catalog.specs.declared.fragment_leaf.FragmentLeaf.{FragmentLeaf}
 use Rattle.catalog.specs.Catalogue.{Catalogue, IsValidCatalogue}
-use Rattle.catalog.specs.FragmentLeaf.{catalogue_leaves, leaf_named, schemas_of}
+use Rattle.catalog.specs.FragmentLeaf.{schemas_of}
 use Rattle.plan.specs.declared.fetch.Fetch.{Fetch}
 use Rattle.plan.specs.Stated.{AreFetchesOf}
 use Rattle.fragdb.specs.declared.catalog_file.CatalogFault.{CatalogFault}

@@ -1,13 +1,9 @@
 -- What the program shows of a plan as a tree, line by line.
 use Rattle.std.specs.Prelude.{ℕ, Bool, true, false, ◌&&◌, ◌||◌, List, [], ◌∷◌, ◌++◌, if◌then◌else◌, codes, drop}
-use Rattle.terms.specs.Leaf.{leaf_text}
-use Rattle.terms.specs.declared.cond.Cond.{Cond}
 use Rattle.meaning.specs.declared.schema.Column.{Column}
-use Rattle.meaning.specs.Listed.{listed}
 use Rattle.reader.specs.PrintStatement.{separated_bytes}
 use Rattle.reader.specs.Written.{name_in}
 use Rattle.catalog.specs.Catalogue.{Catalogue}
-use Rattle.plan.specs.declared.fetch.Fetch as fetch
 use Rattle.plan.specs.Shape.{Shape, Empty, Fetch, Filter, Project, Union, KeyJoin, Lookup}
 use Rattle.fragdb.specs.Columns.{names_of_columns, where_text}
 use Rattle.fragdb.specs.FetchLine.{fetch_line}

@@ -1,5 +1,5 @@
 -- A session: what is typed is answered line by line, over one database.
-use Rattle.std.specs.Prelude.{ℕ, ◌≡◌, ◌⊎◌, Bool, if◌then◌else◌, List, [], ◌∷◌, ◌++◌, codes, flat_map, Option, None, Result, Ok, Err}
+use Rattle.std.specs.Prelude.{ℕ, ◌≡◌, ◌⊎◌, Bool, if◌then◌else◌, List, [], ◌∷◌, ◌++◌, codes, flat_map, Option, Result, Ok, Err}
 use Rattle.std.specs.Borrow.{Bor}
 use Rattle.std.specs.Io.KnownBytes.{Appends, Keeps}
 use Rattle.meaning.specs.Whole.{Relations}
@@ -18,7 +18,6 @@ use Rattle.shell.specs.declared.mode.Mode.{Mode}
 use Rattle.fragdb.specs.declared.catalog_file.CatalogFault.{CatalogFault}
 use Rattle.fragdb.specs.declared.catalog_file.CatalogFault.TheVariants.{Program, Refused}
 use Rattle.fragdb.specs.declared.fault.ProgramFault.{ProgramFault}
-use Rattle.fragdb.specs.declared.fault.ProgramFault.TheVariants.{CannotRead, Memory}
 use Rattle.fragdb.specs.CatalogFile.{IsCatalogueFile, RefusesFile}
 use Rattle.fragdb.specs.Client.{AnswersTask, GoesOn, Standing, standing_of}
 use Rattle.fragdb.specs.Input.{IsOfInput}

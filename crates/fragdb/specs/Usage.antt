@@ -1,13 +1,15 @@
 -- What the words of the command line ask for.
-use Rattle.std.specs.Prelude.{◌≡◌, Bool, true, false, List, [], ◌∷◌, Option, Some, None, bytes_eq, codes, option_map}
+use Rattle.std.specs.Prelude.{◌≡◌, ◌⊎◌, Bool, true, false, List, [], ◌∷◌, Option, Some, None, bytes_eq, codes, option_map}
 use Rattle.std.specs.List.{AllByRecursion}
 use Rattle.clap.specs.Words.{App, Row, Rule, Text, first_of, new_app, new_rule, subcommand_of, with_rule, with_subcommand}
+use Rattle.clap.specs.Matches.{first_value}
 use Rattle.clap.specs.Simple.{new_shape}
+use Rattle.clap.specs.declared.parser.matches.Found.{Found}
 use Rattle.clap.specs.declared.builder.action.ArgAction.TheVariants.{SetTrue}
 use Rattle.clap.specs.declared.error.kind.ErrorKind.{ErrorKind}
-use Rattle.clap.specs.declared.error.kind.ErrorKind.TheVariants.{DisplayHelp, DisplayVersion, OutOfMemory}
+use Rattle.clap.specs.declared.error.kind.ErrorKind.TheVariants.{ArgumentConflict, DisplayHelp, DisplayVersion, MissingRequiredArgument, OutOfMemory}
 use Rattle.shell.specs.declared.mode.Mode.{Mode}
-use Rattle.shell.specs.declared.mode.Mode.TheVariants.{Columns, Csv, Json}
+use Rattle.shell.specs.declared.mode.Mode.TheVariants.{Columns, Csv, Json, Tabs}
 use Rattle.fragdb.specs.declared.outcome.Status.{Status}
 use Rattle.fragdb.specs.declared.outcome.Status.TheVariants as status
 use Rattle.fragdb.specs.declared.usage.Request.{Request}
@@ -32,6 +34,10 @@ option_argument name word = record (new_rule name) { long = Some word }
 -- a command `NAME [--catalog FILE] SCRIPT`
 abbrev pub of_script : Text → App
 of_script name = with_rule (with_rule (new_app name) (option_argument (codes "CATALOG") (codes "catalog"))) (argument (codes "SCRIPT"))
+
+-- a command `NAME [--catalog FILE] [SCRIPT]`
+abbrev pub of_any_script : Text → App
+of_any_script name = with_rule (with_rule (new_app name) (option_argument (codes "CATALOG") (codes "catalog"))) (new_rule (codes "SCRIPT"))
 
 -- a flag, which is known by a word
 abbrev pub flag : Text → Text → Rule
@@ -65,7 +71,7 @@ program = record {
 
 abbrev pub usage : App
 usage =
-    with_subcommand (with_subcommand (with_subcommand (with_subcommand program (shown (held (explained (of_script (codes "solo"))))).top) (treed (explained (command_with (codes "check") (codes "CATALOG")))).top)
+    with_subcommand (with_subcommand (with_subcommand (with_subcommand program (shown (held (explained (of_any_script (codes "solo"))))).top) (treed (explained (command_with (codes "check") (codes "CATALOG")))).top)
     (treed (command_with_two (codes "plan") (codes "CATALOG") (codes "STATEMENT"))).top) (of_script (codes "play")).top
 
 -- whether a flag's value says that it is set
@@ -81,6 +87,13 @@ pub record IsGiven (words : List Text) (request : Text × List (Text × Option T
   pub arguments : AllByRecursion (λ a. first_of a.0 rows ≡ a.1) request.1
   pub set : AllByRecursion (λ flag. is_set (first_of flag.0 rows) ≡ flag.1) flags
 
+-- the script that is named; where none is, the standard input, if each line is to be asked for: by the word for it, or at a terminal
+abbrev pub script_of : Option Text → (interactive at_terminal : Bool) → Option Text
+script_of (Some name) interactive at_terminal = Some name
+script_of None true at_terminal = Some (codes "-")
+script_of None false true = Some (codes "-")
+script_of None false false = None
+
 -- a request in words: the command, and its arguments, each with its name
 abbrev pub asked : Request → Text × List (Text × Option Text)
 asked (Solo catalog script explain interactive mode) = (codes "solo", (codes "CATALOG", option_map (λ file. file.now) catalog) ∷ (codes "SCRIPT", Some script.now) ∷ [])
@@ -93,6 +106,11 @@ abbrev pub explains : Request → Bool
 explains (Solo catalog script explain interactive mode) = explain
 explains (Check catalog explain as_tree) = explain
 explains _ = false
+
+-- whether each line is to be asked for, wherever it comes from
+abbrev pub is_interactive : Request → Bool
+is_interactive (Solo catalog script explain interactive mode) = interactive
+is_interactive _ = false
 
 -- whether answers are shown in columns, as CSV, or as JSON
 abbrev pub is_columns : Mode → Bool
@@ -107,12 +125,38 @@ abbrev pub is_json : Mode → Bool
 is_json Json = true
 is_json _ = false
 
+-- how answers are shown, by the flags that are set; two together ask for nothing
+abbrev pub mode_of_flags : (columns csv json : Bool) → Option Mode
+mode_of_flags false false false = Some Tabs
+mode_of_flags true false false = Some Columns
+mode_of_flags false true false = Some Csv
+mode_of_flags false false true = Some Json
+mode_of_flags true true json = None
+mode_of_flags true false true = None
+mode_of_flags false true true = None
+
 -- the flags of a request's command, and whether they are set
 abbrev pub flags_of : Request → List (Text × Bool)
 flags_of (Solo catalog script explain interactive mode) = (codes "EXPLAIN", explain) ∷ (codes "INTERACTIVE", interactive) ∷ (codes "COLUMNS", is_columns mode) ∷ (codes "CSV", is_csv mode) ∷ (codes "JSON", is_json mode) ∷ []
 flags_of (Check catalog explain as_tree) = (codes "EXPLAIN", explain) ∷ (codes "TREE", as_tree) ∷ []
 flags_of (Plan catalog statement as_tree) = (codes "TREE", as_tree) ∷ []
 flags_of _ = []
+
+-- the words leave the script of `solo` out where each line is to be asked for: it is the standard input
+pub record LeavesOut (words : List Text) (at_terminal : Bool) (request : Request) : Type 0 where
+  pub catalog : Option Text
+  pub given : IsGiven words (codes "solo", (codes "CATALOG", catalog) ∷ (codes "SCRIPT", None) ∷ []) (flags_of request)
+  pub asks : asked request ≡ (codes "solo", (codes "CATALOG", catalog) ∷ (codes "SCRIPT", script_of None (is_interactive request) at_terminal) ∷ [])
+
+-- what is wrong with the words after `solo`, though each is known: no script is named, and no line is to be asked for, or answers are to be shown in two ways; or memory ran out
+pub data IsMisuse (found : Found) (at_terminal : Bool) : ErrorKind → Type 0 where
+  no_script : script_of (first_value found (codes "SCRIPT")) (is_set (first_value found (codes "INTERACTIVE"))) at_terminal ≡ None → IsMisuse found at_terminal MissingRequiredArgument
+  two_modes : mode_of_flags (is_set (first_value found (codes "COLUMNS"))) (is_set (first_value found (codes "CSV"))) (is_set (first_value found (codes "JSON"))) ≡ None → IsMisuse found at_terminal ArgumentConflict
+  no_memory : IsMisuse found at_terminal OutOfMemory
+
+-- the words ask for this: they give its arguments, all or all but the script of a session, and set its flags
+abbrev pub Asks : List Text → Bool → Request → Type 0
+Asks words at_terminal request = IsGiven words (asked request) (flags_of request) ⊎ LeavesOut words at_terminal request
 
 -- the exit status where clap gives a text in place of a request
 abbrev pub usage_status : ErrorKind → Status

@@ -9,8 +9,8 @@ ghost use Rattle.fragdb.specs.Check as spec;
 ghost use Rattle.fragdb.specs.Check.{ChecksFile, IsWriteFault, accepted_line, leaf_line, leaf_lines, names_of_columns, where_text};
 
 use crate::catalog_file::{CatalogFault, read_catalog};
-use crate::fault::ProgramFault;
 use crate::fragment_tree::put_trees;
+use crate::written;
 use catalog::catalogue::Catalog;
 use catalog::fragment_leaf::FragmentLeaf;
 use meaning::schema::{Column, Schema};
@@ -42,12 +42,7 @@ pub fn write_text<'a, W: Write>(output: &mut W, text: &str) -> Result<(), Catalo
     ensures written { OnOk result (Appends (W.contents output.old) (W.contents output.new) text.now) }
     ensures faults { IfErr result IsWriteFault }
 {
-    output
-        .write_all(text.as_bytes())
-        .map_err(|error| ProgramFault::writing(&error))?;
-    output
-        .flush()
-        .map_err(|error| ProgramFault::writing(&error))?;
+    written::write_text(output, text)?;
     Ok(())
 }
 

@@ -38,6 +38,7 @@ mod shown;
 mod solo;
 mod typed;
 mod usage;
+mod written;
 
 use crate::built_in::{BUILT_IN, BUILT_IN_NAME};
 use crate::explaining::explain_outcome;
@@ -69,7 +70,7 @@ fn run(rt: &HostRuntime) -> Status {
             return show_usage(&error, &mut output, &mut errors);
         }
     };
-    match read_words(alloc, words.as_slice()) {
+    match read_words(alloc, words.as_slice(), is_at_terminal(rt)) {
         Ok(request) => do_request(rt, request, &mut output, &mut errors),
         Err(error) => show_usage(&error, &mut output, &mut errors),
     }
@@ -123,7 +124,7 @@ fn perform_on<C: Read + Drop, R: Read + Drop, W: Write, E: Write>(
     if begins_session(rt, &request) {
         return have_session(rt, request, catalog_file, catalog, input, output, errors);
     }
-    if !request.explains() {
+    if !is_explained(rt, &request) {
         let outcome = perform(rt.alloc(), request, catalog_file, catalog, input, output);
         return exit(errors, &outcome);
     }
@@ -156,8 +157,18 @@ fn perform_on<C: Read + Drop, R: Read + Drop, W: Write, E: Write>(
 
 /// Whether a person types what is asked for, or it is asked for as if one did.
 fn begins_session(rt: &HostRuntime, request: &Request<'_>) -> bool {
-    let is_at_terminal = rt.stdin().is_terminal() && rt.stdout().is_terminal();
-    request.is_interactive() || request.is_typed() && is_at_terminal
+    request.is_interactive() || request.is_typed() && is_at_terminal(rt)
+}
+
+/// Whether it is to be explained why something is refused: where that is asked for, and by itself at a terminal.
+fn is_explained(rt: &HostRuntime, request: &Request<'_>) -> bool {
+    let can_be = matches!(request, Request::Solo { .. } | Request::Check { .. });
+    request.explains() || can_be && is_at_terminal(rt)
+}
+
+/// Whether a person types, and reads what is written.
+fn is_at_terminal(rt: &HostRuntime) -> bool {
+    rt.stdin().is_terminal() && rt.stdout().is_terminal()
 }
 
 /// Has a session, and explains why its catalogue is refused, if it is.

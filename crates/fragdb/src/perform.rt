@@ -4,7 +4,7 @@ ghost use Rattle.std.specs.Prelude.{◌≡◌, IfErr, IfOk, IfSome};
 ghost use Rattle.std.specs.Io.KnownBytes.{Keeps};
 ghost use Rattle.fragdb.specs.Perform.{IsIdle, IsStopped, IsUnread, Performs, PerformsCheck, PerformsPlan, PerformsOver, PerformsPlayOf, PerformsSession, PerformsSolo, StopsIdle, StopsUncatalogued, StopsUnread};
 ghost use Rattle.fragdb.specs.Perform as spec;
-ghost use Rattle.fragdb.specs.Usage.{explains};
+ghost use Rattle.fragdb.specs.Usage.{explains, is_interactive};
 
 use crate::catalog_file::CatalogFault;
 use crate::check::check;
@@ -54,7 +54,7 @@ impl<'a> Request<'a> {
 
     /// Whether each line is to be asked for, wherever it comes from.
     pub fn is_interactive(&self) -> bool
-        ensures { result ≡ spec.is_interactive self.now }
+        ensures { result ≡ is_interactive self.now }
     {
         match self {
             Request::Solo { interactive, .. } => *interactive,

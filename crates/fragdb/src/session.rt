@@ -4,7 +4,6 @@ ghost use Rattle.std.specs.Prelude.{◌≡◌, ℕ, List, IfErr, IfOk, IfSome, O
 ghost use Rattle.std.specs.Io.KnownBytes.{Appends, Keeps};
 ghost use Rattle.std.specs.Str.{IsUtf8};
 ghost use Rattle.catalog.specs.Relation.{catalogue_of};
-ghost use Rattle.fragdb.specs.Input.{IsOfOutput};
 ghost use Rattle.fragdb.specs.Session.{IsOfSession, IsSession, RunsSession, Talks};
 ghost use Rattle.fragdb.specs.Session as spec;
 ghost use Rattle.fragdb.specs.Solo.{IsOfRun};
@@ -15,9 +14,13 @@ use crate::explaining::explain_text;
 use crate::fault::ProgramFault;
 use crate::play_load::empty_relations;
 use crate::script::Item;
-use crate::session_word::{State, Turn, take_item, take_word, tell, write_text};
+use crate::session_word::{State, Turn, take_item, take_word, tell};
 use crate::typed::{Typed, is_whole, next_line};
+use crate::written::write_text;
 use catalog::catalogue::Catalog;
+use meaning::schema::Schema;
+use reader::command::Command;
+use reader::read::read;
 use shell::mode::Mode;
 use std::alloc::Global;
 use std::io;
@@ -279,6 +282,7 @@ fn take_part<'a, W: Write, E: Write>(
     if !ends {
         return Ok(Turn::GoesOn);
     }
+    let was_open = database.is_open();
     take_item(
         alloc,
         state.mode,
@@ -286,12 +290,32 @@ fn take_part<'a, W: Write, E: Write>(
         Item::Statement(state.typed.as_str()),
         output,
     )?;
-    let _ = explain_text(
-        alloc,
-        database.catalog().schema(),
-        state.typed.as_str(),
-        errors,
-    );
+    let schema = database.catalog().schema();
+    explain_answer(alloc, schema, was_open, state.typed.as_str(), errors);
     state.typed.clear();
     Ok(Turn::Answered)
+}
+
+/// Explains why a text was refused, if it was: for what it says, or since a transaction was open, or none was. Nothing
+/// is claimed of what stands on the standard error.
+fn explain_answer<E: Write>(
+    alloc: Global,
+    schema: &Schema,
+    was_open: bool,
+    text: &str,
+    errors: &mut E,
+) {
+    let _ = explain_text(alloc, schema, text, errors);
+    match read(alloc, text, schema) {
+        Ok(Command::Begin) if was_open => {
+            tell(
+                errors,
+                "a transaction is open; COMMIT or ROLLBACK ends it\n",
+            );
+        }
+        Ok(Command::Commit | Command::Rollback) if !was_open => {
+            tell(errors, "no transaction is open; BEGIN begins one\n");
+        }
+        _ => {}
+    }
 }

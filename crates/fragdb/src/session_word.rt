@@ -1,9 +1,7 @@
 //! The shell's own commands in a session.
 
-ghost use Rattle.std.specs.Prelude.{◌≡◌, ◌≢◌, ℕ, List, IfErr, IfOk, OnOk, string_bytes};
-ghost use Rattle.std.specs.Io.KnownBytes.{Appends};
+ghost use Rattle.std.specs.Prelude.{◌≡◌, ◌≢◌, ℕ, List, [], false, IfErr, IfOk, OnOk, string_bytes};
 ghost use Rattle.catalog.specs.Relation.{catalogue_of};
-ghost use Rattle.fragdb.specs.Input.{IsOfOutput};
 ghost use Rattle.fragdb.specs.Session.{IsAsideOf, Talks};
 ghost use Rattle.fragdb.specs.Solo.{IsOfRun};
 
@@ -14,6 +12,7 @@ use crate::fault::ProgramFault;
 use crate::listing::{leaves_text, schema_text, tables_text};
 use crate::plan_text::{PlanFault, plan_typed};
 use crate::script::{Item, is_word};
+use crate::written::write_text;
 use catalog::catalogue::Catalog;
 use meaning::schema::Schema;
 use reader::fault::ReadFault;
@@ -52,7 +51,11 @@ pub struct State {
 
 impl State {
     /// A session in which nothing has been typed.
-    pub fn new(alloc: Global, mode: Mode) -> State {
+    pub fn new(alloc: Global, mode: Mode) -> State
+        ensures mode { result.mode ≡ mode }
+        ensures untimed { result.is_timed ≡ false }
+        ensures nothing { string_bytes result.typed ≡ [] }
+    {
         State {
             mode,
             is_timed: false,
@@ -380,21 +383,8 @@ fn tell_no_relation<E: Write>(
     Ok(())
 }
 
-/// Writes a text, and waits until it is written.
-pub fn write_text<'a, W: Write>(output: &mut W, text: &str) -> Result<(), ProgramFault<'a>>
-    ensures written { OnOk result (Appends (W.contents output.old) (W.contents output.new) text.now) }
-    ensures err { IfErr result IsOfOutput }
-{
-    output
-        .write_all(text.as_bytes())
-        .map_err(|error| ProgramFault::writing(&error))?;
-    output
-        .flush()
-        .map_err(|error| ProgramFault::writing(&error))?;
-    Ok(())
-}
-
-/// Tells what was wrong with a line. Where the standard error is closed nobody can be told.
+/// Tells what was wrong with a line. Where the standard error is closed nobody can be told; so nothing is claimed of what
+/// stands there.
 pub fn tell<E: Write>(errors: &mut E, text: &str) {
     let _ = errors.write_all(text.as_bytes());
 }

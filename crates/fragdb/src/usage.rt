@@ -1,12 +1,13 @@
 //! The words of the command line.
 
-ghost use Rattle.std.specs.Prelude.{◌≡◌, ◌≢◌, ◌≤◌, ◌<◌, ◌⊎◌, ◌∷◌, [], IfOk, IfSome, IsOkAnd, None, Some, codes, false, length, map, option_map};
+ghost use Rattle.std.specs.Prelude.{◌≡◌, ◌≢◌, ◌≤◌, ◌<◌, ◌⊎◌, ◌∷◌, [], IfErr, IfOk, IfSome, IsOkAnd, None, Some, codes, false, length, map, option_map};
 ghost use Rattle.std.specs.Io.KnownBytes.{Keeps};
+ghost use Rattle.std.specs.List.{AllByRecursion};
 ghost use Rattle.std.specs.IoError.{error_kind};
 ghost use Rattle.clap.specs.declared.builder.command.Command.TheViews.{out-Command};
 ghost use Rattle.clap.specs.Matches.{first_value};
 ghost use Rattle.clap.specs.Words.{app_of, found_of, kind_of};
-ghost use Rattle.fragdb.specs.Usage.{asked, columned, command_with, command_with_two, explained, flags_of, held, is_columns, is_csv, is_json, of_script, shown, treed, usage, usage_status, IsGiven};
+ghost use Rattle.fragdb.specs.Usage.{asked, columned, command_with, command_with_two, explained, flags_of, held, is_columns, is_csv, is_interactive, is_json, mode_of_flags, of_any_script, of_script, script_of, shown, treed, usage, usage_status, Asks, IsMisuse};
 ghost use Rattle.fragdb.specs.Usage as spec;
 
 use crate::fault::ProgramFault;
@@ -70,7 +71,7 @@ Examples:
   fragdb solo --catalog catalogue.toml script.txt
   fragdb solo --explain script.txt
   fragdb solo --json script.txt
-  fragdb solo --interactive --catalog catalogue.toml -
+  fragdb solo --catalog catalogue.toml
   fragdb check catalogue.toml
   fragdb check --tree catalogue.toml
   fragdb plan catalogue.toml 'SELECT name FROM emp WHERE id = 7'
@@ -90,8 +91,8 @@ const AFTER_SOLO: &str =
 Without --catalog the relation item(id int, zone int, label text) is built in: rows with zone < 10 are
 kept in item.1, the others in item.2.
 
-At a terminal, with the script -, each line is asked for and answered at once; so it is anywhere with
---interactive. A statement may then have several lines, a malformed line costs itself alone, and it is
+At a terminal, with no script or with -, each line is asked for and answered at once; so it is anywhere
+with --interactive. A statement may then have several lines, a malformed line costs itself alone, and it is
 explained why a line is refused:
 
   fragdb> INSERT INTO item
@@ -131,10 +132,18 @@ const AFTER_PLAY: &str =
 const TWO_MODES: &str =
     "the arguments '--columns', '--csv' and '--json' cannot be used with one another";
 
-/// What the words ask for, of which the first names the program. With no other word that is `solo -`.
-pub fn read_words<'a, S: AsStr>(alloc: Global, words: &'a [S]) -> Result<Request<'a>, Error>
+/// What is told where a script is left out, and no line is to be asked for.
+const NO_SCRIPT: &str = "the following required arguments were not provided:\n  <SCRIPT>";
+
+/// What the words ask for, of which the first names the program. With no other word that is `solo -`. At a terminal
+/// the script may be left out.
+pub fn read_words<'a, S: AsStr>(
+    alloc: Global,
+    words: &'a [S],
+    is_at_terminal: bool,
+) -> Result<Request<'a>, Error>
     ensures alone { length words.entry.now ≤ 1 → IsOkAnd result (λ request. (asked request ≡ (codes "solo", (codes "CATALOG", None) ∷ (codes "SCRIPT", Some (codes "-")) ∷ [])) × (flags_of request ≡ (codes "EXPLAIN", false) ∷ (codes "INTERACTIVE", false) ∷ (codes "COLUMNS", false) ∷ (codes "CSV", false) ∷ (codes "JSON", false) ∷ [])) }
-    ensures given { IfOk result (λ request. 1 < length words.entry.now → IsGiven (map S.text words.entry.now) (asked request) (flags_of request)) }
+    ensures given { IfOk result (λ request. 1 < length words.entry.now → Asks (map S.text words.entry.now) is_at_terminal request) }
 {
     if words.len() <= 1 {
         return Ok(Request::Solo {
@@ -145,31 +154,21 @@ pub fn read_words<'a, S: AsStr>(alloc: Global, words: &'a [S]) -> Result<Request
             mode: Mode::Tabs,
         });
     }
-    read_given(alloc, words)
+    read_given(alloc, words, is_at_terminal)
 }
 
 /// What the words ask for, of which the first names the program.
-fn read_given<'a, S: AsStr>(alloc: Global, words: &'a [S]) -> Result<Request<'a>, Error>
-    ensures { IfOk result (λ request. IsGiven (map S.text words.entry.now) (asked request) (flags_of request)) }
+fn read_given<'a, S: AsStr>(
+    alloc: Global,
+    words: &'a [S],
+    is_at_terminal: bool,
+) -> Result<Request<'a>, Error>
+    ensures { IfOk result (λ request. Asks (map S.text words.entry.now) is_at_terminal request) }
 {
     let mut command = command(alloc)?;
     let matches = command.try_get_matches_from_mut(words)?;
-    if let Some(("solo", solo)) = matches.subcommand()
-        && let Some(script) = solo.get_str("SCRIPT")
-    {
-        let catalog = solo.get_str("CATALOG");
-        let explain = is_set(solo.get_str("EXPLAIN"));
-        let interactive = is_set(solo.get_str("INTERACTIVE"));
-        let Some(mode) = mode_given(solo) else {
-            return Err(command.error(ErrorKind::ArgumentConflict, TWO_MODES)?);
-        };
-        return Ok(Request::Solo {
-            catalog,
-            script,
-            explain,
-            interactive,
-            mode,
-        });
+    if let Some(("solo", solo)) = matches.subcommand() {
+        return solo_given(&mut command, solo, is_at_terminal);
     }
     if let Some(("check", check)) = matches.subcommand()
         && let Some(catalog) = check.get_str("CATALOG")
@@ -202,8 +201,51 @@ fn read_given<'a, S: AsStr>(alloc: Global, words: &'a [S]) -> Result<Request<'a>
     Err(command.error(ErrorKind::MissingSubcommand, "a command is missing")?)
 }
 
+/// What the words after `solo` ask for.
+fn solo_given<'a>(
+    command: &mut Command<'_>,
+    solo: &ArgMatches<'a>,
+    is_at_terminal: bool,
+) -> Result<Request<'a>, Error>
+    ensures asks { IfOk result (λ request. asked request ≡ (codes "solo", (codes "CATALOG", first_value (found_of solo.entry.now) (codes "CATALOG")) ∷ (codes "SCRIPT", script_of (first_value (found_of solo.entry.now) (codes "SCRIPT")) (is_interactive request) is_at_terminal) ∷ [])) }
+    ensures flags { IfOk result (λ request. AllByRecursion (λ flag. spec.is_set (first_value (found_of solo.entry.now) flag.0) ≡ flag.1) (flags_of request)) }
+    ensures misuse { IfErr result (λ error. IsMisuse (found_of solo.entry.now) is_at_terminal (kind_of error)) }
+{
+    let interactive = is_set(solo.get_str("INTERACTIVE"));
+    let Some(script) = script_given(solo, interactive, is_at_terminal) else {
+        return Err(command.error(ErrorKind::MissingRequiredArgument, NO_SCRIPT)?);
+    };
+    let Some(mode) = mode_given(solo) else {
+        return Err(command.error(ErrorKind::ArgumentConflict, TWO_MODES)?);
+    };
+    Ok(Request::Solo {
+        catalog: solo.get_str("CATALOG"),
+        script,
+        explain: is_set(solo.get_str("EXPLAIN")),
+        interactive,
+        mode,
+    })
+}
+
+/// The script that the words after `solo` name. Where each line is to be asked for, it may be left out, and is standard
+/// input then.
+fn script_given<'a>(
+    solo: &ArgMatches<'a>,
+    interactive: bool,
+    is_at_terminal: bool,
+) -> Option<&'a str>
+    ensures { option_map (λ script. script.now) result ≡ script_of (first_value (found_of solo.entry.now) (codes "SCRIPT")) interactive is_at_terminal }
+{
+    match solo.get_str("SCRIPT") {
+        Some(script) => Some(script),
+        None if interactive || is_at_terminal => Some("-"),
+        None => None,
+    }
+}
+
 /// How answers are to be shown, unless the words after `solo` ask for two ways.
 fn mode_given(solo: &ArgMatches<'_>) -> Option<Mode>
+    ensures mode { result ≡ mode_of_flags (spec.is_set (first_value (found_of solo.now) (codes "COLUMNS"))) (spec.is_set (first_value (found_of solo.now) (codes "CSV"))) (spec.is_set (first_value (found_of solo.now) (codes "JSON"))) }
     ensures columns { IfSome result (λ mode. is_columns mode ≡ spec.is_set (first_value (found_of solo.now) (codes "COLUMNS"))) }
     ensures csv { IfSome result (λ mode. is_csv mode ≡ spec.is_set (first_value (found_of solo.now) (codes "CSV"))) }
     ensures json { IfSome result (λ mode. is_json mode ≡ spec.is_set (first_value (found_of solo.now) (codes "JSON"))) }
@@ -263,7 +305,7 @@ fn command<'a>(alloc: Global) -> Result<Command<'a>, AllocError>
 }
 
 fn solo_command<'a>(alloc: Global) -> Result<Command<'a>, AllocError>
-    ensures shape { IfOk result (λ command. app_of command ≡ shown (held (explained (of_script (codes "solo"))))) }
+    ensures shape { IfOk result (λ command. app_of command ≡ shown (held (explained (of_any_script (codes "solo"))))) }
     ensures local { IfOk result (λ command. (out-Command command).has_globals ≡ false) }
 {
     let csv = Arg::new(alloc, "CSV")
@@ -279,7 +321,7 @@ fn solo_command<'a>(alloc: Global) -> Result<Command<'a>, AllocError>
 
 /// The command `solo` with its flags but two.
 fn columned_solo_command<'a>(alloc: Global) -> Result<Command<'a>, AllocError>
-    ensures shape { IfOk result (λ command. app_of command ≡ columned (held (explained (of_script (codes "solo"))))) }
+    ensures shape { IfOk result (λ command. app_of command ≡ columned (held (explained (of_any_script (codes "solo"))))) }
     ensures local { IfOk result (λ command. (out-Command command).has_globals ≡ false) }
 {
     let interactive = Arg::new(alloc, "INTERACTIVE")
@@ -297,27 +339,29 @@ fn columned_solo_command<'a>(alloc: Global) -> Result<Command<'a>, AllocError>
 
 /// The command `solo` with one flag.
 fn explained_solo_command<'a>(alloc: Global) -> Result<Command<'a>, AllocError>
-    ensures shape { IfOk result (λ command. app_of command ≡ explained (of_script (codes "solo"))) }
+    ensures shape { IfOk result (λ command. app_of command ≡ explained (of_any_script (codes "solo"))) }
     ensures local { IfOk result (λ command. (out-Command command).has_globals ≡ false) }
 {
     let explain = Arg::new(alloc, "EXPLAIN")
         .long("explain")
         .action(ArgAction::SetTrue)
-        .help("Explains on standard error why lines are refused");
+        .help(
+            "Explains on standard error why lines are refused; at a terminal that is on by itself",
+        );
     plain_solo_command(alloc)?.arg(explain)
 }
 
 /// The command `solo` without its flags.
 fn plain_solo_command<'a>(alloc: Global) -> Result<Command<'a>, AllocError>
-    ensures shape { IfOk result (λ command. app_of command ≡ of_script (codes "solo")) }
+    ensures shape { IfOk result (λ command. app_of command ≡ of_any_script (codes "solo")) }
     ensures local { IfOk result (λ command. (out-Command command).has_globals ≡ false) }
 {
     let catalog = Arg::new(alloc, "CATALOG").long("catalog").help(
         "A file with a catalogue, in TOML, in place of the built-in one",
     );
-    let script = Arg::new(alloc, "SCRIPT")
-        .required(true)
-        .help("A file with one item a line, or - for standard input");
+    let script = Arg::new(alloc, "SCRIPT").help(
+        "A file with one item a line, or - for standard input; at a terminal it may be left out",
+    );
     Command::new(alloc, "solo")
         .about("Runs a script of statements, one at a time")
         .after_help(AFTER_SOLO)
@@ -347,7 +391,9 @@ fn explained_check_command<'a>(alloc: Global) -> Result<Command<'a>, AllocError>
     let explain = Arg::new(alloc, "EXPLAIN")
         .long("explain")
         .action(ArgAction::SetTrue)
-        .help("Explains on standard error why the catalogue is refused");
+        .help(
+            "Explains on standard error why the catalogue is refused; at a terminal that is on by itself",
+        );
     Command::new(alloc, "check")
         .about("Checks a catalogue and lists its fragments")
         .arg(catalog)?

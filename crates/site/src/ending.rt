@@ -56,6 +56,7 @@ pub(crate) fn prepare<S: SiteStore>(
     ensures refusal { result ≡ Err (faults.Store store_faults.Refused) → (kept ≡ false) ⊎ HasRefused (S.refused store.old) (S.refused store.new) }
     ensures vote { ballot prepare.count ((table_of present.old).standing prepare.ticket) ≡ Keeps → IfOk result (λ reply. kept_by reply ≡ false → (kept ≡ false) ⊎ HasRefused (S.refused store.old) (S.refused store.new)) }
     ensures intact { S.is_clean store.new → S.is_sound store.old → result ≢ Err (faults.Store store_faults.Damaged) }
+    ensures plain { result ≢ Err (faults.Store store_faults.Memory) }
 {
     let Prepare { ticket, count } = prepare;
     match ballot_at(present, &ticket, count) {
@@ -92,6 +93,7 @@ fn keep<S: SiteStore>(
     ensures refusal { result ≡ Err (faults.Store store_faults.Refused) → (kept ≡ false) ⊎ HasRefused (S.refused store.old) (S.refused store.new) }
     ensures vote { IfOk result (λ reply. kept_by reply ≡ false → (kept ≡ false) ⊎ HasRefused (S.refused store.old) (S.refused store.new)) }
     ensures intact { S.is_clean store.new → S.is_sound store.old → result ≢ Err (faults.Store store_faults.Damaged) }
+    ensures plain { result ≢ Err (faults.Store store_faults.Memory) }
 {
     if !kept {
         present.end(&ticket);
@@ -136,6 +138,7 @@ pub(crate) fn commit<S: SiteStore>(
     ensures same { S.is_clean store.new → S.is_sound store.old → OnErr result (IsUnchanged (S.kept store.old) (S.kept store.new)) }
     ensures refusal { result ≡ Err (faults.Store store_faults.Refused) → (kept ≡ false) ⊎ HasRefused (S.refused store.old) (S.refused store.new) }
     ensures intact { S.is_clean store.new → S.is_sound store.old → result ≢ Err (faults.Store store_faults.Damaged) }
+    ensures plain { result ≢ Err (faults.Store store_faults.Memory) }
 {
     if !present.is_prepared(&ticket) {
         return Ok(Some(Reply::Ack(ticket)));
@@ -173,6 +176,7 @@ pub(crate) fn abort<S: SiteStore>(
     ensures same { S.is_clean store.new → S.is_sound store.old → OnErr result (IsUnchanged (S.kept store.old) (S.kept store.new)) }
     ensures refusal { result ≡ Err (faults.Store store_faults.Refused) → (kept ≡ false) ⊎ HasRefused (S.refused store.old) (S.refused store.new) }
     ensures intact { S.is_clean store.new → S.is_sound store.old → result ≢ Err (faults.Store store_faults.Damaged) }
+    ensures plain { result ≢ Err (faults.Store store_faults.Memory) }
 {
     if !present.is_prepared(&ticket) {
         give_up(present, &ticket);

@@ -43,6 +43,7 @@ pub(crate) fn rows<S: SiteStore>(
     ensures same { S.is_clean store.new → S.is_sound store.old → IsUnchanged (S.kept store.old) (S.kept store.new) }
     ensures refusal { result ≡ Err (faults.Store store_faults.Refused) → HasRefused (S.refused store.old) (S.refused store.new) }
     ensures intact { S.is_clean store.new → S.is_sound store.old → result ≢ Err (faults.Store store_faults.Damaged) }
+    ensures plain { result ≢ Err (faults.Store store_faults.Memory) }
 {
     if let Some(key) = asked_key(conds.as_slice()) {
         return row_at(store, present, ticket, leaf, key, conds);

@@ -209,6 +209,7 @@ impl<S: SiteStore> Site<S> {
         ensures same { S.is_clean self.new.store → S.is_sound self.old.store → OnErr result (IsUnchanged (S.kept self.old.store) (S.kept self.new.store)) }
         ensures refusal { result ≡ Err (faults.Store store_faults.Refused) → HasRefused (S.refused self.old.store) (S.refused self.new.store) }
         ensures intact { S.is_clean self.new.store → S.is_sound self.old.store → result ≢ Err (faults.Store store_faults.Damaged) }
+        ensures plain { result ≢ Err (faults.Store store_faults.Memory) }
         ensures vote { AsksToKeep (table_of self.old.present) letter.body → IfOk result (λ letters. kept_in letters.items ≡ false → HasRefused (S.refused self.old.store) (S.refused self.new.store)) }
         ensures stranger { letter.site ≢ self.old.present.name → result ≡ Err faults.Stranger }
     {
@@ -233,6 +234,7 @@ impl<S: SiteStore> Site<S> {
         ensures same { S.is_clean self.new.store → S.is_sound self.old.store → OnErr result (IsUnchanged (S.kept self.old.store) (S.kept self.new.store)) }
         ensures refusal { result ≡ Err (faults.Store store_faults.Refused) → (kept ≡ false) ⊎ HasRefused (S.refused self.old.store) (S.refused self.new.store) }
         ensures intact { S.is_clean self.new.store → S.is_sound self.old.store → result ≢ Err (faults.Store store_faults.Damaged) }
+        ensures plain { result ≢ Err (faults.Store store_faults.Memory) }
         ensures vote { AsksToKeep (table_of self.old.present) letter.body → IfOk result (λ letters. kept_in letters.items ≡ false → (kept ≡ false) ⊎ HasRefused (S.refused self.old.store) (S.refused self.new.store)) }
         ensures stranger { letter.site ≢ self.old.present.name → result ≡ Err faults.Stranger }
     {
@@ -342,6 +344,7 @@ fn obey<S: SiteStore>(
     ensures same { S.is_clean store.new → S.is_sound store.old → OnErr result (IsUnchanged (S.kept store.old) (S.kept store.new)) }
     ensures refusal { result ≡ Err (faults.Store store_faults.Refused) → (kept ≡ false) ⊎ HasRefused (S.refused store.old) (S.refused store.new) }
     ensures intact { S.is_clean store.new → S.is_sound store.old → result ≢ Err (faults.Store store_faults.Damaged) }
+    ensures plain { result ≢ Err (faults.Store store_faults.Memory) }
 {
     match order {
         Order::Open => open(present),

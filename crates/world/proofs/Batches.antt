@@ -11,13 +11,15 @@ use Rattle.world.specs.declared.event.Call as calls
 use Rattle.world.specs.declared.event.Call.TheVariants as call
 use Rattle.world.specs.declared.transaction.Came as cames
 use Rattle.world.specs.declared.transaction.Came.TheVariants.{Heard, Refused}
+use Rattle.world.specs.declared.transaction.Course.{Course}
 use Rattle.world.specs.declared.transaction.Outcome as outcomes
+use Rattle.world.specs.declared.transaction.Outcome.TheVariants.{Ran}
 use Rattle.world.specs.declared.transaction.Transaction.{Transaction}
 use Rattle.world.specs.Batch.{ComesOf, Does, Makes, MakesMore, RunsAll, RunsOne, StopsAt, calls_of, calls_of_end, has_ended}
 use Rattle.world.specs.Delivering.{IsStill}
 use Rattle.world.specs.Machines.{AreFit, Machines}
 use Rattle.world.specs.Refused.{IsRefused}
-use Rattle.world.specs.Serving.{IsServed, IsServedOn}
+use Rattle.world.specs.Serving.{DoesBegin, IsServed, IsServedOn}
 use Rattle.world.specs.Stopping.{is_stop}
 
 -- ---- one call
@@ -124,6 +126,15 @@ module _ (db : Database) where
             (makes_then (map (λ (text : List ℕ). call.State txn text) transaction.texts) (calls_of_end transaction.end txn) stated more.more more.ended before middle after
             (subst (λ (all : List (List ℕ)). Makes db (map (λ (text : List ℕ). call.State txn text) all) stated false before middle) is makes) more.makes),
       )
+
+  -- a transaction that has begun is run
+  pub runs_begun : (transaction : Transaction) (txn : Txn) (heard : List Notice) (course : Course) (before began after : Machines) → DoesBegin db before txn began heard →
+      (course.txn ≡ txn) × (course.greeted ≡ heard) × ((ended : Bool) × Makes db (calls_of transaction txn) course.came ended began after) → RunsOne db transaction (Ran course) before after
+  runs_begun transaction txn heard course before began after begins ran = (
+    began,
+    subst (λ (greeted : List Notice). DoesBegin db before course.txn began greeted) (sym ran.1) (subst (λ (named : Txn). DoesBegin db before named began heard) (sym ran.0) begins),
+    (ran.2.0, subst (λ (named : Txn). Makes db (calls_of transaction named) course.came ran.2.0 began after) (sym ran.0) ran.2.1),
+  )
 
   -- one text more, after which its transaction is open, and one by which it has ended
   module _ (txn : Txn) (texts : List (List ℕ)) (i : ℕ) (d text : List ℕ) (came : List cames.Came) (first : cames.Came) (before middle after : Machines) (within : i < length texts) (is : text ≡ get_or texts i d) where

@@ -22,11 +22,11 @@ use Rattle.desk.specs.declared.refusal.Refusal.TheVariants as told_as
 use Rattle.desk.specs.declared.reply.Notice.{Notice}
 use Rattle.desk.specs.Calls.{refused_as, txn_in}
 use Rattle.desk.specs.Database.{Database, language}
-use Rattle.desk.specs.Does.{IsUnread}
+use Rattle.desk.specs.Does.{IsUnread, StatesPastLimits}
 use Rattle.world.specs.declared.event.Call as calls
 use Rattle.world.specs.declared.event.Call.TheVariants as call
 use Rattle.world.specs.Delivering.{IsStill}
-use Rattle.world.specs.Denying.{CommitIsDenied, IsDenied, IsTakenBack, IsUndone, IsUnreadable, Declines, Denies, DeniesForAReason, LoneIsDenied, RunIsDenied, commit_stops, is_left, is_not_decided, declines_all, declines_begin, declines_commit, declines_inside, declines_lone, declines_outside, declines_rollback, declines_statement, declines_text, finds_no_number, has_begun_but, has_not_begun, is_inside, is_no_command, is_not_committed, is_not_stated, is_outside, is_too_much, run_stops, stops}
+use Rattle.world.specs.Denying.{CommitIsDenied, IsDenied, IsTakenBack, IsUndone, IsUnreadable, Declines, Denies, DeniesForAReason, LoneIsDenied, RunIsDenied, commit_stops, is_left, is_not_decided, declines_all, declines_begin, declines_commit, declines_inside, declines_lone, declines_outside, declines_rollback, declines_statement, declines_text, finds_no_number, has_begun_but, has_not_begun, is_inside, is_no_command, is_not_committed, is_not_stated, is_outside, is_too_much, is_too_much_alone, run_stops, stops}
 use Rattle.world.specs.Machines.{AreFit, Machines, world_of}
 use Rattle.world.specs.Obeying.{ObeysUnlessRefused, Stands}
 use Rattle.world.specs.Refused.{IsRefused}
@@ -119,10 +119,10 @@ module _ (db : Database) (fits : Leaf → Content → Bool) (same_schemas : db.s
 
   -- the statement of a ready transaction meets a limit
   is_full : (statement : Statement) → IsTextOf db.schemas text (Run statement) → (txn : Txn) (machines : Machines) (past : List (Deed (language db))) (told : refusals.Refusal) → Ready (language db) fits (txn_name txn) (rests db machines past) →
-      IsRefused db machines.table (call.State txn text) told → told ≡ told_as.Full
+      IsRefused db machines.table (call.State txn text) told → (told ≡ told_as.Full) × StatesPastLimits db machines.table txn text
   is_full statement spelled txn machines past told ready refused = ⊎_elim
       (λ stays. absurd (no_refusal refused_as (refusal (State statement) (txn_in db machines.table txn)) told (at_rest db fits txn machines past (State statement) refl ready) stays))
-      (λ rest. ⊎_elim (λ unread. absurd (is_read statement spelled told unread)) (λ full. full.0) rest.1)
+      (λ rest. ⊎_elim (λ unread. absurd (is_read statement spelled told unread)) (λ full. full) rest.1)
       (refused statement)
 
   -- a lone statement
@@ -130,7 +130,9 @@ module _ (db : Database) (fits : Leaf → Content → Bool) (same_schemas : db.s
     after_begin : (txn : Txn) (began : Machines) (greeted : List Notice) (deeds : List (Deed (language db))) → DoesBegin db before txn began greeted → IsServed db whole began (past ++ deeds) → Ready (language db) fits (txn_name txn) (rests db began (past ++ deeds)) →
         RunIsDenied db text txn greeted began after told → Denies db text current before told
     after_begin txn began greeted deeds begins served ready (run_stops is) = stops is
-    after_begin txn began greeted deeds begins served ready (is_not_stated undone) = is_too_much statement spelled (is_full statement spelled txn began (past ++ deeds) told ready undone.refused)
+    after_begin txn began greeted deeds begins served ready (is_not_stated undone) =
+        let full = is_full statement spelled txn began (past ++ deeds) told ready undone.refused in
+        is_too_much_alone txn began greeted none begins full.0 full.1
     after_begin txn began greeted deeds begins served ready (is_not_committed worked answered states (commit_stops is)) = stops is
     after_begin txn began greeted deeds begins served ready (is_not_committed worked answered states (is_not_decided goes undone)) = ⊎_elim
         (λ stands_ready. absurd (no_commit db fits txn worked ((past ++ deeds) ++ states.asks.serves.deeds) told stands_ready.0 undone.refused))
@@ -157,7 +159,9 @@ module _ (db : Database) (fits : Leaf → Content → Bool) (same_schemas : db.s
     denies_of (declines_begin none spelled refused still) = finds_no_number none (inl spelled) refused.0 (numbers_run_out db before past served.fit (stands_as None none) refused.1)
     denies_of (declines_commit txn some spelled refused still) = absurd (no_commit db fits txn before past told (stands_as (Some txn) some) refused)
     denies_of (declines_rollback txn some spelled refused still) = absurd (no_rollback db fits txn before past told (stands_as (Some txn) some) refused)
-    denies_of (declines_statement txn statement some spelled refused still) = is_too_much statement spelled (is_full statement spelled txn before past told (stands_as (Some txn) some) refused)
+    denies_of (declines_statement txn statement some spelled refused still) =
+        let full = is_full statement spelled txn before past told (stands_as (Some txn) some) refused in
+        is_too_much txn some full.0 full.1
     denies_of (declines_lone statement none spelled denied) = lone before after past told statement spelled current none served (stands_as None none) denied
 
 pub denies : (db : Database) (fits : Leaf → Content → Bool) → db.schemas ≡ schemas_of db.catalogue → OneCommandOfText → ObeysUnlessRefused db fits → GrowsQuiet db fits → DeniesForAReason db fits

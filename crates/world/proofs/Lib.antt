@@ -26,6 +26,7 @@ pub mod InSerial
 pub mod Follow
 pub mod Reasoned
 pub mod Counting
+pub mod Stops
 pub mod Spared
 pub mod Deliveries
 pub mod Reaching

@@ -35,7 +35,7 @@ if_err (Ok x) to p = tt
 if_err (Err e) to p = to e p
 
 -- some statement
-some : Statement
+pub some : Statement
 some = statements.Insert (record { into = []; row = [] })
 
 -- why a statement is refused, as the coordinator's contract says it

@@ -17,6 +17,7 @@ use Rattle.desk.specs.declared.refusal.Refusal as refusals
 use Rattle.desk.specs.declared.refusal.Refusal.TheVariants as refusal
 use Rattle.desk.specs.declared.reply.Notice.{Notice}
 use Rattle.desk.specs.Database.{Database, language}
+use Rattle.desk.specs.Does.{StatesPastLimits}
 use Rattle.world.specs.declared.event.Call as calls
 use Rattle.world.specs.declared.event.Call.TheVariants as call
 use Rattle.world.specs.Delivering.{IsStill}
@@ -82,15 +83,16 @@ pub data Declines (db : Database) (text : List ℕ) (current : Option Txn) (befo
   declines_lone : (statement : Statement) → current ≡ None → IsTextOf db.schemas text (Run statement) → LoneIsDenied db text before after told → Declines db text current before after told
 
 -- why a database that stands refuses a command: memory ran out or a store failed, which stops it; the text is no command's; BEGIN comes inside a
--- transaction, or COMMIT or ROLLBACK outside one; a transaction can't begin since the numbers have run out; or a statement can't be stated within
--- the limits
+-- transaction, or COMMIT or ROLLBACK outside one; a transaction can't begin since the numbers have run out; or to state the statement would lead
+-- past the limits, in the open transaction or in the one that has begun for it alone
 pub data Denies (db : Database) (text : List ℕ) (current : Option Txn) (before : Machines) (told : refusals.Refusal) : Type 0 where
   stops : is_stop told ≡ true → Denies db text current before told
   is_no_command : IsNoCommand db.schemas text told → Denies db text current before told
   is_inside : (txn : Txn) → current ≡ Some txn → IsTextOf db.schemas text Begin → told ≡ refusal.Busy → Denies db text current before told
   is_outside : current ≡ None → IsTextOf db.schemas text Commit ⊎ IsTextOf db.schemas text Rollback → told ≡ refusal.NoTransaction → Denies db text current before told
   finds_no_number : current ≡ None → IsTextOf db.schemas text Begin ⊎ ((statement : Statement) × IsTextOf db.schemas text (Run statement)) → told ≡ refusal.Full → 2 ^ 63 ≤ suc before.table.number → Denies db text current before told
-  is_too_much : (statement : Statement) → IsTextOf db.schemas text (Run statement) → told ≡ refusal.Full → Denies db text current before told
+  is_too_much : (txn : Txn) → current ≡ Some txn → told ≡ refusal.Full → StatesPastLimits db before.table txn text → Denies db text current before told
+  is_too_much_alone : (txn : Txn) (began : Machines) (greeted : List Notice) → current ≡ None → DoesBegin db before txn began greeted → told ≡ refusal.Full → StatesPastLimits db began.table txn text → Denies db text current before told
 
 -- a database that stands refuses a command for no other reason
 abbrev pub DeniesForAReason : (db : Database) → (Leaf → Content → Bool) → Type 0

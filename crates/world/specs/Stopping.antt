@@ -1,7 +1,9 @@
 -- What stops one client's database.
-use Rattle.std.specs.Prelude.{Bool, true, false, Option, Some, None, Result, Ok, Err, if◌then◌else◌}
+use Rattle.std.specs.Prelude.{⊤, ℕ, Bool, true, false, List, Option, Some, None, Result, Ok, Err, if◌then◌else◌}
+use Rattle.store.specs.declared.fault.StoreFault.TheVariants as faults
 use Rattle.desk.specs.declared.refusal.Refusal.{Refusal}
 use Rattle.desk.specs.declared.refusal.Refusal.TheVariants.{Aborted, Busy, Ended, Full, Memory, NoTransaction, Read, Store}
+use Rattle.world.specs.Counted.{HaveRefused}
 
 -- whether a refusal does: memory ran out, or a store failed
 abbrev pub is_stop : Refusal → Bool
@@ -13,6 +15,19 @@ is_stop (Read fault) = false
 is_stop (Aborted why) = false
 is_stop Memory = true
 is_stop (Store fault) = true
+
+-- why a refusal stops it: memory ran out, or the medium of one of its stores has refused meanwhile; one that doesn't stop it needs no reason. before, after: how often the media have refused
+abbrev pub StopsFor : (before after : List ℕ) → Refusal → Type 0
+StopsFor before after NoTransaction = ⊤
+StopsFor before after Busy = ⊤
+StopsFor before after Ended = ⊤
+StopsFor before after Full = ⊤
+StopsFor before after (Read fault) = ⊤
+StopsFor before after (Aborted why) = ⊤
+StopsFor before after Memory = ⊤
+StopsFor before after (Store faults.Refused) = HaveRefused before after
+StopsFor before after (Store faults.Memory) = ⊥
+StopsFor before after (Store faults.Damaged) = ⊥
 
 -- what has stopped it after a command
 abbrev pub stopped_by : {T : Type 0} → Result T Refusal → Option Refusal

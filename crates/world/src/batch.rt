@@ -13,10 +13,11 @@ ghost use Rattle.store.specs.declared.name.Txn.{Txn as TxnNow};
 ghost use Rattle.world.specs.declared.transaction.End.TheVariants as end;
 ghost use Rattle.world.specs.declared.transaction.Came.TheVariants.{Heard, Refused};
 ghost use Rattle.world.specs.Batch.{Makes, MakesMore, RunsAll, RunsOne, StopsAt, calls_of, calls_of_end, has_ended};
+ghost use Rattle.world.specs.Counted.{NoFewer, counts};
 ghost use Rattle.world.specs.Held.{OfStores, counted};
 ghost use Rattle.world.specs.Machines.{AreFit};
 ghost use Rattle.world.specs.Serving.{IsServed, IsServedOn};
-ghost use Rattle.world.specs.Stopping.{is_stop};
+ghost use Rattle.world.specs.Stopping.{StopsFor, is_stop};
 
 use crate::alone::{is_stop, tells_end};
 use crate::machines::Machines;
@@ -59,6 +60,7 @@ fn told(done: Result<Vec<Notice>, Refusal>) -> Result<Came, Refusal>
 fn make_room<T: Drop>(items: &mut Vec<T>) -> Result<(), Refusal>
     ensures items { items.new.items ≡ items.old.items }
     ensures ok { OnOk result (vec_len items.new < vec_capacity items.new) }
+    ensures memory { IfErr result (λ refusal. refusal ≡ refusals.Memory) }
     ensures own { IfErr result (λ refusal. is_stop refusal ≡ true) }
 {
     match items.try_reserve(1) {
@@ -104,6 +106,8 @@ fn state_all<D: DeskStore, S: SiteStore>(
     ensures clean { OfStores D.is_clean S.is_clean machines.new → OfStores D.is_clean S.is_clean machines.old }
     ensures sound { OfStores D.is_clean S.is_clean machines.new → OfStores D.is_sound S.is_sound machines.old → OfStores D.is_sound S.is_sound machines.new }
     ensures catalog { machines.new.desk.catalog ≡ machines.old.desk.catalog }
+    ensures counts { NoFewer (counts D.refused S.refused machines.old) (counts D.refused S.refused machines.new) }
+    ensures blames { OfStores D.is_clean S.is_clean machines.new → OfStores D.is_sound S.is_sound machines.old → IfErr result (StopsFor (counts D.refused S.refused machines.old) (counts D.refused S.refused machines.new)) }
     ensures own { IfErr result (λ refusal. is_stop refusal ≡ true) }
     ensures ok { (db : Database) → IsOfCatalogue db → db.catalogue ≡ catalogue_of machines.old.desk.catalog → OfStores D.is_clean S.is_clean machines.new → OfStores D.is_sound S.is_sound machines.old → AreFit db (counted D.kept S.kept D.refused S.refused machines.old)
         → IfOk result (λ stated. Makes db (map (λ text. call.State txn text) texts.now) stated.came.items stated.ended (counted D.kept S.kept D.refused S.refused machines.old) (counted D.kept S.kept D.refused S.refused machines.new)) }
@@ -132,6 +136,8 @@ fn ask_rollback<D: DeskStore, S: SiteStore>(
     ensures clean { OfStores D.is_clean S.is_clean machines.new → OfStores D.is_clean S.is_clean machines.old }
     ensures sound { OfStores D.is_clean S.is_clean machines.new → OfStores D.is_sound S.is_sound machines.old → OfStores D.is_sound S.is_sound machines.new }
     ensures catalog { machines.new.desk.catalog ≡ machines.old.desk.catalog }
+    ensures counts { NoFewer (counts D.refused S.refused machines.old) (counts D.refused S.refused machines.new) }
+    ensures blames { OfStores D.is_clean S.is_clean machines.new → OfStores D.is_sound S.is_sound machines.old → IfErr result (StopsFor (counts D.refused S.refused machines.old) (counts D.refused S.refused machines.new)) }
     ensures own { IfErr result (λ refusal. is_stop refusal ≡ true) }
     ensures ok { (db : Database) → IsOfCatalogue db → db.catalogue ≡ catalogue_of machines.old.desk.catalog → OfStores D.is_clean S.is_clean machines.new → OfStores D.is_sound S.is_sound machines.old → AreFit db (counted D.kept S.kept D.refused S.refused machines.old)
         → IfOk result (λ all. MakesMore db (calls_of_end end.Rollback txn) came.items all.items (counted D.kept S.kept D.refused S.refused machines.old) (counted D.kept S.kept D.refused S.refused machines.new)) }
@@ -154,6 +160,8 @@ fn ask_commit<D: DeskStore, S: SiteStore>(
     ensures clean { OfStores D.is_clean S.is_clean machines.new → OfStores D.is_clean S.is_clean machines.old }
     ensures sound { OfStores D.is_clean S.is_clean machines.new → OfStores D.is_sound S.is_sound machines.old → OfStores D.is_sound S.is_sound machines.new }
     ensures catalog { machines.new.desk.catalog ≡ machines.old.desk.catalog }
+    ensures counts { NoFewer (counts D.refused S.refused machines.old) (counts D.refused S.refused machines.new) }
+    ensures blames { OfStores D.is_clean S.is_clean machines.new → OfStores D.is_sound S.is_sound machines.old → IfErr result (StopsFor (counts D.refused S.refused machines.old) (counts D.refused S.refused machines.new)) }
     ensures own { IfErr result (λ refusal. is_stop refusal ≡ true) }
     ensures ok { (db : Database) → IsOfCatalogue db → db.catalogue ≡ catalogue_of machines.old.desk.catalog → OfStores D.is_clean S.is_clean machines.new → OfStores D.is_sound S.is_sound machines.old → AreFit db (counted D.kept S.kept D.refused S.refused machines.old)
         → IfOk result (λ all. MakesMore db (calls_of_end end.Commit txn) came.items all.items (counted D.kept S.kept D.refused S.refused machines.old) (counted D.kept S.kept D.refused S.refused machines.new)) }
@@ -182,6 +190,8 @@ fn finish<D: DeskStore, S: SiteStore>(
     ensures clean { OfStores D.is_clean S.is_clean machines.new → OfStores D.is_clean S.is_clean machines.old }
     ensures sound { OfStores D.is_clean S.is_clean machines.new → OfStores D.is_sound S.is_sound machines.old → OfStores D.is_sound S.is_sound machines.new }
     ensures catalog { machines.new.desk.catalog ≡ machines.old.desk.catalog }
+    ensures counts { NoFewer (counts D.refused S.refused machines.old) (counts D.refused S.refused machines.new) }
+    ensures blames { OfStores D.is_clean S.is_clean machines.new → OfStores D.is_sound S.is_sound machines.old → IfErr result (StopsFor (counts D.refused S.refused machines.old) (counts D.refused S.refused machines.new)) }
     ensures own { IfErr result (λ refusal. is_stop refusal ≡ true) }
     ensures ok { (db : Database) → IsOfCatalogue db → db.catalogue ≡ catalogue_of machines.old.desk.catalog → OfStores D.is_clean S.is_clean machines.new → OfStores D.is_sound S.is_sound machines.old → AreFit db (counted D.kept S.kept D.refused S.refused machines.old)
         → (stated.ended ≡ false → IfOk result (λ all. MakesMore db (calls_of_end end txn) stated.came.items all.items (counted D.kept S.kept D.refused S.refused machines.old) (counted D.kept S.kept D.refused S.refused machines.new))) × (stated.ended ≡ true → IfOk result (λ all. (all.items ≡ stated.came.items) × (counted D.kept S.kept D.refused S.refused machines.new ≡ counted D.kept S.kept D.refused S.refused machines.old))) }
@@ -207,6 +217,8 @@ fn run_course<D: DeskStore, S: SiteStore>(
     ensures clean { OfStores D.is_clean S.is_clean machines.new → OfStores D.is_clean S.is_clean machines.old }
     ensures sound { OfStores D.is_clean S.is_clean machines.new → OfStores D.is_sound S.is_sound machines.old → OfStores D.is_sound S.is_sound machines.new }
     ensures catalog { machines.new.desk.catalog ≡ machines.old.desk.catalog }
+    ensures counts { NoFewer (counts D.refused S.refused machines.old) (counts D.refused S.refused machines.new) }
+    ensures blames { OfStores D.is_clean S.is_clean machines.new → OfStores D.is_sound S.is_sound machines.old → IfErr result (StopsFor (counts D.refused S.refused machines.old) (counts D.refused S.refused machines.new)) }
     ensures own { IfErr result (λ refusal. is_stop refusal ≡ true) }
     ensures ok { (db : Database) → IsOfCatalogue db → db.catalogue ≡ catalogue_of machines.old.desk.catalog → OfStores D.is_clean S.is_clean machines.new → OfStores D.is_sound S.is_sound machines.old → AreFit db (counted D.kept S.kept D.refused S.refused machines.old)
         → IfOk result (λ course. (course.txn ≡ begun.txn) × (course.greeted ≡ begun.heard.items) × ((ended : Bool) × Makes db (calls_of transaction.now begun.txn) course.came ended (counted D.kept S.kept D.refused S.refused machines.old) (counted D.kept S.kept D.refused S.refused machines.new))) }
@@ -231,6 +243,8 @@ fn run_one<D: DeskStore, S: SiteStore>(
     ensures clean { OfStores D.is_clean S.is_clean machines.new → OfStores D.is_clean S.is_clean machines.old }
     ensures sound { OfStores D.is_clean S.is_clean machines.new → OfStores D.is_sound S.is_sound machines.old → OfStores D.is_sound S.is_sound machines.new }
     ensures catalog { machines.new.desk.catalog ≡ machines.old.desk.catalog }
+    ensures counts { NoFewer (counts D.refused S.refused machines.old) (counts D.refused S.refused machines.new) }
+    ensures blames { OfStores D.is_clean S.is_clean machines.new → OfStores D.is_sound S.is_sound machines.old → IfErr result (StopsFor (counts D.refused S.refused machines.old) (counts D.refused S.refused machines.new)) }
     ensures own { IfErr result (λ refusal. is_stop refusal ≡ true) }
     ensures ok { (db : Database) → IsOfCatalogue db → db.catalogue ≡ catalogue_of machines.old.desk.catalog → OfStores D.is_clean S.is_clean machines.new → OfStores D.is_sound S.is_sound machines.old → AreFit db (counted D.kept S.kept D.refused S.refused machines.old)
         → IfOk result (λ outcome. RunsOne db transaction.now outcome (counted D.kept S.kept D.refused S.refused machines.old) (counted D.kept S.kept D.refused S.refused machines.new)) }
@@ -260,6 +274,8 @@ pub(crate) fn run_all<D: DeskStore, S: SiteStore>(
     ensures clean { OfStores D.is_clean S.is_clean machines.new → OfStores D.is_clean S.is_clean machines.old }
     ensures sound { OfStores D.is_clean S.is_clean machines.new → OfStores D.is_sound S.is_sound machines.old → OfStores D.is_sound S.is_sound machines.new }
     ensures catalog { machines.new.desk.catalog ≡ machines.old.desk.catalog }
+    ensures counts { NoFewer (counts D.refused S.refused machines.old) (counts D.refused S.refused machines.new) }
+    ensures blames { OfStores D.is_clean S.is_clean machines.new → OfStores D.is_sound S.is_sound machines.old → IfErr result (λ stop. StopsFor (counts D.refused S.refused machines.old) (counts D.refused S.refused machines.new) stop.refusal) }
     ensures own { IfErr result (λ stop. is_stop stop.refusal ≡ true) }
     ensures ok { (db : Database) → IsOfCatalogue db → db.catalogue ≡ catalogue_of machines.old.desk.catalog → OfStores D.is_clean S.is_clean machines.new → OfStores D.is_sound S.is_sound machines.old → AreFit db (counted D.kept S.kept D.refused S.refused machines.old)
         → IfOk result (λ outcomes. RunsAll db transactions.now outcomes.items (counted D.kept S.kept D.refused S.refused machines.old) (counted D.kept S.kept D.refused S.refused machines.new)) }

@@ -1,6 +1,6 @@
 //! The letters of one client's machines come, each once, the oldest first.
 
-ghost use Rattle.std.specs.Prelude.{◌≡◌, ◌++◌, ℕ, suc, true, IfErr, IfOk, OnErr, OnOk};
+ghost use Rattle.std.specs.Prelude.{◌≡◌, ◌++◌, ℕ, suc, true, IfErr, IfOk, IfSome, OnErr, OnOk};
 ghost use Rattle.catalog.specs.Relation.{catalogue_of};
 ghost use Rattle.desk.specs.Database.{Database};
 ghost use Rattle.desk.specs.OfCatalogue.{IsOfCatalogue};
@@ -11,7 +11,7 @@ ghost use Rattle.world.specs.Delivering.{Breaks, Goes, settled};
 ghost use Rattle.world.specs.Held.{OfStores, counted, held};
 ghost use Rattle.world.specs.Machines.{AreFit};
 ghost use Rattle.world.specs.Reasons.{Tells};
-ghost use Rattle.world.specs.Stopping.{is_stop};
+ghost use Rattle.world.specs.Stopping.{StopsFor, is_stop};
 ghost use Rattle.world.specs.Taking.{IsDone, IsInRound, put_out_by, scene, stop_of, turns_away, world_at};
 
 use crate::fault::Fault;
@@ -54,6 +54,7 @@ fn take<D: DeskStore, S: SiteStore>(
     ensures sound { OfStores D.is_clean S.is_clean machines.new → OfStores D.is_sound S.is_sound machines.old → OfStores D.is_sound S.is_sound machines.new }
     ensures catalog { machines.new.desk.catalog ≡ machines.old.desk.catalog }
     ensures counts { NoFewer (counts D.refused S.refused machines.old) (counts D.refused S.refused machines.new) }
+    ensures blames { OfStores D.is_clean S.is_clean machines.new → OfStores D.is_sound S.is_sound machines.old → IfErr result (λ fault. IfSome (stop_of fault) (StopsFor (counts D.refused S.refused machines.old) (counts D.refused S.refused machines.new))) }
     ensures ok { (db : Database) → IsOfCatalogue db → db.catalogue ≡ catalogue_of machines.old.desk.catalog → OfStores D.is_clean S.is_clean machines.new → OfStores D.is_sound S.is_sound machines.old → AreFit db (counted D.kept S.kept D.refused S.refused machines.old)
         → IfOk result (λ out. IsDone db letter (counted D.kept S.kept D.refused S.refused machines.old) (counted D.kept S.kept D.refused S.refused machines.new) out.letters out.replies) }
     ensures told { (db : Database) → IsOfCatalogue db → db.catalogue ≡ catalogue_of machines.old.desk.catalog → AreFit db (counted D.kept S.kept D.refused S.refused machines.old) → IfErr result (Tells db (counted D.kept S.kept D.refused S.refused machines.old) letter) }
@@ -74,6 +75,8 @@ fn deliver_one<D: DeskStore, S: SiteStore>(
     ensures clean { OfStores D.is_clean S.is_clean machines.new → OfStores D.is_clean S.is_clean machines.old }
     ensures sound { OfStores D.is_clean S.is_clean machines.new → OfStores D.is_sound S.is_sound machines.old → OfStores D.is_sound S.is_sound machines.new }
     ensures catalog { machines.new.desk.catalog ≡ machines.old.desk.catalog }
+    ensures counts { NoFewer (counts D.refused S.refused machines.old) (counts D.refused S.refused machines.new) }
+    ensures blames { OfStores D.is_clean S.is_clean machines.new → OfStores D.is_sound S.is_sound machines.old → IfErr result (StopsFor (counts D.refused S.refused machines.old) (counts D.refused S.refused machines.new)) }
     ensures ok { (db : Database) → IsOfCatalogue db → db.catalogue ≡ catalogue_of machines.old.desk.catalog → OfStores D.is_clean S.is_clean machines.new → OfStores D.is_sound S.is_sound machines.old → AreFit db (counted D.kept S.kept D.refused S.refused machines.old)
         → IfOk result (λ out. IsDone db letter (counted D.kept S.kept D.refused S.refused machines.old) (counted D.kept S.kept D.refused S.refused machines.new) out.letters out.replies) }
     ensures err { OfStores D.is_clean S.is_clean machines.new → OfStores D.is_sound S.is_sound machines.old → OnErr result (held D.kept S.kept machines.new ≡ held D.kept S.kept machines.old) }
@@ -139,6 +142,8 @@ fn deliver_next<D: DeskStore, S: SiteStore>(
     ensures clean { OfStores D.is_clean S.is_clean machines.new → OfStores D.is_clean S.is_clean machines.old }
     ensures sound { OfStores D.is_clean S.is_clean machines.new → OfStores D.is_sound S.is_sound machines.old → OfStores D.is_sound S.is_sound machines.new }
     ensures catalog { machines.new.desk.catalog ≡ machines.old.desk.catalog }
+    ensures counts { NoFewer (counts D.refused S.refused machines.old) (counts D.refused S.refused machines.new) }
+    ensures blames { OfStores D.is_clean S.is_clean machines.new → OfStores D.is_sound S.is_sound machines.old → IfErr result (StopsFor (counts D.refused S.refused machines.old) (counts D.refused S.refused machines.new)) }
     ensures ok { (db : Database) → IsOfCatalogue db → db.catalogue ≡ catalogue_of machines.old.desk.catalog → OfStores D.is_clean S.is_clean machines.new → OfStores D.is_sound S.is_sound machines.old → AreFit db (counted D.kept S.kept D.refused S.refused machines.old)
         → OnOk result (Goes db (λ w. w) (scene (counted D.kept S.kept D.refused S.refused machines.old) post.old) (scene (counted D.kept S.kept D.refused S.refused machines.new) post.new)) }
     ensures ranks { (db : Database) (n i : ℕ) → IsOfCatalogue db → db.catalogue ≡ catalogue_of machines.old.desk.catalog → OfStores D.is_clean S.is_clean machines.new → OfStores D.is_sound S.is_sound machines.old → AreFit db (counted D.kept S.kept D.refused S.refused machines.old)
@@ -164,6 +169,8 @@ fn deliver_round<D: DeskStore, S: SiteStore>(
     ensures clean { OfStores D.is_clean S.is_clean machines.new → OfStores D.is_clean S.is_clean machines.old }
     ensures sound { OfStores D.is_clean S.is_clean machines.new → OfStores D.is_sound S.is_sound machines.old → OfStores D.is_sound S.is_sound machines.new }
     ensures catalog { machines.new.desk.catalog ≡ machines.old.desk.catalog }
+    ensures counts { NoFewer (counts D.refused S.refused machines.old) (counts D.refused S.refused machines.new) }
+    ensures blames { OfStores D.is_clean S.is_clean machines.new → OfStores D.is_sound S.is_sound machines.old → IfErr result (StopsFor (counts D.refused S.refused machines.old) (counts D.refused S.refused machines.new)) }
     ensures ok { (db : Database) → IsOfCatalogue db → db.catalogue ≡ catalogue_of machines.old.desk.catalog → OfStores D.is_clean S.is_clean machines.new → OfStores D.is_sound S.is_sound machines.old → AreFit db (counted D.kept S.kept D.refused S.refused machines.old)
         → OnOk result (Goes db (λ w. w) (scene (counted D.kept S.kept D.refused S.refused machines.old) post.old) (scene (counted D.kept S.kept D.refused S.refused machines.new) post.new)) }
     ensures ranks { (db : Database) (n : ℕ) → IsOfCatalogue db → db.catalogue ≡ catalogue_of machines.old.desk.catalog → OfStores D.is_clean S.is_clean machines.new → OfStores D.is_sound S.is_sound machines.old → AreFit db (counted D.kept S.kept D.refused S.refused machines.old)
@@ -186,6 +193,8 @@ pub(crate) fn settle<D: DeskStore, S: SiteStore>(
     ensures clean { OfStores D.is_clean S.is_clean machines.new → OfStores D.is_clean S.is_clean machines.old }
     ensures sound { OfStores D.is_clean S.is_clean machines.new → OfStores D.is_sound S.is_sound machines.old → OfStores D.is_sound S.is_sound machines.new }
     ensures catalog { machines.new.desk.catalog ≡ machines.old.desk.catalog }
+    ensures counts { NoFewer (counts D.refused S.refused machines.old) (counts D.refused S.refused machines.new) }
+    ensures blames { OfStores D.is_clean S.is_clean machines.new → OfStores D.is_sound S.is_sound machines.old → IfErr result (StopsFor (counts D.refused S.refused machines.old) (counts D.refused S.refused machines.new)) }
     ensures ok { (db : Database) → IsOfCatalogue db → db.catalogue ≡ catalogue_of machines.old.desk.catalog → OfStores D.is_clean S.is_clean machines.new → OfStores D.is_sound S.is_sound machines.old → AreFit db (counted D.kept S.kept D.refused S.refused machines.old)
         → IfOk result (λ heard. Goes db (λ w. w) (put_out_by (counted D.kept S.kept D.refused S.refused machines.old) out) (settled (counted D.kept S.kept D.refused S.refused machines.new) heard.items)) }
     ensures err { (db : Database) → IsOfCatalogue db → db.catalogue ≡ catalogue_of machines.old.desk.catalog → OfStores D.is_clean S.is_clean machines.new → OfStores D.is_sound S.is_sound machines.old → AreFit db (counted D.kept S.kept D.refused S.refused machines.old)

@@ -29,7 +29,7 @@ pub(crate) struct Machines<D: DeskStore, S: SiteStore> {
 }
 
 impl<D: DeskStore, S: SiteStore> Machines<D, S> {
-    ghost use Rattle.std.specs.Prelude.{◌≡◌, ◌≢◌, ◌⊎◌, ℕ, List, false, true, Some, Err, IfOk, IfErr, OnOk, OnErr};
+    ghost use Rattle.std.specs.Prelude.{◌≡◌, ◌≢◌, ◌⊎◌, ℕ, List, false, true, Some, Err, IfOk, IfErr, IfSome, OnOk, OnErr};
     ghost use Rattle.protocol.specs.Desk.{Choice, Commit_call, Give_up, Rollback};
     ghost use Rattle.desk.specs.State.{table_of};
     ghost use Rattle.desk.specs.declared.refusal.Refusal.TheVariants as refusals;
@@ -45,7 +45,8 @@ impl<D: DeskStore, S: SiteStore> Machines<D, S> {
     ghost use Rattle.desk.specs.Calls.{IsOver};
     ghost use Rattle.desk.specs.Database.{Database, language};
     ghost use Rattle.world.specs.Counted.{HaveRefused, NoFewer, counts};
-    ghost use Rattle.world.specs.Taking.{CameUnless};
+    ghost use Rattle.world.specs.Stopping.{StopsFor};
+    ghost use Rattle.world.specs.Taking.{CameUnless, stop_of};
     ghost use Rattle.site.specs.Refusals.{AsksToKeep};
     ghost use Rattle.world.specs.Held.{OfStores, held};
     ghost use Rattle.world.specs.Machines.{AreFit, Asked, Came, Leads, Stated, happens_at, is_for_site, is_of_site, is_order, world_of};
@@ -64,6 +65,7 @@ impl<D: DeskStore, S: SiteStore> Machines<D, S> {
             → IfErr result (λ told. (told ≡ refusals.Memory) ⊎ IsRefused db (table_of self.old.desk.present) calls.Begin told) }
         ensures catalog { self.new.desk.catalog ≡ self.old.desk.catalog }
         ensures uncalled { counts D.refused S.refused self.new ≡ counts D.refused S.refused self.old }
+        ensures blames { IfErr result (StopsFor (counts D.refused S.refused self.old) (counts D.refused S.refused self.new)) }
         ensures err { OnErr result (held D.kept S.kept self.new ≡ held D.kept S.kept self.old) }
     {
         self.desk.begin()
@@ -78,6 +80,7 @@ impl<D: DeskStore, S: SiteStore> Machines<D, S> {
         ensures told { (db : Database) → IfErr result (λ told. (told ≡ refusals.Memory) ⊎ IsRefused db (table_of self.old.desk.present) (calls.Commit txn) told) }
         ensures catalog { self.new.desk.catalog ≡ self.old.desk.catalog }
         ensures uncalled { counts D.refused S.refused self.new ≡ counts D.refused S.refused self.old }
+        ensures blames { IfErr result (StopsFor (counts D.refused S.refused self.old) (counts D.refused S.refused self.new)) }
         ensures err { OnErr result (held D.kept S.kept self.new ≡ held D.kept S.kept self.old) }
     {
         self.desk.commit(txn)
@@ -92,6 +95,7 @@ impl<D: DeskStore, S: SiteStore> Machines<D, S> {
         ensures told { (db : Database) → IfErr result (λ told. (told ≡ refusals.Memory) ⊎ IsRefused db (table_of self.old.desk.present) (calls.Rollback txn) told) }
         ensures catalog { self.new.desk.catalog ≡ self.old.desk.catalog }
         ensures uncalled { counts D.refused S.refused self.new ≡ counts D.refused S.refused self.old }
+        ensures blames { IfErr result (StopsFor (counts D.refused S.refused self.old) (counts D.refused S.refused self.new)) }
         ensures err { OnErr result (held D.kept S.kept self.new ≡ held D.kept S.kept self.old) }
     {
         self.desk.rollback(txn)
@@ -134,6 +138,7 @@ impl<D: DeskStore, S: SiteStore> Machines<D, S> {
             → IfErr result (λ told. (told ≡ refusals.Memory) ⊎ IsRefused db (table_of self.old.desk.present) (calls.State txn text.now) told) }
         ensures catalog { self.new.desk.catalog ≡ self.old.desk.catalog }
         ensures uncalled { counts D.refused S.refused self.new ≡ counts D.refused S.refused self.old }
+        ensures blames { IfErr result (StopsFor (counts D.refused S.refused self.old) (counts D.refused S.refused self.new)) }
         ensures err { OnErr result (held D.kept S.kept self.new ≡ held D.kept S.kept self.old) }
     {
         self.desk.statement(txn, text)
@@ -150,6 +155,7 @@ impl<D: DeskStore, S: SiteStore> Machines<D, S> {
         ensures refusal { IfOk result (λ out. out.kept ≡ false → (kept ≡ false) ⊎ HaveRefused (counts D.refused S.refused self.old) (counts D.refused S.refused self.new)) }
         ensures catalog { self.new.desk.catalog ≡ self.old.desk.catalog }
         ensures counts { NoFewer (counts D.refused S.refused self.old) (counts D.refused S.refused self.new) }
+        ensures own { IfErr result (λ told. (told ≡ refusals.Memory) ⊎ (told ≡ refusals.Full)) }
         ensures err { OfStores D.is_clean S.is_clean self.new → OfStores D.is_sound S.is_sound self.old → OnErr result (held D.kept S.kept self.new ≡ held D.kept S.kept self.old) }
     {
         self.desk.take_kept(letter, kept)
@@ -170,6 +176,8 @@ impl<D: DeskStore, S: SiteStore> Machines<D, S> {
         ensures sent { result ≢ Err faults.Unsent }
         ensures catalog { self.new.desk.catalog ≡ self.old.desk.catalog }
         ensures counts { NoFewer (counts D.refused S.refused self.old) (counts D.refused S.refused self.new) }
+        ensures blames { kept ≡ true → OfStores D.is_clean S.is_clean self.new → OfStores D.is_sound S.is_sound self.old
+            → IfErr result (λ fault. IfSome (stop_of fault) (StopsFor (counts D.refused S.refused self.old) (counts D.refused S.refused self.new))) }
         ensures err { OfStores D.is_clean S.is_clean self.new → OfStores D.is_sound S.is_sound self.old → OnErr result (held D.kept S.kept self.new ≡ held D.kept S.kept self.old) }
     {
         if !is_order(&letter.body) {
@@ -201,6 +209,8 @@ impl<D: DeskStore, S: SiteStore> Machines<D, S> {
         ensures called { (site : List ℕ) → what ≡ things.Restart site → OnOk result (kept ≡ true) }
         ensures catalog { self.new.desk.catalog ≡ self.old.desk.catalog }
         ensures counts { NoFewer (counts D.refused S.refused self.old) (counts D.refused S.refused self.new) }
+        ensures blames { (letter : LetterNow) → what ≡ things.Take letter → kept ≡ true → OfStores D.is_clean S.is_clean self.new → OfStores D.is_sound S.is_sound self.old
+            → IfErr result (λ fault. IfSome (stop_of (faults.Site fault)) (StopsFor (counts D.refused S.refused self.old) (counts D.refused S.refused self.new))) }
         ensures err { OfStores D.is_clean S.is_clean self.new → OfStores D.is_sound S.is_sound self.old → OnErr result (held D.kept S.kept self.new ≡ held D.kept S.kept self.old) }
     {
         match do_among(self.alloc, &mut self.sites, what, kept) {

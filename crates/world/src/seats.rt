@@ -1,16 +1,19 @@
 //! The sites of a database, each under its name.
 
-ghost use Rattle.std.specs.Prelude.{◌≡◌, ◌≤◌, ◌⊎◌, ℕ, List, Some, IfErr, IfOk, OnErr, OnOk, false, true};
+ghost use Rattle.std.specs.Prelude.{◌≡◌, ◌≤◌, ◌⊎◌, ◌∷◌, [], ℕ, List, Some, IfErr, IfOk, IfSome, OnErr, OnOk, false, true};
 ghost use Rattle.store.specs.declared.letter.Letter.{Letter as LetterNow};
 ghost use Rattle.store.specs.Fault.{HasRefused};
 ghost use Rattle.protocol.specs.Letters.{kept_in};
 ghost use Rattle.site.specs.Refusals.{AsksToKeep};
 ghost use Rattle.world.specs.Counted.{HaveRefused, NoFewer, counts_of};
 ghost use Rattle.world.specs.declared.doing.Doing.TheVariants as things;
+ghost use Rattle.world.specs.declared.fault.Fault.TheVariants as faults;
 ghost use Rattle.std.specs.List.{AllByRecursion};
 ghost use Rattle.world.specs.Reasons.{SiteTells};
 ghost use Rattle.world.specs.Seats.{AreSeated, IsSeated, Seat, is_called, seat_of};
 ghost use Rattle.world.specs.Seated.{SeatDoes, SomeSeatDoes, place_of, seat_from, seats_in};
+ghost use Rattle.world.specs.Stopping.{StopsFor};
+ghost use Rattle.world.specs.Taking.{stop_of};
 
 use crate::doing::Doing;
 use site::fault::SiteFault;
@@ -37,6 +40,7 @@ fn do_one<S: SiteStore>(
     ensures clean { S.is_clean site.new.store → S.is_clean site.old.store }
     ensures sound { S.is_clean site.new.store → S.is_sound site.old.store → S.is_sound site.new.store }
     ensures counts { S.refused site.old.store ≤ S.refused site.new.store }
+    ensures blames { (letter : LetterNow) → what ≡ things.Take letter → kept ≡ true → S.is_clean site.new.store → S.is_sound site.old.store → IfErr result (λ fault. IfSome (stop_of (faults.Site fault)) (StopsFor (S.refused site.old.store ∷ []) (S.refused site.new.store ∷ []))) }
     ensures vote { (letter : LetterNow) → what ≡ things.Take letter → AsksToKeep (seat_from S.kept site.old).table letter.body → IfOk result (λ letters. kept_in letters.items ≡ false → (kept ≡ false) ⊎ HasRefused (S.refused site.old.store) (S.refused site.new.store)) }
     ensures ok { S.is_clean site.new.store → S.is_sound site.old.store → IsSeated (seat_from S.kept site.old)
         → IfOk result (λ letters. SeatDoes what (seat_from S.kept site.old) (seat_from S.kept site.new) letters.items) }
@@ -71,6 +75,8 @@ fn do_at<S: SiteStore>(
     ensures clean { AllByRecursion (λ site. S.is_clean site.store) sites.new → AllByRecursion (λ site. S.is_clean site.store) sites.old }
     ensures sound { AllByRecursion (λ site. S.is_clean site.store) sites.new → AllByRecursion (λ site. S.is_sound site.store) sites.old → AllByRecursion (λ site. S.is_sound site.store) sites.new }
     ensures counts { NoFewer (counts_of S.refused sites.old) (counts_of S.refused sites.new) }
+    ensures blames { (letter : LetterNow) → what ≡ things.Take letter → kept ≡ true → AllByRecursion (λ site. S.is_clean site.store) sites.new → AllByRecursion (λ site. S.is_sound site.store) sites.old
+        → IfErr result (λ fault. IfSome (stop_of (faults.Site fault)) (StopsFor (counts_of S.refused sites.old) (counts_of S.refused sites.new))) }
     ensures vote { (letter : LetterNow) (seat : Seat) → what ≡ things.Take letter → seat_of letter.site (seats_in S.kept sites.old) ≡ Some seat → AsksToKeep seat.table letter.body
         → IfOk result (λ letters. kept_in letters.items ≡ false → (kept ≡ false) ⊎ HaveRefused (counts_of S.refused sites.old) (counts_of S.refused sites.new)) }
     ensures ok { (seat : Seat) → AllByRecursion (λ site. S.is_clean site.store) sites.new → AllByRecursion (λ site. S.is_sound site.store) sites.old → AreSeated (seats_in S.kept sites.old) → seat_of (place_of what) (seats_in S.kept sites.old) ≡ Some seat
@@ -98,6 +104,8 @@ pub(crate) fn do_among<S: SiteStore>(
     ensures clean { AllByRecursion (λ site. S.is_clean site.store) sites.new.items → AllByRecursion (λ site. S.is_clean site.store) sites.old.items }
     ensures sound { AllByRecursion (λ site. S.is_clean site.store) sites.new.items → AllByRecursion (λ site. S.is_sound site.store) sites.old.items → AllByRecursion (λ site. S.is_sound site.store) sites.new.items }
     ensures counts { NoFewer (counts_of S.refused sites.old.items) (counts_of S.refused sites.new.items) }
+    ensures blames { (letter : LetterNow) → what ≡ things.Take letter → kept ≡ true → AllByRecursion (λ site. S.is_clean site.store) sites.new.items → AllByRecursion (λ site. S.is_sound site.store) sites.old.items
+        → IfErr result (λ fault. IfSome (stop_of (faults.Site fault)) (StopsFor (counts_of S.refused sites.old.items) (counts_of S.refused sites.new.items))) }
     ensures vote { (letter : LetterNow) (seat : Seat) → what ≡ things.Take letter → seat_of letter.site (seats_in S.kept sites.old.items) ≡ Some seat → AsksToKeep seat.table letter.body
         → IfOk result (λ letters. kept_in letters.items ≡ false → (kept ≡ false) ⊎ HaveRefused (counts_of S.refused sites.old.items) (counts_of S.refused sites.new.items)) }
     ensures ok { (seat : Seat) → AllByRecursion (λ site. S.is_clean site.store) sites.new.items → AllByRecursion (λ site. S.is_sound site.store) sites.old.items → AreSeated (seats_in S.kept sites.old.items) → seat_of (place_of what) (seats_in S.kept sites.old.items) ≡ Some seat

@@ -10,11 +10,13 @@ ghost use Rattle.desk.specs.Database.{Database, language};
 ghost use Rattle.desk.specs.OfCatalogue.{IsOfCatalogue};
 ghost use Rattle.desk.specs.declared.refusal.Refusal.TheVariants as refusals;
 ghost use Rattle.world.specs.declared.event.Call.TheVariants as call;
+ghost use Rattle.world.specs.Counted.{NoFewer, counts};
 ghost use Rattle.world.specs.Denying.{IsDenied};
 ghost use Rattle.world.specs.Delivering.{Serves, To_begin};
 ghost use Rattle.world.specs.Held.{OfStores, counted};
 ghost use Rattle.world.specs.Machines.{AreFit};
 ghost use Rattle.world.specs.Serving.{DoesAsk, DoesBegin, DoesState, IsServed, IsServedOn};
+ghost use Rattle.world.specs.Stopping.{StopsFor};
 
 use crate::delivering::settle;
 use crate::machines::Machines;
@@ -52,6 +54,8 @@ fn greet<D: DeskStore, S: SiteStore>(machines: &mut Machines<D, S>) -> Result<Ve
     ensures clean { OfStores D.is_clean S.is_clean machines.new → OfStores D.is_clean S.is_clean machines.old }
     ensures sound { OfStores D.is_clean S.is_clean machines.new → OfStores D.is_sound S.is_sound machines.old → OfStores D.is_sound S.is_sound machines.new }
     ensures catalog { machines.new.desk.catalog ≡ machines.old.desk.catalog }
+    ensures counts { NoFewer (counts D.refused S.refused machines.old) (counts D.refused S.refused machines.new) }
+    ensures blames { OfStores D.is_clean S.is_clean machines.new → OfStores D.is_sound S.is_sound machines.old → IfErr result (StopsFor (counts D.refused S.refused machines.old) (counts D.refused S.refused machines.new)) }
     ensures ok { (db : Database) → IsOfCatalogue db → db.catalogue ≡ catalogue_of machines.old.desk.catalog → OfStores D.is_clean S.is_clean machines.new → OfStores D.is_sound S.is_sound machines.old → AreFit db (counted D.kept S.kept D.refused S.refused machines.old)
         → IfOk result (λ heard. Serves db To_begin (counted D.kept S.kept D.refused S.refused machines.old) (counted D.kept S.kept D.refused S.refused machines.new) heard.items) }
     ensures denied { (db : Database) → IsOfCatalogue db → db.catalogue ≡ catalogue_of machines.old.desk.catalog → OfStores D.is_clean S.is_clean machines.new → OfStores D.is_sound S.is_sound machines.old → AreFit db (counted D.kept S.kept D.refused S.refused machines.old)
@@ -72,6 +76,8 @@ pub(crate) fn begin<D: DeskStore, S: SiteStore>(
     ensures clean { OfStores D.is_clean S.is_clean machines.new → OfStores D.is_clean S.is_clean machines.old }
     ensures sound { OfStores D.is_clean S.is_clean machines.new → OfStores D.is_sound S.is_sound machines.old → OfStores D.is_sound S.is_sound machines.new }
     ensures catalog { machines.new.desk.catalog ≡ machines.old.desk.catalog }
+    ensures counts { NoFewer (counts D.refused S.refused machines.old) (counts D.refused S.refused machines.new) }
+    ensures blames { OfStores D.is_clean S.is_clean machines.new → OfStores D.is_sound S.is_sound machines.old → IfErr result (StopsFor (counts D.refused S.refused machines.old) (counts D.refused S.refused machines.new)) }
     ensures ok { (db : Database) → IsOfCatalogue db → db.catalogue ≡ catalogue_of machines.old.desk.catalog → OfStores D.is_clean S.is_clean machines.new → OfStores D.is_sound S.is_sound machines.old → AreFit db (counted D.kept S.kept D.refused S.refused machines.old)
         → IfOk result (λ begun. DoesBegin db (counted D.kept S.kept D.refused S.refused machines.old) begun.txn (counted D.kept S.kept D.refused S.refused machines.new) begun.heard.items) }
     ensures denied { (db : Database) → IsOfCatalogue db → db.catalogue ≡ catalogue_of machines.old.desk.catalog → OfStores D.is_clean S.is_clean machines.new → OfStores D.is_sound S.is_sound machines.old → AreFit db (counted D.kept S.kept D.refused S.refused machines.old)
@@ -94,6 +100,8 @@ pub(crate) fn state<D: DeskStore, S: SiteStore>(
     ensures clean { OfStores D.is_clean S.is_clean machines.new → OfStores D.is_clean S.is_clean machines.old }
     ensures sound { OfStores D.is_clean S.is_clean machines.new → OfStores D.is_sound S.is_sound machines.old → OfStores D.is_sound S.is_sound machines.new }
     ensures catalog { machines.new.desk.catalog ≡ machines.old.desk.catalog }
+    ensures counts { NoFewer (counts D.refused S.refused machines.old) (counts D.refused S.refused machines.new) }
+    ensures blames { OfStores D.is_clean S.is_clean machines.new → OfStores D.is_sound S.is_sound machines.old → IfErr result (StopsFor (counts D.refused S.refused machines.old) (counts D.refused S.refused machines.new)) }
     ensures ok { (db : Database) → IsOfCatalogue db → db.catalogue ≡ catalogue_of machines.old.desk.catalog → OfStores D.is_clean S.is_clean machines.new → OfStores D.is_sound S.is_sound machines.old → AreFit db (counted D.kept S.kept D.refused S.refused machines.old)
         → IfOk result (λ heard. DoesState db text.now txn (counted D.kept S.kept D.refused S.refused machines.old) (counted D.kept S.kept D.refused S.refused machines.new) heard.items) }
     ensures denied { (db : Database) → IsOfCatalogue db → db.catalogue ≡ catalogue_of machines.old.desk.catalog → OfStores D.is_clean S.is_clean machines.new → OfStores D.is_sound S.is_sound machines.old → AreFit db (counted D.kept S.kept D.refused S.refused machines.old)
@@ -115,6 +123,8 @@ pub(crate) fn commit<D: DeskStore, S: SiteStore>(
     ensures clean { OfStores D.is_clean S.is_clean machines.new → OfStores D.is_clean S.is_clean machines.old }
     ensures sound { OfStores D.is_clean S.is_clean machines.new → OfStores D.is_sound S.is_sound machines.old → OfStores D.is_sound S.is_sound machines.new }
     ensures catalog { machines.new.desk.catalog ≡ machines.old.desk.catalog }
+    ensures counts { NoFewer (counts D.refused S.refused machines.old) (counts D.refused S.refused machines.new) }
+    ensures blames { OfStores D.is_clean S.is_clean machines.new → OfStores D.is_sound S.is_sound machines.old → IfErr result (StopsFor (counts D.refused S.refused machines.old) (counts D.refused S.refused machines.new)) }
     ensures ok { (db : Database) → IsOfCatalogue db → db.catalogue ≡ catalogue_of machines.old.desk.catalog → OfStores D.is_clean S.is_clean machines.new → OfStores D.is_sound S.is_sound machines.old → AreFit db (counted D.kept S.kept D.refused S.refused machines.old)
         → IfOk result (λ heard. DoesAsk db Commit_call txn (counted D.kept S.kept D.refused S.refused machines.old) (counted D.kept S.kept D.refused S.refused machines.new) heard.items) }
     ensures denied { (db : Database) → IsOfCatalogue db → db.catalogue ≡ catalogue_of machines.old.desk.catalog → OfStores D.is_clean S.is_clean machines.new → OfStores D.is_sound S.is_sound machines.old → AreFit db (counted D.kept S.kept D.refused S.refused machines.old)
@@ -136,6 +146,8 @@ pub(crate) fn roll_back<D: DeskStore, S: SiteStore>(
     ensures clean { OfStores D.is_clean S.is_clean machines.new → OfStores D.is_clean S.is_clean machines.old }
     ensures sound { OfStores D.is_clean S.is_clean machines.new → OfStores D.is_sound S.is_sound machines.old → OfStores D.is_sound S.is_sound machines.new }
     ensures catalog { machines.new.desk.catalog ≡ machines.old.desk.catalog }
+    ensures counts { NoFewer (counts D.refused S.refused machines.old) (counts D.refused S.refused machines.new) }
+    ensures blames { OfStores D.is_clean S.is_clean machines.new → OfStores D.is_sound S.is_sound machines.old → IfErr result (StopsFor (counts D.refused S.refused machines.old) (counts D.refused S.refused machines.new)) }
     ensures ok { (db : Database) → IsOfCatalogue db → db.catalogue ≡ catalogue_of machines.old.desk.catalog → OfStores D.is_clean S.is_clean machines.new → OfStores D.is_sound S.is_sound machines.old → AreFit db (counted D.kept S.kept D.refused S.refused machines.old)
         → IfOk result (λ heard. DoesAsk db Rollback txn (counted D.kept S.kept D.refused S.refused machines.old) (counted D.kept S.kept D.refused S.refused machines.new) heard.items) }
     ensures denied { (db : Database) → IsOfCatalogue db → db.catalogue ≡ catalogue_of machines.old.desk.catalog → OfStores D.is_clean S.is_clean machines.new → OfStores D.is_sound S.is_sound machines.old → AreFit db (counted D.kept S.kept D.refused S.refused machines.old)

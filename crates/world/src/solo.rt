@@ -21,6 +21,7 @@ ghost use Rattle.desk.specs.declared.refusal.Refusal.{Refusal as RefusalNow};
 ghost use Rattle.desk.specs.declared.refusal.Refusal.TheVariants as refusals;
 ghost use Rattle.world.specs.declared.fault.Fault.TheVariants as faults;
 ghost use Rattle.world.specs.Base.{database, fits};
+ghost use Rattle.world.specs.Counted.{counts};
 ghost use Rattle.world.specs.Faring.{HasRun, WasStopped};
 ghost use Rattle.world.specs.Fault.{is_memory};
 ghost use Rattle.world.specs.Held.{OfStores, counted, held, unrefused};
@@ -28,7 +29,7 @@ ghost use Rattle.world.specs.Machines.{AreFit};
 ghost use Rattle.world.specs.Obeying.{Obeys, Stands, StandsOn};
 ghost use Rattle.world.specs.Serving.{Executes, IsServed, IsServedOn, still_open};
 ghost use Rattle.world.specs.Settled.{AreThoseOf, after_committed, parts_kept, rows_shown};
-ghost use Rattle.world.specs.Stopping.{is_stop, stopped_by};
+ghost use Rattle.world.specs.Stopping.{StopsFor, is_stop, stopped_by};
 ghost use Rattle.world.specs.Telling.{Tells};
 ghost use Rattle.world.specs.declared.event.Entry.{Entry as EntryNow};
 ghost use Rattle.world.specs.declared.transaction.Stop.{Stop as StopNow};
@@ -153,6 +154,7 @@ impl<D: DeskStore, S: SiteStore> Solo<D, S> {
         ensures clean { OfStores D.is_clean S.is_clean self.new.machines → OfStores D.is_clean S.is_clean self.old.machines }
         ensures sound { OfStores D.is_clean S.is_clean self.new.machines → OfStores D.is_sound S.is_sound self.old.machines → OfStores D.is_sound S.is_sound self.new.machines }
         ensures catalog { self.new.machines.desk.catalog ≡ self.old.machines.desk.catalog }
+        ensures blames { OfStores D.is_clean S.is_clean self.new.machines → OfStores D.is_sound S.is_sound self.old.machines → IfErr result (StopsFor (counts D.refused S.refused self.old.machines) (counts D.refused S.refused self.new.machines)) }
         ensures ok { (db : Database) (text : List ℕ) → IsOfCatalogue db → db.catalogue ≡ catalogue_of self.old.machines.desk.catalog → OfStores D.is_clean S.is_clean self.new.machines → OfStores D.is_sound S.is_sound self.old.machines → AreFit db (counted D.kept S.kept D.refused S.refused self.old.machines)
             → IsTextOf db.schemas text Begin → IfOk result (λ heard. Executes db text self.old.current (counted D.kept S.kept D.refused S.refused self.old.machines) self.new.current (counted D.kept S.kept D.refused S.refused self.new.machines) heard.items) }
         ensures denied { (db : Database) (text : List ℕ) → IsOfCatalogue db → db.catalogue ≡ catalogue_of self.old.machines.desk.catalog → OfStores D.is_clean S.is_clean self.new.machines → OfStores D.is_sound S.is_sound self.old.machines → AreFit db (counted D.kept S.kept D.refused S.refused self.old.machines)
@@ -179,6 +181,7 @@ impl<D: DeskStore, S: SiteStore> Solo<D, S> {
         ensures clean { OfStores D.is_clean S.is_clean self.new.machines → OfStores D.is_clean S.is_clean self.old.machines }
         ensures sound { OfStores D.is_clean S.is_clean self.new.machines → OfStores D.is_sound S.is_sound self.old.machines → OfStores D.is_sound S.is_sound self.new.machines }
         ensures catalog { self.new.machines.desk.catalog ≡ self.old.machines.desk.catalog }
+        ensures blames { OfStores D.is_clean S.is_clean self.new.machines → OfStores D.is_sound S.is_sound self.old.machines → IfErr result (StopsFor (counts D.refused S.refused self.old.machines) (counts D.refused S.refused self.new.machines)) }
         ensures ok { (db : Database) (text : List ℕ) → IsOfCatalogue db → db.catalogue ≡ catalogue_of self.old.machines.desk.catalog → OfStores D.is_clean S.is_clean self.new.machines → OfStores D.is_sound S.is_sound self.old.machines → AreFit db (counted D.kept S.kept D.refused S.refused self.old.machines)
             → IsTextOf db.schemas text Commit → IfOk result (λ heard. Executes db text self.old.current (counted D.kept S.kept D.refused S.refused self.old.machines) self.new.current (counted D.kept S.kept D.refused S.refused self.new.machines) heard.items) }
         ensures denied { (db : Database) (text : List ℕ) → IsOfCatalogue db → db.catalogue ≡ catalogue_of self.old.machines.desk.catalog → OfStores D.is_clean S.is_clean self.new.machines → OfStores D.is_sound S.is_sound self.old.machines → AreFit db (counted D.kept S.kept D.refused S.refused self.old.machines)
@@ -205,6 +208,7 @@ impl<D: DeskStore, S: SiteStore> Solo<D, S> {
         ensures clean { OfStores D.is_clean S.is_clean self.new.machines → OfStores D.is_clean S.is_clean self.old.machines }
         ensures sound { OfStores D.is_clean S.is_clean self.new.machines → OfStores D.is_sound S.is_sound self.old.machines → OfStores D.is_sound S.is_sound self.new.machines }
         ensures catalog { self.new.machines.desk.catalog ≡ self.old.machines.desk.catalog }
+        ensures blames { OfStores D.is_clean S.is_clean self.new.machines → OfStores D.is_sound S.is_sound self.old.machines → IfErr result (StopsFor (counts D.refused S.refused self.old.machines) (counts D.refused S.refused self.new.machines)) }
         ensures ok { (db : Database) (text : List ℕ) → IsOfCatalogue db → db.catalogue ≡ catalogue_of self.old.machines.desk.catalog → OfStores D.is_clean S.is_clean self.new.machines → OfStores D.is_sound S.is_sound self.old.machines → AreFit db (counted D.kept S.kept D.refused S.refused self.old.machines)
             → IsTextOf db.schemas text Rollback → IfOk result (λ heard. Executes db text self.old.current (counted D.kept S.kept D.refused S.refused self.old.machines) self.new.current (counted D.kept S.kept D.refused S.refused self.new.machines) heard.items) }
         ensures denied { (db : Database) (text : List ℕ) → IsOfCatalogue db → db.catalogue ≡ catalogue_of self.old.machines.desk.catalog → OfStores D.is_clean S.is_clean self.new.machines → OfStores D.is_sound S.is_sound self.old.machines → AreFit db (counted D.kept S.kept D.refused S.refused self.old.machines)
@@ -231,6 +235,7 @@ impl<D: DeskStore, S: SiteStore> Solo<D, S> {
         ensures clean { OfStores D.is_clean S.is_clean self.new.machines → OfStores D.is_clean S.is_clean self.old.machines }
         ensures sound { OfStores D.is_clean S.is_clean self.new.machines → OfStores D.is_sound S.is_sound self.old.machines → OfStores D.is_sound S.is_sound self.new.machines }
         ensures catalog { self.new.machines.desk.catalog ≡ self.old.machines.desk.catalog }
+        ensures blames { OfStores D.is_clean S.is_clean self.new.machines → OfStores D.is_sound S.is_sound self.old.machines → IfErr result (StopsFor (counts D.refused S.refused self.old.machines) (counts D.refused S.refused self.new.machines)) }
         ensures ok { (db : Database) → IsOfCatalogue db → db.catalogue ≡ catalogue_of self.old.machines.desk.catalog → OfStores D.is_clean S.is_clean self.new.machines → OfStores D.is_sound S.is_sound self.old.machines → AreFit db (counted D.kept S.kept D.refused S.refused self.old.machines)
             → IfOk result (λ heard. Executes db text.now self.old.current (counted D.kept S.kept D.refused S.refused self.old.machines) self.new.current (counted D.kept S.kept D.refused S.refused self.new.machines) heard.items) }
         ensures denied { (db : Database) (statement : Statement) → IsOfCatalogue db → db.catalogue ≡ catalogue_of self.old.machines.desk.catalog → OfStores D.is_clean S.is_clean self.new.machines → OfStores D.is_sound S.is_sound self.old.machines → AreFit db (counted D.kept S.kept D.refused S.refused self.old.machines)
@@ -256,6 +261,7 @@ impl<D: DeskStore, S: SiteStore> Solo<D, S> {
         ensures clean { OfStores D.is_clean S.is_clean self.new.machines → OfStores D.is_clean S.is_clean self.old.machines }
         ensures sound { OfStores D.is_clean S.is_clean self.new.machines → OfStores D.is_sound S.is_sound self.old.machines → OfStores D.is_sound S.is_sound self.new.machines }
         ensures catalog { self.new.machines.desk.catalog ≡ self.old.machines.desk.catalog }
+        ensures blames { OfStores D.is_clean S.is_clean self.new.machines → OfStores D.is_sound S.is_sound self.old.machines → IfErr result (StopsFor (counts D.refused S.refused self.old.machines) (counts D.refused S.refused self.new.machines)) }
         ensures ok { (db : Database) → IsOfCatalogue db → db.catalogue ≡ catalogue_of self.old.machines.desk.catalog → OfStores D.is_clean S.is_clean self.new.machines → OfStores D.is_sound S.is_sound self.old.machines → AreFit db (counted D.kept S.kept D.refused S.refused self.old.machines)
             → IsTextOf db.schemas text.now command.now → IfOk result (λ heard. Executes db text.now self.old.current (counted D.kept S.kept D.refused S.refused self.old.machines) self.new.current (counted D.kept S.kept D.refused S.refused self.new.machines) heard.items) }
         ensures denied { (db : Database) → IsOfCatalogue db → db.catalogue ≡ catalogue_of self.old.machines.desk.catalog → OfStores D.is_clean S.is_clean self.new.machines → OfStores D.is_sound S.is_sound self.old.machines → AreFit db (counted D.kept S.kept D.refused S.refused self.old.machines)
@@ -279,6 +285,7 @@ impl<D: DeskStore, S: SiteStore> Solo<D, S> {
         ensures clean { OfStores D.is_clean S.is_clean self.new.machines → OfStores D.is_clean S.is_clean self.old.machines }
         ensures sound { OfStores D.is_clean S.is_clean self.new.machines → OfStores D.is_sound S.is_sound self.old.machines → OfStores D.is_sound S.is_sound self.new.machines }
         ensures catalog { self.new.machines.desk.catalog ≡ self.old.machines.desk.catalog }
+        ensures blames { OfStores D.is_clean S.is_clean self.new.machines → OfStores D.is_sound S.is_sound self.old.machines → IfErr result (StopsFor (counts D.refused S.refused self.old.machines) (counts D.refused S.refused self.new.machines)) }
         ensures ok { (db : Database) → IsOfCatalogue db → db.catalogue ≡ catalogue_of self.old.machines.desk.catalog → OfStores D.is_clean S.is_clean self.new.machines → OfStores D.is_sound S.is_sound self.old.machines → AreFit db (counted D.kept S.kept D.refused S.refused self.old.machines)
             → IfOk result (λ heard. Executes db text.now self.old.current (counted D.kept S.kept D.refused S.refused self.old.machines) self.new.current (counted D.kept S.kept D.refused S.refused self.new.machines) heard.items) }
         ensures denied { (db : Database) → IsOfCatalogue db → db.catalogue ≡ catalogue_of self.old.machines.desk.catalog → OfStores D.is_clean S.is_clean self.new.machines → OfStores D.is_sound S.is_sound self.old.machines → AreFit db (counted D.kept S.kept D.refused S.refused self.old.machines)
@@ -302,7 +309,7 @@ impl<D: DeskStore, S: SiteStore> Solo<D, S> {
     /// statement, or that its transaction has begun, was committed, or was rolled back. What is refused is a letter, by a machine at a limit
     /// or for a leaf that its site doesn't have, a write, by a full visit, or a store call, and that only where the medium of a store has
     /// refused meanwhile. Whatever was refused, the command itself too, the next one finds all quiet or the open transaction ready. A refusal
-    /// that stops the database is the answer of every later command.
+    /// that stops the database, since memory ran out or the medium of a store has refused meanwhile, is the answer of every later command.
     pub fn execute(&mut self, text: &str) -> Result<Vec<Notice>, Refusal>
         ensures clean { OfStores D.is_clean S.is_clean self.new.machines → OfStores D.is_clean S.is_clean self.old.machines }
         ensures sound { OfStores D.is_clean S.is_clean self.new.machines → OfStores D.is_sound S.is_sound self.old.machines → OfStores D.is_sound S.is_sound self.new.machines }
@@ -324,6 +331,7 @@ impl<D: DeskStore, S: SiteStore> Solo<D, S> {
             → IfErr result (Denies (database (catalogue_of self.old.machines.desk.catalog)) text.now self.old.current (counted D.kept S.kept D.refused S.refused self.old.machines)) }
         ensures declined { self.old.stopped ≡ None → OfStores D.is_clean S.is_clean self.new.machines → OfStores D.is_sound S.is_sound self.old.machines → AreFit (database (catalogue_of self.old.machines.desk.catalog)) (counted D.kept S.kept D.refused S.refused self.old.machines)
             → IfErr result (Declines (database (catalogue_of self.old.machines.desk.catalog)) text.now self.old.current (counted D.kept S.kept D.refused S.refused self.old.machines) (counted D.kept S.kept D.refused S.refused self.new.machines)) }
+        ensures blames { self.old.stopped ≡ None → OfStores D.is_clean S.is_clean self.new.machines → OfStores D.is_sound S.is_sound self.old.machines → IfErr result (StopsFor (counts D.refused S.refused self.old.machines) (counts D.refused S.refused self.new.machines)) }
         ensures inside { (txn : TxnNow) → self.old.stopped ≡ None → self.old.current ≡ Some txn → IsTextOf (schemas_of (catalogue_of self.old.machines.desk.catalog)) text.now Begin → (result ≡ Err refusals.Busy) ⊎ (result ≡ Err refusals.Memory) }
         ensures outside { self.old.stopped ≡ None → self.old.current ≡ None → IsTextOf (schemas_of (catalogue_of self.old.machines.desk.catalog)) text.now Commit ⊎ IsTextOf (schemas_of (catalogue_of self.old.machines.desk.catalog)) text.now Rollback → (result ≡ Err refusals.NoTransaction) ⊎ (result ≡ Err refusals.Memory) }
         ensures unread { self.old.stopped ≡ None → ((given : CommandNow) → IsTextOf (schemas_of (catalogue_of self.old.machines.desk.catalog)) text.now given → ⊥) → OnOk result ⊥ × IfErr result (IsUnreadable (schemas_of (catalogue_of self.old.machines.desk.catalog)) text.now) }
@@ -358,6 +366,7 @@ impl<D: DeskStore, S: SiteStore> Solo<D, S> {
         ensures broke { (whole : Relations) (entries : List EntryNow) (past : List (Deed (language (database (catalogue_of self.old.machines.desk.catalog))))) (stop : StopNow) → OfStores D.is_clean S.is_clean self.new.machines → OfStores D.is_sound S.is_sound self.old.machines
             → IsServed (database (catalogue_of self.old.machines.desk.catalog)) whole (counted D.kept S.kept D.refused S.refused self.old.machines) past → Tells (database (catalogue_of self.old.machines.desk.catalog)) entries past → result ≡ Err (Stopped stop)
             → WasStopped (database (catalogue_of self.old.machines.desk.catalog)) (fits (catalogue_of self.old.machines.desk.catalog)) whole transactions.now stop.done (counted D.kept S.kept D.refused S.refused self.old.machines) (counted D.kept S.kept D.refused S.refused self.new.machines) entries past }
+        ensures blames { (stop : StopNow) → OfStores D.is_clean S.is_clean self.new.machines → OfStores D.is_sound S.is_sound self.old.machines → result ≡ Err (Stopped stop) → StopsFor (counts D.refused S.refused self.old.machines) (counts D.refused S.refused self.new.machines) stop.refusal }
         ensures served { (whole : Relations) (past : List (Deed (language (database (catalogue_of self.old.machines.desk.catalog))))) → OfStores D.is_clean S.is_clean self.new.machines → OfStores D.is_sound S.is_sound self.old.machines
             → IsServed (database (catalogue_of self.old.machines.desk.catalog)) whole (counted D.kept S.kept D.refused S.refused self.old.machines) past → IsServedOn (database (catalogue_of self.old.machines.desk.catalog)) whole (counted D.kept S.kept D.refused S.refused self.new.machines) past }
         ensures busy { (txn : TxnNow) → self.old.stopped ≡ None → self.old.current ≡ Some txn → (result ≡ Err (Unstarted refusals.Busy)) × (self.new ≡ self.old) }

@@ -14,3 +14,6 @@ returns-in-Ok-clause-ok c = λ db kept over fits.
     let p = c.args.present.now in
     begins db kept p.standings.entries p.undecided p.life p.number fits c.args.sites.now over.sites (table_of c.begin.new.self) c.in_ok-spots.spots.items c.in-Ok.txn c.begun.result.letters c.begun.result.replies
     c.in_ok-spots.ensures c.in-Ok.ensures.ok c.in-Ok.ensures.limits c.in-Ok.ensures.last c.in-Ok.ensures.txn c.begun.ensures.letters (c.begun.ensures.replies c.in_ok-room.ensures.empty)
+
+pub returns-in-Err-clause-own : goal.returns-in-Err-clause-own
+returns-in-Err-clause-own c = ⊎_elim (λ memory. inl memory) (λ full. inr full.0) c.in-Err.ensures.refusal

@@ -1,4 +1,4 @@
-use Rattle.std.proofs.Common.{ap, List, ℕ, subst, sym, ◌∙◌}
+use Rattle.std.proofs.Common.{List, ℕ, subst, sym}
 use Rattle.catalog.specs.declared.relation.SplitRelation.{SplitRelation}
 use Rattle.catalog.specs.Relation.{catalogue_of}
 use Rattle.fragdb.specs.Session.{IsAsideOf}

@@ -8,6 +8,9 @@ use Rattle.world.proofs.Refusing.{if_err}
 use Rattle.std.proofs.Common.{inl}
 use Rattle.world.proofs.Denying.{is_memory, taken_back}
 use Rattle.world.specs.declared.event.Call.TheVariants as call
+use Rattle.world.proofs.Counting.{no_fewer_then}
+use Rattle.world.proofs.Stops.{memory_only, taken_stops}
+use Rattle.world.specs.Counted.{counts}
 use Rattle.world.proofs.alone.commit_alone.Goals as goal
 
 pub returns-in-Ok-clause-ok : goal.returns-in-Ok-clause-ok
@@ -30,3 +33,14 @@ returns-in-Err-clause-denied g c = λ db of is clean sound fit.
     let after = counted g.D.DeskStore.kept g.S.SiteStore.kept g.D.DeskStore.refused g.S.SiteStore.refused c.take_back.new.machines in
     taken_back db c.args.txn (call.Commit c.args.txn) before middle after c.take_back.result c.in-Err.refusal c.take_back.ensures.told (c.in-Err.ensures.denied db of is (c.take_back.ensures.clean clean) sound fit)
     (λ fit_middle. c.take_back.ensures.taken db of (is ∙ ap catalogue_of (sym c.commit.ensures.catalog)) clean (c.commit.ensures.sound (c.take_back.ensures.clean clean) sound) fit_middle)
+
+pub returns-in-Ok-clause-blames : goal.returns-in-Ok-clause-blames
+returns-in-Ok-clause-blames g c = λ clean sound. memory_only c.hears.result (counts g.D.DeskStore.refused g.S.SiteStore.refused c.args.machines.now) (counts g.D.DeskStore.refused g.S.SiteStore.refused c.commit.new.machines) c.hears.ensures.own
+
+pub returns-in-Err-clause-counts : goal.returns-in-Err-clause-counts
+returns-in-Err-clause-counts g c = no_fewer_then (counts g.D.DeskStore.refused g.S.SiteStore.refused c.args.machines.now) (counts g.D.DeskStore.refused g.S.SiteStore.refused c.commit.new.machines) (counts g.D.DeskStore.refused g.S.SiteStore.refused c.take_back.new.machines) c.commit.ensures.counts c.take_back.ensures.counts
+
+pub returns-in-Err-clause-blames : goal.returns-in-Err-clause-blames
+returns-in-Err-clause-blames g c = λ clean sound.
+    taken_stops (counts g.D.DeskStore.refused g.S.SiteStore.refused c.args.machines.now) (counts g.D.DeskStore.refused g.S.SiteStore.refused c.commit.new.machines) (counts g.D.DeskStore.refused g.S.SiteStore.refused c.take_back.new.machines) c.commit.ensures.counts c.take_back.ensures.counts c.in-Err.refusal c.take_back.result
+    (c.in-Err.ensures.blames (c.take_back.ensures.clean clean) sound) (c.take_back.ensures.blames clean (c.commit.ensures.sound (c.take_back.ensures.clean clean) sound))

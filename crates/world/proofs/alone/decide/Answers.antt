@@ -6,6 +6,8 @@ use Rattle.world.proofs.Denying.{not_decided}
 use Rattle.world.proofs.Moving.{if_ok}
 use Rattle.world.proofs.Reaching.{same_on}
 use Rattle.world.proofs.Refusing.{if_err}
+use Rattle.world.proofs.Counting.{no_fewer}
+use Rattle.world.specs.Counted.{counts}
 use Rattle.world.proofs.alone.decide.Goals as goal
 
 pub returns-then-tells_end-clause-ok : goal.returns-then-tells_end-clause-ok
@@ -27,3 +29,6 @@ pub returns-clause-denied : goal.returns-clause-denied
 returns-clause-denied g c = λ db of is clean sound fit.
     let goes_on : tells is_end c.args.told.items ≡ false = ap (tells is_end) (sym c.as_slice.ensures.value) ∙ sym c.tells_end.ensures ∙ c.if-tells_end.false in
     if_err c.commit_alone.result (λ told denied. not_decided db c.args.txn c.args.told.items (counted g.D.DeskStore.kept g.S.SiteStore.kept g.D.DeskStore.refused g.S.SiteStore.refused c.args.machines.now) (counted g.D.DeskStore.kept g.S.SiteStore.kept g.D.DeskStore.refused g.S.SiteStore.refused c.commit_alone.new.machines) told goes_on denied) (c.commit_alone.ensures.denied db of is clean sound fit)
+
+pub returns-then-tells_end-clause-counts : goal.returns-then-tells_end-clause-counts
+returns-then-tells_end-clause-counts g c = no_fewer (counts g.D.DeskStore.refused g.S.SiteStore.refused c.args.machines.now)

@@ -8,6 +8,9 @@ use Rattle.world.proofs.Reaching.{same_on}
 use Rattle.world.proofs.Refusing.{if_err}
 use Rattle.world.specs.Denying.{CommitIsDenied, commit_stops}
 use Rattle.world.proofs.Denying.{is_memory}
+use Rattle.world.proofs.Counting.{no_fewer}
+use Rattle.world.proofs.Stops.{memory_stops}
+use Rattle.world.specs.Counted.{counts}
 use Rattle.world.proofs.alone.go_on.Goals as goal
 
 pub returns-in-Ok-clause-ok : goal.returns-in-Ok-clause-ok
@@ -27,3 +30,9 @@ returns-in-Ok-clause-denied g c = λ db of is clean sound fit.
 
 pub returns-in-Err-clause-denied : goal.returns-in-Err-clause-denied
 returns-in-Err-clause-denied g c = λ db of is clean sound fit. commit_stops (is_memory c.in-Err.refusal c.in-Err.ensures.own)
+
+pub returns-in-Err-clause-counts : goal.returns-in-Err-clause-counts
+returns-in-Err-clause-counts g c = no_fewer (counts g.D.DeskStore.refused g.S.SiteStore.refused c.args.machines.now)
+
+pub returns-in-Err-clause-blames : goal.returns-in-Err-clause-blames
+returns-in-Err-clause-blames g c = λ clean sound. memory_stops (counts g.D.DeskStore.refused g.S.SiteStore.refused c.args.machines.now) (counts g.D.DeskStore.refused g.S.SiteStore.refused c.args.machines.now) c.in-Err.refusal c.in-Err.ensures.own

@@ -6,6 +6,9 @@ use Rattle.world.proofs.Moving.{if_ok}
 use Rattle.world.proofs.Reaching.{then_on}
 use Rattle.world.proofs.Refusing.{if_err}
 use Rattle.world.specs.Denying.{has_begun_but, has_not_begun}
+use Rattle.world.proofs.Counting.{no_fewer_then}
+use Rattle.world.proofs.Stops.{call_since}
+use Rattle.world.specs.Counted.{counts}
 use Rattle.world.proofs.alone.run_alone.Goals as goal
 
 pub returns-in-Ok-clause-ok : goal.returns-in-Ok-clause-ok
@@ -28,3 +31,9 @@ returns-in-Ok-clause-denied g c = λ db of is clean sound fit.
 
 pub returns-in-Err-clause-denied : goal.returns-in-Err-clause-denied
 returns-in-Err-clause-denied g c = λ db of is clean sound fit. has_not_begun (c.in-Err.ensures.denied db of is clean sound fit)
+
+pub returns-in-Ok-clause-counts : goal.returns-in-Ok-clause-counts
+returns-in-Ok-clause-counts g c = no_fewer_then (counts g.D.DeskStore.refused g.S.SiteStore.refused c.args.machines.now) (counts g.D.DeskStore.refused g.S.SiteStore.refused c.begin.new.machines) (counts g.D.DeskStore.refused g.S.SiteStore.refused c.run_begun.new.machines) c.begin.ensures.counts c.run_begun.ensures.counts
+
+pub returns-in-Ok-clause-blames : goal.returns-in-Ok-clause-blames
+returns-in-Ok-clause-blames g c = λ clean sound. call_since c.run_begun.result (counts g.D.DeskStore.refused g.S.SiteStore.refused c.args.machines.now) (counts g.D.DeskStore.refused g.S.SiteStore.refused c.begin.new.machines) (counts g.D.DeskStore.refused g.S.SiteStore.refused c.run_begun.new.machines) c.begin.ensures.counts (c.run_begun.ensures.blames clean (c.begin.ensures.sound (c.run_begun.ensures.clean clean) sound))

@@ -8,6 +8,9 @@ use Rattle.world.proofs.Refusing.{if_err}
 use Rattle.world.proofs.Denying.{not_stated, taken_back}
 use Rattle.world.specs.Denying.{is_not_committed}
 use Rattle.world.specs.declared.event.Call.TheVariants as call
+use Rattle.world.proofs.Counting.{no_fewer_then}
+use Rattle.world.proofs.Stops.{call_since, taken_stops}
+use Rattle.world.specs.Counted.{counts}
 use Rattle.world.proofs.alone.run_begun.Goals as goal
 
 pub returns-in-Ok-clause-ok : goal.returns-in-Ok-clause-ok
@@ -42,3 +45,17 @@ returns-in-Err-clause-denied g c = λ db of is clean sound fit.
     not_stated db c.args.text.now c.args.begun.txn c.args.begun.heard.items before after c.take_back.result
     (taken_back db c.args.begun.txn (call.State c.args.begun.txn c.args.text.now) before middle after c.take_back.result c.in-Err.refusal c.take_back.ensures.told (c.in-Err.ensures.denied db of is (c.take_back.ensures.clean clean) sound fit)
     (λ fit_middle. c.take_back.ensures.taken db of (is ∙ ap catalogue_of (sym c.state.ensures.catalog)) clean (c.state.ensures.sound (c.take_back.ensures.clean clean) sound) fit_middle))
+
+pub returns-in-Ok-clause-counts : goal.returns-in-Ok-clause-counts
+returns-in-Ok-clause-counts g c = no_fewer_then (counts g.D.DeskStore.refused g.S.SiteStore.refused c.args.machines.now) (counts g.D.DeskStore.refused g.S.SiteStore.refused c.state.new.machines) (counts g.D.DeskStore.refused g.S.SiteStore.refused c.go_on.new.machines) c.state.ensures.counts c.go_on.ensures.counts
+
+pub returns-in-Ok-clause-blames : goal.returns-in-Ok-clause-blames
+returns-in-Ok-clause-blames g c = λ clean sound. call_since c.go_on.result (counts g.D.DeskStore.refused g.S.SiteStore.refused c.args.machines.now) (counts g.D.DeskStore.refused g.S.SiteStore.refused c.state.new.machines) (counts g.D.DeskStore.refused g.S.SiteStore.refused c.go_on.new.machines) c.state.ensures.counts (c.go_on.ensures.blames clean (c.state.ensures.sound (c.go_on.ensures.clean clean) sound))
+
+pub returns-in-Err-clause-counts : goal.returns-in-Err-clause-counts
+returns-in-Err-clause-counts g c = no_fewer_then (counts g.D.DeskStore.refused g.S.SiteStore.refused c.args.machines.now) (counts g.D.DeskStore.refused g.S.SiteStore.refused c.state.new.machines) (counts g.D.DeskStore.refused g.S.SiteStore.refused c.take_back.new.machines) c.state.ensures.counts c.take_back.ensures.counts
+
+pub returns-in-Err-clause-blames : goal.returns-in-Err-clause-blames
+returns-in-Err-clause-blames g c = λ clean sound.
+    taken_stops (counts g.D.DeskStore.refused g.S.SiteStore.refused c.args.machines.now) (counts g.D.DeskStore.refused g.S.SiteStore.refused c.state.new.machines) (counts g.D.DeskStore.refused g.S.SiteStore.refused c.take_back.new.machines) c.state.ensures.counts c.take_back.ensures.counts c.in-Err.refusal c.take_back.result
+    (c.in-Err.ensures.blames (c.take_back.ensures.clean clean) sound) (c.take_back.ensures.blames clean (c.state.ensures.sound (c.take_back.ensures.clean clean) sound))

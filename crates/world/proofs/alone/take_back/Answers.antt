@@ -4,6 +4,8 @@ use Rattle.world.specs.Held.{counted}
 use Rattle.world.specs.Denying.{is_rolled_back}
 use Rattle.world.proofs.Denying.{rolled_back}
 use Rattle.world.proofs.Reaching.{same_on}
+use Rattle.world.proofs.Counting.{no_fewer}
+use Rattle.world.specs.Counted.{counts}
 use Rattle.world.proofs.alone.take_back.Goals as goal
 
 pub returns-then-is_stop-clause-served : goal.returns-then-is_stop-clause-served
@@ -17,3 +19,6 @@ returns-in-Ok-clause-taken g c = λ db of is clean sound fit. inr (is_rolled_bac
 pub returns-else-is_stop-2-clause-taken : goal.returns-else-is_stop-2-clause-taken
 returns-else-is_stop-2-clause-taken g c = λ db of is clean sound fit.
     rolled_back db c.args.txn (counted g.D.DeskStore.kept g.S.SiteStore.kept g.D.DeskStore.refused g.S.SiteStore.refused c.args.machines.now) (counted g.D.DeskStore.kept g.S.SiteStore.kept g.D.DeskStore.refused g.S.SiteStore.refused c.roll_back.new.machines) c.args.refusal c.in-Err.other (sym c.is_stop-in-Err.ensures ∙ c.if-is_stop-2.false) (c.in-Err.ensures.denied db of is clean sound fit)
+
+pub returns-then-is_stop-clause-counts : goal.returns-then-is_stop-clause-counts
+returns-then-is_stop-clause-counts g c = no_fewer (counts g.D.DeskStore.refused g.S.SiteStore.refused c.args.machines.now)

@@ -5,6 +5,9 @@ use Rattle.world.specs.declared.event.Call.TheVariants as call
 use Rattle.world.specs.Held.{counted}
 use Rattle.world.proofs.Batches.{came_of, one_more}
 use Rattle.world.proofs.Reaching.{same_on}
+use Rattle.world.proofs.Counting.{no_fewer}
+use Rattle.world.proofs.Stops.{memory_stops, told_on, told_stops}
+use Rattle.world.specs.Counted.{counts}
 use Rattle.world.proofs.batch.ask_rollback.Goals as goal
 
 pub returns-clause-ok : goal.returns-clause-ok
@@ -19,3 +22,14 @@ pub returns-in_err-make_room-clause-served : goal.returns-in_err-make_room-claus
 returns-in_err-make_room-clause-served g c = λ db whole past of law is clean sound served.
     let here = counted g.D.DeskStore.kept g.S.SiteStore.kept g.D.DeskStore.refused g.S.SiteStore.refused c.args.machines.now in
     same_on db law whole here here past served refl
+
+pub returns-in_err-make_room-clause-counts : goal.returns-in_err-make_room-clause-counts
+returns-in_err-make_room-clause-counts g c = no_fewer (counts g.D.DeskStore.refused g.S.SiteStore.refused c.args.machines.now)
+
+pub returns-in_err-make_room-clause-blames : goal.returns-in_err-make_room-clause-blames
+returns-in_err-make_room-clause-blames g c = λ clean sound. told_on c.from_residual.result c.in_err-make_room.field-0.0 (counts g.D.DeskStore.refused g.S.SiteStore.refused c.args.machines.now) (counts g.D.DeskStore.refused g.S.SiteStore.refused c.args.machines.now) c.from_residual.ensures.1 (memory_stops (counts g.D.DeskStore.refused g.S.SiteStore.refused c.args.machines.now) (counts g.D.DeskStore.refused g.S.SiteStore.refused c.args.machines.now) c.in_err-make_room.field-0.0 c.in_err-make_room.ensures.memory)
+
+pub returns-in_err-one-clause-blames : goal.returns-in_err-one-clause-blames
+returns-in_err-one-clause-blames g c = λ clean sound.
+    told_on c.from_residual-in_err-one.result c.in_err-one.field-0.0 (counts g.D.DeskStore.refused g.S.SiteStore.refused c.args.machines.now) (counts g.D.DeskStore.refused g.S.SiteStore.refused c.roll_back.new.machines) c.from_residual-in_err-one.ensures.1
+    (told_stops _ (λ heard. heard.items) c.roll_back.result c.told.result c.in_err-one.field-0.0 (counts g.D.DeskStore.refused g.S.SiteStore.refused c.args.machines.now) (counts g.D.DeskStore.refused g.S.SiteStore.refused c.roll_back.new.machines) c.in_err-one.was c.told.ensures.heard c.told.ensures.refused (c.roll_back.ensures.blames clean sound))

@@ -8,6 +8,10 @@ use Rattle.world.specs.Batch.{RunsAll}
 use Rattle.world.specs.Held.{counted}
 use Rattle.world.proofs.Batches.{all_fit, runs_next, stops_here}
 use Rattle.world.proofs.Reaching.{same_on, then_on}
+use Rattle.world.proofs.Counting.{no_fewer, no_fewer_then}
+use Rattle.world.specs.Stopping.{StopsFor}
+use Rattle.world.proofs.Stops.{memory_stops, stops_since}
+use Rattle.world.specs.Counted.{counts}
 use Rattle.world.proofs.batch.run_all.Goals as goal
 
 pub loop-transaction-init : goal.loop-transaction-init
@@ -17,6 +21,7 @@ loop-transaction-init g c =
       clean = λ x. x;
       sound = λ x s. s;
       catalog = refl;
+      counts = no_fewer (counts g.D.DeskStore.refused g.S.SiteStore.refused c.args.machines.now);
       runs = λ db of is clean sound fit. subst (λ (done : List outcomes.Outcome). RunsAll db [] done here here) (sym c.new-outcomes.ensures.items) refl;
       served = λ db whole past of law is clean sound served. same_on db law whole here here past served refl;
     }
@@ -30,6 +35,7 @@ loop-transaction-preserved g c =
       clean = λ x. c.loop-transaction.invariant.clean (c.run_one.ensures.clean x);
       sound = λ x s. c.run_one.ensures.sound x (c.loop-transaction.invariant.sound (c.run_one.ensures.clean x) s);
       catalog = c.run_one.ensures.catalog ∙ c.loop-transaction.invariant.catalog;
+      counts = no_fewer_then (counts g.D.DeskStore.refused g.S.SiteStore.refused c.args.machines.now) (counts g.D.DeskStore.refused g.S.SiteStore.refused c.loop-transaction.machines) (counts g.D.DeskStore.refused g.S.SiteStore.refused c.run_one.new.machines) c.loop-transaction.invariant.counts c.run_one.ensures.counts;
       runs = λ db of is clean sound fit.
           let clean_here = c.run_one.ensures.clean clean in
           let so_far = c.loop-transaction.invariant.runs db of is clean_here sound fit in
@@ -70,3 +76,14 @@ returns-in-Err-run_one-clause-served g c = λ db whole past of law is clean soun
     then_on db law whole (counted g.D.DeskStore.kept g.S.SiteStore.kept g.D.DeskStore.refused g.S.SiteStore.refused c.args.machines.now) (counted g.D.DeskStore.kept g.S.SiteStore.kept g.D.DeskStore.refused g.S.SiteStore.refused c.loop-transaction.machines) (counted g.D.DeskStore.kept g.S.SiteStore.kept g.D.DeskStore.refused g.S.SiteStore.refused c.run_one.new.machines) past
     (c.loop-transaction.invariant.served db whole past of law is (c.run_one.ensures.clean clean) sound served)
     (λ more so. c.run_one.ensures.served db whole more of law (is ∙ ap catalogue_of (sym c.loop-transaction.invariant.catalog)) clean (c.loop-transaction.invariant.sound (c.run_one.ensures.clean clean) sound) so)
+
+pub returns-in-Err-clause-blames : goal.returns-in-Err-clause-blames
+returns-in-Err-clause-blames g c = λ clean sound. memory_stops (counts g.D.DeskStore.refused g.S.SiteStore.refused c.args.machines.now) (counts g.D.DeskStore.refused g.S.SiteStore.refused c.loop-transaction.machines) c.stop.result.refusal (c.stop.ensures.1 ∙ c.in-Err.ensures.memory)
+
+pub returns-in-Err-run_one-clause-counts : goal.returns-in-Err-run_one-clause-counts
+returns-in-Err-run_one-clause-counts g c = no_fewer_then (counts g.D.DeskStore.refused g.S.SiteStore.refused c.args.machines.now) (counts g.D.DeskStore.refused g.S.SiteStore.refused c.loop-transaction.machines) (counts g.D.DeskStore.refused g.S.SiteStore.refused c.run_one.new.machines) c.loop-transaction.invariant.counts c.run_one.ensures.counts
+
+pub returns-in-Err-run_one-clause-blames : goal.returns-in-Err-run_one-clause-blames
+returns-in-Err-run_one-clause-blames g c = λ clean sound.
+    subst (StopsFor (counts g.D.DeskStore.refused g.S.SiteStore.refused c.args.machines.now) (counts g.D.DeskStore.refused g.S.SiteStore.refused c.run_one.new.machines)) (sym c.stop-in-Err-run_one.ensures.1)
+    (stops_since (counts g.D.DeskStore.refused g.S.SiteStore.refused c.args.machines.now) (counts g.D.DeskStore.refused g.S.SiteStore.refused c.loop-transaction.machines) (counts g.D.DeskStore.refused g.S.SiteStore.refused c.run_one.new.machines) c.loop-transaction.invariant.counts c.in-Err-run_one.refusal (c.in-Err-run_one.ensures.blames clean (c.loop-transaction.invariant.sound (c.run_one.ensures.clean clean) sound)))

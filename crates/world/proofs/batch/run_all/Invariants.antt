@@ -6,6 +6,7 @@ use Rattle.protocol.specs.Client.{ReachedLaw}
 use Rattle.protocol.specs.Desk.{Deed}
 use Rattle.desk.specs.Database.{Database, language}
 use Rattle.desk.specs.OfCatalogue.{IsOfCatalogue}
+use Rattle.world.specs.Counted.{NoFewer, counts}
 use Rattle.world.specs.Batch.{RunsAll}
 use Rattle.world.specs.Held.{OfStores, counted}
 use Rattle.world.specs.Machines.{AreFit}
@@ -17,6 +18,7 @@ invariant-loop-transaction g l = record {
   clean : OfStores g.D.DeskStore.is_clean g.S.SiteStore.is_clean l.machines → OfStores g.D.DeskStore.is_clean g.S.SiteStore.is_clean l.fn.machines;
   sound : OfStores g.D.DeskStore.is_clean g.S.SiteStore.is_clean l.machines → OfStores g.D.DeskStore.is_sound g.S.SiteStore.is_sound l.fn.machines → OfStores g.D.DeskStore.is_sound g.S.SiteStore.is_sound l.machines;
   catalog : l.machines.desk.catalog ≡ l.fn.machines.desk.catalog;
+  counts : NoFewer (counts g.D.DeskStore.refused g.S.SiteStore.refused l.fn.machines) (counts g.D.DeskStore.refused g.S.SiteStore.refused l.machines);
   runs : (db : Database) → IsOfCatalogue db → db.catalogue ≡ catalogue_of l.fn.machines.desk.catalog → OfStores g.D.DeskStore.is_clean g.S.SiteStore.is_clean l.machines → OfStores g.D.DeskStore.is_sound g.S.SiteStore.is_sound l.fn.machines
       → AreFit db (counted g.D.DeskStore.kept g.S.SiteStore.kept g.D.DeskStore.refused g.S.SiteStore.refused l.fn.machines) → RunsAll db (take l.transaction-index l.transactions) l.outcomes.items (counted g.D.DeskStore.kept g.S.SiteStore.kept g.D.DeskStore.refused g.S.SiteStore.refused l.fn.machines) (counted g.D.DeskStore.kept g.S.SiteStore.kept g.D.DeskStore.refused g.S.SiteStore.refused l.machines);
   served : (db : Database) (whole : Relations) (past : List (Deed (language db))) → IsOfCatalogue db → ReachedLaw (language db) → db.catalogue ≡ catalogue_of l.fn.machines.desk.catalog → OfStores g.D.DeskStore.is_clean g.S.SiteStore.is_clean l.machines → OfStores g.D.DeskStore.is_sound g.S.SiteStore.is_sound l.fn.machines

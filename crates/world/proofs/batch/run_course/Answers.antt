@@ -6,6 +6,9 @@ use Rattle.world.specs.declared.transaction.Came as cames
 use Rattle.world.specs.Batch.{Makes, calls_of}
 use Rattle.world.proofs.Batches.{course_made, makes_fit}
 use Rattle.world.proofs.Reaching.{then_on}
+use Rattle.world.proofs.Counting.{no_fewer_then}
+use Rattle.world.proofs.Stops.{stops_since, told_on}
+use Rattle.world.specs.Counted.{counts}
 use Rattle.world.proofs.batch.run_course.Goals as goal
 
 pub returns-clause-ok : goal.returns-clause-ok
@@ -33,3 +36,17 @@ returns-in_err-came-clause-served g c = λ db whole past of law is clean sound s
     then_on db law whole (counted g.D.DeskStore.kept g.S.SiteStore.kept g.D.DeskStore.refused g.S.SiteStore.refused c.args.machines.now) (counted g.D.DeskStore.kept g.S.SiteStore.kept g.D.DeskStore.refused g.S.SiteStore.refused c.state_all.new.machines) (counted g.D.DeskStore.kept g.S.SiteStore.kept g.D.DeskStore.refused g.S.SiteStore.refused c.finish.new.machines) past
     (c.state_all.ensures.served db whole past of law is (c.finish.ensures.clean clean) sound served)
     (λ more so. c.finish.ensures.served db whole more of law (is ∙ ap catalogue_of (sym c.state_all.ensures.catalog)) clean (c.state_all.ensures.sound (c.finish.ensures.clean clean) sound) so)
+
+pub returns-clause-counts : goal.returns-clause-counts
+returns-clause-counts g c = no_fewer_then (counts g.D.DeskStore.refused g.S.SiteStore.refused c.args.machines.now) (counts g.D.DeskStore.refused g.S.SiteStore.refused c.state_all.new.machines) (counts g.D.DeskStore.refused g.S.SiteStore.refused c.finish.new.machines) c.state_all.ensures.counts c.finish.ensures.counts
+
+pub returns-in_err-came-clause-counts : goal.returns-in_err-came-clause-counts
+returns-in_err-came-clause-counts g c = no_fewer_then (counts g.D.DeskStore.refused g.S.SiteStore.refused c.args.machines.now) (counts g.D.DeskStore.refused g.S.SiteStore.refused c.state_all.new.machines) (counts g.D.DeskStore.refused g.S.SiteStore.refused c.finish.new.machines) c.state_all.ensures.counts c.finish.ensures.counts
+
+pub returns-in_err-stated-clause-blames : goal.returns-in_err-stated-clause-blames
+returns-in_err-stated-clause-blames g c = λ clean sound. told_on c.from_residual.result c.in_err-stated.field-0.0 (counts g.D.DeskStore.refused g.S.SiteStore.refused c.args.machines.now) (counts g.D.DeskStore.refused g.S.SiteStore.refused c.state_all.new.machines) c.from_residual.ensures.1 (c.in_err-stated.ensures.blames clean sound)
+
+pub returns-in_err-came-clause-blames : goal.returns-in_err-came-clause-blames
+returns-in_err-came-clause-blames g c = λ clean sound.
+    told_on c.from_residual-in_err-came.result c.in_err-came.field-0.0 (counts g.D.DeskStore.refused g.S.SiteStore.refused c.args.machines.now) (counts g.D.DeskStore.refused g.S.SiteStore.refused c.finish.new.machines) c.from_residual-in_err-came.ensures.1
+    (stops_since (counts g.D.DeskStore.refused g.S.SiteStore.refused c.args.machines.now) (counts g.D.DeskStore.refused g.S.SiteStore.refused c.state_all.new.machines) (counts g.D.DeskStore.refused g.S.SiteStore.refused c.finish.new.machines) c.state_all.ensures.counts c.in_err-came.field-0.0 (c.in_err-came.ensures.blames clean (c.state_all.ensures.sound (c.finish.ensures.clean clean) sound)))

@@ -8,6 +8,9 @@ use Rattle.world.specs.Batch.{Makes}
 use Rattle.world.specs.Held.{counted}
 use Rattle.world.proofs.Batches.{came_of, makes_fit, next_last, next_open}
 use Rattle.world.proofs.Reaching.{same_on, then_on}
+use Rattle.world.proofs.Counting.{no_fewer, no_fewer_then}
+use Rattle.world.proofs.Stops.{memory_stops, stops_since, told_on, told_stops}
+use Rattle.world.specs.Counted.{counts}
 use Rattle.world.proofs.batch.state_all.Goals as goal
 
 pub loop-text-init : goal.loop-text-init
@@ -17,6 +20,7 @@ loop-text-init g c =
       clean = λ x. x;
       sound = λ x s. s;
       catalog = refl;
+      counts = no_fewer (counts g.D.DeskStore.refused g.S.SiteStore.refused c.args.machines.now);
       makes = λ db of is clean sound fit. subst (λ (came : List cames.Came). Makes db [] came false here here) (sym c.new-came.ensures.items) (refl, refl);
       served = λ db whole past of law is clean sound served. same_on db law whole here here past served refl;
     }
@@ -30,6 +34,7 @@ loop-text-preserved g c =
       clean = λ x. c.loop-text.invariant.clean (c.state.ensures.clean x);
       sound = λ x s. c.state.ensures.sound x (c.loop-text.invariant.sound (c.state.ensures.clean x) s);
       catalog = c.state.ensures.catalog ∙ c.loop-text.invariant.catalog;
+      counts = no_fewer_then (counts g.D.DeskStore.refused g.S.SiteStore.refused c.args.machines.now) (counts g.D.DeskStore.refused g.S.SiteStore.refused c.loop-text.machines) (counts g.D.DeskStore.refused g.S.SiteStore.refused c.state.new.machines) c.loop-text.invariant.counts c.state.ensures.counts;
       makes = λ db of is clean sound fit.
           let so_far = c.loop-text.invariant.makes db of is (c.state.ensures.clean clean) sound fit in
           let fit_here = makes_fit db _ c.loop-text.came.items false before middle fit so_far in
@@ -74,3 +79,17 @@ pub returns-clause-ok : goal.returns-clause-ok
 returns-clause-ok g c = λ db of is clean sound fit.
     subst (λ (texts : List (List ℕ)). Makes db (map (λ (text : List ℕ). call.State c.args.txn text) texts) c.loop-text.came.items false (counted g.D.DeskStore.kept g.S.SiteStore.kept g.D.DeskStore.refused g.S.SiteStore.refused c.args.machines.now) (counted g.D.DeskStore.kept g.S.SiteStore.kept g.D.DeskStore.refused g.S.SiteStore.refused c.loop-text.machines))
     (take_all c.loop-text.text-index c.args.texts.now (omega arith)) (c.loop-text.invariant.makes db of is clean sound fit)
+
+pub returns-then-ended-clause-counts : goal.returns-then-ended-clause-counts
+returns-then-ended-clause-counts g c = no_fewer_then (counts g.D.DeskStore.refused g.S.SiteStore.refused c.args.machines.now) (counts g.D.DeskStore.refused g.S.SiteStore.refused c.loop-text.machines) (counts g.D.DeskStore.refused g.S.SiteStore.refused c.state.new.machines) c.loop-text.invariant.counts c.state.ensures.counts
+
+pub returns-in_err-make_room-clause-blames : goal.returns-in_err-make_room-clause-blames
+returns-in_err-make_room-clause-blames g c = λ clean sound. told_on c.from_residual.result c.in_err-make_room.field-0.0 (counts g.D.DeskStore.refused g.S.SiteStore.refused c.args.machines.now) (counts g.D.DeskStore.refused g.S.SiteStore.refused c.loop-text.machines) c.from_residual.ensures.1 (memory_stops (counts g.D.DeskStore.refused g.S.SiteStore.refused c.args.machines.now) (counts g.D.DeskStore.refused g.S.SiteStore.refused c.loop-text.machines) c.in_err-make_room.field-0.0 c.in_err-make_room.ensures.memory)
+
+pub returns-in_err-one-clause-counts : goal.returns-in_err-one-clause-counts
+returns-in_err-one-clause-counts g c = no_fewer_then (counts g.D.DeskStore.refused g.S.SiteStore.refused c.args.machines.now) (counts g.D.DeskStore.refused g.S.SiteStore.refused c.loop-text.machines) (counts g.D.DeskStore.refused g.S.SiteStore.refused c.state.new.machines) c.loop-text.invariant.counts c.state.ensures.counts
+
+pub returns-in_err-one-clause-blames : goal.returns-in_err-one-clause-blames
+returns-in_err-one-clause-blames g c = λ clean sound.
+    told_on c.from_residual-in_err-one.result c.in_err-one.field-0.0 (counts g.D.DeskStore.refused g.S.SiteStore.refused c.args.machines.now) (counts g.D.DeskStore.refused g.S.SiteStore.refused c.state.new.machines) c.from_residual-in_err-one.ensures.1
+    (stops_since (counts g.D.DeskStore.refused g.S.SiteStore.refused c.args.machines.now) (counts g.D.DeskStore.refused g.S.SiteStore.refused c.loop-text.machines) (counts g.D.DeskStore.refused g.S.SiteStore.refused c.state.new.machines) c.loop-text.invariant.counts c.in_err-one.field-0.0 (told_stops _ (λ heard. heard.items) c.state.result c.told.result c.in_err-one.field-0.0 (counts g.D.DeskStore.refused g.S.SiteStore.refused c.loop-text.machines) (counts g.D.DeskStore.refused g.S.SiteStore.refused c.state.new.machines) c.in_err-one.was c.told.ensures.heard c.told.ensures.refused (c.state.ensures.blames clean (c.loop-text.invariant.sound (c.state.ensures.clean clean) sound))))

@@ -5,9 +5,10 @@ use Rattle.world.specs.Delivering.{Goes}
 use Rattle.world.specs.Counted.{counts}
 use Rattle.world.specs.Held.{counted, held}
 use Rattle.world.specs.Taking.{scene}
-use Rattle.world.proofs.Counting.{fit_uncounted}
+use Rattle.world.proofs.Counting.{fit_uncounted, no_fewer}
 use Rattle.world.proofs.Deliveries.{comes_breaks, comes_goes, comes_ranked, nothing_breaks, nothing_goes}
 use Rattle.world.proofs.Moving.{on_any_err, on_both, on_ok}
+use Rattle.world.proofs.Stops.{memory_only}
 use Rattle.world.proofs.delivering.deliver_next.Goals as goal
 
 pub returns-in_default-clause-ok : goal.returns-in_default-clause-ok
@@ -43,3 +44,9 @@ returns-in-Err-clause-err g c = λ db of is clean sound fit.
     let old = counts g.D.DeskStore.refused g.S.SiteStore.refused c.args.machines.now in
     let new = counts g.D.DeskStore.refused g.S.SiteStore.refused c.deliver_one.new.machines in
     nothing_breaks db before after old new c.args.post.now.waiting.items c.args.post.now.heard.items (c.in-Err.ensures.err clean sound) (fit_uncounted db before old fit)
+
+pub returns-in_default-clause-counts : goal.returns-in_default-clause-counts
+returns-in_default-clause-counts g c = no_fewer (counts g.D.DeskStore.refused g.S.SiteStore.refused c.args.machines.now)
+
+pub returns-in-Ok-clause-blames : goal.returns-in-Ok-clause-blames
+returns-in-Ok-clause-blames g c = λ clean sound. memory_only c.add.result (counts g.D.DeskStore.refused g.S.SiteStore.refused c.args.machines.now) (counts g.D.DeskStore.refused g.S.SiteStore.refused c.deliver_one.new.machines) c.add.ensures.own

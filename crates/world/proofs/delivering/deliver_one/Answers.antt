@@ -1,5 +1,5 @@
 -- Why `deliver_one` meets its contract.
-use Rattle.std.proofs.Common.{◌∙◌, sym, ap, subst}
+use Rattle.std.proofs.Common.{◌∙◌, sym, ap, subst, IfSome, Option}
 use Rattle.catalog.specs.Relation.{catalogue_of}
 use Rattle.world.specs.Counted.{counts}
 use Rattle.world.specs.Held.{counted, held}
@@ -9,6 +9,9 @@ use Rattle.world.proofs.Deliveries.{passed_over, turned_away}
 use Rattle.world.proofs.Moving.{if_ok}
 use Rattle.world.proofs.Reasoned.{is_unsent, turned_away as is_turned}
 use Rattle.world.proofs.Running.{no_choice, over_of}
+use Rattle.desk.specs.declared.refusal.Refusal.{Refusal}
+use Rattle.world.specs.Stopping.{StopsFor}
+use Rattle.world.proofs.Stops.{memory_only}
 use Rattle.world.proofs.delivering.deliver_one.Goals as goal
 
 pub returns-in-None-clause-ok : goal.returns-in-None-clause-ok
@@ -37,3 +40,12 @@ returns-in-None-2-clause-ok g c = λ db of is clean sound fit.
     let new = counts g.D.DeskStore.refused g.S.SiteStore.refused c.take.new.machines in
     let none = is_unsent db (counted g.D.DeskStore.kept content g.D.DeskStore.refused g.S.SiteStore.refused c.args.machines.now) c.args.letter c.in-Err.fault told (sym c.stopping.ensures ∙ c.in-None-2.is) (sym c.turns_away-is_turned_away.ensures ∙ c.if-is_turned_away.false) in
     passed_over db c.args.letter before after c.put_out.result.letters c.put_out.result.replies old new c.take.ensures.counts (fit_uncounted db before old fit) none (c.in-Err.ensures.err clean sound) (c.put_out.ensures.letters ∙ c.new.ensures.items) c.put_out.ensures.replies
+
+pub returns-in-None-clause-counts : goal.returns-in-None-clause-counts
+returns-in-None-clause-counts g c = no_fewer_then (counts g.D.DeskStore.refused g.S.SiteStore.refused c.args.machines.now) (counts g.D.DeskStore.refused g.S.SiteStore.refused c.take.new.machines) (counts g.D.DeskStore.refused g.S.SiteStore.refused c.give_up.new.self) c.take.ensures.counts (none_fewer (counts g.D.DeskStore.refused g.S.SiteStore.refused c.take.new.machines) (counts g.D.DeskStore.refused g.S.SiteStore.refused c.give_up.new.self) c.give_up.ensures.uncalled)
+
+pub returns-in-Some-clause-blames : goal.returns-in-Some-clause-blames
+returns-in-Some-clause-blames g c = λ clean sound. subst (λ (stop : Option Refusal). IfSome stop (StopsFor (counts g.D.DeskStore.refused g.S.SiteStore.refused c.args.machines.now) (counts g.D.DeskStore.refused g.S.SiteStore.refused c.take.new.machines))) (sym c.stopping.ensures ∙ c.in-Some.is) (c.in-Err.ensures.blames clean sound)
+
+pub returns-in-None-clause-blames : goal.returns-in-None-clause-blames
+returns-in-None-clause-blames g c = λ clean sound. memory_only c.give_up.result (counts g.D.DeskStore.refused g.S.SiteStore.refused c.args.machines.now) (counts g.D.DeskStore.refused g.S.SiteStore.refused c.give_up.new.self) c.give_up.ensures.own

@@ -5,6 +5,9 @@ use Rattle.world.specs.Held.{counted}
 use Rattle.world.specs.Taking.{IsInRound, scene}
 use Rattle.world.proofs.Deliveries.{all_in_round, nothing_goes, then_breaks, then_goes}
 use Rattle.world.proofs.Moving.{on_any_err}
+use Rattle.world.proofs.Counting.{no_fewer, no_fewer_then}
+use Rattle.world.proofs.Stops.{stops_since, told_on}
+use Rattle.world.specs.Counted.{counts}
 use Rattle.world.proofs.delivering.deliver_round.Goals as goal
 
 pub loop-init : goal.loop-init
@@ -15,6 +18,7 @@ loop-init g c =
       clean = λ x. x;
       sound = λ x s. s;
       catalog = refl;
+      counts = no_fewer (counts g.D.DeskStore.refused g.S.SiteStore.refused c.args.machines.now);
       goes = λ db of is clean sound fit. nothing_goes db here fit;
       ranks = λ db n of is clean sound fit ranks. all_in_round db n (c.len-end.result - 0) here count ranks;
     }
@@ -29,6 +33,7 @@ loop-preserved g c =
       clean = λ x. c.loop.invariant.clean (c.deliver_next.ensures.clean x);
       sound = λ x s. c.deliver_next.ensures.sound x (c.loop.invariant.sound (c.deliver_next.ensures.clean x) s);
       catalog = c.deliver_next.ensures.catalog ∙ c.loop.invariant.catalog;
+      counts = no_fewer_then (counts g.D.DeskStore.refused g.S.SiteStore.refused c.args.machines.now) (counts g.D.DeskStore.refused g.S.SiteStore.refused c.loop.machines) (counts g.D.DeskStore.refused g.S.SiteStore.refused c.deliver_next.new.machines) c.loop.invariant.counts c.deliver_next.ensures.counts;
       goes = λ db of is clean sound fit.
           let so_far = c.loop.invariant.goes db of is (c.deliver_next.ensures.clean clean) sound fit in
           then_goes db (λ w. w) first here so_far there (c.in_ok-deliver_next.ensures.ok db of (is ∙ ap catalogue_of (sym c.loop.invariant.catalog)) clean (c.loop.invariant.sound (c.deliver_next.ensures.clean clean) sound) so_far.fit);
@@ -52,3 +57,11 @@ returns-in_err-deliver_next-clause-err g c = λ db of is clean sound fit.
     let so_far = c.loop.invariant.goes db of is (c.deliver_next.ensures.clean clean) sound fit in
     on_any_err c.from_residual.result (then_breaks db (λ w. w) first here so_far (counted g.D.DeskStore.kept g.S.SiteStore.kept g.D.DeskStore.refused g.S.SiteStore.refused c.deliver_next.new.machines)
     (c.in_err-deliver_next.ensures.err db of (is ∙ ap catalogue_of (sym c.loop.invariant.catalog)) clean (c.loop.invariant.sound (c.deliver_next.ensures.clean clean) sound) so_far.fit))
+
+pub returns-in_err-deliver_next-clause-counts : goal.returns-in_err-deliver_next-clause-counts
+returns-in_err-deliver_next-clause-counts g c = no_fewer_then (counts g.D.DeskStore.refused g.S.SiteStore.refused c.args.machines.now) (counts g.D.DeskStore.refused g.S.SiteStore.refused c.loop.machines) (counts g.D.DeskStore.refused g.S.SiteStore.refused c.deliver_next.new.machines) c.loop.invariant.counts c.deliver_next.ensures.counts
+
+pub returns-in_err-deliver_next-clause-blames : goal.returns-in_err-deliver_next-clause-blames
+returns-in_err-deliver_next-clause-blames g c = λ clean sound.
+    told_on c.from_residual.result c.in_err-deliver_next.field-0.0 (counts g.D.DeskStore.refused g.S.SiteStore.refused c.args.machines.now) (counts g.D.DeskStore.refused g.S.SiteStore.refused c.deliver_next.new.machines) c.from_residual.ensures.1
+    (stops_since (counts g.D.DeskStore.refused g.S.SiteStore.refused c.args.machines.now) (counts g.D.DeskStore.refused g.S.SiteStore.refused c.loop.machines) (counts g.D.DeskStore.refused g.S.SiteStore.refused c.deliver_next.new.machines) c.loop.invariant.counts c.in_err-deliver_next.field-0.0 (c.in_err-deliver_next.ensures.blames clean (c.loop.invariant.sound (c.deliver_next.ensures.clean clean) sound)))

@@ -6,6 +6,9 @@ use Rattle.world.specs.Held.{counted}
 use Rattle.world.specs.Taking.{put_out_by, scene, world_at}
 use Rattle.world.proofs.Deliveries.{alike_goes, all_nine, goes_settled, none_left, then_breaks, then_goes}
 use Rattle.world.proofs.Moving.{on_any_err}
+use Rattle.world.proofs.Counting.{no_fewer, no_fewer_then}
+use Rattle.world.proofs.Stops.{stops_since, told_on}
+use Rattle.world.specs.Counted.{counts}
 use Rattle.world.proofs.delivering.settle.Goals as goal
 
 pub loop-init : goal.loop-init
@@ -15,6 +18,7 @@ loop-init g c =
       clean = λ x. x;
       sound = λ x s. s;
       catalog = refl;
+      counts = no_fewer (counts g.D.DeskStore.refused g.S.SiteStore.refused c.args.machines.now);
       goes = λ db of is clean sound fit. alike_goes db (put_out_by m c.args.out) (scene m c.of-post.result) refl c.of-post.ensures.waiting c.of-post.ensures.heard fit;
       ranks = λ db of is clean sound fit. all_nine db (scene m c.of-post.result);
     }
@@ -30,6 +34,7 @@ loop-preserved g c =
       clean = λ x. c.loop.invariant.clean (c.deliver_round.ensures.clean x);
       sound = λ x s. c.deliver_round.ensures.sound x (c.loop.invariant.sound (c.deliver_round.ensures.clean x) s);
       catalog = c.deliver_round.ensures.catalog ∙ c.loop.invariant.catalog;
+      counts = no_fewer_then (counts g.D.DeskStore.refused g.S.SiteStore.refused c.args.machines.now) (counts g.D.DeskStore.refused g.S.SiteStore.refused c.loop.machines) (counts g.D.DeskStore.refused g.S.SiteStore.refused c.deliver_round.new.machines) c.loop.invariant.counts c.deliver_round.ensures.counts;
       goes = λ db of is clean sound fit.
           let so_far = c.loop.invariant.goes db of is (c.deliver_round.ensures.clean clean) sound fit in
           then_goes db (λ w. w) first here so_far there (c.in_ok-deliver_round.ensures.ok db of (is ∙ ap catalogue_of (sym c.loop.invariant.catalog)) clean (c.loop.invariant.sound (c.deliver_round.ensures.clean clean) sound) so_far.fit);
@@ -55,3 +60,11 @@ returns-in_err-deliver_round-clause-err g c = λ db of is clean sound fit.
     let so_far = c.loop.invariant.goes db of is (c.deliver_round.ensures.clean clean) sound fit in
     on_any_err c.from_residual.result (then_breaks db (λ w. w) first here so_far (counted g.D.DeskStore.kept g.S.SiteStore.kept g.D.DeskStore.refused g.S.SiteStore.refused c.deliver_round.new.machines)
     (c.in_err-deliver_round.ensures.err db of (is ∙ ap catalogue_of (sym c.loop.invariant.catalog)) clean (c.loop.invariant.sound (c.deliver_round.ensures.clean clean) sound) so_far.fit))
+
+pub returns-in_err-deliver_round-clause-counts : goal.returns-in_err-deliver_round-clause-counts
+returns-in_err-deliver_round-clause-counts g c = no_fewer_then (counts g.D.DeskStore.refused g.S.SiteStore.refused c.args.machines.now) (counts g.D.DeskStore.refused g.S.SiteStore.refused c.loop.machines) (counts g.D.DeskStore.refused g.S.SiteStore.refused c.deliver_round.new.machines) c.loop.invariant.counts c.deliver_round.ensures.counts
+
+pub returns-in_err-deliver_round-clause-blames : goal.returns-in_err-deliver_round-clause-blames
+returns-in_err-deliver_round-clause-blames g c = λ clean sound.
+    told_on c.from_residual.result c.in_err-deliver_round.field-0.0 (counts g.D.DeskStore.refused g.S.SiteStore.refused c.args.machines.now) (counts g.D.DeskStore.refused g.S.SiteStore.refused c.deliver_round.new.machines) c.from_residual.ensures.1
+    (stops_since (counts g.D.DeskStore.refused g.S.SiteStore.refused c.args.machines.now) (counts g.D.DeskStore.refused g.S.SiteStore.refused c.loop.machines) (counts g.D.DeskStore.refused g.S.SiteStore.refused c.deliver_round.new.machines) c.loop.invariant.counts c.in_err-deliver_round.field-0.0 (c.in_err-deliver_round.ensures.blames clean (c.loop.invariant.sound (c.deliver_round.ensures.clean clean) sound)))

@@ -4,6 +4,7 @@ use Rattle.catalog.specs.Relation.{catalogue_of}
 use Rattle.protocol.specs.Rounds.{RanksUnder}
 use Rattle.desk.specs.Database.{Database}
 use Rattle.desk.specs.OfCatalogue.{IsOfCatalogue}
+use Rattle.world.specs.Counted.{NoFewer, counts}
 use Rattle.world.specs.Delivering.{Goes}
 use Rattle.world.specs.Held.{OfStores, counted}
 use Rattle.world.specs.Machines.{AreFit}
@@ -15,6 +16,7 @@ invariant-loop g l = record {
   clean : OfStores g.D.DeskStore.is_clean g.S.SiteStore.is_clean l.machines → OfStores g.D.DeskStore.is_clean g.S.SiteStore.is_clean l.fn.machines;
   sound : OfStores g.D.DeskStore.is_clean g.S.SiteStore.is_clean l.machines → OfStores g.D.DeskStore.is_sound g.S.SiteStore.is_sound l.fn.machines → OfStores g.D.DeskStore.is_sound g.S.SiteStore.is_sound l.machines;
   catalog : l.machines.desk.catalog ≡ l.fn.machines.desk.catalog;
+  counts : NoFewer (counts g.D.DeskStore.refused g.S.SiteStore.refused l.fn.machines) (counts g.D.DeskStore.refused g.S.SiteStore.refused l.machines);
   goes : (db : Database) → IsOfCatalogue db → db.catalogue ≡ catalogue_of l.fn.machines.desk.catalog → OfStores g.D.DeskStore.is_clean g.S.SiteStore.is_clean l.machines → OfStores g.D.DeskStore.is_sound g.S.SiteStore.is_sound l.fn.machines
       → AreFit db (counted g.D.DeskStore.kept g.S.SiteStore.kept g.D.DeskStore.refused g.S.SiteStore.refused l.fn.machines) → Goes db (λ w. w) (put_out_by (counted g.D.DeskStore.kept g.S.SiteStore.kept g.D.DeskStore.refused g.S.SiteStore.refused l.fn.machines) l.fn.out) (scene (counted g.D.DeskStore.kept g.S.SiteStore.kept g.D.DeskStore.refused g.S.SiteStore.refused l.machines) l.post);
   ranks : (db : Database) → IsOfCatalogue db → db.catalogue ≡ catalogue_of l.fn.machines.desk.catalog → OfStores g.D.DeskStore.is_clean g.S.SiteStore.is_clean l.machines → OfStores g.D.DeskStore.is_sound g.S.SiteStore.is_sound l.fn.machines

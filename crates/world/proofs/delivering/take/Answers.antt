@@ -1,5 +1,5 @@
 -- Why `take` meets its contract.
-use Rattle.std.proofs.Common.{◌≡◌, ◌∙◌, sym, ap, subst, true, false, nat_eq, List, ℕ}
+use Rattle.std.proofs.Common.{◌≡◌, refl, ◌∙◌, sym, ap, subst, true, false, nat_eq, List, ℕ}
 use Rattle.std.specs.Cmp.Lexicographic.{pointwise}
 use Rattle.std.specs.List.{list_any}
 use Rattle.catalog.specs.Catalogue.{Catalogue}
@@ -40,3 +40,6 @@ returns-clause-told g c = λ db of is fit.
     let before = held g.D.DeskStore.kept g.S.SiteStore.kept c.args.machines.now in
     let old = counts g.D.DeskStore.refused g.S.SiteStore.refused c.args.machines.now in
     if_err c.deliver.result (λ fault why. tells_counted db before old c.args.letter fault why) (c.deliver.ensures.told db of is (fit_uncounted db before old fit) of_site)
+
+pub returns-clause-blames : goal.returns-clause-blames
+returns-clause-blames g c = c.deliver.ensures.blames refl

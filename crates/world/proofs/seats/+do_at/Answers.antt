@@ -1,12 +1,17 @@
 -- Why `do_at` meets its contract.
-use Rattle.std.proofs.Common.{◌≡◌, ◌∙◌, ◌∷◌, ap, sym, subst, Some, inl, inr, ⊎_elim}
+use Rattle.std.proofs.Common.{◌≡◌, ◌∙◌, ◌∷◌, ap, sym, subst, Some, inl, inr, ⊎_elim, IfErr, IfSome}
 use Rattle.site.specs.Refusals.{AsksToKeep}
+use Rattle.world.specs.declared.fault.Fault.TheVariants as fault
 use Rattle.world.specs.Counted.{HaveRefused, NoFewer, counts_of}
 use Rattle.world.specs.Seated.{place_of, seat_from, seats_in}
 use Rattle.world.specs.Seats.{Seat, is_called, seat_of}
 use Rattle.world.proofs.Counting.{at_most, first_is, no_fewer}
 use Rattle.world.proofs.Moving.{all_there, first_seated, first_takes, if_ok, other_takes, rest_seated, there_later}
 use Rattle.world.proofs.Reasoned.{first_tells}
+use Rattle.std.specs.List.{AllByRecursion}
+use Rattle.world.specs.Stopping.{StopsFor}
+use Rattle.world.specs.Taking.{stop_of}
+use Rattle.world.proofs.Stops.{first_stops, other_stops}
 use Rattle.world.proofs.seats.+do_at.Goals as goal
 
 pub returns-then-not-is_called-clause-ok : goal.returns-then-not-is_called-clause-ok
@@ -81,3 +86,20 @@ returns-clause-vote g t c = λ letter seat is there keeps.
     let same = first_is letter.site (seat_from content site) seat (seats_in content rest) called here in
     if_ok c.do_one.result (λ letters refuses none. ⊎_elim (λ unmade. inl unmade) (λ more. inr (subst (λ all. HaveRefused (counts_of refused all) (counts_of refused (c.do_one.new.site ∷ rest))) (sym c.in-Some.ensures.cases.0) (inl more))) (refuses none))
     (c.do_one.ensures.vote letter is (subst (λ (s : Seat). AsksToKeep s.table letter.body) (sym same) keeps))
+
+pub returns-then-not-is_called-clause-blames : goal.returns-then-not-is_called-clause-blames
+returns-then-not-is_called-clause-blames g t c = λ letter is made clean sound.
+    let refused = g.S.SiteStore.refused in
+    let site = c.in-Some.site.now in
+    let rest = c.in-Some.rest.now in
+    let there = subst (AllByRecursion (λ site. g.S.SiteStore.is_sound site.store)) c.in-Some.ensures.cases.0 sound in
+    subst (λ all. IfErr c.do_at.result (λ told. IfSome (stop_of (fault.Site told)) (StopsFor (counts_of refused all) (counts_of refused (site ∷ c.do_at.new.sites))))) (sym c.in-Some.ensures.cases.0)
+    (other_stops c.do_at.result (refused site.store) (refused site.store) (counts_of refused rest) (counts_of refused c.do_at.new.sites) (c.do_at.ensures.blames letter is made clean.1 there.1))
+
+pub returns-clause-blames : goal.returns-clause-blames
+returns-clause-blames g t c = λ letter is made clean sound.
+    let refused = g.S.SiteStore.refused in
+    let rest = c.in-Some.rest.now in
+    let there = subst (AllByRecursion (λ site. g.S.SiteStore.is_sound site.store)) c.in-Some.ensures.cases.0 sound in
+    subst (λ all. IfErr c.do_one.result (λ told. IfSome (stop_of (fault.Site told)) (StopsFor (counts_of refused all) (counts_of refused (c.do_one.new.site ∷ rest))))) (sym c.in-Some.ensures.cases.0)
+    (first_stops c.do_one.result (refused c.in-Some.site.now.store) (refused c.do_one.new.site.store) (counts_of refused rest) (counts_of refused rest) (c.do_one.ensures.blames letter is made clean.0 there.0))

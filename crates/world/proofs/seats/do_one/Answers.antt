@@ -3,6 +3,7 @@ use Rattle.std.proofs.Common.{refl}
 use Rattle.world.proofs.Reasoned.{named_tells}
 use Rattle.world.proofs.Moving.{on_err, seat_same, unchanged}
 use Rattle.world.specs.Seated.{seat_from}
+use Rattle.world.proofs.Stops.{site_stops}
 use Rattle.world.proofs.seats.do_one.Goals as goal
 
 pub returns-in-Take-clause-err : goal.returns-in-Take-clause-err
@@ -15,3 +16,8 @@ returns-in-Take-clause-err g c = λ clean sound.
 pub returns-in-Take-clause-told : goal.returns-in-Take-clause-told
 returns-in-Take-clause-told g c = λ letter is called.
     named_tells c.take_kept.result (seat_from g.S.SiteStore.kept c.args.site.now) c.args.site.now.present.locks.items letter c.in-Take.letter c.args.what c.in-Take.is is refl called c.take_kept.ensures.full c.take_kept.ensures.elsewhere
+
+pub returns-in-Take-clause-blames : goal.returns-in-Take-clause-blames
+returns-in-Take-clause-blames g c = λ letter is made clean sound.
+    let refused = g.S.SiteStore.refused in
+    site_stops c.take_kept.result c.args.kept (refused c.args.site.now.store) (refused c.take_kept.new.self.store) made c.take_kept.ensures.refusal (c.take_kept.ensures.intact clean sound) c.take_kept.ensures.plain

@@ -5,6 +5,9 @@ use Rattle.world.proofs.Moving.{if_both}
 use Rattle.std.proofs.Common.{inr}
 use Rattle.world.proofs.Beginning.{begin_still, begin_unheard}
 use Rattle.world.proofs.Denying.{if_errs}
+use Rattle.world.specs.Counted.{counts}
+use Rattle.world.proofs.Refusing.{if_err}
+use Rattle.world.proofs.Stops.{limit_stops}
 use Rattle.world.proofs.serving.begin.Goals as goal
 
 pub returns-in-Ok-clause-ok : goal.returns-in-Ok-clause-ok
@@ -19,3 +22,6 @@ returns-in-Ok-clause-denied g c = λ db of is clean sound fit.
     let serves = c.in-Ok.ensures.ok db of is clean sound fit in
     if_errs c.named.result (λ told full none. inr ((full, begin_unheard db before after c.in-Ok.heard.items serves none), begin_still db before after c.in-Ok.heard.items serves none))
     c.named.ensures.full c.named.ensures.none
+
+pub returns-in-Ok-clause-blames : goal.returns-in-Ok-clause-blames
+returns-in-Ok-clause-blames g c = λ clean sound. if_err c.named.result (λ told full. limit_stops (counts g.D.DeskStore.refused g.S.SiteStore.refused c.args.machines.now) (counts g.D.DeskStore.refused g.S.SiteStore.refused c.greet.new.machines) told (inr full)) c.named.ensures.full

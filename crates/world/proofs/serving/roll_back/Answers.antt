@@ -10,13 +10,14 @@ use Rattle.world.specs.declared.event.Call.TheVariants as call
 use Rattle.world.specs.Delivering.{Ask, Goes, Serves, To_do, asked, settled}
 use Rattle.world.specs.Held.{counted, held}
 use Rattle.world.specs.Taking.{put_out_by}
-use Rattle.world.proofs.Counting.{fit_uncounted, leads_counted, none_fewer, same_counted, with_counts}
+use Rattle.world.proofs.Counting.{fit_uncounted, leads_counted, none_fewer, same_counted, with_counts, no_fewer_then}
 use Rattle.world.proofs.Deliveries.{call_serves}
 use Rattle.world.proofs.Denying.{still_denied}
 use Rattle.world.proofs.Moving.{if_ok}
 use Rattle.world.proofs.Reaching.{call_served, same_on}
 use Rattle.world.proofs.Refusing.{if_err}
 use Rattle.world.proofs.Running.{no_choice, over_of}
+use Rattle.world.proofs.Stops.{call_since}
 use Rattle.world.proofs.serving.roll_back.Goals as goal
 
 pub returns-in-Ok-clause-ok : goal.returns-in-Ok-clause-ok
@@ -67,3 +68,12 @@ returns-in-Err-clause-denied g c = λ db of is clean sound fit.
     let old = counts g.D.DeskStore.refused g.S.SiteStore.refused c.args.machines.now in
     let new = counts g.D.DeskStore.refused g.S.SiteStore.refused c.rollback.new.self in
     still_denied db (with_counts before old) (with_counts mid new) (call.Rollback c.args.txn) c.in-Err.refusal fit (same_counted before mid old new c.in-Err.ensures.err c.rollback.ensures.uncalled) (c.in-Err.ensures.told db)
+
+pub returns-in-Ok-clause-counts : goal.returns-in-Ok-clause-counts
+returns-in-Ok-clause-counts g c = no_fewer_then (counts g.D.DeskStore.refused g.S.SiteStore.refused c.args.machines.now) (counts g.D.DeskStore.refused g.S.SiteStore.refused c.rollback.new.self) (counts g.D.DeskStore.refused g.S.SiteStore.refused c.settle.new.machines) (none_fewer (counts g.D.DeskStore.refused g.S.SiteStore.refused c.args.machines.now) (counts g.D.DeskStore.refused g.S.SiteStore.refused c.rollback.new.self) c.rollback.ensures.uncalled) c.settle.ensures.counts
+
+pub returns-in-Ok-clause-blames : goal.returns-in-Ok-clause-blames
+returns-in-Ok-clause-blames g c = λ clean sound. call_since c.settle.result (counts g.D.DeskStore.refused g.S.SiteStore.refused c.args.machines.now) (counts g.D.DeskStore.refused g.S.SiteStore.refused c.rollback.new.self) (counts g.D.DeskStore.refused g.S.SiteStore.refused c.settle.new.machines) (none_fewer (counts g.D.DeskStore.refused g.S.SiteStore.refused c.args.machines.now) (counts g.D.DeskStore.refused g.S.SiteStore.refused c.rollback.new.self) c.rollback.ensures.uncalled) (c.settle.ensures.blames clean (c.rollback.ensures.sound (c.settle.ensures.clean clean) sound))
+
+pub returns-in-Err-clause-counts : goal.returns-in-Err-clause-counts
+returns-in-Err-clause-counts g c = none_fewer (counts g.D.DeskStore.refused g.S.SiteStore.refused c.args.machines.now) (counts g.D.DeskStore.refused g.S.SiteStore.refused c.rollback.new.self) c.rollback.ensures.uncalled

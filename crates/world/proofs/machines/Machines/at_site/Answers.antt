@@ -4,6 +4,7 @@ use Rattle.protocol.specs.Letters.{txn_name}
 use Rattle.site.specs.State.{state_of}
 use Rattle.desk.specs.Database.{language, sent}
 use Rattle.world.proofs.CallsKept.{calls_kept}
+use Rattle.world.specs.declared.fault.Fault.TheVariants as fault
 use Rattle.world.specs.Held.{held}
 use Rattle.world.specs.Machines.{is_for_site}
 use Rattle.world.specs.Reasons.{CallKept}
@@ -11,6 +12,9 @@ use Rattle.world.specs.Seats.{seat_of}
 use Rattle.world.specs.Seated.{SomeSeatDoes, place_of, seats_in}
 use Rattle.world.proofs.Machinery.{put_out_leads, take_within}
 use Rattle.world.proofs.Counting.{at_most}
+use Rattle.world.specs.Counted.{counts_of}
+use Rattle.world.specs.Taking.{stop_of}
+use Rattle.world.proofs.Stops.{later_stops}
 use Rattle.world.proofs.machines.Machines.at_site.Goals as goal
 
 pub returns-in-Ok-clause-ok : goal.returns-in-Ok-clause-ok
@@ -48,3 +52,9 @@ returns-in-Ok-clause-counts g c = (at_most (g.D.DeskStore.refused c.args.self.no
 
 pub returns-in-Err-clause-counts : goal.returns-in-Err-clause-counts
 returns-in-Err-clause-counts g c = (at_most (g.D.DeskStore.refused c.args.self.now.desk.store), c.do_among.ensures.counts)
+
+pub returns-in-Err-clause-blames : goal.returns-in-Err-clause-blames
+returns-in-Err-clause-blames g c = λ letter is made clean sound.
+    let refused = g.S.SiteStore.refused in
+    let desk = g.D.DeskStore.refused c.args.self.now.desk.store in
+    later_stops desk desk (counts_of refused c.args.self.now.sites.items) (counts_of refused c.do_among.new.sites.items) (stop_of (fault.Site c.in-Err.fault)) (c.in-Err.ensures.blames letter is made clean.1 sound.1)

@@ -7,6 +7,12 @@ use Rattle.world.specs.Held.{held}
 use Rattle.world.proofs.Ends.{commit_explained}
 use Rattle.world.proofs.Machinery.{asked_leads}
 use Rattle.world.proofs.Moving.{if_ok_too}
+use Rattle.world.specs.Counted.{counts, counts_of}
+use Rattle.std.proofs.Common.{◌∷◌}
+use Rattle.catalog.specs.Relation.{catalogue_of}
+use Rattle.world.specs.Base.{database}
+use Rattle.world.proofs.Refusing.{if_err}
+use Rattle.world.proofs.Stops.{refused_stops}
 use Rattle.world.proofs.machines.Machines.commit.Goals as goal
 
 pub returns-clause-ok : goal.returns-clause-ok
@@ -16,3 +22,6 @@ returns-clause-ok g c = λ db choice over fit.
     let txn = txn_in db before.table c.args.txn in
     if_ok_too c.commit.result (λ out accepted steps. asked_leads db before (g.D.DeskStore.kept new.store) (table_of new.present) c.args.txn choice Commit_call out.letters out.replies fit steps (commit_explained (txn_name c.args.txn) choice txn) accepted)
     (c.commit.ensures.accepted db) (c.commit.ensures.ok db choice over fit.desk)
+
+pub returns-clause-blames : goal.returns-clause-blames
+returns-clause-blames g c = if_err c.commit.result (λ told why. refused_stops (counts g.D.DeskStore.refused g.S.SiteStore.refused c.args.self.now) (g.D.DeskStore.refused c.commit.new.self.store ∷ counts_of g.S.SiteStore.refused c.args.self.now.sites.items) told _ why) (c.commit.ensures.told (database (catalogue_of c.args.self.now.desk.catalog)))

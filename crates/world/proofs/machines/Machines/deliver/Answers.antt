@@ -1,16 +1,18 @@
 -- Why `deliver` meets its contract.
-use Rattle.std.proofs.Common.{◌≡◌, ◌⊎◌, nat_eq, true, false, [], refl, sym, subst, ◌∙◌, IfErr, IfOk}
+use Rattle.std.proofs.Common.{◌≡◌, ◌⊎◌, nat_eq, true, false, [], refl, sym, subst, ◌∙◌, IfErr, IfOk, IfSome}
 use Rattle.std.specs.Cmp.Lexicographic.{pointwise}
 use Rattle.std.specs.List.{list_any}
 use Rattle.meaning.specs.declared.answer.Answer.TheVariants.{Exists}
 use Rattle.world.specs.Counted.{HaveRefused, counts}
 use Rattle.world.specs.Held.{held}
 use Rattle.world.specs.Reasons.{Tells}
-use Rattle.world.specs.Taking.{CameUnless}
+use Rattle.world.specs.Taking.{CameUnless, stop_of}
 use Rattle.world.proofs.machines.Machines.deliver.Goals.{in-Ok, in-Err}
 use Rattle.world.proofs.CallsKept.{any_ok, reply_keeps}
 use Rattle.world.proofs.Seating.{seat_there}
 use Rattle.world.proofs.Spared.{order_spared, reply_spared}
+use Rattle.world.specs.Stopping.{StopsFor}
+use Rattle.world.proofs.Stops.{desk_stops}
 use Rattle.world.proofs.machines.Machines.deliver.Goals as goal
 
 -- an order evaluates nothing, so any answer will do
@@ -67,4 +69,14 @@ returns-then-not-is_order-clause-spared g c = λ db of is clean sound fit of_sit
       | in-Ok w ↦ subst (λ result. IfOk result (λ out. CameUnless Refused db c.args.letter before after out.letters out.replies)) (sym w.result-is)
           (reply_spared Refused db c.args.letter before after w.in-Ok.out.letters w.in-Ok.out.replies w.in-Ok.out.kept (reply_keeps db c.args.letter.body w.in-Ok.out.kept no_order) (w.in-Ok.ensures.ok db of is clean sound fit no_order of_site) w.in-Ok.ensures.refusal)
       | in-Err w ↦ subst (λ result. IfOk result (λ out. CameUnless Refused db c.args.letter before after out.letters out.replies)) (sym w.result-is) tt
+    ]
+
+pub returns-in-Err-at_site-clause-blames : goal.returns-in-Err-at_site-clause-blames
+returns-in-Err-at_site-clause-blames g c = c.in-Err-at_site.ensures.blames c.args.letter refl
+
+pub returns-then-not-is_order-clause-blames : goal.returns-then-not-is_order-clause-blames
+returns-then-not-is_order-clause-blames g c = λ made clean sound.
+    elim c.match-reply.branch [
+      | in-Ok w ↦ subst (λ result. IfErr result (λ told. IfSome (stop_of told) (StopsFor (counts g.D.DeskStore.refused g.S.SiteStore.refused c.args.self.now) (counts g.D.DeskStore.refused g.S.SiteStore.refused c.reply.new.self)))) (sym w.result-is) tt
+      | in-Err w ↦ subst (λ result. IfErr result (λ told. IfSome (stop_of told) (StopsFor (counts g.D.DeskStore.refused g.S.SiteStore.refused c.args.self.now) (counts g.D.DeskStore.refused g.S.SiteStore.refused c.reply.new.self)))) (sym w.result-is) (desk_stops (counts g.D.DeskStore.refused g.S.SiteStore.refused c.args.self.now) (counts g.D.DeskStore.refused g.S.SiteStore.refused c.reply.new.self) w.in-Err.refusal w.in-Err.ensures.own)
     ]

@@ -1,5 +1,5 @@
 -- Why `statement` meets its contract.
-use Rattle.std.proofs.Common.{◌≡◌, None}
+use Rattle.std.proofs.Common.{◌≡◌, None, ◌∷◌}
 use Rattle.protocol.specs.Desk.{State, refusal}
 use Rattle.meaning.specs.declared.statement.Statement.{Statement}
 use Rattle.desk.specs.Calls.{txn_in}
@@ -7,7 +7,11 @@ use Rattle.desk.specs.State.{table_of}
 use Rattle.world.specs.Held.{held}
 use Rattle.world.proofs.Machinery.{asked_leads}
 use Rattle.world.proofs.Moving.{if_ok_all}
-use Rattle.world.proofs.Refusing.{statement_refused}
+use Rattle.world.proofs.Refusing.{statement_refused, some, if_err}
+use Rattle.world.specs.Counted.{counts, counts_of}
+use Rattle.catalog.specs.Relation.{catalogue_of}
+use Rattle.world.specs.Base.{database}
+use Rattle.world.proofs.Stops.{statement_stops}
 use Rattle.world.proofs.machines.Machines.statement.Goals as goal
 
 pub returns-clause-ok : goal.returns-clause-ok
@@ -25,3 +29,6 @@ returns-clause-ok g c = λ db of is fit.
 
 pub returns-clause-told : goal.returns-clause-told
 returns-clause-told g c = λ db of is fit. statement_refused db (table_of c.args.self.now.desk.present) c.args.txn c.args.text.now c.args.self.now.desk.catalog is c.statement.result (c.statement.ensures.told db) (c.statement.ensures.full db of is fit.desk)
+
+pub returns-clause-blames : goal.returns-clause-blames
+returns-clause-blames g c = if_err c.statement.result (λ told why. statement_stops (counts g.D.DeskStore.refused g.S.SiteStore.refused c.args.self.now) (g.D.DeskStore.refused c.statement.new.self.store ∷ counts_of g.S.SiteStore.refused c.args.self.now.sites.items) told _ _ _ why) (c.statement.ensures.told (database (catalogue_of c.args.self.now.desk.catalog)) some)

@@ -9,6 +9,8 @@ use Rattle.reader.specs.Command.{IsTextOf}
 use Rattle.catalog.specs.declared.relation.SplitRelation.{SplitRelation}
 use Rattle.catalog.specs.FragmentLeaf.{schemas_of}
 use Rattle.catalog.specs.Relation.{catalogue_of}
+use Rattle.world.specs.Counted.{counts}
+use Rattle.world.proofs.Stops.{unreadable_stops}
 use Rattle.world.proofs.solo.Solo.command.Goals as goal
 
 pub returns-in-Ok-clause-ok : goal.returns-in-Ok-clause-ok
@@ -56,3 +58,6 @@ returns-in-Ok-clause-unread g c = λ none.
 
 pub returns-in-Err-clause-unread : goal.returns-in-Err-clause-unread
 returns-in-Err-clause-unread g c = λ none. (tt, subst (λ (schemas : List RelationSchema). IsUnreadable schemas c.args.text.now c.in-Err.refusal) (ap (λ (x : List (List ℕ) × List SplitRelation). schemas_of (catalogue_of x)) c.catalog.ensures) c.in-Err.ensures.unread)
+
+pub returns-in-Err-clause-blames : goal.returns-in-Err-clause-blames
+returns-in-Err-clause-blames g c = λ clean sound. unreadable_stops (counts g.D.DeskStore.refused g.S.SiteStore.refused c.args.self.now.machines) (counts g.D.DeskStore.refused g.S.SiteStore.refused c.args.self.now.machines) c.in-Err.refusal _ c.args.text.now c.in-Err.ensures.unread

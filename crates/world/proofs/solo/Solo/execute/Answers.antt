@@ -60,3 +60,6 @@ returns-clause-declined g c = λ going clean sound fit.
 
 pub returns-clause-inside : goal.returns-clause-inside
 returns-clause-inside g c = λ txn going some spelled. c.command-done.ensures.inside txn some spelled
+
+pub returns-clause-blames : goal.returns-clause-blames
+returns-clause-blames g c = λ going clean sound. c.command-done.ensures.blames clean sound

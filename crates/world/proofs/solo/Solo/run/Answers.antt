@@ -14,6 +14,8 @@ use Rattle.world.specs.Obeying.{ObeysUnlessRefused}
 use Rattle.world.specs.Serving.{ServedIsSerial}
 use Rattle.world.specs.Settling.{GrowsQuiet}
 use Rattle.world.proofs.Faring.{has_run, was_stopped}
+use Rattle.world.specs.Stopping.{StopsFor}
+use Rattle.world.specs.Counted.{counts}
 use Rattle.world.proofs.solo.Solo.run.Goals as goal
 
 pub returns-in-Ok-clause-ran : goal.returns-in-Ok-clause-ran
@@ -57,3 +59,8 @@ returns-in-Err-clause-served g c = λ whole past clean sound served.
     (subst (λ (x : List (List ℕ) × List SplitRelation). IsOfCatalogue (database (catalogue_of x))) c.catalog.ensures c.database_is_of_catalogue.ensures.of_catalogue)
     (subst (λ (x : List (List ℕ) × List SplitRelation). ReachedLaw (language (database (catalogue_of x)))) c.catalog-2.ensures c.one_client_is_a_run.ensures)
     refl clean sound served
+
+pub returns-in-Err-clause-blames : goal.returns-in-Err-clause-blames
+returns-in-Err-clause-blames g c = λ stop clean sound is.
+    let same : c.in-Err.stop ≡ stop = cc in
+    subst (λ (s : Stop). StopsFor (counts g.D.DeskStore.refused g.S.SiteStore.refused c.args.self.now.machines) (counts g.D.DeskStore.refused g.S.SiteStore.refused c.run_all.new.machines) s.refusal) same (c.in-Err.ensures.blames clean sound)
