@@ -3,7 +3,7 @@ use Rattle.std.specs.Prelude.{◌⊎◌, ℕ, Bool, true, false, List, Option, N
 use Rattle.std.specs.Borrow.{Bor}
 use Rattle.std.specs.Io.KnownBytes.{Keeps}
 use Rattle.shell.specs.declared.mode.Mode.{Mode}
-use Rattle.shell.specs.declared.mode.Mode.TheVariants.{Tabs}
+use Rattle.shell.specs.declared.mode.Mode.TheVariants.{Columns, Csv, Json, Tabs}
 use Rattle.fragdb.specs.declared.outcome.Outcome.{Outcome}
 use Rattle.fragdb.specs.declared.outcome.Outcome.TheVariants.{Done, SomeRefused, Refused, RefusedStatement, Stopped}
 use Rattle.fragdb.specs.declared.usage.Request.{Request}
@@ -48,6 +48,13 @@ is_typed _ = false
 abbrev pub mode_of : Request → Mode
 mode_of (Solo name file explain interactive mode) = mode
 mode_of _ = Tabs
+
+-- how answers are shown in a session at first, where the command line asks for this form: tabs are what nothing asks for
+abbrev pub session_mode : Mode → Mode
+session_mode Tabs = Columns
+session_mode Columns = Columns
+session_mode Csv = Csv
+session_mode Json = Json
 
 -- what the end of a script comes to, and that of a check
 abbrev pub outcome_of_script : Result Bool CatalogFault → Outcome

@@ -82,6 +82,17 @@ impl<'a> Request<'a> {
         }
     }
 
+    /// How answers are to be shown in a session, until something else is asked for: in columns, unless the command line
+    /// asks for another form.
+    pub fn session_mode(&self) -> Mode
+        ensures { result ≡ spec.session_mode (spec.mode_of self.now) }
+    {
+        match self.mode() {
+            Mode::Tabs => Mode::Columns,
+            mode => mode,
+        }
+    }
+
     /// Whether a script is to be read from standard input.
     pub fn is_of_input(&self) -> bool
         ensures { result ≡ spec.is_of_input self.now }
@@ -167,7 +178,7 @@ pub fn perform_session<'a, K: Clock, C: Read + Drop, R: Read + Drop, W: Write, E
     ensures held { IfOk catalog (λ opened. IfSome (C.remaining opened) (λ bytes. PerformsSession catalog_file.entry bytes (spec.file_of request.entry) (W.contents output.old) (W.contents output.new) result)) }
     ensures uncatalogued { IfErr catalog (λ error. IsUnread catalog_file.entry result × Keeps (W.contents output.old) (W.contents output.new)) }
 {
-    let mode = request.mode();
+    let mode = request.session_mode();
     let file = request.file();
     match catalog {
         Ok(catalog) => of_check(session_files(

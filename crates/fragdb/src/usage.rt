@@ -92,8 +92,8 @@ Without --catalog the relation item(id int, zone int, label text) is built in: r
 kept in item.1, the others in item.2.
 
 At a terminal, with no script or with -, each line is asked for and answered at once; so it is anywhere
-with --interactive. A statement may then have several lines, a malformed line costs itself alone, and it is
-explained why a line is refused:
+with --interactive. Rows then stand in columns, a statement may have several lines, a malformed line costs
+itself alone, and it is explained why a line is refused:
 
   fragdb> INSERT INTO item
      ...> VALUES (1, 3, 'a');
