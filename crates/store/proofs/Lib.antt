@@ -10,3 +10,4 @@ pub mod Near
 pub mod Shelving
 pub mod Flat
 pub mod Copied
+pub mod Packed

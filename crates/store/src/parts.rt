@@ -7,7 +7,7 @@ ghost use Rattle.store.specs.declared.slot.Slot.{Slot as Place};
 ghost use Rattle.store.specs.Content.{AreKeyed, HasRoomFor, made_by, put_at};
 
 use crate::changes::Changes;
-use crate::shelves::{Shelves, copy_all, fill, find_part, list_leaf, make_rooms};
+use crate::shelves::{Shelves, copy_all, fill, find_part, list_leaf, make_rooms, pack};
 use crate::slot::Slot;
 use std::alloc::Global;
 use std::collections::BTreeMap;
@@ -57,7 +57,10 @@ impl Parts {
         let mut parts = Parts::new(alloc);
         parts.make_rooms(&changes)?;
         parts.make(changes);
-        Ok(parts)
+        Ok(Parts {
+            alloc,
+            shelves: pack(alloc, &parts.shelves)?,
+        })
     }
 
     /// The part at a slot, if there is one.

@@ -227,3 +227,39 @@ pub(crate) fn copy_all(alloc: Global, shelves: &Shelves) -> Result<Slots, Memory
     }
     Ok(copies)
 }
+
+/// The entries of a shelf, once more.
+fn copy_entries(alloc: Global, shelf: &Shelf) -> Result<Vec<(i64, Option<Part>)>, Memory>
+    ensures copies { IfOk result (λ copies. copies.items ≡ shelf.now.entries) }
+    ensures ordered { IsOrdered int_cmp shelf.now }
+{
+    let mut copies = Vec::with_capacity(alloc, shelf.len())?;
+    for (key, part) in shelf {
+        copies.push((*key, copy_part(part)?))?;
+    }
+    Ok(copies)
+}
+
+/// A shelf with the same entries, made of all of them at once: its nodes are full, and its parts lie in memory
+/// one after another.
+fn pack_shelf(alloc: Global, shelf: &Shelf) -> Result<Shelf, Memory>
+    ensures { IfOk result (λ packed. (q : ℤ) → key_at packed.entries q ≡ key_at shelf.now.entries q) }
+{
+    let packed: Shelf = copy_entries(alloc, shelf)?.into_iter().collect(alloc)?;
+    Ok(packed)
+}
+
+/// What stands at each slot, once more, on packed shelves.
+pub(crate) fn pack(alloc: Global, shelves: &Shelves) -> Result<Shelves, Memory>
+    ensures places { IfOk result (λ packed. (q : Place) → place_at packed.entries q ≡ place_at shelves.now.entries q) }
+    ensures packed_ordered { IfOk result (IsOrdered leaf_cmp) }
+    ensures ordered { IsOrdered leaf_cmp shelves.now }
+{
+    let _count = shelves.len();
+    let mut packed = BTreeMap::new(alloc);
+    for (leaf, shelf) in shelves {
+        let _none = packed.insert(leaf.copy()?, pack_shelf(alloc, shelf)?)?;
+    }
+    let _count = packed.len();
+    Ok(packed)
+}
