@@ -15,7 +15,7 @@ use crate::fault::ProgramFault;
 use crate::play_load::empty_relations;
 use crate::script::Item;
 use crate::session_word::{State, Turn, take_item, take_word, tell};
-use crate::typed::{Typed, is_whole, next_line};
+use crate::typed::{Typed, first_of, is_whole, next_line};
 use crate::written::write_text;
 use catalog::catalogue::Catalog;
 use meaning::schema::Schema;
@@ -256,11 +256,32 @@ fn take_line<'a, W: Write, E: Write>(
         match line.as_bytes().first() {
             None | Some(b'#') => Ok(Turn::GoesOn),
             Some(b'.') => take_word(alloc, database, state, line, output, errors),
-            Some(_) => take_part(alloc, database, state, line, output, errors),
+            Some(_) => take_parts(alloc, database, state, line, output, errors),
         }
     } else {
         state.typed.push('\n')?;
-        take_part(alloc, database, state, line, output, errors)
+        take_parts(alloc, database, state, line, output, errors)
+    }
+}
+
+/// Answers the statements of a line, one after another. The last one is kept where it isn't whole.
+fn take_parts<'a, W: Write, E: Write>(
+    alloc: Global,
+    database: &mut Database,
+    state: &mut State,
+    line: &str,
+    output: &mut W,
+    errors: &mut E,
+) -> Result<Turn, ProgramFault<'a>>
+    ensures ok { OnOk result (Talks (W.contents output.old) (W.contents output.new) database.old database.new) }
+    ensures err { IfErr result IsOfRun }
+{
+    match first_of(line) {
+        Some((first, rest)) => {
+            take_part(alloc, database, state, first, output, errors)?;
+            take_parts(alloc, database, state, rest, output, errors)
+        }
+        None => take_part(alloc, database, state, line, output, errors),
     }
 }
 
@@ -316,6 +337,16 @@ fn explain_answer<E: Write>(
         Ok(Command::Commit | Command::Rollback) if !was_open => {
             tell(errors, "no transaction is open; BEGIN begins one\n");
         }
+        Ok(_) => {}
+        Err(_) => tell_word(text, errors),
+    }
+}
+
+/// Tells the shell's word for what other shells take without a dot.
+fn tell_word<E: Write>(text: &str, errors: &mut E) {
+    match text.trim_end_matches(';') {
+        "exit" | "quit" => tell(errors, ".quit ends the session\n"),
+        "help" => tell(errors, ".help tells what can be typed\n"),
         _ => {}
     }
 }

@@ -1,6 +1,6 @@
 //! What is typed: a line at a time, and whether a statement ends where its text does.
 
-ghost use Rattle.std.specs.Prelude.{◌≡◌, ◌≤◌, IfErr, IfOk, length};
+ghost use Rattle.std.specs.Prelude.{◌≡◌, ◌≤◌, ◌<◌, IfErr, IfOk, IfSome, length};
 ghost use Rattle.fragdb.specs.Input.{IsOfInput};
 ghost use Rattle.fragdb.specs.Solo.{IsOfRun};
 
@@ -99,6 +99,35 @@ fn used_of(came: usize, front: Front) -> usize {
         Front::All => came,
         Front::Whole(place) | Front::Dropped(place) => place.saturating_add(1),
     }
+}
+
+/// The first statement of a line, with the semicolon that ends it, and what stands behind it, if something does.
+pub fn first_of(line: &str) -> Option<(&str, &str)>
+    ensures shorter { IfSome result (λ parts. length parts.1.now < length line.now) }
+{
+    let length = length_of_first(line.as_bytes())?;
+    let (first, rest) = (line.get(..length)?, line.get(length..)?);
+    let rest = rest.trim_ascii_start();
+    if rest.is_empty() {
+        None
+    } else {
+        Some((first, rest))
+    }
+}
+
+/// How many bytes are up to the first semicolon outside a text, and of it.
+fn length_of_first(line: &[u8]) -> Option<usize>
+    ensures { IfSome result (λ length. 0 < length) }
+{
+    let mut is_in_text = false;
+    for (place, byte) in line.iter().enumerate() {
+        match byte {
+            b'\'' => is_in_text = !is_in_text,
+            b';' if !is_in_text => return Some(place.saturating_add(1)),
+            _ => {}
+        }
+    }
+    None
 }
 
 /// Whether a statement ends where its text does: at a semicolon, or since it is one, or is none whatever follows.
