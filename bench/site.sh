@@ -1,12 +1,10 @@
 #!/usr/bin/env bash
 # Times a site over lists: a fetch by key, and preparing and applying one write, with 2,500 and with 20,000 parts in
-# the leaf, and with 10 and with 1,000 visits that have locks on another leaf. Fails where the larger number costs more
-# than 1.3 times the smaller. So that what is compared is what a site does, and not how much of the leaf the processor's
-# caches hold, the caches are in the same state before and after: in the first pairs 500 keys are asked for in turn,
-# which lie evenly all over the leaf, so that they are warm, and in the cold pair all keys are, and the nearer caches
-# are filled with something else before each fetch and each write. With all keys in turn and nothing else between, the
-# small leaf stays in a nearer cache and the large one doesn't: those times are told too, without a limit, and where
-# valgrind is at hand the instructions, with it.
+# the leaf, for all its keys in turn, and with 10 and with 1,000 visits that have locks on another leaf. Fails where the
+# larger number costs more than 1.3 times the smaller, in time or, where valgrind is at hand, in instructions. How much
+# of a leaf a processor's nearer caches hold is in these times: on another processor they can be others. So two more
+# loads are told, without a limit: 500 keys from all over the leaf, whose parts stay in the caches at both sizes, and
+# all keys with something else in the nearer caches before each fetch and each write.
 # Works on a copy of the repository with the work that earlier checks kept, so check the crate `site` first; the program
 # that it times is bench/site/main.rt.in. With a PROGRAM that was built so, it times that.
 #
@@ -22,16 +20,15 @@ import sys
 import tempfile
 
 TOP, MOST = sys.argv[1], 1.3
-# Rounds at least, and at most: other work on the machine only adds time, so what is too much is measured on.
-LEAST_ROUNDS, MOST_ROUNDS = 15, 120
+# How often each load is timed, the least time counting, since other work on the machine only adds to it.
+ROUNDS, ROUNDS_TOLD = 100, 10
 # Parts, visits and keys, before and after; cold: the nearer caches are emptied before each fetch and each write.
-FEW = (2500, 10, 500)
-PAIRS = {
-    "20,000 parts for 2,500": (FEW, (20000, 10, 500)),
+ALL_KEYS = {"20,000 parts for 2,500": ((2500, 10, 2500), (20000, 10, 20000))}
+PAIRS = {**ALL_KEYS, "1,000 visits for 10": ((2500, 10, 500), (2500, 1000, 500))}
+TOLD = {
+    "20,000 parts for 2,500, 500 keys": ((2500, 10, 500), (20000, 10, 500)),
     "20,000 parts for 2,500, cold": ((2500, 10, 2500, "cold"), (20000, 10, 20000, "cold")),
-    "1,000 visits for 10": (FEW, (2500, 1000, 500)),
 }
-ALL_KEYS = {"20,000 parts for 2,500, all keys": ((2500, 10, 2500), (20000, 10, 20000))}
 
 
 def built(room):
@@ -50,14 +47,14 @@ def built(room):
 
 
 def nanoseconds(program):
-    """A fetch and a write at each size: the least of several runs, taken in turns, so that other work on the machine counts little."""
-    best = {size: [1e9, 1e9] for pair in [*PAIRS.values(), *ALL_KEYS.values()] for size in pair}
-    for done in range(MOST_ROUNDS):
-        if done >= LEAST_ROUNDS and not is_too_much(best, PAIRS):
-            break
-        for size in best:
+    """A fetch and a write at each size: the least of several runs on one processor, taken in turns, so that other work on the machine counts little."""
+    os.sched_setaffinity(0, {max(os.sched_getaffinity(0))})
+    best = {}
+    for pairs, rounds in ((PAIRS, ROUNDS), (TOLD, ROUNDS_TOLD)):
+        sizes = [size for pair in pairs.values() for size in pair]
+        for size in sizes * rounds:
             ran = subprocess.check_output([program, *map(str, size)], text=True)
-            best[size] = [min(pair) for pair in zip(best[size], map(int, ran.split()))]
+            best[size] = [min(pair) for pair in zip(best.get(size, (1e9, 1e9)), map(int, ran.split()))]
     return best
 
 
@@ -88,7 +85,7 @@ def timed(program):
     """Tells all times, and the instructions if they can be counted. Answers whether something is too much."""
     best = nanoseconds(program)
     tell(best, PAIRS, "ns", MOST)
-    tell(best, ALL_KEYS, "ns", float("inf"))
+    tell(best, TOLD, "ns", float("inf"))
     if not shutil.which("valgrind"):
         return is_too_much(best, PAIRS)
     counts = instructions(program)
