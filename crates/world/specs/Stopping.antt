@@ -1,9 +1,10 @@
 -- What stops one client's database.
-use Rattle.std.specs.Prelude.{⊤, ℕ, Bool, true, false, List, Option, Some, None, Result, Ok, Err, if◌then◌else◌}
+use Rattle.std.specs.Prelude.{◌≡◌, ⊤, ℕ, Bool, true, false, List, Option, Some, None, Result, Ok, Err, if◌then◌else◌}
 use Rattle.store.specs.declared.fault.StoreFault.TheVariants as faults
 use Rattle.desk.specs.declared.refusal.Refusal.{Refusal}
 use Rattle.desk.specs.declared.refusal.Refusal.TheVariants.{Aborted, Busy, Ended, Full, Memory, NoTransaction, Read, Store}
-use Rattle.world.specs.Counted.{HaveRefused}
+use Rattle.world.specs.declared.machines.Machines as code
+use Rattle.world.specs.Counted.{HaveRefused, counts}
 
 -- whether a refusal does: memory ran out, or a store failed
 abbrev pub is_stop : Refusal → Bool
@@ -33,3 +34,8 @@ StopsFor before after (Store faults.Damaged) = ⊥
 abbrev pub stopped_by : {T : Type 0} → Result T Refusal → Option Refusal
 stopped_by (Ok told) = None
 stopped_by (Err refusal) = if is_stop refusal then Some refusal else None
+
+-- where no medium ever refuses, as over lists, nothing is refused by one, and want of memory alone stops a database. before, after: its machines
+pub record StopsForMemory {D S : Type 0} (before after : code.Machines D S) : Type 0 where
+  pub unrefused : HaveRefused (counts (λ _. 0) (λ _. 0) before) (counts (λ _. 0) (λ _. 0) after) → ⊥
+  pub memory : (told : Refusal) → StopsFor (counts (λ _. 0) (λ _. 0) before) (counts (λ _. 0) (λ _. 0) after) told → is_stop told ≡ true → told ≡ Memory

@@ -22,6 +22,8 @@ ghost use Rattle.world.specs.Serving.{ServedIsSerial};
 ghost use Rattle.world.specs.Settling.{GrowsQuiet};
 ghost use Rattle.world.specs.Smoothly.{ServesSmoothly, ServesUnlessRefused};
 ghost use Rattle.world.specs.StandingAgain.{StandsAgain};
+ghost use Rattle.world.specs.Stopping.{StopsForMemory};
+ghost use Rattle.world.specs.declared.machines.Machines.{Machines as MachinesNow};
 
 use answers::laws::writes_lead;
 use catalog::catalogue::Catalog;
@@ -29,6 +31,8 @@ use catalog::laws::leaf_names_are_unique;
 use plan::laws::{contents_ascend, fetches_are_told};
 use reader::read::one_command;
 use store::laws::{nothing_changes, one_change_more, one_touch_more};
+use store::plain_desk::PlainDesk;
+use store::plain_site::PlainSite;
 
 /// Each catalogue has a database: its sites, leaves, statements and writes are those of the catalogue.
 pub fn database_is_of_catalogue(catalog: &Catalog)
@@ -209,3 +213,8 @@ pub fn denied_for_a_reason(catalog: &Catalog)
     obeyed_unless_refused(catalog);
     grows_quiet(catalog);
 }
+
+/// Over lists, whose media never refuse, no store call of one client is refused, and want of memory alone stops a database.
+pub fn lists_stop_for_memory()
+    ensures { (before after : MachinesNow PlainDesk PlainSite) → StopsForMemory before after }
+{}
