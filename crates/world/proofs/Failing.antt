@@ -1,5 +1,5 @@
 -- Why what is kept can't be shown: what is said of a call holds of the calls that it is part of.
-use Rattle.std.proofs.Common.{◌≡◌, ◌≢◌, ◌⊎◌, refl, sym, ap, ◌∙◌, subst, ℕ, nat_eq, true, List, [], ◌∷◌, Some, Result, Ok, Err, IfErr, inl, inr, ⊎_elim}
+use Rattle.std.proofs.Common.{◌≡◌, ◌≢◌, ◌⊎◌, refl, sym, ap, ◌∙◌, subst, ℕ, nat_eq, true, List, [], ◌∷◌, map, Some, Result, Ok, Err, IfErr, inl, inr, ⊎_elim}
 use Rattle.std.specs.Result.{IsErrAnd}
 use Rattle.std.specs.Cmp.Lexicographic.{pointwise}
 use Rattle.std.specs.List.{AllByRecursion, list_any}
@@ -9,16 +9,20 @@ use Rattle.meaning.specs.declared.statement.Statement.{Statement}
 use Rattle.meaning.specs.Statement.{IsStatementOf}
 use Rattle.meaning.specs.Whole.{FitsSchema, Relations}
 use Rattle.catalog.specs.declared.fragment_leaf.FragmentLeaf.{FragmentLeaf}
+use Rattle.catalog.specs.declared.relation.SplitRelation.{SplitRelation}
 use Rattle.catalog.specs.Catalogue.{Catalogue}
 use Rattle.catalog.specs.FragmentLeaf.{catalogue_leaves, is_name_of, leaf_named, schemas_of}
 use Rattle.catalog.specs.Laws.{LeafNamesAreUnique}
+use Rattle.catalog.specs.Relation.{catalogue_of}
 use Rattle.plan.specs.declared.fetch.Fetch.{Fetch}
 use Rattle.plan.specs.declared.need.Need.{Need}
 use Rattle.plan.specs.Contents.{ContentsAscend}
 use Rattle.plan.specs.Given.{AreBrought, brought}
 use Rattle.plan.specs.Rows.{met}
 use Rattle.plan.specs.Stated.{AreFetchesOf}
+use Rattle.answers.specs.declared.table.FetchRows.{FetchRows}
 use Rattle.answers.specs.Table.{AreParts}
+use Rattle.store.specs.declared.name.Txn.{Txn}
 use Rattle.store.specs.declared.fault.StoreFault.TheVariants as faults
 use Rattle.store.specs.Content.{parts}
 use Rattle.store.specs.Fault.{HasRefused}
@@ -37,6 +41,7 @@ use Rattle.world.specs.Counted.{HaveRefused, NoFewer}
 use Rattle.world.specs.Fault.{FailsFor, is_memory}
 use Rattle.world.specs.Machines.{AreFit, Machines}
 use Rattle.world.specs.Seats.{Seat, seat_of}
+use Rattle.world.specs.Settled.{AreDecided, AreThoseOf, brought_of}
 use Rattle.world.proofs.BaseHoused.{housed}
 use Rattle.world.proofs.Counting.{refused_before, refused_since}
 use Rattle.world.proofs.Rebuilt.{site_seated}
@@ -46,20 +51,10 @@ use Rattle.world.proofs.Refusing.{if_err}
 pub fails_so : (a b c d : List ℕ) → (HaveRefused a b → HaveRefused c d) → (told : Fault) → FailsFor a b told → FailsFor c d told
 fails_so a b c d to told = ⊎_elim (λ memory. inl memory) (λ refused. inr (refused.0, to refused.1))
 
--- ---- counts never fall
--- why a call fails before another one is why both together do
-pub fails_before : (first second third : List ℕ) → NoFewer first second → NoFewer second third → (told : Fault) → FailsFor first second told → FailsFor first third told
-fails_before first second third one two = fails_so first second first third (λ refused. refused_before first second third one refused two)
-
--- and so is why the later one fails
+-- why a call fails after another one is why both together do
 pub fails_since : (first second third : List ℕ) → NoFewer first second → (told : Fault) → FailsFor second third told → FailsFor first third told
 fails_since first second third one = fails_so second third first third (λ refused. refused_since first second third one refused)
 
--- so of what a later call answers
-pub call_fails_since : {T : Type 0} (result : Result T Fault) (first second third : List ℕ) → NoFewer first second → IfErr result (FailsFor second third) → IfErr result (FailsFor first third)
-call_fails_since result first second third one = if_err result (fails_since first second third one)
-
--- ---- want of memory
 -- a fault that is want of memory needs no other reason
 pub memory_fails : (before after : List ℕ) (told : Fault) → told ≡ fault.Desk Memory → FailsFor before after told
 memory_fails before after told is = inl (ap is_memory is)
@@ -69,42 +64,17 @@ pub fails_on : {T : Type 0} (result : Result T Fault) (told : Fault) (before aft
 fails_on (Ok done) told before after is why = tt
 fails_on (Err now) told before after is why = subst (FailsFor before after) (sym is) why
 
--- so of a site's fault
-pub site_fails_on : {T : Type 0} (result : Result T site_faults.SiteFault) (told : site_faults.SiteFault) (before after : List ℕ) → IsErrAnd result (λ now. now ≡ told) → FailsFor before after (fault.Site told) → IfErr result (λ now. FailsFor before after (fault.Site now))
-site_fails_on (Ok done) told before after is why = tt
-site_fails_on (Err now) told before after is why = subst (λ (now : site_faults.SiteFault). FailsFor before after (fault.Site now)) (sym is) why
+-- machines that are the same fit the same catalogue
+pub fit_still : (x y : List (List ℕ) × List SplitRelation) (one other : Machines) → y ≡ x → other ≡ one → AreFit (database (catalogue_of x)) one → AreFit (database (catalogue_of y)) other
+fit_still x y one other catalog same fit = subst (λ z. AreFit (database (catalogue_of z)) other) (sym catalog) (subst (AreFit (database (catalogue_of x))) (sym same) fit)
 
--- what a call fails for, of the fault that it answers
-pub failed : {T E : Type 0} (P : E → Type 0) (result : Result T E) (told : E) → result ≡ Err told → IfErr result P → P told
-failed P result told is = subst (λ result. IfErr result P) is
-
--- ---- machines
--- a site with a sound store
-pub site_fails : {T : Type 0} (result : Result T site_faults.SiteFault) (before after : ℕ) → (result ≡ Err (site_fault.Store faults.Refused) → HasRefused before after) → result ≢ Err (site_fault.Store faults.Damaged) → result ≢ Err (site_fault.Store faults.Memory) →
-    result ≢ Err site_fault.Full → result ≢ Err site_fault.Stranger → IfErr result (λ told. FailsFor (before ∷ []) (after ∷ []) (fault.Site told))
-site_fails (Ok done) before after refuses intact plain within own = tt
-site_fails (Err site_fault.Memory) before after refuses intact plain within own = inl refl
-site_fails (Err site_fault.Full) before after refuses intact plain within own = absurd (within refl)
-site_fails (Err site_fault.Stranger) before after refuses intact plain within own = absurd (own refl)
-site_fails (Err (site_fault.Store faults.Refused)) before after refuses intact plain within own = inr (refl, inl (refuses refl))
-site_fails (Err (site_fault.Store faults.Memory)) before after refuses intact plain within own = absurd (plain refl)
-site_fails (Err (site_fault.Store faults.Damaged)) before after refuses intact plain within own = absurd (intact refl)
-
--- the first site, beside the others
-pub first_fails : {T : Type 0} (result : Result T site_faults.SiteFault) (one next : ℕ) (before after : List ℕ) → IfErr result (λ told. FailsFor (one ∷ []) (next ∷ []) (fault.Site told)) → IfErr result (λ told. FailsFor (one ∷ before) (next ∷ after) (fault.Site told))
-first_fails result one next before after = if_err result (λ told. fails_so (one ∷ []) (next ∷ []) (one ∷ before) (next ∷ after) (⊎_elim (λ here. inl here) (λ none. absurd none)) (fault.Site told))
-
--- one of the others
-pub other_fails : {T : Type 0} (result : Result T site_faults.SiteFault) (one next : ℕ) (before after : List ℕ) → IfErr result (λ told. FailsFor before after (fault.Site told)) → IfErr result (λ told. FailsFor (one ∷ before) (next ∷ after) (fault.Site told))
-other_fails result one next before after = if_err result (λ told. fails_so before after (one ∷ before) (next ∷ after) (λ there. inr there) (fault.Site told))
-
--- the coordinator with a sound store
-pub desk_fails : {T : Type 0} (result : Result T Refusal) (one next : ℕ) (before after : List ℕ) → IfErr result (λ told. (told ≡ Memory) ⊎ (told ≡ Store faults.Refused) ⊎ (told ≡ Store faults.Damaged)) → (result ≡ Err (Store faults.Refused) → HasRefused one next) → result ≢ Err (Store faults.Damaged) →
-    IfErr result (λ told. FailsFor (one ∷ before) (next ∷ after) (fault.Desk told))
-desk_fails (Ok done) one next before after own refuses intact = tt
-desk_fails (Err told) one next before after (inl memory) refuses intact = inl (ap (λ (told : Refusal). is_memory (fault.Desk told)) memory)
-desk_fails (Err told) one next before after (inr (inl refused)) refuses intact = subst (λ (told : Refusal). FailsFor (one ∷ before) (next ∷ after) (fault.Desk told)) (sym refused) (inr (refl, inl (refuses (ap Err refused))))
-desk_fails (Err told) one next before after (inr (inr damaged)) refuses intact = absurd (intact (ap Err damaged))
+-- what came of fetches at the later ones is what they are to bring at the earlier ones
+pub came_so : (x y : List (List ℕ) × List SplitRelation) (one other : Machines) (whole : Relations) (decided : List Txn) (came : List FetchRows) (fetches : List Fetch) → y ≡ x → other ≡ one →
+    (AreFit (database (catalogue_of y)) other → AreThoseOf (database (catalogue_of y)) other whole → AreDecided other.table decided → came ≡ map (brought_of (database (catalogue_of y)) whole) fetches) →
+    AreFit (database (catalogue_of x)) one → AreThoseOf (database (catalogue_of x)) one whole → AreDecided one.table decided → came ≡ map (brought_of (database (catalogue_of x)) whole) fetches
+came_so x y one other whole decided came fetches catalog same brings =
+    let Brings : List (List ℕ) × List SplitRelation → Machines → Type 0 = λ z machines. AreFit (database (catalogue_of z)) machines → AreThoseOf (database (catalogue_of z)) machines whole → AreDecided machines.table decided → came ≡ map (brought_of (database (catalogue_of z)) whole) fetches in
+    subst (Brings x) same (subst (λ z. Brings z other) catalog brings)
 
 -- ---- what fetches bring
 module _ (catalogue : Catalogue) (base : IsBase (database catalogue)) (unique : LeafNamesAreUnique) (ascend : ContentsAscend) (whole : Relations) (fits : FitsSchema (schemas_of catalogue) whole) where
