@@ -1,14 +1,12 @@
 -- Why what is kept can't be shown: what is said of a call holds of the calls that it is part of.
-use Rattle.std.proofs.Common.{◌≡◌, ◌≢◌, ◌⊎◌, refl, sym, ap, ◌∙◌, subst, ℕ, nat_eq, true, List, [], ◌∷◌, map, Some, Result, Ok, Err, IfErr, inl, inr, ⊎_elim}
+use Rattle.std.proofs.Common.{◌≡◌, sym, ap, ◌∙◌, subst, ℕ, List, [], ◌∷◌, map, Some, Result, Ok, Err, IfErr, inl, inr, ⊎_elim}
 use Rattle.std.specs.Result.{IsErrAnd}
-use Rattle.std.specs.Cmp.Lexicographic.{pointwise}
-use Rattle.std.specs.List.{AllByRecursion, list_any}
+use Rattle.std.specs.List.{AllByRecursion}
 use Rattle.terms.specs.declared.leaf.Leaf.{Leaf}
 use Rattle.terms.specs.declared.value.Value.{Value}
 use Rattle.meaning.specs.declared.statement.Statement.{Statement}
 use Rattle.meaning.specs.Statement.{IsStatementOf}
 use Rattle.meaning.specs.Whole.{FitsSchema, Relations}
-use Rattle.catalog.specs.declared.fragment_leaf.FragmentLeaf.{FragmentLeaf}
 use Rattle.catalog.specs.declared.relation.SplitRelation.{SplitRelation}
 use Rattle.catalog.specs.Catalogue.{Catalogue}
 use Rattle.catalog.specs.FragmentLeaf.{catalogue_leaves, is_name_of, leaf_named, schemas_of}
@@ -23,15 +21,9 @@ use Rattle.plan.specs.Stated.{AreFetchesOf}
 use Rattle.answers.specs.declared.table.FetchRows.{FetchRows}
 use Rattle.answers.specs.Table.{AreParts}
 use Rattle.store.specs.declared.name.Txn.{Txn}
-use Rattle.store.specs.declared.fault.StoreFault.TheVariants as faults
 use Rattle.store.specs.Content.{parts}
-use Rattle.store.specs.Fault.{HasRefused}
-use Rattle.site.specs.declared.fault.SiteFault as site_faults
-use Rattle.site.specs.declared.fault.SiteFault.TheVariants as site_fault
-use Rattle.desk.specs.declared.refusal.Refusal.{Refusal}
-use Rattle.desk.specs.declared.refusal.Refusal.TheVariants.{Memory, Store}
+use Rattle.desk.specs.declared.refusal.Refusal.TheVariants.{Memory}
 use Rattle.desk.specs.OfCatalogue.{FormsParts, HasContent}
-use Rattle.desk.specs.Planned.{site_in}
 use Rattle.desk.proofs.AtHomes.{found_so}
 use Rattle.desk.proofs.Located.{IsEither, IsFetchOf, are_of}
 use Rattle.world.specs.declared.fault.Fault.{Fault}
@@ -40,12 +32,9 @@ use Rattle.world.specs.Base.{IsBase, database}
 use Rattle.world.specs.Counted.{HaveRefused, NoFewer}
 use Rattle.world.specs.Fault.{FailsFor, is_memory}
 use Rattle.world.specs.Machines.{AreFit, Machines}
-use Rattle.world.specs.Seats.{Seat, seat_of}
 use Rattle.world.specs.Settled.{AreDecided, AreThoseOf, brought_of}
 use Rattle.world.proofs.BaseHoused.{housed}
-use Rattle.world.proofs.Counting.{refused_before, refused_since}
-use Rattle.world.proofs.Rebuilt.{site_seated}
-use Rattle.world.proofs.Refusing.{if_err}
+use Rattle.world.proofs.Counting.{refused_since}
 
 -- where refusals of some counts are refusals of others
 pub fails_so : (a b c d : List ℕ) → (HaveRefused a b → HaveRefused c d) → (told : Fault) → FailsFor a b told → FailsFor c d told

@@ -411,7 +411,7 @@ impl<D: DeskStore, S: SiteStore> Solo<D, S> {
     }
 
     /// The parts that are kept of a leaf, by their keys; none of a leaf that the catalogue doesn't have. Nothing
-    /// has changed by this.
+    /// has changed by this. A fault is want of memory, or a store whose medium has refused meanwhile.
     pub fn parts(&mut self, leaf: &Leaf) -> Result<Option<Vec<Part>>, Fault>
         ensures sent { result ≢ Err faults.Unsent }
         ensures clean { OfStores D.is_clean S.is_clean self.new.machines → OfStores D.is_clean S.is_clean self.old.machines }
@@ -430,7 +430,8 @@ impl<D: DeskStore, S: SiteStore> Solo<D, S> {
 
     /// The rows of a relation, by their keys, as the fragments rebuild it with the intentions of committed
     /// transactions; none of a relation that there isn't. They are what the committed transactions make of it,
-    /// one after another. Nothing has changed by this.
+    /// one after another. Nothing has changed by this. A fault is want of memory, or a store whose medium has
+    /// refused meanwhile.
     pub fn rebuilt(&mut self, relation: &Text) -> Result<Option<Vec<Row>>, Fault>
         ensures sent { result ≢ Err faults.Unsent }
         ensures clean { OfStores D.is_clean S.is_clean self.new.machines → OfStores D.is_clean S.is_clean self.old.machines }
@@ -445,6 +446,9 @@ impl<D: DeskStore, S: SiteStore> Solo<D, S> {
         ensures still { (self.new.current ≡ self.old.current) × (self.new.stopped ≡ self.old.stopped) }
         ensures catalog { self.new.machines.desk.catalog ≡ self.old.machines.desk.catalog }
         ensures counts { NoFewer (counts D.refused S.refused self.old.machines) (counts D.refused S.refused self.new.machines) }
+        ensures fails_after { (whole : Relations) (past : List (Deed (language (database (catalogue_of self.old.machines.desk.catalog))))) → OfStores D.is_clean S.is_clean self.new.machines → OfStores D.is_sound S.is_sound self.old.machines
+            → IsServed (database (catalogue_of self.old.machines.desk.catalog)) whole (counted D.kept S.kept D.refused S.refused self.old.machines) past
+            → IfErr result (FailsFor (counts D.refused S.refused self.old.machines) (counts D.refused S.refused self.new.machines)) }
         ensures fails { (whole : Relations) → OfStores D.is_clean S.is_clean self.new.machines → OfStores D.is_sound S.is_sound self.old.machines → AreFit (database (catalogue_of self.old.machines.desk.catalog)) (counted D.kept S.kept D.refused S.refused self.old.machines)
             → AreThoseOf (database (catalogue_of self.old.machines.desk.catalog)) (counted D.kept S.kept D.refused S.refused self.old.machines) whole → FitsSchema (schemas_of (catalogue_of self.old.machines.desk.catalog)) whole
             → IfErr result (FailsFor (counts D.refused S.refused self.old.machines) (counts D.refused S.refused self.new.machines)) }

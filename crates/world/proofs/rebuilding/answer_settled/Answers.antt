@@ -13,9 +13,8 @@ use Rattle.plan.specs.Stated.{AreFetchesOf}
 use Rattle.answers.specs.Table.{given}
 use Rattle.world.specs.Base.{IsBase, database}
 use Rattle.world.specs.Counted.{counts}
-use Rattle.world.specs.Held.{OfStores, held}
-use Rattle.world.specs.Machines.{AreFit, Machines}
-use Rattle.world.specs.Settled.{AreDecided, AreThoseOf, brought_of}
+use Rattle.world.specs.Held.{held}
+use Rattle.world.specs.Settled.{AreDecided, brought_of}
 use Rattle.world.proofs.Counting.{no_fewer, no_fewer_then}
 use Rattle.world.proofs.Failing.{came_so, fails_on, fails_since, fit_still, memory_fails, parts_come}
 use Rattle.world.proofs.Moving.{if_ok}
