@@ -165,6 +165,7 @@ impl<S: SiteStore> Site<S> {
         ensures within { result ≢ Err faults.Full }
         ensures refusal { result ≡ Err (faults.Store store_faults.Refused) → HasRefused (S.refused self.old.store) (S.refused self.new.store) }
         ensures intact { S.is_clean self.new.store → S.is_sound self.old.store → result ≢ Err (faults.Store store_faults.Damaged) }
+        ensures plain { result ≢ Err (faults.Store store_faults.Memory) }
     {
         match self.store.load() {
             Ok(all) => Ok(all),
@@ -186,6 +187,7 @@ impl<S: SiteStore> Site<S> {
         ensures within { result ≢ Err faults.Full }
         ensures refusal { result ≡ Err (faults.Store store_faults.Refused) → HasRefused (S.refused self.old.store) (S.refused self.new.store) }
         ensures intact { S.is_clean self.new.store → S.is_sound self.old.store → result ≢ Err (faults.Store store_faults.Damaged) }
+        ensures plain { result ≢ Err (faults.Store store_faults.Memory) }
     {
         let _tickets = self.present.standings.len();
         let all = self.kept()?;

@@ -52,3 +52,10 @@ module _ (db : Database) (lawful : IsLawful (language db)) where
       ((after : Relations) → AreThoseOf db machines after → FitsSchema db.schemas after → IfOk result (λ shown. items shown ≡ rows_shown db after name)) → IfOk result (λ shown. ShowsSerial db whole entries name (items shown))
   serial_shown (Ok shown) items whole machines entries past name serial run shows = shows_serial whole machines entries past name (items shown) serial run shows
   serial_shown (Err fault) items whole machines entries past name serial run shows = tt
+
+  -- what holds of each whole database that the fragments may come to holds after a run: they come to that of the serial run
+  pub serial_gives : (P : Type 0) (whole : Relations) (machines : Machines) (entries : List Entry) (past : List (Deed (language db))) → RunsAreSerial db → IsRun db whole machines entries past →
+      ((after : Relations) → AreThoseOf db machines after → FitsSchema db.schemas after → P) → P
+  serial_gives P whole machines entries past serial run gives =
+      let so = serial whole machines entries past run in
+      gives (serial_whole (language db) (map so.statements (committed_in entries)) whole) so.rebuilt (serial_fits (committed_in entries) (texts_of entries) so.statements whole so.spelled run.opens.is_whole)

@@ -27,6 +27,7 @@ pub mod Follow
 pub mod Reasoned
 pub mod Counting
 pub mod Stops
+pub mod Failing
 pub mod Spared
 pub mod Deliveries
 pub mod Reaching

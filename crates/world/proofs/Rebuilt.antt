@@ -71,6 +71,14 @@ named_there (first ∷ sites) (suc number) site there = go (pointwise nat_eq fir
     go true later = refl
     go false later = later
 
+-- where the machines fit a catalogue, there is a seat for the site that it has of a leaf
+pub site_seated : (catalogue : Catalogue) (machines : Machines) (leaf : Leaf) (place : List ℕ) → AreFit (database catalogue) machines → site_in catalogue leaf ≡ Some place → (seat : Seat) × (seat_of place machines.seats ≡ Some seat)
+site_seated catalogue machines leaf place fit is = go (leaf_named leaf (catalogue_leaves catalogue)) is
+  where
+    go : (o : Option FragmentLeaf) → option_and_then (λ (l : FragmentLeaf). slice_get catalogue.sites l.site) o ≡ Some place → (seat : Seat) × (seat_of place machines.seats ≡ Some seat)
+    go None none = absurd cc
+    go (Some there) is = seat_there place machines.seats (subst (λ names. list_any (λ other. pointwise nat_eq other place) names ≡ true) (sym fit.names) (named_there catalogue.sites there.site place is))
+
 module _ (catalogue : Catalogue) (formed : IsFormed catalogue) where
   homed : (leaf : Leaf) (there : FragmentLeaf) → leaf_named leaf (catalogue_leaves catalogue) ≡ Some there → slice_get catalogue.sites there.site ≡ Some (site_of catalogue.sites (found catalogue leaf))
   homed leaf there is =

@@ -1,7 +1,7 @@
 //! Relations, rebuilt from the settled fragments as a SELECT of all their columns.
 
-ghost use Rattle.std.specs.Prelude.{◌≡◌, ◌≢◌, Err, ℕ, List, [], map, IfOk, IfSome, unwrap_or};
-ghost use Rattle.std.specs.List.{Contains, filter};
+ghost use Rattle.std.specs.Prelude.{◌≡◌, ◌≢◌, Err, ℕ, List, [], map, IfErr, IfOk, IfSome, unwrap_or};
+ghost use Rattle.std.specs.List.{AllByRecursion, Contains, filter};
 ghost use Rattle.std.specs.Option.{option_map};
 ghost use Rattle.terms.specs.declared.value.Value.{Value};
 ghost use Rattle.terms.specs.Cond.{conds_hold};
@@ -19,9 +19,12 @@ ghost use Rattle.plan.specs.Reduced.{FindsAll};
 ghost use Rattle.plan.specs.Shape.{shape};
 ghost use Rattle.plan.specs.Stated.{AreFetchesOf};
 ghost use Rattle.plan.specs.Uniform.{EachRead, IsUniform};
-ghost use Rattle.answers.specs.Table.{given};
+ghost use Rattle.answers.specs.Table.{AreParts, given};
+ghost use Rattle.desk.specs.declared.refusal.Refusal.TheVariants as refusals;
 ghost use Rattle.world.specs.declared.fault.Fault.TheVariants as faults;
 ghost use Rattle.world.specs.Base.{database};
+ghost use Rattle.world.specs.Counted.{NoFewer, counts};
+ghost use Rattle.world.specs.Fault.{FailsFor};
 ghost use Rattle.world.specs.Held.{OfStores, held};
 ghost use Rattle.world.specs.Machines.{AreFit};
 ghost use Rattle.world.specs.Settled.{AreDecided, AreThoseOf, brought_of, everything, rows_shown};
@@ -38,6 +41,7 @@ use meaning::answer::Answer;
 use meaning::schema::{Column, RelationSchema};
 use meaning::statement::{Select, Source, Statement};
 use plan::fetch::Fetch;
+use plan::laws::contents_ascend;
 use plan::localize::localize;
 use plan::reduce::{Reduced, fetches, reduce};
 use site::fault::SiteFault;
@@ -122,6 +126,8 @@ fn bring_one<D: DeskStore, S: SiteStore>(
     ensures sound { OfStores D.is_clean S.is_clean machines.new → OfStores D.is_sound S.is_sound machines.old → OfStores D.is_sound S.is_sound machines.new }
     ensures same { OfStores D.is_clean S.is_clean machines.new → OfStores D.is_sound S.is_sound machines.old → held D.kept S.kept machines.new ≡ held D.kept S.kept machines.old }
     ensures catalog { machines.new.desk.catalog ≡ machines.old.desk.catalog }
+    ensures counts { NoFewer (counts D.refused S.refused machines.old) (counts D.refused S.refused machines.new) }
+    ensures fails { OfStores D.is_clean S.is_clean machines.new → OfStores D.is_sound S.is_sound machines.old → AreFit (database (catalogue_of machines.old.desk.catalog)) (held D.kept S.kept machines.old) → IfErr result (FailsFor (counts D.refused S.refused machines.old) (counts D.refused S.refused machines.new)) }
     ensures brought { (whole : Relations) → OfStores D.is_clean S.is_clean machines.new → OfStores D.is_sound S.is_sound machines.old → AreFit (database (catalogue_of machines.old.desk.catalog)) (held D.kept S.kept machines.old) → AreThoseOf (database (catalogue_of machines.old.desk.catalog)) (held D.kept S.kept machines.old) whole → AreDecided (held D.kept S.kept machines.old).table decided.now
         → IfOk result (λ rows. rows ≡ brought_of (database (catalogue_of machines.old.desk.catalog)) whole fetch.now) }
 {
@@ -145,6 +151,8 @@ fn bring<D: DeskStore, S: SiteStore>(
     ensures sound { OfStores D.is_clean S.is_clean machines.new → OfStores D.is_sound S.is_sound machines.old → OfStores D.is_sound S.is_sound machines.new }
     ensures same { OfStores D.is_clean S.is_clean machines.new → OfStores D.is_sound S.is_sound machines.old → held D.kept S.kept machines.new ≡ held D.kept S.kept machines.old }
     ensures catalog { machines.new.desk.catalog ≡ machines.old.desk.catalog }
+    ensures counts { NoFewer (counts D.refused S.refused machines.old) (counts D.refused S.refused machines.new) }
+    ensures fails { OfStores D.is_clean S.is_clean machines.new → OfStores D.is_sound S.is_sound machines.old → AreFit (database (catalogue_of machines.old.desk.catalog)) (held D.kept S.kept machines.old) → IfErr result (FailsFor (counts D.refused S.refused machines.old) (counts D.refused S.refused machines.new)) }
     ensures brought { (whole : Relations) → OfStores D.is_clean S.is_clean machines.new → OfStores D.is_sound S.is_sound machines.old → AreFit (database (catalogue_of machines.old.desk.catalog)) (held D.kept S.kept machines.old) → AreThoseOf (database (catalogue_of machines.old.desk.catalog)) (held D.kept S.kept machines.old) whole → AreDecided (held D.kept S.kept machines.old).table decided.now
         → IfOk result (λ rows. rows.items ≡ map (brought_of (database (catalogue_of machines.old.desk.catalog)) whole) fetches.now) }
 {
@@ -180,6 +188,7 @@ fn answer(
     ensures sent { result ≢ Err faults.Unsent }
     ensures answer { IsStatementOf (schemas_of (catalogue_of catalog.now)) statement.now → AreFetchesOf (catalogue_of catalog.now) statement.now reduced.now.fetches.items → FindsAll (catalogue_of catalog.now) statement.now reduced.now.fetches.items (shape reduced.now.plan)
         → IfOk result (λ answer. (whole : Relations) → FitsSchema (schemas_of (catalogue_of catalog.now)) whole → AreBrought (catalogue_of catalog.now) whole reduced.now.fetches.items (given brought.now) → answer ≡ (meaning statement.now whole).0) }
+    ensures fails { AllByRecursion (λ read. AreParts read.columns (given brought.now read.leaf)) reduced.now.fetches.items → IfErr result (λ fault. fault ≡ faults.Desk refusals.Memory) }
 {
     if !are_all_parts(fetches(reduced), brought) {
         return Err(Fault::Site(SiteFault::Store(StoreFault::Damaged)));
@@ -208,10 +217,14 @@ fn answer_settled<D: DeskStore, S: SiteStore>(
     ensures sound { OfStores D.is_clean S.is_clean machines.new → OfStores D.is_sound S.is_sound machines.old → OfStores D.is_sound S.is_sound machines.new }
     ensures same { OfStores D.is_clean S.is_clean machines.new → OfStores D.is_sound S.is_sound machines.old → held D.kept S.kept machines.new ≡ held D.kept S.kept machines.old }
     ensures catalog { machines.new.desk.catalog ≡ machines.old.desk.catalog }
+    ensures counts { NoFewer (counts D.refused S.refused machines.old) (counts D.refused S.refused machines.new) }
+    ensures fails { (whole : Relations) → OfStores D.is_clean S.is_clean machines.new → OfStores D.is_sound S.is_sound machines.old → AreFit (database (catalogue_of machines.old.desk.catalog)) (held D.kept S.kept machines.old) → AreThoseOf (database (catalogue_of machines.old.desk.catalog)) (held D.kept S.kept machines.old) whole → FitsSchema (schemas_of (catalogue_of machines.old.desk.catalog)) whole
+        → IfErr result (FailsFor (counts D.refused S.refused machines.old) (counts D.refused S.refused machines.new)) }
     ensures answer { (whole : Relations) → OfStores D.is_clean S.is_clean machines.new → OfStores D.is_sound S.is_sound machines.old → AreFit (database (catalogue_of machines.old.desk.catalog)) (held D.kept S.kept machines.old) → AreThoseOf (database (catalogue_of machines.old.desk.catalog)) (held D.kept S.kept machines.old) whole → FitsSchema (schemas_of (catalogue_of machines.old.desk.catalog)) whole
         → IfOk result (λ answer. answer ≡ (meaning statement.now whole).0) }
 {
     leaf_names_are_unique();
+    contents_ascend();
     database_is_of_catalogue(machines.desk.catalog());
     let alloc = machines.alloc;
     let reduced = planned(alloc, machines.desk.catalog(), statement)?;
@@ -248,6 +261,9 @@ pub(crate) fn rebuilt<D: DeskStore, S: SiteStore>(
     ensures sound { OfStores D.is_clean S.is_clean machines.new → OfStores D.is_sound S.is_sound machines.old → OfStores D.is_sound S.is_sound machines.new }
     ensures same { OfStores D.is_clean S.is_clean machines.new → OfStores D.is_sound S.is_sound machines.old → held D.kept S.kept machines.new ≡ held D.kept S.kept machines.old }
     ensures catalog { machines.new.desk.catalog ≡ machines.old.desk.catalog }
+    ensures counts { NoFewer (counts D.refused S.refused machines.old) (counts D.refused S.refused machines.new) }
+    ensures fails { (whole : Relations) → OfStores D.is_clean S.is_clean machines.new → OfStores D.is_sound S.is_sound machines.old → AreFit (database (catalogue_of machines.old.desk.catalog)) (held D.kept S.kept machines.old) → AreThoseOf (database (catalogue_of machines.old.desk.catalog)) (held D.kept S.kept machines.old) whole → FitsSchema (schemas_of (catalogue_of machines.old.desk.catalog)) whole
+        → IfErr result (FailsFor (counts D.refused S.refused machines.old) (counts D.refused S.refused machines.new)) }
     ensures rows { (whole : Relations) → OfStores D.is_clean S.is_clean machines.new → OfStores D.is_sound S.is_sound machines.old → AreFit (database (catalogue_of machines.old.desk.catalog)) (held D.kept S.kept machines.old) → AreThoseOf (database (catalogue_of machines.old.desk.catalog)) (held D.kept S.kept machines.old) whole → FitsSchema (schemas_of (catalogue_of machines.old.desk.catalog)) whole
         → IfOk result (λ shown. option_map (λ rows. rows.items) shown ≡ rows_shown (database (catalogue_of machines.old.desk.catalog)) whole name.now) }
 {

@@ -1,6 +1,6 @@
 //! The parts of leaves: those that sites keep, and those with the intentions of decided transactions.
 
-ghost use Rattle.std.specs.Prelude.{◌≡◌, ◌≢◌, Err, Some, IfOk, map};
+ghost use Rattle.std.specs.Prelude.{◌≡◌, ◌≢◌, ◌≤◌, ◌∷◌, [], Err, Some, IfErr, IfOk, map};
 ghost use Rattle.std.specs.FinMap as fin;
 ghost use Rattle.std.specs.List.{AllByRecursion};
 ghost use Rattle.std.specs.Option.{option_and_then, option_copied, option_map};
@@ -9,9 +9,11 @@ ghost use Rattle.desk.specs.Database.{Database};
 ghost use Rattle.desk.specs.Planned.{site_in};
 ghost use Rattle.world.specs.declared.fault.Fault.TheVariants as faults;
 ghost use Rattle.world.specs.Base.{database};
+ghost use Rattle.world.specs.Counted.{NoFewer, counts, counts_of};
+ghost use Rattle.world.specs.Fault.{FailsFor};
 ghost use Rattle.world.specs.Held.{OfStores, held};
 ghost use Rattle.world.specs.Machines.{AreFit};
-ghost use Rattle.world.specs.Seats.{AreSeated, IsSeated};
+ghost use Rattle.world.specs.Seats.{AreSeated, IsSeated, Seat, seat_of};
 ghost use Rattle.world.specs.Seated.{seat_from, seats_in};
 ghost use Rattle.world.specs.Settled.{AreDecided, parts_kept, settled_at, settled_in};
 
@@ -42,6 +44,8 @@ fn settled_in<S: SiteStore>(
     ensures parts { S.is_clean site.new.store → S.is_sound site.old.store → IsSeated (seat_from S.kept site.old)
         → IfOk result (λ parts. parts.items ≡ fin.values (settled_in decided.now leaf.now (seat_from S.kept site.old))) }
     ensures same { S.is_clean site.new.store → S.is_sound site.old.store → seat_from S.kept site.new ≡ seat_from S.kept site.old }
+    ensures counts { S.refused site.old.store ≤ S.refused site.new.store }
+    ensures fails { S.is_clean site.new.store → S.is_sound site.old.store → IfErr result (λ fault. FailsFor (S.refused site.old.store ∷ []) (S.refused site.new.store ∷ []) (faults.Site fault)) }
 {
     let all = site.settled(decided)?;
     Ok(all.list(leaf)?)
@@ -59,6 +63,9 @@ fn settled_among<S: SiteStore>(
     ensures parts { AllByRecursion (λ site. S.is_clean site.store) sites.new → AllByRecursion (λ site. S.is_sound site.store) sites.old → AreSeated (seats_in S.kept sites.old)
         → IfOk result (λ parts. option_map (λ content. fin.values content) (settled_at decided.now leaf.now (seats_in S.kept sites.old) place.now) ≡ Some parts.items) }
     ensures same { AllByRecursion (λ site. S.is_clean site.store) sites.new → AllByRecursion (λ site. S.is_sound site.store) sites.old → seats_in S.kept sites.new ≡ seats_in S.kept sites.old }
+    ensures counts { NoFewer (counts_of S.refused sites.old) (counts_of S.refused sites.new) }
+    ensures fails { (seat : Seat) → AllByRecursion (λ site. S.is_clean site.store) sites.new → AllByRecursion (λ site. S.is_sound site.store) sites.old → seat_of place.now (seats_in S.kept sites.old) ≡ Some seat
+        → IfErr result (λ fault. FailsFor (counts_of S.refused sites.old) (counts_of S.refused sites.new) (faults.Site fault)) }
 {
     let Some((site, rest)) = sites.split_first_mut() else {
         return Err(SiteFault::Stranger);
@@ -90,6 +97,8 @@ pub(crate) fn decided<D: DeskStore, S: SiteStore>(
     ensures all { (db : Database) → OfStores D.is_clean S.is_clean machines.new → OfStores D.is_sound S.is_sound machines.old → AreFit db (held D.kept S.kept machines.old) → IfOk result (λ all. AreDecided (held D.kept S.kept machines.old).table all.items) }
     ensures same { OfStores D.is_clean S.is_clean machines.new → OfStores D.is_sound S.is_sound machines.old → held D.kept S.kept machines.new ≡ held D.kept S.kept machines.old }
     ensures catalog { machines.new.desk.catalog ≡ machines.old.desk.catalog }
+    ensures counts { NoFewer (counts D.refused S.refused machines.old) (counts D.refused S.refused machines.new) }
+    ensures fails { OfStores D.is_clean S.is_clean machines.new → OfStores D.is_sound S.is_sound machines.old → IfErr result (FailsFor (counts D.refused S.refused machines.old) (counts D.refused S.refused machines.new)) }
 {
     let kept = machines.desk.kept()?;
     Ok(txns_of(machines.alloc, kept.commits.as_slice())?)
@@ -117,6 +126,8 @@ pub(crate) fn settled_parts<D: DeskStore, S: SiteStore>(
         → IfOk result (λ found. option_map (λ parts. parts.items) found ≡ option_and_then (λ place. option_map (λ content. fin.values content) (settled_at decided.now leaf.now (held D.kept S.kept machines.old).seats place)) (site_in (catalogue_of machines.old.desk.catalog) leaf.now)) }
     ensures same { OfStores D.is_clean S.is_clean machines.new → OfStores D.is_sound S.is_sound machines.old → held D.kept S.kept machines.new ≡ held D.kept S.kept machines.old }
     ensures catalog { machines.new.desk.catalog ≡ machines.old.desk.catalog }
+    ensures counts { NoFewer (counts D.refused S.refused machines.old) (counts D.refused S.refused machines.new) }
+    ensures fails { OfStores D.is_clean S.is_clean machines.new → OfStores D.is_sound S.is_sound machines.old → AreFit (database (catalogue_of machines.old.desk.catalog)) (held D.kept S.kept machines.old) → IfErr result (FailsFor (counts D.refused S.refused machines.old) (counts D.refused S.refused machines.new)) }
 {
     let Some(place) = site_in(machines.desk.catalog(), leaf) else {
         return Ok(None);
@@ -139,6 +150,8 @@ pub(crate) fn kept_parts<D: DeskStore, S: SiteStore>(
         → IfOk result (λ shown. option_map (λ parts. parts.items) shown ≡ parts_kept (database (catalogue_of machines.old.desk.catalog)) (held D.kept S.kept machines.old) leaf.now) }
     ensures same { OfStores D.is_clean S.is_clean machines.new → OfStores D.is_sound S.is_sound machines.old → held D.kept S.kept machines.new ≡ held D.kept S.kept machines.old }
     ensures catalog { machines.new.desk.catalog ≡ machines.old.desk.catalog }
+    ensures counts { NoFewer (counts D.refused S.refused machines.old) (counts D.refused S.refused machines.new) }
+    ensures fails { OfStores D.is_clean S.is_clean machines.new → OfStores D.is_sound S.is_sound machines.old → AreFit (database (catalogue_of machines.old.desk.catalog)) (held D.kept S.kept machines.old) → IfErr result (FailsFor (counts D.refused S.refused machines.old) (counts D.refused S.refused machines.new)) }
 {
     let _relations = machines.desk.catalog().relations();
     settled_parts(machines, &[], leaf)

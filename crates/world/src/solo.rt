@@ -21,9 +21,9 @@ ghost use Rattle.desk.specs.declared.refusal.Refusal.{Refusal as RefusalNow};
 ghost use Rattle.desk.specs.declared.refusal.Refusal.TheVariants as refusals;
 ghost use Rattle.world.specs.declared.fault.Fault.TheVariants as faults;
 ghost use Rattle.world.specs.Base.{database, fits};
-ghost use Rattle.world.specs.Counted.{counts};
+ghost use Rattle.world.specs.Counted.{NoFewer, counts};
 ghost use Rattle.world.specs.Faring.{HasRun, WasStopped};
-ghost use Rattle.world.specs.Fault.{is_memory};
+ghost use Rattle.world.specs.Fault.{FailsFor, is_memory};
 ghost use Rattle.world.specs.Held.{OfStores, counted, held, unrefused};
 ghost use Rattle.world.specs.Machines.{AreFit};
 ghost use Rattle.world.specs.Obeying.{Obeys, Stands, StandsOn};
@@ -411,7 +411,7 @@ impl<D: DeskStore, S: SiteStore> Solo<D, S> {
     }
 
     /// The parts that are kept of a leaf, by their keys; none of a leaf that the catalogue doesn't have. Nothing
-    /// has changed by this.
+    /// has changed by this. A fault is want of memory, or a store whose medium has refused meanwhile.
     pub fn parts(&mut self, leaf: &Leaf) -> Result<Option<Vec<Part>>, Fault>
         ensures sent { result ≢ Err faults.Unsent }
         ensures clean { OfStores D.is_clean S.is_clean self.new.machines → OfStores D.is_clean S.is_clean self.old.machines }
@@ -421,13 +421,17 @@ impl<D: DeskStore, S: SiteStore> Solo<D, S> {
         ensures same { OfStores D.is_clean S.is_clean self.new.machines → OfStores D.is_sound S.is_sound self.old.machines → held D.kept S.kept self.new.machines ≡ held D.kept S.kept self.old.machines }
         ensures still { (self.new.current ≡ self.old.current) × (self.new.stopped ≡ self.old.stopped) }
         ensures catalog { self.new.machines.desk.catalog ≡ self.old.machines.desk.catalog }
+        ensures counts { NoFewer (counts D.refused S.refused self.old.machines) (counts D.refused S.refused self.new.machines) }
+        ensures fails { OfStores D.is_clean S.is_clean self.new.machines → OfStores D.is_sound S.is_sound self.old.machines → AreFit (database (catalogue_of self.old.machines.desk.catalog)) (counted D.kept S.kept D.refused S.refused self.old.machines)
+            → IfErr result (FailsFor (counts D.refused S.refused self.old.machines) (counts D.refused S.refused self.new.machines)) }
     {
         kept_parts(&mut self.machines, leaf)
     }
 
     /// The rows of a relation, by their keys, as the fragments rebuild it with the intentions of committed
     /// transactions; none of a relation that there isn't. They are what the committed transactions make of it,
-    /// one after another. Nothing has changed by this.
+    /// one after another. Nothing has changed by this. A fault is want of memory, or a store whose medium has
+    /// refused meanwhile.
     pub fn rebuilt(&mut self, relation: &Text) -> Result<Option<Vec<Row>>, Fault>
         ensures sent { result ≢ Err faults.Unsent }
         ensures clean { OfStores D.is_clean S.is_clean self.new.machines → OfStores D.is_clean S.is_clean self.old.machines }
@@ -441,6 +445,13 @@ impl<D: DeskStore, S: SiteStore> Solo<D, S> {
         ensures same { OfStores D.is_clean S.is_clean self.new.machines → OfStores D.is_sound S.is_sound self.old.machines → held D.kept S.kept self.new.machines ≡ held D.kept S.kept self.old.machines }
         ensures still { (self.new.current ≡ self.old.current) × (self.new.stopped ≡ self.old.stopped) }
         ensures catalog { self.new.machines.desk.catalog ≡ self.old.machines.desk.catalog }
+        ensures counts { NoFewer (counts D.refused S.refused self.old.machines) (counts D.refused S.refused self.new.machines) }
+        ensures fails_after { (whole : Relations) (past : List (Deed (language (database (catalogue_of self.old.machines.desk.catalog))))) → OfStores D.is_clean S.is_clean self.new.machines → OfStores D.is_sound S.is_sound self.old.machines
+            → IsServed (database (catalogue_of self.old.machines.desk.catalog)) whole (counted D.kept S.kept D.refused S.refused self.old.machines) past
+            → IfErr result (FailsFor (counts D.refused S.refused self.old.machines) (counts D.refused S.refused self.new.machines)) }
+        ensures fails { (whole : Relations) → OfStores D.is_clean S.is_clean self.new.machines → OfStores D.is_sound S.is_sound self.old.machines → AreFit (database (catalogue_of self.old.machines.desk.catalog)) (counted D.kept S.kept D.refused S.refused self.old.machines)
+            → AreThoseOf (database (catalogue_of self.old.machines.desk.catalog)) (counted D.kept S.kept D.refused S.refused self.old.machines) whole → FitsSchema (schemas_of (catalogue_of self.old.machines.desk.catalog)) whole
+            → IfErr result (FailsFor (counts D.refused S.refused self.old.machines) (counts D.refused S.refused self.new.machines)) }
     {
         one_client_is_a_run(self.machines.desk.catalog());
         rebuilt(&mut self.machines, relation)

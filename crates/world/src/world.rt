@@ -19,7 +19,8 @@ ghost use Rattle.world.specs.declared.event.Entry.{Entry as EntryNow};
 ghost use Rattle.world.specs.declared.event.Event.TheVariants as events;
 ghost use Rattle.world.specs.declared.fault.Fault.TheVariants as faults;
 ghost use Rattle.world.specs.Events.{is_unsent};
-ghost use Rattle.world.specs.Fault.{is_memory};
+ghost use Rattle.world.specs.Counted.{NoFewer, counts};
+ghost use Rattle.world.specs.Fault.{FailsFor, is_memory};
 ghost use Rattle.world.specs.Following.{Follows, Passes};
 ghost use Rattle.world.specs.Held.{OfStores, held};
 ghost use Rattle.world.specs.History.{AnswerInTurn, committed_of};
@@ -217,7 +218,7 @@ impl<D: DeskStore, S: SiteStore> World<D, S> {
     }
 
     /// The parts that are kept of a leaf, by their keys; none of a leaf that the catalogue doesn't have. Nothing
-    /// has changed by this.
+    /// has changed by this. A fault is want of memory, or a store whose medium has refused meanwhile.
     pub fn parts(&mut self, leaf: &Leaf) -> Result<Option<Vec<Part>>, Fault>
         ensures sent { result ≢ Err faults.Unsent }
         ensures clean { OfStores D.is_clean S.is_clean self.new.machines → OfStores D.is_clean S.is_clean self.old.machines }
@@ -227,13 +228,17 @@ impl<D: DeskStore, S: SiteStore> World<D, S> {
         ensures same { OfStores D.is_clean S.is_clean self.new.machines → OfStores D.is_sound S.is_sound self.old.machines → held D.kept S.kept self.new.machines ≡ held D.kept S.kept self.old.machines }
         ensures entries { self.new.entries.items ≡ self.old.entries.items }
         ensures catalog { self.new.machines.desk.catalog ≡ self.old.machines.desk.catalog }
+        ensures counts { NoFewer (counts D.refused S.refused self.old.machines) (counts D.refused S.refused self.new.machines) }
+        ensures fails { OfStores D.is_clean S.is_clean self.new.machines → OfStores D.is_sound S.is_sound self.old.machines → AreFit (database (catalogue_of self.old.machines.desk.catalog)) (held D.kept S.kept self.old.machines)
+            → IfErr result (FailsFor (counts D.refused S.refused self.old.machines) (counts D.refused S.refused self.new.machines)) }
     {
         kept_parts(&mut self.machines, leaf)
     }
 
     /// The rows of a relation, by their keys, as the fragments rebuild it with the intentions of committed
     /// transactions; none of a relation that there isn't. They are what the committed transactions make of it,
-    /// one after another. Nothing has changed by this.
+    /// one after another. Nothing has changed by this. A fault is want of memory, or a store whose medium has
+    /// refused meanwhile.
     pub fn rebuilt(&mut self, relation: &Text) -> Result<Option<Vec<Row>>, Fault>
         ensures sent { result ≢ Err faults.Unsent }
         ensures clean { OfStores D.is_clean S.is_clean self.new.machines → OfStores D.is_clean S.is_clean self.old.machines }
@@ -248,6 +253,14 @@ impl<D: DeskStore, S: SiteStore> World<D, S> {
         ensures same { OfStores D.is_clean S.is_clean self.new.machines → OfStores D.is_sound S.is_sound self.old.machines → held D.kept S.kept self.new.machines ≡ held D.kept S.kept self.old.machines }
         ensures entries { self.new.entries.items ≡ self.old.entries.items }
         ensures catalog { self.new.machines.desk.catalog ≡ self.old.machines.desk.catalog }
+        ensures counts { NoFewer (counts D.refused S.refused self.old.machines) (counts D.refused S.refused self.new.machines) }
+        ensures fails_after { (whole : Relations) (past : List (Deed (language (database (catalogue_of self.old.machines.desk.catalog)))))
+            → OfStores D.is_clean S.is_clean self.new.machines → OfStores D.is_sound S.is_sound self.old.machines
+            → IsRun (database (catalogue_of self.old.machines.desk.catalog)) whole (held D.kept S.kept self.old.machines) self.old.entries.items past
+            → IfErr result (FailsFor (counts D.refused S.refused self.old.machines) (counts D.refused S.refused self.new.machines)) }
+        ensures fails { (whole : Relations) → OfStores D.is_clean S.is_clean self.new.machines → OfStores D.is_sound S.is_sound self.old.machines → AreFit (database (catalogue_of self.old.machines.desk.catalog)) (held D.kept S.kept self.old.machines)
+            → AreThoseOf (database (catalogue_of self.old.machines.desk.catalog)) (held D.kept S.kept self.old.machines) whole → FitsSchema (schemas_of (catalogue_of self.old.machines.desk.catalog)) whole
+            → IfErr result (FailsFor (counts D.refused S.refused self.old.machines) (counts D.refused S.refused self.new.machines)) }
     {
         runs_are_serial(self.machines.desk.catalog());
         language_is_lawful(self.machines.desk.catalog());

@@ -1,5 +1,5 @@
 -- Why `bring` meets its contract.
-use Rattle.std.proofs.Common.{◌≡◌, ◌∙◌, ℕ, ◌+◌, ◌++◌, ◌∷◌, [], ap, ap₂, sym, subst, List, map, take}
+use Rattle.std.proofs.Common.{◌≡◌, ◌∙◌, ℕ, ◌+◌, ◌++◌, ◌∷◌, [], refl, ap, ap₂, sym, subst, List, map, take}
 use Rattle.std.proofs.lemmas.List.{map-append, take_all, take_more}
 use Rattle.meaning.specs.Whole.{Relations}
 use Rattle.catalog.specs.declared.relation.SplitRelation.{SplitRelation}
@@ -7,10 +7,23 @@ use Rattle.catalog.specs.Relation.{catalogue_of}
 use Rattle.plan.specs.declared.fetch.Fetch.{Fetch}
 use Rattle.answers.specs.declared.table.FetchRows.{FetchRows}
 use Rattle.world.specs.Base.{database}
+use Rattle.world.specs.Counted.{counts}
 use Rattle.world.specs.Held.{OfStores, held}
 use Rattle.world.specs.Machines.{AreFit, Machines}
 use Rattle.world.specs.Settled.{AreDecided, AreThoseOf, brought_of}
+use Rattle.world.proofs.Counting.{no_fewer, no_fewer_then}
+use Rattle.world.proofs.Failing.{fails_on, fails_since, fit_still}
 use Rattle.world.proofs.rebuilding.bring.Goals as goal
+
+pub loop-fetch-init : goal.loop-fetch-init
+loop-fetch-init g c = (
+  λ clean. clean,
+  λ clean sound. sound,
+  λ clean sound. refl,
+  refl,
+  λ whole clean sound fit those are. c.new-brought.ensures.items,
+  no_fewer (counts g.D.DeskStore.refused g.S.SiteStore.refused c.args.machines.now),
+)
 
 pub loop-fetch-preserved : goal.loop-fetch-preserved
 loop-fetch-preserved g c =
@@ -41,8 +54,32 @@ loop-fetch-preserved g c =
           c.in_ok-push.ensures.items
           ∙ ap₂ (λ (front : List FetchRows) (last : FetchRows). front ++ last ∷ []) (all.4 whole mid_clean sound fit those are) (brings whole clean mid_sound fit those are)
           ∙ sym (ap (map bring) one_more ∙ map-append bring (take i fetches) (fetch ∷ [])),
+      no_fewer_then (counts D.refused S.refused start) (counts D.refused S.refused mid) (counts D.refused S.refused now) all.5 step.counts,
     )
 
 pub returns-clause-brought : goal.returns-clause-brought
 returns-clause-brought g c = λ whole clean sound fit those are.
     c.loop-fetch.invariant.4 whole clean sound fit those are ∙ ap (map (brought_of (database (catalogue_of c.args.machines.now.desk.catalog)) whole)) (take_all c.loop-fetch.fetch-index c.args.fetches.now c.loop-fetch-test.false)
+
+pub returns-in_err-bring_one-clause-counts : goal.returns-in_err-bring_one-clause-counts
+returns-in_err-bring_one-clause-counts g c =
+    let of = counts g.D.DeskStore.refused g.S.SiteStore.refused in
+    no_fewer_then (of c.args.machines.now) (of c.loop-fetch.machines) (of c.bring_one.new.machines) c.loop-fetch.invariant.5 c.bring_one.ensures.counts
+
+pub returns-in_err-push-clause-counts : goal.returns-in_err-push-clause-counts
+returns-in_err-push-clause-counts g c =
+    let of = counts g.D.DeskStore.refused g.S.SiteStore.refused in
+    no_fewer_then (of c.args.machines.now) (of c.loop-fetch.machines) (of c.bring_one.new.machines) c.loop-fetch.invariant.5 c.bring_one.ensures.counts
+
+pub returns-in_err-bring_one-clause-fails : goal.returns-in_err-bring_one-clause-fails
+returns-in_err-bring_one-clause-fails g c = λ clean sound fit.
+    let of = counts g.D.DeskStore.refused g.S.SiteStore.refused in
+    let content = held g.D.DeskStore.kept g.S.SiteStore.kept in
+    let all = c.loop-fetch.invariant in
+    let start = c.args.machines.now in
+    let mid = c.loop-fetch.machines in
+    let now = c.bring_one.new.machines in
+    let mid_clean = c.bring_one.ensures.clean clean in
+    let mid_fit = fit_still start.desk.catalog mid.desk.catalog (content start) (content mid) all.3 (all.2 mid_clean sound) fit in
+    let told = c.in_err-bring_one.field-0.0 in
+    fails_on c.from_residual.result told (of start) (of now) c.from_residual.ensures.1 (fails_since (of start) (of mid) (of now) all.5 told (c.in_err-bring_one.ensures.fails clean (all.1 mid_clean sound) mid_fit))

@@ -3,6 +3,7 @@ use Rattle.std.proofs.Common.{◌≡◌, map, take}
 use Rattle.meaning.specs.Whole.{Relations}
 use Rattle.catalog.specs.Relation.{catalogue_of}
 use Rattle.world.specs.Base.{database}
+use Rattle.world.specs.Counted.{NoFewer, counts}
 use Rattle.world.specs.Held.{OfStores, held}
 use Rattle.world.specs.Machines.{AreFit}
 use Rattle.world.specs.Settled.{AreDecided, AreThoseOf, brought_of}
@@ -21,3 +22,4 @@ invariant-loop-fetch g l =
     × (l.machines.desk.catalog ≡ l.initial.machines.desk.catalog)
     × ((whole : Relations) → clean l.machines → sound l.initial.machines → AreFit db (of l.initial.machines) → AreThoseOf db (of l.initial.machines) whole → AreDecided (of l.initial.machines).table l.decided
     → l.brought.items ≡ map (brought_of db whole) (take l.fetch-index l.fetches))
+    × NoFewer (counts g.D.DeskStore.refused g.S.SiteStore.refused l.initial.machines) (counts g.D.DeskStore.refused g.S.SiteStore.refused l.machines)

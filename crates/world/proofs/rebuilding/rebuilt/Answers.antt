@@ -4,7 +4,9 @@ use Rattle.meaning.specs.declared.statement.Statement.TheVariants as statement
 use Rattle.meaning.specs.Schema.{relation_named}
 use Rattle.catalog.specs.FragmentLeaf.{schemas_of}
 use Rattle.catalog.specs.Relation.{catalogue_of}
+use Rattle.world.specs.Counted.{counts}
 use Rattle.world.specs.Settled.{everything}
+use Rattle.world.proofs.Counting.{no_fewer}
 use Rattle.world.proofs.Rebuilt.{shows_rows}
 use Rattle.world.proofs.rebuilding.rebuilt.Goals as goal
 
@@ -13,3 +15,9 @@ returns-clause-rows g c = λ whole clean sound fit those fits.
     let catalogue = catalogue_of c.args.machines.now.desk.catalog in
     let found = subst (λ x. c.in_ok-statement.field-0 ≡ option_map (λ relation. statement.Select (everything relation)) (relation_named c.args.name.now (schemas_of (catalogue_of x)))) c.catalog.ensures c.in_ok-statement.ensures.statement in
     shows_rows (schemas_of catalogue) whole c.args.name.now c.in_ok-statement.field-0 c.in-Some.statement c.in_ok-answer.answer c.rows_of.result.items fits found c.in-Some.is (c.in_ok-answer.ensures.answer whole clean sound fit those fits) c.rows_of.ensures
+
+pub returns-in_err-statement-clause-counts : goal.returns-in_err-statement-clause-counts
+returns-in_err-statement-clause-counts g c = no_fewer (counts g.D.DeskStore.refused g.S.SiteStore.refused c.args.machines.now)
+
+pub returns-in_default-clause-counts : goal.returns-in_default-clause-counts
+returns-in_default-clause-counts g c = no_fewer (counts g.D.DeskStore.refused g.S.SiteStore.refused c.args.machines.now)

@@ -1,7 +1,9 @@
 -- Why `decided` meets its contract.
 use Rattle.std.proofs.Common.{◌≡◌, ◌∙◌, ap, sym, subst, map}
 use Rattle.desk.specs.State.{table_of}
+use Rattle.world.specs.Counted.{counts_of}
 use Rattle.world.specs.Settled.{AreDecided}
+use Rattle.world.proofs.Counting.{no_fewer}
 use Rattle.world.proofs.SettledSites.{decided_are}
 use Rattle.world.proofs.settled.decided.Goals as goal
 
@@ -12,3 +14,12 @@ returns-clause-all g c = λ db clean sound fit.
     let all : c.in_ok-txns_of.field-0.items ≡ map (λ row. row.txn) c.in_ok-kept.kept.commits = c.in_ok-txns_of.ensures ∙ ap (map (λ row. row.txn)) c.as_slice.ensures in
     subst (AreDecided (table_of desk.present)) (sym all)
     (decided_are db (kept desk.store) (kept c.kept.new.self.store) (table_of desk.present) c.in_ok-kept.kept fit.desk (c.kept.ensures.same clean.0 sound.0) (c.in_ok-kept.ensures.all clean.0))
+
+pub returns-in_err-kept-clause-counts : goal.returns-in_err-kept-clause-counts
+returns-in_err-kept-clause-counts g c = (c.kept.ensures.counts, no_fewer (counts_of g.S.SiteStore.refused c.args.machines.now.sites.items))
+
+pub returns-in_err-txns_of-clause-counts : goal.returns-in_err-txns_of-clause-counts
+returns-in_err-txns_of-clause-counts g c = (c.kept.ensures.counts, no_fewer (counts_of g.S.SiteStore.refused c.args.machines.now.sites.items))
+
+pub returns-clause-counts : goal.returns-clause-counts
+returns-clause-counts g c = (c.kept.ensures.counts, no_fewer (counts_of g.S.SiteStore.refused c.args.machines.now.sites.items))

@@ -18,3 +18,11 @@ returns-clause-served g c = λ whole past clean sound served.
     let law = subst (λ x. ReachedLaw (language (database (catalogue_of x)))) c.catalog.ensures c.one_client_is_a_run.ensures in
     let rests = world_of db machines [] past in
     c.rebuilt.ensures.rows (after_committed db past whole) clean sound (fit_uncounted db (held g.D.DeskStore.kept g.S.SiteStore.kept c.args.self.now.machines) (counts g.D.DeskStore.refused g.S.SiteStore.refused c.args.self.now.machines) served.fit) (law.serial whole rests served.reached).rebuilt (law.is_whole whole rests served.reached)
+
+pub returns-clause-fails_after : goal.returns-clause-fails_after
+returns-clause-fails_after g c = λ whole past clean sound served.
+    let db = database (catalogue_of c.args.self.now.machines.desk.catalog) in
+    let machines = counted g.D.DeskStore.kept g.S.SiteStore.kept g.D.DeskStore.refused g.S.SiteStore.refused c.args.self.now.machines in
+    let law = subst (λ x. ReachedLaw (language (database (catalogue_of x)))) c.catalog.ensures c.one_client_is_a_run.ensures in
+    let rests = world_of db machines [] past in
+    c.rebuilt.ensures.fails (after_committed db past whole) clean sound (fit_uncounted db (held g.D.DeskStore.kept g.S.SiteStore.kept c.args.self.now.machines) (counts g.D.DeskStore.refused g.S.SiteStore.refused c.args.self.now.machines) served.fit) (law.serial whole rests served.reached).rebuilt (law.is_whole whole rests served.reached)
