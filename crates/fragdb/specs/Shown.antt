@@ -1,5 +1,5 @@
 -- What is shown of a schedule: relations, leaves and committed transactions.
-use Rattle.std.specs.Prelude.{◌≡◌, ◌⊎◌, ℕ, List, [], ◌∷◌, ◌++◌, Option, Some, None, if◌then◌else◌, bytes_eq, codes}
+use Rattle.std.specs.Prelude.{◌≡◌, ℕ, List, [], ◌∷◌, ◌++◌, Option, Some, None, if◌then◌else◌, bytes_eq, codes}
 use Rattle.std.specs.List.{flat_map}
 use Rattle.terms.specs.declared.leaf.Leaf.{Leaf}
 use Rattle.terms.specs.declared.value.Value.{Value}
@@ -26,7 +26,7 @@ use Rattle.fragdb.specs.Schedule.{IsReached, refusal_text}
 abbrev pub rows_text : Mode → List (List ℕ) → List (List Value) → List ℕ
 rows_text mode columns rows = answer_in mode (Rows columns rows)
 
--- what is told where a store fails while this is shown
+-- what is told where a store fails while this is shown, which no list does
 abbrev pub failed_text : List ℕ → Fault → List ℕ
 failed_text name why = refusal_text (record { client = name; site = name; missing = [] }) why
 
@@ -52,15 +52,15 @@ written_leaf name (leaf ∷ leaves) = if bytes_eq (leaf_text leaf.name) name the
 abbrev pub names_text : Naming → List Txn → List ℕ
 names_text named txns = flat_map (λ txn. named txn ++ 10 ∷ []) txns
 
--- what is shown of a relation after a run over whole relations, or why it is not: the rows that the committed transactions make of it, one after another
+-- what is shown of a relation after a run over whole relations: the rows that the committed transactions make of it, one after another
 abbrev pub IsShownRelation : Catalogue → Relations → List Entry → List ℕ → List ℕ → Type 0
 IsShownRelation catalogue whole entries name text =
-    ((found : Option (List (List Value))) × ShowsSerial (database catalogue) whole entries name found × (text ≡ relation_text Tabs catalogue name found)) ⊎ ((why : Fault) × (text ≡ failed_text name why))
+    (found : Option (List (List Value))) × ShowsSerial (database catalogue) whole entries name found × (text ≡ relation_text Tabs catalogue name found)
 
 -- the same of a leaf: the parts that are kept of it where a run with these entries leads to
 abbrev pub IsShownParts : Catalogue → Relations → List Entry → List ℕ → Leaf → List ℕ → Type 0
 IsShownParts catalogue whole entries name leaf text =
-    ((machines : Machines) × IsReached catalogue whole machines entries × (text ≡ parts_text Tabs catalogue name leaf (parts_kept (database catalogue) machines leaf))) ⊎ ((why : Fault) × (text ≡ failed_text name why))
+    (machines : Machines) × IsReached catalogue whole machines entries × (text ≡ parts_text Tabs catalogue name leaf (parts_kept (database catalogue) machines leaf))
 
 abbrev pub IsShownAs : Catalogue → Relations → List Entry → List ℕ → Option Leaf → List ℕ → Type 0
 IsShownAs catalogue whole entries name None text = text ≡ no_leaf_text Tabs name

@@ -1,9 +1,10 @@
 //! What is shown of a schedule: relations, leaves and which transactions are committed.
 
-ghost use Rattle.std.specs.Prelude.{◌≡◌, ◌++◌, ◌∷◌, [], IfOk, OnOk, option_map, string_bytes};
+ghost use Rattle.std.specs.Prelude.{◌≡◌, ◌++◌, ◌∷◌, [], false, IfOk, OnOk, option_map, string_bytes};
 ghost use Rattle.std.specs.List.{flat_map};
 ghost use Rattle.meaning.specs.Whole.{Relations};
 ghost use Rattle.catalog.specs.Relation.{catalogue_of};
+ghost use Rattle.world.specs.Fault.{is_memory};
 ghost use Rattle.world.specs.Telling.{committed_in};
 ghost use Rattle.fragdb.specs.Cast.{name_of};
 ghost use Rattle.fragdb.specs.Schedule.{HasRun, stage_of};
@@ -30,6 +31,7 @@ use terms::seq::Seq;
 use terms::text::Text;
 use world::fault::Fault;
 use world::history::Committed;
+use world::laws::lists_stop_for_memory;
 
 /// Rows under the names of their columns.
 fn rows_text(
@@ -100,9 +102,10 @@ pub fn parts_text(
     }
 }
 
-/// What is told where a store fails while this is shown.
+/// What is told where a store fails while this is shown. Lists fail for want of memory alone, so nothing is told over them.
 fn failed(alloc: Global, name: &str, fault: Fault) -> Result<String, Memory>
-    ensures { IfOk result (λ text. string_bytes text ≡ failed_text name.now fault) }
+    ensures told { IfOk result (λ text. string_bytes text ≡ failed_text name.now fault) }
+    ensures of_store { OnOk result (is_memory fault ≡ false) }
 {
     match fault {
         Fault::Desk(Refusal::Memory) | Fault::Site(SiteFault::Memory) => Err(Memory),
@@ -160,6 +163,7 @@ impl Schedule {
         ensures runs { (whole : Relations) → HasRun whole self.old.world → HasRun whole self.new.world }
         ensures catalog { self.new.world.machines.desk.catalog ≡ self.old.world.machines.desk.catalog }
     {
+        lists_stop_for_memory();
         match self.world.rebuilt(name) {
             Ok(found) => relation_text(alloc, Mode::Tabs, self.world.catalog(), name, found),
             Err(fault) => failed(alloc, name.as_str(), fault),
@@ -185,6 +189,7 @@ impl Schedule {
         ensures runs { (whole : Relations) → HasRun whole self.old.world → HasRun whole self.new.world }
         ensures catalog { self.new.world.machines.desk.catalog ≡ self.old.world.machines.desk.catalog }
     {
+        lists_stop_for_memory();
         match self.world.parts(leaf) {
             Ok(found) => parts_text(alloc, Mode::Tabs, self.world.catalog(), leaf, name, found),
             Err(fault) => failed(alloc, name, fault),
