@@ -5,6 +5,7 @@ pub mod Content
 pub mod Reply
 pub mod LetterText
 pub mod Fault
+pub mod Frame
 pub mod SiteContent
 pub mod PlainSite
 pub mod DeskContent

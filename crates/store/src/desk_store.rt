@@ -2,7 +2,7 @@
 
 ghost use Rattle.std.specs.Prelude.{◌≡◌, ◌≢◌, ◌≤◌, ◌<◌, ◌+◌, ◌^◌, ℕ, None, Err, IfOk, OnOk, OnErr};
 ghost use Rattle.store.specs.DeskContent.{DeskContent, AreVoters, IsUnchanged, KeepsCommit, DropsCommit, BeginsLife, Lists};
-ghost use Rattle.store.specs.Fault.{HasRefused};
+ghost use Rattle.store.specs.Frame.{LeavesStore, Reads, ChangesOrFails};
 
 use crate::commit::{DeskKept, Voter};
 use crate::fault::StoreFault;
@@ -24,47 +24,31 @@ pub trait DeskStore {
 
     /// Keeps that a transaction is committed, until the row is dropped. It has no commit row yet.
     fn keep_commit(&mut self, txn: Txn, voters: &[Voter]) -> Result<(), StoreFault>
-        ensures clean { is_clean self.new → is_clean self.old }
-        ensures sound { is_clean self.new → is_sound self.old → is_sound self.new }
+        ensures leaves { LeavesStore is_clean is_sound refused self.old self.new }
         ensures ok { is_clean self.new → is_sound self.old → (kept self.old).commits txn ≡ None → AreVoters voters.now
             → OnOk result (KeepsCommit txn voters.now (kept self.old) (kept self.new)) }
-        ensures err { is_clean self.new → is_sound self.old → OnErr result (IsUnchanged (kept self.old) (kept self.new)) }
-        ensures counts { refused self.old ≤ refused self.new }
-        ensures refusal { result ≡ Err StoreFault.Refused → HasRefused (refused self.old) (refused self.new) }
-        ensures intact { result ≢ Err StoreFault.Damaged };
+        ensures fails { ChangesOrFails is_clean is_sound kept IsUnchanged refused self.old self.new result };
 
     /// Drops a transaction's commit row, if it has one.
     fn drop_commit(&mut self, txn: Txn) -> Result<(), StoreFault>
-        ensures clean { is_clean self.new → is_clean self.old }
-        ensures sound { is_clean self.new → is_sound self.old → is_sound self.new }
+        ensures leaves { LeavesStore is_clean is_sound refused self.old self.new }
         ensures ok { is_clean self.new → is_sound self.old → OnOk result (DropsCommit txn (kept self.old) (kept self.new)) }
-        ensures err { is_clean self.new → is_sound self.old → OnErr result (IsUnchanged (kept self.old) (kept self.new)) }
-        ensures counts { refused self.old ≤ refused self.new }
-        ensures refusal { result ≡ Err StoreFault.Refused → HasRefused (refused self.old) (refused self.new) }
-        ensures intact { result ≢ Err StoreFault.Damaged };
+        ensures fails { ChangesOrFails is_clean is_sound kept IsUnchanged refused self.old self.new result };
 
     /// Begins the next incarnation, and answers it. The caller knows from `load` that it stays below the
     /// limit.
     fn next_incarnation(&mut self) -> Result<u64, StoreFault>
-        ensures clean { is_clean self.new → is_clean self.old }
-        ensures sound { is_clean self.new → is_sound self.old → is_sound self.new }
+        ensures leaves { LeavesStore is_clean is_sound refused self.old self.new }
         ensures ok { is_clean self.new → is_sound self.old → (kept self.old).life + 1 < 2 ^ 63 → OnOk result (BeginsLife (kept self.old) (kept self.new)) }
         ensures life { is_clean self.new → is_sound self.old → IfOk result (λ life. life ≡ (kept self.new).life) }
-        ensures err { is_clean self.new → is_sound self.old → OnErr result (IsUnchanged (kept self.old) (kept self.new)) }
-        ensures counts { refused self.old ≤ refused self.new }
-        ensures refusal { result ≡ Err StoreFault.Refused → HasRefused (refused self.old) (refused self.new) }
-        ensures intact { result ≢ Err StoreFault.Damaged };
+        ensures fails { ChangesOrFails is_clean is_sound kept IsUnchanged refused self.old self.new result };
 
     /// All that is kept. A store that answers it is sound.
     fn load(&mut self) -> Result<DeskKept, StoreFault>
-        ensures clean { is_clean self.new → is_clean self.old }
-        ensures sound { is_clean self.new → OnOk result (is_sound self.new) }
-        ensures keeps { is_clean self.new → is_sound self.old → is_sound self.new }
+        ensures leaves { LeavesStore is_clean is_sound refused self.old self.new }
+        ensures learnt { is_clean self.new → OnOk result (is_sound self.old) }
         ensures all { is_clean self.new → IfOk result (Lists (kept self.new)) }
-        ensures same { is_clean self.new → is_sound self.old → IsUnchanged (kept self.old) (kept self.new) }
-        ensures counts { refused self.old ≤ refused self.new }
-        ensures refusal { result ≡ Err StoreFault.Refused → HasRefused (refused self.old) (refused self.new) }
-        ensures intact { is_clean self.new → is_sound self.old → result ≢ Err StoreFault.Damaged };
+        ensures reads { Reads is_clean is_sound kept IsUnchanged refused self.old self.new result };
 
     /// How often the medium has refused.
     fn refusals(&self) -> u64

@@ -6,6 +6,7 @@ ghost use Rattle.terms.specs.declared.leaf.Leaf.{Leaf as LeafName};
 ghost use Rattle.store.specs.declared.prepared.Prepared.{Prepared as Row};
 ghost use Rattle.store.specs.Content.{IsKeyed};
 ghost use Rattle.store.specs.Fault.{HasRefused};
+ghost use Rattle.store.specs.Frame.{LeavesStore, Reads, ChangesOrFails};
 ghost use Rattle.store.specs.SiteContent.{SiteContent, IsUnchanged, Prepares, Applies, Discards, BeginsLife, Lists};
 
 use crate::changes::Changes;
@@ -32,81 +33,55 @@ pub trait SiteStore {
 
     /// The parts of a leaf, in the order of their keys.
     fn scan(&mut self, leaf: &Leaf) -> Result<Vec<Part>, StoreFault>
-        ensures clean { is_clean self.new → is_clean self.old }
-        ensures sound { is_clean self.new → is_sound self.old → is_sound self.new }
+        ensures leaves { LeavesStore is_clean is_sound refused self.old self.new }
         ensures parts { is_clean self.new → is_sound self.old → IfOk result (λ parts. parts.items ≡ map.values ((kept self.old).content leaf.now)) }
-        ensures same { is_clean self.new → is_sound self.old → IsUnchanged (kept self.old) (kept self.new) }
-        ensures counts { refused self.old ≤ refused self.new }
-        ensures refusal { result ≡ Err StoreFault.Refused → HasRefused (refused self.old) (refused self.new) }
-        ensures intact { is_clean self.new → is_sound self.old → result ≢ Err StoreFault.Damaged };
+        ensures reads { Reads is_clean is_sound kept IsUnchanged refused self.old self.new result };
 
     /// The part at a slot, if there is one.
     fn find(&mut self, slot: &Slot) -> Result<Option<Part>, StoreFault>
-        ensures clean { is_clean self.new → is_clean self.old }
-        ensures sound { is_clean self.new → is_sound self.old → is_sound self.new }
+        ensures leaves { LeavesStore is_clean is_sound refused self.old self.new }
         ensures part { is_clean self.new → is_sound self.old → IfOk result (λ found. found ≡ map.get ((kept self.old).content slot.now.leaf) slot.now.key) }
-        ensures same { is_clean self.new → is_sound self.old → IsUnchanged (kept self.old) (kept self.new) }
-        ensures counts { refused self.old ≤ refused self.new }
-        ensures refusal { result ≡ Err StoreFault.Refused → HasRefused (refused self.old) (refused self.new) }
-        ensures intact { is_clean self.new → is_sound self.old → result ≢ Err StoreFault.Damaged };
+        ensures reads { Reads is_clean is_sound kept IsUnchanged refused self.old self.new result };
 
     /// Keeps what a visit is to do, until it is applied or discarded. The ticket has no row yet. Changes
     /// that were not kept come back.
     fn keep_prepared(&mut self, txn: Txn, ticket: Ticket, changes: Changes) -> Result<(), Unkept>
-        ensures clean { is_clean self.new → is_clean self.old }
-        ensures sound { is_clean self.new → is_sound self.old → is_sound self.new }
+        ensures leaves { LeavesStore is_clean is_sound refused self.old self.new }
         ensures ok { is_clean self.new → is_sound self.old → (kept self.old).prepared ticket ≡ None
             → OnOk result (Prepares ticket (record { txn = txn; changes = changes }) (kept self.old) (kept self.new)) }
         ensures err { is_clean self.new → is_sound self.old → OnErr result (IsUnchanged (kept self.old) (kept self.new)) }
         ensures back { IfErr result (λ unkept. unkept.changes ≡ changes) }
-        ensures counts { refused self.old ≤ refused self.new }
         ensures refusal { IfErr result (λ unkept. unkept.fault ≡ StoreFault.Refused → HasRefused (refused self.old) (refused self.new)) }
         ensures intact { IfErr result (λ unkept. unkept.fault ≢ StoreFault.Damaged) };
 
     /// Makes the changes of a ticket's row, which goes. Without a row nothing is changed.
     fn apply(&mut self, ticket: Ticket) -> Result<(), StoreFault>
-        ensures clean { is_clean self.new → is_clean self.old }
-        ensures sound { is_clean self.new → is_sound self.old → is_sound self.new }
+        ensures leaves { LeavesStore is_clean is_sound refused self.old self.new }
         ensures ok { is_clean self.new → is_sound self.old → (row : Row) → (kept self.old).prepared ticket ≡ Some row
             → OnOk result (Applies ticket row.changes (kept self.old) (kept self.new)) }
         ensures none { is_clean self.new → is_sound self.old → (kept self.old).prepared ticket ≡ None → IsUnchanged (kept self.old) (kept self.new) }
-        ensures err { is_clean self.new → is_sound self.old → OnErr result (IsUnchanged (kept self.old) (kept self.new)) }
-        ensures counts { refused self.old ≤ refused self.new }
-        ensures refusal { result ≡ Err StoreFault.Refused → HasRefused (refused self.old) (refused self.new) }
-        ensures intact { result ≢ Err StoreFault.Damaged };
+        ensures fails { ChangesOrFails is_clean is_sound kept IsUnchanged refused self.old self.new result };
 
     /// Drops a ticket's row, if it has one.
     fn discard(&mut self, ticket: Ticket) -> Result<(), StoreFault>
-        ensures clean { is_clean self.new → is_clean self.old }
-        ensures sound { is_clean self.new → is_sound self.old → is_sound self.new }
+        ensures leaves { LeavesStore is_clean is_sound refused self.old self.new }
         ensures ok { is_clean self.new → is_sound self.old → OnOk result (Discards ticket (kept self.old) (kept self.new)) }
-        ensures err { is_clean self.new → is_sound self.old → OnErr result (IsUnchanged (kept self.old) (kept self.new)) }
-        ensures counts { refused self.old ≤ refused self.new }
-        ensures refusal { result ≡ Err StoreFault.Refused → HasRefused (refused self.old) (refused self.new) }
-        ensures intact { result ≢ Err StoreFault.Damaged };
+        ensures fails { ChangesOrFails is_clean is_sound kept IsUnchanged refused self.old self.new result };
 
     /// Begins the next incarnation, and answers it. The caller knows from `load` that it stays below the
     /// limit.
     fn next_incarnation(&mut self) -> Result<u64, StoreFault>
-        ensures clean { is_clean self.new → is_clean self.old }
-        ensures sound { is_clean self.new → is_sound self.old → is_sound self.new }
+        ensures leaves { LeavesStore is_clean is_sound refused self.old self.new }
         ensures ok { is_clean self.new → is_sound self.old → (kept self.old).life + 1 < 2 ^ 63 → OnOk result (BeginsLife (kept self.old) (kept self.new)) }
         ensures life { is_clean self.new → is_sound self.old → IfOk result (λ life. life ≡ (kept self.new).life) }
-        ensures err { is_clean self.new → is_sound self.old → OnErr result (IsUnchanged (kept self.old) (kept self.new)) }
-        ensures counts { refused self.old ≤ refused self.new }
-        ensures refusal { result ≡ Err StoreFault.Refused → HasRefused (refused self.old) (refused self.new) }
-        ensures intact { result ≢ Err StoreFault.Damaged };
+        ensures fails { ChangesOrFails is_clean is_sound kept IsUnchanged refused self.old self.new result };
 
     /// All that is kept. A store that answers it is sound.
     fn load(&mut self) -> Result<SiteKept, StoreFault>
-        ensures clean { is_clean self.new → is_clean self.old }
-        ensures sound { is_clean self.new → OnOk result (is_sound self.new) }
-        ensures keeps { is_clean self.new → is_sound self.old → is_sound self.new }
+        ensures leaves { LeavesStore is_clean is_sound refused self.old self.new }
+        ensures learnt { is_clean self.new → OnOk result (is_sound self.old) }
         ensures all { is_clean self.new → IfOk result (Lists (kept self.new)) }
-        ensures same { is_clean self.new → is_sound self.old → IsUnchanged (kept self.old) (kept self.new) }
-        ensures counts { refused self.old ≤ refused self.new }
-        ensures refusal { result ≡ Err StoreFault.Refused → HasRefused (refused self.old) (refused self.new) }
-        ensures intact { is_clean self.new → is_sound self.old → result ≢ Err StoreFault.Damaged };
+        ensures reads { Reads is_clean is_sound kept IsUnchanged refused self.old self.new result };
 
     /// How often the medium has refused.
     fn refusals(&self) -> u64

@@ -1,5 +1,5 @@
 -- Why `PlainSite::apply` meets its contract.
-use Rattle.std.proofs.Common.{Result, Ok, Err, OnErr, unwrap_or, refl, ap, ◌∙◌}
+use Rattle.std.proofs.Common.{Result, Ok, Err, OnErr, unwrap_or, refl, ap, ◌∙◌, rules}
 use Rattle.std.specs.FinMap as fin
 use Rattle.store.specs.Content.{put_at}
 use Rattle.store.specs.ContentLaws.{same_made, made_over}
@@ -9,9 +9,12 @@ on_err : {T E P : Type 0} (result : Result T E) → P → OnErr result P
 on_err (Ok x) holds = tt
 on_err (Err e) holds = holds
 
-pub returns-in_err-make_rooms-clause-err : goal.returns-in_err-make_rooms-clause-err
-returns-in_err-make_rooms-clause-err c = λ clean sound.
-    on_err c.from_residual.result (record { content = same_made c.make_rooms.new.self c.args.self.now.parts c.make_rooms.ensures.same; prepared = λ ticket. refl; life = refl })
+pub returns-in_err-make_rooms-clause-fails : goal.returns-in_err-make_rooms-clause-fails
+returns-in_err-make_rooms-clause-fails c = record {
+  err = λ clean sound. on_err c.from_residual.result (record { content = same_made c.make_rooms.new.self c.args.self.now.parts c.make_rooms.ensures.same; prepared = λ ticket. refl; life = refl });
+  refusal = search rules;
+  intact = search rules;
+}
 
 pub returns-clause-ok : goal.returns-clause-ok
 returns-clause-ok c = λ clean sound row is.
