@@ -1,9 +1,9 @@
--- Small runs of the toy language, each computed: a moved row with its write lost, committed, repeated, in doubt, and late.
-use Rattle.std.proofs.Common.{◌≡◌, refl, subst₂, ℕ, Bool, true, false, List, [], ◌∷◌, ◌++◌, map, length, drop}
-use Rattle.protocol.specs.Language.{Name}
+-- Small runs of the toy language, each computed: a moved row with its write lost, committed, repeated, in doubt, and late; and what is passed over, refused or answered at each of these.
+use Rattle.std.proofs.Common.{◌≡◌, refl, subst₂, ℕ, Bool, true, false, List, [], ◌∷◌, ◌++◌, map, length, drop, nat_lt}
+use Rattle.protocol.specs.Language.{Lang, Name}
 use Rattle.protocol.specs.Letter.{Body, Open, Fetch, Write, Prepare, Commit, Abort, Ticket, Rows, Refused, Voted, Ack, Inquire, Lock, Gone, Yes, No}
 use Rattle.protocol.specs.Site.{Dead, is_within}
-use Rattle.protocol.specs.Desk.{Unknown, State, Commit_call, Choice}
+use Rattle.protocol.specs.Desk.{Unknown, State, Commit_call, Rollback, Choice, Began, Stated}
 use Rattle.protocol.specs.World.{World, Event, Begin, Call, Deliver, Site_gives_up, Site_inquires, Site_restarts, Desk_restarts, run}
 use Rattle.protocol.specs.Serial.{committed, settled, AllExplained, IsOpening, IsSerial}
 use Rattle.protocol.specs.Toy.{toy, Pair, Move, Look, part_of}
@@ -230,3 +230,71 @@ only_read = refl
 -- a number at 2^63 is past the limits
 not_within : is_within {L = toy} (record { kept = λ g. 0; status = λ k. Dead; known = []; life = 1; number = 9223372036854775808 }) ≡ false
 not_within = refl
+
+-- a voter that asks about a committed transaction hears Commit
+commit_told : new_letters decided (Site_inquires false ∷ all_of (16 ∷ [])) ≡ Inquire one ∷ Commit one ∷ []
+commit_told = refl
+
+-- the last acknowledgement counts as not received where the row's drop was not kept: come again, it drops the row
+drop_again : (run (decided ++ all_of (14 ∷ 15 ∷ 16 ∷ []) ++ Deliver 17 false (0, []) ∷ Deliver 17 true (0, []) ∷ []) start).desk.known ≡ []
+drop_again = refl
+
+-- a site that restarted refuses a fetch that comes late
+late_refusal_is_gone : new_letters moved (Site_restarts false true ∷ all_of (4 ∷ 12 ∷ [])) ≡ Refused one Gone ∷ []
+late_refusal_is_gone = refl
+
+-- and a refusal that comes in the first phase aborts nothing
+late_refusal : (run (moved ++ Site_restarts false true ∷ all_of (4 ∷ 12 ∷ [])) start).desk.known ≡ one ∷ []
+late_refusal = refl
+
+-- nor does a rollback then
+no_rollback : (run (moved ++ Call one Rollback (0, []) ∷ []) start).desk.known ≡ one ∷ []
+no_rollback = refl
+
+-- an Open that came twice has given two tickets, and the second hears Abort
+second_ticket : new_letters (Begin ∷ Call one (State (Look true)) (0, []) ∷ all_of (0 ∷ 0 ∷ 1 ∷ [])) (all_of (2 ∷ [])) ≡ Abort two ∷ []
+second_ticket = refl
+
+-- a coordinator that restarts aborts what was undecided without a letter
+no_abort_at_restart : new_letters moved (Desk_restarts true ∷ []) ≡ []
+no_abort_at_restart = refl
+
+-- a visit whose write was refused for a lock has ended: the same write again is no operation of it
+lock_ends : new_letters looked (all_of (9 ∷ 9 ∷ [])) ≡ Refused one Lock ∷ []
+lock_ends = refl
+
+-- an Abort whose discard is not kept leaves the prepared row
+refused_abort : ((run (moved ++ all_of (8 ∷ 10 ∷ 11 ∷ 12 ∷ 13 ∷ []) ++ Deliver 14 false (0, []) ∷ []) start).sites false).known ≡ one ∷ []
+refused_abort = refl
+
+-- both leaves are looked at, and a commit is asked for: letters 8 and 9 are the Prepares, 10 is the vote Read of the north
+abbrev looked_at_both : List (Event toy)
+looked_at_both = Begin ∷ Call one (State (Look false)) (0, []) ∷ all_of (0 ∷ 1 ∷ 2 ∷ []) ++ Deliver 3 true (7, []) ∷ Call one (State (Look true)) (0, []) ∷ all_of (4 ∷ 5 ∷ 6 ∷ []) ++ Deliver 7 true (0, []) ∷ Call one Commit_call (0, []) ∷ all_of (8 ∷ [])
+
+-- a Prepare that comes again after the vote Read is answered by No, and the first vote counts
+votes_again : new_letters looked_at_both (all_of (8 ∷ [])) ≡ Voted one No ∷ []
+votes_again = refl
+
+first_vote_counts : committed_in (looked_at_both ++ all_of (8 ∷ 10 ∷ 11 ∷ 9 ∷ 12 ∷ [])) ≡ one ∷ []
+first_vote_counts = refl
+
+-- a voter that has voted Read hears no Abort
+read_hears_no_abort : new_letters looked_at_both (Site_gives_up true one ∷ all_of (9 ∷ 10 ∷ 11 ∷ [])) ≡ Voted one No ∷ []
+read_hears_no_abort = refl
+
+-- the language whose rows fit a leaf where they are below 7
+abbrev below_seven : Lang
+below_seven = record toy { well_formed = λ g rows. nat_lt rows 7 }
+
+-- a part 9 in the north, which doesn't fit
+abbrev misfit : World below_seven
+misfit = record {
+  desk = record { txn = λ t. Unknown; known = []; life = 1; number = 0 };
+  sites = λ a. record { kept = λ g. 9; status = λ k. Dead; known = []; life = 1; number = 0 };
+  letters = [];
+  past = [];
+}
+
+-- rows that don't fit their leaf are passed over: the statement waits
+misfit_passed_over : (run (Begin ∷ Call one (State (Look false)) (0, []) ∷ map (λ n. Deliver n true (9, [])) (0 ∷ 1 ∷ 2 ∷ 3 ∷ [])) misfit).past ≡ Began one ∷ Stated one (Look false) ∷ []
+misfit_passed_over = refl
