@@ -8,6 +8,7 @@ pub mod World
 pub mod Serial
 pub mod Whole
 pub mod Parts
+pub mod Premise
 pub mod Client
 pub mod Statements
 pub mod Rounds

@@ -6,6 +6,7 @@ ghost use Rattle.protocol.specs.ClientLaw.{ClientLaw, LetterByLetter};
 ghost use Rattle.protocol.specs.Fitting.{StaysFitting};
 ghost use Rattle.protocol.specs.OneClient.{OneAtATime};
 ghost use Rattle.protocol.specs.Parts.{PartsOneAndTwo, PartThree};
+ghost use Rattle.protocol.specs.Premise.{PremiseIsMet};
 ghost use Rattle.protocol.specs.Rounds.{RoundByLetter};
 ghost use Rattle.protocol.specs.Serial.{SerialLaw};
 ghost use Rattle.protocol.specs.Smooth.{SmoothLaw};
@@ -17,6 +18,13 @@ ghost use Rattle.protocol.specs.Whole.{AppliedWholeAndOnce};
 /// settled fragments rebuild.
 pub fn serial_law()
     ensures { SerialLaw toy }
+{}
+
+/// The premise of the serial law is met by runs with every end: in each a row was moved as the move means it,
+/// and the transaction was committed, or aborted by a vote No, or aborted by a restart of the coordinator
+/// while its voters were in doubt, or rolled back.
+pub fn premise_is_met()
+    ensures { PremiseIsMet toy }
 {}
 
 /// After every list of events: a transaction in its first phase that can no longer commit never can
