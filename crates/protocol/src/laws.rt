@@ -27,9 +27,10 @@ pub fn premise_is_met()
     ensures { PremiseIsMet toy }
 {}
 
-/// After every list of events: a transaction in its first phase that can no longer commit never can
-/// again; where one that can still commit writes, nobody else has a lock; and what it writes no later
-/// one reads that can commit, and none writes that is committed.
+/// After every list of events: the next event commits only a transaction that is viable, or has visited no
+/// site; one in its first phase that isn't viable never will be again; where a viable one writes, nobody else
+/// has a lock; and what it writes no later one reads that is viable or committed, and none writes that is
+/// committed.
 pub fn parts_one_and_two()
     ensures { PartsOneAndTwo toy }
 {}
