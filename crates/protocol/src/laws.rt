@@ -1,6 +1,7 @@
 //! The laws of the protocol, each as the contract of a function that does nothing.
 
 ghost use Rattle.std.specs.Prelude.{true};
+ghost use Rattle.protocol.specs.Applied.{AppliedWholeAndOnce};
 ghost use Rattle.protocol.specs.Client.{ReachedLaw, RoundsLaw};
 ghost use Rattle.protocol.specs.ClientLaw.{ClientLaw, LetterByLetter};
 ghost use Rattle.protocol.specs.Fitting.{StaysFitting};
@@ -11,7 +12,6 @@ ghost use Rattle.protocol.specs.Rounds.{RoundByLetter};
 ghost use Rattle.protocol.specs.Serial.{SerialLaw};
 ghost use Rattle.protocol.specs.Smooth.{SmoothLaw};
 ghost use Rattle.protocol.specs.Toy.{toy};
-ghost use Rattle.protocol.specs.Whole.{AppliedWholeAndOnce};
 
 /// The serial law: after every list of events the committed transactions, run one after another over
 /// whole relations in the order of their first phases, give the answers that were given and what the
@@ -43,7 +43,8 @@ pub fn part_three()
 {}
 
 /// A committed transaction is applied whole and once, after every list of events: a ticket that was
-/// acknowledged is gone, the commit row stays until every voter has applied, and no Abort goes to one.
+/// acknowledged is gone; while a ticket is prepared for it the commit row stays, with that ticket among its
+/// voters; and no Abort names such a ticket.
 pub fn applied_whole_and_once()
     ensures { AppliedWholeAndOnce toy }
 {}
