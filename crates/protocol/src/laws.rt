@@ -8,6 +8,7 @@ ghost use Rattle.protocol.specs.Fitting.{StaysFitting};
 ghost use Rattle.protocol.specs.OneClient.{OneAtATime};
 ghost use Rattle.protocol.specs.Parts.{PartsOneAndTwo, PartThree};
 ghost use Rattle.protocol.specs.Premise.{PremiseIsMet};
+ghost use Rattle.protocol.specs.Refusing.{RequestLaw};
 ghost use Rattle.protocol.specs.Rounds.{RoundByLetter};
 ghost use Rattle.protocol.specs.Serial.{SerialLaw};
 ghost use Rattle.protocol.specs.Smooth.{SmoothLaw};
@@ -47,6 +48,12 @@ pub fn part_three()
 /// voters; and no Abort names such a ticket.
 pub fn applied_whole_and_once()
     ensures { AppliedWholeAndOnce toy }
+{}
+
+/// A client's request does what it asks for, or is refused and leaves all as it was: refusals and turns fit,
+/// the word of a refusal is true of the transaction, and giving up is never refused.
+pub fn requests_do_or_are_refused()
+    ensures { RequestLaw toy }
 {}
 
 /// One client alone, whose delivered letters are forgotten: a beginning, a call, a delivery of the oldest
