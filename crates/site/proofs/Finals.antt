@@ -65,6 +65,12 @@ set_removed k (e ∷ entries) one = go (is_ticket k e.0) refl (set_removed k ent
     go true is rest = if_true (is_ticket k e.0) entries ((e.0, one) ∷ remove_entry test entries) is
     go false is rest = if_false (is_ticket k e.0) (set_value test entries one) (e ∷ remove_entry test (set_value test entries one)) is ∙ ap (λ l. e ∷ l) rest
 
+-- what is to be kept is a visit's
+pub kept_visit : (count : ℕ) (o : Option standings.Standing) → ballot count o ≡ ballots.Keeps → (v : visits.Visit) × (o ≡ Some (standing.Alive v))
+kept_visit count None is = cc
+kept_visit count (Some (standing.Prepared t)) is = cc
+kept_visit count (Some (standing.Alive v)) is = (v, refl)
+
 module _ (kept : SiteContent) (entries : Entries) (ls : List locks.Locks) (alive life number : ℕ) (fits : Fits kept (table_from entries ls alive life number)) (k : Ticket) where
   abbrev table : Table
   table = table_from entries ls alive life number
