@@ -76,11 +76,12 @@ module _ {S : Type 0} (is_clean is_sound : S → Type 0) (kept : S → SiteConte
     pub full : is_clean new → result ≡ Err Full → 2 ^ 63 ≤ (kept new).life + 1
     pub damaged : is_clean new → is_sound old → result ≡ Err (Store store_faults.Damaged) → IsStrange leaves (kept new)
 
-  -- a site restarts, or fails: then nothing has changed
+  -- a site restarts, or fails: then nothing has changed. A store that isn't to be called isn't
   pub record RestartsOrFails {T : Type 0} (called : Bool) (old new : S) (before after : Present) (result : Result T SiteFault) : Type 0 where
     pub begins : BeginsOrFails called (leaves_in before.locks.items) old new result
     pub memory : ChangesPresent before after result
     pub is_called : OnOk result (called ≡ true)
+    pub uncalled : called ≡ false → new ≡ old
     pub ok : is_clean new → Fits (kept old) (table_of before) → OnOk result (Restarts (kept old) (table_of before) (kept new) (table_of after))
     pub rests : is_clean new → OnOk result (Begins (kept new) (table_of after))
     pub own : result ≢ Err Stranger

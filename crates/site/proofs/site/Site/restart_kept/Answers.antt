@@ -27,6 +27,7 @@ returns-in_err-begun g c =
         };
         memory = search rules;
         is_called = search rules;
+        uncalled = search rules;
         ok = search rules;
         rests = search rules;
         own = search rules;
@@ -42,6 +43,7 @@ returns g c =
         begins = search rules;
         memory = search rules;
         is_called = search rules;
+        uncalled = search rules;
         ok = λ clean fits.
             let begun = subst (Begins new) (sym c.restart.ensures.begun) (c.in_ok-begun.ensures.ok clean) in
             restarts old (table_of c.args.self.now.present) fits c.restart.ensures.ordered new (table_of c.restart.new.self) begun (c.in_ok-begun.ensures.fails.life clean);
