@@ -1,6 +1,7 @@
 -- What a call leaves of a site, and how it fails.
 use Rattle.std.specs.Prelude.{◌≡◌, ◌≢◌, ◌⊎◌, ◌≤◌, ◌+◌, ◌^◌, ℕ, Bool, true, false, List, Option, Result, Err, IfOk, OnOk, OnErr}
 use Rattle.terms.specs.declared.leaf.Leaf.{Leaf}
+use Rattle.store.specs.declared.fault.StoreFault.{StoreFault}
 use Rattle.store.specs.declared.fault.StoreFault.TheVariants as store_faults
 use Rattle.store.specs.declared.letter.Letter.{Letter}
 use Rattle.store.specs.declared.reply.Reply.{Reply}
@@ -12,7 +13,7 @@ use Rattle.protocol.specs.Site.{Act}
 use Rattle.site.specs.declared.fault.SiteFault.{SiteFault}
 use Rattle.site.specs.declared.fault.SiteFault.TheVariants.{Memory, Store, Full, Stranger}
 use Rattle.site.specs.declared.present.Present.{Present}
-use Rattle.site.specs.Refusals.{AsksElsewhere, AsksTooMuch, AsksBeyond}
+use Rattle.site.specs.Refusals.{AsksElsewhere, AsksBeyond, AsksStore}
 use Rattle.site.specs.Starting.{Begins, Restarts, IsStrange, leaves_in}
 use Rattle.site.specs.State.{Fits, Steps, table_of}
 
@@ -26,13 +27,14 @@ pub record ChangesPresent {T E : Type 0} (old new : Present) (result : Result T 
   pub present : LeavesPresent old new
   pub err : OnErr result (table_of new ≡ table_of old)
 
--- which letters a site doesn't take: one for another site, or for a leaf that it doesn't have, and one that leads past a limit
+-- which letters a site doesn't take, want of memory aside: one for another site, or for a leaf that it doesn't have, one that leads past a limit, and one whose step calls the store
 pub record TurnsAway {T : Type 0} (before : Present) (letter : Letter) (result : Result T SiteFault) : Type 0 where
   pub stranger : letter.site ≢ before.name → result ≡ Err Stranger
   pub turned_away : AsksElsewhere before.locks.items letter.body → result ≡ Err Stranger
   pub elsewhere : result ≡ Err Stranger → (letter.site ≢ before.name) ⊎ AsksElsewhere before.locks.items letter.body
-  pub full : result ≡ Err Full → AsksTooMuch before.alive before.number letter.body
+  pub full_at : result ≡ Err Full → AsksBeyond (table_of before) letter.body
   pub beyond : AsksBeyond (table_of before) letter.body → (result ≡ Err Full) ⊎ ((result ≡ Err Memory) ⊎ (result ≡ Err Stranger))
+  pub calls : (fault : StoreFault) → result ≡ Err (Store fault) → AsksStore (table_of before) letter.body
 
 module _ {S : Type 0} (is_clean is_sound : S → Type 0) (kept : S → SiteContent) where
   -- where the store is clean and was sound, and what was in memory fitted it, a reply is the protocol's by this act, and so is what it leaves

@@ -1,16 +1,18 @@
 //! Visits are prepared, and end.
 
-ghost use Rattle.std.specs.Prelude.{◌≡◌, true, [], ◌∷◌, Some, None, IfOk, if◌then◌else◌, ◌⊎◌, false};
+ghost use Rattle.std.specs.Prelude.{◌≡◌, true, [], ◌∷◌, Some, None, Err, IfOk, IfErr, if◌then◌else◌, ◌⊎◌, false};
 ghost use Rattle.store.specs.Fault.{HasRefused};
+ghost use Rattle.store.specs.declared.fault.StoreFault.{StoreFault as StoreFaultName};
 ghost use Rattle.store.specs.declared.reply.Reply.TheVariants as replies;
 ghost use Rattle.store.specs.SiteContent.{SiteContent};
 ghost use Rattle.protocol.specs.Letter as protocol;
 ghost use Rattle.protocol.specs.Site.{Prepares, Ends, on_prepare, on_commit, on_abort, on_give_up};
+ghost use Rattle.site.specs.declared.fault.SiteFault.TheVariants as faults;
 ghost use Rattle.site.specs.declared.standing.Standing.TheVariants as standing;
 ghost use Rattle.site.specs.declared.standing.Visit.{Visit as Visited};
 ghost use Rattle.protocol.specs.Letters.{name_of, txn_name, kept_by};
 ghost use Rattle.site.specs.Frame.{LeavesPresent, EndsOrFails, StepsBy};
-ghost use Rattle.site.specs.State.{Fits, Steps, state_of, table_of};
+ghost use Rattle.site.specs.State.{Fits, Steps, is_row, state_of, table_of};
 ghost use Rattle.site.specs.Turn.{ballot};
 ghost use Rattle.site.specs.declared.turn.Ballot.TheVariants.{Keeps};
 
@@ -41,6 +43,7 @@ pub(crate) fn prepare<S: SiteStore>(
 ) -> Result<Option<Reply>, SiteFault>
     ensures ok { StepsBy S.is_clean S.is_sound S.kept store.old store.new present.old present.new result (λ reply. on_prepare (kept_by reply) (txn_name txn) (name_of prepare.ticket) prepare.count ((state_of (S.kept store.old) (table_of present.old)).status (name_of prepare.ticket))) }
     ensures ends { EndsOrFails S.is_clean S.is_sound S.kept S.refused kept store.old store.new present.old present.new result }
+    ensures memory { IfErr result (λ fault. fault ≡ faults.Memory) }
     ensures vote { ballot prepare.count ((table_of present.old).standing prepare.ticket) ≡ Keeps → IfOk result (λ reply. kept_by reply ≡ false → (kept ≡ false) ⊎ HasRefused (S.refused store.old) (S.refused store.new)) }
 {
     let Prepare { ticket, count } = prepare;
@@ -68,6 +71,7 @@ fn keep<S: SiteStore>(
         → IfOk result (λ reply. Steps (S.kept store.old) (table_of present.old) (S.kept store.new) (table_of present.new)
         (if kept_by reply then Prepares (name_of ticket) (txn_name txn) visit.changes else Ends (name_of ticket) (protocol.Voted (name_of ticket) protocol.No ∷ [])) reply) }
     ensures ends { EndsOrFails S.is_clean S.is_sound S.kept S.refused kept store.old store.new present.old present.new result }
+    ensures memory { IfErr result (λ fault. fault ≡ faults.Memory) }
     ensures vote { IfOk result (λ reply. kept_by reply ≡ false → (kept ≡ false) ⊎ HasRefused (S.refused store.old) (S.refused store.new)) }
 {
     if !kept {
@@ -101,6 +105,7 @@ pub(crate) fn commit<S: SiteStore>(
 ) -> Result<Option<Reply>, SiteFault>
     ensures ok { StepsBy S.is_clean S.is_sound S.kept store.old store.new present.old present.new result (λ reply. on_commit true (name_of ticket) ((state_of (S.kept store.old) (table_of present.old)).status (name_of ticket))) }
     ensures ends { EndsOrFails S.is_clean S.is_sound S.kept S.refused kept store.old store.new present.old present.new result }
+    ensures calls { (fault : StoreFaultName) → result ≡ Err (faults.Store fault) → is_row ((table_of present.old).standing ticket) ≡ true }
 {
     if !present.is_prepared(&ticket) {
         return Ok(Some(Reply::Ack(ticket)));
@@ -126,6 +131,7 @@ pub(crate) fn abort<S: SiteStore>(
 ) -> Result<Option<Reply>, SiteFault>
     ensures ok { StepsBy S.is_clean S.is_sound S.kept store.old store.new present.old present.new result (λ reply. on_abort true (name_of ticket) ((state_of (S.kept store.old) (table_of present.old)).status (name_of ticket))) }
     ensures ends { EndsOrFails S.is_clean S.is_sound S.kept S.refused kept store.old store.new present.old present.new result }
+    ensures calls { (fault : StoreFaultName) → result ≡ Err (faults.Store fault) → is_row ((table_of present.old).standing ticket) ≡ true }
 {
     if !present.is_prepared(&ticket) {
         give_up(present, &ticket);

@@ -6,6 +6,9 @@ ghost use Rattle.store.specs.SiteContent.{IsUnchanged};
 ghost use Rattle.protocol.specs.Site.{on_fetch};
 ghost use Rattle.protocol.specs.Letters.{name_of};
 ghost use Rattle.site.specs.Locks.{place_in};
+ghost use Rattle.site.specs.Refusals.{IsBeyond, CallsStore};
+ghost use Rattle.store.specs.declared.fault.StoreFault.{StoreFault as StoreFaultName};
+ghost use Rattle.store.specs.declared.order.Order.TheVariants as orders;
 ghost use Rattle.site.specs.Frame.{ChangesOrFails, StepsBy};
 ghost use Rattle.site.specs.State.{state_of, table_of};
 ghost use Rattle.site.specs.Turn.{read_turn};
@@ -31,7 +34,8 @@ pub(crate) fn fetch<S: SiteStore>(
 ) -> Result<Option<Reply>, SiteFault>
     ensures elsewhere { place_in fetch.leaf present.old.locks.items ≡ None → result ≡ Err faults.Stranger }
     ensures stranger { result ≡ Err faults.Stranger → place_in fetch.leaf present.old.locks.items ≡ None }
-    ensures full { result ≡ Err faults.Full → 2 ^ 63 ≤ fetch.op }
+    ensures full { result ≡ Err faults.Full → IsBeyond (table_of present.old) (orders.Fetch fetch) }
+    ensures calls { (fault : StoreFaultName) → result ≡ Err (faults.Store fault) → CallsStore (table_of present.old) (orders.Fetch fetch) }
     ensures beyond { read_turn fetch.ticket fetch.op ((table_of present.old).locks fetch.leaf) ((table_of present.old).standing fetch.ticket) ≡ Go → 2 ^ 63 ≤ fetch.op
         → (result ≡ Err faults.Full) ⊎ ((result ≡ Err faults.Memory) ⊎ (result ≡ Err faults.Stranger)) }
     ensures ok { StepsBy S.is_clean S.is_sound S.kept store.old store.new present.old present.new result (λ reply. on_fetch (state_of (S.kept store.old) (table_of present.old)) true (name_of fetch.ticket) fetch.op fetch.leaf fetch.conds ((state_of (S.kept store.old) (table_of present.old)).status (name_of fetch.ticket))) }

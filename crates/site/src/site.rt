@@ -3,13 +3,14 @@
 ghost use Rattle.std.specs.Prelude.{◌≡◌, ◌≢◌, ◌<◌, ◌≤◌, ◌+◌, ◌^◌, [], None, Err, IfOk, IfErr, OnOk, OnErr, map, vec_len, ◌⊎◌, false, true};
 ghost use Rattle.store.specs.Fault.{HasRefused};
 ghost use Rattle.store.specs.Frame.{LeavesStore};
+ghost use Rattle.store.specs.declared.fault.StoreFault.{StoreFault as StoreFaultName};
 ghost use Rattle.store.specs.declared.fault.StoreFault.TheVariants as store_faults;
 ghost use Rattle.site.specs.declared.fault.SiteFault.TheVariants as faults;
 ghost use Rattle.std.specs.Vec.{vec_capacity};
 ghost use Rattle.protocol.specs.Site.{on_letter, on_give_up, inquiries};
 ghost use Rattle.store.specs.SiteContent.{IsUnchanged, BeginsLife, Lists};
 ghost use Rattle.protocol.specs.Letters.{name_of, letter_of, order_body, txn_name, kept_by, kept_in, letters_of};
-ghost use Rattle.site.specs.Refusals.{IsElsewhere, IsTooMuch, IsToKeep, IsBeyond, AsksElsewhere, AsksToKeep};
+ghost use Rattle.site.specs.Refusals.{IsElsewhere, IsToKeep, IsBeyond, CallsStore, AsksElsewhere, AsksToKeep};
 ghost use Rattle.site.specs.Fault.{StopsStart};
 ghost use Rattle.site.specs.Frame.{LeavesPresent, TurnsAway, StepsBy, Reads, ChangesOrFails, RestartsOrFails};
 ghost use Rattle.site.specs.Starting.{Begins, IsStrange, leaves_in};
@@ -261,7 +262,8 @@ fn obey<S: SiteStore>(
     ensures elsewhere { IsElsewhere present.old.locks.items order → result ≡ Err faults.Stranger }
     ensures vote { IsToKeep (table_of present.old) order → IfOk result (λ reply. kept_by reply ≡ false → (kept ≡ false) ⊎ HasRefused (S.refused store.old) (S.refused store.new)) }
     ensures stranger { result ≡ Err faults.Stranger → IsElsewhere present.old.locks.items order }
-    ensures full { result ≡ Err faults.Full → IsTooMuch present.old.alive present.old.number order }
+    ensures full { result ≡ Err faults.Full → IsBeyond (table_of present.old) order }
+    ensures calls { (fault : StoreFaultName) → result ≡ Err (faults.Store fault) → CallsStore (table_of present.old) order }
     ensures beyond { IsBeyond (table_of present.old) order → (result ≡ Err faults.Full) ⊎ ((result ≡ Err faults.Memory) ⊎ (result ≡ Err faults.Stranger)) }
     ensures ok { StepsBy S.is_clean S.is_sound S.kept store.old store.new present.old present.new result (λ reply. on_letter (state_of (S.kept store.old) (table_of present.old)) (txn_name txn) (kept_by reply) (order_body order)) }
     ensures fails { ChangesOrFails S.is_clean S.is_sound S.kept S.refused kept store.old store.new present.old present.new result }

@@ -8,6 +8,8 @@ ghost use Rattle.protocol.specs.Site.{Opens, on_write};
 ghost use Rattle.site.specs.declared.fault.SiteFault.TheVariants as faults;
 ghost use Rattle.protocol.specs.Letters.{name_of, leaf_of, at_key};
 ghost use Rattle.site.specs.Locks.{place_in};
+ghost use Rattle.site.specs.Refusals.{IsBeyond};
+ghost use Rattle.store.specs.declared.order.Order.TheVariants as orders;
 ghost use Rattle.site.specs.Frame.{ChangesPresent};
 ghost use Rattle.site.specs.State.{Fits, Steps, state_of, table_of};
 ghost use Rattle.site.specs.Turn.{write_turn};
@@ -50,7 +52,7 @@ pub(crate) fn intend(
 ) -> Result<Option<Reply>, SiteFault>
     ensures elsewhere { place_in (leaf_of intention.write) present.old.locks.items ≡ None → result ≡ Err faults.Stranger }
     ensures stranger { result ≡ Err faults.Stranger → place_in (leaf_of intention.write) present.old.locks.items ≡ None }
-    ensures full { result ≡ Err faults.Full → 2 ^ 63 ≤ intention.op }
+    ensures full { result ≡ Err faults.Full → IsBeyond (table_of present.old) (orders.Intend intention) }
     ensures beyond { write_turn intention.ticket intention.op (leaf_of intention.write) (at_key intention.write) ((table_of present.old).locks (leaf_of intention.write)) ((table_of present.old).standing intention.ticket) ≡ Go → 2 ^ 63 ≤ intention.op
         → (result ≡ Err faults.Full) ⊎ ((result ≡ Err faults.Memory) ⊎ (result ≡ Err faults.Stranger)) }
     ensures ok { (kept : SiteContent) → Fits kept (table_of present.old) → IfOk result (λ reply. Steps kept (table_of present.old) kept (table_of present.new)
