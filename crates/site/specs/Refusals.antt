@@ -1,13 +1,16 @@
 -- When a site refuses a letter.
-use Rattle.std.specs.Prelude.{◌≡◌, ◌⊎◌, ◌≤◌, ◌+◌, ◌^◌, true, List, None}
+use Rattle.std.specs.Prelude.{◌≡◌, ◌⊎◌, ◌≤◌, ◌+◌, ◌^◌, true, false, List, None}
 use Rattle.store.specs.declared.letter.Body as bodies
 use Rattle.store.specs.declared.letter.Body.TheVariants as body
+use Rattle.store.specs.declared.letter.Letter.{Letter}
 use Rattle.store.specs.declared.order.Order as orders
 use Rattle.store.specs.declared.order.Order.TheVariants.{Open, Fetch, Intend, Prepare, Commit, Abort}
+use Rattle.store.specs.SiteContent.{SiteContent}
 use Rattle.site.specs.declared.locks.Locks.{Locks}
-use Rattle.protocol.specs.Letters.{leaf_of, at_key}
+use Rattle.protocol.specs.Letters.{leaf_of, at_key, txn_name, body_of}
+use Rattle.protocol.specs.Site.{is_within, on_letter, site_after}
 use Rattle.site.specs.Locks.{place_in}
-use Rattle.site.specs.State.{Table, is_row}
+use Rattle.site.specs.State.{Table, is_row, state_of}
 use Rattle.site.specs.Turn.{ballot, read_turn, write_turn}
 use Rattle.site.specs.declared.turn.Ballot.TheVariants.{Keeps}
 use Rattle.site.specs.declared.turn.Turn.TheVariants.{Go}
@@ -64,3 +67,7 @@ AsksToKeep table (body.Reply reply) = ⊥
 abbrev pub AsksStore : Table → bodies.Body → Type 0
 AsksStore table (body.Order order) = CallsStore table order
 AsksStore table (body.Reply reply) = ⊥
+
+-- the step that the table says of a letter, its store call kept, leads past the limits
+abbrev pub IsPastLimits : SiteContent → Table → Letter → Type 0
+IsPastLimits kept table letter = is_within (site_after (state_of kept table) (on_letter (state_of kept table) (txn_name letter.txn) true (body_of letter.body))) ≡ false

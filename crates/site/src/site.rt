@@ -10,7 +10,7 @@ ghost use Rattle.std.specs.Vec.{vec_capacity};
 ghost use Rattle.protocol.specs.Site.{on_letter, on_give_up, inquiries};
 ghost use Rattle.store.specs.SiteContent.{IsUnchanged, BeginsLife, Lists};
 ghost use Rattle.protocol.specs.Letters.{name_of, letter_of, order_body, txn_name, kept_by, kept_in, letters_of};
-ghost use Rattle.site.specs.Refusals.{IsElsewhere, IsToKeep, IsBeyond, CallsStore, AsksElsewhere, AsksToKeep};
+ghost use Rattle.site.specs.Refusals.{IsElsewhere, IsToKeep, IsBeyond, CallsStore, IsPastLimits, AsksElsewhere, AsksToKeep};
 ghost use Rattle.site.specs.Fault.{StopsStart};
 ghost use Rattle.site.specs.Frame.{LeavesPresent, TurnsAway, StepsBy, Reads, ChangesOrFails, RestartsOrFails};
 ghost use Rattle.site.specs.Starting.{Begins, IsStrange, leaves_in};
@@ -116,7 +116,8 @@ impl<S: SiteStore> Site<S> {
         Ok(())
     }
 
-    /// The site's inquiries, one about each prepared row, by ticket.
+    /// The site's inquiries, one about each prepared row, by ticket: what is in memory fits with the tickets
+    /// in ascending order.
     pub fn inquire(&self) -> Result<Vec<Letter>, Memory>
         ensures { Fits (S.kept self.now.store) (table_of self.now.present)
             → IfOk result (λ letters. map letter_of letters.items ≡ inquiries self.now.present.name (state_of (S.kept self.now.store) (table_of self.now.present))) }
@@ -155,6 +156,7 @@ impl<S: SiteStore> Site<S> {
     /// Takes a letter, and answers the letters that the site puts out. On a fault nothing has changed.
     pub fn take(&mut self, letter: Letter) -> Result<Vec<Letter>, SiteFault>
         ensures turns { TurnsAway self.old.present letter result }
+        ensures full { Fits (S.kept self.old.store) (table_of self.old.present) → result ≡ Err faults.Full → IsPastLimits (S.kept self.old.store) (table_of self.old.present) letter }
         ensures ok { S.is_clean self.new.store → S.is_sound self.old.store → Fits (S.kept self.old.store) (table_of self.old.present)
             → IfOk result (λ letters. Takes (S.kept self.old.store) (table_of self.old.present) (S.kept self.new.store) (table_of self.new.present) letter letters.items) }
         ensures fails { ChangesOrFails S.is_clean S.is_sound S.kept S.refused true self.old.store self.new.store self.old.present self.new.present result }
@@ -166,6 +168,7 @@ impl<S: SiteStore> Site<S> {
     /// So, but where `kept` is false the store isn't called, and counts as having refused.
     pub fn take_kept(&mut self, letter: Letter, kept: bool) -> Result<Vec<Letter>, SiteFault>
         ensures turns { TurnsAway self.old.present letter result }
+        ensures full { Fits (S.kept self.old.store) (table_of self.old.present) → result ≡ Err faults.Full → IsPastLimits (S.kept self.old.store) (table_of self.old.present) letter }
         ensures ok { S.is_clean self.new.store → S.is_sound self.old.store → Fits (S.kept self.old.store) (table_of self.old.present)
             → IfOk result (λ letters. Takes (S.kept self.old.store) (table_of self.old.present) (S.kept self.new.store) (table_of self.new.present) letter letters.items) }
         ensures fails { ChangesOrFails S.is_clean S.is_sound S.kept S.refused kept self.old.store self.new.store self.old.present self.new.present result }

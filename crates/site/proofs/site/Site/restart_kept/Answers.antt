@@ -46,7 +46,7 @@ returns g c =
         uncalled = search rules;
         ok = λ clean fits.
             let begun = subst (Begins new) (sym c.restart.ensures.begun) (c.in_ok-begun.ensures.ok clean) in
-            restarts old (table_of c.args.self.now.present) fits c.restart.ensures.ordered new (table_of c.restart.new.self) begun (c.in_ok-begun.ensures.fails.life clean);
+            restarts old (table_of c.args.self.now.present) fits new (table_of c.restart.new.self) begun (c.in_ok-begun.ensures.fails.life clean);
         rests = search rules;
         own = search rules;
       };
