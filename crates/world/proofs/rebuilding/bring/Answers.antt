@@ -1,5 +1,5 @@
 -- Why `bring` meets its contract.
-use Rattle.std.proofs.Common.{◌≡◌, ◌∙◌, ℕ, ◌+◌, ◌++◌, ◌∷◌, [], refl, ap, ap₂, sym, subst, List, map, take}
+use Rattle.std.proofs.Common.{rules, ◌≡◌, ◌∙◌, ℕ, ◌+◌, ◌++◌, ◌∷◌, [], refl, ap, ap₂, sym, subst, List, map, take}
 use Rattle.std.proofs.lemmas.List.{map-append, take_all, take_more}
 use Rattle.meaning.specs.Whole.{Relations}
 use Rattle.catalog.specs.declared.relation.SplitRelation.{SplitRelation}
@@ -61,15 +61,23 @@ pub returns-clause-brought : goal.returns-clause-brought
 returns-clause-brought g c = λ whole clean sound fit those are.
     c.loop-fetch.invariant.4 whole clean sound fit those are ∙ ap (map (brought_of (database (catalogue_of c.args.machines.now.desk.catalog)) whole)) (take_all c.loop-fetch.fetch-index c.args.fetches.now c.loop-fetch-test.false)
 
-pub returns-in_err-bring_one-clause-counts : goal.returns-in_err-bring_one-clause-counts
-returns-in_err-bring_one-clause-counts g c =
-    let of = counts g.D.DeskStore.refused g.S.SiteStore.refused in
-    no_fewer_then (of c.args.machines.now) (of c.loop-fetch.machines) (of c.bring_one.new.machines) c.loop-fetch.invariant.5 c.bring_one.ensures.counts
+pub returns-in_err-bring_one-clause-leaves : goal.returns-in_err-bring_one-clause-leaves
+returns-in_err-bring_one-clause-leaves g c = record {
+  clean = search rules;
+  sound = search rules;
+  counts = let of = counts g.D.DeskStore.refused g.S.SiteStore.refused in
+      no_fewer_then (of c.args.machines.now) (of c.loop-fetch.machines) (of c.bring_one.new.machines) c.loop-fetch.invariant.5 c.bring_one.ensures.leaves.counts;
+  catalog = search rules;
+}
 
-pub returns-in_err-push-clause-counts : goal.returns-in_err-push-clause-counts
-returns-in_err-push-clause-counts g c =
-    let of = counts g.D.DeskStore.refused g.S.SiteStore.refused in
-    no_fewer_then (of c.args.machines.now) (of c.loop-fetch.machines) (of c.bring_one.new.machines) c.loop-fetch.invariant.5 c.bring_one.ensures.counts
+pub returns-in_err-push-clause-leaves : goal.returns-in_err-push-clause-leaves
+returns-in_err-push-clause-leaves g c = record {
+  clean = search rules;
+  sound = search rules;
+  counts = let of = counts g.D.DeskStore.refused g.S.SiteStore.refused in
+      no_fewer_then (of c.args.machines.now) (of c.loop-fetch.machines) (of c.bring_one.new.machines) c.loop-fetch.invariant.5 c.bring_one.ensures.leaves.counts;
+  catalog = search rules;
+}
 
 pub returns-in_err-bring_one-clause-fails : goal.returns-in_err-bring_one-clause-fails
 returns-in_err-bring_one-clause-fails g c = λ clean sound fit.
@@ -79,7 +87,7 @@ returns-in_err-bring_one-clause-fails g c = λ clean sound fit.
     let start = c.args.machines.now in
     let mid = c.loop-fetch.machines in
     let now = c.bring_one.new.machines in
-    let mid_clean = c.bring_one.ensures.clean clean in
+    let mid_clean = c.bring_one.ensures.leaves.clean clean in
     let mid_fit = fit_still start.desk.catalog mid.desk.catalog (content start) (content mid) all.3 (all.2 mid_clean sound) fit in
     let told = c.in_err-bring_one.field-0.0 in
     fails_on c.from_residual.result told (of start) (of now) c.from_residual.ensures.1 (fails_since (of start) (of mid) (of now) all.5 told (c.in_err-bring_one.ensures.fails clean (all.1 mid_clean sound) mid_fit))

@@ -1,5 +1,5 @@
 -- Why `reply` meets its contract.
-use Rattle.std.proofs.Common.{inl, inr, ⊎_elim}
+use Rattle.std.proofs.Common.{rules, inl, inr, ⊎_elim}
 use Rattle.desk.specs.State.{table_of}
 use Rattle.world.specs.Counted.{counts_of}
 use Rattle.world.specs.Held.{held}
@@ -23,8 +23,13 @@ returns-clause-told g c = λ db of is fit no_order of_site.
     let said = reply_of c.args.letter.now.body no_order in
     desk_tells db before c.args.letter.now c.take_kept.result said.0 said.1 no_order c.take_kept.ensures.own (c.take_kept.ensures.full db said.0 of is fit.desk said.1 of_site)
 
-pub returns-clause-counts : goal.returns-clause-counts
-returns-clause-counts g c = (c.take_kept.ensures.counts, no_fewer (counts_of g.S.SiteStore.refused c.args.self.now.sites.items))
+pub returns-clause-leaves : goal.returns-clause-leaves
+returns-clause-leaves g c = record {
+  clean = search rules;
+  sound = search rules;
+  counts = (c.take_kept.ensures.leaves_store.counts, no_fewer (counts_of g.S.SiteStore.refused c.args.self.now.sites.items));
+  catalog = search rules;
+}
 
 pub returns-clause-refusal : goal.returns-clause-refusal
 returns-clause-refusal g c = if_ok c.take_kept.result (λ out refuses none. ⊎_elim (λ unmade. inl unmade) (λ refused. inr (inl refused)) (refuses none)) c.take_kept.ensures.refusal

@@ -37,12 +37,12 @@ loop-event-preserved g c =
     let passed = subst (λ (x : List (List ℕ) × List SplitRelation). (whole : Relations) (past : List (Deed (language (database (catalogue_of x))))) → OfStores D.is_clean S.is_clean now.machines → OfStores D.is_sound S.is_sound mid.machines
     → IsRun (database (catalogue_of x)) whole (held D.kept S.kept mid.machines) mid.entries.items past → Passes (database (catalogue_of x)) whole what (held D.kept S.kept mid.machines) mid.entries.items (held D.kept S.kept now.machines) now.entries.items past) all.2 c.in-Ok.ensures.ok in
     let one_more : take (i + 1) events ≡ take i events ++ what ∷ [] = take_more events i what c.loop-event-test.true ∙ ap (λ (e : Event). take i events ++ e ∷ []) (sym c.event-item.is) in (
-      λ clean. all.0 (c.in-Ok.ensures.clean clean),
-      λ clean sound. c.in-Ok.ensures.sound clean (all.1 (c.in-Ok.ensures.clean clean) sound),
-      c.in-Ok.ensures.catalog ∙ all.2,
+      λ clean. all.0 (c.in-Ok.ensures.leaves.clean clean),
+      λ clean sound. c.in-Ok.ensures.leaves.sound clean (all.1 (c.in-Ok.ensures.leaves.clean clean) sound),
+      c.in-Ok.ensures.leaves.catalog ∙ all.2,
       ap (λ n. n + 1) all.3,
       λ whole past clean sound run.
-          let clean_mid = c.in-Ok.ensures.clean clean in
+          let clean_mid = c.in-Ok.ensures.leaves.clean clean in
           let so = all.4 whole past clean_mid sound run in
           let both = passes_more db whole (take i events) what (held D.kept S.kept start.machines) (held D.kept S.kept mid.machines) (held D.kept S.kept now.machines) start.entries.items mid.entries.items now.entries.items past so.0 so.1
           (passed whole (past ++ so.0.deeds) clean (all.1 clean_mid sound) so.0.run_on) in
@@ -58,7 +58,7 @@ returns-in-Err-clause-runs g c = λ whole past clean sound run.
     let mid = c.loop-event.self in
     let now = c.pass.new.self in
     let db = database (catalogue_of start.machines.desk.catalog) in
-    let clean_mid = c.in-Err.ensures.clean clean in
+    let clean_mid = c.in-Err.ensures.leaves.clean clean in
     let so = all.4 whole past clean_mid sound run in
     subst (λ (m : Machines). RunsOn db whole m now.entries.items past) (sym (c.in-Err.ensures.err clean (all.1 clean_mid sound))) (subst (λ (es : List Entry). RunsOn db whole (held D.kept S.kept mid.machines) es past) (sym c.in-Err.ensures.same) so.0)
 
@@ -73,7 +73,7 @@ returns-in-Err-clause-some g c = λ whole past clean sound run.
     let events = c.args.events.now in
     let db = database (catalogue_of start.machines.desk.catalog) in
     let first = held D.kept S.kept start.machines in
-    let clean_mid = c.in-Err.ensures.clean clean in
+    let clean_mid = c.in-Err.ensures.leaves.clean clean in
     let so = all.4 whole past clean_mid sound run in
     subst (λ (n : ℕ). Follows db (take n events) first start.entries.items (held D.kept S.kept now.machines) now.entries.items) (sym all.3)
     (subst (λ (m : Machines). Follows db (take c.loop-event.event-index events) first start.entries.items m now.entries.items) (sym (c.in-Err.ensures.err clean (all.1 clean_mid sound)))
