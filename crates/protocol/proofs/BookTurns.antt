@@ -1,12 +1,12 @@
 -- The book after each request and each letter at the coordinator.
-use Rattle.std.proofs.Common.{◌≡◌, refl, sym, ap, ◌∙◌, subst, ℕ, Bool, true, false, ◌&&◌, List, [], ◌∷◌, ◌++◌, map, inl, inr, Option, Some, None, is_some, is_none, append_assoc, append-nil, not}
+use Rattle.std.proofs.Common.{◌≡◌, refl, sym, ap, ◌∙◌, subst, ℕ, Bool, true, false, ◌&&◌, List, [], ◌∷◌, ◌++◌, map, inl, inr, Option, Some, None, is_some, is_none, append_assoc, append-nil, not, ◌||◌}
 use Rattle.std.specs.List.{list_any, list_all}
-use Rattle.protocol.specs.Parts.{op_of}
+use Rattle.protocol.specs.Parts.{op_of, Untouched}
 use Rattle.protocol.specs.Language.{Lang, IsLawful, Name, same, put}
 use Rattle.protocol.specs.Letter.{Yes, No, Read, Vote, Body, Open, Fetch, Write, Prepare, Commit, Abort, Ticket, Rows, Refused, Voted, Ack, Inquire, Letter, is_for_desk}
 use Rattle.protocol.specs.Desk.{Ask, Stage, Idle, Reading, Writing, Voting, Undecided, Txn, Unknown, Known, Row, Choice, Deed, Stated, Worked, Phased, Committed, Aborted, Rolled_back, By_vote, By_refusal, By_store, Given_up, Why, Turn, Request, State, Commit_call, Rollback, Give_up, stays, is_named, ask_of, opens, visits, states, ends_by, phases, votes_go, decides, commits, voters_of, are_all_in, when, to_prepare, may_hold, vote_at, to_abort, on_state, on_commit_call, on_rollback, on_request, ticket_goes, on_ticket, with_rows, on_rows, on_refused, counts, on_vote, on_known, on_unknown, is_pair, are_acked, on_row, on_desk_letter}
 use Rattle.protocol.specs.World.{World}
-use Rattle.protocol.proofs.Basics.{Every, In, either, either_if, put_all, some_is}
+use Rattle.protocol.proofs.Basics.{Every, In, either, either_if, put_all, some_is, left_true, right_true}
 use Rattle.protocol.proofs.Fits.{Drawn, is_voting, FitsBody, Own, Fit}
 use Rattle.protocol.proofs.Turns.{known_is, every_letter}
 use Rattle.protocol.proofs.Deciding.{aborts_to}
@@ -79,13 +79,25 @@ module _ {L : Lang} (law : IsLawful L) (o : L.Site → Name → Name) (ops : L.S
       prepares_tell = every_letter (Plain ops w.sites) t (λ a. when (u.visited a) (to_prepare u a (u.ticket a))) L.sites
           (λ a b here said. let k = prepares_to u a b (u.visited a) (u.ticket a) refl said in subst (λ y. (TellsBody (ops a) (w.sites a) y × (is_for_desk y ≡ false)) × ((x : L.Site) (j : Name) → op_of x j a y ≡ [])) (sym k.2) ((book.sent a k.0 k.1, refl), (λ x j. refl)))
 
-      phase_decided : u.stage ≡ Idle → (xs : List (L.Site × Name)) → Booked o ops w t (record { txn = (decides t (record u { stage = Voting (λ a. None) }) true xs).txn; letters = (phases t u).letters; deeds = Phased t ∷ (decides t (record u { stage = Voting (λ a. None) }) true xs).deeds })
-      phase_decided idle [] = plain_booked o ops w t (record { txn = Unknown; letters = (phases t u).letters; deeds = Phased t ∷ Committed t ∷ [] }) refl refl refl (refl, (refl, tt)) (starts refl (view_plain w.past (Phased t ∷ Committed t ∷ []) t refl refl refl) u e idle (λ v f. absurd (no_unknown v f))) (λ y f. absurd (no_unknown y f)) (λ done. (told_now, λ y f. inr refl)) prepares_tell
-      phase_decided idle (x ∷ xs) = plain_booked o ops w t (record { txn = Row (x ∷ xs) []; letters = (phases t u).letters; deeds = Phased t ∷ Committed t ∷ [] }) refl refl refl (refl, (refl, tt)) (starts refl (view_plain w.past (Phased t ∷ Committed t ∷ []) t refl refl refl) u e idle (λ v f. absurd (no_row (x ∷ xs) [] v f))) (λ y f. absurd (no_row (x ∷ xs) [] y f)) (λ done. (told_now, λ y f. inr refl)) prepares_tell
+      -- where all votes are in before one was given, nobody is visited
+      untouched_is : u.stage ≡ Idle → are_all_in u (λ a. None) ≡ true → (y : Undecided L) → w.desk.txn t ≡ Known y → Untouched y
+      untouched_is idle all y f = subst Untouched (known_is u y (sym e ∙ f)) (idle, go L.sites all)
+        where
+          go : (sites : List L.Site) → list_all (λ a. not (u.visited a) || false) sites ≡ true → list_any u.visited sites ≡ false
+          go [] all = refl
+          go (a ∷ sites) all = one (u.visited a) (left_true (not (u.visited a) || false) (list_all (λ b. not (u.visited b) || false) sites) all) (go sites (right_true (not (u.visited a) || false) (list_all (λ b. not (u.visited b) || false) sites) all))
+            where
+              one : (x : Bool) {y : Bool} → (not x || false) ≡ true → y ≡ false → (x || y) ≡ false
+              one true is rest = cc
+              one false is rest = rest
+
+      phase_decided : u.stage ≡ Idle → are_all_in u (λ a. None) ≡ true → (xs : List (L.Site × Name)) → Booked o ops w t (record { txn = (decides t (record u { stage = Voting (λ a. None) }) true xs).txn; letters = (phases t u).letters; deeds = Phased t ∷ (decides t (record u { stage = Voting (λ a. None) }) true xs).deeds })
+      phase_decided idle all [] = plain_booked o ops w t (record { txn = Unknown; letters = (phases t u).letters; deeds = Phased t ∷ Committed t ∷ [] }) refl refl refl (refl, (refl, tt)) (starts refl (view_plain w.past (Phased t ∷ Committed t ∷ []) t refl refl refl) u e idle (λ v f. absurd (no_unknown v f))) (λ y f. absurd (no_unknown y f)) (λ done. (told_now, λ y f. inr (refl, untouched_is idle all y f))) prepares_tell
+      phase_decided idle all (x ∷ xs) = plain_booked o ops w t (record { txn = Row (x ∷ xs) []; letters = (phases t u).letters; deeds = Phased t ∷ Committed t ∷ [] }) refl refl refl (refl, (refl, tt)) (starts refl (view_plain w.past (Phased t ∷ Committed t ∷ []) t refl refl refl) u e idle (λ v f. absurd (no_row (x ∷ xs) [] v f))) (λ y f. absurd (no_row (x ∷ xs) [] y f)) (λ done. (told_now, λ y f. inr (refl, untouched_is idle all y f))) prepares_tell
 
       phases_booked : u.stage ≡ Idle → Booked o ops w t (phases t u)
-      phases_booked idle = either (λ (turn : Turn L). Booked o ops w t (record { txn = turn.txn; letters = (phases t u).letters; deeds = Phased t ∷ turn.deeds })) (are_all_in u (λ a. None)) _ _ (phase_decided idle (voters_of u (λ a. None)))
-          (plain_booked o ops w t (record { txn = Known (record u { stage = Voting (λ a. None) }); letters = (phases t u).letters; deeds = Phased t ∷ [] }) refl refl refl (refl, tt) (starts refl (view_plain w.past (Phased t ∷ []) t refl refl refl) u e idle (λ v f. subst (λ z. (z.ticket ≡ u.ticket) × (is_voting z.stage ≡ true)) (known_is (record u { stage = Voting (λ a. None) }) v f) (refl, refl))) (voting_book (λ a. None)) (λ done. cc) prepares_tell)
+      phases_booked idle = either_if (λ (turn : Turn L). Booked o ops w t (record { txn = turn.txn; letters = (phases t u).letters; deeds = Phased t ∷ turn.deeds })) (are_all_in u (λ a. None)) _ _ (λ all. phase_decided idle all (voters_of u (λ a. None)))
+          (λ waits. plain_booked o ops w t (record { txn = Known (record u { stage = Voting (λ a. None) }); letters = (phases t u).letters; deeds = Phased t ∷ [] }) refl refl refl (refl, tt) (starts refl (view_plain w.past (Phased t ∷ []) t refl refl refl) u e idle (λ v f. subst (λ z. (z.ticket ≡ u.ticket) × (is_voting z.stage ≡ true)) (known_is (record u { stage = Voting (λ a. None) }) v f) (refl, refl))) (voting_book (λ a. None)) (λ done. cc) prepares_tell)
 
     state_booked : (s : L.Statement) (choice : Choice L) → u.stage ≡ Idle → (fs : List (L.Leaf × L.Query)) → Booked o ops w t (record { txn = (states t u s (map ask_of fs) choice).txn; letters = (states t u s (map ask_of fs) choice).letters; deeds = Stated t s ∷ (states t u s (map ask_of fs) choice).deeds })
     state_booked s choice idle [] =

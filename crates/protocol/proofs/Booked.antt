@@ -1,7 +1,7 @@
 -- What each turn does to the book, kind by kind.
 use Rattle.std.proofs.Common.{ap₂, ◌≡◌, refl, sym, ap, ◌∙◌, subst, ℕ, Bool, true, false, List, [], ◌∷◌, ◌++◌, map, ◌⊎◌, Option, Some, None, append_assoc, append-nil, flat_map}
 use Rattle.std.proofs.lemmas.Grind.{flat_map-append}
-use Rattle.protocol.specs.Parts.{op_of, operations}
+use Rattle.protocol.specs.Parts.{op_of, operations, Untouched}
 use Rattle.protocol.specs.Language.{Lang, IsLawful, Name}
 use Rattle.protocol.specs.Letter.{Letter, is_for_desk}
 use Rattle.protocol.specs.Site.{SiteState}
@@ -62,7 +62,7 @@ module _ {L : Lang} where
     pub only : Every (λ d. txn_of d ≡ t) turn.deeds
     pub phase : PhaseTurn w t turn
     pub told : IsCommitted turn.deeds t → Told (w.past ++ turn.deeds) t Idle
-    pub votes : IsCommitted turn.deeds t → (u : Undecided L) → w.desk.txn t ≡ Known u → (is_voting u.stage ≡ true) ⊎ (phases_of turn.deeds ≡ t ∷ [])
+    pub votes : IsCommitted turn.deeds t → (u : Undecided L) → w.desk.txn t ≡ Known u → (is_voting u.stage ≡ true) ⊎ ((phases_of turn.deeds ≡ t ∷ []) × Untouched u)
     pub view : ((u : Undecided L) → w.desk.txn t ≡ Known u → is_voting u.stage ≡ true) → SameView w.past (w.past ++ turn.deeds) t
 
   pub told_idle : (past : List (Deed L)) (t : Name) (stage : Stage L) → pending stage ≡ [] → owed stage ≡ [] → Told past t stage → Told past t Idle
@@ -78,7 +78,7 @@ module _ {L : Lang} where
     -- a turn in which no statement goes on
     pub plain_booked : (turn : Turn L) → flat_map (work_in t) turn.deeds ≡ [] → flat_map (statement_in t) turn.deeds ≡ [] → flat_map (answer_in t) turn.deeds ≡ [] → Every (λ d. txn_of d ≡ t) turn.deeds → PhaseTurn w t turn →
         ((v : Undecided L) → turn.txn ≡ Known v → BookAt o ops w.sites w.letters w.past t v × ((a : L.Site) (k : Name) → v.ticket a ≡ Some k → Drawn (w.sites a) k × (o a k ≡ t))) →
-        (IsCommitted turn.deeds t → Told w.past t Idle × ((u : Undecided L) → w.desk.txn t ≡ Known u → (is_voting u.stage ≡ true) ⊎ (phases_of turn.deeds ≡ t ∷ []))) → Every (Plain ops w.sites) turn.letters → Booked o ops w t turn
+        (IsCommitted turn.deeds t → Told w.past t Idle × ((u : Undecided L) → w.desk.txn t ≡ Known u → (is_voting u.stage ≡ true) ⊎ ((phases_of turn.deeds ≡ t ∷ []) × Untouched u))) → Every (Plain ops w.sites) turn.letters → Booked o ops w t turn
     plain_booked turn a b c only phase book told tells =
         let view = view_plain w.past turn.deeds t a b c in
         record {

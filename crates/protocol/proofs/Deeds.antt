@@ -10,7 +10,8 @@ use Rattle.protocol.specs.World.{World}
 use Rattle.protocol.specs.Serial.{commits_it, is_committed, phased_of, phases_of, committed, statement_in, statements_of, answer_in, answers_of}
 use Rattle.protocol.specs.Client.{IsReached}
 use Rattle.protocol.specs.Leaving.{Fruitless}
-use Rattle.protocol.specs.ClientLaw.{Entry, log}
+use Rattle.protocol.specs.Parts.{Work}
+use Rattle.protocol.specs.ClientLaw.{log}
 use Rattle.protocol.proofs.Basics.{Every, In, every_more, by_test, same_law, same_refl, if_true, if_false}
 use Rattle.protocol.proofs.Locks.{from_filter}
 use Rattle.protocol.proofs.Fits.{Born}
@@ -130,23 +131,23 @@ module _ {L : Lang} where
         ∙ ap (λ xs. committed past ++ xs) (if_true (is_committed (past ++ deeds) t) (t ∷ []) [] (list_any-append (commits_it t) past deeds ∙ ap₂ (λ a b. a || b) fresh.no_commit is))
 
   -- ---- the deeds of a transaction
-  pub log_own : (t : Name) (es : List (Entry L)) → Of t (log t es)
+  pub log_own : (t : Name) (es : List (Work L)) → Of t (log t es)
   log_own t [] = tt
   log_own t (x ∷ es) = (refl, (refl, (refl, log_own t es)))
 
-  pub log_phases : (t : Name) (es : List (Entry L)) (more : List (Deed L)) → phases_of (log t es ++ more) ≡ phases_of more
+  pub log_phases : (t : Name) (es : List (Work L)) (more : List (Deed L)) → phases_of (log t es ++ more) ≡ phases_of more
   log_phases t [] more = refl
   log_phases t (x ∷ es) more = log_phases t es more
 
-  pub log_commits : (t : Name) (es : List (Entry L)) (more : List (Deed L)) → list_any (commits_it t) (log t es ++ more) ≡ list_any (commits_it t) more
+  pub log_commits : (t : Name) (es : List (Work L)) (more : List (Deed L)) → list_any (commits_it t) (log t es ++ more) ≡ list_any (commits_it t) more
   log_commits t [] more = refl
   log_commits t (x ∷ es) more = log_commits t es more
 
-  pub log_statements : (t : Name) (es : List (Entry L)) (more : List (Deed L)) → statements_of more t ≡ [] → statements_of (log t es ++ more) t ≡ map (λ x. x.statement) es
+  pub log_statements : (t : Name) (es : List (Work L)) (more : List (Deed L)) → statements_of more t ≡ [] → statements_of (log t es ++ more) t ≡ map (λ x. x.statement) es
   log_statements t [] more none = none
   log_statements t (x ∷ es) more none = ap₂ (λ a b. a ++ b) (if_true (same t t) (x.statement ∷ []) [] (same_refl t)) (log_statements t es more none)
 
-  pub log_answers : (t : Name) (es : List (Entry L)) (more : List (Deed L)) → answers_of more t ≡ [] → answers_of (log t es ++ more) t ≡ map (λ x. x.choice.0) es
+  pub log_answers : (t : Name) (es : List (Work L)) (more : List (Deed L)) → answers_of more t ≡ [] → answers_of (log t es ++ more) t ≡ map (λ x. x.choice.0) es
   log_answers t [] more none = none
   log_answers t (x ∷ es) more none = ap₂ (λ a b. a ++ b) (if_true (same t t) (x.choice.0 ∷ []) [] (same_refl t)) (log_answers t es more none)
 

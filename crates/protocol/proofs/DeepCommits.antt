@@ -43,7 +43,7 @@ module _ {L : Lang} (law : IsLawful L) (o : L.Site → Name → Name) (ops : L.S
   not_before was = (base.fit.committed t was).1 u e
 
   -- each of its tickets is prepared or has voted Read
-  viable_t : Viable ops w t
+  pub viable_t : Viable ops w t
   viable_t = record { u = u; known = e; voting = votes; each = λ a k own. go a k own ((w.sites a).status k) refl }
     where
       go : (a : L.Site) (k : Name) → Own a k u → (st : Status L) → (w.sites a).status k ≡ st → ViableNow (ops a k) ((w.sites a).status k) ⊎ In (record { site = a; txn = t; body = Voted k Read }) w.letters

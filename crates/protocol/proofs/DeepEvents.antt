@@ -104,7 +104,7 @@ module _ {L : Lang} (law : IsLawful L) (whole : L.Whole) where
         go (starts one view u e idle votes) = begun_deep law o ops whole w t turn deep good booked one view u e idle votes
         go (goes_on none stay) = ⊎_elim
             (λ done. let c = good.fine.commits done in
-            ⊎_elim (λ votes. commits_deep law o ops whole w t turn deep good booked none done c.0 c.1 votes) (λ one. absurd (let f : [] ≡ t ∷ [] = sym none ∙ one in cc)) (booked.votes done c.0 c.1))
+            ⊎_elim (λ votes. commits_deep law o ops whole w t turn deep good booked none done c.0 c.1 votes) (λ first. absurd (let f : [] ≡ t ∷ [] = sym none ∙ first.0 in cc)) (booked.votes done c.0 c.1))
             (λ not_. quiet_deep law o ops whole w t turn deep good booked not_ none) (by_test (is_committed turn.deeds t))
 
     turns_deep : (t : Name) (turn : Turn L) → Good o w t turn → Booked o ops w t turn → Next law whole ops w (turns w t turn)

@@ -4,13 +4,14 @@ use Rattle.std.proofs.lemmas.List.{map-append}
 use Rattle.std.specs.List.{list_any}
 use Rattle.protocol.specs.Language.{Lang, IsLawful, Name}
 use Rattle.protocol.specs.Site.{Status, Dead, Alive, Prepared}
-use Rattle.protocol.specs.Desk.{Deed, Desk, Began, Stated, Worked, Answered, Phased, Committed, Aborted, Rolled_back, next_txn}
+use Rattle.protocol.specs.Desk.{Deed, Desk, Began, Stated, Worked, Answered, Phased, Committed, Aborted, Rolled_back, Why, next_txn}
 use Rattle.protocol.specs.World.{World}
 use Rattle.protocol.specs.Serial.{commits_it, committed, statements_of, answers_of, with_decided, with_all_decided, whole_after, answers_in_turn, serial_whole, serial_answers, IsSerial}
 use Rattle.protocol.specs.Client.{IsReached, IsQuiet}
 use Rattle.protocol.specs.Spots.{Unlocked}
 use Rattle.protocol.specs.Leaving.{Since, Fruitless}
-use Rattle.protocol.specs.ClientLaw.{Entry, log}
+use Rattle.protocol.specs.Parts.{Work}
+use Rattle.protocol.specs.ClientLaw.{log}
 use Rattle.protocol.specs.OneClient.{Rebuilds, now, stated_in, answered_in, Outcome, Did_commit, Did_end, Leads, Follows, done_in, OneAtATime}
 use Rattle.protocol.proofs.Basics.{Every, every_append, same_refl}
 use Rattle.protocol.proofs.Reached.{reached_serial}
@@ -64,7 +65,7 @@ module _ {L : Lang} (law : IsLawful L) where
     fresh : IsFresh w.past t
     fresh = next_is_fresh law whole w reached
 
-    pub commits_serially : (es : List (Entry L)) → Leads (Did_commit es) w v → (answered_in es ≡ answers_in_turn L (stated_in es) (now whole w)) × (now whole v ≡ whole_after L (stated_in es) (now whole w))
+    pub commits_serially : (es : List (Work L)) → Leads (Did_commit es) w v → (answered_in es ≡ answers_in_turn L (stated_in es) (now whole w)) × (now whole v ≡ whole_after L (stated_in es) (now whole w))
     commits_serially es past = (
       last_is (map (answers_of w.past) (committed w.past)) (serial_answers L before whole) (answered_in es) (answers_in_turn L (stated_in es) (serial_whole L before whole)) (sym answers ∙ serial.answers ∙ ap (λ ss. serial_answers L ss whole) statements ∙ serial_answers_more L before (stated_in es) whole),
       ap (λ ss. serial_whole L ss whole) statements ∙ serial_whole_more L before (stated_in es) whole,
@@ -132,29 +133,37 @@ module _ {L : Lang} (law : IsLawful L) where
       let one = commits_serially whole w follows.0 reached follows.1.0 es follows.1.1.0 in
       (ap₂ (λ a r. a ∷ r) one.0 (rest.0 ∙ ap (serial_answers L (map stated_in (done_in xs))) one.1), rest.1 ∙ ap (serial_whole L (map stated_in (done_in xs))) one.1)
 
-  log_fruitless : (t : Name) (es : List (Entry L)) → Every (Fruitless t) (log t es)
+  -- an end without a commit, as it is found
+  pub since_aborted : (t : Name) (before past : List (Deed L)) (why : Why) → past ≡ before ++ Phased t ∷ Aborted t why ∷ [] → Since t before past
+  since_aborted t before past why is = record { more = Phased t ∷ Aborted t why ∷ []; is = is; fruitless = (refl, (refl, tt)) }
+
+  pub since_rolled_back : (t : Name) (before past : List (Deed L)) → past ≡ before ++ Rolled_back t ∷ [] → Since t before past
+  since_rolled_back t before past is = record { more = Rolled_back t ∷ []; is = is; fruitless = (refl, tt) }
+
+  log_fruitless : (t : Name) (es : List (Work L)) → Every (Fruitless t) (log t es)
   log_fruitless t [] = tt
   log_fruitless t (x ∷ es) = (refl, (refl, (refl, log_fruitless t es)))
 
-  pub since_log : (t : Name) (before past : List (Deed L)) (es : List (Entry L)) → Since t (before ++ log t es) past → Since t before past
+  -- what happened since a transaction's answered statements happened since it began
+  pub since_log : (t : Name) (before past : List (Deed L)) (es : List (Work L)) → Since t (before ++ log t es) past → Since t before past
   since_log t before past es since = record {
     more = log t es ++ since.more;
     is = since.is ∙ append_assoc before (log t es) since.more;
     fruitless = every_append (Fruitless t) (log t es) since.more (log_fruitless t es) since.fruitless;
   }
 
-  log_append : (t : Name) (es more : List (Entry L)) → log t (es ++ more) ≡ log t es ++ log t more
+  log_append : (t : Name) (es more : List (Work L)) → log t (es ++ more) ≡ log t es ++ log t more
   log_append t [] more = refl
   log_append t (x ∷ es) more = ap (λ d. Stated t x.statement ∷ Worked t x.statement x.asks x.choice ∷ Answered t x.choice.0 ∷ d) (log_append t es more)
+
+  -- one more statement
+  pub log_more : (t : Name) (before past : List (Deed L)) (es : List (Work L)) (x : Work L) → past ≡ (before ++ log t es) ++ log t (x ∷ []) → past ≡ before ++ log t (es ++ x ∷ [])
+  log_more t before past es x is = is ∙ append_assoc before (log t es) (log t (x ∷ [])) ∙ ap (λ d. before ++ d) (sym (log_append t es (x ∷ [])))
 
   pub one_at_a_time : OneAtATime L
   one_at_a_time = record {
     rebuilt = quiet_rebuilt;
     commits = λ whole w v es reached later leads. commits_serially whole w v reached later es leads;
     ends = λ whole w v reached later leads. nothing_changed whole w v reached later leads;
-    since_began = since_log;
-    aborted = λ t before past why is. record { more = Phased t ∷ Aborted t why ∷ []; is = is; fruitless = (refl, (refl, tt)) };
-    rolled_back = λ t before past is. record { more = Rolled_back t ∷ []; is = is; fruitless = (refl, tt) };
-    one_more = λ t before past es x is. is ∙ append_assoc before (log t es) (log t (x ∷ [])) ∙ ap (λ d. before ++ d) (sym (log_append t es (x ∷ [])));
     all = serially;
   }

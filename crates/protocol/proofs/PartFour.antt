@@ -1,16 +1,16 @@
 -- Part four of the invariant, for every run: a committed transaction is applied whole and once.
-use Rattle.std.proofs.Common.{◌≡◌, refl, sym, ap, ◌∙◌, subst, ℕ, suc, Bool, true, false, List, [], ◌∷◌, ◌++◌, inl, inr, ⊎_elim, Option, Some, None, slice_get, arith, le_refl, le_trans, le_of_lt, lt-suc_self}
+use Rattle.std.proofs.Common.{◌≡◌, refl, sym, ap, ◌∙◌, subst, subst₂, ◌||◌, ℕ, suc, Bool, true, false, List, [], ◌∷◌, ◌++◌, inl, inr, ⊎_elim, Option, Some, None, slice_get, arith, le_refl, le_trans, le_of_lt, lt-suc_self}
 use Rattle.std.proofs.lemmas.List.Folds.{list_any-append}
-use Rattle.std.specs.List.{flat_map}
+use Rattle.std.specs.List.{flat_map, list_any}
 use Rattle.protocol.specs.Language.{Lang, IsLawful, Name, same}
 use Rattle.protocol.specs.Letter.{Body, Abort, Ack, Letter, is_for_desk}
 use Rattle.protocol.specs.Site.{Status, Dead, Prepared, SiteState, is_dead, is_prepared, Alive}
-use Rattle.protocol.specs.Desk.{Undecided, fresh, Txn, Unknown, Known, Row, Choice, Began, Desk, Turn, on_request, on_desk_letter, desk_after, next_txn, desk_began, commits, txn_restarted, desk_restarted, is_desk_within}
+use Rattle.protocol.specs.Desk.{Undecided, fresh, is_pair, Txn, Unknown, Known, Row, Choice, Began, Desk, Turn, on_request, on_desk_letter, desk_after, next_txn, desk_began, commits, txn_restarted, desk_restarted, is_desk_within}
 use Rattle.protocol.specs.World.{World, is_site, Event, Begin, Call, Deliver, Site_gives_up, Site_inquires, Site_restarts, Desk_restarts, turned, turns, begun, comes_to, delivered, desk_lives, happens, run}
 use Rattle.protocol.specs.Serial.{is_committed, commits_it, IsOpening}
-use Rattle.protocol.specs.Whole.{AckedOnce, AbortsNone, IsWhole, AppliedWholeAndOnce}
+use Rattle.protocol.specs.Applied.{AckedOnce, AbortsNone, AppliesOnce, AppliedWholeAndOnce}
 use Rattle.protocol.proofs.Deciding.{voters_is, acked_is}
-use Rattle.protocol.proofs.Basics.{Every, In, in_at, put_all, every_append, every_more, every_at, every_flat, clash, same_law, either, or_left, or_cases}
+use Rattle.protocol.proofs.Basics.{Every, In, in_at, put_all, every_append, every_more, every_at, every_flat, clash, same_law, either, or_left, or_cases, left_true, right_true, by_test}
 use Rattle.protocol.proofs.Fits.{Born, IsCommitted, FitsBody, Fits, KnownAt, Gone, Votes, Fit}
 use Rattle.protocol.proofs.SiteEvents.{site_letter, restart_fit, give_up_fit, inquire_fit}
 use Rattle.protocol.proofs.DeskFits.{Grows, grows_same, DeskLater, letters_desk}
@@ -170,21 +170,35 @@ module _ {L : Lang} where
     dead_is (Alive v) e = cc
     dead_is (Prepared t i) e = cc
 
-    pub whole_of : (o : L.Site → Name → Name) (w : World L) → Fit o w → IsWhole w
-    whole_of o w fit = record {
+    pub applies_of : (o : L.Site → Name → Name) (w : World L) → Fit o w → AppliesOnce w
+    applies_of o w fit = record {
       once = every_more (Fits o w.desk w.past w.sites) (λ l. AckedOnce w l.site l.body) w.letters (λ l is. acks l.site l.txn l.body is.1) fit.letters;
-      row_stays = λ a k t i row done. let v = (fit.prepared a k t i row).voter done in (v.0, v.1, v.2);
-      no_abort = every_more (Fits o w.desk w.past w.sites) (λ l. AbortsNone w l.site l.txn l.body) w.letters (λ l is. aborts l.site l.txn l.body is.1) fit.letters;
+      row_stays = λ a k t i row done. let v = (fit.prepared a k t i row).voter done in (v.0, v.1, v.2, v.3, not_acked a k t i row v.1 (fit.rows t v.0 v.1 v.2).1);
+      no_abort = every_more (Fits o w.desk w.past w.sites) (λ l. AbortsNone w l.site l.body) w.letters (λ l is. aborts l.site l.txn l.body is.1) fit.letters;
     }
       where
         acks : (a : L.Site) (t : Name) (b : Body L) → FitsBody o w.desk w.past a (w.sites a) t b → AckedOnce w a b
         acks a t (Ack k) here = dead_is ((w.sites a).status k) here.2
         acks a t _ here = tt
 
-        aborts : (a : L.Site) (t : Name) (b : Body L) → FitsBody o w.desk w.past a (w.sites a) t b → AbortsNone w a t b
-        aborts a t (Abort k) here = λ done i row. clash (ap is_prepared row) (here.3 done)
+        aborts : (a : L.Site) (t : Name) (b : Body L) → FitsBody o w.desk w.past a (w.sites a) t b → AbortsNone w a b
+        aborts a t (Abort k) here = λ u i row done. clash (ap is_prepared row) (here.3 (subst (λ j. is_committed w.past j ≡ true) (sym (fit.prepared a k u i row).owner ∙ here.1) done))
         aborts a t _ here = tt
+
+        if_none : (x : Bool) {y : Bool} → x ≡ false → y ≡ false → (x || y) ≡ false
+        if_none true is rest = cc
+        if_none false is rest = rest
+
+        -- who has acknowledged is gone, and so isn't prepared
+        not_acked : (a : L.Site) (k t : Name) (i : L.Intentions) → (w.sites a).status k ≡ Prepared t i → (acked : List (L.Site × Name)) → Every (Gone w.sites) acked → list_any (is_pair L a k) acked ≡ false
+        not_acked a k t i row [] gone = refl
+        not_acked a k t i row (v ∷ acked) gone = ⊎_elim
+            (λ is. let at : v.0 ≡ a = (law.sites v.0 a).0 (left_true (L.same_site v.0 a) (same v.1 k) is) in
+            let of : v.1 ≡ k = (same_law v.1 k).0 (right_true (L.same_site v.0 a) (same v.1 k) is) in
+            clash gone.0.1 (ap is_dead (subst₂ (λ b j. (w.sites b).status j ≡ Prepared t i) (sym at) (sym of) row)))
+            (λ other. if_none (is_pair L a k v) other (not_acked a k t i row acked gone.1))
+            (by_test (is_pair L a k v))
 
     -- a committed transaction is applied whole and once, whatever happens
     pub applied_whole_and_once : AppliedWholeAndOnce L
-    applied_whole_and_once whole w events opening = let end = run_fit (λ a k. k) w events (opening_fit whole w opening) in whole_of end.0 (run events w) end.1
+    applied_whole_and_once whole w events opening = let end = run_fit (λ a k. k) w events (opening_fit whole w opening) in applies_of end.0 (run events w) end.1

@@ -1,11 +1,13 @@
--- Small runs of the toy language, each computed: a moved row with its write lost, committed, repeated, in doubt, and late.
-use Rattle.std.proofs.Common.{◌≡◌, refl, subst₂, ℕ, Bool, true, false, List, [], ◌∷◌, ◌++◌, map, length, drop}
-use Rattle.protocol.specs.Language.{Name}
+-- Small runs of the toy language, each computed: a moved row with its write lost, committed, repeated, in doubt, and late; and what is passed over, refused or answered at each of these.
+use Rattle.std.proofs.Common.{◌≡◌, refl, subst₂, ℕ, Bool, true, false, List, [], ◌∷◌, ◌++◌, map, length, drop, inl, inr, Some, nat_lt}
+use Rattle.protocol.specs.Language.{Lang, Name}
 use Rattle.protocol.specs.Letter.{Body, Open, Fetch, Write, Prepare, Commit, Abort, Ticket, Rows, Refused, Voted, Ack, Inquire, Lock, Gone, Yes, No}
 use Rattle.protocol.specs.Site.{Dead, is_within}
-use Rattle.protocol.specs.Desk.{Unknown, State, Commit_call, Choice}
+use Rattle.protocol.specs.Desk.{Unknown, State, Commit_call, Rollback, Ask, By_vote, By_restart, Choice, Deed, Began, Stated, Worked, Committed, Aborted, Rolled_back}
 use Rattle.protocol.specs.World.{World, Event, Begin, Call, Deliver, Site_gives_up, Site_inquires, Site_restarts, Desk_restarts, run}
-use Rattle.protocol.specs.Serial.{committed, settled, AllExplained, IsOpening, IsSerial}
+use Rattle.protocol.specs.Serial.{committed, settled, Explained, AllExplained, IsOpening, IsSerial}
+use Rattle.protocol.specs.Parts.{In, works}
+use Rattle.protocol.specs.Premise.{ExplainedRun, PremiseIsMet}
 use Rattle.protocol.specs.Toy.{toy, Pair, Move, Look, part_of}
 use Rattle.protocol.proofs.Basics.{some_is}
 use Rattle.protocol.proofs.SerialLaw.{serial_law}
@@ -31,6 +33,10 @@ two = record { life = 1; number = 2 }
 
 abbrev moves : Choice toy
 moves = (1, (false, 0) ∷ (true, 7) ∷ [])
+
+-- a fetch of the move with the rows that came: the leaf and the part found there
+abbrev came_of : Bool → ℕ → Ask toy
+came_of g rows = record { leaf = g; query = 0; number = Some 1; rows = Some rows }
 
 abbrev got : ℕ → Event toy
 got n = Deliver n true (0, [])
@@ -177,9 +183,9 @@ row_left_again = refl
 applied_once : ((run (decided ++ all_of (14 ∷ 14 ∷ [])) start).sites false).known ≡ []
 applied_once = refl
 
--- the law's premise can be met: what the moved row was answered and wrote is explained, and so the law speaks of this run
-moved_explained : AllExplained (run decided start).past
-moved_explained = (tt, (tt, ((tt, λ whole fits gives. (refl, wrote whole.north whole.south (some_is gives.0) (some_is gives.1.0))), (tt, (tt, (tt, tt))))))
+-- what the moved row was answered and wrote is explained: over every whole database that gives the rows received the move means just that
+move_explained : Explained (Worked one Move (came_of false 7 ∷ came_of true 0 ∷ []) moves)
+move_explained = (tt, λ whole fits gives. (refl, wrote whole.north whole.south (some_is gives.0) (some_is gives.1.0)))
   where
     between : ℕ → ℕ → List (Bool × ℕ)
     between north south = toy.writes (record { north = north; south = south }) (record { north = south; south = north })
@@ -187,14 +193,51 @@ moved_explained = (tt, (tt, ((tt, λ whole fits gives. (refl, wrote whole.north 
     wrote : (north south : ℕ) → 7 ≡ north → 0 ≡ south → between 7 0 ≡ between north south
     wrote north south n s = subst₂ (λ a b. between 7 0 ≡ between a b) n s refl
 
-moved_serially : IsSerial (record { north = 7; south = 0 }) (run decided start)
-moved_serially = serial_law toy_lawful (record { north = 7; south = 0 }) start decided opened moved_explained
+start_opens : IsOpening (record { north = 7; south = 0 }) start
+start_opens = record { is_whole = tt; letters = refl; past = refl; visits = λ a k. refl; tickets = λ a. refl; undecided = λ t. refl; names = refl; rebuilt = rebuilt }
   where
-    at : (g : Bool) → part_of g (record { north = 7; south = 0 }) ≡ part_of g (record { north = 7; south = 0 })
-    at g = refl
+    rebuilt : (g : Bool) → part_of g (record { north = 7; south = 0 }) ≡ part_of g (record { north = 7; south = 0 })
+    rebuilt g = refl
 
-    opened : IsOpening (record { north = 7; south = 0 }) start
-    opened = record { is_whole = tt; letters = refl; past = refl; visits = λ a k. refl; tickets = λ a. refl; undecided = λ t. refl; names = refl; rebuilt = at }
+-- the law's premise can be met, and so the law speaks of this run
+moved_explained : AllExplained (run decided start).past
+moved_explained = (tt, (tt, (move_explained, (tt, (tt, (tt, tt))))))
+
+moved_serially : IsSerial (record { north = 7; south = 0 }) (run decided start)
+moved_serially = serial_law toy_lawful (record { north = 7; south = 0 }) start decided start_opens moved_explained
+
+-- it speaks of one that aborts by a vote No, with a site's restart and inquiries after it
+lost_explained : AllExplained (run (lost ++ Site_restarts false true ∷ Site_inquires false ∷ []) start).past
+lost_explained = (tt, (tt, (move_explained, (tt, (tt, (tt, tt))))))
+
+-- of one whose voters are in doubt while the coordinator and both sites restart, and hear Abort
+abbrev told_in_doubt : List (Event toy)
+told_in_doubt = in_doubt ++ all_of (13 ∷ []) ++ Site_restarts false true ∷ Site_restarts true true ∷ Site_inquires false ∷ Site_inquires true ∷ all_of (14 ∷ 15 ∷ 16 ∷ 17 ∷ [])
+
+in_doubt_explained : AllExplained (run told_in_doubt start).past
+in_doubt_explained = (tt, (tt, (move_explained, (tt, (tt, (tt, tt))))))
+
+-- and of one that its client rolled back
+abbrev rolled : List (Event toy)
+rolled = Begin ∷ Call one (State Move) (0, []) ∷ all_of (0 ∷ 1 ∷ 2 ∷ 3 ∷ 4 ∷ 5 ∷ 6 ∷ []) ++ Deliver 7 true moves ∷ Call one Rollback (0, []) ∷ []
+
+letters_of_a_rollback : drop 10 (letters_out rolled) ≡ Abort one ∷ Abort one ∷ []
+letters_of_a_rollback = refl
+
+rolled_explained : AllExplained (run rolled start).past
+rolled_explained = (tt, (tt, (move_explained, (tt, (tt, tt)))))
+
+-- an explained run from the start, in which the move was evaluated
+explained_run : (end : Name → Deed toy) (events : List (Event toy)) → (works (run events start).past one ≡ [] → ⊥) → In (end one) (run events start).past → AllExplained (run events start).past → ExplainedRun end
+explained_run end events evaluated ends explained = record { whole = record { north = 7; south = 0 }; opening = start; opens = start_opens; events = events; txn = one; evaluated = evaluated; ends = ends; explained = explained }
+
+pub premise_is_met : PremiseIsMet toy
+premise_is_met = record {
+  committed = explained_run Committed decided (λ e. cc) (inr (inr (inr (inr (inr (inl refl)))))) moved_explained;
+  aborted = explained_run (λ t. Aborted t By_vote) (lost ++ Site_restarts false true ∷ Site_inquires false ∷ []) (λ e. cc) (inr (inr (inr (inr (inr (inl refl)))))) lost_explained;
+  restarted = explained_run (λ t. Aborted t By_restart) told_in_doubt (λ e. cc) (inr (inr (inr (inr (inr (inl refl)))))) in_doubt_explained;
+  rolled_back = explained_run Rolled_back rolled (λ e. cc) (inr (inr (inr (inr (inl refl))))) rolled_explained;
+}
 
 -- a prepare that its store refuses is a vote No
 refused_prepare : new_letters (moved ++ all_of (8 ∷ 9 ∷ [])) (Deliver 10 false (0, []) ∷ []) ≡ Voted one No ∷ []
@@ -230,3 +273,71 @@ only_read = refl
 -- a number at 2^63 is past the limits
 not_within : is_within {L = toy} (record { kept = λ g. 0; status = λ k. Dead; known = []; life = 1; number = 9223372036854775808 }) ≡ false
 not_within = refl
+
+-- a voter that asks about a committed transaction hears Commit
+commit_told : new_letters decided (Site_inquires false ∷ all_of (16 ∷ [])) ≡ Inquire one ∷ Commit one ∷ []
+commit_told = refl
+
+-- the last acknowledgement counts as not received where the row's drop was not kept: come again, it drops the row
+drop_again : (run (decided ++ all_of (14 ∷ 15 ∷ 16 ∷ []) ++ Deliver 17 false (0, []) ∷ Deliver 17 true (0, []) ∷ []) start).desk.known ≡ []
+drop_again = refl
+
+-- a site that restarted refuses a fetch that comes late
+late_refusal_is_gone : new_letters moved (Site_restarts false true ∷ all_of (4 ∷ 12 ∷ [])) ≡ Refused one Gone ∷ []
+late_refusal_is_gone = refl
+
+-- and a refusal that comes in the first phase aborts nothing
+late_refusal : (run (moved ++ Site_restarts false true ∷ all_of (4 ∷ 12 ∷ [])) start).desk.known ≡ one ∷ []
+late_refusal = refl
+
+-- nor does a rollback then
+no_rollback : (run (moved ++ Call one Rollback (0, []) ∷ []) start).desk.known ≡ one ∷ []
+no_rollback = refl
+
+-- an Open that came twice has given two tickets, and the second hears Abort
+second_ticket : new_letters (Begin ∷ Call one (State (Look true)) (0, []) ∷ all_of (0 ∷ 0 ∷ 1 ∷ [])) (all_of (2 ∷ [])) ≡ Abort two ∷ []
+second_ticket = refl
+
+-- a coordinator that restarts aborts what was undecided without a letter
+no_abort_at_restart : new_letters moved (Desk_restarts true ∷ []) ≡ []
+no_abort_at_restart = refl
+
+-- a visit whose write was refused for a lock has ended: the same write again is no operation of it
+lock_ends : new_letters looked (all_of (9 ∷ 9 ∷ [])) ≡ Refused one Lock ∷ []
+lock_ends = refl
+
+-- an Abort whose discard is not kept leaves the prepared row
+refused_abort : ((run (moved ++ all_of (8 ∷ 10 ∷ 11 ∷ 12 ∷ 13 ∷ []) ++ Deliver 14 false (0, []) ∷ []) start).sites false).known ≡ one ∷ []
+refused_abort = refl
+
+-- both leaves are looked at, and a commit is asked for: letters 8 and 9 are the Prepares, 10 is the vote Read of the north
+abbrev looked_at_both : List (Event toy)
+looked_at_both = Begin ∷ Call one (State (Look false)) (0, []) ∷ all_of (0 ∷ 1 ∷ 2 ∷ []) ++ Deliver 3 true (7, []) ∷ Call one (State (Look true)) (0, []) ∷ all_of (4 ∷ 5 ∷ 6 ∷ []) ++ Deliver 7 true (0, []) ∷ Call one Commit_call (0, []) ∷ all_of (8 ∷ [])
+
+-- a Prepare that comes again after the vote Read is answered by No, and the first vote counts
+votes_again : new_letters looked_at_both (all_of (8 ∷ [])) ≡ Voted one No ∷ []
+votes_again = refl
+
+first_vote_counts : committed_in (looked_at_both ++ all_of (8 ∷ 10 ∷ 11 ∷ 9 ∷ 12 ∷ [])) ≡ one ∷ []
+first_vote_counts = refl
+
+-- a voter that has voted Read hears no Abort
+read_hears_no_abort : new_letters looked_at_both (Site_gives_up true one ∷ all_of (9 ∷ 10 ∷ 11 ∷ [])) ≡ Voted one No ∷ []
+read_hears_no_abort = refl
+
+-- the language whose rows fit a leaf where they are below 7
+abbrev below_seven : Lang
+below_seven = record toy { well_formed = λ g rows. nat_lt rows 7 }
+
+-- a part 9 in the north, which doesn't fit
+abbrev misfit : World below_seven
+misfit = record {
+  desk = record { txn = λ t. Unknown; known = []; life = 1; number = 0 };
+  sites = λ a. record { kept = λ g. 9; status = λ k. Dead; known = []; life = 1; number = 0 };
+  letters = [];
+  past = [];
+}
+
+-- rows that don't fit their leaf are passed over: the statement waits
+misfit_passed_over : (run (Begin ∷ Call one (State (Look false)) (0, []) ∷ map (λ n. Deliver n true (9, [])) (0 ∷ 1 ∷ 2 ∷ 3 ∷ [])) misfit).past ≡ Began one ∷ Stated one (Look false) ∷ []
+misfit_passed_over = refl

@@ -8,7 +8,8 @@ use Rattle.protocol.specs.Client.{first, next, IsQuiet}
 use Rattle.protocol.specs.Course.{Steady, InStatement, Well}
 use Rattle.protocol.specs.Leaving.{EndKept, Within, Ending, Went}
 use Rattle.protocol.specs.Committing.{Committing, CommitKept}
-use Rattle.protocol.specs.ClientLaw.{taken, OfFirst, AllTaken, Doing, Entry, does_one, does, AllDone, log, Kept, ClientLaw}
+use Rattle.protocol.specs.Parts.{Work}
+use Rattle.protocol.specs.ClientLaw.{taken, OfFirst, AllTaken, Doing, does_one, does, AllDone, log, Kept, ClientLaw}
 use Rattle.protocol.proofs.Basics.{if_true}
 use Rattle.protocol.proofs.Locks.{Once}
 use Rattle.protocol.proofs.Limits.{begins_within, called_within, next_within}
@@ -37,7 +38,7 @@ module _ {L : Lang} (law : IsLawful L) where
 
     -- statements one after another
     all_done : (t : Name) (xs : List (Doing L)) (w : World L) → Steady t w → Within w → AllDone t w xs →
-        Steady t (does t xs w) × (Within (does t xs w) × ((es : List (Entry L)) × ((map (λ x. x.statement) es ≡ map (λ x. x.statement) xs) × ((does t xs w).past ≡ w.past ++ log t es))))
+        Steady t (does t xs w) × (Within (does t xs w) × ((es : List (Work L)) × ((map (λ x. x.statement) es ≡ map (λ x. x.statement) xs) × ((does t xs w).past ≡ w.past ++ log t es))))
     all_done t [] w steady within all = (steady, (within, ([], (refl, sym (append-nil w.past)))))
     all_done t (x ∷ xs) w steady within all =
         let s = x.statement in
@@ -46,7 +47,7 @@ module _ {L : Lang} (law : IsLawful L) where
         let came = all_taken (InStatement t s w.past) (Well ⊥) (λ v l q e inside kept choice well at_. still_works t s w.past (next v kept choice) (went_on law once ⊥ t s w.past v inside kept choice l q e well (inl at_))) x.takes asked (called_within w t x.choice (State s) within) (statement_starts law once t s w x.choice steady one.fetched one.written one.within) one.all in
         let done = statement_ends law once t s w.past (does_one t w x) came.0 came.1.1 in
         let rest = all_done t xs (does_one t w x) done.0 came.1.0 all.1 in
-        let entry : Entry L = record { statement = s; asks = done.1.0; choice = done.1.1 } in (
+        let entry : Work L = record { statement = s; asks = done.1.0; choice = done.1.1 } in (
           rest.0,
           (
             rest.1.0,
@@ -71,17 +72,17 @@ module _ {L : Lang} (law : IsLawful L) where
       abbrev v : World L
       v = does t xs (begins w)
 
-      abbrev Before : List (Entry L) → List (Deed L)
+      abbrev Before : List (Work L) → List (Deed L)
       Before es = (w.past ++ Began t ∷ []) ++ log t es
 
-      worked : Steady t v × (Within v × ((es : List (Entry L)) × ((map (λ x. x.statement) es ≡ map (λ x. x.statement) xs) × (v.past ≡ Before es))))
+      worked : Steady t v × (Within v × ((es : List (Work L)) × ((map (λ x. x.statement) es ≡ map (λ x. x.statement) xs) × (v.past ≡ Before es))))
       worked =
           let done = all_done t xs (begins w) (begins_steady w quiet room) (begins_within w within) all in
           (done.0, (done.1.0, (done.1.1.0, (done.1.1.1.0, done.1.1.1.1 ∙ ap (λ y. y ++ log t done.1.1.0) (opened_past w room)))))
 
       -- a commit: done, or there was an excuse E
       pub transaction_commits : (E : Type 0) (choice : Choice L) (takes : List (Bool × Choice L)) → AllTaken (λ y kept c l. CommitKept E kept l.body) takes (called v t choice Commit_call) →
-          IsQuiet (taken takes (called v t choice Commit_call)) × ((es : List (Entry L)) × (map (λ x. x.statement) es ≡ map (λ x. x.statement) xs) × (((taken takes (called v t choice Commit_call)).past ≡ Before es ++ (Phased t ∷ Committed t ∷ [])) ⊎ (E × ((why : Why) × ((taken takes (called v t choice Commit_call)).past ≡ Before es ++ (Phased t ∷ Aborted t why ∷ []))))))
+          IsQuiet (taken takes (called v t choice Commit_call)) × ((es : List (Work L)) × (map (λ x. x.statement) es ≡ map (λ x. x.statement) xs) × (((taken takes (called v t choice Commit_call)).past ≡ Before es ++ (Phased t ∷ Committed t ∷ [])) ⊎ (E × ((why : Why) × ((taken takes (called v t choice Commit_call)).past ≡ Before es ++ (Phased t ∷ Aborted t why ∷ []))))))
       transaction_commits E choice takes kept =
           let asked = called v t choice Commit_call in
           let came = all_taken (Committing E t v.past) (λ y kept c l. CommitKept E kept l.body) (λ y l q e inside kept c keeps committing. commit_goes_on law once E t v.past y l q e inside kept c keeps committing) takes asked (called_within v t choice Commit_call worked.1.0) (commit_starts law once E t v.past v worked.0 choice worked.1.0 refl) kept in
@@ -97,7 +98,7 @@ module _ {L : Lang} (law : IsLawful L) where
           )
 
       pub transaction_rolls_back : (choice : Choice L) (takes : List (Bool × Choice L)) → AllTaken (λ y kept c l. EndKept kept l.body) takes (called v t choice Rollback) →
-          IsQuiet (taken takes (called v t choice Rollback)) × ((es : List (Entry L)) × (map (λ x. x.statement) es ≡ map (λ x. x.statement) xs) × ((taken takes (called v t choice Rollback)).past ≡ Before es ++ (Rolled_back t ∷ [])))
+          IsQuiet (taken takes (called v t choice Rollback)) × ((es : List (Work L)) × (map (λ x. x.statement) es ≡ map (λ x. x.statement) xs) × ((taken takes (called v t choice Rollback)).past ≡ Before es ++ (Rolled_back t ∷ [])))
       transaction_rolls_back choice takes kept =
           let asked = called v t choice Rollback in
           let deeds = v.past ++ Rolled_back t ∷ [] in

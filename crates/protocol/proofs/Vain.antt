@@ -4,11 +4,11 @@ use Rattle.std.specs.List.{list_all, list_any}
 use Rattle.protocol.specs.Language.{Lang, Name, same, put}
 use Rattle.protocol.specs.Letter.{Body, Open, Fetch, Write, Prepare, Commit, Abort, Ticket, Rows, Refused, Voted, Ack, Inquire, Letter, is_for_desk}
 use Rattle.protocol.specs.Site.{SiteState, Status, Dead, Alive, Prepared, Act, is_within, on_letter, on_fetch, on_write, on_commit, on_abort, others_exclusive, said, site_after}
-use Rattle.protocol.specs.Desk.{Ask, Choice, Stage, Idle, Reading, Writing, Voting, Undecided, Txn, Unknown, Known, Row, Deed, Began, Stated, Worked, Answered, Phased, Committed, Aborted, Rolled_back, By_refusal, Given_up, State, Rollback, Give_up, Turn, when, ends_by, stays, to_abort, may_hold, vote_at, ticket_goes, on_ticket, with_rows, on_rows, on_refused, on_known, on_unknown, is_pair, are_acked, on_ack, on_row, on_desk_letter, on_request, on_rollback, on_state, is_named, desk_after, desk_began, is_desk_within, next_txn, asks_go, writing, writes_go, writes_out, works, states, opens, visits, is_new}
-use Rattle.protocol.specs.World.{World, addressed, begins, begun, called, comes, comes_to, site_steps, turned, turns, with_site}
+use Rattle.protocol.specs.Desk.{Ask, Choice, Stage, Idle, Reading, Writing, Voting, Undecided, Txn, Unknown, Known, Row, Deed, Began, Stated, Worked, Answered, Phased, Committed, Aborted, Rolled_back, By_refusal, Given_up, State, Rollback, Give_up, Turn, when, ends_by, stays, to_abort, may_hold, vote_at, ticket_goes, on_ticket, with_rows, on_rows, on_refused, on_known, on_unknown, is_pair, are_acked, on_row, on_desk_letter, on_request, on_rollback, on_state, is_named, desk_after, desk_began, is_desk_within, next_txn, asks_go, writing, writes_go, writes_out, works, states, opens, visits, is_new}
+use Rattle.protocol.specs.World.{World, addressed, begins, begun, called, comes, comes_to, turned, turns}
 use Rattle.protocol.specs.Serial.{commits_it, committed, is_committed, phases_of}
 use Rattle.protocol.specs.Vain.{AreInVain, is_of_commit}
-use Rattle.protocol.proofs.Basics.{Every, every_append, every_map, either, some_is}
+use Rattle.protocol.proofs.Basics.{Every, every_append, either, some_is}
 use Rattle.protocol.proofs.Turns.{every_letter}
 use Rattle.protocol.proofs.Going.{asks_each, first_written, opening_is, writes_each}
 

@@ -1,11 +1,11 @@
 -- One client alone: a world whose letters are those that wait, each delivered once in the order in which they wait.
-use Rattle.std.specs.Prelude.{◌≡◌, ℕ, zero, suc, Bool, false, List, [], ◌∷◌, ◌++◌, length, map}
+use Rattle.std.specs.Prelude.{◌≡◌, ℕ, zero, suc, Bool, false, List, [], ◌∷◌, ◌++◌, length}
 use Rattle.protocol.specs.Language.{Lang, Name}
 use Rattle.protocol.specs.Letter.{Letter}
 use Rattle.protocol.specs.Desk.{Choice, Request, Commit_call, Rollback, Give_up, is_undecided}
 use Rattle.protocol.specs.Spots.{Unlocked}
 use Rattle.protocol.specs.World.{World, Event, begins, called, comes, run}
-use Rattle.protocol.specs.Serial.{AllExplained, IsOpening, IsSerial, committed, serial_whole, statements_of}
+use Rattle.protocol.specs.Serial.{AllExplained, IsOpening, IsSerial, committed_whole}
 
 module _ {L : Lang} where
   -- the first of these letters comes, the others wait on
@@ -62,7 +62,7 @@ pub record ReachedLaw (L : Lang) : Type 0 where
   pub came : (whole : L.Whole) (w : World L) (kept : Bool) (choice : Choice L) → IsReached whole w → AllExplained (next w kept choice).past → IsReached whole (next w kept choice)
   pub lost : (whole : L.Whole) (w : World L) → IsReached whole w → IsReached whole (loses w)
   pub serial : (whole : L.Whole) (w : World L) → IsReached whole w → IsSerial whole w
-  pub is_whole : (whole : L.Whole) (w : World L) → IsReached whole w → L.IsWhole (serial_whole L (map (statements_of w.past) (committed w.past)) whole)
+  pub is_whole : (whole : L.Whole) (w : World L) → IsReached whole w → L.IsWhole (committed_whole whole w.past)
 
 -- how many rounds are enough until no letter waits, from any world: nine, four after a commit is asked for, one after a rollback or where a transaction is given up
 pub record RoundsLaw (L : Lang) : Type 0 where

@@ -5,6 +5,7 @@ use Rattle.protocol.specs.Letter.{Letter}
 use Rattle.protocol.specs.Desk.{Ask, Choice, Deed, Began, Stated, Worked, Answered, Phased, Committed, Aborted, Rolled_back, Why, State, Commit_call, Rollback, Give_up, Request, next_txn, desk_began, desk_after, on_request, is_desk_within}
 use Rattle.protocol.specs.World.{World, begins, called}
 use Rattle.protocol.specs.Serial.{IsOpening}
+use Rattle.protocol.specs.Parts.{Work}
 use Rattle.protocol.specs.Client.{next, IsQuiet}
 use Rattle.protocol.specs.Course.{AtSites, Steady, Well}
 use Rattle.protocol.specs.Leaving.{EndKept, Within, Since, Ending, Went, Lost}
@@ -32,12 +33,6 @@ pub record Doing (L : Lang) : Type 0 where
   pub choice : Choice L
   pub takes : List (Bool × Choice L)
 
--- a statement as it was done
-pub record Entry (L : Lang) : Type 0 where
-  pub statement : L.Statement
-  pub asks : List (Ask L)
-  pub choice : Choice L
-
 module _ {L : Lang} where
   -- a statement is asked for, and all its letters come
   abbrev pub does_one : Name → World L → Doing L → World L
@@ -61,7 +56,7 @@ module _ {L : Lang} where
   AllDone t w (x ∷ xs) = IsDone t w x × AllDone t (does_one t w x) xs
 
   -- the deeds of statements: each is accepted, evaluated, and answered as it was evaluated
-  abbrev pub log : Name → List (Entry L) → List (Deed L)
+  abbrev pub log : Name → List (Work L) → List (Deed L)
   log t [] = []
   log t (x ∷ xs) = Stated t x.statement ∷ Worked t x.statement x.asks x.choice ∷ Answered t x.choice.0 ∷ log t xs
 
@@ -75,12 +70,12 @@ pub record ClientLaw (L : Lang) : Type 0 where
       let t = next_txn w.desk in
       let asked = called (does t xs (begins w)) t choice Commit_call in
       AllTaken Kept takes asked →
-      IsQuiet (taken takes asked) × ((es : List (Entry L)) × (map (λ x. x.statement) es ≡ map (λ x. x.statement) xs) × ((taken takes asked).past ≡ (w.past ++ Began t ∷ []) ++ log t es ++ (Phased t ∷ Committed t ∷ [])))
+      IsQuiet (taken takes asked) × ((es : List (Work L)) × (map (λ x. x.statement) es ≡ map (λ x. x.statement) xs) × ((taken takes asked).past ≡ (w.past ++ Began t ∷ []) ++ log t es ++ (Phased t ∷ Committed t ∷ [])))
   pub rolls_back : (w : World L) (xs : List (Doing L)) (choice : Choice L) (takes : List (Bool × Choice L)) → IsQuiet w → Within w → is_desk_within (desk_began w.desk) ≡ true → AllDone (next_txn w.desk) (begins w) xs →
       let t = next_txn w.desk in
       let asked = called (does t xs (begins w)) t choice Rollback in
       AllTaken Kept takes asked →
-      IsQuiet (taken takes asked) × ((es : List (Entry L)) × (map (λ x. x.statement) es ≡ map (λ x. x.statement) xs) × ((taken takes asked).past ≡ (w.past ++ Began t ∷ []) ++ log t es ++ (Rolled_back t ∷ [])))
+      IsQuiet (taken takes asked) × ((es : List (Work L)) × (map (λ x. x.statement) es ≡ map (λ x. x.statement) xs) × ((taken takes asked).past ≡ (w.past ++ Began t ∷ []) ++ log t es ++ (Rolled_back t ∷ [])))
 
 -- one client letter by letter. E: an excuse, which each place gives where something is refused; with none, a transaction that asks for it is committed
 pub record CourseLaw (L : Lang) (E : Type 0) : Type 0 where

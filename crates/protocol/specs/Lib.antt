@@ -6,8 +6,10 @@ pub mod Site
 pub mod Desk
 pub mod World
 pub mod Serial
-pub mod Whole
 pub mod Parts
+pub mod Applied
+pub mod Refusing
+pub mod Premise
 pub mod Client
 pub mod Statements
 pub mod Rounds

@@ -4,7 +4,7 @@ use Rattle.std.specs.List.{list_any, flat_map, AllByRecursion}
 use Rattle.protocol.specs.Language.{Lang, Name, same, written}
 use Rattle.protocol.specs.Letter.{Read, Body, Fetch, Write, Voted, Letter}
 use Rattle.protocol.specs.Site.{Visit, Status, Alive, Prepared, has_lock}
-use Rattle.protocol.specs.Desk.{Ask, Choice, Stage, Voting, Undecided, Known, Deed, Worked}
+use Rattle.protocol.specs.Desk.{Ask, Choice, Stage, Idle, Voting, Undecided, Known, Deed, Worked}
 use Rattle.protocol.specs.World.{World, Event, happens, run}
 use Rattle.protocol.specs.Serial.{is_committed, phases_of, settled, IsOpening}
 
@@ -112,10 +112,21 @@ module _ {L : Lang} where
   Line W C V last c [] = (g : L.Leaf) → last g ≡ c g
   Line W C V last c (t ∷ ts) = (V t → RightFrom c (W t)) × Line W C V last (after (C t) (W t) c) ts
 
+module _ {L : Lang} where
+  -- between statements, and no site is visited: nothing stands in the way of its commit
+  abbrev pub Untouched : Undecided L → Type 0
+  Untouched u = (u.stage ≡ Idle) × (list_any u.visited L.sites ≡ false)
+
+  -- who can be committed by the next event: a viable transaction, and one that has visited nobody
+  abbrev pub MayCommit : World L → Name → Type 0
+  MayCommit w t = Viable (operations w.letters) w t ⊎ ((u : Undecided L) × (w.desk.txn t ≡ Known u) × Untouched u)
+
 -- parts one and two, in one world
 pub record AreApart {L : Lang} (w : World L) : Type 0 where
   -- one that can no longer commit never can again, whatever happens next
   pub lost : (e : Event L) (t : Name) (u : Undecided L) → w.desk.txn t ≡ Known u → is_voting u.stage ≡ true → Viable (operations (happens w e).letters) (happens w e) t → Viable (operations w.letters) w t
+  -- nobody else is committed by what happens next
+  pub commits : (e : Event L) (t : Name) → is_committed (happens w e).past t ≡ true → (is_committed w.past t ≡ true) ⊎ MayCommit w t
   -- where a viable one writes nobody else has a lock
   pub alone : (t : Name) (viable : Viable (operations w.letters) w t) (a : L.Site) (k j : Name) (g : L.Leaf) → viable.u.ticket a ≡ Some k → writes_to L g (sets (operations w.letters a k)) ≡ true → same j k ≡ false → has_lock g ((w.sites a).status j) ≡ false
   pub two : Two (works w.past) (is_committed w.past) (Counts (operations w.letters) w) (Viable (operations w.letters) w) (phases_of w.past)

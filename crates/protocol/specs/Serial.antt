@@ -101,6 +101,10 @@ abbrev pub serial_answers : (L : Lang) → List (List L.Statement) → L.Whole �
 serial_answers L [] whole = []
 serial_answers L (ss ∷ rest) whole = answers_in_turn L ss whole ∷ serial_answers L rest (whole_after L ss whole)
 
+-- the whole database after all that was committed, one after another in the order of their first phases; whole: that of the opening
+abbrev pub committed_whole : {L : Lang} → L.Whole → List (Deed L) → L.Whole
+committed_whole {L} whole past = serial_whole L (map (statements_of past) (committed past)) whole
+
 -- a world before anything happened, whose fragments rebuild a whole database
 pub record IsOpening {L : Lang} (whole : L.Whole) (w : World L) : Type 0 where
   pub is_whole : L.IsWhole whole
@@ -115,7 +119,7 @@ pub record IsOpening {L : Lang} (whole : L.Whole) (w : World L) : Type 0 where
 -- the committed transactions, run one after another over whole relations in the order of their first phases, give the answers that were given and what the settled fragments rebuild
 pub record IsSerial {L : Lang} (whole : L.Whole) (w : World L) : Type 0 where
   pub answers : map (answers_of w.past) (committed w.past) ≡ serial_answers L (map (statements_of w.past) (committed w.past)) whole
-  pub rebuilt : (g : L.Leaf) → settled w g ≡ L.content g (serial_whole L (map (statements_of w.past) (committed w.past)) whole)
+  pub rebuilt : (g : L.Leaf) → settled w g ≡ L.content g (committed_whole whole w.past)
 
 -- the serial law of a language: whatever happens after an opening
 abbrev pub SerialLaw : (L : Lang) → Type 0

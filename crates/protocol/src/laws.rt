@@ -1,16 +1,18 @@
 //! The laws of the protocol, each as the contract of a function that does nothing.
 
 ghost use Rattle.std.specs.Prelude.{true};
+ghost use Rattle.protocol.specs.Applied.{AppliedWholeAndOnce};
 ghost use Rattle.protocol.specs.Client.{ReachedLaw, RoundsLaw};
 ghost use Rattle.protocol.specs.ClientLaw.{ClientLaw, LetterByLetter};
 ghost use Rattle.protocol.specs.Fitting.{StaysFitting};
 ghost use Rattle.protocol.specs.OneClient.{OneAtATime};
 ghost use Rattle.protocol.specs.Parts.{PartsOneAndTwo, PartThree};
+ghost use Rattle.protocol.specs.Premise.{PremiseIsMet};
+ghost use Rattle.protocol.specs.Refusing.{RequestLaw};
 ghost use Rattle.protocol.specs.Rounds.{RoundByLetter};
 ghost use Rattle.protocol.specs.Serial.{SerialLaw};
 ghost use Rattle.protocol.specs.Smooth.{SmoothLaw};
 ghost use Rattle.protocol.specs.Toy.{toy};
-ghost use Rattle.protocol.specs.Whole.{AppliedWholeAndOnce};
 
 /// The serial law: after every list of events the committed transactions, run one after another over
 /// whole relations in the order of their first phases, give the answers that were given and what the
@@ -19,9 +21,17 @@ pub fn serial_law()
     ensures { SerialLaw toy }
 {}
 
-/// After every list of events: a transaction in its first phase that can no longer commit never can
-/// again; where one that can still commit writes, nobody else has a lock; and what it writes no later
-/// one reads that can commit, and none writes that is committed.
+/// The premise of the serial law is met by runs with every end: in each a row was moved as the move means it,
+/// and the transaction was committed, or aborted by a vote No, or aborted by a restart of the coordinator
+/// while its voters were in doubt, or rolled back.
+pub fn premise_is_met()
+    ensures { PremiseIsMet toy }
+{}
+
+/// After every list of events: the next event commits only a transaction that is viable, or has visited no
+/// site; one in its first phase that isn't viable never will be again; where a viable one writes, nobody else
+/// has a lock; and what it writes no later one reads that is viable or committed, and none writes that is
+/// committed.
 pub fn parts_one_and_two()
     ensures { PartsOneAndTwo toy }
 {}
@@ -34,9 +44,16 @@ pub fn part_three()
 {}
 
 /// A committed transaction is applied whole and once, after every list of events: a ticket that was
-/// acknowledged is gone, the commit row stays until every voter has applied, and no Abort goes to one.
+/// acknowledged is gone; while a ticket is prepared for it the commit row stays, with that ticket among its
+/// voters; and no Abort names such a ticket.
 pub fn applied_whole_and_once()
     ensures { AppliedWholeAndOnce toy }
+{}
+
+/// A client's request does what it asks for, or is refused and leaves all as it was: refusals and turns fit,
+/// the word of a refusal is true of the transaction, and giving up is never refused.
+pub fn requests_do_or_are_refused()
+    ensures { RequestLaw toy }
 {}
 
 /// One client alone, whose delivered letters are forgotten: a beginning, a call, a delivery of the oldest

@@ -6,9 +6,9 @@ use Rattle.reader.specs.declared.command.Command.TheVariants as command
 use Rattle.reader.specs.Command.{IsTextOf}
 use Rattle.store.specs.declared.name.Txn.{Txn}
 use Rattle.meaning.specs.Whole.{Relations}
+use Rattle.protocol.specs.Applied.{AppliesOnce}
 use Rattle.protocol.specs.Desk.{Deed}
 use Rattle.protocol.specs.Serial.{AllExplained, IsOpening, serial_answers, serial_whole, settled}
-use Rattle.protocol.specs.Whole.{IsWhole}
 use Rattle.protocol.specs.World.{Event, World, run}
 use Rattle.desk.specs.declared.reply.Out.{Out}
 use Rattle.desk.specs.Database.{Database, language, sent}
@@ -39,11 +39,11 @@ pub record RunsOn (db : Database) (whole : Relations) (machines : Machines) (ent
 -- each voter has applied, no Abort goes to one, and a ticket that was acknowledged is gone.
 pub record AppliesWhole (db : Database) (whole : Relations) (machines : Machines) (entries : List Entry) (past : List (Deed (language db))) : Type 0 where
   pub on : RunsOn db whole machines entries past
-  pub applied : IsWhole (world_of db machines (map (sent db) (letters_in entries)) (past ++ on.deeds))
+  pub applied : AppliesOnce (world_of db machines (map (sent db) (letters_in entries)) (past ++ on.deeds))
 
 -- the law of it, of the machines at hand
 abbrev pub RunsAreWhole : Database → Type 0
-RunsAreWhole db = (whole : Relations) (machines : Machines) (entries : List Entry) (past : List (Deed (language db))) → IsRun db whole machines entries past → IsWhole (world_of db machines (map (sent db) (letters_in entries)) past)
+RunsAreWhole db = (whole : Relations) (machines : Machines) (entries : List Entry) (past : List (Deed (language db))) → IsRun db whole machines entries past → AppliesOnce (world_of db machines (map (sent db) (letters_in entries)) past)
 
 -- an event that has happened
 abbrev pub entry_of : events.Event → Out → Entry

@@ -3,6 +3,7 @@
 
 ghost use Rattle.catalog.specs.Catalogue.{Catalogue};
 ghost use Rattle.catalog.specs.Relation.{catalogue_of};
+ghost use Rattle.protocol.specs.Applied.{AppliedWholeAndOnce};
 ghost use Rattle.protocol.specs.Client.{ReachedLaw, RoundsLaw};
 ghost use Rattle.protocol.specs.ClientLaw.{LetterByLetter};
 ghost use Rattle.protocol.specs.Fitting.{StaysFitting};
@@ -10,7 +11,6 @@ ghost use Rattle.protocol.specs.Language.{IsLawful};
 ghost use Rattle.protocol.specs.OneClient.{OneAtATime};
 ghost use Rattle.protocol.specs.Rounds.{RoundByLetter};
 ghost use Rattle.protocol.specs.Serial.{SerialLaw};
-ghost use Rattle.protocol.specs.Whole.{AppliedWholeAndOnce};
 ghost use Rattle.desk.specs.Database.{language};
 ghost use Rattle.world.specs.Account.{AccountFollows};
 ghost use Rattle.world.specs.Base.{IsBase, database, fits};
