@@ -28,7 +28,7 @@ ghost use Rattle.world.specs.History.{AnswerInTurn, committed_of};
 ghost use Rattle.world.specs.Machines.{AreFit};
 ghost use Rattle.world.specs.Posted.{letters_in};
 ghost use Rattle.world.specs.Refused.{IsToldOf};
-ghost use Rattle.world.specs.Runs.{AppliesWhole, IsRun, RunsOn};
+ghost use Rattle.world.specs.Runs.{GoesOn, IsRun, RunsOn};
 ghost use Rattle.world.specs.Steps.{Steps, answer_of};
 ghost use Rattle.world.specs.contracts.world.World.{the_row};
 ghost use Rattle.world.specs.Settled.{AreThoseOf, ShowsSerial, parts_kept, rows_shown};
@@ -38,7 +38,7 @@ use crate::event::{Entry, Event};
 use crate::fault::Fault;
 use crate::happening::happen;
 use crate::history::{Committed, committed_in};
-use crate::laws::{database_is_of_catalogue, language_is_lawful, runs_are_serial, runs_are_whole};
+use crate::laws::{database_is_of_catalogue, language_is_lawful, runs_are_serial, runs_hold};
 use crate::log::Log;
 use crate::machines::Machines;
 use crate::opening::start;
@@ -119,10 +119,10 @@ impl<D: DeskStore, S: SiteStore> World<D, S> {
             → OfStores D.is_clean S.is_clean self.new.machines → OfStores D.is_sound S.is_sound self.old.machines
             → IsRun (database (catalogue_of self.old.machines.desk.catalog)) whole (held D.kept S.kept self.old.machines) self.old.entries.items past
             → OnOk result (RunsOn (database (catalogue_of self.old.machines.desk.catalog)) whole (held D.kept S.kept self.new.machines) self.new.entries.items past) }
-        ensures whole { (whole : Relations) (past : List (Deed (language (database (catalogue_of self.old.machines.desk.catalog)))))
+        ensures goes_on { (whole : Relations) (past : List (Deed (language (database (catalogue_of self.old.machines.desk.catalog)))))
             → OfStores D.is_clean S.is_clean self.new.machines → OfStores D.is_sound S.is_sound self.old.machines
             → IsRun (database (catalogue_of self.old.machines.desk.catalog)) whole (held D.kept S.kept self.old.machines) self.old.entries.items past
-            → OnOk result (AppliesWhole (database (catalogue_of self.old.machines.desk.catalog)) whole (held D.kept S.kept self.new.machines) self.new.entries.items past) }
+            → OnOk result (GoesOn (database (catalogue_of self.old.machines.desk.catalog)) whole (held D.kept S.kept self.new.machines) self.new.entries.items past) }
         ensures entry { OnOk result ((entry : EntryNow) × ((entry.event ≡ event) × (self.new.entries.items ≡ self.old.entries.items ++ entry ∷ []))) }
         ensures unsent { result ≡ Err faults.Unsent → is_unsent self.old.machines.desk.catalog.0 self.old.entries.items event ≡ true }
         ensures nowhere { is_unsent self.old.machines.desk.catalog.0 self.old.entries.items event ≡ true → (result ≡ Err faults.Unsent) ⊎ (result ≡ Err (faults.Desk refusals.Memory)) }
@@ -133,7 +133,7 @@ impl<D: DeskStore, S: SiteStore> World<D, S> {
         ensures same { OnErr result (self.new.entries.items ≡ self.old.entries.items) }
     {
         database_is_of_catalogue(self.machines.desk.catalog());
-        runs_are_whole(self.machines.desk.catalog());
+        runs_hold(self.machines.desk.catalog());
         self.entries.make_room()?;
         match happen(&mut self.machines, &self.entries, &event) {
             Ok(out) => {
