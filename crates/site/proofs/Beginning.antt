@@ -89,13 +89,13 @@ module _ (leaves : List Leaf) (all : SiteKept) (kept after : SiteContent) (lists
           inl h;
       fresh = λ j e. clash e (ap is_visit (there j) ∙ no_visit (after.prepared j));
       released = λ g. let r : (table.locks g).released ≡ 0 = none_released g leaves all.prepared in omega arith;
-      counted = none_pass (λ j. is_visit (table.standing j)) table.tickets (λ j. ap is_visit (there j) ∙ no_visit (after.prepared j));
+      ascend = sorted;
+      counted = sym (none_pass (λ j. is_visit (table.standing j)) table.tickets (λ j. ap is_visit (there j) ∙ no_visit (after.prepared j)));
       few = omega arith;
       short = λ j. ap is_short (rests_at j) ∙ short_rests (after.prepared j);
       low = (lower, omega arith);
     };
     state = λ i. record { kept = after.content; status = λ name. rests_at (ticket_of name) i; known = map name_of table.tickets; life = after.life; number = 0 };
-    ascend = sorted;
     alive = refl;
   }
 

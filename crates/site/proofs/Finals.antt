@@ -4,6 +4,7 @@ use Rattle.std.specs.BTreeMap.{is_at}
 use Rattle.std.specs.FinMap as fin
 use Rattle.std.specs.List.Sorted.{IsStrictlySortedBy}
 use Rattle.std.specs.Map.{keys_of, set_value, remove_entry}
+use Rattle.std.specs.Option.{option_map}
 use Rattle.terms.specs.declared.leaf.Leaf.{Leaf}
 use Rattle.store.specs.declared.name.Ticket.{Ticket}
 use Rattle.store.specs.declared.name.Txn.{Txn}
@@ -65,6 +66,12 @@ set_removed k (e ∷ entries) one = go (is_ticket k e.0) refl (set_removed k ent
     go true is rest = if_true (is_ticket k e.0) entries ((e.0, one) ∷ remove_entry test entries) is
     go false is rest = if_false (is_ticket k e.0) (set_value test entries one) (e ∷ remove_entry test (set_value test entries one)) is ∙ ap (λ l. e ∷ l) rest
 
+-- what is to be kept is a visit's
+pub kept_visit : (count : ℕ) (o : Option standings.Standing) → ballot count o ≡ ballots.Keeps → (v : visits.Visit) × (o ≡ Some (standing.Alive v))
+kept_visit count None is = cc
+kept_visit count (Some (standing.Prepared t)) is = cc
+kept_visit count (Some (standing.Alive v)) is = (v, refl)
+
 module _ (kept : SiteContent) (entries : Entries) (ls : List locks.Locks) (alive life number : ℕ) (fits : Fits kept (table_from entries ls alive life number)) (k : Ticket) where
   abbrev table : Table
   table = table_from entries ls alive life number
@@ -119,17 +126,25 @@ module _ (kept : SiteContent) (entries : Entries) (ls : List locks.Locks) (alive
   pub row_of : is_row (table.standing k) ≡ true → (row : Row) × (kept.prepared k ≡ Some row)
   row_of is = row_there (table.standing k) refl is
 
+  no_visit : (o : Option standings.Standing) (t : Txn) → txn_in o ≡ Some t → is_visit o ≡ false
+  no_visit None t e = refl
+  no_visit (Some (standing.Alive v)) t e = cc
+  no_visit (Some (standing.Prepared u)) t e = refl
+
+  row_no_visit : (row : Row) → kept.prepared k ≡ Some row → is_visit (table.standing k) ≡ false
+  row_no_visit row is = no_visit (table.standing k) row.txn (fits.prepared k ∙ ap (option_map (λ (r : Row). r.txn)) is)
+
   pub commit_steps : (after : SiteContent) (row : Row) → IsStrictlySortedBy ticket_cmp (keys_of entries) → kept.prepared k ≡ Some row → content.Applies k row.changes kept after →
       Steps kept table after (table_from (remove_entry (is_at (ticket_cmp k)) entries) (map (stops k number) ls) alive life number) (on_commit true (name_of k) (s.status (name_of k))) (Some (reply.Ack k))
   commit_steps after row sorted is applies =
       let act = ap (λ r. on_commit true (name_of k) (stands table k r)) is in
-      ended_steps after alive (inl refl) sorted applies.prepared applies.life (λ g. changed g row.changes (kept.content g)) applies.content _ (Some (reply.Ack k)) (ap (site_after s) act) (ap (said s) act)
+      ended_steps after alive (inl (row_no_visit row is, refl)) sorted applies.prepared applies.life (λ g. changed g row.changes (kept.content g)) applies.content _ (Some (reply.Ack k)) (ap (site_after s) act) (ap (said s) act)
 
   pub abort_steps : (after : SiteContent) (row : Row) → IsStrictlySortedBy ticket_cmp (keys_of entries) → kept.prepared k ≡ Some row → content.Discards k kept after →
       Steps kept table after (table_from (remove_entry (is_at (ticket_cmp k)) entries) (map (stops k number) ls) alive life number) (on_abort true (name_of k) (s.status (name_of k))) None
   abort_steps after row sorted is discards =
       let act = ap (λ r. on_abort true (name_of k) (stands table k r)) is in
-      ended_steps after alive (inl refl) sorted discards.prepared discards.life kept.content discards.content _ None (ap (site_after s) act) (ap (said s) act)
+      ended_steps after alive (inl (row_no_visit row is, refl)) sorted discards.prepared discards.life kept.content discards.content _ None (ap (site_after s) act) (ap (said s) act)
 
   visit_there : (o : Option standings.Standing) → table.standing k ≡ o → is_visit o ≡ true → (v : visits.Visit) × (table.standing k ≡ Some (standing.Alive v))
   visit_there None e is = cc

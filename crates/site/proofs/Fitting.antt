@@ -1,14 +1,17 @@
 -- The memory still fits the store after each move.
 use Rattle.std.proofs.Common.{◌≡◌, refl, sym, ap, ◌∙◌, subst, ℕ, suc, ◌-◌, ◌^◌, ◌≤◌, ◌<◌, ◌⊎◌, nat_lt, length, Bool, true, false, not, List, [], ◌∷◌, ◌++◌, Option, Some, None, is_some, filter, if◌then◌else◌, inl, inr, ⊎_elim, arith}
 use Rattle.std.specs.FinMap as fin
+use Rattle.std.specs.List.Sorted.{IsStrictlySortedBy}
 use Rattle.std.specs.Option.{option_map}
 use Rattle.std.specs.Ordering.{is_eq}
+use Rattle.std.proofs.lemmas.List.Kept.{IsStrictlySortedBy-filter}
 use Rattle.terms.specs.declared.leaf.Leaf.{Leaf}
 use Rattle.terms.specs.Leaf.{leaf_cmp}
 use Rattle.store.specs.declared.name.Ticket.{Ticket}
 use Rattle.store.specs.declared.name.Txn.{Txn}
 use Rattle.store.specs.declared.prepared.Prepared.{Prepared as Row}
 use Rattle.store.specs.Content.{Changes, touches}
+use Rattle.store.specs.Name.{ticket_cmp}
 use Rattle.store.specs.SiteContent.{SiteContent, is_ticket}
 use Rattle.store.proofs.Changing.{touches_none}
 use Rattle.protocol.specs.Parts.{In}
@@ -22,7 +25,7 @@ use Rattle.site.specs.declared.standing.Standing.TheVariants as standing
 use Rattle.site.specs.Locks.{reads, writes, stops, stops_reading}
 use Rattle.site.specs.State.{Table, Fits, IsDrawn, stands, visiting, is_visit, txn_in, visits_among}
 use Rattle.site.specs.Moves.{next_of, stood, locked, opened, gone, prepared}
-use Rattle.site.proofs.Counting.{no_more, of_part, one_less, one_more}
+use Rattle.site.proofs.Counting.{drawn_below, last_passes, one_fewer, same_pass, sorted_last, without}
 use Rattle.site.proofs.LockLaws.{others-stops_reading, writes-stops_reading, reads-stops_reading, reads-stops_writing, writes-stops_writing, others-stops_writing, released-stops_reading, released-stops_writing}
 use Rattle.site.proofs.Listed.{row_none}
 use Rattle.site.proofs.Steps.{stood_all, nothing_next}
@@ -78,13 +81,13 @@ module _ (kept : SiteContent) (table : Table) (fits : Fits kept table) where
         drawn = stood_all next new table.standing (λ j o. is_some o ≡ true → IsDrawn (opened table) j) (λ e. inr (refl, omega arith)) (λ j apart e. drawn_still table.life table.number j (fits.drawn j e));
         fresh = stood_all next new table.standing (λ j o. is_visit o ≡ true → (j.life ≡ table.life) × (j.visit ≤ suc table.number)) (λ e. (refl, omega arith)) (λ j apart e. let f = fits.fresh j e in (f.0, (let h : j.visit ≤ table.number = f.1 in omega arith)));
         released = λ leaf. let r : (table.locks leaf).released ≤ table.number = fits.released leaf in omega arith;
+        ascend = sorted_last table.tickets next fits.ascend (λ j here. drawn_below table.life table.number j (fits.drawn j (fits.lives j here)));
         counted =
             let now : Ticket → Bool = λ j. is_visit (stood next new table.standing j) in
-            let one : length (filter now (table.tickets ++ next ∷ [])) ≤ suc (length (filter now table.tickets)) = one_more now table.tickets next in
-            let old : length (filter now table.tickets) ≤ length (filter (λ j. is_visit (table.standing j)) table.tickets) = no_more now (λ j. is_visit (table.standing j)) table.tickets
-            (λ j here. stood_all next new table.standing (λ i o. In i table.tickets → is_visit o ≡ true → is_visit (table.standing i) ≡ true) (λ listed yes. clash (fits.lives next listed) (ap is_some (nothing_next kept table fits))) (λ i apart listed yes. yes) j here) in
-            let before : length (filter (λ j. is_visit (table.standing j)) table.tickets) ≤ table.alive = fits.counted in
-            omega (arith, one, old, before);
+            let one = last_passes now table.tickets next (ap is_visit (if_true (is_ticket next next) new (table.standing next) (ticket_self next))) in
+            let same = same_pass now (λ j. is_visit (table.standing j)) table.tickets
+            (λ j here. stood_all next new table.standing (λ i o. In i table.tickets → is_visit o ≡ is_visit (table.standing i)) (λ listed. clash (fits.lives next listed) (ap is_some (nothing_next kept table fits))) (λ i apart listed. refl) j here) in
+            ap suc fits.counted ∙ ap (λ l. suc (length l)) (sym same) ∙ sym one;
         few = room;
         short = λ j. shorter j (is_ticket next j) refl;
         low = (fits.low.0, lower);
@@ -145,11 +148,8 @@ module _ (kept : SiteContent) (table : Table) (fits : Fits kept table) where
         drawn = stood_all k new table.standing (λ j o. is_some o ≡ true → IsDrawn table j) (λ e. fits.drawn k (ap is_some visit)) (λ j apart. fits.drawn j);
         fresh = stood_all k new table.standing (λ j o. is_visit o ≡ true → (j.life ≡ table.life) × (j.visit ≤ table.number)) (λ e. fits.fresh k (ap is_visit visit)) (λ j apart. fits.fresh j);
         released = λ g. subst (λ n. n ≤ table.number) (sym (released_before g)) (fits.released g);
-        counted =
-            let less : visits_among (stood k new table.standing) table.tickets ≤ visits_among table.standing table.tickets = no_more (λ j. is_visit (stood k new table.standing j)) (λ j. is_visit (table.standing j)) table.tickets
-            (λ j here. stood_all k new table.standing (λ i o. is_visit o ≡ true → is_visit (table.standing i) ≡ true) (λ yes. ap is_visit visit) (λ i apart yes. yes) j) in
-            let before : visits_among table.standing table.tickets ≤ table.alive = fits.counted in
-            omega (arith, less, before);
+        ascend = fits.ascend;
+        counted = fits.counted ∙ ap length (same_pass (λ j. is_visit (table.standing j)) (λ j. is_visit (stood k new table.standing j)) table.tickets (λ j here. stood_all k new table.standing (λ i o. is_visit (table.standing i) ≡ is_visit o) (ap is_visit visit) (λ i apart. refl) j));
         few = fits.few;
         short = λ j. shorter j (is_ticket k j) refl;
         low = fits.low;
@@ -196,25 +196,39 @@ module _ (kept : SiteContent) (table : Table) (fits : Fits kept table) where
     writes_apart : (g : Leaf) (j : Ticket) → is_ticket k j ≡ false → writes j (stops k table.number (table.locks g)) ≡ writes j (table.locks g)
     writes_apart g j apart = others-stops_writing j k table.number (stops_reading k table.number (table.locks g)) (ticket_sym j k ∙ apart) ∙ writes-stops_reading j k table.number (table.locks g)
 
-  -- as many visits are counted as before, or one fewer where a visit ends
+  -- one visit fewer is counted where a visit ends, and as many as before where another ends
   abbrev pub Left : Ticket → ℕ → Type 0
-  Left k alive = (alive ≡ table.alive) ⊎ ((is_visit (table.standing k) ≡ true) × (alive ≡ table.alive - 1))
+  Left k alive = ((is_visit (table.standing k) ≡ false) × (alive ≡ table.alive)) ⊎ ((is_visit (table.standing k) ≡ true) × (alive ≡ table.alive - 1))
 
-  counted_left : (k : Ticket) (alive : ℕ) → Left k alive → visits_among (stood k None table.standing) (filter (λ j. not (is_ticket k j)) table.tickets) ≤ alive
-  counted_left k alive left =
-      let now : Ticket → Bool = λ j. is_visit (stood k None table.standing j) in
-      let was : Ticket → Bool = λ j. is_visit (table.standing j) in
-      let fewer : (j : Ticket) → In j table.tickets → now j ≡ true → was j ≡ true = λ j here. stood_all k None table.standing (λ i o. is_visit o ≡ true → is_visit (table.standing i) ≡ true) (λ yes. cc) (λ i apart yes. yes) j in
-      let part : length (filter now (filter (λ j. not (is_ticket k j)) table.tickets)) ≤ length (filter now table.tickets) = of_part now (λ j. not (is_ticket k j)) table.tickets in
-      let before : length (filter was table.tickets) ≤ table.alive = fits.counted in
-      ⊎_elim
-      (λ same. let less : length (filter now table.tickets) ≤ length (filter was table.tickets) = no_more now was table.tickets fewer in let e : alive ≡ table.alive = same in omega (arith, part, less, before, e))
-      (λ ends. let less : suc (length (filter now table.tickets)) ≤ length (filter was table.tickets) = one_less k now was table.tickets (fits.listed k (visit_some (table.standing k) ends.0)) fewer (ap is_visit (if_true (is_ticket k k) None (table.standing k) (ticket_self k))) ends.0 in let e : alive ≡ table.alive - 1 = ends.1 in omega (arith, part, less, before, e))
+  counted_left : (k : Ticket) (alive : ℕ) → Left k alive → alive ≡ visits_among (stood k None table.standing) (filter (λ j. not (is_ticket k j)) table.tickets)
+  counted_left k alive left = ⊎_elim
+      (λ row. row.1 ∙ fits.counted ∙ ap length (same_pass was now table.tickets (λ j here. stood_all k None table.standing (λ i o. is_visit (table.standing i) ≡ is_visit o) row.0 (λ i apart. refl) j)) ∙ sym part)
+      (λ ends.
+      let less : suc (length (filter now table.tickets)) ≡ length (filter was table.tickets) = one_fewer k now was table.tickets fits.ascend (fits.listed k (visit_some (table.standing k) ends.0)) others none ends.0 in
+      let all : table.alive ≡ length (filter was table.tickets) = fits.counted in
+      let e : alive ≡ table.alive - 1 = ends.1 in
+      let here : alive ≡ length (filter now table.tickets) = omega (arith, less, all, e) in
+      here ∙ sym part)
       left
     where
+      now : Ticket → Bool
+      now j = is_visit (stood k None table.standing j)
+
+      was : Ticket → Bool
+      was j = is_visit (table.standing j)
+
       visit_some : (o : Option standings.Standing) → is_visit o ≡ true → is_some o ≡ true
       visit_some None e = cc
       visit_some (Some s) e = refl
+
+      none : now k ≡ false
+      none = ap is_visit (if_true (is_ticket k k) None (table.standing k) (ticket_self k))
+
+      others : (j : Ticket) → is_ticket k j ≡ false → now j ≡ was j
+      others j apart = ap is_visit (if_false (is_ticket k j) None (table.standing j) apart)
+
+      part : length (filter now (filter (λ j. not (is_ticket k j)) table.tickets)) ≡ length (filter now table.tickets)
+      part = ap length (without k now table.tickets none)
 
   -- nothing stands behind a ticket any more, nor has the store a row
   pub fits_gone : (k : Ticket) (after : SiteContent) (alive : ℕ) → Left k alive → ((j : Ticket) → after.prepared j ≡ (if is_ticket k j then None else kept.prepared j)) → after.life ≡ kept.life → Fits after (gone k alive table)
@@ -234,8 +248,9 @@ module _ (kept : SiteContent) (table : Table) (fits : Fits kept table) where
         drawn = stood_all k None table.standing (λ j o. is_some o ≡ true → IsDrawn table j) (λ e. cc) (λ j apart. fits.drawn j);
         fresh = stood_all k None table.standing (λ j o. is_visit o ≡ true → (j.life ≡ table.life) × (j.visit ≤ table.number)) (λ e. cc) (λ j apart. fits.fresh j);
         released = λ g. released-stops_writing k table.number (stops_reading k table.number (table.locks g)) (released-stops_reading k table.number (table.locks g) (fits.released g));
+        ascend = IsStrictlySortedBy-filter ticket_cmp (λ j. not (is_ticket k j)) table.tickets fits.ascend;
         counted = counted_left k alive left_so;
-        few = ⊎_elim (λ same. let n : table.alive ≤ 1024 = fits.few in let e : alive ≡ table.alive = same in omega (arith, n, e)) (λ less. let n : table.alive ≤ 1024 = fits.few in let e : alive ≡ table.alive - 1 = less.1 in omega (arith, n, e)) left_so;
+        few = ⊎_elim (λ row. let n : table.alive ≤ 1024 = fits.few in let e : alive ≡ table.alive = row.1 in omega (arith, n, e)) (λ less. let n : table.alive ≤ 1024 = fits.few in let e : alive ≡ table.alive - 1 = less.1 in omega (arith, n, e)) left_so;
         short = λ j. shorter j (is_ticket k j) refl;
         low = fits.low;
       }
@@ -269,14 +284,16 @@ module _ (kept : SiteContent) (table : Table) (fits : Fits kept table) where
         drawn = stood_all k new table.standing (λ j o. is_some o ≡ true → IsDrawn table j) (λ e. fits.drawn k (ap is_some is)) (λ j apart. fits.drawn j);
         fresh = stood_all k new table.standing (λ j o. is_visit o ≡ true → (j.life ≡ table.life) × (j.visit ≤ table.number)) (λ e. cc) (λ j apart. fits.fresh j);
         released = λ g. released-stops_reading k table.number (table.locks g) (fits.released g);
+        ascend = fits.ascend;
         counted =
             let now : Ticket → Bool = λ j. is_visit (stood k new table.standing j) in
             let was : Ticket → Bool = λ j. is_visit (table.standing j) in
-            let less : suc (length (filter now table.tickets)) ≤ length (filter was table.tickets) = one_less k now was table.tickets (fits.listed k (ap is_some is))
-            (λ j here. stood_all k new table.standing (λ i o. is_visit o ≡ true → is_visit (table.standing i) ≡ true) (λ yes. cc) (λ i apart yes. yes) j)
+            let less : suc (length (filter now table.tickets)) ≡ length (filter was table.tickets) = one_fewer k now was table.tickets fits.ascend (fits.listed k (ap is_some is))
+            (λ j apart. ap is_visit (if_false (is_ticket k j) new (table.standing j) apart))
             (ap is_visit (if_true (is_ticket k k) new (table.standing k) (ticket_self k))) (ap is_visit is) in
-            let before : length (filter was table.tickets) ≤ table.alive = fits.counted in
-            omega (arith, less, before);
+            let all : table.alive ≡ length (filter was table.tickets) = fits.counted in
+            let left : table.alive - 1 ≡ length (filter now table.tickets) = omega (arith, less, all) in
+            left;
         few = let n : table.alive ≤ 1024 = fits.few in omega (arith, n);
         short = λ j. shorter j (is_ticket k j) refl;
         low = fits.low;

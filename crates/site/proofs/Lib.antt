@@ -21,3 +21,4 @@ pub mod Inquired
 pub mod Limited
 pub mod OldestFirst
 pub mod SettledRows
+pub mod PastLimits

@@ -1,5 +1,5 @@
 -- A site whose memory fits its store is within the limits.
-use Rattle.std.proofs.Common.{◌≡◌, refl, sym, ◌∙◌, ℕ, ◌<◌, ◌≤◌, ◌^◌, nat_lt, nat_le, Bool, true, false, List, [], ◌∷◌, map, filter, length, cond, Option, Some, None, arith}
+use Rattle.std.proofs.Common.{◌≡◌, refl, sym, ap, ◌∙◌, ℕ, suc, ◌<◌, ◌≤◌, ◌^◌, nat_lt, nat_le, Bool, true, false, List, [], ◌∷◌, map, filter, length, cond, Option, Some, None, arith}
 use Rattle.std.specs.List.{list_all}
 use Rattle.store.specs.declared.name.Ticket.{Ticket}
 use Rattle.store.specs.declared.prepared.Prepared.{Prepared as Row}
@@ -12,6 +12,8 @@ use Rattle.protocol.proofs.Basics.{both_true}
 use Rattle.site.specs.declared.standing.Standing as standings
 use Rattle.site.specs.declared.standing.Standing.TheVariants as standing
 use Rattle.site.specs.State.{Fits, Table, is_visit, stands, state_of, visiting, visits_among}
+use Rattle.site.proofs.Tickets.{same_bool}
+use Rattle.site.proofs.Turns.{stands_alive}
 
 below : (n m : ℕ) → n < m → nat_lt n m ≡ true
 below n m less = grind (arith)
@@ -40,20 +42,28 @@ module _ (kept : SiteContent) (table : Table) (fits : Fits kept table) where
       go (Some row) e = cc
       go None e = at (table.standing t) e
 
-  few_alive : (tickets : List Ticket) → length (filter (λ k. is_alive (status k)) (map name_of tickets)) ≤ visits_among table.standing tickets
-  few_alive [] = omega arith
-  few_alive (t ∷ tickets) = go (is_alive (status (name_of t))) refl (is_visit (table.standing t)) refl (few_alive tickets)
+  -- and a visit is alive
+  visit_alive : (t : Ticket) → is_visit (table.standing t) ≡ true → is_alive (status (name_of t)) ≡ true
+  visit_alive t visit = go (table.standing t) refl visit
     where
-      go : (b : Bool) → is_alive (status (name_of t)) ≡ b → (c : Bool) → is_visit (table.standing t) ≡ c → length (filter (λ k. is_alive (status k)) (map name_of tickets)) ≤ visits_among table.standing tickets →
-          length (cond b (name_of t ∷ filter (λ k. is_alive (status k)) (map name_of tickets)) (filter (λ k. is_alive (status k)) (map name_of tickets))) ≤ length (cond c (t ∷ filter (λ x. is_visit (table.standing x)) tickets) (filter (λ x. is_visit (table.standing x)) tickets))
-      go true e true f rest = omega (arith, rest)
-      go true e false f rest = let v = alive_visit t e in absurd (let n : true ≡ false = sym v ∙ f in cc)
-      go false e true f rest = omega (arith, rest)
-      go false e false f rest = rest
+      go : (o : Option standings.Standing) → table.standing t ≡ o → is_visit o ≡ true → is_alive (status (name_of t)) ≡ true
+      go None e v = cc
+      go (Some (standing.Alive v)) e lives = ap is_alive (stands_alive kept table fits t v e)
+      go (Some (standing.Prepared x)) e v = cc
+
+  -- as many are alive as are visits
+  pub alive_are : (tickets : List Ticket) → length (filter (λ k. is_alive (status k)) (map name_of tickets)) ≡ visits_among table.standing tickets
+  alive_are [] = refl
+  alive_are (t ∷ tickets) = ap (λ b. length (cond b (name_of t ∷ filter (λ k. is_alive (status k)) (map name_of tickets)) (filter (λ k. is_alive (status k)) (map name_of tickets)))) (same_bool _ _ (alive_visit t) (visit_alive t)) ∙ go (is_visit (table.standing t)) (alive_are tickets)
+    where
+      go : (c : Bool) → length (filter (λ k. is_alive (status k)) (map name_of tickets)) ≡ visits_among table.standing tickets →
+          length (cond c (name_of t ∷ filter (λ k. is_alive (status k)) (map name_of tickets)) (filter (λ k. is_alive (status k)) (map name_of tickets))) ≡ length (cond c (t ∷ filter (λ x. is_visit (table.standing x)) tickets) (filter (λ x. is_visit (table.standing x)) tickets))
+      go true rest = ap suc rest
+      go false rest = rest
 
   pub fits_within : is_within (state_of kept table) ≡ true
   fits_within =
-      let few : length (filter (λ k. is_alive (status k)) (map name_of table.tickets)) ≤ visits_among table.standing table.tickets = few_alive table.tickets in
-      let counted : visits_among table.standing table.tickets ≤ table.alive = fits.counted in
+      let few : length (filter (λ k. is_alive (status k)) (map name_of table.tickets)) ≡ visits_among table.standing table.tickets = alive_are table.tickets in
+      let counted : table.alive ≡ visits_among table.standing table.tickets = fits.counted in
       let most : table.alive ≤ 1024 = fits.few in
       both_true _ _ (both_true _ _ (both_true _ _ (below table.life (2 ^ 63) fits.low.0) (below table.number (2 ^ 63) fits.low.1)) (all_short table.tickets)) (up_to (length (filter (λ k. is_alive (status k)) (map name_of table.tickets))) 1024 (omega (arith, few, counted, most)))

@@ -59,7 +59,7 @@ rested table j None = go (table.standing j)
     go (Some (standing.Alive v)) = refl
     go (Some (standing.Prepared t)) = refl
 
-module _ (old : SiteContent) (before : Table) (fits : Fits old before) (sorted : IsStrictlySortedBy ticket_cmp before.tickets)
+module _ (old : SiteContent) (before : Table) (fits : Fits old before)
     (new : SiteContent) (after : Table) (begun : Begins new after) (life : BeginsLife old new) where
   abbrev row_kept : Ticket → Bool
   row_kept j = is_some (old.prepared j)
@@ -76,7 +76,7 @@ module _ (old : SiteContent) (before : Table) (fits : Fits old before) (sorted :
   back j here = listed_alive new after begun.fits j (ap is_dead (stands_now j) ∙ row_rests (old.prepared j) (from_filter row_kept j before.tickets here).1)
 
   tickets_are : after.tickets ≡ filter row_kept before.tickets
-  tickets_are = same_tickets after.tickets (filter row_kept before.tickets) begun.ascend (IsStrictlySortedBy-filter ticket_cmp row_kept before.tickets sorted) there back
+  tickets_are = same_tickets after.tickets (filter row_kept before.tickets) begun.fits.ascend (IsStrictlySortedBy-filter ticket_cmp row_kept before.tickets fits.ascend) there back
 
   abbrev live : Name → Bool
   live name = not (is_dead (restarted (stands before (ticket_of name) (old.prepared (ticket_of name)))))

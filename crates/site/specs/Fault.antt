@@ -1,5 +1,5 @@
 -- Faults of a site: their names and numbers.
-use Rattle.std.specs.Prelude.{ℕ, List, codes}
+use Rattle.std.specs.Prelude.{◌≡◌, ◌⊎◌, ℕ, List, codes}
 use Rattle.store.specs.declared.fault.StoreFault.{StoreFault}
 use Rattle.store.specs.declared.fault.StoreFault.TheVariants as store
 use Rattle.site.specs.declared.fault.SiteFault.{SiteFault}
@@ -22,3 +22,7 @@ abbrev pub fault_of : StoreFault → SiteFault
 fault_of store.Memory = Memory
 fault_of store.Refused = Store store.Refused
 fault_of store.Damaged = Store store.Damaged
+
+-- why a life doesn't begin: want of memory, no life left, or the store refused, or has rows that aren't this site's
+abbrev pub StopsStart : SiteFault → Type 0
+StopsStart fault = (fault ≡ Memory) ⊎ (fault ≡ Full) ⊎ (fault ≡ Store store.Refused) ⊎ (fault ≡ Store store.Damaged)

@@ -12,3 +12,4 @@ pub mod Inquiries
 pub mod Youngest
 pub mod Settled
 pub mod Refusals
+pub mod Frame

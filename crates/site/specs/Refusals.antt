@@ -1,13 +1,16 @@
 -- When a site refuses a letter.
-use Rattle.std.specs.Prelude.{◌≡◌, ◌⊎◌, ◌≤◌, ◌+◌, ◌^◌, ℕ, List, None}
+use Rattle.std.specs.Prelude.{◌≡◌, ◌⊎◌, ◌≤◌, ◌+◌, ◌^◌, true, false, List, None}
 use Rattle.store.specs.declared.letter.Body as bodies
 use Rattle.store.specs.declared.letter.Body.TheVariants as body
+use Rattle.store.specs.declared.letter.Letter.{Letter}
 use Rattle.store.specs.declared.order.Order as orders
 use Rattle.store.specs.declared.order.Order.TheVariants.{Open, Fetch, Intend, Prepare, Commit, Abort}
+use Rattle.store.specs.SiteContent.{SiteContent}
 use Rattle.site.specs.declared.locks.Locks.{Locks}
-use Rattle.protocol.specs.Letters.{leaf_of, at_key}
+use Rattle.protocol.specs.Letters.{leaf_of, at_key, txn_name, body_of}
+use Rattle.protocol.specs.Site.{is_within, on_letter, site_after}
 use Rattle.site.specs.Locks.{place_in}
-use Rattle.site.specs.State.{Table}
+use Rattle.site.specs.State.{Table, is_row, state_of}
 use Rattle.site.specs.Turn.{ballot, read_turn, write_turn}
 use Rattle.site.specs.declared.turn.Ballot.TheVariants.{Keeps}
 use Rattle.site.specs.declared.turn.Turn.TheVariants.{Go}
@@ -20,15 +23,6 @@ IsElsewhere locks (Intend intention) = place_in (leaf_of intention.write) locks 
 IsElsewhere locks (Prepare prepare) = ⊥
 IsElsewhere locks (Commit ticket) = ⊥
 IsElsewhere locks (Abort ticket) = ⊥
-
--- a visit more than 1,024, or a number of 64 bits that has 2^63 in it
-abbrev pub IsTooMuch : ℕ → ℕ → orders.Order → Type 0
-IsTooMuch alive number Open = (1024 ≤ alive) ⊎ (2 ^ 63 ≤ number + 1)
-IsTooMuch alive number (Fetch fetch) = 2 ^ 63 ≤ fetch.op
-IsTooMuch alive number (Intend intention) = 2 ^ 63 ≤ intention.op
-IsTooMuch alive number (Prepare prepare) = ⊥
-IsTooMuch alive number (Commit ticket) = ⊥
-IsTooMuch alive number (Abort ticket) = ⊥
 
 -- what would be done leads past a limit: a visit more than 1,024, or a number of 64 bits that has 2^63 in it
 abbrev pub IsBeyond : Table → orders.Order → Type 0
@@ -48,14 +42,19 @@ IsToKeep table (Prepare prepare) = ballot prepare.count (table.standing prepare.
 IsToKeep table (Commit ticket) = ⊥
 IsToKeep table (Abort ticket) = ⊥
 
+-- the step calls the store, and waits for it: a Fetch looks for rows, a Commit or an Abort ends a prepared row. A Prepare whose row isn't kept is a vote NO
+abbrev pub CallsStore : Table → orders.Order → Type 0
+CallsStore table Open = ⊥
+CallsStore table (Fetch fetch) = read_turn fetch.ticket fetch.op (table.locks fetch.leaf) (table.standing fetch.ticket) ≡ Go
+CallsStore table (Intend intention) = ⊥
+CallsStore table (Prepare prepare) = ⊥
+CallsStore table (Commit ticket) = is_row (table.standing ticket) ≡ true
+CallsStore table (Abort ticket) = is_row (table.standing ticket) ≡ true
+
 -- the same of a letter's body
 abbrev pub AsksElsewhere : List Locks → bodies.Body → Type 0
 AsksElsewhere locks (body.Order order) = IsElsewhere locks order
 AsksElsewhere locks (body.Reply reply) = ⊥
-
-abbrev pub AsksTooMuch : ℕ → ℕ → bodies.Body → Type 0
-AsksTooMuch alive number (body.Order order) = IsTooMuch alive number order
-AsksTooMuch alive number (body.Reply reply) = ⊥
 
 abbrev pub AsksBeyond : Table → bodies.Body → Type 0
 AsksBeyond table (body.Order order) = IsBeyond table order
@@ -64,3 +63,11 @@ AsksBeyond table (body.Reply reply) = ⊥
 abbrev pub AsksToKeep : Table → bodies.Body → Type 0
 AsksToKeep table (body.Order order) = IsToKeep table order
 AsksToKeep table (body.Reply reply) = ⊥
+
+abbrev pub AsksStore : Table → bodies.Body → Type 0
+AsksStore table (body.Order order) = CallsStore table order
+AsksStore table (body.Reply reply) = ⊥
+
+-- the step that the table says of a letter, its store call kept, leads past the limits
+abbrev pub IsPastLimits : SiteContent → Table → Letter → Type 0
+IsPastLimits kept table letter = is_within (site_after (state_of kept table) (on_letter (state_of kept table) (txn_name letter.txn) true (body_of letter.body))) ≡ false

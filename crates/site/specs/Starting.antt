@@ -2,7 +2,6 @@
 use Rattle.std.specs.Prelude.{◌≡◌, ℕ, Bool, true, false, ◌&&◌, ◌||◌, not, nat_le, List, [], ◌∷◌, map, Option, Some, None, is_none, if◌then◌else◌}
 use Rattle.std.specs.BTreeMap.{insert_entry}
 use Rattle.std.specs.List.{list_all}
-use Rattle.std.specs.List.Sorted.{IsStrictlySortedBy}
 use Rattle.terms.specs.declared.leaf.Leaf.{Leaf}
 use Rattle.store.specs.declared.name.Ticket.{Ticket}
 use Rattle.store.specs.declared.prepared.Prepared.{Prepared as Row}
@@ -71,7 +70,6 @@ at_rest kept tickets = record {
 pub record Begins (kept : SiteContent) (table : Table) : Type 0 where
   pub fits : Fits kept table
   pub state : state_of kept table ≡ at_rest kept table.tickets
-  pub ascend : IsStrictlySortedBy ticket_cmp table.tickets
   pub alive : table.alive ≡ 0
 
 -- a restart: the state is the protocol's

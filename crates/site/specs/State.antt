@@ -2,6 +2,7 @@
 use Rattle.std.specs.Prelude.{◌≡◌, ℕ, ◌<◌, ◌≤◌, ◌^◌, ◌⊎◌, Bool, true, false, List, filter, length, map, Option, Some, None, is_some}
 use Rattle.std.specs.BTreeMap.{is_at}
 use Rattle.std.specs.FinMap as fin
+use Rattle.std.specs.List.Sorted.{IsStrictlySortedBy}
 use Rattle.std.specs.Map.{lookup, keys_of}
 use Rattle.std.specs.Option.{option_map}
 use Rattle.terms.specs.declared.leaf.Leaf.{Leaf}
@@ -108,6 +109,8 @@ pub record Fits (kept : SiteContent) (table : Table) : Type 0 where
   -- the list has the tickets behind which something stands
   pub listed : (ticket : Ticket) → is_some (table.standing ticket) ≡ true → In ticket table.tickets
   pub lives : (ticket : Ticket) → In ticket table.tickets → is_some (table.standing ticket) ≡ true
+  -- each of them once, and the oldest first
+  pub ascend : IsStrictlySortedBy ticket_cmp table.tickets
   -- readers are visits; a writer is who has intentions on the leaf
   pub readers : (leaf : Leaf) (ticket : Ticket) → reads ticket (table.locks leaf) ≡ true → is_visit (table.standing ticket) ≡ true
   pub writers : (leaf : Leaf) (ticket : Ticket) → writes ticket (table.locks leaf) ≡ has_exclusive leaf (stands table ticket (kept.prepared ticket))
@@ -115,8 +118,8 @@ pub record Fits (kept : SiteContent) (table : Table) : Type 0 where
   pub drawn : (ticket : Ticket) → is_some (table.standing ticket) ≡ true → IsDrawn table ticket
   pub fresh : (ticket : Ticket) → is_visit (table.standing ticket) ≡ true → (ticket.life ≡ table.life) × (ticket.visit ≤ table.number)
   pub released : (leaf : Leaf) → (table.locks leaf).released ≤ table.number
-  -- no more visits are there than are counted, and the limits are kept
-  pub counted : visits_among table.standing table.tickets ≤ table.alive
+  -- the visits are counted, and the limits are kept
+  pub counted : table.alive ≡ visits_among table.standing table.tickets
   pub few : table.alive ≤ 1024
   pub short : (ticket : Ticket) → is_short (stands table ticket (kept.prepared ticket)) ≡ true
   pub low : (table.life < 2 ^ 63) × (table.number < 2 ^ 63)

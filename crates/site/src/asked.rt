@@ -1,16 +1,13 @@
 //! Fetches that ask for one key.
 
-ghost use Rattle.std.specs.Prelude.{◌≤◌, ◌≡◌, ◌≢◌, Err, IfOk, IfSome, option_to_list, unwrap_or};
+ghost use Rattle.std.specs.Prelude.{◌≡◌, IfOk, IfSome, option_to_list, unwrap_or};
 ghost use Rattle.std.specs.FinMap as map;
 ghost use Rattle.std.specs.List.{filter};
 ghost use Rattle.terms.specs.Cond.{conds_hold};
 ghost use Rattle.store.specs.Content.{AreKeyed, changed, parts};
-ghost use Rattle.store.specs.Fault.{HasRefused};
 ghost use Rattle.store.specs.Laws.{AskKey};
-ghost use Rattle.store.specs.SiteContent.{IsUnchanged};
-ghost use Rattle.store.specs.declared.fault.StoreFault.TheVariants as store_faults;
-ghost use Rattle.site.specs.declared.fault.SiteFault.TheVariants as faults;
 ghost use Rattle.site.specs.Asked.{asked_by, asked_key};
+ghost use Rattle.site.specs.Frame.{Reads};
 ghost use Rattle.site.specs.State.{table_of, changes_at};
 
 use crate::fault::{SiteFault, site_fault};
@@ -68,16 +65,8 @@ pub(crate) fn row_at<S: SiteStore>(
 ) -> Result<Vec<Part>, SiteFault>
     requires { AskKey conds.now key }
 
-    ensures own { result ≢ Err faults.Stranger }
-    ensures within { result ≢ Err faults.Full }
-    ensures clean { S.is_clean store.new → S.is_clean store.old }
-    ensures counts { S.refused store.old ≤ S.refused store.new }
-    ensures sound { S.is_clean store.new → S.is_sound store.old → S.is_sound store.new }
     ensures rows { S.is_clean store.new → S.is_sound store.old → IfOk result (λ rows. rows.items ≡ parts conds.now (changed leaf.now (changes_at (table_of present.now) ticket.now) ((S.kept store.old).content leaf.now))) }
-    ensures same { S.is_clean store.new → S.is_sound store.old → IsUnchanged (S.kept store.old) (S.kept store.new) }
-    ensures refusal { result ≡ Err (faults.Store store_faults.Refused) → HasRefused (S.refused store.old) (S.refused store.new) }
-    ensures intact { S.is_clean store.new → S.is_sound store.old → result ≢ Err (faults.Store store_faults.Damaged) }
-    ensures plain { result ≢ Err (faults.Store store_faults.Memory) }
+    ensures reads { Reads S.is_clean S.is_sound S.kept S.refused store.old store.new result }
 {
     let leaf = leaf.copy()?;
     let slot = Slot { leaf, key };

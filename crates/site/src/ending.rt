@@ -1,18 +1,18 @@
 //! Visits are prepared, and end.
 
-ghost use Rattle.std.specs.Prelude.{◌≤◌, ◌≡◌, true, [], ◌∷◌, Some, None, IfOk, OnErr, if◌then◌else◌, ◌≢◌, Err, ◌⊎◌, false};
+ghost use Rattle.std.specs.Prelude.{◌≡◌, true, [], ◌∷◌, Some, None, Err, IfOk, IfErr, if◌then◌else◌, ◌⊎◌, false};
 ghost use Rattle.store.specs.Fault.{HasRefused};
-ghost use Rattle.store.specs.declared.fault.StoreFault.TheVariants as store_faults;
-ghost use Rattle.site.specs.declared.fault.SiteFault.TheVariants as faults;
+ghost use Rattle.store.specs.declared.fault.StoreFault.{StoreFault as StoreFaultName};
 ghost use Rattle.store.specs.declared.reply.Reply.TheVariants as replies;
-ghost use Rattle.store.specs.SiteContent.{SiteContent, IsUnchanged};
+ghost use Rattle.store.specs.SiteContent.{SiteContent};
 ghost use Rattle.protocol.specs.Letter as protocol;
 ghost use Rattle.protocol.specs.Site.{Prepares, Ends, on_prepare, on_commit, on_abort, on_give_up};
+ghost use Rattle.site.specs.declared.fault.SiteFault.TheVariants as faults;
 ghost use Rattle.site.specs.declared.standing.Standing.TheVariants as standing;
 ghost use Rattle.site.specs.declared.standing.Visit.{Visit as Visited};
 ghost use Rattle.protocol.specs.Letters.{name_of, txn_name, kept_by};
-ghost use Rattle.site.specs.Starting.{leaves_in};
-ghost use Rattle.site.specs.State.{Fits, Steps, state_of, table_of};
+ghost use Rattle.site.specs.Frame.{LeavesPresent, EndsOrFails, StepsBy};
+ghost use Rattle.site.specs.State.{Fits, Steps, is_row, state_of, table_of};
 ghost use Rattle.site.specs.Turn.{ballot};
 ghost use Rattle.site.specs.declared.turn.Ballot.TheVariants.{Keeps};
 
@@ -41,22 +41,10 @@ pub(crate) fn prepare<S: SiteStore>(
     prepare: Prepare,
     kept: bool,
 ) -> Result<Option<Reply>, SiteFault>
-    ensures uncalled { kept ≡ false → store.new ≡ store.old }
-    ensures name { present.new.name ≡ present.old.name }
-    ensures leaves { leaves_in present.new.locks.items ≡ leaves_in present.old.locks.items }
-    ensures own { result ≢ Err faults.Stranger }
-    ensures within { result ≢ Err faults.Full }
-    ensures clean { S.is_clean store.new → S.is_clean store.old }
-    ensures counts { S.refused store.old ≤ S.refused store.new }
-    ensures sound { S.is_clean store.new → S.is_sound store.old → S.is_sound store.new }
-    ensures ok { S.is_clean store.new → S.is_sound store.old → Fits (S.kept store.old) (table_of present.old) → IfOk result (λ reply. Steps (S.kept store.old) (table_of present.old) (S.kept store.new) (table_of present.new)
-        (on_prepare (kept_by reply) (txn_name txn) (name_of prepare.ticket) prepare.count ((state_of (S.kept store.old) (table_of present.old)).status (name_of prepare.ticket))) reply) }
-    ensures err { OnErr result (table_of present.new ≡ table_of present.old) }
-    ensures same { S.is_clean store.new → S.is_sound store.old → OnErr result (IsUnchanged (S.kept store.old) (S.kept store.new)) }
-    ensures refusal { result ≡ Err (faults.Store store_faults.Refused) → (kept ≡ false) ⊎ HasRefused (S.refused store.old) (S.refused store.new) }
+    ensures ok { StepsBy S.is_clean S.is_sound S.kept store.old store.new present.old present.new result (λ reply. on_prepare (kept_by reply) (txn_name txn) (name_of prepare.ticket) prepare.count ((state_of (S.kept store.old) (table_of present.old)).status (name_of prepare.ticket))) }
+    ensures ends { EndsOrFails S.is_clean S.is_sound S.kept S.refused kept store.old store.new present.old present.new result }
+    ensures memory { IfErr result (λ fault. fault ≡ faults.Memory) }
     ensures vote { ballot prepare.count ((table_of present.old).standing prepare.ticket) ≡ Keeps → IfOk result (λ reply. kept_by reply ≡ false → (kept ≡ false) ⊎ HasRefused (S.refused store.old) (S.refused store.new)) }
-    ensures intact { S.is_clean store.new → S.is_sound store.old → result ≢ Err (faults.Store store_faults.Damaged) }
-    ensures plain { result ≢ Err (faults.Store store_faults.Memory) }
 {
     let Prepare { ticket, count } = prepare;
     match ballot_at(present, &ticket, count) {
@@ -77,23 +65,14 @@ fn keep<S: SiteStore>(
     ticket: Ticket,
     kept: bool,
 ) -> Result<Option<Reply>, SiteFault>
-    ensures uncalled { kept ≡ false → store.new ≡ store.old }
-    ensures name { present.new.name ≡ present.old.name }
-    ensures leaves { leaves_in present.new.locks.items ≡ leaves_in present.old.locks.items }
-    ensures own { result ≢ Err faults.Stranger }
-    ensures within { result ≢ Err faults.Full }
-    ensures clean { S.is_clean store.new → S.is_clean store.old }
-    ensures counts { S.refused store.old ≤ S.refused store.new }
-    ensures sound { S.is_clean store.new → S.is_sound store.old → S.is_sound store.new }
+    requires { (visit : Visited) × ((table_of present.old).standing ticket ≡ Some (standing.Alive visit)) }
+
     ensures ok { S.is_clean store.new → S.is_sound store.old → Fits (S.kept store.old) (table_of present.old) → (visit : Visited) → (table_of present.old).standing ticket ≡ Some (standing.Alive visit)
         → IfOk result (λ reply. Steps (S.kept store.old) (table_of present.old) (S.kept store.new) (table_of present.new)
         (if kept_by reply then Prepares (name_of ticket) (txn_name txn) visit.changes else Ends (name_of ticket) (protocol.Voted (name_of ticket) protocol.No ∷ [])) reply) }
-    ensures err { (visit : Visited) → (table_of present.old).standing ticket ≡ Some (standing.Alive visit) → OnErr result (table_of present.new ≡ table_of present.old) }
-    ensures same { S.is_clean store.new → S.is_sound store.old → OnErr result (IsUnchanged (S.kept store.old) (S.kept store.new)) }
-    ensures refusal { result ≡ Err (faults.Store store_faults.Refused) → (kept ≡ false) ⊎ HasRefused (S.refused store.old) (S.refused store.new) }
+    ensures ends { EndsOrFails S.is_clean S.is_sound S.kept S.refused kept store.old store.new present.old present.new result }
+    ensures memory { IfErr result (λ fault. fault ≡ faults.Memory) }
     ensures vote { IfOk result (λ reply. kept_by reply ≡ false → (kept ≡ false) ⊎ HasRefused (S.refused store.old) (S.refused store.new)) }
-    ensures intact { S.is_clean store.new → S.is_sound store.old → result ≢ Err (faults.Store store_faults.Damaged) }
-    ensures plain { result ≢ Err (faults.Store store_faults.Memory) }
 {
     if !kept {
         present.end(&ticket);
@@ -124,21 +103,9 @@ pub(crate) fn commit<S: SiteStore>(
     ticket: Ticket,
     kept: bool,
 ) -> Result<Option<Reply>, SiteFault>
-    ensures uncalled { kept ≡ false → store.new ≡ store.old }
-    ensures name { present.new.name ≡ present.old.name }
-    ensures leaves { leaves_in present.new.locks.items ≡ leaves_in present.old.locks.items }
-    ensures own { result ≢ Err faults.Stranger }
-    ensures within { result ≢ Err faults.Full }
-    ensures clean { S.is_clean store.new → S.is_clean store.old }
-    ensures counts { S.refused store.old ≤ S.refused store.new }
-    ensures sound { S.is_clean store.new → S.is_sound store.old → S.is_sound store.new }
-    ensures ok { S.is_clean store.new → S.is_sound store.old → Fits (S.kept store.old) (table_of present.old) → IfOk result (λ reply. Steps (S.kept store.old) (table_of present.old) (S.kept store.new) (table_of present.new)
-        (on_commit true (name_of ticket) ((state_of (S.kept store.old) (table_of present.old)).status (name_of ticket))) reply) }
-    ensures err { OnErr result (table_of present.new ≡ table_of present.old) }
-    ensures same { S.is_clean store.new → S.is_sound store.old → OnErr result (IsUnchanged (S.kept store.old) (S.kept store.new)) }
-    ensures refusal { result ≡ Err (faults.Store store_faults.Refused) → (kept ≡ false) ⊎ HasRefused (S.refused store.old) (S.refused store.new) }
-    ensures intact { S.is_clean store.new → S.is_sound store.old → result ≢ Err (faults.Store store_faults.Damaged) }
-    ensures plain { result ≢ Err (faults.Store store_faults.Memory) }
+    ensures ok { StepsBy S.is_clean S.is_sound S.kept store.old store.new present.old present.new result (λ reply. on_commit true (name_of ticket) ((state_of (S.kept store.old) (table_of present.old)).status (name_of ticket))) }
+    ensures ends { EndsOrFails S.is_clean S.is_sound S.kept S.refused kept store.old store.new present.old present.new result }
+    ensures calls { (fault : StoreFaultName) → result ≡ Err (faults.Store fault) → is_row ((table_of present.old).standing ticket) ≡ true }
 {
     if !present.is_prepared(&ticket) {
         return Ok(Some(Reply::Ack(ticket)));
@@ -162,21 +129,9 @@ pub(crate) fn abort<S: SiteStore>(
     ticket: Ticket,
     kept: bool,
 ) -> Result<Option<Reply>, SiteFault>
-    ensures uncalled { kept ≡ false → store.new ≡ store.old }
-    ensures name { present.new.name ≡ present.old.name }
-    ensures leaves { leaves_in present.new.locks.items ≡ leaves_in present.old.locks.items }
-    ensures own { result ≢ Err faults.Stranger }
-    ensures within { result ≢ Err faults.Full }
-    ensures clean { S.is_clean store.new → S.is_clean store.old }
-    ensures counts { S.refused store.old ≤ S.refused store.new }
-    ensures sound { S.is_clean store.new → S.is_sound store.old → S.is_sound store.new }
-    ensures ok { S.is_clean store.new → S.is_sound store.old → Fits (S.kept store.old) (table_of present.old) → IfOk result (λ reply. Steps (S.kept store.old) (table_of present.old) (S.kept store.new) (table_of present.new)
-        (on_abort true (name_of ticket) ((state_of (S.kept store.old) (table_of present.old)).status (name_of ticket))) reply) }
-    ensures err { OnErr result (table_of present.new ≡ table_of present.old) }
-    ensures same { S.is_clean store.new → S.is_sound store.old → OnErr result (IsUnchanged (S.kept store.old) (S.kept store.new)) }
-    ensures refusal { result ≡ Err (faults.Store store_faults.Refused) → (kept ≡ false) ⊎ HasRefused (S.refused store.old) (S.refused store.new) }
-    ensures intact { S.is_clean store.new → S.is_sound store.old → result ≢ Err (faults.Store store_faults.Damaged) }
-    ensures plain { result ≢ Err (faults.Store store_faults.Memory) }
+    ensures ok { StepsBy S.is_clean S.is_sound S.kept store.old store.new present.old present.new result (λ reply. on_abort true (name_of ticket) ((state_of (S.kept store.old) (table_of present.old)).status (name_of ticket))) }
+    ensures ends { EndsOrFails S.is_clean S.is_sound S.kept S.refused kept store.old store.new present.old present.new result }
+    ensures calls { (fault : StoreFaultName) → result ≡ Err (faults.Store fault) → is_row ((table_of present.old).standing ticket) ≡ true }
 {
     if !present.is_prepared(&ticket) {
         give_up(present, &ticket);
@@ -196,8 +151,7 @@ pub(crate) fn abort<S: SiteStore>(
 
 /// Ends a visit that isn't prepared.
 pub(crate) fn give_up(present: &mut Present, ticket: &Ticket)
-    ensures name { present.new.name ≡ present.old.name }
-    ensures leaves { leaves_in present.new.locks.items ≡ leaves_in present.old.locks.items }
+    ensures present { LeavesPresent present.old present.new }
     ensures gone { (kept : SiteContent) → Fits kept (table_of present.old) → Steps kept (table_of present.old) kept (table_of present.new)
         (on_give_up (name_of ticket.now) ((state_of kept (table_of present.old)).status (name_of ticket.now))) None }
 {

@@ -1,6 +1,6 @@
 //! What a site has in memory, and a restart loses.
 
-ghost use Rattle.std.specs.Prelude.{◌≡◌, ◌+◌, ◌-◌, ◌^◌, ◌<◌, ◌≤◌, ◌⊎◌, Some, Err, IfOk, IfErr, OnOk, OnErr, length, map, slice_get, slice_set, unwrap_or};
+ghost use Rattle.std.specs.Prelude.{◌≡◌, ◌+◌, ◌-◌, ◌^◌, ◌<◌, ◌≤◌, ◌⊎◌, Some, Err, IfOk, IfErr, OnOk, length, map, slice_get, slice_set, unwrap_or};
 ghost use Rattle.std.specs.BTreeMap.{insert_entry, is_at};
 ghost use Rattle.std.specs.FinMap as fin;
 ghost use Rattle.std.specs.List.Sorted.{IsStrictlySortedBy};
@@ -13,7 +13,7 @@ ghost use Rattle.site.specs.declared.standing.Standing.{Standing as StandingNow}
 ghost use Rattle.site.specs.declared.standing.Standing.TheVariants as standing;
 ghost use Rattle.site.specs.Locks.{with_reader, with_writer, stops, stops_reading};
 ghost use Rattle.site.specs.Standing.{with_done, intends};
-ghost use Rattle.site.specs.Starting.{leaves_in};
+ghost use Rattle.site.specs.Frame.{LeavesPresent, ChangesPresent};
 ghost use Rattle.site.specs.State.{table_of, table_from, is_visit, is_row, changes_at};
 ghost use Rattle.site.specs.Moves.{next_of};
 
@@ -91,12 +91,10 @@ impl Present {
 
     /// Begins a visit, and draws its ticket.
     pub(crate) fn open(&mut self) -> Result<Ticket, SiteFault>
-        ensures name { self.new.name ≡ self.old.name }
-        ensures leaves { leaves_in self.new.locks.items ≡ leaves_in self.old.locks.items }
         ensures ticket { IfOk result (λ ticket. ticket ≡ next_of (table_of self.old)) }
         ensures ok { OnOk result (table_of self.new ≡ table_from (insert_entry ticket_cmp self.old.standings (next_of (table_of self.old)) (standing.Alive (record { done = 0; changes = fin.empty })))
             self.old.locks.items (self.old.alive + 1) self.old.life (self.old.number + 1)) }
-        ensures err { OnErr result (table_of self.new ≡ table_of self.old) }
+        ensures memory { ChangesPresent self.old self.new result }
         ensures room { OnOk result (self.old.alive + 1 ≤ 1024) }
         ensures last { OnOk result (self.old.number + 2 ≤ 2 ^ 63) }
         ensures beyond { (1024 ≤ self.old.alive) ⊎ (2 ^ 63 ≤ self.old.number + 1) → result ≡ Err faults.Full }
@@ -124,12 +122,10 @@ impl Present {
     /// A visit has done an operation that reads the leaf at this place.
     pub(crate) fn read(&mut self, ticket: &Ticket, op: u64, place: usize) -> Result<(), Memory>
         requires { place < length self.old.locks.items }
-        ensures name { self.new.name ≡ self.old.name }
-        ensures leaves { leaves_in self.new.locks.items ≡ leaves_in self.old.locks.items }
         ensures ok { (now : StandingNow) (at : LocksNow) → (table_of self.old).standing ticket.now ≡ Some now → slice_get self.old.locks.items place ≡ Some at
             → OnOk result (table_of self.new ≡ table_from (set_value (is_at (ticket_cmp ticket.now)) self.old.standings (with_done op now))
             (slice_set self.old.locks.items place (with_reader ticket.now at)) self.old.alive self.old.life self.old.number) }
-        ensures err { OnErr result (table_of self.new ≡ table_of self.old) }
+        ensures memory { ChangesPresent self.old self.new result }
     {
         share_at(&mut self.locks, place, *ticket)?;
         self.standings.set_done(ticket, op);
@@ -145,12 +141,10 @@ impl Present {
         write: Write,
     ) -> Result<(), Memory>
         requires { place < length self.old.locks.items }
-        ensures name { self.new.name ≡ self.old.name }
-        ensures leaves { leaves_in self.new.locks.items ≡ leaves_in self.old.locks.items }
         ensures ok { (now : StandingNow) (at : LocksNow) → (table_of self.old).standing ticket.now ≡ Some now → slice_get self.old.locks.items place ≡ Some at
             → OnOk result (table_of self.new ≡ table_from (set_value (is_at (ticket_cmp ticket.now)) self.old.standings (with_done op (intends write now)))
             (slice_set self.old.locks.items place (with_writer ticket.now at)) self.old.alive self.old.life self.old.number) }
-        ensures err { OnErr result (table_of self.new ≡ table_of self.old) }
+        ensures memory { ChangesPresent self.old self.new result }
     {
         self.standings.set_change(ticket, op, write)?;
         grant_at(&mut self.locks, place, *ticket);
@@ -159,8 +153,7 @@ impl Present {
 
     /// A visit is prepared: its shared locks go.
     pub(crate) fn prepare(&mut self, ticket: &Ticket, txn: Txn)
-        ensures name { self.new.name ≡ self.old.name }
-        ensures leaves { leaves_in self.new.locks.items ≡ leaves_in self.old.locks.items }
+        ensures present { LeavesPresent self.old self.new }
         ensures prepared { (now : StandingNow) → (table_of self.old).standing ticket.now ≡ Some now
             → table_of self.new ≡ table_from (set_value (is_at (ticket_cmp ticket.now)) self.old.standings (standing.Prepared txn))
             (map (stops_reading ticket.now self.old.number) self.old.locks.items) (self.old.alive - 1) self.old.life self.old.number }
@@ -172,8 +165,7 @@ impl Present {
 
     /// A visit ends: its locks go.
     pub(crate) fn end(&mut self, ticket: &Ticket)
-        ensures name { self.new.name ≡ self.old.name }
-        ensures leaves { leaves_in self.new.locks.items ≡ leaves_in self.old.locks.items }
+        ensures present { LeavesPresent self.old self.new }
         ensures ended { table_of self.new ≡ table_from (remove_entry (is_at (ticket_cmp ticket.now)) self.old.standings)
             (map (stops ticket.now self.old.number) self.old.locks.items) (self.old.alive - 1) self.old.life self.old.number }
         ensures ordered { IsStrictlySortedBy ticket_cmp (keys_of self.old.standings) }
@@ -184,8 +176,7 @@ impl Present {
 
     /// Nothing stands behind a ticket any more: its locks go.
     pub(crate) fn forget(&mut self, ticket: &Ticket)
-        ensures name { self.new.name ≡ self.old.name }
-        ensures leaves { leaves_in self.new.locks.items ≡ leaves_in self.old.locks.items }
+        ensures present { LeavesPresent self.old self.new }
         ensures gone { table_of self.new ≡ table_from (remove_entry (is_at (ticket_cmp ticket.now)) self.old.standings)
             (map (stops ticket.now self.old.number) self.old.locks.items) self.old.alive self.old.life self.old.number }
         ensures alive { self.new.alive ≡ self.old.alive }

@@ -1,15 +1,16 @@
 //! Visits read.
 
-ghost use Rattle.std.specs.Prelude.{◌≡◌, true, IfOk, OnErr, ◌≢◌, Err, ◌⊎◌, false, None, ◌≤◌, ◌^◌};
-ghost use Rattle.store.specs.Fault.{HasRefused};
-ghost use Rattle.store.specs.declared.fault.StoreFault.TheVariants as store_faults;
+ghost use Rattle.std.specs.Prelude.{◌≡◌, true, Err, ◌⊎◌, None, ◌≤◌, ◌^◌};
 ghost use Rattle.site.specs.declared.fault.SiteFault.TheVariants as faults;
 ghost use Rattle.store.specs.SiteContent.{IsUnchanged};
 ghost use Rattle.protocol.specs.Site.{on_fetch};
 ghost use Rattle.protocol.specs.Letters.{name_of};
 ghost use Rattle.site.specs.Locks.{place_in};
-ghost use Rattle.site.specs.Starting.{leaves_in};
-ghost use Rattle.site.specs.State.{Fits, Steps, state_of, table_of};
+ghost use Rattle.site.specs.Refusals.{IsBeyond, CallsStore};
+ghost use Rattle.store.specs.declared.fault.StoreFault.{StoreFault as StoreFaultName};
+ghost use Rattle.store.specs.declared.order.Order.TheVariants as orders;
+ghost use Rattle.site.specs.Frame.{ChangesOrFails, StepsBy};
+ghost use Rattle.site.specs.State.{state_of, table_of};
 ghost use Rattle.site.specs.Turn.{read_turn};
 ghost use Rattle.site.specs.declared.turn.Turn.TheVariants.{Go};
 
@@ -31,24 +32,15 @@ pub(crate) fn fetch<S: SiteStore>(
     fetch: Fetch,
     kept: bool,
 ) -> Result<Option<Reply>, SiteFault>
-    ensures uncalled { kept ≡ false → store.new ≡ store.old }
     ensures elsewhere { place_in fetch.leaf present.old.locks.items ≡ None → result ≡ Err faults.Stranger }
-    ensures name { present.new.name ≡ present.old.name }
-    ensures leaves { leaves_in present.new.locks.items ≡ leaves_in present.old.locks.items }
     ensures stranger { result ≡ Err faults.Stranger → place_in fetch.leaf present.old.locks.items ≡ None }
-    ensures full { result ≡ Err faults.Full → 2 ^ 63 ≤ fetch.op }
+    ensures full { result ≡ Err faults.Full → IsBeyond (table_of present.old) (orders.Fetch fetch) }
+    ensures calls { (fault : StoreFaultName) → result ≡ Err (faults.Store fault) → CallsStore (table_of present.old) (orders.Fetch fetch) }
     ensures beyond { read_turn fetch.ticket fetch.op ((table_of present.old).locks fetch.leaf) ((table_of present.old).standing fetch.ticket) ≡ Go → 2 ^ 63 ≤ fetch.op
         → (result ≡ Err faults.Full) ⊎ ((result ≡ Err faults.Memory) ⊎ (result ≡ Err faults.Stranger)) }
-    ensures clean { S.is_clean store.new → S.is_clean store.old }
-    ensures counts { S.refused store.old ≤ S.refused store.new }
-    ensures sound { S.is_clean store.new → S.is_sound store.old → S.is_sound store.new }
-    ensures ok { S.is_clean store.new → S.is_sound store.old → Fits (S.kept store.old) (table_of present.old) → IfOk result (λ reply. Steps (S.kept store.old) (table_of present.old) (S.kept store.new) (table_of present.new)
-        (on_fetch (state_of (S.kept store.old) (table_of present.old)) true (name_of fetch.ticket) fetch.op fetch.leaf fetch.conds ((state_of (S.kept store.old) (table_of present.old)).status (name_of fetch.ticket))) reply) }
-    ensures err { OnErr result (table_of present.new ≡ table_of present.old) }
+    ensures ok { StepsBy S.is_clean S.is_sound S.kept store.old store.new present.old present.new result (λ reply. on_fetch (state_of (S.kept store.old) (table_of present.old)) true (name_of fetch.ticket) fetch.op fetch.leaf fetch.conds ((state_of (S.kept store.old) (table_of present.old)).status (name_of fetch.ticket))) }
     ensures same { S.is_clean store.new → S.is_sound store.old → IsUnchanged (S.kept store.old) (S.kept store.new) }
-    ensures refusal { result ≡ Err (faults.Store store_faults.Refused) → (kept ≡ false) ⊎ HasRefused (S.refused store.old) (S.refused store.new) }
-    ensures intact { S.is_clean store.new → S.is_sound store.old → result ≢ Err (faults.Store store_faults.Damaged) }
-    ensures plain { result ≢ Err (faults.Store store_faults.Memory) }
+    ensures fails { ChangesOrFails S.is_clean S.is_sound S.kept S.refused kept store.old store.new present.old present.new result }
 {
     let Fetch {
         ticket,

@@ -1,15 +1,12 @@
 //! The rows that a fetch answers.
 
-ghost use Rattle.std.specs.Prelude.{◌≤◌, ◌≡◌, [], IfOk, ◌≢◌, Err};
-ghost use Rattle.store.specs.Fault.{HasRefused};
-ghost use Rattle.store.specs.declared.fault.StoreFault.TheVariants as store_faults;
-ghost use Rattle.site.specs.declared.fault.SiteFault.TheVariants as faults;
+ghost use Rattle.std.specs.Prelude.{◌≡◌, [], IfOk};
 ghost use Rattle.std.specs.FinMap as map;
 ghost use Rattle.std.specs.List.{filter};
 ghost use Rattle.terms.specs.Cond.{conds_hold};
 ghost use Rattle.store.specs.Content.{Content, IsKeyed, changed, parts};
-ghost use Rattle.store.specs.SiteContent.{IsUnchanged};
 ghost use Rattle.site.specs.Rows.{stored};
+ghost use Rattle.site.specs.Frame.{Reads};
 ghost use Rattle.site.specs.State.{table_of, changes_at};
 
 use crate::asked::{asked_key, row_at};
@@ -34,16 +31,8 @@ pub(crate) fn rows<S: SiteStore>(
     leaf: &Leaf,
     conds: &Conds,
 ) -> Result<Vec<Part>, SiteFault>
-    ensures own { result ≢ Err faults.Stranger }
-    ensures within { result ≢ Err faults.Full }
-    ensures clean { S.is_clean store.new → S.is_clean store.old }
-    ensures counts { S.refused store.old ≤ S.refused store.new }
-    ensures sound { S.is_clean store.new → S.is_sound store.old → S.is_sound store.new }
     ensures rows { S.is_clean store.new → S.is_sound store.old → IfOk result (λ rows. rows.items ≡ parts conds.now (changed leaf.now (changes_at (table_of present.now) ticket.now) ((S.kept store.old).content leaf.now))) }
-    ensures same { S.is_clean store.new → S.is_sound store.old → IsUnchanged (S.kept store.old) (S.kept store.new) }
-    ensures refusal { result ≡ Err (faults.Store store_faults.Refused) → HasRefused (S.refused store.old) (S.refused store.new) }
-    ensures intact { S.is_clean store.new → S.is_sound store.old → result ≢ Err (faults.Store store_faults.Damaged) }
-    ensures plain { result ≢ Err (faults.Store store_faults.Memory) }
+    ensures reads { Reads S.is_clean S.is_sound S.kept S.refused store.old store.new result }
 {
     if let Some(key) = asked_key(conds.as_slice()) {
         return row_at(store, present, ticket, leaf, key, conds);

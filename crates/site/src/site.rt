@@ -2,14 +2,18 @@
 
 ghost use Rattle.std.specs.Prelude.{◌≡◌, ◌≢◌, ◌<◌, ◌≤◌, ◌+◌, ◌^◌, [], None, Err, IfOk, IfErr, OnOk, OnErr, map, vec_len, ◌⊎◌, false, true};
 ghost use Rattle.store.specs.Fault.{HasRefused};
+ghost use Rattle.store.specs.Frame.{LeavesStore};
+ghost use Rattle.store.specs.declared.fault.StoreFault.{StoreFault as StoreFaultName};
 ghost use Rattle.store.specs.declared.fault.StoreFault.TheVariants as store_faults;
 ghost use Rattle.site.specs.declared.fault.SiteFault.TheVariants as faults;
 ghost use Rattle.std.specs.Vec.{vec_capacity};
 ghost use Rattle.protocol.specs.Site.{on_letter, on_give_up, inquiries};
 ghost use Rattle.store.specs.SiteContent.{IsUnchanged, BeginsLife, Lists};
 ghost use Rattle.protocol.specs.Letters.{name_of, letter_of, order_body, txn_name, kept_by, kept_in, letters_of};
-ghost use Rattle.site.specs.Refusals.{IsElsewhere, IsTooMuch, IsToKeep, IsBeyond, AsksElsewhere, AsksTooMuch, AsksToKeep, AsksBeyond};
-ghost use Rattle.site.specs.Starting.{Begins, Restarts, IsStrange, leaves_in};
+ghost use Rattle.site.specs.Refusals.{IsElsewhere, IsToKeep, IsBeyond, CallsStore, IsPastLimits, AsksElsewhere, AsksToKeep};
+ghost use Rattle.site.specs.Fault.{StopsStart};
+ghost use Rattle.site.specs.Frame.{LeavesPresent, TurnsAway, StepsBy, Reads, ChangesOrFails, RestartsOrFails};
+ghost use Rattle.site.specs.Starting.{Begins, IsStrange, leaves_in};
 ghost use Rattle.site.specs.Settled.{AreSettled};
 ghost use Rattle.site.specs.State.{Fits, Steps, Takes, state_of, table_of};
 
@@ -60,18 +64,18 @@ impl<S: SiteStore> Site<S> {
         store: S,
         leaves: &[Leaf],
     ) -> Result<Site<S>, Unstarted<S>>
-        ensures sound { IfOk result (λ site. S.is_clean site.store → S.is_sound site.store) }
+        ensures leaves_store { IfOk result (λ site. LeavesStore S.is_clean S.is_sound S.refused store site.store) }
+        ensures leaves_still { IfErr result (λ unstarted. LeavesStore S.is_clean S.is_sound S.refused store unstarted.store) }
+        ensures learnt { IfOk result (λ site. S.is_clean site.store → S.is_sound store) }
         ensures ok { IfOk result (λ site. S.is_clean site.store → Begins (S.kept site.store) (table_of site.present)) }
-        ensures life { IfOk result (λ site. S.is_clean site.store → S.is_sound store → BeginsLife (S.kept store) (S.kept site.store)) }
+        ensures life { IfOk result (λ site. S.is_clean site.store → BeginsLife (S.kept store) (S.kept site.store)) }
         ensures name { IfOk result (λ site. site.present.name ≡ name) }
         ensures leaves { IfOk result (λ site. leaves_in site.present.locks.items ≡ leaves.now) }
-        ensures clean { IfOk result (λ site. S.is_clean site.store → S.is_clean store) }
-        ensures clean_still { IfErr result (λ unstarted. S.is_clean unstarted.store → S.is_clean store) }
         ensures same { IfErr result (λ unstarted. S.is_clean unstarted.store → S.is_sound store → IsUnchanged (S.kept store) (S.kept unstarted.store)) }
         ensures refusal { IfErr result (λ unstarted. unstarted.fault ≡ faults.Store store_faults.Refused → HasRefused (S.refused store) (S.refused unstarted.store)) }
         ensures full { IfErr result (λ unstarted. S.is_clean unstarted.store → unstarted.fault ≡ faults.Full → 2 ^ 63 ≤ (S.kept unstarted.store).life + 1) }
         ensures damaged { IfErr result (λ unstarted. S.is_clean unstarted.store → S.is_sound store → unstarted.fault ≡ faults.Store store_faults.Damaged → IsStrange leaves.now (S.kept unstarted.store)) }
-        ensures own { IfErr result (λ unstarted. (unstarted.fault ≡ faults.Memory) ⊎ (unstarted.fault ≡ faults.Full) ⊎ (unstarted.fault ≡ faults.Store store_faults.Refused) ⊎ (unstarted.fault ≡ faults.Store store_faults.Damaged)) }
+        ensures own { IfErr result (λ unstarted. StopsStart unstarted.fault) }
     {
         let mut store = store;
         match begin(&mut store, alloc, leaves) {
@@ -93,45 +97,14 @@ impl<S: SiteStore> Site<S> {
 
     /// Restarts: visits and their locks are lost, and the next life begins. On a fault nothing has changed.
     pub fn restart(&mut self) -> Result<(), SiteFault>
-        ensures clean { S.is_clean self.new.store → S.is_clean self.old.store }
-        ensures counts { S.refused self.old.store ≤ S.refused self.new.store }
-        ensures sound { S.is_clean self.new.store → OnOk result (S.is_sound self.new.store) }
-        ensures keeps { S.is_clean self.new.store → S.is_sound self.old.store → S.is_sound self.new.store }
-        ensures ok { S.is_clean self.new.store → S.is_sound self.old.store → Fits (S.kept self.old.store) (table_of self.old.present)
-            → OnOk result (Restarts (S.kept self.old.store) (table_of self.old.present) (S.kept self.new.store) (table_of self.new.present)) }
-        ensures begins { S.is_clean self.new.store → OnOk result (Begins (S.kept self.new.store) (table_of self.new.present)) }
-        ensures life { S.is_clean self.new.store → S.is_sound self.old.store → OnOk result (BeginsLife (S.kept self.old.store) (S.kept self.new.store)) }
-        ensures name { self.new.present.name ≡ self.old.present.name }
-        ensures leaves { leaves_in self.new.present.locks.items ≡ leaves_in self.old.present.locks.items }
-        ensures err { OnErr result (table_of self.new.present ≡ table_of self.old.present) }
-        ensures same { S.is_clean self.new.store → S.is_sound self.old.store → OnErr result (IsUnchanged (S.kept self.old.store) (S.kept self.new.store)) }
-        ensures refusal { result ≡ Err (faults.Store store_faults.Refused) → HasRefused (S.refused self.old.store) (S.refused self.new.store) }
-        ensures full { S.is_clean self.new.store → result ≡ Err faults.Full → 2 ^ 63 ≤ (S.kept self.new.store).life + 1 }
-        ensures damaged { S.is_clean self.new.store → S.is_sound self.old.store → result ≡ Err (faults.Store store_faults.Damaged) → IsStrange (leaves_in self.old.present.locks.items) (S.kept self.new.store) }
-        ensures own { result ≢ Err faults.Stranger }
+        ensures restarts { RestartsOrFails S.is_clean S.is_sound S.kept S.refused true self.old.store self.new.store self.old.present self.new.present result }
     {
         self.restart_kept(true)
     }
 
     /// So, but where `kept` is false the store isn't called, and counts as having refused.
     pub fn restart_kept(&mut self, kept: bool) -> Result<(), SiteFault>
-        ensures called { OnOk result (kept ≡ true) }
-        ensures clean { S.is_clean self.new.store → S.is_clean self.old.store }
-        ensures counts { S.refused self.old.store ≤ S.refused self.new.store }
-        ensures sound { S.is_clean self.new.store → OnOk result (S.is_sound self.new.store) }
-        ensures keeps { S.is_clean self.new.store → S.is_sound self.old.store → S.is_sound self.new.store }
-        ensures ok { S.is_clean self.new.store → S.is_sound self.old.store → Fits (S.kept self.old.store) (table_of self.old.present)
-            → OnOk result (Restarts (S.kept self.old.store) (table_of self.old.present) (S.kept self.new.store) (table_of self.new.present)) }
-        ensures begins { S.is_clean self.new.store → OnOk result (Begins (S.kept self.new.store) (table_of self.new.present)) }
-        ensures life { S.is_clean self.new.store → S.is_sound self.old.store → OnOk result (BeginsLife (S.kept self.old.store) (S.kept self.new.store)) }
-        ensures name { self.new.present.name ≡ self.old.present.name }
-        ensures leaves { leaves_in self.new.present.locks.items ≡ leaves_in self.old.present.locks.items }
-        ensures err { OnErr result (table_of self.new.present ≡ table_of self.old.present) }
-        ensures same { S.is_clean self.new.store → S.is_sound self.old.store → OnErr result (IsUnchanged (S.kept self.old.store) (S.kept self.new.store)) }
-        ensures refusal { result ≡ Err (faults.Store store_faults.Refused) → (kept ≡ false) ⊎ HasRefused (S.refused self.old.store) (S.refused self.new.store) }
-        ensures full { S.is_clean self.new.store → result ≡ Err faults.Full → 2 ^ 63 ≤ (S.kept self.new.store).life + 1 }
-        ensures damaged { S.is_clean self.new.store → S.is_sound self.old.store → result ≡ Err (faults.Store store_faults.Damaged) → IsStrange (leaves_in self.old.present.locks.items) (S.kept self.new.store) }
-        ensures own { result ≢ Err faults.Stranger }
+        ensures restarts { RestartsOrFails S.is_clean S.is_sound S.kept S.refused kept self.old.store self.new.store self.old.present self.new.present result }
     {
         if !kept {
             return Err(SiteFault::Store(StoreFault::Refused));
@@ -143,7 +116,8 @@ impl<S: SiteStore> Site<S> {
         Ok(())
     }
 
-    /// The site's inquiries, one about each prepared row, by ticket.
+    /// The site's inquiries, one about each prepared row, by ticket: what is in memory fits with the tickets
+    /// in ascending order.
     pub fn inquire(&self) -> Result<Vec<Letter>, Memory>
         ensures { Fits (S.kept self.now.store) (table_of self.now.present)
             → IfOk result (λ letters. map letter_of letters.items ≡ inquiries self.now.present.name (state_of (S.kept self.now.store) (table_of self.now.present))) }
@@ -155,17 +129,10 @@ impl<S: SiteStore> Site<S> {
 
     /// All that the store keeps.
     pub fn kept(&mut self) -> Result<SiteKept, SiteFault>
-        ensures clean { S.is_clean self.new.store → S.is_clean self.old.store }
-        ensures counts { S.refused self.old.store ≤ S.refused self.new.store }
-        ensures keeps { S.is_clean self.new.store → S.is_sound self.old.store → S.is_sound self.new.store }
+        ensures learnt { S.is_clean self.new.store → OnOk result (S.is_sound self.old.store) }
         ensures all { S.is_clean self.new.store → IfOk result (Lists (S.kept self.new.store)) }
-        ensures same { S.is_clean self.new.store → S.is_sound self.old.store → IsUnchanged (S.kept self.old.store) (S.kept self.new.store) }
+        ensures reads { Reads S.is_clean S.is_sound S.kept S.refused self.old.store self.new.store result }
         ensures memory { self.new.present ≡ self.old.present }
-        ensures own { result ≢ Err faults.Stranger }
-        ensures within { result ≢ Err faults.Full }
-        ensures refusal { result ≡ Err (faults.Store store_faults.Refused) → HasRefused (S.refused self.old.store) (S.refused self.new.store) }
-        ensures intact { S.is_clean self.new.store → S.is_sound self.old.store → result ≢ Err (faults.Store store_faults.Damaged) }
-        ensures plain { result ≢ Err (faults.Store store_faults.Memory) }
     {
         match self.store.load() {
             Ok(all) => Ok(all),
@@ -176,18 +143,10 @@ impl<S: SiteStore> Site<S> {
     /// The fragments with the intentions of those prepared rows whose transactions are decided: the changes
     /// that make them of nothing. Nothing is changed by this.
     pub fn settled(&mut self, decided: &[Txn]) -> Result<Changes, SiteFault>
-        ensures clean { S.is_clean self.new.store → S.is_clean self.old.store }
-        ensures counts { S.refused self.old.store ≤ S.refused self.new.store }
-        ensures sound { S.is_clean self.new.store → S.is_sound self.old.store → S.is_sound self.new.store }
-        ensures ok { S.is_clean self.new.store → S.is_sound self.old.store → Fits (S.kept self.old.store) (table_of self.old.present)
+        ensures ok { S.is_clean self.new.store → Fits (S.kept self.old.store) (table_of self.old.present)
             → IfOk result (AreSettled decided.now (S.kept self.old.store) (table_of self.old.present).tickets) }
-        ensures same { S.is_clean self.new.store → S.is_sound self.old.store → IsUnchanged (S.kept self.old.store) (S.kept self.new.store) }
+        ensures reads { Reads S.is_clean S.is_sound S.kept S.refused self.old.store self.new.store result }
         ensures memory { self.new.present ≡ self.old.present }
-        ensures own { result ≢ Err faults.Stranger }
-        ensures within { result ≢ Err faults.Full }
-        ensures refusal { result ≡ Err (faults.Store store_faults.Refused) → HasRefused (S.refused self.old.store) (S.refused self.new.store) }
-        ensures intact { S.is_clean self.new.store → S.is_sound self.old.store → result ≢ Err (faults.Store store_faults.Damaged) }
-        ensures plain { result ≢ Err (faults.Store store_faults.Memory) }
     {
         let _tickets = self.present.standings.len();
         let all = self.kept()?;
@@ -196,49 +155,24 @@ impl<S: SiteStore> Site<S> {
 
     /// Takes a letter, and answers the letters that the site puts out. On a fault nothing has changed.
     pub fn take(&mut self, letter: Letter) -> Result<Vec<Letter>, SiteFault>
-        ensures turned_away { AsksElsewhere self.old.present.locks.items letter.body → result ≡ Err faults.Stranger }
-        ensures name { self.new.present.name ≡ self.old.present.name }
-        ensures leaves { leaves_in self.new.present.locks.items ≡ leaves_in self.old.present.locks.items }
-        ensures elsewhere { result ≡ Err faults.Stranger → (letter.site ≢ self.old.present.name) ⊎ AsksElsewhere self.old.present.locks.items letter.body }
-        ensures full { result ≡ Err faults.Full → AsksTooMuch self.old.present.alive self.old.present.number letter.body }
-        ensures beyond { AsksBeyond (table_of self.old.present) letter.body → (result ≡ Err faults.Full) ⊎ ((result ≡ Err faults.Memory) ⊎ (result ≡ Err faults.Stranger)) }
-        ensures clean { S.is_clean self.new.store → S.is_clean self.old.store }
-        ensures counts { S.refused self.old.store ≤ S.refused self.new.store }
-        ensures sound { S.is_clean self.new.store → S.is_sound self.old.store → S.is_sound self.new.store }
+        ensures turns { TurnsAway self.old.present letter result }
+        ensures full { Fits (S.kept self.old.store) (table_of self.old.present) → result ≡ Err faults.Full → IsPastLimits (S.kept self.old.store) (table_of self.old.present) letter }
         ensures ok { S.is_clean self.new.store → S.is_sound self.old.store → Fits (S.kept self.old.store) (table_of self.old.present)
             → IfOk result (λ letters. Takes (S.kept self.old.store) (table_of self.old.present) (S.kept self.new.store) (table_of self.new.present) letter letters.items) }
-        ensures err { OnErr result (table_of self.new.present ≡ table_of self.old.present) }
-        ensures same { S.is_clean self.new.store → S.is_sound self.old.store → OnErr result (IsUnchanged (S.kept self.old.store) (S.kept self.new.store)) }
-        ensures refusal { result ≡ Err (faults.Store store_faults.Refused) → HasRefused (S.refused self.old.store) (S.refused self.new.store) }
-        ensures intact { S.is_clean self.new.store → S.is_sound self.old.store → result ≢ Err (faults.Store store_faults.Damaged) }
-        ensures plain { result ≢ Err (faults.Store store_faults.Memory) }
+        ensures fails { ChangesOrFails S.is_clean S.is_sound S.kept S.refused true self.old.store self.new.store self.old.present self.new.present result }
         ensures vote { AsksToKeep (table_of self.old.present) letter.body → IfOk result (λ letters. kept_in letters.items ≡ false → HasRefused (S.refused self.old.store) (S.refused self.new.store)) }
-        ensures stranger { letter.site ≢ self.old.present.name → result ≡ Err faults.Stranger }
     {
         self.take_kept(letter, true)
     }
 
     /// So, but where `kept` is false the store isn't called, and counts as having refused.
     pub fn take_kept(&mut self, letter: Letter, kept: bool) -> Result<Vec<Letter>, SiteFault>
-        ensures uncalled { kept ≡ false → self.new.store ≡ self.old.store }
-        ensures turned_away { AsksElsewhere self.old.present.locks.items letter.body → result ≡ Err faults.Stranger }
-        ensures name { self.new.present.name ≡ self.old.present.name }
-        ensures leaves { leaves_in self.new.present.locks.items ≡ leaves_in self.old.present.locks.items }
-        ensures elsewhere { result ≡ Err faults.Stranger → (letter.site ≢ self.old.present.name) ⊎ AsksElsewhere self.old.present.locks.items letter.body }
-        ensures full { result ≡ Err faults.Full → AsksTooMuch self.old.present.alive self.old.present.number letter.body }
-        ensures beyond { AsksBeyond (table_of self.old.present) letter.body → (result ≡ Err faults.Full) ⊎ ((result ≡ Err faults.Memory) ⊎ (result ≡ Err faults.Stranger)) }
-        ensures clean { S.is_clean self.new.store → S.is_clean self.old.store }
-        ensures counts { S.refused self.old.store ≤ S.refused self.new.store }
-        ensures sound { S.is_clean self.new.store → S.is_sound self.old.store → S.is_sound self.new.store }
+        ensures turns { TurnsAway self.old.present letter result }
+        ensures full { Fits (S.kept self.old.store) (table_of self.old.present) → result ≡ Err faults.Full → IsPastLimits (S.kept self.old.store) (table_of self.old.present) letter }
         ensures ok { S.is_clean self.new.store → S.is_sound self.old.store → Fits (S.kept self.old.store) (table_of self.old.present)
             → IfOk result (λ letters. Takes (S.kept self.old.store) (table_of self.old.present) (S.kept self.new.store) (table_of self.new.present) letter letters.items) }
-        ensures err { OnErr result (table_of self.new.present ≡ table_of self.old.present) }
-        ensures same { S.is_clean self.new.store → S.is_sound self.old.store → OnErr result (IsUnchanged (S.kept self.old.store) (S.kept self.new.store)) }
-        ensures refusal { result ≡ Err (faults.Store store_faults.Refused) → (kept ≡ false) ⊎ HasRefused (S.refused self.old.store) (S.refused self.new.store) }
-        ensures intact { S.is_clean self.new.store → S.is_sound self.old.store → result ≢ Err (faults.Store store_faults.Damaged) }
-        ensures plain { result ≢ Err (faults.Store store_faults.Memory) }
+        ensures fails { ChangesOrFails S.is_clean S.is_sound S.kept S.refused kept self.old.store self.new.store self.old.present self.new.present result }
         ensures vote { AsksToKeep (table_of self.old.present) letter.body → IfOk result (λ letters. kept_in letters.items ≡ false → (kept ≡ false) ⊎ HasRefused (S.refused self.old.store) (S.refused self.new.store)) }
-        ensures stranger { letter.site ≢ self.old.present.name → result ≡ Err faults.Stranger }
     {
         if !letter.site.same(&self.present.name) {
             return Err(SiteFault::Stranger);
@@ -257,8 +191,7 @@ impl<S: SiteStore> Site<S> {
 
     /// Ends a visit that isn't prepared, and does nothing else.
     pub fn give_up(&mut self, ticket: &Ticket)
-        ensures name { self.new.present.name ≡ self.old.present.name }
-        ensures leaves { leaves_in self.new.present.locks.items ≡ leaves_in self.old.present.locks.items }
+        ensures present { LeavesPresent self.old.present self.new.present }
         ensures ok { Fits (S.kept self.old.store) (table_of self.old.present) → Steps (S.kept self.old.store) (table_of self.old.present) (S.kept self.new.store) (table_of self.new.present)
             (on_give_up (name_of ticket.now) ((state_of (S.kept self.old.store) (table_of self.old.present)).status (name_of ticket.now))) None }
         ensures store { self.new.store ≡ self.old.store }
@@ -329,24 +262,14 @@ fn obey<S: SiteStore>(
     order: Order,
     kept: bool,
 ) -> Result<Option<Reply>, SiteFault>
-    ensures uncalled { kept ≡ false → store.new ≡ store.old }
     ensures elsewhere { IsElsewhere present.old.locks.items order → result ≡ Err faults.Stranger }
-    ensures name { present.new.name ≡ present.old.name }
-    ensures leaves { leaves_in present.new.locks.items ≡ leaves_in present.old.locks.items }
     ensures vote { IsToKeep (table_of present.old) order → IfOk result (λ reply. kept_by reply ≡ false → (kept ≡ false) ⊎ HasRefused (S.refused store.old) (S.refused store.new)) }
     ensures stranger { result ≡ Err faults.Stranger → IsElsewhere present.old.locks.items order }
-    ensures full { result ≡ Err faults.Full → IsTooMuch present.old.alive present.old.number order }
+    ensures full { result ≡ Err faults.Full → IsBeyond (table_of present.old) order }
+    ensures calls { (fault : StoreFaultName) → result ≡ Err (faults.Store fault) → CallsStore (table_of present.old) order }
     ensures beyond { IsBeyond (table_of present.old) order → (result ≡ Err faults.Full) ⊎ ((result ≡ Err faults.Memory) ⊎ (result ≡ Err faults.Stranger)) }
-    ensures clean { S.is_clean store.new → S.is_clean store.old }
-    ensures counts { S.refused store.old ≤ S.refused store.new }
-    ensures sound { S.is_clean store.new → S.is_sound store.old → S.is_sound store.new }
-    ensures ok { S.is_clean store.new → S.is_sound store.old → Fits (S.kept store.old) (table_of present.old) → IfOk result (λ reply. Steps (S.kept store.old) (table_of present.old) (S.kept store.new) (table_of present.new)
-        (on_letter (state_of (S.kept store.old) (table_of present.old)) (txn_name txn) (kept_by reply) (order_body order)) reply) }
-    ensures err { OnErr result (table_of present.new ≡ table_of present.old) }
-    ensures same { S.is_clean store.new → S.is_sound store.old → OnErr result (IsUnchanged (S.kept store.old) (S.kept store.new)) }
-    ensures refusal { result ≡ Err (faults.Store store_faults.Refused) → (kept ≡ false) ⊎ HasRefused (S.refused store.old) (S.refused store.new) }
-    ensures intact { S.is_clean store.new → S.is_sound store.old → result ≢ Err (faults.Store store_faults.Damaged) }
-    ensures plain { result ≢ Err (faults.Store store_faults.Memory) }
+    ensures ok { StepsBy S.is_clean S.is_sound S.kept store.old store.new present.old present.new result (λ reply. on_letter (state_of (S.kept store.old) (table_of present.old)) (txn_name txn) (kept_by reply) (order_body order)) }
+    ensures fails { ChangesOrFails S.is_clean S.is_sound S.kept S.refused kept store.old store.new present.old present.new result }
 {
     match order {
         Order::Open => open(present),

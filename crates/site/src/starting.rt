@@ -1,15 +1,15 @@
 //! A life of a site begins.
 
-ghost use Rattle.std.specs.Prelude.{◌≡◌, ◌≢◌, ◌⊎◌, ◌+◌, ◌<◌, ◌≤◌, ◌^◌, [], map, true, false, Err, IfOk, IfErr, OnOk, OnErr};
+ghost use Rattle.std.specs.Prelude.{◌≡◌, ◌⊎◌, [], map, true, false, IfOk, IfErr, OnOk};
 ghost use Rattle.std.specs.List.Sorted.{IsStrictlySortedBy};
 ghost use Rattle.std.specs.Map.{keys_of};
-ghost use Rattle.store.specs.Fault.{HasRefused};
 ghost use Rattle.store.specs.Name.{ticket_cmp};
-ghost use Rattle.store.specs.SiteContent.{IsUnchanged, BeginsLife};
 ghost use Rattle.store.specs.declared.fault.StoreFault.TheVariants as store_faults;
 ghost use Rattle.site.specs.declared.fault.SiteFault.TheVariants as faults;
+ghost use Rattle.site.specs.Fault.{StopsStart};
+ghost use Rattle.site.specs.Frame.{BeginsOrFails};
 ghost use Rattle.site.specs.Locks.{free};
-ghost use Rattle.site.specs.Starting.{Begins, IsStrange, granted, stood_by, may_stand, all_may_stand, leaves_in};
+ghost use Rattle.site.specs.Starting.{Begins, granted, stood_by, may_stand, all_may_stand, leaves_in};
 ghost use Rattle.site.specs.State.{table_from};
 
 use crate::fault::{SiteFault, site_fault};
@@ -45,18 +45,10 @@ pub(crate) fn begin<S: SiteStore>(
     alloc: Global,
     leaves: &[Leaf],
 ) -> Result<Beginning, SiteFault>
-    ensures clean { S.is_clean store.new → S.is_clean store.old }
-    ensures counts { S.refused store.old ≤ S.refused store.new }
-    ensures sound { S.is_clean store.new → OnOk result (S.is_sound store.new) }
-    ensures keeps { S.is_clean store.new → S.is_sound store.old → S.is_sound store.new }
     ensures ok { S.is_clean store.new → IfOk result (λ begun. Begins (S.kept store.new) (table_from begun.resting.standings begun.resting.locks.items 0 begun.life 0)) }
     ensures leaves { IfOk result (λ begun. leaves_in begun.resting.locks.items ≡ leaves.now) }
-    ensures life { S.is_clean store.new → S.is_sound store.old → OnOk result (BeginsLife (S.kept store.old) (S.kept store.new)) }
-    ensures same { S.is_clean store.new → S.is_sound store.old → OnErr result (IsUnchanged (S.kept store.old) (S.kept store.new)) }
-    ensures refusal { result ≡ Err (faults.Store store_faults.Refused) → HasRefused (S.refused store.old) (S.refused store.new) }
-    ensures full { S.is_clean store.new → result ≡ Err faults.Full → 2 ^ 63 ≤ (S.kept store.new).life + 1 }
-    ensures damaged { S.is_clean store.new → S.is_sound store.old → result ≡ Err (faults.Store store_faults.Damaged) → IsStrange leaves.now (S.kept store.new) }
-    ensures own { IfErr result (λ fault. (fault ≡ faults.Memory) ⊎ (fault ≡ faults.Full) ⊎ (fault ≡ faults.Store store_faults.Refused) ⊎ (fault ≡ faults.Store store_faults.Damaged)) }
+    ensures fails { BeginsOrFails S.is_clean S.is_sound S.kept S.refused true leaves.now store.old store.new result }
+    ensures own { IfErr result StopsStart }
 {
     let all = match store.load() {
         Ok(all) => all,

@@ -1,5 +1,5 @@
 -- Why `keep` meets its contract.
-use Rattle.std.proofs.Common.{refl, ap, ◌∙◌, subst, ◌-◌, map}
+use Rattle.std.proofs.Common.{rules, refl, ap, ◌∙◌, subst, ◌-◌, map}
 use Rattle.std.specs.BTreeMap.{is_at}
 use Rattle.std.specs.List.Sorted.{IsStrictlySortedBy}
 use Rattle.std.specs.Map.{set_value, remove_entry, keys_of}
@@ -25,10 +25,12 @@ returns-then-not-kept-clause-ok g c = λ clean sound fits visit is.
     (visit_ends kept p.standings p.locks.items p.alive p.life p.number fits k kept _ refl c.end.ensures.ordered (is_visiting p.standings k visit is) (record { content = λ leaf. refl; prepared = λ ticket. refl; life = refl }) _ c.voted.result
     (no_act k c.voted.result _ c.voted.ensures))
 
-pub returns-then-eq-clause-err : goal.returns-then-eq-clause-err
-returns-then-eq-clause-err g c = λ visit is.
+pub returns-then-eq-clause-ends : goal.returns-then-eq-clause-ends
+returns-then-eq-clause-ends g c =
     let p = c.args.present.now in
     let k = c.args.ticket in
+    let visit = c.requires.0 in
+    let is = c.requires.1 in
     let test = is_at (ticket_cmp k) in
     let empty = standing.Alive (record visit { changes = c.new-none.result }) in
     let once = c.swap_changes-changes.ensures.swapped (standing.Alive visit) is in
@@ -36,7 +38,19 @@ returns-then-eq-clause-err g c = λ visit is.
     let again : Changes → Entries = λ changes. set_value test p.standings (standing.Alive (record visit { changes = changes })) in
     let same = twice ∙ ap (λ es. set_value test es (standing.Alive (record visit { changes = c.in-Err.unkept.changes }))) once ∙ set_twice k p.standings empty (standing.Alive (record visit { changes = c.in-Err.unkept.changes }))
     ∙ ap again (c.in-Err.ensures.back ∙ c.swap_changes-changes.ensures.old (standing.Alive visit) is) ∙ set_value_same test p.standings (standing.Alive visit) is in
-    ap (λ es. table_from es p.locks.items p.alive p.life p.number) same
+    record {
+      fails = record {
+        store = c.keep_prepared.ensures.leaves;
+        memory = record { present = record { name = refl; leaves = refl }; err = ap (λ es. table_from es p.locks.items p.alive p.life p.number) same };
+        uncalled = λ unmade. search (rules, unmade);
+        same = λ clean sound. c.in-Err.ensures.err clean sound;
+        refusal = λ e. cc;
+        intact = λ clean sound e. cc;
+        plain = λ e. cc;
+      };
+      own = λ e. cc;
+      within = λ e. cc;
+    }
 
 pub returns-in-Ok-clause-ok : goal.returns-in-Ok-clause-ok
 returns-in-Ok-clause-ok g c = λ clean sound fits visit is.

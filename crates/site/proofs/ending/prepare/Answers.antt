@@ -6,7 +6,7 @@ use Rattle.protocol.specs.Letters.{kept_by, name_of, said_by}
 use Rattle.protocol.specs.Local.{local}
 use Rattle.site.specs.State.{table_of}
 use Rattle.site.proofs.Acts.{steps_at}
-use Rattle.site.proofs.Finals.{visit_ends, prepare_ends, act_kept}
+use Rattle.site.proofs.Finals.{kept_visit, visit_ends, prepare_ends, act_kept}
 use Rattle.site.proofs.ending.prepare.Goals as goal
 
 pub returns-in-Ends-clause-ok : goal.returns-in-Ends-clause-ok
@@ -28,3 +28,6 @@ returns-in-Keeps-clause-ok g c = λ clean sound fits.
     let kept = g.S.SiteStore.kept c.args.store.now in
     act_kept kept (g.S.SiteStore.kept c.keep.new.store) p.standings p.locks.items p.alive p.life p.number fits k (table_of c.keep.new.present) c.args.txn c.args.prepare.count (sym c.ballot_at.ensures ∙ c.in-Keeps.is) c.keep.result
     (λ visit is. c.keep.ensures.ok clean sound fits visit is)
+
+pub keep-requires : goal.keep-requires
+keep-requires g c = kept_visit c.args.prepare.count ((table_of c.args.present.now).standing c.args.prepare.ticket) (sym c.ballot_at.ensures ∙ c.in-Keeps.is)

@@ -39,6 +39,6 @@ returns-clause-ok g c = λ clean sound fits.
     let at = is_place leaf p.locks.items c.in_ok-place.place c.in_ok-place.ensures.place in
     let rows = c.new.ensures ∙ c.in_ok-parts-in-Go.ensures.rows clean sound ∙ ap (λ o. parts conds (changed leaf (changes_of o) (kept.content leaf))) r.stands_there in
     let act : List (List Value) → Act local = λ found. Locks (name_of k) (record (visit_of (table_of p) k r.visit) { done = op; shared = put (λ a b. is_eq (leaf_cmp a b)) leaf true (visit_of (table_of p) k r.visit).shared }) leaf (protocol.Rows (name_of k) op found ∷ []) in
-    moves kept (g.S.SiteStore.kept c.rows.new.store) (table_of p) (table_of c.read.new.self) _ _ (c.in_ok-parts-in-Go.ensures.same clean sound)
+    moves kept (g.S.SiteStore.kept c.rows.new.store) (table_of p) (table_of c.read.new.self) _ _ (c.in_ok-parts-in-Go.ensures.reads.same clean sound)
     (steps_at kept kept (table_of p) (table_of c.read.new.self) _ _ _ (c.in_ok-read-in-Go.ensures.ok (standing.Alive r.visit) (locks_in leaf p.locks.items) r.stands_there at.here)
     (reads_steps kept p.standings p.locks.items p.alive p.life p.number fits k r.visit r.stands_there op (let n = c.if-op-gt-LAST.false in grind (arith)) leaf c.in_ok-place.place c.in_ok-place.ensures.place _ _ (r.act_is ∙ ap act (sym rows))))

@@ -1,5 +1,5 @@
 -- Why `begin` meets its contract.
-use Rattle.std.proofs.Common.{◌≡◌, ap, sym, ◌∙◌, subst, ◌+◌, ◌<◌, ◌^◌, map, false, ⊎_elim, arith}
+use Rattle.std.proofs.Common.{rules, ◌≡◌, ap, sym, ◌∙◌, subst, ◌+◌, ◌<◌, ◌^◌, map, false, ⊎_elim, arith}
 use Rattle.store.specs.declared.fault.StoreFault.TheVariants as store_faults
 use Rattle.site.specs.Locks.{free}
 use Rattle.site.specs.Starting.{all_may_stand, leaves_in}
@@ -7,16 +7,24 @@ use Rattle.site.proofs.PreparedRows.{all_leaves}
 use Rattle.site.proofs.Beginning.{begins_from, not_memory}
 use Rattle.site.proofs.starting.begin.Goals as goal
 
-pub returns-in_err-resting-clause-damaged : goal.returns-in_err-resting-clause-damaged
-returns-in_err-resting-clause-damaged g c = λ clean sound e. ⊎_elim
-    (λ m. not_memory c.from_residual.result c.in_err-resting.field-0.0 store_faults.Damaged c.from_residual.ensures.1 e m)
-    (λ d. record { all = c.in-Ok.all; lists = c.in-Ok.ensures.all clean; strange = subst (λ rows. all_may_stand c.args.leaves.now c.in-Ok.all.life rows (map free c.args.leaves.now) ≡ false) c.as_slice.ensures d.1 })
-    c.in_err-resting.ensures.fault
+pub returns-in_err-resting-clause-fails : goal.returns-in_err-resting-clause-fails
+returns-in_err-resting-clause-fails g c = record {
+  store = c.load.ensures.leaves;
+  learnt = search rules;
+  life = search rules;
+  same = search rules;
+  refusal = search rules;
+  full = search rules;
+  damaged = λ clean sound e. ⊎_elim
+      (λ m. not_memory c.from_residual.result c.in_err-resting.field-0.0 store_faults.Damaged c.from_residual.ensures.1 e m)
+      (λ d. record { all = c.in-Ok.all; lists = c.in-Ok.ensures.all clean; strange = subst (λ rows. all_may_stand c.args.leaves.now c.in-Ok.all.life rows (map free c.args.leaves.now) ≡ false) c.as_slice.ensures d.1 })
+      c.in_err-resting.ensures.fault;
+}
 
 pub returns-in-Ok-next_incarnation-clause-ok : goal.returns-in-Ok-next_incarnation-clause-ok
 returns-in-Ok-next_incarnation-clause-ok g c = λ clean.
-    let before = c.next_incarnation.ensures.clean clean in
-    let sound = c.in-Ok.ensures.sound before in
+    let before = c.next_incarnation.ensures.leaves.clean clean in
+    let sound = c.load.ensures.leaves.sound before (c.in-Ok.ensures.learnt before) in
     let kept = g.S.SiteStore.kept c.load.new.self in
     let after = g.S.SiteStore.kept c.next_incarnation.new.self in
     let lists = c.in-Ok.ensures.all before in

@@ -1,10 +1,10 @@
 -- Why `forget` meets its contract.
-use Rattle.std.proofs.Common.{ap, ◌∙◌}
+use Rattle.std.proofs.Common.{refl, ap, ◌∙◌}
 use Rattle.site.specs.Starting.{leaves_in}
 use Rattle.site.proofs.LeavesKept.{leaves_back, leaves_stop}
 use Rattle.site.proofs.present.Present.forget.Goals as goal
 
-pub returns-clause-leaves : goal.returns-clause-leaves
-returns-clause-leaves c =
+pub returns-clause-present : goal.returns-clause-present
+returns-clause-present c =
     let locks = c.args.self.now.locks in
-    leaves_back locks.items c.stop.new.locks locks.len locks.ok.0 (ap leaves_in c.stop.ensures ∙ leaves_stop c.args.ticket.now c.args.self.now.number c.deref_mut.result.now ∙ ap leaves_in c.deref_mut.ensures.value)
+    record { name = refl; leaves = leaves_back locks.items c.stop.new.locks locks.len locks.ok.0 (ap leaves_in c.stop.ensures ∙ leaves_stop c.args.ticket.now c.args.self.now.number c.deref_mut.result.now ∙ ap leaves_in c.deref_mut.ensures.value) }
