@@ -1,7 +1,6 @@
 -- The memory still fits the store after each move.
 use Rattle.std.proofs.Common.{◌≡◌, refl, sym, ap, ◌∙◌, subst, ℕ, suc, ◌-◌, ◌^◌, ◌≤◌, ◌<◌, ◌⊎◌, nat_lt, length, Bool, true, false, not, List, [], ◌∷◌, ◌++◌, Option, Some, None, is_some, filter, if◌then◌else◌, inl, inr, ⊎_elim, arith}
 use Rattle.std.specs.FinMap as fin
-use Rattle.std.specs.List.Sorted.{IsStrictlySortedBy}
 use Rattle.std.specs.Option.{option_map}
 use Rattle.std.specs.Ordering.{is_eq}
 use Rattle.std.proofs.lemmas.List.Kept.{IsStrictlySortedBy-filter}

@@ -1,5 +1,5 @@
 -- A letter with which a site is at a limit: the step that the table says of it leads past the limits.
-use Rattle.std.proofs.Common.{◌≡◌, refl, sym, ap, ◌∙◌, ℕ, suc, ◌+◌, ◌^◌, ◌<◌, ◌≤◌, ◌&&◌, nat_lt, nat_le, Bool, true, false, not, List, [], ◌∷◌, ◌++◌, map, filter, length, inl, inr, is_some, arith}
+use Rattle.std.proofs.Common.{◌≡◌, refl, sym, ap, ◌∙◌, ℕ, suc, ◌+◌, ◌^◌, ◌<◌, ◌≤◌, ◌&&◌, nat_lt, nat_le, Bool, true, false, not, List, [], ◌∷◌, ◌++◌, filter, length, inl, inr, is_some, arith}
 use Rattle.std.specs.List.{list_all}
 use Rattle.std.specs.Ordering.{is_eq}
 use Rattle.store.specs.declared.letter.Body as bodies
@@ -19,12 +19,12 @@ use Rattle.protocol.proofs.Basics.{all_in, clash, if_false, if_true, in_filter}
 use Rattle.terms.specs.declared.leaf.Leaf.{Leaf}
 use Rattle.site.specs.Moves.{next_of}
 use Rattle.site.specs.Refusals.{AsksBeyond, IsBeyond}
-use Rattle.site.specs.State.{Fits, Table, state_of, visits_among}
+use Rattle.site.specs.State.{Fits, Table, state_of}
 use Rattle.site.proofs.Counting.{drawn_below, last_passes, part_passes, same_pass}
 use Rattle.site.proofs.Limited.{alive_are}
 use Rattle.site.proofs.Listed.{from_names, in_names}
 use Rattle.site.proofs.Tickets.{same_is, ticket_self}
-use Rattle.site.proofs.Turns.{read_goes, visit_of, write_goes}
+use Rattle.site.proofs.Turns.{read_goes, write_goes}
 
 -- ---- one test that fails is enough
 none_and : (a b : Bool) → a ≡ false → (a && b) ≡ false

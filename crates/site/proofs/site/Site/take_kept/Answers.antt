@@ -1,5 +1,5 @@
 -- Why `Site::take_kept` meets its contract.
-use Rattle.std.proofs.Common.{◌≡◌, sym, ap, ◌∙◌, subst, true, false, Err}
+use Rattle.std.proofs.Common.{ap, ◌∙◌, true, Err}
 use Rattle.store.specs.declared.letter.Body as bodies
 use Rattle.protocol.specs.Letters.{body_of, txn_name}
 use Rattle.protocol.specs.Site.{is_within, on_letter, site_after}
