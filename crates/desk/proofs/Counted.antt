@@ -60,7 +60,7 @@ pub named_is : (k : Ticket) (o : Option Ticket) → desk.is_named (option_map na
 named_is k None = refl
 named_is k (Some j) = ticket_same j k
 
-none_vote : (o : Option Vote) → is_none (option_map vote_of o) ≡ is_none o
+pub none_vote : (o : Option Vote) → is_none (option_map vote_of o) ≡ is_none o
 none_vote None = refl
 none_vote (Some vote) = refl
 

@@ -6,6 +6,7 @@ pub mod Acknowledged
 pub mod Decisions
 pub mod Stages
 pub mod Counted
+pub mod Called
 pub mod Phases
 pub mod Operations
 pub mod Txns

@@ -1,5 +1,5 @@
 -- Letters by which no statement goes on need no explanation.
-use Rattle.std.proofs.Common.{◌≡◌, ℕ, Bool, true, false, ◌&&◌, not, List, [], ◌∷◌, ◌++◌, Option, Some, None, is_none, Result, Ok, Err, IfOk, nat_eq, subst, sym, ap, ◌∙◌}
+use Rattle.std.proofs.Common.{◌≡◌, ◌⊎◌, inl, IfErr, ℕ, Bool, true, false, ◌&&◌, not, List, [], ◌∷◌, ◌++◌, Option, Some, None, is_none, Result, Ok, Err, IfOk, nat_eq, subst, sym, ap, ◌∙◌}
 use Rattle.std.specs.Cmp.Lexicographic.{pointwise}
 use Rattle.std.specs.List.{list_any}
 use Rattle.std.specs.Option.{option_map}
@@ -20,6 +20,7 @@ use Rattle.protocol.specs.Serial.{AllExplained}
 use Rattle.protocol.proofs.Basics.{either}
 use Rattle.desk.specs.declared.reply.Out.{Out}
 use Rattle.desk.specs.declared.refusal.Refusal.{Refusal}
+use Rattle.desk.specs.declared.refusal.Refusal.TheVariants as refusals
 use Rattle.desk.specs.declared.standing.Standing.{Standing}
 use Rattle.desk.specs.declared.standing.Standing.TheVariants as standing
 use Rattle.desk.specs.Database.{Database, language, replied}
@@ -126,3 +127,12 @@ not_strange sites came said is among strange =
 
 pub among_there : (db : Database) → IsOfCatalogue db → (catalogue : Catalogue) → db.catalogue ≡ catalogue → (site : List ℕ) → list_any (λ other. pointwise nat_eq other site) db.sites ≡ true → list_any (λ other. pointwise nat_eq other site) catalogue.sites ≡ true
 among_there db of catalogue same site among = sym (ap (list_any (λ other. pointwise nat_eq other site)) (of.sites ∙ ap (λ cat. cat.sites) same)) ∙ among
+
+-- ---- a call that is refused for want of memory alone
+pub may_be_memory : (result : Result Out Refusal) → IfErr result (λ told. told ≡ refusals.Memory) → IfErr result (λ told. (told ≡ refusals.Memory) ⊎ (told ≡ refusals.Full))
+may_be_memory (Ok out) memory = tt
+may_be_memory (Err told) memory = inl memory
+
+pub memory_is_not_full : (result : Result Out Refusal) → IfErr result (λ told. told ≡ refusals.Memory) → result ≡ Err refusals.Full → ⊥
+memory_is_not_full (Ok out) memory full = cc
+memory_is_not_full (Err told) memory full = cc

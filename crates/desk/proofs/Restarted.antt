@@ -219,5 +219,6 @@ module _ (db : Database) (old new : DeskContent) (entries : Entries) (sorted : I
     within = ap (λ t. desk.is_desk_within (desk_of db t)) table_is ∙ rises.within;
     state = ap (desk_of db) table_is ∙ state_is;
     letters = letters_are written sends;
+    again = sends;
     replies = ap (map notice_of) heard_is ∙ replies_are;
   }

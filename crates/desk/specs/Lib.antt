@@ -14,9 +14,11 @@ pub mod Planned
 pub mod Brought
 pub mod Stepped
 pub mod Ballots
+pub mod Called
 pub mod State
 pub mod Begun
 pub mod Calls
 pub mod Does
 pub mod Starting
 pub mod Taking
+pub mod Frame

@@ -74,10 +74,11 @@ pub record Rises (db : Database) (kept : DeskContent) (table : Table) : Type 0 w
   pub undecided : table.undecided ≡ 0
   pub number : table.number ≡ 0
 
--- a restart: the state is the protocol's, and so are the letters and the replies
+-- a restart: the state is the protocol's, and so are the letters and the replies; the letters are in the order of the transactions
 pub record Restarts (db : Database) (before : Table) (kept : DeskContent) (after : Table) (written : List Letter) (notices : List Notice) : Type 0 where
   pub fits : Fits db kept after
   pub within : protocol.is_desk_within (desk_of db after) ≡ true
   pub state : desk_of db after ≡ protocol.desk_restarted (desk_of db before)
   pub letters : map (sent db) written ≡ flat_map (λ t. (protocol.txn_restarted t ((desk_of db before).txn t)).letters) (desk_of db before).known
+  pub again : SendsAgain kept written
   pub replies : map notice_of notices ≡ filter_map (told db) (flat_map (λ t. (protocol.txn_restarted t ((desk_of db before).txn t)).deeds) (desk_of db before).known)

@@ -1,12 +1,12 @@
 //! Letters of transactions that have a commit row.
 
-ghost use Rattle.std.specs.Prelude.{◌≤◌, ◌≡◌, ℕ, List, ◌⊎◌, false, map, Some, IfOk, OnErr};
-ghost use Rattle.protocol.specs.Desk.{on_row, on_ack};
+ghost use Rattle.std.specs.Prelude.{◌≡◌, ℕ, List, map, Some, IfOk};
+ghost use Rattle.protocol.specs.Desk.{Row, on_row, on_ack};
 ghost use Rattle.protocol.specs.Letters.{txn_name, name_of};
-ghost use Rattle.store.specs.DeskContent.{IsUnchanged};
-ghost use Rattle.store.specs.Fault.{HasRefused};
 ghost use Rattle.desk.specs.declared.standing.Standing.TheVariants as standing;
+ghost use Rattle.desk.specs.Called.{CallsStore, IsLastAck};
 ghost use Rattle.desk.specs.Database.{Database, language, replied};
+ghost use Rattle.desk.specs.Frame.{StepsStore};
 ghost use Rattle.desk.specs.Standing.{voter_of};
 ghost use Rattle.desk.specs.Turn.{AtSites, IsTurn, after_of};
 ghost use Rattle.desk.specs.Voters.{Keeps, are_acked, is_new_ack, kept_voters, with_ack};
@@ -36,17 +36,13 @@ pub(crate) fn on_row<S: DeskStore>(
     reply: &Reply,
     kept: bool,
 ) -> Result<Turn, Memory>
-    ensures clean { S.is_clean store.new → S.is_clean store.old }
-    ensures counts { S.refused store.old ≤ S.refused store.new }
-    ensures sound { S.is_clean store.new → S.is_sound store.old → S.is_sound store.new }
-    ensures uncalled { kept ≡ false → store.new ≡ store.old }
+    ensures store { StepsStore S.is_clean S.is_sound S.kept S.refused store.old store.new kept result (λ turn. turn.kept)
+        ((db : Database) → CallsStore {L = language db} site.now (replied db reply.now) (Row (map voter_of committed.now.voters) (map voter_of committed.now.acked))) }
     ensures turn { (db : Database) → IfOk result (λ turn. IsTurn db txn (Some (standing.Committed committed.now)) turn
         (on_row (txn_name txn) (map voter_of committed.now.voters) (map voter_of committed.now.acked) site.now turn.kept (replied db reply.now))) }
     ensures sites { (sites : List (List ℕ)) → IfOk result (λ turn. AtSites sites turn.after) }
     ensures keeps { S.is_clean store.new → S.is_sound store.old → (S.kept store.old).commits txn ≡ Some committed.now.voters
         → IfOk result (λ turn. Keeps txn (kept_voters (after_of (Some (standing.Committed committed.now)) turn.after)) (S.kept store.old) (S.kept store.new)) }
-    ensures refusal { IfOk result (λ turn. turn.kept ≡ false → (kept ≡ false) ⊎ HasRefused (S.refused store.old) (S.refused store.new)) }
-    ensures same { S.is_clean store.new → S.is_sound store.old → OnErr result (IsUnchanged (S.kept store.old) (S.kept store.new)) }
 {
     match reply {
         Reply::Ack(ticket) => on_ack(store, alloc, txn, committed, site, *ticket, kept),
@@ -99,17 +95,13 @@ fn on_ack<S: DeskStore>(
     ticket: Ticket,
     kept: bool,
 ) -> Result<Turn, Memory>
-    ensures clean { S.is_clean store.new → S.is_clean store.old }
-    ensures counts { S.refused store.old ≤ S.refused store.new }
-    ensures sound { S.is_clean store.new → S.is_sound store.old → S.is_sound store.new }
-    ensures uncalled { kept ≡ false → store.new ≡ store.old }
+    ensures store { StepsStore S.is_clean S.is_sound S.kept S.refused store.old store.new kept result (λ turn. turn.kept)
+        ((db : Database) → IsLastAck (language db) (map voter_of committed.now.voters) (map voter_of committed.now.acked) (site.now, name_of ticket)) }
     ensures turn { (db : Database) → IfOk result (λ turn. IsTurn db txn (Some (standing.Committed committed.now)) turn
         (on_ack {L = language db} (map voter_of committed.now.voters) (map voter_of committed.now.acked) (site.now, name_of ticket) turn.kept)) }
     ensures sites { (sites : List (List ℕ)) → IfOk result (λ turn. AtSites sites turn.after) }
     ensures keeps { S.is_clean store.new → S.is_sound store.old → (S.kept store.old).commits txn ≡ Some committed.now.voters
         → IfOk result (λ turn. Keeps txn (kept_voters (after_of (Some (standing.Committed committed.now)) turn.after)) (S.kept store.old) (S.kept store.new)) }
-    ensures refusal { IfOk result (λ turn. turn.kept ≡ false → (kept ≡ false) ⊎ HasRefused (S.refused store.old) (S.refused store.new)) }
-    ensures same { S.is_clean store.new → S.is_sound store.old → OnErr result (IsUnchanged (S.kept store.old) (S.kept store.new)) }
 {
     if !is_new(committed, site, &ticket) {
         return Ok(stays(alloc, true));

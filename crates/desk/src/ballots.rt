@@ -1,14 +1,14 @@
 //! Votes come.
 
-ghost use Rattle.std.specs.Prelude.{◌≤◌, ◌≡◌, ◌⊎◌, false, None, IfOk, OnErr};
-ghost use Rattle.protocol.specs.Desk.{Choice, on_known};
+ghost use Rattle.std.specs.Prelude.{◌≡◌, None, IfOk};
+ghost use Rattle.protocol.specs.Desk.{Choice, Known, on_known};
 ghost use Rattle.protocol.specs.Letters.{is_no, txn_name};
-ghost use Rattle.store.specs.DeskContent.{IsUnchanged};
-ghost use Rattle.store.specs.Fault.{HasRefused};
 ghost use Rattle.store.specs.declared.reply.Reply.TheVariants as reply;
 ghost use Rattle.desk.specs.declared.standing.Standing.TheVariants as standing;
 ghost use Rattle.desk.specs.Ballots.{awaits_vote, counts_vote, is_first};
+ghost use Rattle.desk.specs.Called.{CallsStore};
 ghost use Rattle.desk.specs.Database.{Database, language, replied};
+ghost use Rattle.desk.specs.Frame.{StepsStore};
 ghost use Rattle.desk.specs.Spots.{sites_of, spot_in};
 ghost use Rattle.desk.specs.Standing.{undecided_of};
 ghost use Rattle.desk.specs.Turn.{AreSpots, AtSites, IsTurn, after_of};
@@ -91,18 +91,14 @@ pub(crate) fn on_vote<S: DeskStore>(
     voted: Voted,
     kept: bool,
 ) -> Result<Turn, Memory>
-    ensures clean { S.is_clean store.new → S.is_clean store.old }
-    ensures counts { S.refused store.old ≤ S.refused store.new }
-    ensures sound { S.is_clean store.new → S.is_sound store.old → S.is_sound store.new }
-    ensures uncalled { kept ≡ false → store.new ≡ store.old }
+    ensures store { StepsStore S.is_clean S.is_sound S.kept S.refused store.old store.new kept result (λ turn. turn.kept)
+        ((db : Database) → AreSpots db undecided.now.spots → CallsStore {L = language db} site.now (replied db (reply.Voted voted)) (Known (undecided_of db undecided.now))) }
     ensures turn { (db : Database) (choice : Choice (language db)) → AreSpots db undecided.now.spots
         → IfOk result (λ turn. IsTurn db txn (Some (standing.Undecided undecided.now)) turn
         (on_known (txn_name txn) (undecided_of db undecided.now) site.now turn.kept choice (replied db (reply.Voted voted)))) }
     ensures sites { IfOk result (λ turn. AtSites (sites_of undecided.now.spots) turn.after) }
     ensures keeps { (db : Database) → AreSpots db undecided.now.spots → S.is_clean store.new → S.is_sound store.old → (S.kept store.old).commits txn ≡ None
         → IfOk result (λ turn. Keeps txn (kept_voters (after_of (Some (standing.Undecided undecided.now)) turn.after)) (S.kept store.old) (S.kept store.new)) }
-    ensures refusal { IfOk result (λ turn. turn.kept ≡ false → (kept ≡ false) ⊎ HasRefused (S.refused store.old) (S.refused store.new)) }
-    ensures same { S.is_clean store.new → S.is_sound store.old → OnErr result (IsUnchanged (S.kept store.old) (S.kept store.new)) }
 {
     if !counts(undecided, site, &voted.ticket) {
         return Ok(stays(alloc, true));

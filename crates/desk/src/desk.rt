@@ -11,15 +11,16 @@ ghost use Rattle.protocol.specs.Desk.{Choice, Commit_call, Give_up, Rollback, St
 ghost use Rattle.protocol.specs.Letters.{txn_name};
 ghost use Rattle.store.specs.DeskContent.{BeginsLife, IsUnchanged, Lists};
 ghost use Rattle.store.specs.Fault.{HasRefused};
+ghost use Rattle.store.specs.Frame.{LeavesStore};
 ghost use Rattle.store.specs.declared.fault.StoreFault.TheVariants as store_faults;
 ghost use Rattle.store.specs.declared.letter.Body.TheVariants as bodies;
 ghost use Rattle.store.specs.declared.reply.Reply.{Reply};
 ghost use Rattle.desk.specs.declared.refusal.Refusal.TheVariants as refusals;
 ghost use Rattle.desk.specs.Calls.{IsOver, refused_as, txn_in};
 ghost use Rattle.desk.specs.Database.{Database, language, replied};
-ghost use Rattle.desk.specs.Does.{IsPastLimits, IsUnread, States, StatesPastLimits, Takes};
+ghost use Rattle.desk.specs.Does.{IsUnread, States, StatesPastLimits};
+ghost use Rattle.desk.specs.Frame.{RestartsDesk, TakesLetter};
 ghost use Rattle.desk.specs.OfCatalogue.{IsOfCatalogue};
-ghost use Rattle.desk.specs.Taking.{is_strange, may_send};
 ghost use Rattle.desk.specs.Starting.{IsStrange, Restarts, Rises};
 ghost use Rattle.desk.specs.State.{Begins, Fits, Steps, desk_of, table_of};
 
@@ -60,13 +61,13 @@ pub struct Unstarted<S> {
 impl<S: DeskStore> Desk<S> {
     /// Starts the coordinator of this catalogue: the next life begins. On a refusal the store is as it was.
     pub fn start(alloc: Global, catalog: Catalog, store: S) -> Result<Desk<S>, Unstarted<S>>
-        ensures sound { IfOk result (λ desk. S.is_clean desk.store → S.is_sound desk.store) }
+        ensures leaves_store { IfOk result (λ desk. LeavesStore S.is_clean S.is_sound S.refused store desk.store) }
+        ensures learnt { IfOk result (λ desk. S.is_clean desk.store → S.is_sound store) }
         ensures ok { (db : Database) → IfOk result (λ desk. S.is_clean desk.store → Rises db (S.kept desk.store) (table_of desk.present)) }
-        ensures life { IfOk result (λ desk. S.is_clean desk.store → S.is_sound store → BeginsLife (S.kept store) (S.kept desk.store)) }
+        ensures life { IfOk result (λ desk. S.is_clean desk.store → BeginsLife (S.kept store) (S.kept desk.store)) }
         ensures catalog { IfOk result (λ desk. desk.catalog ≡ catalog) }
-        ensures clean { IfOk result (λ desk. S.is_clean desk.store → S.is_clean store) }
         ensures given_back { IfErr result (λ unstarted. unstarted.catalog ≡ catalog) }
-        ensures clean_still { IfErr result (λ unstarted. S.is_clean unstarted.store → S.is_clean store) }
+        ensures leaves_still { IfErr result (λ unstarted. LeavesStore S.is_clean S.is_sound S.refused store unstarted.store) }
         ensures same { IfErr result (λ unstarted. S.is_clean unstarted.store → S.is_sound store → IsUnchanged (S.kept store) (S.kept unstarted.store)) }
         ensures refusal { IfErr result (λ unstarted. unstarted.refusal ≡ refusals.Store store_faults.Refused → HasRefused (S.refused store) (S.refused unstarted.store)) }
         ensures full { IfErr result (λ unstarted. S.is_clean unstarted.store → unstarted.refusal ≡ refusals.Full → 2 ^ 63 ≤ (S.kept unstarted.store).life + 1) }
@@ -170,49 +171,15 @@ impl<S: DeskStore> Desk<S> {
 
     /// A letter comes. One of a site that the catalogue doesn't have, and one that no site sends, are passed over.
     pub fn take(&mut self, letter: &Letter) -> Result<Out, Refusal>
-        ensures clean { S.is_clean self.new.store → S.is_clean self.old.store }
-        ensures counts { S.refused self.old.store ≤ S.refused self.new.store }
-        ensures keeps { S.is_clean self.new.store → S.is_sound self.old.store → S.is_sound self.new.store }
-        ensures ok { (db : Database) (reply : Reply) → IsOfCatalogue db → db.catalogue ≡ catalogue_of self.old.catalog → S.is_clean self.new.store → S.is_sound self.old.store → Fits db (S.kept self.old.store) (table_of self.old.present)
-            → letter.now.body ≡ bodies.Reply reply → list_any (λ site. pointwise nat_eq site letter.now.site) db.sites ≡ true
-            → IfOk result (λ out. Takes db (table_of self.old.present) (S.kept self.new.store) (table_of self.new.present) letter.now.txn
-            (λ choice. on_desk_letter (txn_name letter.now.txn) letter.now.site out.kept choice (replied db reply) (txn_in db (table_of self.old.present) letter.now.txn)) out.letters out.replies) }
-        ensures strange { is_strange self.old.catalog.0 letter.now ≡ true → IsOk result × ((self.new.present ≡ self.old.present) × (self.new.store ≡ self.old.store)) }
-        ensures silent { is_strange self.old.catalog.0 letter.now ≡ true → IfOk result (λ out. (out.letters ≡ []) × (out.replies ≡ []) × (out.kept ≡ true)) }
+        ensures takes { TakesLetter S.is_clean S.is_sound S.kept S.refused self.old self.new letter.now true result }
         ensures refusal { IfOk result (λ out. out.kept ≡ false → HasRefused (S.refused self.old.store) (S.refused self.new.store)) }
-        ensures own { IfErr result (λ told. (told ≡ refusals.Memory) ⊎ (told ≡ refusals.Full)) }
-        ensures full { (db : Database) (reply : Reply) → IsOfCatalogue db → db.catalogue ≡ catalogue_of self.old.catalog → Fits db (S.kept self.old.store) (table_of self.old.present)
-            → letter.now.body ≡ bodies.Reply reply → list_any (λ site. pointwise nat_eq site letter.now.site) db.sites ≡ true → result ≡ Err refusals.Full
-            → IsPastLimits db (table_of self.old.present) letter.now.txn (λ choice. on_desk_letter (txn_name letter.now.txn) letter.now.site true choice (replied db reply) (txn_in db (table_of self.old.present) letter.now.txn)) }
-        ensures full_at { (reply : Reply) → letter.now.body ≡ bodies.Reply reply → result ≡ Err refusals.Full → may_send ((table_of self.old.present).standing letter.now.txn) letter.now.site reply ≡ true }
-        ensures err { OnErr result (table_of self.new.present ≡ table_of self.old.present) }
-        ensures same { S.is_clean self.new.store → S.is_sound self.old.store → OnErr result (IsUnchanged (S.kept self.old.store) (S.kept self.new.store)) }
-        ensures catalog { self.new.catalog ≡ self.old.catalog }
     {
         self.take_kept(letter, true)
     }
 
     /// So, but where `kept` is false the store isn't called, and counts as having refused.
     pub fn take_kept(&mut self, letter: &Letter, kept: bool) -> Result<Out, Refusal>
-        ensures clean { S.is_clean self.new.store → S.is_clean self.old.store }
-        ensures counts { S.refused self.old.store ≤ S.refused self.new.store }
-        ensures keeps { S.is_clean self.new.store → S.is_sound self.old.store → S.is_sound self.new.store }
-        ensures uncalled { kept ≡ false → self.new.store ≡ self.old.store }
-        ensures ok { (db : Database) (reply : Reply) → IsOfCatalogue db → db.catalogue ≡ catalogue_of self.old.catalog → S.is_clean self.new.store → S.is_sound self.old.store → Fits db (S.kept self.old.store) (table_of self.old.present)
-            → letter.now.body ≡ bodies.Reply reply → list_any (λ site. pointwise nat_eq site letter.now.site) db.sites ≡ true
-            → IfOk result (λ out. Takes db (table_of self.old.present) (S.kept self.new.store) (table_of self.new.present) letter.now.txn
-            (λ choice. on_desk_letter (txn_name letter.now.txn) letter.now.site out.kept choice (replied db reply) (txn_in db (table_of self.old.present) letter.now.txn)) out.letters out.replies) }
-        ensures strange { is_strange self.old.catalog.0 letter.now ≡ true → IsOk result × ((self.new.present ≡ self.old.present) × (self.new.store ≡ self.old.store)) }
-        ensures silent { is_strange self.old.catalog.0 letter.now ≡ true → IfOk result (λ out. (out.letters ≡ []) × (out.replies ≡ []) × (out.kept ≡ true)) }
-        ensures refusal { IfOk result (λ out. out.kept ≡ false → (kept ≡ false) ⊎ HasRefused (S.refused self.old.store) (S.refused self.new.store)) }
-        ensures own { IfErr result (λ told. (told ≡ refusals.Memory) ⊎ (told ≡ refusals.Full)) }
-        ensures full { (db : Database) (reply : Reply) → IsOfCatalogue db → db.catalogue ≡ catalogue_of self.old.catalog → Fits db (S.kept self.old.store) (table_of self.old.present)
-            → letter.now.body ≡ bodies.Reply reply → list_any (λ site. pointwise nat_eq site letter.now.site) db.sites ≡ true → result ≡ Err refusals.Full
-            → IsPastLimits db (table_of self.old.present) letter.now.txn (λ choice. on_desk_letter (txn_name letter.now.txn) letter.now.site true choice (replied db reply) (txn_in db (table_of self.old.present) letter.now.txn)) }
-        ensures full_at { (reply : Reply) → letter.now.body ≡ bodies.Reply reply → result ≡ Err refusals.Full → may_send ((table_of self.old.present).standing letter.now.txn) letter.now.site reply ≡ true }
-        ensures err { OnErr result (table_of self.new.present ≡ table_of self.old.present) }
-        ensures same { S.is_clean self.new.store → S.is_sound self.old.store → OnErr result (IsUnchanged (S.kept self.old.store) (S.kept self.new.store)) }
-        ensures catalog { self.new.catalog ≡ self.old.catalog }
+        ensures takes { TakesLetter S.is_clean S.is_sound S.kept S.refused self.old self.new letter.now kept result }
     {
         let Body::Reply(reply) = &letter.body else {
             return Ok(passed_over(self.present.alloc));
@@ -230,46 +197,18 @@ impl<S: DeskStore> Desk<S> {
     /// Restarts: undecided transactions abort and acknowledgements are lost, the next life begins, and who
     /// voted YES of a decided transaction hears Commit again. On a refusal nothing has changed.
     pub fn restart(&mut self) -> Result<Out, Refusal>
-        ensures clean { S.is_clean self.new.store → S.is_clean self.old.store }
-        ensures counts { S.refused self.old.store ≤ S.refused self.new.store }
-        ensures sound { S.is_clean self.new.store → OnOk result (S.is_sound self.new.store) }
-        ensures keeps { S.is_clean self.new.store → S.is_sound self.old.store → S.is_sound self.new.store }
-        ensures ok { (db : Database) → S.is_clean self.new.store → S.is_sound self.old.store → Fits db (S.kept self.old.store) (table_of self.old.present)
-            → IfOk result (λ out. Restarts db (table_of self.old.present) (S.kept self.new.store) (table_of self.new.present) out.letters out.replies) }
-        ensures rises { (db : Database) → S.is_clean self.new.store → OnOk result (Rises db (S.kept self.new.store) (table_of self.new.present)) }
-        ensures kept { IfOk result (λ out. out.kept ≡ true) }
-        ensures life { S.is_clean self.new.store → S.is_sound self.old.store → OnOk result (BeginsLife (S.kept self.old.store) (S.kept self.new.store)) }
-        ensures err { OnErr result (table_of self.new.present ≡ table_of self.old.present) }
-        ensures same { S.is_clean self.new.store → S.is_sound self.old.store → OnErr result (IsUnchanged (S.kept self.old.store) (S.kept self.new.store)) }
+        ensures restarts { RestartsDesk S.is_clean S.is_sound S.kept S.refused self.old self.new result }
         ensures refusal { result ≡ Err (refusals.Store store_faults.Refused) → HasRefused (S.refused self.old.store) (S.refused self.new.store) }
-        ensures full { S.is_clean self.new.store → result ≡ Err refusals.Full → 2 ^ 63 ≤ (S.kept self.new.store).life + 1 }
-        ensures damaged { S.is_clean self.new.store → S.is_sound self.old.store → result ≡ Err (refusals.Store store_faults.Damaged) → IsStrange (S.kept self.new.store) }
-        ensures own { IfErr result (λ told. (told ≡ refusals.Memory) ⊎ (told ≡ refusals.Full) ⊎ (told ≡ refusals.Store store_faults.Refused) ⊎ (told ≡ refusals.Store store_faults.Damaged)) }
-        ensures catalog { self.new.catalog ≡ self.old.catalog }
     {
         self.restart_kept(true)
     }
 
     /// So, but where `kept` is false the store isn't called, and counts as having refused.
     pub fn restart_kept(&mut self, kept: bool) -> Result<Out, Refusal>
-        ensures clean { S.is_clean self.new.store → S.is_clean self.old.store }
-        ensures counts { S.refused self.old.store ≤ S.refused self.new.store }
-        ensures sound { S.is_clean self.new.store → OnOk result (S.is_sound self.new.store) }
-        ensures keeps { S.is_clean self.new.store → S.is_sound self.old.store → S.is_sound self.new.store }
+        ensures restarts { RestartsDesk S.is_clean S.is_sound S.kept S.refused self.old self.new result }
         ensures uncalled { kept ≡ false → self.new.store ≡ self.old.store }
-        ensures ok { (db : Database) → S.is_clean self.new.store → S.is_sound self.old.store → Fits db (S.kept self.old.store) (table_of self.old.present)
-            → IfOk result (λ out. Restarts db (table_of self.old.present) (S.kept self.new.store) (table_of self.new.present) out.letters out.replies) }
-        ensures rises { (db : Database) → S.is_clean self.new.store → OnOk result (Rises db (S.kept self.new.store) (table_of self.new.present)) }
-        ensures kept { IfOk result (λ out. out.kept ≡ true) }
         ensures called { OnOk result (kept ≡ true) }
-        ensures life { S.is_clean self.new.store → S.is_sound self.old.store → OnOk result (BeginsLife (S.kept self.old.store) (S.kept self.new.store)) }
-        ensures err { OnErr result (table_of self.new.present ≡ table_of self.old.present) }
-        ensures same { S.is_clean self.new.store → S.is_sound self.old.store → OnErr result (IsUnchanged (S.kept self.old.store) (S.kept self.new.store)) }
         ensures refusal { result ≡ Err (refusals.Store store_faults.Refused) → (kept ≡ false) ⊎ HasRefused (S.refused self.old.store) (S.refused self.new.store) }
-        ensures full { S.is_clean self.new.store → result ≡ Err refusals.Full → 2 ^ 63 ≤ (S.kept self.new.store).life + 1 }
-        ensures damaged { S.is_clean self.new.store → S.is_sound self.old.store → result ≡ Err (refusals.Store store_faults.Damaged) → IsStrange (S.kept self.new.store) }
-        ensures own { IfErr result (λ told. (told ≡ refusals.Memory) ⊎ (told ≡ refusals.Full) ⊎ (told ≡ refusals.Store store_faults.Refused) ⊎ (told ≡ refusals.Store store_faults.Damaged)) }
-        ensures catalog { self.new.catalog ≡ self.old.catalog }
     {
         if !kept {
             return Err(Refusal::Store(StoreFault::Refused));
@@ -279,9 +218,8 @@ impl<S: DeskStore> Desk<S> {
 
     /// All that the store keeps.
     pub fn kept(&mut self) -> Result<DeskKept, Refusal>
-        ensures clean { S.is_clean self.new.store → S.is_clean self.old.store }
-        ensures counts { S.refused self.old.store ≤ S.refused self.new.store }
-        ensures keeps { S.is_clean self.new.store → S.is_sound self.old.store → S.is_sound self.new.store }
+        ensures leaves_store { LeavesStore S.is_clean S.is_sound S.refused self.old.store self.new.store }
+        ensures learnt { S.is_clean self.new.store → OnOk result (S.is_sound self.old.store) }
         ensures all { S.is_clean self.new.store → IfOk result (Lists (S.kept self.new.store)) }
         ensures same { S.is_clean self.new.store → S.is_sound self.old.store → IsUnchanged (S.kept self.old.store) (S.kept self.new.store) }
         ensures memory { self.new.present ≡ self.old.present }

@@ -8,6 +8,7 @@ ghost use Rattle.store.specs.Name.{txn_cmp};
 ghost use Rattle.store.specs.declared.fault.StoreFault.TheVariants as store_faults;
 ghost use Rattle.desk.specs.declared.refusal.Refusal.TheVariants as refusals;
 ghost use Rattle.desk.specs.Database.{Database};
+ghost use Rattle.desk.specs.Frame.{BeginsOrFails};
 ghost use Rattle.desk.specs.Starting.{IsStrange, Restarts, Rises, SendsAgain, are_begun, commits_again, lost_among, row_standing, stood_by};
 ghost use Rattle.desk.specs.State.{Fits, table_from, table_of};
 
@@ -97,19 +98,11 @@ pub(crate) fn lost(present: &Present) -> Result<Vec<Notice>, Memory>
 
 /// Loads what the store keeps, and begins the next life. On a refusal nothing has changed.
 pub(crate) fn begin<S: DeskStore>(store: &mut S, alloc: Global) -> Result<Beginning, Refusal>
-    ensures clean { S.is_clean store.new → S.is_clean store.old }
-    ensures counts { S.refused store.old ≤ S.refused store.new }
-    ensures sound { S.is_clean store.new → OnOk result (S.is_sound store.new) }
-    ensures keeps { S.is_clean store.new → S.is_sound store.old → S.is_sound store.new }
+    ensures begins { BeginsOrFails S.is_clean S.is_sound S.kept S.refused store.old store.new result }
     ensures rises { (db : Database) → S.is_clean store.new → IfOk result (λ begun. Rises db (S.kept store.new) (table_from begun.standings.entries 0 begun.life 0)) }
     ensures letters { S.is_clean store.new → IfOk result (λ begun. SendsAgain (S.kept store.new) begun.letters.items) }
     ensures ordered { IfOk result (λ begun. IsOrdered txn_cmp begun.standings) }
-    ensures life { S.is_clean store.new → S.is_sound store.old → OnOk result (BeginsLife (S.kept store.old) (S.kept store.new)) }
-    ensures same { S.is_clean store.new → S.is_sound store.old → OnErr result (IsUnchanged (S.kept store.old) (S.kept store.new)) }
     ensures refusal { result ≡ Err (refusals.Store store_faults.Refused) → HasRefused (S.refused store.old) (S.refused store.new) }
-    ensures full { S.is_clean store.new → result ≡ Err refusals.Full → 2 ^ 63 ≤ (S.kept store.new).life + 1 }
-    ensures damaged { S.is_clean store.new → S.is_sound store.old → result ≡ Err (refusals.Store store_faults.Damaged) → IsStrange (S.kept store.new) }
-    ensures own { IfErr result (λ refusal. (refusal ≡ refusals.Memory) ⊎ (refusal ≡ refusals.Full) ⊎ (refusal ≡ refusals.Store store_faults.Refused) ⊎ (refusal ≡ refusals.Store store_faults.Damaged)) }
 {
     let all = match store.load() {
         Ok(all) => all,
@@ -136,21 +129,13 @@ pub(crate) fn begin<S: DeskStore>(store: &mut S, alloc: Global) -> Result<Beginn
 /// The coordinator restarts: who was undecided is lost, and the next life begins. On a refusal nothing has
 /// changed.
 pub(crate) fn restart<S: DeskStore>(store: &mut S, present: &mut Present) -> Result<Out, Refusal>
-    ensures clean { S.is_clean store.new → S.is_clean store.old }
-    ensures counts { S.refused store.old ≤ S.refused store.new }
-    ensures sound { S.is_clean store.new → OnOk result (S.is_sound store.new) }
-    ensures keeps { S.is_clean store.new → S.is_sound store.old → S.is_sound store.new }
-    ensures ok { (db : Database) → S.is_clean store.new → S.is_sound store.old → Fits db (S.kept store.old) (table_of present.old)
+    ensures begins { BeginsOrFails S.is_clean S.is_sound S.kept S.refused store.old store.new result }
+    ensures ok { (db : Database) → S.is_clean store.new → Fits db (S.kept store.old) (table_of present.old)
         → IfOk result (λ out. Restarts db (table_of present.old) (S.kept store.new) (table_of present.new) out.letters out.replies) }
     ensures rises { (db : Database) → S.is_clean store.new → OnOk result (Rises db (S.kept store.new) (table_of present.new)) }
     ensures kept { IfOk result (λ out. out.kept ≡ true) }
-    ensures life { S.is_clean store.new → S.is_sound store.old → OnOk result (BeginsLife (S.kept store.old) (S.kept store.new)) }
     ensures err { OnErr result (table_of present.new ≡ table_of present.old) }
-    ensures same { S.is_clean store.new → S.is_sound store.old → OnErr result (IsUnchanged (S.kept store.old) (S.kept store.new)) }
     ensures refusal { result ≡ Err (refusals.Store store_faults.Refused) → HasRefused (S.refused store.old) (S.refused store.new) }
-    ensures full { S.is_clean store.new → result ≡ Err refusals.Full → 2 ^ 63 ≤ (S.kept store.new).life + 1 }
-    ensures damaged { S.is_clean store.new → S.is_sound store.old → result ≡ Err (refusals.Store store_faults.Damaged) → IsStrange (S.kept store.new) }
-    ensures own { IfErr result (λ refusal. (refusal ≡ refusals.Memory) ⊎ (refusal ≡ refusals.Full) ⊎ (refusal ≡ refusals.Store store_faults.Refused) ⊎ (refusal ≡ refusals.Store store_faults.Damaged)) }
 {
     let replies = lost(present)?;
     match begin(store, present.alloc) {

@@ -1,19 +1,19 @@
 //! Letters of sites by which no statement goes on.
 
-ghost use Rattle.std.specs.Prelude.{◌≤◌, ◌≡◌, ◌≢◌, ◌⊎◌, ◌<◌, [], true, false, Option, None, Some, is_some, vec_len, IfOk, IfErr, OnErr};
+ghost use Rattle.std.specs.Prelude.{◌≡◌, ◌≢◌, ◌⊎◌, ◌<◌, [], true, false, Option, None, Some, is_some, vec_len, IfOk, IfErr, OnErr};
 ghost use Rattle.std.specs.Option.{option_copied};
 ghost use Rattle.reader.specs.Printable.{AreDistinct};
-ghost use Rattle.protocol.specs.Desk.{Choice, on_desk_letter, on_known, stays as unchanged};
+ghost use Rattle.protocol.specs.Desk.{Choice, Known, on_desk_letter, on_known, stays as unchanged};
 ghost use Rattle.protocol.specs.Letters.{txn_name};
-ghost use Rattle.store.specs.DeskContent.{IsUnchanged};
-ghost use Rattle.store.specs.Fault.{HasRefused};
 ghost use Rattle.store.specs.declared.reply.Reply.TheVariants as replies;
 ghost use Rattle.desk.specs.declared.refusal.Refusal.TheVariants as refusals;
 ghost use Rattle.desk.specs.declared.standing.Standing.{Standing as StandingNow};
 ghost use Rattle.desk.specs.declared.standing.Standing.TheVariants as standings;
 ghost use Rattle.desk.specs.declared.turn.After.TheVariants as after;
+ghost use Rattle.desk.specs.Called.{CallsStore};
 ghost use Rattle.desk.specs.Calls.{IsAt, txn_in};
 ghost use Rattle.desk.specs.Database.{Database, language, replied};
+ghost use Rattle.desk.specs.Frame.{StepsStore};
 ghost use Rattle.desk.specs.Spots.{sites_of, spot_in};
 ghost use Rattle.desk.specs.Standing.{txn_of, undecided_of};
 ghost use Rattle.desk.specs.State.{Fits, Steps, table_of};
@@ -105,18 +105,14 @@ fn on_open<S: DeskStore>(
     kept: bool,
 ) -> Result<Turn, Memory>
     requires { goes_on (spot_in site.now undecided.now.spots).ticket reply.now ≡ false }
-    ensures clean { S.is_clean store.new → S.is_clean store.old }
-    ensures counts { S.refused store.old ≤ S.refused store.new }
-    ensures sound { S.is_clean store.new → S.is_sound store.old → S.is_sound store.new }
-    ensures uncalled { kept ≡ false → store.new ≡ store.old }
+    ensures store { StepsStore S.is_clean S.is_sound S.kept S.refused store.old store.new kept result (λ turn. turn.kept)
+        ((db : Database) → AreSpots db undecided.now.spots → CallsStore {L = language db} site.now (replied db reply.now) (Known (undecided_of db undecided.now))) }
     ensures turn { (db : Database) (choice : Choice (language db)) → AreSpots db undecided.now.spots
         → IfOk result (λ turn. IsTurn db txn (Some (standings.Undecided undecided.now)) turn
         (on_known (txn_name txn) (undecided_of db undecided.now) site.now turn.kept choice (replied db reply.now))) }
     ensures sites { IfOk result (λ turn. AtSites (sites_of undecided.now.spots) turn.after) }
     ensures keeps { (db : Database) → AreSpots db undecided.now.spots → S.is_clean store.new → S.is_sound store.old → (S.kept store.old).commits txn ≡ None
         → IfOk result (λ turn. Keeps txn (kept_voters (after_of (Some (standings.Undecided undecided.now)) turn.after)) (S.kept store.old) (S.kept store.new)) }
-    ensures refusal { IfOk result (λ turn. turn.kept ≡ false → (kept ≡ false) ⊎ HasRefused (S.refused store.old) (S.refused store.new)) }
-    ensures same { S.is_clean store.new → S.is_sound store.old → OnErr result (IsUnchanged (S.kept store.old) (S.kept store.new)) }
 {
     match reply {
         Reply::Voted(voted) => on_vote(store, alloc, txn, undecided, site, *voted, kept),
@@ -138,18 +134,14 @@ fn step<S: DeskStore>(
     kept: bool,
 ) -> Result<Turn, Memory>
     requires { may_send ((table_of present.now).standing txn) site.now reply.now ≡ false }
-    ensures clean { S.is_clean store.new → S.is_clean store.old }
-    ensures counts { S.refused store.old ≤ S.refused store.new }
-    ensures sound { S.is_clean store.new → S.is_sound store.old → S.is_sound store.new }
-    ensures uncalled { kept ≡ false → store.new ≡ store.old }
+    ensures store { StepsStore S.is_clean S.is_sound S.kept S.refused store.old store.new kept result (λ turn. turn.kept)
+        ((db : Database) → IsAt db ((table_of present.now).standing txn) → CallsStore {L = language db} site.now (replied db reply.now) (txn_in db (table_of present.now) txn)) }
     ensures turn { (db : Database) (choice : Choice (language db)) → IsAt db ((table_of present.now).standing txn)
         → IfOk result (λ turn. IsTurn db txn ((table_of present.now).standing txn) turn (on_desk_letter (txn_name txn) site.now turn.kept choice (replied db reply.now) (txn_in db (table_of present.now) txn))) }
     ensures sites { (db : Database) → IsAt db ((table_of present.now).standing txn) → IfOk result (λ turn. AtSites db.sites turn.after) }
     ensures keeps { (db : Database) → IsAt db ((table_of present.now).standing txn) → S.is_clean store.new → S.is_sound store.old → (S.kept store.old).commits txn ≡ kept_voters ((table_of present.now).standing txn)
         → IfOk result (λ turn. Keeps txn (kept_voters (after_of ((table_of present.now).standing txn) turn.after)) (S.kept store.old) (S.kept store.new)) }
     ensures stands { IfOk result (λ turn. (is_some ((table_of present.now).standing txn) ≡ true) ⊎ (turn.after ≡ after.Stays)) }
-    ensures refusal { IfOk result (λ turn. turn.kept ≡ false → (kept ≡ false) ⊎ HasRefused (S.refused store.old) (S.refused store.new)) }
-    ensures same { S.is_clean store.new → S.is_sound store.old → OnErr result (IsUnchanged (S.kept store.old) (S.kept store.new)) }
 {
     let alloc = present.alloc;
     match present.standing(&txn) {
@@ -173,16 +165,12 @@ pub(crate) fn take<S: DeskStore>(
     kept: bool,
 ) -> Result<Out, Refusal>
     requires { may_send ((table_of present.old).standing txn) site.now reply.now ≡ false }
-    ensures clean { S.is_clean store.new → S.is_clean store.old }
-    ensures counts { S.refused store.old ≤ S.refused store.new }
-    ensures sound { S.is_clean store.new → S.is_sound store.old → S.is_sound store.new }
-    ensures uncalled { kept ≡ false → store.new ≡ store.old }
+    ensures store { StepsStore S.is_clean S.is_sound S.kept S.refused store.old store.new kept result (λ out. out.kept)
+        ((db : Database) → AreDistinct db.sites → Fits db (S.kept store.old) (table_of present.old) → CallsStore {L = language db} site.now (replied db reply.now) (txn_in db (table_of present.old) txn)) }
     ensures ok { (db : Database) (choice : Choice (language db)) → AreDistinct db.sites → S.is_clean store.new → S.is_sound store.old → Fits db (S.kept store.old) (table_of present.old)
         → IfOk result (λ out. Steps db (table_of present.old) (S.kept store.new) (table_of present.new) txn (on_desk_letter (txn_name txn) site.now out.kept choice (replied db reply.now) (txn_in db (table_of present.old) txn)) out.letters out.replies) }
-    ensures refusal { IfOk result (λ out. out.kept ≡ false → (kept ≡ false) ⊎ HasRefused (S.refused store.old) (S.refused store.new)) }
     ensures own { IfErr result (λ told. told ≡ refusals.Memory) }
     ensures err { OnErr result (table_of present.new ≡ table_of present.old) }
-    ensures same { S.is_clean store.new → S.is_sound store.old → OnErr result (IsUnchanged (S.kept store.old) (S.kept store.new)) }
 {
     let room = room(present.alloc)?;
     let turn = step(store, present, txn, site, reply, kept)?;

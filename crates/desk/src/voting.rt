@@ -1,14 +1,15 @@
 //! The first phase: votes, and the decision.
 
-ghost use Rattle.std.specs.Prelude.{◌≤◌, ◌≡◌, ◌⊎◌, ℕ, List, ◌==◌, ◌<◌, length, map, false, true, None, Option, IfOk, OnErr};
+ghost use Rattle.std.specs.Prelude.{◌≡◌, ⊤, ℕ, List, ◌==◌, ◌<◌, length, map, false, true, None, Option, IfOk};
 ghost use Rattle.protocol.specs.Desk.{By_store, decides, ends_by, votes_go};
 ghost use Rattle.protocol.specs.Desk as protocol;
 ghost use Rattle.protocol.specs.Letters.{txn_name};
-ghost use Rattle.store.specs.DeskContent.{AreVoters, IsUnchanged};
-ghost use Rattle.store.specs.Fault.{HasRefused};
+ghost use Rattle.store.specs.DeskContent.{AreVoters};
 ghost use Rattle.desk.specs.declared.standing.Standing.{Standing as StandingNow};
 ghost use Rattle.desk.specs.declared.turn.After.TheVariants.{Ends};
+ghost use Rattle.desk.specs.Called.{Decides};
 ghost use Rattle.desk.specs.Database.{Database};
+ghost use Rattle.desk.specs.Frame.{StepsStore};
 ghost use Rattle.desk.specs.Spots.{sites_of};
 ghost use Rattle.desk.specs.Standing.{undecided_of, voter_of, votes_of};
 ghost use Rattle.desk.specs.Turn.{AreSpots, AtSites, IsTurn, after_of, commits_now, voting};
@@ -40,17 +41,13 @@ pub(crate) fn votes_go<S: DeskStore>(
     spots: Vec<Spot>,
     kept: bool,
 ) -> Result<Turn, Memory>
-    ensures clean { S.is_clean store.new → S.is_clean store.old }
-    ensures counts { S.refused store.old ≤ S.refused store.new }
-    ensures sound { S.is_clean store.new → S.is_sound store.old → S.is_sound store.new }
-    ensures uncalled { kept ≡ false → store.new ≡ store.old }
+    ensures store { StepsStore S.is_clean S.is_sound S.kept S.refused store.old store.new kept result (λ turn. turn.kept)
+        ((db : Database) → AreSpots db spots.items → Decides (undecided_of db (voting spots.items)) (votes_of spots.items)) }
     ensures turn { (db : Database) (old : Option StandingNow) → AreSpots db spots.items
         → IfOk result (λ turn. IsTurn db txn old turn (votes_go (txn_name txn) (undecided_of db (voting spots.items)) (votes_of spots.items) turn.kept)) }
     ensures sites { IfOk result (λ turn. AtSites (sites_of spots.items) turn.after) }
     ensures keeps { (db : Database) (old : Option StandingNow) → AreSpots db spots.items → kept_voters old ≡ None → S.is_clean store.new → S.is_sound store.old → (S.kept store.old).commits txn ≡ None
         → IfOk result (λ turn. Keeps txn (kept_voters (after_of old turn.after)) (S.kept store.old) (S.kept store.new)) }
-    ensures refusal { IfOk result (λ turn. turn.kept ≡ false → (kept ≡ false) ⊎ HasRefused (S.refused store.old) (S.refused store.new)) }
-    ensures same { S.is_clean store.new → S.is_sound store.old → OnErr result (IsUnchanged (S.kept store.old) (S.kept store.new)) }
 {
     if !are_all_in(&spots) {
         return Ok(becomes(alloc, Standing::Undecided(voting(spots))));
@@ -93,7 +90,8 @@ pub(crate) fn commits_at_once(alloc: Global) -> Turn
     }
 }
 
-/// Keeps the commit row, and then each voter hears Commit; a transaction whose row isn't kept aborts.
+/// Keeps the commit row, and then each voter hears Commit; a transaction whose row isn't kept aborts. The
+/// letters are made before the store is called.
 fn decides<S: DeskStore>(
     store: &mut S,
     alloc: Global,
@@ -102,20 +100,17 @@ fn decides<S: DeskStore>(
     voters: Vec<Voter>,
     kept: bool,
 ) -> Result<Turn, Memory>
-    ensures clean { S.is_clean store.new → S.is_clean store.old }
-    ensures counts { S.refused store.old ≤ S.refused store.new }
-    ensures sound { S.is_clean store.new → S.is_sound store.old → S.is_sound store.new }
-    ensures uncalled { kept ≡ false → store.new ≡ store.old }
+    ensures store { StepsStore S.is_clean S.is_sound S.kept S.refused store.old store.new kept result (λ turn. turn.kept)
+        (⊤) }
     ensures turn { (db : Database) (old : Option StandingNow) → AreSpots db spots.now → 0 < length voters.items
         → IfOk result (λ turn. IsTurn db txn old turn (decides (txn_name txn) (undecided_of db (voting spots.now)) turn.kept (map voter_of voters.items))) }
     ensures sites { (sites : List (List ℕ)) → IfOk result (λ turn. AtSites sites turn.after) }
     ensures keeps { (old : Option StandingNow) → AreVoters voters.items → S.is_clean store.new → S.is_sound store.old → (S.kept store.old).commits txn ≡ None
         → IfOk result (λ turn. Keeps txn (kept_voters (after_of old turn.after)) (S.kept store.old) (S.kept store.new)) }
-    ensures refusal { IfOk result (λ turn. turn.kept ≡ false → (kept ≡ false) ⊎ HasRefused (S.refused store.old) (S.refused store.new)) }
-    ensures same { S.is_clean store.new → S.is_sound store.old → OnErr result (IsUnchanged (S.kept store.old) (S.kept store.new)) }
 {
+    let aborts = unkept(alloc, txn, spots)?;
     if !kept {
-        return unkept(alloc, txn, spots);
+        return Ok(aborts);
     }
     let letters = commit_letters(alloc, txn, &voters)?;
     match store.keep_commit(txn, &voters) {
@@ -129,7 +124,7 @@ fn decides<S: DeskStore>(
             kept: true,
         }),
         Err(StoreFault::Memory) => Err(Memory),
-        Err(_) => unkept(alloc, txn, spots),
+        Err(_) => Ok(aborts),
     }
 }
 

@@ -1,8 +1,9 @@
 -- Why `on_ack` meets its contract.
-use Rattle.std.proofs.Common.{Some, map, refl, sym, ap, ◌∙◌}
+use Rattle.std.proofs.Common.{Some, map, refl, sym, ap, ◌∙◌, inl, inr, arith, rules}
 use Rattle.desk.specs.declared.standing.Standing.TheVariants as standing
 use Rattle.desk.specs.Database.{sent}
 use Rattle.desk.proofs.Acknowledged.{old_ack, one_ack, last_ack, lost_ack}
+use Rattle.desk.proofs.Called.{ack_calls}
 use Rattle.desk.proofs.acking.on_ack.Goals as goal
 
 pub returns-then-not-is_new-clause-turn : goal.returns-then-not-is_new-clause-turn
@@ -28,3 +29,21 @@ pub returns-clause-turn : goal.returns-clause-turn
 returns-clause-turn g c = λ db.
     lost_ack db c.args.committed.now c.args.site.now c.args.ticket c.args.txn c.stays-in-Err.result c.in_ok-more.more c.in_ok-more.ensures (sym c.is_new.ensures ∙ c.if-not-is_new.false) (sym c.is_done.ensures ∙ c.if-not-is_done.false) c.stays-in-Err.ensures.kept
     (c.stays-in-Err.ensures.turn db c.args.txn (Some (standing.Committed c.args.committed.now)))
+
+pub returns-then-not-kept-clause-store : goal.returns-then-not-kept-clause-store
+returns-then-not-kept-clause-store g c = record {
+  leaves = record { clean = λ clean. clean; counts = omega arith; sound = λ clean sound. sound };
+  uncalled = λ unmade. refl;
+  same = λ clean sound. tt;
+  called = λ unkept db. ack_calls db c.args.committed.now c.args.site.now c.args.ticket c.in_ok-more.more c.in_ok-more.ensures (sym c.is_new.ensures ∙ c.if-not-is_new.false) (sym c.is_done.ensures ∙ c.if-not-is_done.false);
+  refusal = λ unkept. inl c.if-not-kept.true;
+}
+
+pub returns-clause-store : goal.returns-clause-store
+returns-clause-store g c = record {
+  leaves = c.drop_commit.ensures.leaves;
+  uncalled = λ unmade. (let made = c.if-not-kept.false in cc);
+  same = λ clean sound. tt;
+  called = λ unkept db. ack_calls db c.args.committed.now c.args.site.now c.args.ticket c.in_ok-more.more c.in_ok-more.ensures (sym c.is_new.ensures ∙ c.if-not-is_new.false) (sym c.is_done.ensures ∙ c.if-not-is_done.false);
+  refusal = λ unkept. inr (search rules);
+}

@@ -20,3 +20,6 @@ returns-in-Refused-clause-turn g c = λ db. rw c.in-Refused.is (c.stays-in-Refus
 
 pub returns-in-Voted-clause-turn : goal.returns-in-Voted-clause-turn
 returns-in-Voted-clause-turn g c = λ db. rw c.in-Voted.is (c.stays-in-Voted.ensures.turn db c.args.txn (Some (standing.Committed c.args.committed.now)))
+
+pub returns-in-Ack-clause-store : goal.returns-in-Ack-clause-store
+returns-in-Ack-clause-store g c = rw c.in-Ack.is c.on_ack.ensures.store

@@ -7,6 +7,7 @@ use Rattle.desk.specs.declared.undecided.Stage.TheVariants.{Voting}
 use Rattle.desk.specs.Ballots.{counts_vote}
 use Rattle.desk.specs.Spots.{changed_at, sites_of, with_vote}
 use Rattle.desk.proofs.Acknowledged.{turn_as, unchanged}
+use Rattle.desk.proofs.Called.{steps_as, vote_calls}
 use Rattle.desk.proofs.Counted.{at_same, copied_vote, no_turn, vote_lost, vote_turn, voted_are, voted_sites}
 use Rattle.desk.proofs.Decisions.{ended_keeps}
 use Rattle.desk.proofs.ballots.on_vote.Goals as goal
@@ -55,3 +56,13 @@ returns-clause-sites g c =
     at_same c.votes_go.result (sites_of c.in_ok-spots.spots.items) (sites_of c.args.undecided.now.spots)
     (voted_sites c.args.site.now c.args.voted.vote c.args.undecided.now.spots c.in_ok-spots.spots.items (copied_vote c.args.site.now c.args.voted.vote c.in_ok-spots.spots.items c.in_ok-spots.spots.items c.as_slice.result.now c.args.undecided.now.spots refl c.in_ok-spots.ensures c.as_slice.ensures))
     c.votes_go.ensures.sites
+
+pub returns-clause-store : goal.returns-clause-store
+returns-clause-store g c =
+    let u = c.args.undecided.now in
+    let counts : counts_vote u c.args.site.now c.args.voted.ticket ≡ true = sym c.counts.ensures ∙ c.if-not-counts.false in
+    let same : c.in_ok-spots.spots.items ≡ map (changed_at c.args.site.now (with_vote (Some c.args.voted.vote))) u.spots = copied_vote c.args.site.now c.args.voted.vote c.in_ok-spots.spots.items c.in_ok-spots.spots.items c.as_slice.result.now c.args.undecided.now.spots refl c.in_ok-spots.ensures c.as_slice.ensures in
+    steps_as (λ called db are.
+    vote_calls db u c.args.site.now c.args.voted.ticket c.args.voted.vote counts (sym c.is_no.ensures ∙ c.if-is_no.false) c.in_ok-spots.spots.items same
+    (called db (voted_are db u.spots c.args.site.now c.args.voted.vote are c.in_ok-spots.spots.items same)))
+    c.votes_go.ensures.store

@@ -6,8 +6,9 @@ use Rattle.desk.proofs.starting.begin.Goals as goal
 
 pub returns-in-Ok-next_incarnation-clause-rises : goal.returns-in-Ok-next_incarnation-clause-rises
 returns-in-Ok-next_incarnation-clause-rises g c = λ db clean.
-    let before = c.next_incarnation.ensures.clean clean in
-    let sound = c.in-Ok.ensures.sound before in
+    let before = c.next_incarnation.ensures.leaves.clean clean in
+    let learnt = c.in-Ok.ensures.learnt before in
+    let sound = c.load.ensures.leaves.sound before learnt in
     let kept = g.S.DeskStore.kept c.load.new.self in
     let after = g.S.DeskStore.kept c.next_incarnation.new.self in
     let lists = c.in-Ok.ensures.all before in

@@ -6,12 +6,12 @@ use Rattle.desk.proofs.Restarted.{restarts}
 use Rattle.desk.proofs.starting.restart.Goals as goal
 
 pub returns-in-Ok-clause-ok : goal.returns-in-Ok-clause-ok
-returns-in-Ok-clause-ok g c = λ db clean sound fits.
+returns-in-Ok-clause-ok g c = λ db clean fits.
     let p = c.args.present.now in
     let old = g.S.DeskStore.kept c.args.store.now in
     let new = g.S.DeskStore.kept c.begin.new.store in
     restarts db old new p.standings.entries c.lost.ensures.ordered p.undecided p.life p.number fits (table_from c.in-Ok.begun.standings.entries 0 c.in-Ok.begun.life 0) c.in-Ok.ensures.ordered
-    (c.in-Ok.ensures.rises db clean) (c.in-Ok.ensures.life clean sound) (table_of c.rise.new.present) c.rise.result.letters c.rise.result.replies c.rise.ensures.begun
+    (c.in-Ok.ensures.rises db clean) (c.in-Ok.ensures.begins.life clean) (table_of c.rise.new.present) c.rise.result.letters c.rise.result.replies c.rise.ensures.begun
     (subst (SendsAgain new) (sym c.rise.ensures.letters) (c.in-Ok.ensures.letters clean)) (c.rise.ensures.replies ∙ c.in_ok-replies.ensures.notices)
 
 pub returns-in-Ok-clause-rises : goal.returns-in-Ok-clause-rises

@@ -22,3 +22,6 @@ returns-in-Ack-clause-turn g c = λ db choice are. rw c.in-Ack.is (c.stays-in-Ac
 
 pub returns-in-Inquire-clause-turn : goal.returns-in-Inquire-clause-turn
 returns-in-Inquire-clause-turn g c = λ db choice are. rw c.in-Inquire.is (c.unanswered.ensures.turn db c.args.txn (Some (standing.Undecided c.args.undecided.now)))
+
+pub returns-in-Voted-clause-store : goal.returns-in-Voted-clause-store
+returns-in-Voted-clause-store g c = rw c.in-Voted.is c.on_vote.ensures.store

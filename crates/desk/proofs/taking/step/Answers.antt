@@ -3,12 +3,14 @@ use Rattle.std.proofs.Common.{◌≡◌, Some, sym, ap, ◌∙◌, subst, IfOk}
 use Rattle.protocol.specs.Desk.{on_desk_letter}
 use Rattle.protocol.specs.Letters.{txn_name}
 use Rattle.desk.specs.declared.standing.Standing.TheVariants as standing
+use Rattle.desk.specs.Called.{CallsStore}
 use Rattle.desk.specs.Calls.{IsAt}
-use Rattle.desk.specs.Database.{replied}
+use Rattle.desk.specs.Database.{Database, language, replied}
 use Rattle.desk.specs.Standing.{txn_of}
 use Rattle.desk.specs.State.{table_of}
 use Rattle.desk.specs.Turn.{IsTurn, after_of}
 use Rattle.desk.specs.Voters.{Keeps, kept_voters}
+use Rattle.desk.proofs.Called.{steps_as}
 use Rattle.desk.proofs.taking.step.Goals as goal
 
 pub returns-in-None-clause-turn : goal.returns-in-None-clause-turn
@@ -37,3 +39,15 @@ returns-in-Some-Committed-clause-turn g c = λ db choice at.
     let is : Some (standing.Committed c.in-Some-Committed.committed) ≡ o = ap Some (sym c.in-Some-Committed.field-0-is) ∙ c.in-Some-Committed.ensures in
     subst (λ p. IfOk c.on_row.result (λ turn. IsTurn db c.args.txn p turn (on_desk_letter (txn_name c.args.txn) c.args.site.now turn.kept choice (replied db c.args.reply.now) (txn_of db p))))
     is (c.on_row.ensures.turn db)
+
+pub returns-in-Some-Undecided-clause-store : goal.returns-in-Some-Undecided-clause-store
+returns-in-Some-Undecided-clause-store g c =
+    let o = (table_of c.args.present.now).standing c.args.txn in
+    let is : Some (standing.Undecided c.in-Some-Undecided.undecided) ≡ o = ap Some (sym c.in-Some-Undecided.field-0-is) ∙ c.in-Some-Undecided.ensures in
+    steps_as (λ called. subst (λ p. (db : Database) → IsAt db p → CallsStore {L = language db} c.args.site.now (replied db c.args.reply.now) (txn_of db p)) is called) c.on_open.ensures.store
+
+pub returns-in-Some-Committed-clause-store : goal.returns-in-Some-Committed-clause-store
+returns-in-Some-Committed-clause-store g c =
+    let o = (table_of c.args.present.now).standing c.args.txn in
+    let is : Some (standing.Committed c.in-Some-Committed.committed) ≡ o = ap Some (sym c.in-Some-Committed.field-0-is) ∙ c.in-Some-Committed.ensures in
+    steps_as (λ called. subst (λ p. (db : Database) → IsAt db p → CallsStore {L = language db} c.args.site.now (replied db c.args.reply.now) (txn_of db p)) is (λ db at. called db)) c.on_row.ensures.store

@@ -1,6 +1,7 @@
 -- Why `take` meets its contract.
 use Rattle.desk.specs.State.{table_of}
-use Rattle.desk.proofs.Making.{takes}
+use Rattle.desk.proofs.Called.{steps_made}
+use Rattle.desk.proofs.Making.{is_at, takes}
 use Rattle.desk.proofs.taking.take.Goals as goal
 
 pub returns-clause-ok : goal.returns-clause-ok
@@ -9,3 +10,8 @@ returns-clause-ok g c = λ db choice distinct clean sound fits.
     c.requires (λ at. c.in_ok-turn.ensures.turn db choice at) (λ at. c.in_ok-turn.ensures.sites db at) (λ at rows. c.in_ok-turn.ensures.keeps db at clean sound rows) c.in_ok-turn.ensures.stands
     (table_of c.make.new.present) (record { moved = c.make.ensures.settled; still = c.make.ensures.still })
     c.make.result.letters c.make.result.replies c.make.result.kept c.make.ensures.letters (c.make.ensures.replies c.in_ok-room.ensures.empty) c.make.ensures.kept
+
+pub returns-clause-store : goal.returns-clause-store
+returns-clause-store g c =
+    steps_made c.in_ok-turn.turn c.make.result c.make.ensures.kept
+    (λ called db distinct fits. called db (is_at db (g.S.DeskStore.kept c.args.store.now) (table_of c.args.present.now) distinct fits c.args.txn)) c.in_ok-turn.ensures.store

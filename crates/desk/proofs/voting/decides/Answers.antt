@@ -1,5 +1,6 @@
 -- Why `decides` meets its contract.
-use Rattle.std.proofs.Common.{map, refl, sym, ap, ◌∙◌, subst}
+use Rattle.std.proofs.Common.{map, refl, sym, ap, ◌∙◌, subst, Ok}
+use Rattle.terms.specs.declared.memory.Memory.{Memory}
 use Rattle.store.specs.DeskContent.{AreVoters}
 use Rattle.protocol.specs.Desk.{Row}
 use Rattle.desk.specs.Database.{sent}
@@ -12,12 +13,12 @@ use Rattle.desk.proofs.voting.decides.Goals as goal
 
 pub returns-then-not-kept-clause-turn : goal.returns-then-not-kept-clause-turn
 returns-then-not-kept-clause-turn g c = λ db old are some.
-    unkept_is db c.args.txn old (undecided_of db (voting c.args.spots.now)) c.args.voters.items some c.unkept.result (c.unkept.ensures.turn db old are) c.unkept.ensures.kept
+    unkept_is db c.args.txn old (undecided_of db (voting c.args.spots.now)) c.args.voters.items some {E = Memory} (Ok c.in_ok-aborts.aborts) (c.in_ok-aborts.ensures.turn db old are) c.in_ok-aborts.ensures.kept
 
 pub returns-then-not-kept-clause-keeps : goal.returns-then-not-kept-clause-keeps
 returns-then-not-kept-clause-keeps g c = λ old are clean sound none.
     let kept = g.S.DeskStore.kept c.args.store.now in
-    ended_keeps c.args.txn old kept kept none (unchanged kept) c.unkept.result c.unkept.ensures.after
+    ended_keeps c.args.txn old kept kept none (unchanged kept) {E = Memory} (Ok c.in_ok-aborts.aborts) c.in_ok-aborts.ensures.after
 
 pub returns-in-Ok-clause-turn : goal.returns-in-Ok-clause-turn
 returns-in-Ok-clause-turn g c = λ db old are some.
@@ -35,8 +36,8 @@ returns-in-Ok-clause-keeps g c = λ old are clean sound none.
 
 pub returns-clause-turn : goal.returns-clause-turn
 returns-clause-turn g c = λ db old are some.
-    unkept_is db c.args.txn old (undecided_of db (voting c.args.spots.now)) c.args.voters.items some c.unkept-in-Err.result (c.unkept-in-Err.ensures.turn db old are) c.unkept-in-Err.ensures.kept
+    unkept_is db c.args.txn old (undecided_of db (voting c.args.spots.now)) c.args.voters.items some {E = Memory} (Ok c.in_ok-aborts.aborts) (c.in_ok-aborts.ensures.turn db old are) c.in_ok-aborts.ensures.kept
 
 pub returns-clause-keeps : goal.returns-clause-keeps
 returns-clause-keeps g c = λ old are clean sound none.
-    ended_keeps c.args.txn old (g.S.DeskStore.kept c.args.store.now) (g.S.DeskStore.kept c.keep_commit.new.self) none (c.in-Err.ensures.err clean sound) c.unkept-in-Err.result c.unkept-in-Err.ensures.after
+    ended_keeps c.args.txn old (g.S.DeskStore.kept c.args.store.now) (g.S.DeskStore.kept c.keep_commit.new.self) none (c.in-Err.ensures.fails.err clean sound) {E = Memory} (Ok c.in_ok-aborts.aborts) c.in_ok-aborts.ensures.after

@@ -9,6 +9,7 @@ use Rattle.desk.specs.Standing.{txn_of}
 use Rattle.desk.specs.Turn.{AreSpots, after_of}
 use Rattle.desk.specs.Voters.{Keeps, kept_voters, voters_among}
 use Rattle.desk.proofs.Acknowledged.{keeps_same, turn_as, unchanged}
+use Rattle.desk.proofs.Called.{decides_all, steps_as}
 use Rattle.desk.proofs.Decisions.{are_voters, decided_is, nobody, somebody, votes_decide, votes_wait}
 use Rattle.desk.proofs.voting.votes_go.Goals as goal
 
@@ -46,3 +47,11 @@ pub returns-clause-keeps : goal.returns-clause-keeps
 returns-clause-keeps g c = λ db old are nothing clean sound none.
     c.decides.ensures.keeps old (are_voters c.args.spots.items c.in_ok-voters.voters.items are.distinct (c.in_ok-voters.ensures ∙ ap voters_among c.deref-2.ensures.value)
     (somebody c.in_ok-voters.voters.items (ap (λ vs. length vs == 0) (sym c.deref-3.ensures.value) ∙ sym c.are_none.ensures ∙ c.if-are_none.false))) clean sound none
+
+pub returns-clause-store : goal.returns-clause-store
+returns-clause-store g c =
+    steps_as (λ called db are.
+    decides_all db c.args.spots.items are c.in_ok-voters.voters.items (sym (c.are_all_in.ensures ∙ ap (list_all is_in) c.deref.ensures.value) ∙ c.if-not-are_all_in.false)
+    (c.in_ok-voters.ensures ∙ ap voters_among c.deref-2.ensures.value)
+    (somebody c.in_ok-voters.voters.items (ap (λ vs. length vs == 0) (sym c.deref-3.ensures.value) ∙ sym c.are_none.ensures ∙ c.if-are_none.false)))
+    c.decides.ensures.store
