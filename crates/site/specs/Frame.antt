@@ -27,7 +27,7 @@ pub record ChangesPresent {T E : Type 0} (old new : Present) (result : Result T 
   pub present : LeavesPresent old new
   pub err : OnErr result (table_of new ≡ table_of old)
 
--- which letters a site doesn't take, want of memory aside: one for another site, or for a leaf that it doesn't have, one that leads past a limit, and one whose step calls the store
+-- which letters a site doesn't take, want of memory aside: one for another site, or for a leaf that it doesn't have, and one that leads past a limit; a fault of the store is told only of one whose step calls the store
 pub record TurnsAway {T : Type 0} (before : Present) (letter : Letter) (result : Result T SiteFault) : Type 0 where
   pub stranger : letter.site ≢ before.name → result ≡ Err Stranger
   pub turned_away : AsksElsewhere before.locks.items letter.body → result ≡ Err Stranger
