@@ -8,7 +8,7 @@ use Rattle.meaning.specs.declared.statement.Statement.{Statement}
 use Rattle.store.specs.declared.name.Ticket.{Ticket}
 use Rattle.store.specs.declared.name.Txn.{Txn}
 use Rattle.protocol.specs.Desk as desk
-use Rattle.protocol.specs.Language.{Lang, Name}
+use Rattle.protocol.specs.Language.{Name}
 use Rattle.protocol.specs.Letter as letter
 use Rattle.protocol.specs.Letters.{name_of, txn_name}
 use Rattle.protocol.specs.Local.{AtKey}

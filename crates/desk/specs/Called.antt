@@ -1,9 +1,9 @@
 -- Which steps of a transaction call the coordinator's store.
 use Rattle.std.specs.Prelude.{◌≡◌, ◌≢◌, true, false, List, [], ◌∷◌, ◌++◌, Option, Some, is_none}
 use Rattle.std.specs.List.{list_any}
-use Rattle.protocol.specs.Desk.{Stage, Idle, Reading, Writing, Voting, Undecided, Txn, Unknown, Known, Row, are_acked, are_all_in, is_named, is_pair, voters_of}
+use Rattle.protocol.specs.Desk.{Stage, Voting, Undecided, Txn, Known, Row, are_acked, are_all_in, is_named, is_pair, voters_of}
 use Rattle.protocol.specs.Language.{Lang, Name, put}
-use Rattle.protocol.specs.Letter.{Vote, Yes, No, Read, Body, Voted, Ack}
+use Rattle.protocol.specs.Letter.{Vote, No, Body, Voted, Ack}
 
 -- by these votes the transaction is decided and has voters: each visited site has voted, one of them YES
 pub record Decides {L : Lang} (u : Undecided L) (votes : L.Site → Option Vote) : Type 0 where

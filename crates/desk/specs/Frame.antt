@@ -1,33 +1,28 @@
 -- What calls leave of the coordinator, and why they fail.
-use Rattle.std.specs.Prelude.{◌≡◌, ◌⊎◌, ◌+◌, ◌^◌, ◌≤◌, nat_eq, ℕ, Bool, true, false, List, [], None, Some, Result, Ok, Err, IsOk, IfOk, IfErr, OnOk, OnErr}
+use Rattle.std.specs.Prelude.{◌≡◌, ◌⊎◌, ◌+◌, ◌^◌, ◌≤◌, nat_eq, ℕ, Bool, true, false, [], Result, Err, IsOk, IfOk, IfErr, OnOk, OnErr}
 use Rattle.std.specs.Cmp.Lexicographic.{pointwise}
 use Rattle.std.specs.List.{list_any}
-use Rattle.std.specs.Option.{option_map}
-use Rattle.reader.specs.Printable.{AreDistinct}
 use Rattle.catalog.specs.Relation.{catalogue_of}
-use Rattle.protocol.specs.Desk as protocol
-use Rattle.protocol.specs.Desk.{on_desk_letter, on_request}
+use Rattle.protocol.specs.Desk.{on_desk_letter}
 use Rattle.protocol.specs.Letters.{txn_name}
 use Rattle.store.specs.declared.fault.StoreFault.TheVariants as store_faults
 use Rattle.store.specs.declared.letter.Body.TheVariants as bodies
 use Rattle.store.specs.declared.letter.Letter.{Letter}
-use Rattle.store.specs.declared.name.Txn.{Txn}
 use Rattle.store.specs.declared.reply.Reply.{Reply}
 use Rattle.store.specs.DeskContent.{BeginsLife, DeskContent, IsUnchanged}
 use Rattle.store.specs.Fault.{HasRefused}
 use Rattle.store.specs.Frame.{LeavesStore, Soundly}
 use Rattle.desk.specs.declared.desk.Desk.{Desk}
-use Rattle.desk.specs.declared.present.Present.{Present}
 use Rattle.desk.specs.declared.refusal.Refusal.{Refusal}
 use Rattle.desk.specs.declared.refusal.Refusal.TheVariants as refusals
 use Rattle.desk.specs.declared.reply.Out.{Out}
 use Rattle.desk.specs.Called.{CallsStore}
-use Rattle.desk.specs.Calls.{refused_as, txn_in}
+use Rattle.desk.specs.Calls.{txn_in}
 use Rattle.desk.specs.Database.{Database, language, replied}
 use Rattle.desk.specs.Does.{IsPastLimits, Takes}
 use Rattle.desk.specs.OfCatalogue.{IsOfCatalogue}
 use Rattle.desk.specs.Starting.{IsStrange, Restarts, Rises}
-use Rattle.desk.specs.State.{Fits, Steps, table_of}
+use Rattle.desk.specs.State.{Fits, table_of}
 use Rattle.desk.specs.Taking.{is_strange, may_send}
 
 -- a step that may call the store, where `may` is true: a store that isn't called is as it was, and so is what is kept after an error;

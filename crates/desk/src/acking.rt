@@ -36,8 +36,7 @@ pub(crate) fn on_row<S: DeskStore>(
     reply: &Reply,
     kept: bool,
 ) -> Result<Turn, Memory>
-    ensures store { StepsStore S.is_clean S.is_sound S.kept S.refused store.old store.new kept result (λ turn. turn.kept)
-        ((db : Database) → CallsStore {L = language db} site.now (replied db reply.now) (Row (map voter_of committed.now.voters) (map voter_of committed.now.acked))) }
+    ensures store { StepsStore S.is_clean S.is_sound S.kept S.refused store.old store.new kept result (λ turn. turn.kept) ((db : Database) → CallsStore {L = language db} site.now (replied db reply.now) (Row (map voter_of committed.now.voters) (map voter_of committed.now.acked))) }
     ensures turn { (db : Database) → IfOk result (λ turn. IsTurn db txn (Some (standing.Committed committed.now)) turn
         (on_row (txn_name txn) (map voter_of committed.now.voters) (map voter_of committed.now.acked) site.now turn.kept (replied db reply.now))) }
     ensures sites { (sites : List (List ℕ)) → IfOk result (λ turn. AtSites sites turn.after) }
@@ -95,8 +94,7 @@ fn on_ack<S: DeskStore>(
     ticket: Ticket,
     kept: bool,
 ) -> Result<Turn, Memory>
-    ensures store { StepsStore S.is_clean S.is_sound S.kept S.refused store.old store.new kept result (λ turn. turn.kept)
-        ((db : Database) → IsLastAck (language db) (map voter_of committed.now.voters) (map voter_of committed.now.acked) (site.now, name_of ticket)) }
+    ensures store { StepsStore S.is_clean S.is_sound S.kept S.refused store.old store.new kept result (λ turn. turn.kept) ((db : Database) → IsLastAck (language db) (map voter_of committed.now.voters) (map voter_of committed.now.acked) (site.now, name_of ticket)) }
     ensures turn { (db : Database) → IfOk result (λ turn. IsTurn db txn (Some (standing.Committed committed.now)) turn
         (on_ack {L = language db} (map voter_of committed.now.voters) (map voter_of committed.now.acked) (site.now, name_of ticket) turn.kept)) }
     ensures sites { (sites : List (List ℕ)) → IfOk result (λ turn. AtSites sites turn.after) }

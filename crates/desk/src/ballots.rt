@@ -91,8 +91,7 @@ pub(crate) fn on_vote<S: DeskStore>(
     voted: Voted,
     kept: bool,
 ) -> Result<Turn, Memory>
-    ensures store { StepsStore S.is_clean S.is_sound S.kept S.refused store.old store.new kept result (λ turn. turn.kept)
-        ((db : Database) → AreSpots db undecided.now.spots → CallsStore {L = language db} site.now (replied db (reply.Voted voted)) (Known (undecided_of db undecided.now))) }
+    ensures store { StepsStore S.is_clean S.is_sound S.kept S.refused store.old store.new kept result (λ turn. turn.kept) ((db : Database) → AreSpots db undecided.now.spots → CallsStore {L = language db} site.now (replied db (reply.Voted voted)) (Known (undecided_of db undecided.now))) }
     ensures turn { (db : Database) (choice : Choice (language db)) → AreSpots db undecided.now.spots
         → IfOk result (λ turn. IsTurn db txn (Some (standing.Undecided undecided.now)) turn
         (on_known (txn_name txn) (undecided_of db undecided.now) site.now turn.kept choice (replied db (reply.Voted voted)))) }

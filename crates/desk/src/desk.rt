@@ -1,27 +1,24 @@
 //! The coordinator's machine.
 
-ghost use Rattle.std.specs.Prelude.{◌≡◌, ◌≢◌, ◌⊎◌, ◌+◌, ◌≤◌, ◌^◌, [], None, Some, true, false, nat_eq, Err, IsOk, IfOk, IfErr, OnOk, OnErr};
-ghost use Rattle.std.specs.Cmp.Lexicographic.{pointwise};
-ghost use Rattle.std.specs.List.{list_any};
+ghost use Rattle.std.specs.Prelude.{◌≡◌, ◌≢◌, ◌⊎◌, ◌+◌, ◌≤◌, ◌^◌, None, Some, true, false, Err, IfOk, IfErr, OnOk, OnErr};
 ghost use Rattle.std.specs.Option.{option_map};
 ghost use Rattle.meaning.specs.declared.statement.Statement.{Statement};
 ghost use Rattle.catalog.specs.FragmentLeaf.{schemas_of};
 ghost use Rattle.catalog.specs.Relation.{catalogue_of};
-ghost use Rattle.protocol.specs.Desk.{Choice, Commit_call, Give_up, Rollback, State, desk_began, is_desk_within, on_desk_letter, on_request, refusal};
+ghost use Rattle.protocol.specs.Desk.{Choice, Commit_call, Give_up, Rollback, State, desk_began, is_desk_within, on_request, refusal};
 ghost use Rattle.protocol.specs.Letters.{txn_name};
 ghost use Rattle.store.specs.DeskContent.{BeginsLife, IsUnchanged, Lists};
 ghost use Rattle.store.specs.Fault.{HasRefused};
 ghost use Rattle.store.specs.Frame.{LeavesStore};
 ghost use Rattle.store.specs.declared.fault.StoreFault.TheVariants as store_faults;
-ghost use Rattle.store.specs.declared.letter.Body.TheVariants as bodies;
 ghost use Rattle.store.specs.declared.reply.Reply.{Reply};
 ghost use Rattle.desk.specs.declared.refusal.Refusal.TheVariants as refusals;
 ghost use Rattle.desk.specs.Calls.{IsOver, refused_as, txn_in};
-ghost use Rattle.desk.specs.Database.{Database, language, replied};
+ghost use Rattle.desk.specs.Database.{Database, language};
 ghost use Rattle.desk.specs.Does.{IsUnread, States, StatesPastLimits};
 ghost use Rattle.desk.specs.Frame.{RestartsDesk, TakesLetter};
 ghost use Rattle.desk.specs.OfCatalogue.{IsOfCatalogue};
-ghost use Rattle.desk.specs.Starting.{IsStrange, Restarts, Rises};
+ghost use Rattle.desk.specs.Starting.{IsStrange, Rises};
 ghost use Rattle.desk.specs.State.{Begins, Fits, Steps, desk_of, table_of};
 
 use crate::calls::{call_begin, call_commit, call_give_up, call_rollback};

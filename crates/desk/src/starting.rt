@@ -1,15 +1,14 @@
 //! A life of the coordinator begins.
 
-ghost use Rattle.std.specs.Prelude.{◌≡◌, ◌⊎◌, ◌++◌, ◌+◌, ◌≤◌, ◌^◌, [], true, false, Err, IfOk, IfErr, OnOk, OnErr};
+ghost use Rattle.std.specs.Prelude.{◌≡◌, [], true, Err, IfOk, IfErr, OnOk, OnErr};
 ghost use Rattle.std.specs.BTreeMap.{IsOrdered};
-ghost use Rattle.store.specs.DeskContent.{BeginsLife, IsUnchanged, Lists};
 ghost use Rattle.store.specs.Fault.{HasRefused};
 ghost use Rattle.store.specs.Name.{txn_cmp};
 ghost use Rattle.store.specs.declared.fault.StoreFault.TheVariants as store_faults;
 ghost use Rattle.desk.specs.declared.refusal.Refusal.TheVariants as refusals;
 ghost use Rattle.desk.specs.Database.{Database};
 ghost use Rattle.desk.specs.Frame.{BeginsOrFails};
-ghost use Rattle.desk.specs.Starting.{IsStrange, Restarts, Rises, SendsAgain, are_begun, commits_again, lost_among, row_standing, stood_by};
+ghost use Rattle.desk.specs.Starting.{Restarts, Rises, SendsAgain, are_begun, commits_again, lost_among, row_standing, stood_by};
 ghost use Rattle.desk.specs.State.{Fits, table_from, table_of};
 
 use crate::present::{LAST, Present, add};

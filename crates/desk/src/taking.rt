@@ -1,6 +1,6 @@
 //! Letters of sites by which no statement goes on.
 
-ghost use Rattle.std.specs.Prelude.{◌≡◌, ◌≢◌, ◌⊎◌, ◌<◌, [], true, false, Option, None, Some, is_some, vec_len, IfOk, IfErr, OnErr};
+ghost use Rattle.std.specs.Prelude.{◌≡◌, ◌≢◌, ◌⊎◌, ◌<◌, true, false, Option, None, Some, is_some, IfOk, IfErr, OnErr};
 ghost use Rattle.std.specs.Option.{option_copied};
 ghost use Rattle.reader.specs.Printable.{AreDistinct};
 ghost use Rattle.protocol.specs.Desk.{Choice, Known, on_desk_letter, on_known, stays as unchanged};
@@ -105,8 +105,7 @@ fn on_open<S: DeskStore>(
     kept: bool,
 ) -> Result<Turn, Memory>
     requires { goes_on (spot_in site.now undecided.now.spots).ticket reply.now ≡ false }
-    ensures store { StepsStore S.is_clean S.is_sound S.kept S.refused store.old store.new kept result (λ turn. turn.kept)
-        ((db : Database) → AreSpots db undecided.now.spots → CallsStore {L = language db} site.now (replied db reply.now) (Known (undecided_of db undecided.now))) }
+    ensures store { StepsStore S.is_clean S.is_sound S.kept S.refused store.old store.new kept result (λ turn. turn.kept) ((db : Database) → AreSpots db undecided.now.spots → CallsStore {L = language db} site.now (replied db reply.now) (Known (undecided_of db undecided.now))) }
     ensures turn { (db : Database) (choice : Choice (language db)) → AreSpots db undecided.now.spots
         → IfOk result (λ turn. IsTurn db txn (Some (standings.Undecided undecided.now)) turn
         (on_known (txn_name txn) (undecided_of db undecided.now) site.now turn.kept choice (replied db reply.now))) }
@@ -134,8 +133,7 @@ fn step<S: DeskStore>(
     kept: bool,
 ) -> Result<Turn, Memory>
     requires { may_send ((table_of present.now).standing txn) site.now reply.now ≡ false }
-    ensures store { StepsStore S.is_clean S.is_sound S.kept S.refused store.old store.new kept result (λ turn. turn.kept)
-        ((db : Database) → IsAt db ((table_of present.now).standing txn) → CallsStore {L = language db} site.now (replied db reply.now) (txn_in db (table_of present.now) txn)) }
+    ensures store { StepsStore S.is_clean S.is_sound S.kept S.refused store.old store.new kept result (λ turn. turn.kept) ((db : Database) → IsAt db ((table_of present.now).standing txn) → CallsStore {L = language db} site.now (replied db reply.now) (txn_in db (table_of present.now) txn)) }
     ensures turn { (db : Database) (choice : Choice (language db)) → IsAt db ((table_of present.now).standing txn)
         → IfOk result (λ turn. IsTurn db txn ((table_of present.now).standing txn) turn (on_desk_letter (txn_name txn) site.now turn.kept choice (replied db reply.now) (txn_in db (table_of present.now) txn))) }
     ensures sites { (db : Database) → IsAt db ((table_of present.now).standing txn) → IfOk result (λ turn. AtSites db.sites turn.after) }
@@ -165,8 +163,7 @@ pub(crate) fn take<S: DeskStore>(
     kept: bool,
 ) -> Result<Out, Refusal>
     requires { may_send ((table_of present.old).standing txn) site.now reply.now ≡ false }
-    ensures store { StepsStore S.is_clean S.is_sound S.kept S.refused store.old store.new kept result (λ out. out.kept)
-        ((db : Database) → AreDistinct db.sites → Fits db (S.kept store.old) (table_of present.old) → CallsStore {L = language db} site.now (replied db reply.now) (txn_in db (table_of present.old) txn)) }
+    ensures store { StepsStore S.is_clean S.is_sound S.kept S.refused store.old store.new kept result (λ out. out.kept) ((db : Database) → AreDistinct db.sites → Fits db (S.kept store.old) (table_of present.old) → CallsStore {L = language db} site.now (replied db reply.now) (txn_in db (table_of present.old) txn)) }
     ensures ok { (db : Database) (choice : Choice (language db)) → AreDistinct db.sites → S.is_clean store.new → S.is_sound store.old → Fits db (S.kept store.old) (table_of present.old)
         → IfOk result (λ out. Steps db (table_of present.old) (S.kept store.new) (table_of present.new) txn (on_desk_letter (txn_name txn) site.now out.kept choice (replied db reply.now) (txn_in db (table_of present.old) txn)) out.letters out.replies) }
     ensures own { IfErr result (λ told. told ≡ refusals.Memory) }

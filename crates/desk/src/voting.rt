@@ -41,8 +41,7 @@ pub(crate) fn votes_go<S: DeskStore>(
     spots: Vec<Spot>,
     kept: bool,
 ) -> Result<Turn, Memory>
-    ensures store { StepsStore S.is_clean S.is_sound S.kept S.refused store.old store.new kept result (λ turn. turn.kept)
-        ((db : Database) → AreSpots db spots.items → Decides (undecided_of db (voting spots.items)) (votes_of spots.items)) }
+    ensures store { StepsStore S.is_clean S.is_sound S.kept S.refused store.old store.new kept result (λ turn. turn.kept) ((db : Database) → AreSpots db spots.items → Decides (undecided_of db (voting spots.items)) (votes_of spots.items)) }
     ensures turn { (db : Database) (old : Option StandingNow) → AreSpots db spots.items
         → IfOk result (λ turn. IsTurn db txn old turn (votes_go (txn_name txn) (undecided_of db (voting spots.items)) (votes_of spots.items) turn.kept)) }
     ensures sites { IfOk result (λ turn. AtSites (sites_of spots.items) turn.after) }
@@ -100,8 +99,7 @@ fn decides<S: DeskStore>(
     voters: Vec<Voter>,
     kept: bool,
 ) -> Result<Turn, Memory>
-    ensures store { StepsStore S.is_clean S.is_sound S.kept S.refused store.old store.new kept result (λ turn. turn.kept)
-        (⊤) }
+    ensures store { StepsStore S.is_clean S.is_sound S.kept S.refused store.old store.new kept result (λ turn. turn.kept) (⊤) }
     ensures turn { (db : Database) (old : Option StandingNow) → AreSpots db spots.now → 0 < length voters.items
         → IfOk result (λ turn. IsTurn db txn old turn (decides (txn_name txn) (undecided_of db (voting spots.now)) turn.kept (map voter_of voters.items))) }
     ensures sites { (sites : List (List ℕ)) → IfOk result (λ turn. AtSites sites turn.after) }
