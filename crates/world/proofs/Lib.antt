@@ -26,6 +26,7 @@ pub mod InSerial
 pub mod Follow
 pub mod Reasoned
 pub mod Counting
+pub mod Leaves
 pub mod Stops
 pub mod Failing
 pub mod Spared

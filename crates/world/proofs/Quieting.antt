@@ -26,7 +26,8 @@ use Rattle.protocol.proofs.Limits.{called_within, next_within, turn_within}
 use Rattle.protocol.proofs.Locks.{Once}
 use Rattle.desk.specs.Database.{Database, language, sent, statements}
 use Rattle.world.specs.Coming.{Coming, Passed_over, Taken, Turned_away, all_come, come, first_comes}
-use Rattle.site.specs.Refusals.{AsksTooMuch}
+use Rattle.site.specs.Refusals.{AsksBeyond}
+use Rattle.site.specs.State.{Table}
 use Rattle.meaning.specs.Whole.{Relations}
 use Rattle.protocol.specs.Desk.{Aborted, Commit_call, Committed, Phased, Rollback}
 use Rattle.protocol.specs.Smooth.{Ready}
@@ -111,14 +112,14 @@ module _ (db : Database) where
   IsBallot (Voted k x) = Unit {0}
   IsBallot said = ⊥
 
-  asks_little : (said : bodies.Body) (alive number : ℕ) → IsBallot (body_with (statements db) (body_of said)) → AsksTooMuch alive number said → ⊥
-  asks_little (body.Order order.Open) alive number is much = is
-  asks_little (body.Order (order.Fetch fetch)) alive number is much = is
-  asks_little (body.Order (order.Intend intention)) alive number is much = is
-  asks_little (body.Order (order.Prepare prepare)) alive number is much = much
-  asks_little (body.Order (order.Commit ticket)) alive number is much = is
-  asks_little (body.Order (order.Abort ticket)) alive number is much = is
-  asks_little (body.Reply reply) alive number is much = much
+  asks_little : (said : bodies.Body) (table : Table) → IsBallot (body_with (statements db) (body_of said)) → AsksBeyond table said → ⊥
+  asks_little (body.Order order.Open) table is much = is
+  asks_little (body.Order (order.Fetch fetch)) table is much = is
+  asks_little (body.Order (order.Intend intention)) table is much = is
+  asks_little (body.Order (order.Prepare prepare)) table is much = much
+  asks_little (body.Order (order.Commit ticket)) table is much = is
+  asks_little (body.Order (order.Abort ticket)) table is much = is
+  asks_little (body.Reply reply) table is much = much
 
   asks_here : (said : bodies.Body) (leaves : List Leaf) → IsBallot (body_with (statements db) (body_of said)) → AsksElsewhere leaves said → ⊥
   asks_here (body.Order order.Open) leaves is elsewhere = is
@@ -153,7 +154,7 @@ module _ (db : Database) where
       same_passes false other = refl
 
       go : IsAtLimit db founded.machines founded.letter → ⊥
-      go (site_is_full seat found much) = asks_little founded.letter.body seat.table.alive seat.table.number own much
+      go (site_is_full seat found much) = asks_little founded.letter.body seat.table own much
       go (desk_is_full other for_desk past) =
           let to_desk : is_for_desk l.body ≡ true = ap (λ (x : Letter L). is_for_desk x.body) founded.is ∙ is_for_site founded.letter.body for_desk in
           clash (sym (there other) ∙ sym (same_passes (is_for_desk l.body) other) ∙ goes to_desk other) past
@@ -163,14 +164,14 @@ module _ (db : Database) where
       by_reason (has_no_leaf seat found elsewhere) = asks_here founded.letter.body seat.leaves own elsewhere
 
   -- no Commit and no Abort is
-  little_end : (said : bodies.Body) (alive number : ℕ) → AsksTooMuch alive number said → NoEnd (body_with (statements db) (body_of said))
-  little_end (body.Order order.Open) alive number much = tt
-  little_end (body.Order (order.Fetch fetch)) alive number much = tt
-  little_end (body.Order (order.Intend intention)) alive number much = tt
-  little_end (body.Order (order.Prepare prepare)) alive number much = tt
-  little_end (body.Order (order.Commit ticket)) alive number much = much
-  little_end (body.Order (order.Abort ticket)) alive number much = much
-  little_end (body.Reply reply) alive number much = absurd much
+  little_end : (said : bodies.Body) (table : Table) → AsksBeyond table said → NoEnd (body_with (statements db) (body_of said))
+  little_end (body.Order order.Open) table much = tt
+  little_end (body.Order (order.Fetch fetch)) table much = tt
+  little_end (body.Order (order.Intend intention)) table much = tt
+  little_end (body.Order (order.Prepare prepare)) table much = tt
+  little_end (body.Order (order.Commit ticket)) table much = much
+  little_end (body.Order (order.Abort ticket)) table much = much
+  little_end (body.Reply reply) table much = absurd much
 
   elsewhere_end : (said : bodies.Body) (leaves : List Leaf) → AsksElsewhere leaves said → NoEnd (body_with (statements db) (body_of said))
   elsewhere_end (body.Order order.Open) leaves elsewhere = tt
@@ -185,7 +186,7 @@ module _ (db : Database) where
   turned_no_end w l choice founded = by_reason founded.reason
     where
       go : IsAtLimit db founded.machines founded.letter → NoEnd l.body
-      go (site_is_full seat found much) = subst (λ (x : Letter L). NoEnd x.body) (sym founded.is) (little_end founded.letter.body seat.table.alive seat.table.number much)
+      go (site_is_full seat found much) = subst (λ (x : Letter L). NoEnd x.body) (sym founded.is) (little_end founded.letter.body seat.table much)
       go (desk_is_full other for_desk past) = desk_no_end l.body (ap (λ (x : Letter L). is_for_desk x.body) founded.is ∙ is_for_site founded.letter.body for_desk)
 
       by_reason : TurnsAway db founded.machines founded.letter → NoEnd l.body

@@ -61,7 +61,7 @@ elsewhere locks (body.Order (order.Abort ticket)) none = none
 elsewhere locks (body.Reply reply) none = none
 
 pub site_tells : {T : Type 0} (result : Result T site_faults.SiteFault) (seat : Seat) (locks : List Locks) (said : bodies.Body) → seat.leaves ≡ leaves_in locks →
-    (result ≡ Err site_fault.Full → site.AsksTooMuch seat.table.alive seat.table.number said) → (result ≡ Err site_fault.Stranger → site.AsksElsewhere locks said) → IfErr result (SiteTells seat said)
+    (result ≡ Err site_fault.Full → site.AsksBeyond seat.table said) → (result ≡ Err site_fault.Stranger → site.AsksElsewhere locks said) → IfErr result (SiteTells seat said)
 site_tells (Ok x) seat locks said same full strange = tt
 site_tells (Err site_fault.Memory) seat locks said same full strange = tt
 site_tells (Err (site_fault.Store why)) seat locks said same full strange = tt
@@ -165,7 +165,7 @@ turned_ranks db machines letter fit why = by_reason why
     ticket_rank true k = omega arith
     ticket_rank false k = omega arith
 
-    at_site : (said : bodies.Body) (seat : Seat) → site.AsksTooMuch seat.table.alive seat.table.number said → 2 ≤ rank (is_reading x) (body_with (statements db) (body_of said))
+    at_site : (said : bodies.Body) (seat : Seat) → site.AsksBeyond seat.table said → 2 ≤ rank (is_reading x) (body_with (statements db) (body_of said))
     at_site (body.Order order.Open) seat much = open_rank (is_reading x)
     at_site (body.Order (order.Fetch fetch)) seat much = fetch_rank (is_reading x) _ _ _ _
     at_site (body.Order (order.Intend intention)) seat much = omega arith
@@ -210,7 +210,7 @@ taken_same one other is = cc
 
 -- a letter that comes to the site of its name
 pub named_tells : {T : Type 0} (result : Result T site_faults.SiteFault) (seat : Seat) (locks : List Locks) (letter mine : letters.Letter) (what : doing.Doing) → what ≡ Take mine → what ≡ Take letter → seat.leaves ≡ leaves_in locks → is_called letter.site seat ≡ true →
-    (result ≡ Err site_fault.Full → site.AsksTooMuch seat.table.alive seat.table.number mine.body) → (result ≡ Err site_fault.Stranger → (mine.site ≢ seat.name) ⊎ site.AsksElsewhere locks mine.body) → IfErr result (SiteTells seat letter.body)
+    (result ≡ Err site_fault.Full → site.AsksBeyond seat.table mine.body) → (result ≡ Err site_fault.Stranger → (mine.site ≢ seat.name) ⊎ site.AsksElsewhere locks mine.body) → IfErr result (SiteTells seat letter.body)
 named_tells result seat locks letter mine what own is same called full strange =
     let one : mine ≡ letter = taken_same mine letter (sym own ∙ is) in
     subst (λ (l : letters.Letter). IfErr result (SiteTells seat l.body)) one

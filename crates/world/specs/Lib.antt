@@ -5,6 +5,7 @@ pub mod Seated
 pub mod Counted
 pub mod Machines
 pub mod Held
+pub mod Frame
 pub mod Filling
 pub mod Opening
 pub mod Placed

@@ -17,7 +17,7 @@ use Rattle.protocol.specs.Letters.{leaf_of}
 use Rattle.protocol.specs.World.{World}
 use Rattle.site.specs.declared.fault.SiteFault as site_faults
 use Rattle.site.specs.declared.fault.SiteFault.TheVariants as site_fault
-use Rattle.site.specs.Refusals.{AsksTooMuch}
+use Rattle.site.specs.Refusals.{AsksBeyond}
 use Rattle.desk.specs.declared.refusal.Refusal as refusals
 use Rattle.desk.specs.declared.refusal.Refusal.TheVariants as refusal
 use Rattle.desk.specs.Database.{Database, language, sent, statements}
@@ -45,13 +45,13 @@ AsksElsewhere leaves (body.Reply reply) = ⊥
 abbrev pub SiteTells : Seat → bodies.Body → site_faults.SiteFault → Type 0
 SiteTells seat said site_fault.Memory = ⊤
 SiteTells seat said (site_fault.Store why) = ⊤
-SiteTells seat said site_fault.Full = AsksTooMuch seat.table.alive seat.table.number said
+SiteTells seat said site_fault.Full = AsksBeyond seat.table said
 SiteTells seat said site_fault.Stranger = AsksElsewhere seat.leaves said
 
 -- a machine is at a limit with a letter: the coordinator's step would lead past its limits, or a site's visits are full or its numbers run out
 pub data IsAtLimit (db : Database) (machines : Machines) (letter : letters.Letter) : Type 0 where
   desk_is_full : (choice : Choice (language db)) → is_order letter.body ≡ false → passes (world_of db machines [] []) true choice (sent db letter) ≡ false → IsAtLimit db machines letter
-  site_is_full : (seat : Seat) → seat_of letter.site machines.seats ≡ Some seat → AsksTooMuch seat.table.alive seat.table.number letter.body → IsAtLimit db machines letter
+  site_is_full : (seat : Seat) → seat_of letter.site machines.seats ≡ Some seat → AsksBeyond seat.table letter.body → IsAtLimit db machines letter
 
 -- a letter is turned away: a machine is at a limit with it, or it is for a leaf that its site doesn't have
 pub data TurnsAway (db : Database) (machines : Machines) (letter : letters.Letter) : Type 0 where

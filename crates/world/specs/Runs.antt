@@ -7,8 +7,10 @@ use Rattle.reader.specs.Command.{IsTextOf}
 use Rattle.store.specs.declared.name.Txn.{Txn}
 use Rattle.meaning.specs.Whole.{Relations}
 use Rattle.protocol.specs.Applied.{AppliesOnce}
+use Rattle.protocol.specs.Language.{Lang}
+use Rattle.protocol.specs.Parts.{AreApart, Counts, Line, operations, works}
 use Rattle.protocol.specs.Desk.{Deed}
-use Rattle.protocol.specs.Serial.{AllExplained, IsOpening, serial_answers, serial_whole, settled}
+use Rattle.protocol.specs.Serial.{AllExplained, IsOpening, is_committed, phases_of, serial_answers, serial_whole, settled}
 use Rattle.protocol.specs.World.{Event, World, run}
 use Rattle.desk.specs.declared.reply.Out.{Out}
 use Rattle.desk.specs.Database.{Database, language, sent}
@@ -35,15 +37,26 @@ pub record RunsOn (db : Database) (whole : Relations) (machines : Machines) (ent
   pub deeds : List (Deed (language db))
   pub run_on : IsRun db whole machines entries (past ++ deeds)
 
--- So it goes on, and in the world that it leads to a committed transaction is applied whole and once: the commit row stays until
--- each voter has applied, no Abort goes to one, and a ticket that was acknowledged is gone.
-pub record AppliesWhole (db : Database) (whole : Relations) (machines : Machines) (entries : List Entry) (past : List (Deed (language db))) : Type 0 where
+-- the line of the commits: each transaction that is committed, or still can be, has read the contents after the committed ones before it, with its own earlier writes, and the settled contents are those after all committed ones
+abbrev pub IsInLine : {L : Lang} → L.Whole → World L → Type 0
+IsInLine {L} whole w = Line (works w.past) (is_committed w.past) (Counts (operations w.letters) w) (settled w) (λ g. L.content g whole) (phases_of w.past)
+
+-- The invariant of the protocol, in one world. apart: only a transaction that is viable is committed next, what a viable one writes nobody else
+-- has a lock on, and no later one that counts reads; line: the line of the commits; applied: the commit row stays until each voter has applied, no Abort
+-- goes to one, and a ticket that was acknowledged is gone.
+pub record Holds {L : Lang} (whole : L.Whole) (w : World L) : Type 0 where
+  pub apart : AreApart w
+  pub line : IsInLine whole w
+  pub applied : AppliesOnce w
+
+-- the run goes on to these entries, and in the world that it leads to the invariant holds
+pub record GoesOn (db : Database) (whole : Relations) (machines : Machines) (entries : List Entry) (past : List (Deed (language db))) : Type 0 where
   pub on : RunsOn db whole machines entries past
-  pub applied : AppliesOnce (world_of db machines (map (sent db) (letters_in entries)) (past ++ on.deeds))
+  pub holds : Holds whole (world_of db machines (map (sent db) (letters_in entries)) (past ++ on.deeds))
 
 -- the law of it, of the machines at hand
-abbrev pub RunsAreWhole : Database → Type 0
-RunsAreWhole db = (whole : Relations) (machines : Machines) (entries : List Entry) (past : List (Deed (language db))) → IsRun db whole machines entries past → AppliesOnce (world_of db machines (map (sent db) (letters_in entries)) past)
+abbrev pub RunsHold : Database → Type 0
+RunsHold db = (whole : Relations) (machines : Machines) (entries : List Entry) (past : List (Deed (language db))) → IsRun db whole machines entries past → Holds whole (world_of db machines (map (sent db) (letters_in entries)) past)
 
 -- an event that has happened
 abbrev pub entry_of : events.Event → Out → Entry

@@ -19,7 +19,7 @@ use Rattle.world.specs.Base.{database}
 use Rattle.world.specs.Events.{is_unsent}
 use Rattle.world.specs.Machines.{Machines}
 use Rattle.world.specs.Refused.{IsToldOf}
-use Rattle.world.specs.Runs.{AppliesWhole, IsRun, RunsOn}
+use Rattle.world.specs.Runs.{GoesOn, IsRun}
 
 -- the entry or the fault that is answered
 abbrev pub answer_of : Result (Bor Entry) (Bor faults.Fault) → Result Entry faults.Fault
@@ -31,7 +31,7 @@ abbrev pub based : {D S : Type 0} → code_world.World D S → Database
 based world = database (catalogue_of world.machines.desk.catalog)
 
 -- IsClean, IsSound: that no store of the machines failed on its own, and that each is sound; hold: what the machines hold. An event that
--- happens has an entry, the last one, which is answered; the run goes on, and in it a committed transaction is applied whole and once. One
+-- happens has an entry, the last one, which is answered; the run goes on, and the protocol's invariant holds in the world that it leads to. One
 -- that is refused changes nothing: no letter has the number or no site the name, exactly where that is told, or the coordinator refuses the
 -- call as the protocol does, or memory ran out, or a machine met a limit or its store's fault.
 pub record Steps {D S : Type 0} (IsClean IsSound : code.Machines D S → Type 0) (hold : code.Machines D S → Machines) (what : events.Event) (answer : Result Entry faults.Fault) (old new : code_world.World D S) : Type 0 where
@@ -39,10 +39,8 @@ pub record Steps {D S : Type 0} (IsClean IsSound : code.Machines D S → Type 0)
   pub sound : IsClean new.machines → IsSound old.machines → IsSound new.machines
   pub catalog : new.machines.desk.catalog ≡ old.machines.desk.catalog
   pub entry : IfOk answer (λ entry. (entry.event ≡ what) × (new.entries.items ≡ old.entries.items ++ entry ∷ []))
-  pub ok : (whole : Relations) (past : List (Deed (language (based old)))) → IsClean new.machines → IsSound old.machines
-      → IsRun (based old) whole (hold old.machines) old.entries.items past → OnOk answer (RunsOn (based old) whole (hold new.machines) new.entries.items past)
-  pub whole : (whole : Relations) (past : List (Deed (language (based old)))) → IsClean new.machines → IsSound old.machines
-      → IsRun (based old) whole (hold old.machines) old.entries.items past → OnOk answer (AppliesWhole (based old) whole (hold new.machines) new.entries.items past)
+  pub goes_on : (whole : Relations) (past : List (Deed (language (based old)))) → IsClean new.machines → IsSound old.machines
+      → IsRun (based old) whole (hold old.machines) old.entries.items past → OnOk answer (GoesOn (based old) whole (hold new.machines) new.entries.items past)
   pub unsent : answer ≡ Err fault.Unsent → is_unsent old.machines.desk.catalog.0 old.entries.items what ≡ true
   pub nowhere : is_unsent old.machines.desk.catalog.0 old.entries.items what ≡ true → (answer ≡ Err fault.Unsent) ⊎ (answer ≡ Err (fault.Desk refusals.Memory))
   pub refused : (whole : Relations) (past : List (Deed (language (based old)))) (asked : Call) → IsRun (based old) whole (hold old.machines) old.entries.items past → what ≡ event.Call asked

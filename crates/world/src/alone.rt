@@ -11,6 +11,7 @@ ghost use Rattle.desk.specs.declared.refusal.Refusal.TheVariants as refusals;
 ghost use Rattle.world.specs.declared.event.Call.TheVariants as call;
 ghost use Rattle.world.specs.Counted.{NoFewer, counts};
 ghost use Rattle.world.specs.Denying.{CommitIsDenied, IsTakenBack, IsUndone, LoneIsDenied, RunIsDenied};
+ghost use Rattle.world.specs.Frame.{Blames, LeavesMachines, OverDatabase, StaysServed};
 ghost use Rattle.world.specs.Held.{OfStores, counted};
 ghost use Rattle.world.specs.Machines.{AreFit};
 ghost use Rattle.world.specs.Serving.{DoesAlone, DoesCommit, DoesDecide, DoesRun, IsServed, IsServedOn, is_answer, is_commit, is_end, tells, told_alone};
@@ -134,16 +135,12 @@ fn take_back<D: DeskStore, S: SiteStore>(
     txn: Txn,
     refusal: Refusal,
 ) -> Refusal
-    ensures clean { OfStores D.is_clean S.is_clean machines.new → OfStores D.is_clean S.is_clean machines.old }
-    ensures sound { OfStores D.is_clean S.is_clean machines.new → OfStores D.is_sound S.is_sound machines.old → OfStores D.is_sound S.is_sound machines.new }
-    ensures catalog { machines.new.desk.catalog ≡ machines.old.desk.catalog }
-    ensures counts { NoFewer (counts D.refused S.refused machines.old) (counts D.refused S.refused machines.new) }
+    ensures leaves { LeavesMachines D.is_clean S.is_clean D.is_sound S.is_sound D.refused S.refused machines.old machines.new }
     ensures told { (is_stop result ≡ true) ⊎ (result ≡ refusal) }
     ensures blames { OfStores D.is_clean S.is_clean machines.new → OfStores D.is_sound S.is_sound machines.old → StopsFor (counts D.refused S.refused machines.old) (counts D.refused S.refused machines.new) result ⊎ (result ≡ refusal) }
-    ensures taken { (db : Database) → IsOfCatalogue db → db.catalogue ≡ catalogue_of machines.old.desk.catalog → OfStores D.is_clean S.is_clean machines.new → OfStores D.is_sound S.is_sound machines.old → AreFit db (counted D.kept S.kept D.refused S.refused machines.old)
-        → (is_stop result ≡ true) ⊎ IsTakenBack db txn (counted D.kept S.kept D.refused S.refused machines.old) (counted D.kept S.kept D.refused S.refused machines.new) }
-    ensures served { (db : Database) (whole : Relations) (past : List (Deed (language db))) → IsOfCatalogue db → ReachedLaw (language db) → db.catalogue ≡ catalogue_of machines.old.desk.catalog → OfStores D.is_clean S.is_clean machines.new → OfStores D.is_sound S.is_sound machines.old
-        → IsServed db whole (counted D.kept S.kept D.refused S.refused machines.old) past → IsServedOn db whole (counted D.kept S.kept D.refused S.refused machines.new) past }
+    ensures taken { OverDatabase (OfStores D.is_clean S.is_clean) (OfStores D.is_sound S.is_sound) (counted D.kept S.kept D.refused S.refused) machines.old machines.new
+        (λ db before after. (is_stop result ≡ true) ⊎ IsTakenBack db txn before after) }
+    ensures served { StaysServed (OfStores D.is_clean S.is_clean) (OfStores D.is_sound S.is_sound) (counted D.kept S.kept D.refused S.refused) machines.old machines.new }
 {
     if is_stop(&refusal) {
         return refusal;
@@ -160,17 +157,13 @@ fn commit_alone<D: DeskStore, S: SiteStore>(
     txn: Txn,
     told: Vec<Notice>,
 ) -> Result<Vec<Notice>, Refusal>
-    ensures clean { OfStores D.is_clean S.is_clean machines.new → OfStores D.is_clean S.is_clean machines.old }
-    ensures sound { OfStores D.is_clean S.is_clean machines.new → OfStores D.is_sound S.is_sound machines.old → OfStores D.is_sound S.is_sound machines.new }
-    ensures catalog { machines.new.desk.catalog ≡ machines.old.desk.catalog }
-    ensures counts { NoFewer (counts D.refused S.refused machines.old) (counts D.refused S.refused machines.new) }
-    ensures blames { OfStores D.is_clean S.is_clean machines.new → OfStores D.is_sound S.is_sound machines.old → IfErr result (StopsFor (counts D.refused S.refused machines.old) (counts D.refused S.refused machines.new)) }
-    ensures ok { (db : Database) → IsOfCatalogue db → db.catalogue ≡ catalogue_of machines.old.desk.catalog → OfStores D.is_clean S.is_clean machines.new → OfStores D.is_sound S.is_sound machines.old → AreFit db (counted D.kept S.kept D.refused S.refused machines.old)
-        → IfOk result (λ heard. DoesCommit db txn told.items (counted D.kept S.kept D.refused S.refused machines.old) (counted D.kept S.kept D.refused S.refused machines.new) heard.items) }
-    ensures denied { (db : Database) → IsOfCatalogue db → db.catalogue ≡ catalogue_of machines.old.desk.catalog → OfStores D.is_clean S.is_clean machines.new → OfStores D.is_sound S.is_sound machines.old → AreFit db (counted D.kept S.kept D.refused S.refused machines.old)
-        → IfErr result (λ refusal. (is_stop refusal ≡ true) ⊎ IsUndone db txn (call.Commit txn) (counted D.kept S.kept D.refused S.refused machines.old) (counted D.kept S.kept D.refused S.refused machines.new) refusal) }
-    ensures served { (db : Database) (whole : Relations) (past : List (Deed (language db))) → IsOfCatalogue db → ReachedLaw (language db) → db.catalogue ≡ catalogue_of machines.old.desk.catalog → OfStores D.is_clean S.is_clean machines.new → OfStores D.is_sound S.is_sound machines.old
-        → IsServed db whole (counted D.kept S.kept D.refused S.refused machines.old) past → IsServedOn db whole (counted D.kept S.kept D.refused S.refused machines.new) past }
+    ensures leaves { LeavesMachines D.is_clean S.is_clean D.is_sound S.is_sound D.refused S.refused machines.old machines.new }
+    ensures blames { Blames (OfStores D.is_clean S.is_clean) (OfStores D.is_sound S.is_sound) (counts D.refused S.refused) machines.old machines.new result }
+    ensures ok { OverDatabase (OfStores D.is_clean S.is_clean) (OfStores D.is_sound S.is_sound) (counted D.kept S.kept D.refused S.refused) machines.old machines.new
+        (λ db before after. IfOk result (λ heard. DoesCommit db txn told.items before after heard.items)) }
+    ensures denied { OverDatabase (OfStores D.is_clean S.is_clean) (OfStores D.is_sound S.is_sound) (counted D.kept S.kept D.refused S.refused) machines.old machines.new
+        (λ db before after. IfErr result (λ refusal. (is_stop refusal ≡ true) ⊎ IsUndone db txn (call.Commit txn) before after refusal)) }
+    ensures served { StaysServed (OfStores D.is_clean S.is_clean) (OfStores D.is_sound S.is_sound) (counted D.kept S.kept D.refused S.refused) machines.old machines.new }
 {
     match commit(machines, txn) {
         Ok(decided) => hears(told, decided),
@@ -184,17 +177,13 @@ fn decide<D: DeskStore, S: SiteStore>(
     txn: Txn,
     told: Vec<Notice>,
 ) -> Result<Vec<Notice>, Refusal>
-    ensures clean { OfStores D.is_clean S.is_clean machines.new → OfStores D.is_clean S.is_clean machines.old }
-    ensures sound { OfStores D.is_clean S.is_clean machines.new → OfStores D.is_sound S.is_sound machines.old → OfStores D.is_sound S.is_sound machines.new }
-    ensures catalog { machines.new.desk.catalog ≡ machines.old.desk.catalog }
-    ensures counts { NoFewer (counts D.refused S.refused machines.old) (counts D.refused S.refused machines.new) }
-    ensures blames { OfStores D.is_clean S.is_clean machines.new → OfStores D.is_sound S.is_sound machines.old → IfErr result (StopsFor (counts D.refused S.refused machines.old) (counts D.refused S.refused machines.new)) }
-    ensures ok { (db : Database) → IsOfCatalogue db → db.catalogue ≡ catalogue_of machines.old.desk.catalog → OfStores D.is_clean S.is_clean machines.new → OfStores D.is_sound S.is_sound machines.old → AreFit db (counted D.kept S.kept D.refused S.refused machines.old)
-        → IfOk result (λ heard. DoesDecide db txn told.items (counted D.kept S.kept D.refused S.refused machines.old) (counted D.kept S.kept D.refused S.refused machines.new) heard.items) }
-    ensures denied { (db : Database) → IsOfCatalogue db → db.catalogue ≡ catalogue_of machines.old.desk.catalog → OfStores D.is_clean S.is_clean machines.new → OfStores D.is_sound S.is_sound machines.old → AreFit db (counted D.kept S.kept D.refused S.refused machines.old)
-        → IfErr result (CommitIsDenied db txn told.items (counted D.kept S.kept D.refused S.refused machines.old) (counted D.kept S.kept D.refused S.refused machines.new)) }
-    ensures served { (db : Database) (whole : Relations) (past : List (Deed (language db))) → IsOfCatalogue db → ReachedLaw (language db) → db.catalogue ≡ catalogue_of machines.old.desk.catalog → OfStores D.is_clean S.is_clean machines.new → OfStores D.is_sound S.is_sound machines.old
-        → IsServed db whole (counted D.kept S.kept D.refused S.refused machines.old) past → IsServedOn db whole (counted D.kept S.kept D.refused S.refused machines.new) past }
+    ensures leaves { LeavesMachines D.is_clean S.is_clean D.is_sound S.is_sound D.refused S.refused machines.old machines.new }
+    ensures blames { Blames (OfStores D.is_clean S.is_clean) (OfStores D.is_sound S.is_sound) (counts D.refused S.refused) machines.old machines.new result }
+    ensures ok { OverDatabase (OfStores D.is_clean S.is_clean) (OfStores D.is_sound S.is_sound) (counted D.kept S.kept D.refused S.refused) machines.old machines.new
+        (λ db before after. IfOk result (λ heard. DoesDecide db txn told.items before after heard.items)) }
+    ensures denied { OverDatabase (OfStores D.is_clean S.is_clean) (OfStores D.is_sound S.is_sound) (counted D.kept S.kept D.refused S.refused) machines.old machines.new
+        (λ db before after. IfErr result (CommitIsDenied db txn told.items before after)) }
+    ensures served { StaysServed (OfStores D.is_clean S.is_clean) (OfStores D.is_sound S.is_sound) (counted D.kept S.kept D.refused S.refused) machines.old machines.new }
 {
     if tells_end(told.as_slice()) {
         return Ok(told_alone(told));
@@ -209,17 +198,13 @@ fn go_on<D: DeskStore, S: SiteStore>(
     greeted: Vec<Notice>,
     answered: Vec<Notice>,
 ) -> Result<Vec<Notice>, Refusal>
-    ensures clean { OfStores D.is_clean S.is_clean machines.new → OfStores D.is_clean S.is_clean machines.old }
-    ensures sound { OfStores D.is_clean S.is_clean machines.new → OfStores D.is_sound S.is_sound machines.old → OfStores D.is_sound S.is_sound machines.new }
-    ensures catalog { machines.new.desk.catalog ≡ machines.old.desk.catalog }
-    ensures counts { NoFewer (counts D.refused S.refused machines.old) (counts D.refused S.refused machines.new) }
-    ensures blames { OfStores D.is_clean S.is_clean machines.new → OfStores D.is_sound S.is_sound machines.old → IfErr result (StopsFor (counts D.refused S.refused machines.old) (counts D.refused S.refused machines.new)) }
-    ensures ok { (db : Database) → IsOfCatalogue db → db.catalogue ≡ catalogue_of machines.old.desk.catalog → OfStores D.is_clean S.is_clean machines.new → OfStores D.is_sound S.is_sound machines.old → AreFit db (counted D.kept S.kept D.refused S.refused machines.old)
-        → IfOk result (λ heard. DoesDecide db txn (greeted.items ++ answered.items) (counted D.kept S.kept D.refused S.refused machines.old) (counted D.kept S.kept D.refused S.refused machines.new) heard.items) }
-    ensures denied { (db : Database) → IsOfCatalogue db → db.catalogue ≡ catalogue_of machines.old.desk.catalog → OfStores D.is_clean S.is_clean machines.new → OfStores D.is_sound S.is_sound machines.old → AreFit db (counted D.kept S.kept D.refused S.refused machines.old)
-        → IfErr result (CommitIsDenied db txn (greeted.items ++ answered.items) (counted D.kept S.kept D.refused S.refused machines.old) (counted D.kept S.kept D.refused S.refused machines.new)) }
-    ensures served { (db : Database) (whole : Relations) (past : List (Deed (language db))) → IsOfCatalogue db → ReachedLaw (language db) → db.catalogue ≡ catalogue_of machines.old.desk.catalog → OfStores D.is_clean S.is_clean machines.new → OfStores D.is_sound S.is_sound machines.old
-        → IsServed db whole (counted D.kept S.kept D.refused S.refused machines.old) past → IsServedOn db whole (counted D.kept S.kept D.refused S.refused machines.new) past }
+    ensures leaves { LeavesMachines D.is_clean S.is_clean D.is_sound S.is_sound D.refused S.refused machines.old machines.new }
+    ensures blames { Blames (OfStores D.is_clean S.is_clean) (OfStores D.is_sound S.is_sound) (counts D.refused S.refused) machines.old machines.new result }
+    ensures ok { OverDatabase (OfStores D.is_clean S.is_clean) (OfStores D.is_sound S.is_sound) (counted D.kept S.kept D.refused S.refused) machines.old machines.new
+        (λ db before after. IfOk result (λ heard. DoesDecide db txn (greeted.items ++ answered.items) before after heard.items)) }
+    ensures denied { OverDatabase (OfStores D.is_clean S.is_clean) (OfStores D.is_sound S.is_sound) (counted D.kept S.kept D.refused S.refused) machines.old machines.new
+        (λ db before after. IfErr result (CommitIsDenied db txn (greeted.items ++ answered.items) before after)) }
+    ensures served { StaysServed (OfStores D.is_clean S.is_clean) (OfStores D.is_sound S.is_sound) (counted D.kept S.kept D.refused S.refused) machines.old machines.new }
 {
     match joined(greeted, answered) {
         Ok(told) => decide(machines, txn, told),
@@ -233,17 +218,13 @@ fn run_begun<D: DeskStore, S: SiteStore>(
     begun: Begun,
     text: &str,
 ) -> Result<Vec<Notice>, Refusal>
-    ensures clean { OfStores D.is_clean S.is_clean machines.new → OfStores D.is_clean S.is_clean machines.old }
-    ensures sound { OfStores D.is_clean S.is_clean machines.new → OfStores D.is_sound S.is_sound machines.old → OfStores D.is_sound S.is_sound machines.new }
-    ensures catalog { machines.new.desk.catalog ≡ machines.old.desk.catalog }
-    ensures counts { NoFewer (counts D.refused S.refused machines.old) (counts D.refused S.refused machines.new) }
-    ensures blames { OfStores D.is_clean S.is_clean machines.new → OfStores D.is_sound S.is_sound machines.old → IfErr result (StopsFor (counts D.refused S.refused machines.old) (counts D.refused S.refused machines.new)) }
-    ensures ok { (db : Database) → IsOfCatalogue db → db.catalogue ≡ catalogue_of machines.old.desk.catalog → OfStores D.is_clean S.is_clean machines.new → OfStores D.is_sound S.is_sound machines.old → AreFit db (counted D.kept S.kept D.refused S.refused machines.old)
-        → IfOk result (λ heard. DoesRun db text.now begun.txn begun.heard.items (counted D.kept S.kept D.refused S.refused machines.old) (counted D.kept S.kept D.refused S.refused machines.new) heard.items) }
-    ensures denied { (db : Database) → IsOfCatalogue db → db.catalogue ≡ catalogue_of machines.old.desk.catalog → OfStores D.is_clean S.is_clean machines.new → OfStores D.is_sound S.is_sound machines.old → AreFit db (counted D.kept S.kept D.refused S.refused machines.old)
-        → IfErr result (RunIsDenied db text.now begun.txn begun.heard.items (counted D.kept S.kept D.refused S.refused machines.old) (counted D.kept S.kept D.refused S.refused machines.new)) }
-    ensures served { (db : Database) (whole : Relations) (past : List (Deed (language db))) → IsOfCatalogue db → ReachedLaw (language db) → db.catalogue ≡ catalogue_of machines.old.desk.catalog → OfStores D.is_clean S.is_clean machines.new → OfStores D.is_sound S.is_sound machines.old
-        → IsServed db whole (counted D.kept S.kept D.refused S.refused machines.old) past → IsServedOn db whole (counted D.kept S.kept D.refused S.refused machines.new) past }
+    ensures leaves { LeavesMachines D.is_clean S.is_clean D.is_sound S.is_sound D.refused S.refused machines.old machines.new }
+    ensures blames { Blames (OfStores D.is_clean S.is_clean) (OfStores D.is_sound S.is_sound) (counts D.refused S.refused) machines.old machines.new result }
+    ensures ok { OverDatabase (OfStores D.is_clean S.is_clean) (OfStores D.is_sound S.is_sound) (counted D.kept S.kept D.refused S.refused) machines.old machines.new
+        (λ db before after. IfOk result (λ heard. DoesRun db text.now begun.txn begun.heard.items before after heard.items)) }
+    ensures denied { OverDatabase (OfStores D.is_clean S.is_clean) (OfStores D.is_sound S.is_sound) (counted D.kept S.kept D.refused S.refused) machines.old machines.new
+        (λ db before after. IfErr result (RunIsDenied db text.now begun.txn begun.heard.items before after)) }
+    ensures served { StaysServed (OfStores D.is_clean S.is_clean) (OfStores D.is_sound S.is_sound) (counted D.kept S.kept D.refused S.refused) machines.old machines.new }
 {
     let Begun { txn, heard } = begun;
     match state(machines, txn, text) {
@@ -258,17 +239,13 @@ pub(crate) fn run_alone<D: DeskStore, S: SiteStore>(
     machines: &mut Machines<D, S>,
     text: &str,
 ) -> Result<Vec<Notice>, Refusal>
-    ensures clean { OfStores D.is_clean S.is_clean machines.new → OfStores D.is_clean S.is_clean machines.old }
-    ensures sound { OfStores D.is_clean S.is_clean machines.new → OfStores D.is_sound S.is_sound machines.old → OfStores D.is_sound S.is_sound machines.new }
-    ensures catalog { machines.new.desk.catalog ≡ machines.old.desk.catalog }
-    ensures counts { NoFewer (counts D.refused S.refused machines.old) (counts D.refused S.refused machines.new) }
-    ensures blames { OfStores D.is_clean S.is_clean machines.new → OfStores D.is_sound S.is_sound machines.old → IfErr result (StopsFor (counts D.refused S.refused machines.old) (counts D.refused S.refused machines.new)) }
-    ensures ok { (db : Database) → IsOfCatalogue db → db.catalogue ≡ catalogue_of machines.old.desk.catalog → OfStores D.is_clean S.is_clean machines.new → OfStores D.is_sound S.is_sound machines.old → AreFit db (counted D.kept S.kept D.refused S.refused machines.old)
-        → IfOk result (λ heard. DoesAlone db text.now (counted D.kept S.kept D.refused S.refused machines.old) (counted D.kept S.kept D.refused S.refused machines.new) heard.items) }
-    ensures denied { (db : Database) → IsOfCatalogue db → db.catalogue ≡ catalogue_of machines.old.desk.catalog → OfStores D.is_clean S.is_clean machines.new → OfStores D.is_sound S.is_sound machines.old → AreFit db (counted D.kept S.kept D.refused S.refused machines.old)
-        → IfErr result (LoneIsDenied db text.now (counted D.kept S.kept D.refused S.refused machines.old) (counted D.kept S.kept D.refused S.refused machines.new)) }
-    ensures served { (db : Database) (whole : Relations) (past : List (Deed (language db))) → IsOfCatalogue db → ReachedLaw (language db) → db.catalogue ≡ catalogue_of machines.old.desk.catalog → OfStores D.is_clean S.is_clean machines.new → OfStores D.is_sound S.is_sound machines.old
-        → IsServed db whole (counted D.kept S.kept D.refused S.refused machines.old) past → IsServedOn db whole (counted D.kept S.kept D.refused S.refused machines.new) past }
+    ensures leaves { LeavesMachines D.is_clean S.is_clean D.is_sound S.is_sound D.refused S.refused machines.old machines.new }
+    ensures blames { Blames (OfStores D.is_clean S.is_clean) (OfStores D.is_sound S.is_sound) (counts D.refused S.refused) machines.old machines.new result }
+    ensures ok { OverDatabase (OfStores D.is_clean S.is_clean) (OfStores D.is_sound S.is_sound) (counted D.kept S.kept D.refused S.refused) machines.old machines.new
+        (λ db before after. IfOk result (λ heard. DoesAlone db text.now before after heard.items)) }
+    ensures denied { OverDatabase (OfStores D.is_clean S.is_clean) (OfStores D.is_sound S.is_sound) (counted D.kept S.kept D.refused S.refused) machines.old machines.new
+        (λ db before after. IfErr result (LoneIsDenied db text.now before after)) }
+    ensures served { StaysServed (OfStores D.is_clean S.is_clean) (OfStores D.is_sound S.is_sound) (counted D.kept S.kept D.refused S.refused) machines.old machines.new }
 {
     match begin(machines) {
         Ok(begun) => run_begun(machines, begun, text),

@@ -14,6 +14,7 @@ ghost use Rattle.world.specs.declared.transaction.End.TheVariants as end;
 ghost use Rattle.world.specs.declared.transaction.Came.TheVariants.{Heard, Refused};
 ghost use Rattle.world.specs.Batch.{Makes, MakesMore, RunsAll, RunsOne, StopsAt, calls_of, calls_of_end, has_ended};
 ghost use Rattle.world.specs.Counted.{NoFewer, counts};
+ghost use Rattle.world.specs.Frame.{Blames, LeavesMachines, OverDatabase, StaysServed};
 ghost use Rattle.world.specs.Held.{OfStores, counted};
 ghost use Rattle.world.specs.Machines.{AreFit};
 ghost use Rattle.world.specs.Serving.{IsServed, IsServedOn};
@@ -103,16 +104,12 @@ fn state_all<D: DeskStore, S: SiteStore>(
     txn: Txn,
     texts: &[Text],
 ) -> Result<Stated, Refusal>
-    ensures clean { OfStores D.is_clean S.is_clean machines.new → OfStores D.is_clean S.is_clean machines.old }
-    ensures sound { OfStores D.is_clean S.is_clean machines.new → OfStores D.is_sound S.is_sound machines.old → OfStores D.is_sound S.is_sound machines.new }
-    ensures catalog { machines.new.desk.catalog ≡ machines.old.desk.catalog }
-    ensures counts { NoFewer (counts D.refused S.refused machines.old) (counts D.refused S.refused machines.new) }
-    ensures blames { OfStores D.is_clean S.is_clean machines.new → OfStores D.is_sound S.is_sound machines.old → IfErr result (StopsFor (counts D.refused S.refused machines.old) (counts D.refused S.refused machines.new)) }
+    ensures leaves { LeavesMachines D.is_clean S.is_clean D.is_sound S.is_sound D.refused S.refused machines.old machines.new }
+    ensures blames { Blames (OfStores D.is_clean S.is_clean) (OfStores D.is_sound S.is_sound) (counts D.refused S.refused) machines.old machines.new result }
     ensures own { IfErr result (λ refusal. is_stop refusal ≡ true) }
-    ensures ok { (db : Database) → IsOfCatalogue db → db.catalogue ≡ catalogue_of machines.old.desk.catalog → OfStores D.is_clean S.is_clean machines.new → OfStores D.is_sound S.is_sound machines.old → AreFit db (counted D.kept S.kept D.refused S.refused machines.old)
-        → IfOk result (λ stated. Makes db (map (λ text. call.State txn text) texts.now) stated.came.items stated.ended (counted D.kept S.kept D.refused S.refused machines.old) (counted D.kept S.kept D.refused S.refused machines.new)) }
-    ensures served { (db : Database) (whole : Relations) (past : List (Deed (language db))) → IsOfCatalogue db → ReachedLaw (language db) → db.catalogue ≡ catalogue_of machines.old.desk.catalog → OfStores D.is_clean S.is_clean machines.new → OfStores D.is_sound S.is_sound machines.old
-        → IsServed db whole (counted D.kept S.kept D.refused S.refused machines.old) past → IsServedOn db whole (counted D.kept S.kept D.refused S.refused machines.new) past }
+    ensures ok { OverDatabase (OfStores D.is_clean S.is_clean) (OfStores D.is_sound S.is_sound) (counted D.kept S.kept D.refused S.refused) machines.old machines.new
+        (λ db before after. IfOk result (λ stated. Makes db (map (λ text. call.State txn text) texts.now) stated.came.items stated.ended before after)) }
+    ensures served { StaysServed (OfStores D.is_clean S.is_clean) (OfStores D.is_sound S.is_sound) (counted D.kept S.kept D.refused S.refused) machines.old machines.new }
 {
     let mut came = Vec::new(machines.alloc);
     for text in texts {
@@ -133,16 +130,12 @@ fn ask_rollback<D: DeskStore, S: SiteStore>(
     txn: Txn,
     came: Vec<Came>,
 ) -> Result<Vec<Came>, Refusal>
-    ensures clean { OfStores D.is_clean S.is_clean machines.new → OfStores D.is_clean S.is_clean machines.old }
-    ensures sound { OfStores D.is_clean S.is_clean machines.new → OfStores D.is_sound S.is_sound machines.old → OfStores D.is_sound S.is_sound machines.new }
-    ensures catalog { machines.new.desk.catalog ≡ machines.old.desk.catalog }
-    ensures counts { NoFewer (counts D.refused S.refused machines.old) (counts D.refused S.refused machines.new) }
-    ensures blames { OfStores D.is_clean S.is_clean machines.new → OfStores D.is_sound S.is_sound machines.old → IfErr result (StopsFor (counts D.refused S.refused machines.old) (counts D.refused S.refused machines.new)) }
+    ensures leaves { LeavesMachines D.is_clean S.is_clean D.is_sound S.is_sound D.refused S.refused machines.old machines.new }
+    ensures blames { Blames (OfStores D.is_clean S.is_clean) (OfStores D.is_sound S.is_sound) (counts D.refused S.refused) machines.old machines.new result }
     ensures own { IfErr result (λ refusal. is_stop refusal ≡ true) }
-    ensures ok { (db : Database) → IsOfCatalogue db → db.catalogue ≡ catalogue_of machines.old.desk.catalog → OfStores D.is_clean S.is_clean machines.new → OfStores D.is_sound S.is_sound machines.old → AreFit db (counted D.kept S.kept D.refused S.refused machines.old)
-        → IfOk result (λ all. MakesMore db (calls_of_end end.Rollback txn) came.items all.items (counted D.kept S.kept D.refused S.refused machines.old) (counted D.kept S.kept D.refused S.refused machines.new)) }
-    ensures served { (db : Database) (whole : Relations) (past : List (Deed (language db))) → IsOfCatalogue db → ReachedLaw (language db) → db.catalogue ≡ catalogue_of machines.old.desk.catalog → OfStores D.is_clean S.is_clean machines.new → OfStores D.is_sound S.is_sound machines.old
-        → IsServed db whole (counted D.kept S.kept D.refused S.refused machines.old) past → IsServedOn db whole (counted D.kept S.kept D.refused S.refused machines.new) past }
+    ensures ok { OverDatabase (OfStores D.is_clean S.is_clean) (OfStores D.is_sound S.is_sound) (counted D.kept S.kept D.refused S.refused) machines.old machines.new
+        (λ db before after. IfOk result (λ all. MakesMore db (calls_of_end end.Rollback txn) came.items all.items before after)) }
+    ensures served { StaysServed (OfStores D.is_clean S.is_clean) (OfStores D.is_sound S.is_sound) (counted D.kept S.kept D.refused S.refused) machines.old machines.new }
 {
     let mut came = came;
     make_room(&mut came)?;
@@ -157,16 +150,12 @@ fn ask_commit<D: DeskStore, S: SiteStore>(
     txn: Txn,
     came: Vec<Came>,
 ) -> Result<Vec<Came>, Refusal>
-    ensures clean { OfStores D.is_clean S.is_clean machines.new → OfStores D.is_clean S.is_clean machines.old }
-    ensures sound { OfStores D.is_clean S.is_clean machines.new → OfStores D.is_sound S.is_sound machines.old → OfStores D.is_sound S.is_sound machines.new }
-    ensures catalog { machines.new.desk.catalog ≡ machines.old.desk.catalog }
-    ensures counts { NoFewer (counts D.refused S.refused machines.old) (counts D.refused S.refused machines.new) }
-    ensures blames { OfStores D.is_clean S.is_clean machines.new → OfStores D.is_sound S.is_sound machines.old → IfErr result (StopsFor (counts D.refused S.refused machines.old) (counts D.refused S.refused machines.new)) }
+    ensures leaves { LeavesMachines D.is_clean S.is_clean D.is_sound S.is_sound D.refused S.refused machines.old machines.new }
+    ensures blames { Blames (OfStores D.is_clean S.is_clean) (OfStores D.is_sound S.is_sound) (counts D.refused S.refused) machines.old machines.new result }
     ensures own { IfErr result (λ refusal. is_stop refusal ≡ true) }
-    ensures ok { (db : Database) → IsOfCatalogue db → db.catalogue ≡ catalogue_of machines.old.desk.catalog → OfStores D.is_clean S.is_clean machines.new → OfStores D.is_sound S.is_sound machines.old → AreFit db (counted D.kept S.kept D.refused S.refused machines.old)
-        → IfOk result (λ all. MakesMore db (calls_of_end end.Commit txn) came.items all.items (counted D.kept S.kept D.refused S.refused machines.old) (counted D.kept S.kept D.refused S.refused machines.new)) }
-    ensures served { (db : Database) (whole : Relations) (past : List (Deed (language db))) → IsOfCatalogue db → ReachedLaw (language db) → db.catalogue ≡ catalogue_of machines.old.desk.catalog → OfStores D.is_clean S.is_clean machines.new → OfStores D.is_sound S.is_sound machines.old
-        → IsServed db whole (counted D.kept S.kept D.refused S.refused machines.old) past → IsServedOn db whole (counted D.kept S.kept D.refused S.refused machines.new) past }
+    ensures ok { OverDatabase (OfStores D.is_clean S.is_clean) (OfStores D.is_sound S.is_sound) (counted D.kept S.kept D.refused S.refused) machines.old machines.new
+        (λ db before after. IfOk result (λ all. MakesMore db (calls_of_end end.Commit txn) came.items all.items before after)) }
+    ensures served { StaysServed (OfStores D.is_clean S.is_clean) (OfStores D.is_sound S.is_sound) (counted D.kept S.kept D.refused S.refused) machines.old machines.new }
 {
     let mut came = came;
     make_room(&mut came)?;
@@ -187,16 +176,12 @@ fn finish<D: DeskStore, S: SiteStore>(
     stated: Stated,
     end: End,
 ) -> Result<Vec<Came>, Refusal>
-    ensures clean { OfStores D.is_clean S.is_clean machines.new → OfStores D.is_clean S.is_clean machines.old }
-    ensures sound { OfStores D.is_clean S.is_clean machines.new → OfStores D.is_sound S.is_sound machines.old → OfStores D.is_sound S.is_sound machines.new }
-    ensures catalog { machines.new.desk.catalog ≡ machines.old.desk.catalog }
-    ensures counts { NoFewer (counts D.refused S.refused machines.old) (counts D.refused S.refused machines.new) }
-    ensures blames { OfStores D.is_clean S.is_clean machines.new → OfStores D.is_sound S.is_sound machines.old → IfErr result (StopsFor (counts D.refused S.refused machines.old) (counts D.refused S.refused machines.new)) }
+    ensures leaves { LeavesMachines D.is_clean S.is_clean D.is_sound S.is_sound D.refused S.refused machines.old machines.new }
+    ensures blames { Blames (OfStores D.is_clean S.is_clean) (OfStores D.is_sound S.is_sound) (counts D.refused S.refused) machines.old machines.new result }
     ensures own { IfErr result (λ refusal. is_stop refusal ≡ true) }
-    ensures ok { (db : Database) → IsOfCatalogue db → db.catalogue ≡ catalogue_of machines.old.desk.catalog → OfStores D.is_clean S.is_clean machines.new → OfStores D.is_sound S.is_sound machines.old → AreFit db (counted D.kept S.kept D.refused S.refused machines.old)
-        → (stated.ended ≡ false → IfOk result (λ all. MakesMore db (calls_of_end end txn) stated.came.items all.items (counted D.kept S.kept D.refused S.refused machines.old) (counted D.kept S.kept D.refused S.refused machines.new))) × (stated.ended ≡ true → IfOk result (λ all. (all.items ≡ stated.came.items) × (counted D.kept S.kept D.refused S.refused machines.new ≡ counted D.kept S.kept D.refused S.refused machines.old))) }
-    ensures served { (db : Database) (whole : Relations) (past : List (Deed (language db))) → IsOfCatalogue db → ReachedLaw (language db) → db.catalogue ≡ catalogue_of machines.old.desk.catalog → OfStores D.is_clean S.is_clean machines.new → OfStores D.is_sound S.is_sound machines.old
-        → IsServed db whole (counted D.kept S.kept D.refused S.refused machines.old) past → IsServedOn db whole (counted D.kept S.kept D.refused S.refused machines.new) past }
+    ensures ok { OverDatabase (OfStores D.is_clean S.is_clean) (OfStores D.is_sound S.is_sound) (counted D.kept S.kept D.refused S.refused) machines.old machines.new
+        (λ db before after. (stated.ended ≡ false → IfOk result (λ all. MakesMore db (calls_of_end end txn) stated.came.items all.items before after)) × (stated.ended ≡ true → IfOk result (λ all. (all.items ≡ stated.came.items) × (counted D.kept S.kept D.refused S.refused machines.new ≡ counted D.kept S.kept D.refused S.refused machines.old)))) }
+    ensures served { StaysServed (OfStores D.is_clean S.is_clean) (OfStores D.is_sound S.is_sound) (counted D.kept S.kept D.refused S.refused) machines.old machines.new }
 {
     let Stated { came, ended } = stated;
     if ended {
@@ -214,16 +199,12 @@ fn run_course<D: DeskStore, S: SiteStore>(
     begun: Begun,
     transaction: &Transaction,
 ) -> Result<Course, Refusal>
-    ensures clean { OfStores D.is_clean S.is_clean machines.new → OfStores D.is_clean S.is_clean machines.old }
-    ensures sound { OfStores D.is_clean S.is_clean machines.new → OfStores D.is_sound S.is_sound machines.old → OfStores D.is_sound S.is_sound machines.new }
-    ensures catalog { machines.new.desk.catalog ≡ machines.old.desk.catalog }
-    ensures counts { NoFewer (counts D.refused S.refused machines.old) (counts D.refused S.refused machines.new) }
-    ensures blames { OfStores D.is_clean S.is_clean machines.new → OfStores D.is_sound S.is_sound machines.old → IfErr result (StopsFor (counts D.refused S.refused machines.old) (counts D.refused S.refused machines.new)) }
+    ensures leaves { LeavesMachines D.is_clean S.is_clean D.is_sound S.is_sound D.refused S.refused machines.old machines.new }
+    ensures blames { Blames (OfStores D.is_clean S.is_clean) (OfStores D.is_sound S.is_sound) (counts D.refused S.refused) machines.old machines.new result }
     ensures own { IfErr result (λ refusal. is_stop refusal ≡ true) }
-    ensures ok { (db : Database) → IsOfCatalogue db → db.catalogue ≡ catalogue_of machines.old.desk.catalog → OfStores D.is_clean S.is_clean machines.new → OfStores D.is_sound S.is_sound machines.old → AreFit db (counted D.kept S.kept D.refused S.refused machines.old)
-        → IfOk result (λ course. (course.txn ≡ begun.txn) × (course.greeted ≡ begun.heard.items) × ((ended : Bool) × Makes db (calls_of transaction.now begun.txn) course.came ended (counted D.kept S.kept D.refused S.refused machines.old) (counted D.kept S.kept D.refused S.refused machines.new))) }
-    ensures served { (db : Database) (whole : Relations) (past : List (Deed (language db))) → IsOfCatalogue db → ReachedLaw (language db) → db.catalogue ≡ catalogue_of machines.old.desk.catalog → OfStores D.is_clean S.is_clean machines.new → OfStores D.is_sound S.is_sound machines.old
-        → IsServed db whole (counted D.kept S.kept D.refused S.refused machines.old) past → IsServedOn db whole (counted D.kept S.kept D.refused S.refused machines.new) past }
+    ensures ok { OverDatabase (OfStores D.is_clean S.is_clean) (OfStores D.is_sound S.is_sound) (counted D.kept S.kept D.refused S.refused) machines.old machines.new
+        (λ db before after. IfOk result (λ course. (course.txn ≡ begun.txn) × (course.greeted ≡ begun.heard.items) × ((ended : Bool) × Makes db (calls_of transaction.now begun.txn) course.came ended before after))) }
+    ensures served { StaysServed (OfStores D.is_clean S.is_clean) (OfStores D.is_sound S.is_sound) (counted D.kept S.kept D.refused S.refused) machines.old machines.new }
 {
     let Begun { txn, heard } = begun;
     let stated = state_all(machines, txn, transaction.texts.as_slice())?;
@@ -240,16 +221,12 @@ fn run_one<D: DeskStore, S: SiteStore>(
     machines: &mut Machines<D, S>,
     transaction: &Transaction,
 ) -> Result<Outcome, Refusal>
-    ensures clean { OfStores D.is_clean S.is_clean machines.new → OfStores D.is_clean S.is_clean machines.old }
-    ensures sound { OfStores D.is_clean S.is_clean machines.new → OfStores D.is_sound S.is_sound machines.old → OfStores D.is_sound S.is_sound machines.new }
-    ensures catalog { machines.new.desk.catalog ≡ machines.old.desk.catalog }
-    ensures counts { NoFewer (counts D.refused S.refused machines.old) (counts D.refused S.refused machines.new) }
-    ensures blames { OfStores D.is_clean S.is_clean machines.new → OfStores D.is_sound S.is_sound machines.old → IfErr result (StopsFor (counts D.refused S.refused machines.old) (counts D.refused S.refused machines.new)) }
+    ensures leaves { LeavesMachines D.is_clean S.is_clean D.is_sound S.is_sound D.refused S.refused machines.old machines.new }
+    ensures blames { Blames (OfStores D.is_clean S.is_clean) (OfStores D.is_sound S.is_sound) (counts D.refused S.refused) machines.old machines.new result }
     ensures own { IfErr result (λ refusal. is_stop refusal ≡ true) }
-    ensures ok { (db : Database) → IsOfCatalogue db → db.catalogue ≡ catalogue_of machines.old.desk.catalog → OfStores D.is_clean S.is_clean machines.new → OfStores D.is_sound S.is_sound machines.old → AreFit db (counted D.kept S.kept D.refused S.refused machines.old)
-        → IfOk result (λ outcome. RunsOne db transaction.now outcome (counted D.kept S.kept D.refused S.refused machines.old) (counted D.kept S.kept D.refused S.refused machines.new)) }
-    ensures served { (db : Database) (whole : Relations) (past : List (Deed (language db))) → IsOfCatalogue db → ReachedLaw (language db) → db.catalogue ≡ catalogue_of machines.old.desk.catalog → OfStores D.is_clean S.is_clean machines.new → OfStores D.is_sound S.is_sound machines.old
-        → IsServed db whole (counted D.kept S.kept D.refused S.refused machines.old) past → IsServedOn db whole (counted D.kept S.kept D.refused S.refused machines.new) past }
+    ensures ok { OverDatabase (OfStores D.is_clean S.is_clean) (OfStores D.is_sound S.is_sound) (counted D.kept S.kept D.refused S.refused) machines.old machines.new
+        (λ db before after. IfOk result (λ outcome. RunsOne db transaction.now outcome before after)) }
+    ensures served { StaysServed (OfStores D.is_clean S.is_clean) (OfStores D.is_sound S.is_sound) (counted D.kept S.kept D.refused S.refused) machines.old machines.new }
 {
     match begin(machines) {
         Ok(begun) => match run_course(machines, begun, transaction) {
@@ -271,18 +248,14 @@ pub(crate) fn run_all<D: DeskStore, S: SiteStore>(
     machines: &mut Machines<D, S>,
     transactions: &[Transaction],
 ) -> Result<Vec<Outcome>, Stop>
-    ensures clean { OfStores D.is_clean S.is_clean machines.new → OfStores D.is_clean S.is_clean machines.old }
-    ensures sound { OfStores D.is_clean S.is_clean machines.new → OfStores D.is_sound S.is_sound machines.old → OfStores D.is_sound S.is_sound machines.new }
-    ensures catalog { machines.new.desk.catalog ≡ machines.old.desk.catalog }
-    ensures counts { NoFewer (counts D.refused S.refused machines.old) (counts D.refused S.refused machines.new) }
+    ensures leaves { LeavesMachines D.is_clean S.is_clean D.is_sound S.is_sound D.refused S.refused machines.old machines.new }
     ensures blames { OfStores D.is_clean S.is_clean machines.new → OfStores D.is_sound S.is_sound machines.old → IfErr result (λ stop. StopsFor (counts D.refused S.refused machines.old) (counts D.refused S.refused machines.new) stop.refusal) }
     ensures own { IfErr result (λ stop. is_stop stop.refusal ≡ true) }
-    ensures ok { (db : Database) → IsOfCatalogue db → db.catalogue ≡ catalogue_of machines.old.desk.catalog → OfStores D.is_clean S.is_clean machines.new → OfStores D.is_sound S.is_sound machines.old → AreFit db (counted D.kept S.kept D.refused S.refused machines.old)
-        → IfOk result (λ outcomes. RunsAll db transactions.now outcomes.items (counted D.kept S.kept D.refused S.refused machines.old) (counted D.kept S.kept D.refused S.refused machines.new)) }
-    ensures stops { (db : Database) → IsOfCatalogue db → db.catalogue ≡ catalogue_of machines.old.desk.catalog → OfStores D.is_clean S.is_clean machines.new → OfStores D.is_sound S.is_sound machines.old → AreFit db (counted D.kept S.kept D.refused S.refused machines.old)
-        → ReachedLaw (language db) → IfErr result (λ stop. StopsAt db transactions.now stop.done (counted D.kept S.kept D.refused S.refused machines.old) (counted D.kept S.kept D.refused S.refused machines.new)) }
-    ensures served { (db : Database) (whole : Relations) (past : List (Deed (language db))) → IsOfCatalogue db → ReachedLaw (language db) → db.catalogue ≡ catalogue_of machines.old.desk.catalog → OfStores D.is_clean S.is_clean machines.new → OfStores D.is_sound S.is_sound machines.old
-        → IsServed db whole (counted D.kept S.kept D.refused S.refused machines.old) past → IsServedOn db whole (counted D.kept S.kept D.refused S.refused machines.new) past }
+    ensures ok { OverDatabase (OfStores D.is_clean S.is_clean) (OfStores D.is_sound S.is_sound) (counted D.kept S.kept D.refused S.refused) machines.old machines.new
+        (λ db before after. IfOk result (λ outcomes. RunsAll db transactions.now outcomes.items before after)) }
+    ensures stops { OverDatabase (OfStores D.is_clean S.is_clean) (OfStores D.is_sound S.is_sound) (counted D.kept S.kept D.refused S.refused) machines.old machines.new
+        (λ db before after. ReachedLaw (language db) → IfErr result (λ stop. StopsAt db transactions.now stop.done before after)) }
+    ensures served { StaysServed (OfStores D.is_clean S.is_clean) (OfStores D.is_sound S.is_sound) (counted D.kept S.kept D.refused S.refused) machines.old machines.new }
 {
     let mut outcomes = Vec::new(machines.alloc);
     for transaction in transactions {

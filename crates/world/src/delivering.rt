@@ -8,6 +8,7 @@ ghost use Rattle.protocol.specs.Rounds.{RanksUnder};
 ghost use Rattle.desk.specs.declared.refusal.Refusal.TheVariants as refusals;
 ghost use Rattle.world.specs.Counted.{NoFewer, counts};
 ghost use Rattle.world.specs.Delivering.{Breaks, Goes, settled};
+ghost use Rattle.world.specs.Frame.{Blames, LeavesMachines, OverDatabase, StaysOnErr};
 ghost use Rattle.world.specs.Held.{OfStores, counted, held};
 ghost use Rattle.world.specs.Machines.{AreFit};
 ghost use Rattle.world.specs.Reasons.{Tells};
@@ -50,15 +51,12 @@ fn take<D: DeskStore, S: SiteStore>(
     machines: &mut Machines<D, S>,
     letter: Letter,
 ) -> Result<Out, Fault>
-    ensures clean { OfStores D.is_clean S.is_clean machines.new → OfStores D.is_clean S.is_clean machines.old }
-    ensures sound { OfStores D.is_clean S.is_clean machines.new → OfStores D.is_sound S.is_sound machines.old → OfStores D.is_sound S.is_sound machines.new }
-    ensures catalog { machines.new.desk.catalog ≡ machines.old.desk.catalog }
-    ensures counts { NoFewer (counts D.refused S.refused machines.old) (counts D.refused S.refused machines.new) }
+    ensures leaves { LeavesMachines D.is_clean S.is_clean D.is_sound S.is_sound D.refused S.refused machines.old machines.new }
     ensures blames { OfStores D.is_clean S.is_clean machines.new → OfStores D.is_sound S.is_sound machines.old → IfErr result (λ fault. IfSome (stop_of fault) (StopsFor (counts D.refused S.refused machines.old) (counts D.refused S.refused machines.new))) }
-    ensures ok { (db : Database) → IsOfCatalogue db → db.catalogue ≡ catalogue_of machines.old.desk.catalog → OfStores D.is_clean S.is_clean machines.new → OfStores D.is_sound S.is_sound machines.old → AreFit db (counted D.kept S.kept D.refused S.refused machines.old)
-        → IfOk result (λ out. IsDone db letter (counted D.kept S.kept D.refused S.refused machines.old) (counted D.kept S.kept D.refused S.refused machines.new) out.letters out.replies) }
+    ensures ok { OverDatabase (OfStores D.is_clean S.is_clean) (OfStores D.is_sound S.is_sound) (counted D.kept S.kept D.refused S.refused) machines.old machines.new
+        (λ db before after. IfOk result (λ out. IsDone db letter before after out.letters out.replies)) }
     ensures told { (db : Database) → IsOfCatalogue db → db.catalogue ≡ catalogue_of machines.old.desk.catalog → AreFit db (counted D.kept S.kept D.refused S.refused machines.old) → IfErr result (Tells db (counted D.kept S.kept D.refused S.refused machines.old) letter) }
-    ensures err { OfStores D.is_clean S.is_clean machines.new → OfStores D.is_sound S.is_sound machines.old → OnErr result (held D.kept S.kept machines.new ≡ held D.kept S.kept machines.old) }
+    ensures err { StaysOnErr (OfStores D.is_clean S.is_clean) (OfStores D.is_sound S.is_sound) (held D.kept S.kept) machines.old machines.new result }
 {
     if !has_site(machines.desk.catalog(), &letter.site) {
         return Err(Fault::Unsent);
@@ -72,14 +70,11 @@ fn deliver_one<D: DeskStore, S: SiteStore>(
     machines: &mut Machines<D, S>,
     letter: Letter,
 ) -> Result<Out, Refusal>
-    ensures clean { OfStores D.is_clean S.is_clean machines.new → OfStores D.is_clean S.is_clean machines.old }
-    ensures sound { OfStores D.is_clean S.is_clean machines.new → OfStores D.is_sound S.is_sound machines.old → OfStores D.is_sound S.is_sound machines.new }
-    ensures catalog { machines.new.desk.catalog ≡ machines.old.desk.catalog }
-    ensures counts { NoFewer (counts D.refused S.refused machines.old) (counts D.refused S.refused machines.new) }
-    ensures blames { OfStores D.is_clean S.is_clean machines.new → OfStores D.is_sound S.is_sound machines.old → IfErr result (StopsFor (counts D.refused S.refused machines.old) (counts D.refused S.refused machines.new)) }
-    ensures ok { (db : Database) → IsOfCatalogue db → db.catalogue ≡ catalogue_of machines.old.desk.catalog → OfStores D.is_clean S.is_clean machines.new → OfStores D.is_sound S.is_sound machines.old → AreFit db (counted D.kept S.kept D.refused S.refused machines.old)
-        → IfOk result (λ out. IsDone db letter (counted D.kept S.kept D.refused S.refused machines.old) (counted D.kept S.kept D.refused S.refused machines.new) out.letters out.replies) }
-    ensures err { OfStores D.is_clean S.is_clean machines.new → OfStores D.is_sound S.is_sound machines.old → OnErr result (held D.kept S.kept machines.new ≡ held D.kept S.kept machines.old) }
+    ensures leaves { LeavesMachines D.is_clean S.is_clean D.is_sound S.is_sound D.refused S.refused machines.old machines.new }
+    ensures blames { Blames (OfStores D.is_clean S.is_clean) (OfStores D.is_sound S.is_sound) (counts D.refused S.refused) machines.old machines.new result }
+    ensures ok { OverDatabase (OfStores D.is_clean S.is_clean) (OfStores D.is_sound S.is_sound) (counted D.kept S.kept D.refused S.refused) machines.old machines.new
+        (λ db before after. IfOk result (λ out. IsDone db letter before after out.letters out.replies)) }
+    ensures err { StaysOnErr (OfStores D.is_clean S.is_clean) (OfStores D.is_sound S.is_sound) (held D.kept S.kept) machines.old machines.new result }
     ensures own { IfErr result (λ refusal. is_stop refusal ≡ true) }
 {
     let txn = letter.txn;
@@ -139,17 +134,14 @@ fn deliver_next<D: DeskStore, S: SiteStore>(
     machines: &mut Machines<D, S>,
     post: &mut Post,
 ) -> Result<(), Refusal>
-    ensures clean { OfStores D.is_clean S.is_clean machines.new → OfStores D.is_clean S.is_clean machines.old }
-    ensures sound { OfStores D.is_clean S.is_clean machines.new → OfStores D.is_sound S.is_sound machines.old → OfStores D.is_sound S.is_sound machines.new }
-    ensures catalog { machines.new.desk.catalog ≡ machines.old.desk.catalog }
-    ensures counts { NoFewer (counts D.refused S.refused machines.old) (counts D.refused S.refused machines.new) }
-    ensures blames { OfStores D.is_clean S.is_clean machines.new → OfStores D.is_sound S.is_sound machines.old → IfErr result (StopsFor (counts D.refused S.refused machines.old) (counts D.refused S.refused machines.new)) }
-    ensures ok { (db : Database) → IsOfCatalogue db → db.catalogue ≡ catalogue_of machines.old.desk.catalog → OfStores D.is_clean S.is_clean machines.new → OfStores D.is_sound S.is_sound machines.old → AreFit db (counted D.kept S.kept D.refused S.refused machines.old)
-        → OnOk result (Goes db (λ w. w) (scene (counted D.kept S.kept D.refused S.refused machines.old) post.old) (scene (counted D.kept S.kept D.refused S.refused machines.new) post.new)) }
+    ensures leaves { LeavesMachines D.is_clean S.is_clean D.is_sound S.is_sound D.refused S.refused machines.old machines.new }
+    ensures blames { Blames (OfStores D.is_clean S.is_clean) (OfStores D.is_sound S.is_sound) (counts D.refused S.refused) machines.old machines.new result }
+    ensures ok { OverDatabase (OfStores D.is_clean S.is_clean) (OfStores D.is_sound S.is_sound) (counted D.kept S.kept D.refused S.refused) machines.old machines.new
+        (λ db before after. OnOk result (Goes db (λ w. w) (scene before post.old) (scene after post.new))) }
     ensures ranks { (db : Database) (n i : ℕ) → IsOfCatalogue db → db.catalogue ≡ catalogue_of machines.old.desk.catalog → OfStores D.is_clean S.is_clean machines.new → OfStores D.is_sound S.is_sound machines.old → AreFit db (counted D.kept S.kept D.refused S.refused machines.old)
         → IsInRound db n (suc i) (scene (counted D.kept S.kept D.refused S.refused machines.old) post.old) → OnOk result (IsInRound db n i (scene (counted D.kept S.kept D.refused S.refused machines.new) post.new)) }
-    ensures err { (db : Database) → IsOfCatalogue db → db.catalogue ≡ catalogue_of machines.old.desk.catalog → OfStores D.is_clean S.is_clean machines.new → OfStores D.is_sound S.is_sound machines.old → AreFit db (counted D.kept S.kept D.refused S.refused machines.old)
-        → OnErr result (Breaks db (λ w. w) (scene (counted D.kept S.kept D.refused S.refused machines.old) post.old) (counted D.kept S.kept D.refused S.refused machines.new)) }
+    ensures err { OverDatabase (OfStores D.is_clean S.is_clean) (OfStores D.is_sound S.is_sound) (counted D.kept S.kept D.refused S.refused) machines.old machines.new
+        (λ db before after. OnErr result (Breaks db (λ w. w) (scene before post.old) after)) }
     ensures own { IfErr result (λ refusal. is_stop refusal ≡ true) }
 {
     let Some(letter) = post.waiting.pop_front() else {
@@ -166,17 +158,14 @@ fn deliver_round<D: DeskStore, S: SiteStore>(
     machines: &mut Machines<D, S>,
     post: &mut Post,
 ) -> Result<(), Refusal>
-    ensures clean { OfStores D.is_clean S.is_clean machines.new → OfStores D.is_clean S.is_clean machines.old }
-    ensures sound { OfStores D.is_clean S.is_clean machines.new → OfStores D.is_sound S.is_sound machines.old → OfStores D.is_sound S.is_sound machines.new }
-    ensures catalog { machines.new.desk.catalog ≡ machines.old.desk.catalog }
-    ensures counts { NoFewer (counts D.refused S.refused machines.old) (counts D.refused S.refused machines.new) }
-    ensures blames { OfStores D.is_clean S.is_clean machines.new → OfStores D.is_sound S.is_sound machines.old → IfErr result (StopsFor (counts D.refused S.refused machines.old) (counts D.refused S.refused machines.new)) }
-    ensures ok { (db : Database) → IsOfCatalogue db → db.catalogue ≡ catalogue_of machines.old.desk.catalog → OfStores D.is_clean S.is_clean machines.new → OfStores D.is_sound S.is_sound machines.old → AreFit db (counted D.kept S.kept D.refused S.refused machines.old)
-        → OnOk result (Goes db (λ w. w) (scene (counted D.kept S.kept D.refused S.refused machines.old) post.old) (scene (counted D.kept S.kept D.refused S.refused machines.new) post.new)) }
+    ensures leaves { LeavesMachines D.is_clean S.is_clean D.is_sound S.is_sound D.refused S.refused machines.old machines.new }
+    ensures blames { Blames (OfStores D.is_clean S.is_clean) (OfStores D.is_sound S.is_sound) (counts D.refused S.refused) machines.old machines.new result }
+    ensures ok { OverDatabase (OfStores D.is_clean S.is_clean) (OfStores D.is_sound S.is_sound) (counted D.kept S.kept D.refused S.refused) machines.old machines.new
+        (λ db before after. OnOk result (Goes db (λ w. w) (scene before post.old) (scene after post.new))) }
     ensures ranks { (db : Database) (n : ℕ) → IsOfCatalogue db → db.catalogue ≡ catalogue_of machines.old.desk.catalog → OfStores D.is_clean S.is_clean machines.new → OfStores D.is_sound S.is_sound machines.old → AreFit db (counted D.kept S.kept D.refused S.refused machines.old)
         → RanksUnder (suc n) (world_at db (scene (counted D.kept S.kept D.refused S.refused machines.old) post.old)) → OnOk result (RanksUnder n (world_at db (scene (counted D.kept S.kept D.refused S.refused machines.new) post.new))) }
-    ensures err { (db : Database) → IsOfCatalogue db → db.catalogue ≡ catalogue_of machines.old.desk.catalog → OfStores D.is_clean S.is_clean machines.new → OfStores D.is_sound S.is_sound machines.old → AreFit db (counted D.kept S.kept D.refused S.refused machines.old)
-        → OnErr result (Breaks db (λ w. w) (scene (counted D.kept S.kept D.refused S.refused machines.old) post.old) (counted D.kept S.kept D.refused S.refused machines.new)) }
+    ensures err { OverDatabase (OfStores D.is_clean S.is_clean) (OfStores D.is_sound S.is_sound) (counted D.kept S.kept D.refused S.refused) machines.old machines.new
+        (λ db before after. OnErr result (Breaks db (λ w. w) (scene before post.old) after)) }
     ensures own { IfErr result (λ refusal. is_stop refusal ≡ true) }
 {
     for _ in 0..post.waiting.len() {
@@ -190,15 +179,12 @@ pub(crate) fn settle<D: DeskStore, S: SiteStore>(
     machines: &mut Machines<D, S>,
     out: Out,
 ) -> Result<Vec<Notice>, Refusal>
-    ensures clean { OfStores D.is_clean S.is_clean machines.new → OfStores D.is_clean S.is_clean machines.old }
-    ensures sound { OfStores D.is_clean S.is_clean machines.new → OfStores D.is_sound S.is_sound machines.old → OfStores D.is_sound S.is_sound machines.new }
-    ensures catalog { machines.new.desk.catalog ≡ machines.old.desk.catalog }
-    ensures counts { NoFewer (counts D.refused S.refused machines.old) (counts D.refused S.refused machines.new) }
-    ensures blames { OfStores D.is_clean S.is_clean machines.new → OfStores D.is_sound S.is_sound machines.old → IfErr result (StopsFor (counts D.refused S.refused machines.old) (counts D.refused S.refused machines.new)) }
-    ensures ok { (db : Database) → IsOfCatalogue db → db.catalogue ≡ catalogue_of machines.old.desk.catalog → OfStores D.is_clean S.is_clean machines.new → OfStores D.is_sound S.is_sound machines.old → AreFit db (counted D.kept S.kept D.refused S.refused machines.old)
-        → IfOk result (λ heard. Goes db (λ w. w) (put_out_by (counted D.kept S.kept D.refused S.refused machines.old) out) (settled (counted D.kept S.kept D.refused S.refused machines.new) heard.items)) }
-    ensures err { (db : Database) → IsOfCatalogue db → db.catalogue ≡ catalogue_of machines.old.desk.catalog → OfStores D.is_clean S.is_clean machines.new → OfStores D.is_sound S.is_sound machines.old → AreFit db (counted D.kept S.kept D.refused S.refused machines.old)
-        → OnErr result (Breaks db (λ w. w) (put_out_by (counted D.kept S.kept D.refused S.refused machines.old) out) (counted D.kept S.kept D.refused S.refused machines.new)) }
+    ensures leaves { LeavesMachines D.is_clean S.is_clean D.is_sound S.is_sound D.refused S.refused machines.old machines.new }
+    ensures blames { Blames (OfStores D.is_clean S.is_clean) (OfStores D.is_sound S.is_sound) (counts D.refused S.refused) machines.old machines.new result }
+    ensures ok { OverDatabase (OfStores D.is_clean S.is_clean) (OfStores D.is_sound S.is_sound) (counted D.kept S.kept D.refused S.refused) machines.old machines.new
+        (λ db before after. IfOk result (λ heard. Goes db (λ w. w) (put_out_by before out) (settled after heard.items))) }
+    ensures err { OverDatabase (OfStores D.is_clean S.is_clean) (OfStores D.is_sound S.is_sound) (counted D.kept S.kept D.refused S.refused) machines.old machines.new
+        (λ db before after. OnErr result (Breaks db (λ w. w) (put_out_by before out) after)) }
     ensures own { IfErr result (λ refusal. is_stop refusal ≡ true) }
 {
     let mut post = Post::of(out);

@@ -9,6 +9,7 @@ ghost use Rattle.catalog.specs.Relation.{catalogue_of};
 ghost use Rattle.protocol.specs.Desk.{Deed};
 ghost use Rattle.desk.specs.Database.{Database, language};
 ghost use Rattle.desk.specs.OfCatalogue.{IsOfCatalogue};
+ghost use Rattle.world.specs.Frame.{LeavesMachines, StaysOnErr};
 ghost use Rattle.world.specs.Held.{OfStores, held};
 ghost use Rattle.desk.specs.State.{table_of};
 ghost use Rattle.desk.specs.declared.refusal.Refusal.TheVariants as refusals;
@@ -63,14 +64,12 @@ fn deliver<D: DeskStore, S: SiteStore>(
     number: usize,
     kept: bool,
 ) -> Result<Out, Fault>
-    ensures clean { OfStores D.is_clean S.is_clean machines.new → OfStores D.is_clean S.is_clean machines.old }
-    ensures sound { OfStores D.is_clean S.is_clean machines.new → OfStores D.is_sound S.is_sound machines.old → OfStores D.is_sound S.is_sound machines.new }
+    ensures leaves { LeavesMachines D.is_clean S.is_clean D.is_sound S.is_sound D.refused S.refused machines.old machines.new }
     ensures ok { (db : Database) (whole : Relations) (past : List (Deed (language db))) → IsOfCatalogue db → db.catalogue ≡ catalogue_of machines.old.desk.catalog → OfStores D.is_clean S.is_clean machines.new → OfStores D.is_sound S.is_sound machines.old
         → IsRun db whole (held D.kept S.kept machines.old) log.now.items past → IfOk result (λ out. RunsOn db whole (held D.kept S.kept machines.new) (log.now.items ++ entry_of (events.Deliver number kept) out ∷ []) past) }
     ensures unsent { result ≡ Err faults.Unsent → is_unsent machines.old.desk.catalog.0 log.now.items (events.Deliver number kept) ≡ true }
     ensures nowhere { is_unsent machines.old.desk.catalog.0 log.now.items (events.Deliver number kept) ≡ true → result ≡ Err faults.Unsent }
-    ensures catalog { machines.new.desk.catalog ≡ machines.old.desk.catalog }
-    ensures err { OfStores D.is_clean S.is_clean machines.new → OfStores D.is_sound S.is_sound machines.old → OnErr result (held D.kept S.kept machines.new ≡ held D.kept S.kept machines.old) }
+    ensures err { StaysOnErr (OfStores D.is_clean S.is_clean) (OfStores D.is_sound S.is_sound) (held D.kept S.kept) machines.old machines.new result }
 {
     let Some(letter) = log.letter(number) else {
         return Err(Fault::Unsent);
@@ -87,13 +86,11 @@ fn call<D: DeskStore, S: SiteStore>(
     machines: &mut Machines<D, S>,
     call: &Call,
 ) -> Result<Out, Refusal>
-    ensures clean { OfStores D.is_clean S.is_clean machines.new → OfStores D.is_clean S.is_clean machines.old }
-    ensures sound { OfStores D.is_clean S.is_clean machines.new → OfStores D.is_sound S.is_sound machines.old → OfStores D.is_sound S.is_sound machines.new }
+    ensures leaves { LeavesMachines D.is_clean S.is_clean D.is_sound S.is_sound D.refused S.refused machines.old machines.new }
     ensures ok { (db : Database) (whole : Relations) (entries : List EntryNow) (past : List (Deed (language db))) → IsOfCatalogue db → db.catalogue ≡ catalogue_of machines.old.desk.catalog
         → IsRun db whole (held D.kept S.kept machines.old) entries past → IfOk result (λ out. RunsOn db whole (held D.kept S.kept machines.new) (entries ++ entry_of (events.Call call.now) out ∷ []) past) }
     ensures refused { (db : Database) → IsOfCatalogue db → db.catalogue ≡ catalogue_of machines.old.desk.catalog → AreFit db (held D.kept S.kept machines.old)
         → IfErr result (λ told. (told ≡ refusals.Memory) ⊎ IsRefused db (table_of machines.old.desk.present) call.now told) }
-    ensures catalog { machines.new.desk.catalog ≡ machines.old.desk.catalog }
     ensures err { OnErr result (held D.kept S.kept machines.new ≡ held D.kept S.kept machines.old) }
 {
     match call {
@@ -112,14 +109,12 @@ fn happen_at<D: DeskStore, S: SiteStore>(
     kept: bool,
 ) -> Result<Out, Fault>
     requires { is_letter what ≡ false }
-    ensures clean { OfStores D.is_clean S.is_clean machines.new → OfStores D.is_clean S.is_clean machines.old }
-    ensures sound { OfStores D.is_clean S.is_clean machines.new → OfStores D.is_sound S.is_sound machines.old → OfStores D.is_sound S.is_sound machines.new }
+    ensures leaves { LeavesMachines D.is_clean S.is_clean D.is_sound S.is_sound D.refused S.refused machines.old machines.new }
     ensures ok { (db : Database) (whole : Relations) (entries : List EntryNow) (at : EventNow) (past : List (Deed (language db))) → IsOfCatalogue db → db.catalogue ≡ catalogue_of machines.old.desk.catalog → OfStores D.is_clean S.is_clean machines.new → OfStores D.is_sound S.is_sound machines.old
         → IsAtSite what kept at → IsRun db whole (held D.kept S.kept machines.old) entries past → IfOk result (λ out. RunsOn db whole (held D.kept S.kept machines.new) (entries ++ entry_of at out ∷ []) past) }
     ensures unsent { result ≡ Err faults.Unsent → is_nowhere machines.old.desk.catalog.0 (place_of what) ≡ true }
     ensures nowhere { is_nowhere machines.old.desk.catalog.0 (place_of what) ≡ true → result ≡ Err faults.Unsent }
-    ensures catalog { machines.new.desk.catalog ≡ machines.old.desk.catalog }
-    ensures err { OfStores D.is_clean S.is_clean machines.new → OfStores D.is_sound S.is_sound machines.old → OnErr result (held D.kept S.kept machines.new ≡ held D.kept S.kept machines.old) }
+    ensures err { StaysOnErr (OfStores D.is_clean S.is_clean) (OfStores D.is_sound S.is_sound) (held D.kept S.kept) machines.old machines.new result }
 {
     if !has_site(machines.desk.catalog(), what.site()) {
         return Err(Fault::Unsent);
@@ -136,16 +131,14 @@ pub(crate) fn happen<D: DeskStore, S: SiteStore>(
     log: &Log,
     event: &Event,
 ) -> Result<Out, Fault>
-    ensures clean { OfStores D.is_clean S.is_clean machines.new → OfStores D.is_clean S.is_clean machines.old }
-    ensures sound { OfStores D.is_clean S.is_clean machines.new → OfStores D.is_sound S.is_sound machines.old → OfStores D.is_sound S.is_sound machines.new }
+    ensures leaves { LeavesMachines D.is_clean S.is_clean D.is_sound S.is_sound D.refused S.refused machines.old machines.new }
     ensures ok { (db : Database) (whole : Relations) (past : List (Deed (language db))) → IsOfCatalogue db → db.catalogue ≡ catalogue_of machines.old.desk.catalog → OfStores D.is_clean S.is_clean machines.new → OfStores D.is_sound S.is_sound machines.old
         → IsRun db whole (held D.kept S.kept machines.old) log.now.items past → IfOk result (λ out. RunsOn db whole (held D.kept S.kept machines.new) (log.now.items ++ entry_of event.now out ∷ []) past) }
     ensures unsent { result ≡ Err faults.Unsent → is_unsent machines.old.desk.catalog.0 log.now.items event.now ≡ true }
     ensures nowhere { is_unsent machines.old.desk.catalog.0 log.now.items event.now ≡ true → (result ≡ Err faults.Unsent) ⊎ (result ≡ Err (faults.Desk refusals.Memory)) }
     ensures refused { (db : Database) (asked : CallNow) → IsOfCatalogue db → db.catalogue ≡ catalogue_of machines.old.desk.catalog → AreFit db (held D.kept S.kept machines.old) → event.now ≡ events.Call asked
         → IfErr result (λ fault. (fault ≡ faults.Desk refusals.Memory) ⊎ IsToldOf db (table_of machines.old.desk.present) asked fault) }
-    ensures catalog { machines.new.desk.catalog ≡ machines.old.desk.catalog }
-    ensures err { OfStores D.is_clean S.is_clean machines.new → OfStores D.is_sound S.is_sound machines.old → OnErr result (held D.kept S.kept machines.new ≡ held D.kept S.kept machines.old) }
+    ensures err { StaysOnErr (OfStores D.is_clean S.is_clean) (OfStores D.is_sound S.is_sound) (held D.kept S.kept) machines.old machines.new result }
 {
     match event {
         Event::Call(asked) => by_desk(call(machines, asked)),

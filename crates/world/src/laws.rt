@@ -9,6 +9,7 @@ ghost use Rattle.protocol.specs.ClientLaw.{LetterByLetter};
 ghost use Rattle.protocol.specs.Fitting.{StaysFitting};
 ghost use Rattle.protocol.specs.Language.{IsLawful};
 ghost use Rattle.protocol.specs.OneClient.{OneAtATime};
+ghost use Rattle.protocol.specs.Parts.{PartThree, PartsOneAndTwo};
 ghost use Rattle.protocol.specs.Rounds.{RoundByLetter};
 ghost use Rattle.protocol.specs.Serial.{SerialLaw};
 ghost use Rattle.desk.specs.Database.{language};
@@ -17,7 +18,7 @@ ghost use Rattle.world.specs.Base.{IsBase, database, fits};
 ghost use Rattle.world.specs.Deeds.{DeedsFollow};
 ghost use Rattle.world.specs.Denying.{DeniesForAReason};
 ghost use Rattle.world.specs.Obeying.{ObeysUnlessRefused};
-ghost use Rattle.world.specs.Runs.{RunsAreSerial, RunsAreWhole};
+ghost use Rattle.world.specs.Runs.{RunsAreSerial, RunsHold};
 ghost use Rattle.world.specs.Serving.{ServedIsSerial};
 ghost use Rattle.world.specs.Settling.{GrowsQuiet};
 ghost use Rattle.world.specs.Smoothly.{ServesSmoothly, ServesUnlessRefused};
@@ -80,10 +81,28 @@ pub fn applied_whole_and_once(catalog: &Catalog)
     language_is_lawful(catalog);
 }
 
-/// The same of the machines at hand: after each run of them.
-pub fn runs_are_whole(catalog: &Catalog)
-    ensures { RunsAreWhole (database (catalogue_of catalog.now)) }
+/// Only a viable transaction is committed, after every list of events; one that can no longer commit never can
+/// again; where a viable one writes, nobody else has a lock, and what it writes no later one reads that counts.
+pub fn parts_one_and_two(catalog: &Catalog)
+    ensures { PartsOneAndTwo (language (database (catalogue_of catalog.now))) }
 {
+    language_is_lawful(catalog);
+}
+
+/// Each transaction that is committed, or can still be, has read the contents after the committed ones before
+/// it, with its own earlier writes; and the settled contents are those after all committed ones.
+pub fn part_three(catalog: &Catalog)
+    ensures { PartThree (language (database (catalogue_of catalog.now))) }
+{
+    language_is_lawful(catalog);
+}
+
+/// The invariant holds of the machines at hand: after each run of them.
+pub fn runs_hold(catalog: &Catalog)
+    ensures { RunsHold (database (catalogue_of catalog.now)) }
+{
+    parts_one_and_two(catalog);
+    part_three(catalog);
     applied_whole_and_once(catalog);
 }
 

@@ -48,6 +48,7 @@ impl<D: DeskStore, S: SiteStore> Machines<D, S> {
     ghost use Rattle.world.specs.Stopping.{StopsFor};
     ghost use Rattle.world.specs.Taking.{CameUnless, stop_of};
     ghost use Rattle.site.specs.Refusals.{AsksToKeep};
+    ghost use Rattle.world.specs.Frame.{LeavesMachines, StaysOnErr};
     ghost use Rattle.world.specs.Held.{OfStores, held};
     ghost use Rattle.world.specs.Machines.{AreFit, Asked, Came, Leads, Stated, happens_at, is_for_site, is_of_site, is_order, world_of};
     ghost use Rattle.catalog.specs.Relation.{catalogue_of};
@@ -57,13 +58,11 @@ impl<D: DeskStore, S: SiteStore> Machines<D, S> {
 
     /// A transaction begins.
     pub(crate) fn begin(&mut self) -> Result<Out, Refusal>
-        ensures clean { OfStores D.is_clean S.is_clean self.new → OfStores D.is_clean S.is_clean self.old }
-        ensures sound { OfStores D.is_clean S.is_clean self.new → OfStores D.is_sound S.is_sound self.old → OfStores D.is_sound S.is_sound self.new }
+        ensures leaves { LeavesMachines D.is_clean S.is_clean D.is_sound S.is_sound D.refused S.refused self.old self.new }
         ensures ok { (db : Database) → IsOver db self.old.desk.catalog.0 → AreFit db (held D.kept S.kept self.old)
             → IfOk result (λ out. Leads db begins (held D.kept S.kept self.old) (held D.kept S.kept self.new) out.letters out.replies) }
         ensures full { (db : Database) → IsOver db self.old.desk.catalog.0 → AreFit db (held D.kept S.kept self.old)
             → IfErr result (λ told. (told ≡ refusals.Memory) ⊎ IsRefused db (table_of self.old.desk.present) calls.Begin told) }
-        ensures catalog { self.new.desk.catalog ≡ self.old.desk.catalog }
         ensures uncalled { counts D.refused S.refused self.new ≡ counts D.refused S.refused self.old }
         ensures blames { IfErr result (StopsFor (counts D.refused S.refused self.old) (counts D.refused S.refused self.new)) }
         ensures err { OnErr result (held D.kept S.kept self.new ≡ held D.kept S.kept self.old) }
@@ -73,12 +72,10 @@ impl<D: DeskStore, S: SiteStore> Machines<D, S> {
 
     /// The commit of a transaction is asked for.
     pub(crate) fn commit(&mut self, txn: Txn) -> Result<Out, Refusal>
-        ensures clean { OfStores D.is_clean S.is_clean self.new → OfStores D.is_clean S.is_clean self.old }
-        ensures sound { OfStores D.is_clean S.is_clean self.new → OfStores D.is_sound S.is_sound self.old → OfStores D.is_sound S.is_sound self.new }
+        ensures leaves { LeavesMachines D.is_clean S.is_clean D.is_sound S.is_sound D.refused S.refused self.old self.new }
         ensures ok { (db : Database) (choice : Choice (language db)) → IsOver db self.old.desk.catalog.0 → AreFit db (held D.kept S.kept self.old)
             → IfOk result (λ out. Asked db txn choice Commit_call (held D.kept S.kept self.old) (held D.kept S.kept self.new) out.letters out.replies) }
         ensures told { (db : Database) → IfErr result (λ told. (told ≡ refusals.Memory) ⊎ IsRefused db (table_of self.old.desk.present) (calls.Commit txn) told) }
-        ensures catalog { self.new.desk.catalog ≡ self.old.desk.catalog }
         ensures uncalled { counts D.refused S.refused self.new ≡ counts D.refused S.refused self.old }
         ensures blames { IfErr result (StopsFor (counts D.refused S.refused self.old) (counts D.refused S.refused self.new)) }
         ensures err { OnErr result (held D.kept S.kept self.new ≡ held D.kept S.kept self.old) }
@@ -88,12 +85,10 @@ impl<D: DeskStore, S: SiteStore> Machines<D, S> {
 
     /// A transaction is rolled back.
     pub(crate) fn rollback(&mut self, txn: Txn) -> Result<Out, Refusal>
-        ensures clean { OfStores D.is_clean S.is_clean self.new → OfStores D.is_clean S.is_clean self.old }
-        ensures sound { OfStores D.is_clean S.is_clean self.new → OfStores D.is_sound S.is_sound self.old → OfStores D.is_sound S.is_sound self.new }
+        ensures leaves { LeavesMachines D.is_clean S.is_clean D.is_sound S.is_sound D.refused S.refused self.old self.new }
         ensures ok { (db : Database) (choice : Choice (language db)) → IsOver db self.old.desk.catalog.0 → AreFit db (held D.kept S.kept self.old)
             → IfOk result (λ out. Asked db txn choice Rollback (held D.kept S.kept self.old) (held D.kept S.kept self.new) out.letters out.replies) }
         ensures told { (db : Database) → IfErr result (λ told. (told ≡ refusals.Memory) ⊎ IsRefused db (table_of self.old.desk.present) (calls.Rollback txn) told) }
-        ensures catalog { self.new.desk.catalog ≡ self.old.desk.catalog }
         ensures uncalled { counts D.refused S.refused self.new ≡ counts D.refused S.refused self.old }
         ensures blames { IfErr result (StopsFor (counts D.refused S.refused self.old) (counts D.refused S.refused self.new)) }
         ensures err { OnErr result (held D.kept S.kept self.new ≡ held D.kept S.kept self.old) }
@@ -103,12 +98,10 @@ impl<D: DeskStore, S: SiteStore> Machines<D, S> {
 
     /// A transaction is given up.
     pub(crate) fn give_up(&mut self, txn: Txn) -> Result<Out, Refusal>
-        ensures clean { OfStores D.is_clean S.is_clean self.new → OfStores D.is_clean S.is_clean self.old }
-        ensures sound { OfStores D.is_clean S.is_clean self.new → OfStores D.is_sound S.is_sound self.old → OfStores D.is_sound S.is_sound self.new }
+        ensures leaves { LeavesMachines D.is_clean S.is_clean D.is_sound S.is_sound D.refused S.refused self.old self.new }
         ensures ok { (db : Database) (choice : Choice (language db)) → IsOver db self.old.desk.catalog.0 → AreFit db (held D.kept S.kept self.old)
             → IfOk result (λ out. Asked db txn choice Give_up (held D.kept S.kept self.old) (held D.kept S.kept self.new) out.letters out.replies) }
         ensures own { IfErr result (λ told. told ≡ refusals.Memory) }
-        ensures catalog { self.new.desk.catalog ≡ self.old.desk.catalog }
         ensures uncalled { counts D.refused S.refused self.new ≡ counts D.refused S.refused self.old }
         ensures err { OnErr result (held D.kept S.kept self.new ≡ held D.kept S.kept self.old) }
     {
@@ -117,26 +110,22 @@ impl<D: DeskStore, S: SiteStore> Machines<D, S> {
 
     /// The coordinator restarts.
     pub(crate) fn restart(&mut self, kept: bool) -> Result<Out, Refusal>
-        ensures clean { OfStores D.is_clean S.is_clean self.new → OfStores D.is_clean S.is_clean self.old }
-        ensures sound { OfStores D.is_clean S.is_clean self.new → OfStores D.is_sound S.is_sound self.old → OfStores D.is_sound S.is_sound self.new }
+        ensures leaves { LeavesMachines D.is_clean S.is_clean D.is_sound S.is_sound D.refused S.refused self.old self.new }
         ensures ok { (db : Database) → OfStores D.is_clean S.is_clean self.new → OfStores D.is_sound S.is_sound self.old → AreFit db (held D.kept S.kept self.old)
             → IfOk result (λ out. Leads db desk_restarts (held D.kept S.kept self.old) (held D.kept S.kept self.new) out.letters out.replies) }
         ensures called { OnOk result (kept ≡ true) }
-        ensures catalog { self.new.desk.catalog ≡ self.old.desk.catalog }
-        ensures err { OfStores D.is_clean S.is_clean self.new → OfStores D.is_sound S.is_sound self.old → OnErr result (held D.kept S.kept self.new ≡ held D.kept S.kept self.old) }
+        ensures err { StaysOnErr (OfStores D.is_clean S.is_clean) (OfStores D.is_sound S.is_sound) (held D.kept S.kept) self.old self.new result }
     {
         self.desk.restart_kept(kept)
     }
 
     /// A statement of a transaction, by its text.
     pub(crate) fn statement(&mut self, txn: Txn, text: &str) -> Result<Out, Refusal>
-        ensures clean { OfStores D.is_clean S.is_clean self.new → OfStores D.is_clean S.is_clean self.old }
-        ensures sound { OfStores D.is_clean S.is_clean self.new → OfStores D.is_sound S.is_sound self.old → OfStores D.is_sound S.is_sound self.new }
+        ensures leaves { LeavesMachines D.is_clean S.is_clean D.is_sound S.is_sound D.refused S.refused self.old self.new }
         ensures ok { (db : Database) → IsOfCatalogue db → db.catalogue ≡ catalogue_of self.old.desk.catalog → AreFit db (held D.kept S.kept self.old)
             → IfOk result (λ out. Stated db txn text.now (held D.kept S.kept self.old) (held D.kept S.kept self.new) out.letters out.replies) }
         ensures told { (db : Database) → IsOfCatalogue db → db.catalogue ≡ catalogue_of self.old.desk.catalog → AreFit db (held D.kept S.kept self.old)
             → IfErr result (λ told. (told ≡ refusals.Memory) ⊎ IsRefused db (table_of self.old.desk.present) (calls.State txn text.now) told) }
-        ensures catalog { self.new.desk.catalog ≡ self.old.desk.catalog }
         ensures uncalled { counts D.refused S.refused self.new ≡ counts D.refused S.refused self.old }
         ensures blames { IfErr result (StopsFor (counts D.refused S.refused self.old) (counts D.refused S.refused self.new)) }
         ensures err { OnErr result (held D.kept S.kept self.new ≡ held D.kept S.kept self.old) }
@@ -146,25 +135,21 @@ impl<D: DeskStore, S: SiteStore> Machines<D, S> {
 
     /// A letter of a site comes.
     fn reply(&mut self, letter: &Letter, kept: bool) -> Result<Out, Refusal>
-        ensures clean { OfStores D.is_clean S.is_clean self.new → OfStores D.is_clean S.is_clean self.old }
-        ensures sound { OfStores D.is_clean S.is_clean self.new → OfStores D.is_sound S.is_sound self.old → OfStores D.is_sound S.is_sound self.new }
+        ensures leaves { LeavesMachines D.is_clean S.is_clean D.is_sound S.is_sound D.refused S.refused self.old self.new }
         ensures ok { (db : Database) → IsOfCatalogue db → db.catalogue ≡ catalogue_of self.old.desk.catalog → OfStores D.is_clean S.is_clean self.new → OfStores D.is_sound S.is_sound self.old → AreFit db (held D.kept S.kept self.old) → is_order letter.now.body ≡ false → is_of_site db letter.now ≡ true
             → IfOk result (λ out. Came db letter.now out.kept (held D.kept S.kept self.old) (held D.kept S.kept self.new) out.letters out.replies) }
         ensures told { (db : Database) → IsOfCatalogue db → db.catalogue ≡ catalogue_of self.old.desk.catalog → AreFit db (held D.kept S.kept self.old) → is_order letter.now.body ≡ false → is_of_site db letter.now ≡ true
             → IfErr result (DeskTells db (held D.kept S.kept self.old) letter.now) }
         ensures refusal { IfOk result (λ out. out.kept ≡ false → (kept ≡ false) ⊎ HaveRefused (counts D.refused S.refused self.old) (counts D.refused S.refused self.new)) }
-        ensures catalog { self.new.desk.catalog ≡ self.old.desk.catalog }
-        ensures counts { NoFewer (counts D.refused S.refused self.old) (counts D.refused S.refused self.new) }
         ensures own { IfErr result (λ told. (told ≡ refusals.Memory) ⊎ (told ≡ refusals.Full)) }
-        ensures err { OfStores D.is_clean S.is_clean self.new → OfStores D.is_sound S.is_sound self.old → OnErr result (held D.kept S.kept self.new ≡ held D.kept S.kept self.old) }
+        ensures err { StaysOnErr (OfStores D.is_clean S.is_clean) (OfStores D.is_sound S.is_sound) (held D.kept S.kept) self.old self.new result }
     {
         self.desk.take_kept(letter, kept)
     }
 
     /// A letter comes to the machine that it is for.
     pub(crate) fn deliver(&mut self, letter: Letter, kept: bool) -> Result<Out, Fault>
-        ensures clean { OfStores D.is_clean S.is_clean self.new → OfStores D.is_clean S.is_clean self.old }
-        ensures sound { OfStores D.is_clean S.is_clean self.new → OfStores D.is_sound S.is_sound self.old → OfStores D.is_sound S.is_sound self.new }
+        ensures leaves { LeavesMachines D.is_clean S.is_clean D.is_sound S.is_sound D.refused S.refused self.old self.new }
         ensures ok { (db : Database) → IsOfCatalogue db → db.catalogue ≡ catalogue_of self.old.desk.catalog → OfStores D.is_clean S.is_clean self.new → OfStores D.is_sound S.is_sound self.old → AreFit db (held D.kept S.kept self.old) → is_of_site db letter ≡ true
             → IfOk result (λ out. Came db letter out.kept (held D.kept S.kept self.old) (held D.kept S.kept self.new) out.letters out.replies) }
         ensures keeps { (db : Database) → IsOfCatalogue db → db.catalogue ≡ catalogue_of self.old.desk.catalog → OfStores D.is_clean S.is_clean self.new → OfStores D.is_sound S.is_sound self.old → AreFit db (held D.kept S.kept self.old) → is_of_site db letter ≡ true
@@ -174,11 +159,9 @@ impl<D: DeskStore, S: SiteStore> Machines<D, S> {
         ensures spared { (db : Database) → IsOfCatalogue db → db.catalogue ≡ catalogue_of self.old.desk.catalog → OfStores D.is_clean S.is_clean self.new → OfStores D.is_sound S.is_sound self.old → AreFit db (held D.kept S.kept self.old) → is_of_site db letter ≡ true
             → IfOk result (λ out. CameUnless ((kept ≡ false) ⊎ HaveRefused (counts D.refused S.refused self.old) (counts D.refused S.refused self.new)) db letter (held D.kept S.kept self.old) (held D.kept S.kept self.new) out.letters out.replies) }
         ensures sent { result ≢ Err faults.Unsent }
-        ensures catalog { self.new.desk.catalog ≡ self.old.desk.catalog }
-        ensures counts { NoFewer (counts D.refused S.refused self.old) (counts D.refused S.refused self.new) }
         ensures blames { kept ≡ true → OfStores D.is_clean S.is_clean self.new → OfStores D.is_sound S.is_sound self.old
             → IfErr result (λ fault. IfSome (stop_of fault) (StopsFor (counts D.refused S.refused self.old) (counts D.refused S.refused self.new))) }
-        ensures err { OfStores D.is_clean S.is_clean self.new → OfStores D.is_sound S.is_sound self.old → OnErr result (held D.kept S.kept self.new ≡ held D.kept S.kept self.old) }
+        ensures err { StaysOnErr (OfStores D.is_clean S.is_clean) (OfStores D.is_sound S.is_sound) (held D.kept S.kept) self.old self.new result }
     {
         if !is_order(&letter.body) {
             return match self.reply(&letter, kept) {
@@ -195,8 +178,7 @@ impl<D: DeskStore, S: SiteStore> Machines<D, S> {
     /// Something is done at its site. A letter that comes there is an order.
     pub(crate) fn at_site(&mut self, what: Doing, kept: bool) -> Result<Out, SiteFault>
         requires { is_for_site what ≡ true }
-        ensures clean { OfStores D.is_clean S.is_clean self.new → OfStores D.is_clean S.is_clean self.old }
-        ensures sound { OfStores D.is_clean S.is_clean self.new → OfStores D.is_sound S.is_sound self.old → OfStores D.is_sound S.is_sound self.new }
+        ensures leaves { LeavesMachines D.is_clean S.is_clean D.is_sound S.is_sound D.refused S.refused self.old self.new }
         ensures ok { (db : Database) (choice : Choice (language db)) (seat : Seat) → OfStores D.is_clean S.is_clean self.new → OfStores D.is_sound S.is_sound self.old → AreFit db (held D.kept S.kept self.old) → seat_of (place_of what) (held D.kept S.kept self.old).seats ≡ Some seat
             → IfOk result (λ out. Leads db (happens_at db what out.kept choice) (held D.kept S.kept self.old) (held D.kept S.kept self.new) out.letters out.replies) }
         ensures within { (db : Database) (choice : Choice (language db)) (seat : Seat) (letter : LetterNow) → OfStores D.is_clean S.is_clean self.new → OfStores D.is_sound S.is_sound self.old → AreFit db (held D.kept S.kept self.old) → what ≡ things.Take letter
@@ -207,11 +189,9 @@ impl<D: DeskStore, S: SiteStore> Machines<D, S> {
         ensures vote { (letter : LetterNow) (seat : Seat) → what ≡ things.Take letter → seat_of letter.site (held D.kept S.kept self.old).seats ≡ Some seat → AsksToKeep seat.table letter.body
             → IfOk result (λ out. out.kept ≡ false → (kept ≡ false) ⊎ HaveRefused (counts D.refused S.refused self.old) (counts D.refused S.refused self.new)) }
         ensures called { (site : List ℕ) → what ≡ things.Restart site → OnOk result (kept ≡ true) }
-        ensures catalog { self.new.desk.catalog ≡ self.old.desk.catalog }
-        ensures counts { NoFewer (counts D.refused S.refused self.old) (counts D.refused S.refused self.new) }
         ensures blames { (letter : LetterNow) → what ≡ things.Take letter → kept ≡ true → OfStores D.is_clean S.is_clean self.new → OfStores D.is_sound S.is_sound self.old
             → IfErr result (λ fault. IfSome (stop_of (faults.Site fault)) (StopsFor (counts D.refused S.refused self.old) (counts D.refused S.refused self.new))) }
-        ensures err { OfStores D.is_clean S.is_clean self.new → OfStores D.is_sound S.is_sound self.old → OnErr result (held D.kept S.kept self.new ≡ held D.kept S.kept self.old) }
+        ensures err { StaysOnErr (OfStores D.is_clean S.is_clean) (OfStores D.is_sound S.is_sound) (held D.kept S.kept) self.old self.new result }
     {
         match do_among(self.alloc, &mut self.sites, what, kept) {
             Ok(letters) => Ok(put_out(self.alloc, letters)),

@@ -25,6 +25,7 @@ ghost use Rattle.world.specs.declared.fault.Fault.TheVariants as faults;
 ghost use Rattle.world.specs.Base.{database};
 ghost use Rattle.world.specs.Counted.{NoFewer, counts};
 ghost use Rattle.world.specs.Fault.{FailsFor};
+ghost use Rattle.world.specs.Frame.{LeavesMachines, StaysAsItIs};
 ghost use Rattle.world.specs.Held.{OfStores, held};
 ghost use Rattle.world.specs.Machines.{AreFit};
 ghost use Rattle.world.specs.Settled.{AreDecided, AreThoseOf, brought_of, everything, rows_shown};
@@ -122,11 +123,8 @@ fn bring_one<D: DeskStore, S: SiteStore>(
     fetch: &Fetch,
 ) -> Result<FetchRows, Fault>
     ensures sent { result ≢ Err faults.Unsent }
-    ensures clean { OfStores D.is_clean S.is_clean machines.new → OfStores D.is_clean S.is_clean machines.old }
-    ensures sound { OfStores D.is_clean S.is_clean machines.new → OfStores D.is_sound S.is_sound machines.old → OfStores D.is_sound S.is_sound machines.new }
-    ensures same { OfStores D.is_clean S.is_clean machines.new → OfStores D.is_sound S.is_sound machines.old → held D.kept S.kept machines.new ≡ held D.kept S.kept machines.old }
-    ensures catalog { machines.new.desk.catalog ≡ machines.old.desk.catalog }
-    ensures counts { NoFewer (counts D.refused S.refused machines.old) (counts D.refused S.refused machines.new) }
+    ensures leaves { LeavesMachines D.is_clean S.is_clean D.is_sound S.is_sound D.refused S.refused machines.old machines.new }
+    ensures same { StaysAsItIs (OfStores D.is_clean S.is_clean) (OfStores D.is_sound S.is_sound) (held D.kept S.kept) machines.old machines.new }
     ensures fails { OfStores D.is_clean S.is_clean machines.new → OfStores D.is_sound S.is_sound machines.old → AreFit (database (catalogue_of machines.old.desk.catalog)) (held D.kept S.kept machines.old) → IfErr result (FailsFor (counts D.refused S.refused machines.old) (counts D.refused S.refused machines.new)) }
     ensures brought { (whole : Relations) → OfStores D.is_clean S.is_clean machines.new → OfStores D.is_sound S.is_sound machines.old → AreFit (database (catalogue_of machines.old.desk.catalog)) (held D.kept S.kept machines.old) → AreThoseOf (database (catalogue_of machines.old.desk.catalog)) (held D.kept S.kept machines.old) whole → AreDecided (held D.kept S.kept machines.old).table decided.now
         → IfOk result (λ rows. rows ≡ brought_of (database (catalogue_of machines.old.desk.catalog)) whole fetch.now) }
@@ -147,11 +145,8 @@ fn bring<D: DeskStore, S: SiteStore>(
     fetches: &[Fetch],
 ) -> Result<Vec<FetchRows>, Fault>
     ensures sent { result ≢ Err faults.Unsent }
-    ensures clean { OfStores D.is_clean S.is_clean machines.new → OfStores D.is_clean S.is_clean machines.old }
-    ensures sound { OfStores D.is_clean S.is_clean machines.new → OfStores D.is_sound S.is_sound machines.old → OfStores D.is_sound S.is_sound machines.new }
-    ensures same { OfStores D.is_clean S.is_clean machines.new → OfStores D.is_sound S.is_sound machines.old → held D.kept S.kept machines.new ≡ held D.kept S.kept machines.old }
-    ensures catalog { machines.new.desk.catalog ≡ machines.old.desk.catalog }
-    ensures counts { NoFewer (counts D.refused S.refused machines.old) (counts D.refused S.refused machines.new) }
+    ensures leaves { LeavesMachines D.is_clean S.is_clean D.is_sound S.is_sound D.refused S.refused machines.old machines.new }
+    ensures same { StaysAsItIs (OfStores D.is_clean S.is_clean) (OfStores D.is_sound S.is_sound) (held D.kept S.kept) machines.old machines.new }
     ensures fails { OfStores D.is_clean S.is_clean machines.new → OfStores D.is_sound S.is_sound machines.old → AreFit (database (catalogue_of machines.old.desk.catalog)) (held D.kept S.kept machines.old) → IfErr result (FailsFor (counts D.refused S.refused machines.old) (counts D.refused S.refused machines.new)) }
     ensures brought { (whole : Relations) → OfStores D.is_clean S.is_clean machines.new → OfStores D.is_sound S.is_sound machines.old → AreFit (database (catalogue_of machines.old.desk.catalog)) (held D.kept S.kept machines.old) → AreThoseOf (database (catalogue_of machines.old.desk.catalog)) (held D.kept S.kept machines.old) whole → AreDecided (held D.kept S.kept machines.old).table decided.now
         → IfOk result (λ rows. rows.items ≡ map (brought_of (database (catalogue_of machines.old.desk.catalog)) whole) fetches.now) }
@@ -213,11 +208,8 @@ fn answer_settled<D: DeskStore, S: SiteStore>(
 ) -> Result<Answer, Fault>
     requires { IsStatementOf (schemas_of (catalogue_of machines.old.desk.catalog)) statement.now }
     ensures sent { result ≢ Err faults.Unsent }
-    ensures clean { OfStores D.is_clean S.is_clean machines.new → OfStores D.is_clean S.is_clean machines.old }
-    ensures sound { OfStores D.is_clean S.is_clean machines.new → OfStores D.is_sound S.is_sound machines.old → OfStores D.is_sound S.is_sound machines.new }
-    ensures same { OfStores D.is_clean S.is_clean machines.new → OfStores D.is_sound S.is_sound machines.old → held D.kept S.kept machines.new ≡ held D.kept S.kept machines.old }
-    ensures catalog { machines.new.desk.catalog ≡ machines.old.desk.catalog }
-    ensures counts { NoFewer (counts D.refused S.refused machines.old) (counts D.refused S.refused machines.new) }
+    ensures leaves { LeavesMachines D.is_clean S.is_clean D.is_sound S.is_sound D.refused S.refused machines.old machines.new }
+    ensures same { StaysAsItIs (OfStores D.is_clean S.is_clean) (OfStores D.is_sound S.is_sound) (held D.kept S.kept) machines.old machines.new }
     ensures fails { (whole : Relations) → OfStores D.is_clean S.is_clean machines.new → OfStores D.is_sound S.is_sound machines.old → AreFit (database (catalogue_of machines.old.desk.catalog)) (held D.kept S.kept machines.old) → AreThoseOf (database (catalogue_of machines.old.desk.catalog)) (held D.kept S.kept machines.old) whole → FitsSchema (schemas_of (catalogue_of machines.old.desk.catalog)) whole
         → IfErr result (FailsFor (counts D.refused S.refused machines.old) (counts D.refused S.refused machines.new)) }
     ensures answer { (whole : Relations) → OfStores D.is_clean S.is_clean machines.new → OfStores D.is_sound S.is_sound machines.old → AreFit (database (catalogue_of machines.old.desk.catalog)) (held D.kept S.kept machines.old) → AreThoseOf (database (catalogue_of machines.old.desk.catalog)) (held D.kept S.kept machines.old) whole → FitsSchema (schemas_of (catalogue_of machines.old.desk.catalog)) whole
@@ -257,11 +249,8 @@ pub(crate) fn rebuilt<D: DeskStore, S: SiteStore>(
     name: &Text,
 ) -> Result<Option<Vec<Row>>, Fault>
     ensures sent { result ≢ Err faults.Unsent }
-    ensures clean { OfStores D.is_clean S.is_clean machines.new → OfStores D.is_clean S.is_clean machines.old }
-    ensures sound { OfStores D.is_clean S.is_clean machines.new → OfStores D.is_sound S.is_sound machines.old → OfStores D.is_sound S.is_sound machines.new }
-    ensures same { OfStores D.is_clean S.is_clean machines.new → OfStores D.is_sound S.is_sound machines.old → held D.kept S.kept machines.new ≡ held D.kept S.kept machines.old }
-    ensures catalog { machines.new.desk.catalog ≡ machines.old.desk.catalog }
-    ensures counts { NoFewer (counts D.refused S.refused machines.old) (counts D.refused S.refused machines.new) }
+    ensures leaves { LeavesMachines D.is_clean S.is_clean D.is_sound S.is_sound D.refused S.refused machines.old machines.new }
+    ensures same { StaysAsItIs (OfStores D.is_clean S.is_clean) (OfStores D.is_sound S.is_sound) (held D.kept S.kept) machines.old machines.new }
     ensures fails { (whole : Relations) → OfStores D.is_clean S.is_clean machines.new → OfStores D.is_sound S.is_sound machines.old → AreFit (database (catalogue_of machines.old.desk.catalog)) (held D.kept S.kept machines.old) → AreThoseOf (database (catalogue_of machines.old.desk.catalog)) (held D.kept S.kept machines.old) whole → FitsSchema (schemas_of (catalogue_of machines.old.desk.catalog)) whole
         → IfErr result (FailsFor (counts D.refused S.refused machines.old) (counts D.refused S.refused machines.new)) }
     ensures rows { (whole : Relations) → OfStores D.is_clean S.is_clean machines.new → OfStores D.is_sound S.is_sound machines.old → AreFit (database (catalogue_of machines.old.desk.catalog)) (held D.kept S.kept machines.old) → AreThoseOf (database (catalogue_of machines.old.desk.catalog)) (held D.kept S.kept machines.old) whole → FitsSchema (schemas_of (catalogue_of machines.old.desk.catalog)) whole

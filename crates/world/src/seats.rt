@@ -5,6 +5,8 @@ ghost use Rattle.store.specs.declared.letter.Letter.{Letter as LetterNow};
 ghost use Rattle.store.specs.Fault.{HasRefused};
 ghost use Rattle.protocol.specs.Letters.{kept_in};
 ghost use Rattle.site.specs.Refusals.{AsksToKeep};
+ghost use Rattle.world.specs.Frame.{LeavesSites};
+ghost use Rattle.store.specs.Frame.{LeavesStore};
 ghost use Rattle.world.specs.Counted.{HaveRefused, NoFewer, counts_of};
 ghost use Rattle.world.specs.declared.doing.Doing.TheVariants as things;
 ghost use Rattle.world.specs.declared.fault.Fault.TheVariants as faults;
@@ -37,9 +39,7 @@ fn do_one<S: SiteStore>(
     what: Doing,
     kept: bool,
 ) -> Result<Vec<Letter>, SiteFault>
-    ensures clean { S.is_clean site.new.store → S.is_clean site.old.store }
-    ensures sound { S.is_clean site.new.store → S.is_sound site.old.store → S.is_sound site.new.store }
-    ensures counts { S.refused site.old.store ≤ S.refused site.new.store }
+    ensures leaves { LeavesStore S.is_clean S.is_sound S.refused site.old.store site.new.store }
     ensures blames { (letter : LetterNow) → what ≡ things.Take letter → kept ≡ true → S.is_clean site.new.store → S.is_sound site.old.store → IfErr result (λ fault. IfSome (stop_of (faults.Site fault)) (StopsFor (S.refused site.old.store ∷ []) (S.refused site.new.store ∷ []))) }
     ensures vote { (letter : LetterNow) → what ≡ things.Take letter → AsksToKeep (seat_from S.kept site.old).table letter.body → IfOk result (λ letters. kept_in letters.items ≡ false → (kept ≡ false) ⊎ HasRefused (S.refused site.old.store) (S.refused site.new.store)) }
     ensures ok { S.is_clean site.new.store → S.is_sound site.old.store → IsSeated (seat_from S.kept site.old)
@@ -72,9 +72,7 @@ fn do_at<S: SiteStore>(
     what: Doing,
     kept: bool,
 ) -> Result<Vec<Letter>, SiteFault>
-    ensures clean { AllByRecursion (λ site. S.is_clean site.store) sites.new → AllByRecursion (λ site. S.is_clean site.store) sites.old }
-    ensures sound { AllByRecursion (λ site. S.is_clean site.store) sites.new → AllByRecursion (λ site. S.is_sound site.store) sites.old → AllByRecursion (λ site. S.is_sound site.store) sites.new }
-    ensures counts { NoFewer (counts_of S.refused sites.old) (counts_of S.refused sites.new) }
+    ensures leaves { LeavesSites S.is_clean S.is_sound S.refused sites.old sites.new }
     ensures blames { (letter : LetterNow) → what ≡ things.Take letter → kept ≡ true → AllByRecursion (λ site. S.is_clean site.store) sites.new → AllByRecursion (λ site. S.is_sound site.store) sites.old
         → IfErr result (λ fault. IfSome (stop_of (faults.Site fault)) (StopsFor (counts_of S.refused sites.old) (counts_of S.refused sites.new))) }
     ensures vote { (letter : LetterNow) (seat : Seat) → what ≡ things.Take letter → seat_of letter.site (seats_in S.kept sites.old) ≡ Some seat → AsksToKeep seat.table letter.body
@@ -101,9 +99,7 @@ pub(crate) fn do_among<S: SiteStore>(
     what: Doing,
     kept: bool,
 ) -> Result<Vec<Letter>, SiteFault>
-    ensures clean { AllByRecursion (λ site. S.is_clean site.store) sites.new.items → AllByRecursion (λ site. S.is_clean site.store) sites.old.items }
-    ensures sound { AllByRecursion (λ site. S.is_clean site.store) sites.new.items → AllByRecursion (λ site. S.is_sound site.store) sites.old.items → AllByRecursion (λ site. S.is_sound site.store) sites.new.items }
-    ensures counts { NoFewer (counts_of S.refused sites.old.items) (counts_of S.refused sites.new.items) }
+    ensures leaves { LeavesSites S.is_clean S.is_sound S.refused sites.old.items sites.new.items }
     ensures blames { (letter : LetterNow) → what ≡ things.Take letter → kept ≡ true → AllByRecursion (λ site. S.is_clean site.store) sites.new.items → AllByRecursion (λ site. S.is_sound site.store) sites.old.items
         → IfErr result (λ fault. IfSome (stop_of (faults.Site fault)) (StopsFor (counts_of S.refused sites.old.items) (counts_of S.refused sites.new.items))) }
     ensures vote { (letter : LetterNow) (seat : Seat) → what ≡ things.Take letter → seat_of letter.site (seats_in S.kept sites.old.items) ≡ Some seat → AsksToKeep seat.table letter.body

@@ -11,6 +11,8 @@ ghost use Rattle.world.specs.declared.fault.Fault.TheVariants as faults;
 ghost use Rattle.world.specs.Base.{database};
 ghost use Rattle.world.specs.Counted.{NoFewer, counts, counts_of};
 ghost use Rattle.world.specs.Fault.{FailsFor};
+ghost use Rattle.world.specs.Frame.{LeavesMachines, LeavesSites, StaysAsItIs};
+ghost use Rattle.store.specs.Frame.{LeavesStore};
 ghost use Rattle.world.specs.Held.{OfStores, held};
 ghost use Rattle.world.specs.Machines.{AreFit};
 ghost use Rattle.world.specs.Seats.{AreSeated, IsSeated, Seat, seat_of};
@@ -39,12 +41,10 @@ fn settled_in<S: SiteStore>(
     decided: &[Txn],
     leaf: &Leaf,
 ) -> Result<Vec<Part>, SiteFault>
-    ensures clean { S.is_clean site.new.store → S.is_clean site.old.store }
-    ensures sound { S.is_clean site.new.store → S.is_sound site.old.store → S.is_sound site.new.store }
+    ensures leaves { LeavesStore S.is_clean S.is_sound S.refused site.old.store site.new.store }
     ensures parts { S.is_clean site.new.store → S.is_sound site.old.store → IsSeated (seat_from S.kept site.old)
         → IfOk result (λ parts. parts.items ≡ fin.values (settled_in decided.now leaf.now (seat_from S.kept site.old))) }
     ensures same { S.is_clean site.new.store → S.is_sound site.old.store → seat_from S.kept site.new ≡ seat_from S.kept site.old }
-    ensures counts { S.refused site.old.store ≤ S.refused site.new.store }
     ensures fails { S.is_clean site.new.store → S.is_sound site.old.store → IfErr result (λ fault. FailsFor (S.refused site.old.store ∷ []) (S.refused site.new.store ∷ []) (faults.Site fault)) }
 {
     let all = site.settled(decided)?;
@@ -58,12 +58,10 @@ fn settled_among<S: SiteStore>(
     decided: &[Txn],
     leaf: &Leaf,
 ) -> Result<Vec<Part>, SiteFault>
-    ensures clean { AllByRecursion (λ site. S.is_clean site.store) sites.new → AllByRecursion (λ site. S.is_clean site.store) sites.old }
-    ensures sound { AllByRecursion (λ site. S.is_clean site.store) sites.new → AllByRecursion (λ site. S.is_sound site.store) sites.old → AllByRecursion (λ site. S.is_sound site.store) sites.new }
+    ensures leaves { LeavesSites S.is_clean S.is_sound S.refused sites.old sites.new }
     ensures parts { AllByRecursion (λ site. S.is_clean site.store) sites.new → AllByRecursion (λ site. S.is_sound site.store) sites.old → AreSeated (seats_in S.kept sites.old)
         → IfOk result (λ parts. option_map (λ content. fin.values content) (settled_at decided.now leaf.now (seats_in S.kept sites.old) place.now) ≡ Some parts.items) }
     ensures same { AllByRecursion (λ site. S.is_clean site.store) sites.new → AllByRecursion (λ site. S.is_sound site.store) sites.old → seats_in S.kept sites.new ≡ seats_in S.kept sites.old }
-    ensures counts { NoFewer (counts_of S.refused sites.old) (counts_of S.refused sites.new) }
     ensures fails { (seat : Seat) → AllByRecursion (λ site. S.is_clean site.store) sites.new → AllByRecursion (λ site. S.is_sound site.store) sites.old → seat_of place.now (seats_in S.kept sites.old) ≡ Some seat
         → IfErr result (λ fault. FailsFor (counts_of S.refused sites.old) (counts_of S.refused sites.new) (faults.Site fault)) }
 {
@@ -92,12 +90,9 @@ pub(crate) fn decided<D: DeskStore, S: SiteStore>(
     machines: &mut Machines<D, S>,
 ) -> Result<Vec<Txn>, Fault>
     ensures sent { result ≢ Err faults.Unsent }
-    ensures clean { OfStores D.is_clean S.is_clean machines.new → OfStores D.is_clean S.is_clean machines.old }
-    ensures sound { OfStores D.is_clean S.is_clean machines.new → OfStores D.is_sound S.is_sound machines.old → OfStores D.is_sound S.is_sound machines.new }
+    ensures leaves { LeavesMachines D.is_clean S.is_clean D.is_sound S.is_sound D.refused S.refused machines.old machines.new }
     ensures all { (db : Database) → OfStores D.is_clean S.is_clean machines.new → OfStores D.is_sound S.is_sound machines.old → AreFit db (held D.kept S.kept machines.old) → IfOk result (λ all. AreDecided (held D.kept S.kept machines.old).table all.items) }
-    ensures same { OfStores D.is_clean S.is_clean machines.new → OfStores D.is_sound S.is_sound machines.old → held D.kept S.kept machines.new ≡ held D.kept S.kept machines.old }
-    ensures catalog { machines.new.desk.catalog ≡ machines.old.desk.catalog }
-    ensures counts { NoFewer (counts D.refused S.refused machines.old) (counts D.refused S.refused machines.new) }
+    ensures same { StaysAsItIs (OfStores D.is_clean S.is_clean) (OfStores D.is_sound S.is_sound) (held D.kept S.kept) machines.old machines.new }
     ensures fails { OfStores D.is_clean S.is_clean machines.new → OfStores D.is_sound S.is_sound machines.old → IfErr result (FailsFor (counts D.refused S.refused machines.old) (counts D.refused S.refused machines.new)) }
 {
     let kept = machines.desk.kept()?;
@@ -120,13 +115,10 @@ pub(crate) fn settled_parts<D: DeskStore, S: SiteStore>(
     leaf: &Leaf,
 ) -> Result<Option<Vec<Part>>, Fault>
     ensures sent { result ≢ Err faults.Unsent }
-    ensures clean { OfStores D.is_clean S.is_clean machines.new → OfStores D.is_clean S.is_clean machines.old }
-    ensures sound { OfStores D.is_clean S.is_clean machines.new → OfStores D.is_sound S.is_sound machines.old → OfStores D.is_sound S.is_sound machines.new }
+    ensures leaves { LeavesMachines D.is_clean S.is_clean D.is_sound S.is_sound D.refused S.refused machines.old machines.new }
     ensures parts { OfStores D.is_clean S.is_clean machines.new → OfStores D.is_sound S.is_sound machines.old → AreSeated (held D.kept S.kept machines.old).seats
         → IfOk result (λ found. option_map (λ parts. parts.items) found ≡ option_and_then (λ place. option_map (λ content. fin.values content) (settled_at decided.now leaf.now (held D.kept S.kept machines.old).seats place)) (site_in (catalogue_of machines.old.desk.catalog) leaf.now)) }
-    ensures same { OfStores D.is_clean S.is_clean machines.new → OfStores D.is_sound S.is_sound machines.old → held D.kept S.kept machines.new ≡ held D.kept S.kept machines.old }
-    ensures catalog { machines.new.desk.catalog ≡ machines.old.desk.catalog }
-    ensures counts { NoFewer (counts D.refused S.refused machines.old) (counts D.refused S.refused machines.new) }
+    ensures same { StaysAsItIs (OfStores D.is_clean S.is_clean) (OfStores D.is_sound S.is_sound) (held D.kept S.kept) machines.old machines.new }
     ensures fails { OfStores D.is_clean S.is_clean machines.new → OfStores D.is_sound S.is_sound machines.old → AreFit (database (catalogue_of machines.old.desk.catalog)) (held D.kept S.kept machines.old) → IfErr result (FailsFor (counts D.refused S.refused machines.old) (counts D.refused S.refused machines.new)) }
 {
     let Some(place) = site_in(machines.desk.catalog(), leaf) else {
@@ -144,13 +136,10 @@ pub(crate) fn kept_parts<D: DeskStore, S: SiteStore>(
     leaf: &Leaf,
 ) -> Result<Option<Vec<Part>>, Fault>
     ensures sent { result ≢ Err faults.Unsent }
-    ensures clean { OfStores D.is_clean S.is_clean machines.new → OfStores D.is_clean S.is_clean machines.old }
-    ensures sound { OfStores D.is_clean S.is_clean machines.new → OfStores D.is_sound S.is_sound machines.old → OfStores D.is_sound S.is_sound machines.new }
+    ensures leaves { LeavesMachines D.is_clean S.is_clean D.is_sound S.is_sound D.refused S.refused machines.old machines.new }
     ensures parts { OfStores D.is_clean S.is_clean machines.new → OfStores D.is_sound S.is_sound machines.old → AreFit (database (catalogue_of machines.old.desk.catalog)) (held D.kept S.kept machines.old)
         → IfOk result (λ shown. option_map (λ parts. parts.items) shown ≡ parts_kept (database (catalogue_of machines.old.desk.catalog)) (held D.kept S.kept machines.old) leaf.now) }
-    ensures same { OfStores D.is_clean S.is_clean machines.new → OfStores D.is_sound S.is_sound machines.old → held D.kept S.kept machines.new ≡ held D.kept S.kept machines.old }
-    ensures catalog { machines.new.desk.catalog ≡ machines.old.desk.catalog }
-    ensures counts { NoFewer (counts D.refused S.refused machines.old) (counts D.refused S.refused machines.new) }
+    ensures same { StaysAsItIs (OfStores D.is_clean S.is_clean) (OfStores D.is_sound S.is_sound) (held D.kept S.kept) machines.old machines.new }
     ensures fails { OfStores D.is_clean S.is_clean machines.new → OfStores D.is_sound S.is_sound machines.old → AreFit (database (catalogue_of machines.old.desk.catalog)) (held D.kept S.kept machines.old) → IfErr result (FailsFor (counts D.refused S.refused machines.old) (counts D.refused S.refused machines.new)) }
 {
     let _relations = machines.desk.catalog().relations();

@@ -24,6 +24,7 @@ ghost use Rattle.world.specs.Base.{database, fits};
 ghost use Rattle.world.specs.Counted.{NoFewer, counts};
 ghost use Rattle.world.specs.Faring.{HasRun, WasStopped};
 ghost use Rattle.world.specs.Fault.{FailsFor, is_memory};
+ghost use Rattle.world.specs.Frame.{Blames, LeavesMachines, OverDatabase, StaysAsItIs, StaysServed};
 ghost use Rattle.world.specs.Held.{OfStores, counted, held, unrefused};
 ghost use Rattle.world.specs.Machines.{AreFit};
 ghost use Rattle.world.specs.Obeying.{Obeys, Stands, StandsOn};
@@ -151,17 +152,14 @@ fn still_open(txn: Txn, heard: &[Notice]) -> Option<Txn>
 impl<D: DeskStore, S: SiteStore> Solo<D, S> {
     /// BEGIN: a transaction begins, if none is open.
     fn begins(&mut self) -> Result<Vec<Notice>, Refusal>
-        ensures clean { OfStores D.is_clean S.is_clean self.new.machines → OfStores D.is_clean S.is_clean self.old.machines }
-        ensures sound { OfStores D.is_clean S.is_clean self.new.machines → OfStores D.is_sound S.is_sound self.old.machines → OfStores D.is_sound S.is_sound self.new.machines }
-        ensures catalog { self.new.machines.desk.catalog ≡ self.old.machines.desk.catalog }
-        ensures blames { OfStores D.is_clean S.is_clean self.new.machines → OfStores D.is_sound S.is_sound self.old.machines → IfErr result (StopsFor (counts D.refused S.refused self.old.machines) (counts D.refused S.refused self.new.machines)) }
+        ensures leaves { LeavesMachines D.is_clean S.is_clean D.is_sound S.is_sound D.refused S.refused self.old.machines self.new.machines }
+        ensures blames { Blames (OfStores D.is_clean S.is_clean) (OfStores D.is_sound S.is_sound) (counts D.refused S.refused) self.old.machines self.new.machines result }
         ensures ok { (db : Database) (text : List ℕ) → IsOfCatalogue db → db.catalogue ≡ catalogue_of self.old.machines.desk.catalog → OfStores D.is_clean S.is_clean self.new.machines → OfStores D.is_sound S.is_sound self.old.machines → AreFit db (counted D.kept S.kept D.refused S.refused self.old.machines)
             → IsTextOf db.schemas text Begin → IfOk result (λ heard. Executes db text self.old.current (counted D.kept S.kept D.refused S.refused self.old.machines) self.new.current (counted D.kept S.kept D.refused S.refused self.new.machines) heard.items) }
         ensures denied { (db : Database) (text : List ℕ) → IsOfCatalogue db → db.catalogue ≡ catalogue_of self.old.machines.desk.catalog → OfStores D.is_clean S.is_clean self.new.machines → OfStores D.is_sound S.is_sound self.old.machines → AreFit db (counted D.kept S.kept D.refused S.refused self.old.machines)
             → IsTextOf db.schemas text Begin → IfErr result (Declines db text self.old.current (counted D.kept S.kept D.refused S.refused self.old.machines) (counted D.kept S.kept D.refused S.refused self.new.machines)) }
         ensures inside { (txn : TxnNow) → self.old.current ≡ Some txn → result ≡ Err refusals.Busy }
-        ensures served { (db : Database) (whole : Relations) (past : List (Deed (language db))) → IsOfCatalogue db → ReachedLaw (language db) → db.catalogue ≡ catalogue_of self.old.machines.desk.catalog → OfStores D.is_clean S.is_clean self.new.machines → OfStores D.is_sound S.is_sound self.old.machines
-            → IsServed db whole (counted D.kept S.kept D.refused S.refused self.old.machines) past → IsServedOn db whole (counted D.kept S.kept D.refused S.refused self.new.machines) past }
+        ensures served { StaysServed (OfStores D.is_clean S.is_clean) (OfStores D.is_sound S.is_sound) (counted D.kept S.kept D.refused S.refused) self.old.machines self.new.machines }
         ensures still { OnErr result (self.new.current ≡ self.old.current) }
     {
         match self.current {
@@ -178,17 +176,14 @@ impl<D: DeskStore, S: SiteStore> Solo<D, S> {
 
     /// COMMIT: the commit of the open transaction is asked for.
     fn commits(&mut self) -> Result<Vec<Notice>, Refusal>
-        ensures clean { OfStores D.is_clean S.is_clean self.new.machines → OfStores D.is_clean S.is_clean self.old.machines }
-        ensures sound { OfStores D.is_clean S.is_clean self.new.machines → OfStores D.is_sound S.is_sound self.old.machines → OfStores D.is_sound S.is_sound self.new.machines }
-        ensures catalog { self.new.machines.desk.catalog ≡ self.old.machines.desk.catalog }
-        ensures blames { OfStores D.is_clean S.is_clean self.new.machines → OfStores D.is_sound S.is_sound self.old.machines → IfErr result (StopsFor (counts D.refused S.refused self.old.machines) (counts D.refused S.refused self.new.machines)) }
+        ensures leaves { LeavesMachines D.is_clean S.is_clean D.is_sound S.is_sound D.refused S.refused self.old.machines self.new.machines }
+        ensures blames { Blames (OfStores D.is_clean S.is_clean) (OfStores D.is_sound S.is_sound) (counts D.refused S.refused) self.old.machines self.new.machines result }
         ensures ok { (db : Database) (text : List ℕ) → IsOfCatalogue db → db.catalogue ≡ catalogue_of self.old.machines.desk.catalog → OfStores D.is_clean S.is_clean self.new.machines → OfStores D.is_sound S.is_sound self.old.machines → AreFit db (counted D.kept S.kept D.refused S.refused self.old.machines)
             → IsTextOf db.schemas text Commit → IfOk result (λ heard. Executes db text self.old.current (counted D.kept S.kept D.refused S.refused self.old.machines) self.new.current (counted D.kept S.kept D.refused S.refused self.new.machines) heard.items) }
         ensures denied { (db : Database) (text : List ℕ) → IsOfCatalogue db → db.catalogue ≡ catalogue_of self.old.machines.desk.catalog → OfStores D.is_clean S.is_clean self.new.machines → OfStores D.is_sound S.is_sound self.old.machines → AreFit db (counted D.kept S.kept D.refused S.refused self.old.machines)
             → IsTextOf db.schemas text Commit → IfErr result (Declines db text self.old.current (counted D.kept S.kept D.refused S.refused self.old.machines) (counted D.kept S.kept D.refused S.refused self.new.machines)) }
         ensures outside { self.old.current ≡ None → result ≡ Err refusals.NoTransaction }
-        ensures served { (db : Database) (whole : Relations) (past : List (Deed (language db))) → IsOfCatalogue db → ReachedLaw (language db) → db.catalogue ≡ catalogue_of self.old.machines.desk.catalog → OfStores D.is_clean S.is_clean self.new.machines → OfStores D.is_sound S.is_sound self.old.machines
-            → IsServed db whole (counted D.kept S.kept D.refused S.refused self.old.machines) past → IsServedOn db whole (counted D.kept S.kept D.refused S.refused self.new.machines) past }
+        ensures served { StaysServed (OfStores D.is_clean S.is_clean) (OfStores D.is_sound S.is_sound) (counted D.kept S.kept D.refused S.refused) self.old.machines self.new.machines }
         ensures still { OnErr result (self.new.current ≡ self.old.current) }
     {
         let Some(txn) = self.current else {
@@ -205,17 +200,14 @@ impl<D: DeskStore, S: SiteStore> Solo<D, S> {
 
     /// ROLLBACK: the open transaction is rolled back.
     fn rolls_back(&mut self) -> Result<Vec<Notice>, Refusal>
-        ensures clean { OfStores D.is_clean S.is_clean self.new.machines → OfStores D.is_clean S.is_clean self.old.machines }
-        ensures sound { OfStores D.is_clean S.is_clean self.new.machines → OfStores D.is_sound S.is_sound self.old.machines → OfStores D.is_sound S.is_sound self.new.machines }
-        ensures catalog { self.new.machines.desk.catalog ≡ self.old.machines.desk.catalog }
-        ensures blames { OfStores D.is_clean S.is_clean self.new.machines → OfStores D.is_sound S.is_sound self.old.machines → IfErr result (StopsFor (counts D.refused S.refused self.old.machines) (counts D.refused S.refused self.new.machines)) }
+        ensures leaves { LeavesMachines D.is_clean S.is_clean D.is_sound S.is_sound D.refused S.refused self.old.machines self.new.machines }
+        ensures blames { Blames (OfStores D.is_clean S.is_clean) (OfStores D.is_sound S.is_sound) (counts D.refused S.refused) self.old.machines self.new.machines result }
         ensures ok { (db : Database) (text : List ℕ) → IsOfCatalogue db → db.catalogue ≡ catalogue_of self.old.machines.desk.catalog → OfStores D.is_clean S.is_clean self.new.machines → OfStores D.is_sound S.is_sound self.old.machines → AreFit db (counted D.kept S.kept D.refused S.refused self.old.machines)
             → IsTextOf db.schemas text Rollback → IfOk result (λ heard. Executes db text self.old.current (counted D.kept S.kept D.refused S.refused self.old.machines) self.new.current (counted D.kept S.kept D.refused S.refused self.new.machines) heard.items) }
         ensures denied { (db : Database) (text : List ℕ) → IsOfCatalogue db → db.catalogue ≡ catalogue_of self.old.machines.desk.catalog → OfStores D.is_clean S.is_clean self.new.machines → OfStores D.is_sound S.is_sound self.old.machines → AreFit db (counted D.kept S.kept D.refused S.refused self.old.machines)
             → IsTextOf db.schemas text Rollback → IfErr result (Declines db text self.old.current (counted D.kept S.kept D.refused S.refused self.old.machines) (counted D.kept S.kept D.refused S.refused self.new.machines)) }
         ensures outside { self.old.current ≡ None → result ≡ Err refusals.NoTransaction }
-        ensures served { (db : Database) (whole : Relations) (past : List (Deed (language db))) → IsOfCatalogue db → ReachedLaw (language db) → db.catalogue ≡ catalogue_of self.old.machines.desk.catalog → OfStores D.is_clean S.is_clean self.new.machines → OfStores D.is_sound S.is_sound self.old.machines
-            → IsServed db whole (counted D.kept S.kept D.refused S.refused self.old.machines) past → IsServedOn db whole (counted D.kept S.kept D.refused S.refused self.new.machines) past }
+        ensures served { StaysServed (OfStores D.is_clean S.is_clean) (OfStores D.is_sound S.is_sound) (counted D.kept S.kept D.refused S.refused) self.old.machines self.new.machines }
         ensures still { OnErr result (self.new.current ≡ self.old.current) }
     {
         let Some(txn) = self.current else {
@@ -232,16 +224,13 @@ impl<D: DeskStore, S: SiteStore> Solo<D, S> {
 
     /// A statement: of the open transaction, or a transaction of its own.
     fn states(&mut self, text: &str) -> Result<Vec<Notice>, Refusal>
-        ensures clean { OfStores D.is_clean S.is_clean self.new.machines → OfStores D.is_clean S.is_clean self.old.machines }
-        ensures sound { OfStores D.is_clean S.is_clean self.new.machines → OfStores D.is_sound S.is_sound self.old.machines → OfStores D.is_sound S.is_sound self.new.machines }
-        ensures catalog { self.new.machines.desk.catalog ≡ self.old.machines.desk.catalog }
-        ensures blames { OfStores D.is_clean S.is_clean self.new.machines → OfStores D.is_sound S.is_sound self.old.machines → IfErr result (StopsFor (counts D.refused S.refused self.old.machines) (counts D.refused S.refused self.new.machines)) }
-        ensures ok { (db : Database) → IsOfCatalogue db → db.catalogue ≡ catalogue_of self.old.machines.desk.catalog → OfStores D.is_clean S.is_clean self.new.machines → OfStores D.is_sound S.is_sound self.old.machines → AreFit db (counted D.kept S.kept D.refused S.refused self.old.machines)
-            → IfOk result (λ heard. Executes db text.now self.old.current (counted D.kept S.kept D.refused S.refused self.old.machines) self.new.current (counted D.kept S.kept D.refused S.refused self.new.machines) heard.items) }
+        ensures leaves { LeavesMachines D.is_clean S.is_clean D.is_sound S.is_sound D.refused S.refused self.old.machines self.new.machines }
+        ensures blames { Blames (OfStores D.is_clean S.is_clean) (OfStores D.is_sound S.is_sound) (counts D.refused S.refused) self.old.machines self.new.machines result }
+        ensures ok { OverDatabase (OfStores D.is_clean S.is_clean) (OfStores D.is_sound S.is_sound) (counted D.kept S.kept D.refused S.refused) self.old.machines self.new.machines
+            (λ db before after. IfOk result (λ heard. Executes db text.now self.old.current before self.new.current after heard.items)) }
         ensures denied { (db : Database) (statement : Statement) → IsOfCatalogue db → db.catalogue ≡ catalogue_of self.old.machines.desk.catalog → OfStores D.is_clean S.is_clean self.new.machines → OfStores D.is_sound S.is_sound self.old.machines → AreFit db (counted D.kept S.kept D.refused S.refused self.old.machines)
             → IsTextOf db.schemas text.now (Run statement) → IfErr result (Declines db text.now self.old.current (counted D.kept S.kept D.refused S.refused self.old.machines) (counted D.kept S.kept D.refused S.refused self.new.machines)) }
-        ensures served { (db : Database) (whole : Relations) (past : List (Deed (language db))) → IsOfCatalogue db → ReachedLaw (language db) → db.catalogue ≡ catalogue_of self.old.machines.desk.catalog → OfStores D.is_clean S.is_clean self.new.machines → OfStores D.is_sound S.is_sound self.old.machines
-            → IsServed db whole (counted D.kept S.kept D.refused S.refused self.old.machines) past → IsServedOn db whole (counted D.kept S.kept D.refused S.refused self.new.machines) past }
+        ensures served { StaysServed (OfStores D.is_clean S.is_clean) (OfStores D.is_sound S.is_sound) (counted D.kept S.kept D.refused S.refused) self.old.machines self.new.machines }
         ensures still { OnErr result (self.new.current ≡ self.old.current) }
     {
         match self.current {
@@ -258,18 +247,15 @@ impl<D: DeskStore, S: SiteStore> Solo<D, S> {
 
     /// This is the command of the text.
     fn obey(&mut self, command: &Command, text: &str) -> Result<Vec<Notice>, Refusal>
-        ensures clean { OfStores D.is_clean S.is_clean self.new.machines → OfStores D.is_clean S.is_clean self.old.machines }
-        ensures sound { OfStores D.is_clean S.is_clean self.new.machines → OfStores D.is_sound S.is_sound self.old.machines → OfStores D.is_sound S.is_sound self.new.machines }
-        ensures catalog { self.new.machines.desk.catalog ≡ self.old.machines.desk.catalog }
-        ensures blames { OfStores D.is_clean S.is_clean self.new.machines → OfStores D.is_sound S.is_sound self.old.machines → IfErr result (StopsFor (counts D.refused S.refused self.old.machines) (counts D.refused S.refused self.new.machines)) }
-        ensures ok { (db : Database) → IsOfCatalogue db → db.catalogue ≡ catalogue_of self.old.machines.desk.catalog → OfStores D.is_clean S.is_clean self.new.machines → OfStores D.is_sound S.is_sound self.old.machines → AreFit db (counted D.kept S.kept D.refused S.refused self.old.machines)
-            → IsTextOf db.schemas text.now command.now → IfOk result (λ heard. Executes db text.now self.old.current (counted D.kept S.kept D.refused S.refused self.old.machines) self.new.current (counted D.kept S.kept D.refused S.refused self.new.machines) heard.items) }
-        ensures denied { (db : Database) → IsOfCatalogue db → db.catalogue ≡ catalogue_of self.old.machines.desk.catalog → OfStores D.is_clean S.is_clean self.new.machines → OfStores D.is_sound S.is_sound self.old.machines → AreFit db (counted D.kept S.kept D.refused S.refused self.old.machines)
-            → IsTextOf db.schemas text.now command.now → IfErr result (Declines db text.now self.old.current (counted D.kept S.kept D.refused S.refused self.old.machines) (counted D.kept S.kept D.refused S.refused self.new.machines)) }
+        ensures leaves { LeavesMachines D.is_clean S.is_clean D.is_sound S.is_sound D.refused S.refused self.old.machines self.new.machines }
+        ensures blames { Blames (OfStores D.is_clean S.is_clean) (OfStores D.is_sound S.is_sound) (counts D.refused S.refused) self.old.machines self.new.machines result }
+        ensures ok { OverDatabase (OfStores D.is_clean S.is_clean) (OfStores D.is_sound S.is_sound) (counted D.kept S.kept D.refused S.refused) self.old.machines self.new.machines
+            (λ db before after. IsTextOf db.schemas text.now command.now → IfOk result (λ heard. Executes db text.now self.old.current before self.new.current after heard.items)) }
+        ensures denied { OverDatabase (OfStores D.is_clean S.is_clean) (OfStores D.is_sound S.is_sound) (counted D.kept S.kept D.refused S.refused) self.old.machines self.new.machines
+            (λ db before after. IsTextOf db.schemas text.now command.now → IfErr result (Declines db text.now self.old.current before after)) }
         ensures inside { (txn : TxnNow) → self.old.current ≡ Some txn → command.now ≡ Begin → result ≡ Err refusals.Busy }
         ensures outside { self.old.current ≡ None → (command.now ≡ Commit) ⊎ (command.now ≡ Rollback) → result ≡ Err refusals.NoTransaction }
-        ensures served { (db : Database) (whole : Relations) (past : List (Deed (language db))) → IsOfCatalogue db → ReachedLaw (language db) → db.catalogue ≡ catalogue_of self.old.machines.desk.catalog → OfStores D.is_clean S.is_clean self.new.machines → OfStores D.is_sound S.is_sound self.old.machines
-            → IsServed db whole (counted D.kept S.kept D.refused S.refused self.old.machines) past → IsServedOn db whole (counted D.kept S.kept D.refused S.refused self.new.machines) past }
+        ensures served { StaysServed (OfStores D.is_clean S.is_clean) (OfStores D.is_sound S.is_sound) (counted D.kept S.kept D.refused S.refused) self.old.machines self.new.machines }
         ensures still { OnErr result (self.new.current ≡ self.old.current) }
     {
         match command {
@@ -282,19 +268,16 @@ impl<D: DeskStore, S: SiteStore> Solo<D, S> {
 
     /// The command of a text.
     fn command(&mut self, text: &str) -> Result<Vec<Notice>, Refusal>
-        ensures clean { OfStores D.is_clean S.is_clean self.new.machines → OfStores D.is_clean S.is_clean self.old.machines }
-        ensures sound { OfStores D.is_clean S.is_clean self.new.machines → OfStores D.is_sound S.is_sound self.old.machines → OfStores D.is_sound S.is_sound self.new.machines }
-        ensures catalog { self.new.machines.desk.catalog ≡ self.old.machines.desk.catalog }
-        ensures blames { OfStores D.is_clean S.is_clean self.new.machines → OfStores D.is_sound S.is_sound self.old.machines → IfErr result (StopsFor (counts D.refused S.refused self.old.machines) (counts D.refused S.refused self.new.machines)) }
-        ensures ok { (db : Database) → IsOfCatalogue db → db.catalogue ≡ catalogue_of self.old.machines.desk.catalog → OfStores D.is_clean S.is_clean self.new.machines → OfStores D.is_sound S.is_sound self.old.machines → AreFit db (counted D.kept S.kept D.refused S.refused self.old.machines)
-            → IfOk result (λ heard. Executes db text.now self.old.current (counted D.kept S.kept D.refused S.refused self.old.machines) self.new.current (counted D.kept S.kept D.refused S.refused self.new.machines) heard.items) }
-        ensures denied { (db : Database) → IsOfCatalogue db → db.catalogue ≡ catalogue_of self.old.machines.desk.catalog → OfStores D.is_clean S.is_clean self.new.machines → OfStores D.is_sound S.is_sound self.old.machines → AreFit db (counted D.kept S.kept D.refused S.refused self.old.machines)
-            → IfErr result (Declines db text.now self.old.current (counted D.kept S.kept D.refused S.refused self.old.machines) (counted D.kept S.kept D.refused S.refused self.new.machines)) }
+        ensures leaves { LeavesMachines D.is_clean S.is_clean D.is_sound S.is_sound D.refused S.refused self.old.machines self.new.machines }
+        ensures blames { Blames (OfStores D.is_clean S.is_clean) (OfStores D.is_sound S.is_sound) (counts D.refused S.refused) self.old.machines self.new.machines result }
+        ensures ok { OverDatabase (OfStores D.is_clean S.is_clean) (OfStores D.is_sound S.is_sound) (counted D.kept S.kept D.refused S.refused) self.old.machines self.new.machines
+            (λ db before after. IfOk result (λ heard. Executes db text.now self.old.current before self.new.current after heard.items)) }
+        ensures denied { OverDatabase (OfStores D.is_clean S.is_clean) (OfStores D.is_sound S.is_sound) (counted D.kept S.kept D.refused S.refused) self.old.machines self.new.machines
+            (λ db before after. IfErr result (Declines db text.now self.old.current before after)) }
         ensures inside { (txn : TxnNow) → self.old.current ≡ Some txn → IsTextOf (schemas_of (catalogue_of self.old.machines.desk.catalog)) text.now Begin → (result ≡ Err refusals.Busy) ⊎ (result ≡ Err refusals.Memory) }
         ensures outside { self.old.current ≡ None → IsTextOf (schemas_of (catalogue_of self.old.machines.desk.catalog)) text.now Commit ⊎ IsTextOf (schemas_of (catalogue_of self.old.machines.desk.catalog)) text.now Rollback → (result ≡ Err refusals.NoTransaction) ⊎ (result ≡ Err refusals.Memory) }
         ensures unread { ((given : CommandNow) → IsTextOf (schemas_of (catalogue_of self.old.machines.desk.catalog)) text.now given → ⊥) → OnOk result ⊥ × IfErr result (IsUnreadable (schemas_of (catalogue_of self.old.machines.desk.catalog)) text.now) }
-        ensures served { (db : Database) (whole : Relations) (past : List (Deed (language db))) → IsOfCatalogue db → ReachedLaw (language db) → db.catalogue ≡ catalogue_of self.old.machines.desk.catalog → OfStores D.is_clean S.is_clean self.new.machines → OfStores D.is_sound S.is_sound self.old.machines
-            → IsServed db whole (counted D.kept S.kept D.refused S.refused self.old.machines) past → IsServedOn db whole (counted D.kept S.kept D.refused S.refused self.new.machines) past }
+        ensures served { StaysServed (OfStores D.is_clean S.is_clean) (OfStores D.is_sound S.is_sound) (counted D.kept S.kept D.refused S.refused) self.old.machines self.new.machines }
         ensures still { OnErr result (self.new.current ≡ self.old.current) }
     {
         one_command();
@@ -311,9 +294,7 @@ impl<D: DeskStore, S: SiteStore> Solo<D, S> {
     /// refused meanwhile. Whatever was refused, the command itself too, the next one finds all quiet or the open transaction ready. A refusal
     /// that stops the database, since memory ran out or the medium of a store has refused meanwhile, is the answer of every later command.
     pub fn execute(&mut self, text: &str) -> Result<Vec<Notice>, Refusal>
-        ensures clean { OfStores D.is_clean S.is_clean self.new.machines → OfStores D.is_clean S.is_clean self.old.machines }
-        ensures sound { OfStores D.is_clean S.is_clean self.new.machines → OfStores D.is_sound S.is_sound self.old.machines → OfStores D.is_sound S.is_sound self.new.machines }
-        ensures catalog { self.new.machines.desk.catalog ≡ self.old.machines.desk.catalog }
+        ensures leaves { LeavesMachines D.is_clean S.is_clean D.is_sound S.is_sound D.refused S.refused self.old.machines self.new.machines }
         ensures executes { self.old.stopped ≡ None → OfStores D.is_clean S.is_clean self.new.machines → OfStores D.is_sound S.is_sound self.old.machines → AreFit (database (catalogue_of self.old.machines.desk.catalog)) (counted D.kept S.kept D.refused S.refused self.old.machines)
             → IfOk result (λ heard. Executes (database (catalogue_of self.old.machines.desk.catalog)) text.now self.old.current (counted D.kept S.kept D.refused S.refused self.old.machines) self.new.current (counted D.kept S.kept D.refused S.refused self.new.machines) heard.items) }
         ensures served { (whole : Relations) (past : List (Deed (language (database (catalogue_of self.old.machines.desk.catalog))))) → OfStores D.is_clean S.is_clean self.new.machines → OfStores D.is_sound S.is_sound self.old.machines
@@ -357,9 +338,7 @@ impl<D: DeskStore, S: SiteStore> Solo<D, S> {
     /// they do one after another over whole relations. Where memory runs out or a store fails, the transaction at that place and the
     /// database are stopped, and that is the answer of every later command. None is run while one of the client is open.
     pub fn run(&mut self, transactions: &[Transaction]) -> Result<Vec<Outcome>, Unfinished>
-        ensures clean { OfStores D.is_clean S.is_clean self.new.machines → OfStores D.is_clean S.is_clean self.old.machines }
-        ensures sound { OfStores D.is_clean S.is_clean self.new.machines → OfStores D.is_sound S.is_sound self.old.machines → OfStores D.is_sound S.is_sound self.new.machines }
-        ensures catalog { self.new.machines.desk.catalog ≡ self.old.machines.desk.catalog }
+        ensures leaves { LeavesMachines D.is_clean S.is_clean D.is_sound S.is_sound D.refused S.refused self.old.machines self.new.machines }
         ensures ran { (whole : Relations) (entries : List EntryNow) (past : List (Deed (language (database (catalogue_of self.old.machines.desk.catalog))))) → OfStores D.is_clean S.is_clean self.new.machines → OfStores D.is_sound S.is_sound self.old.machines
             → IsServed (database (catalogue_of self.old.machines.desk.catalog)) whole (counted D.kept S.kept D.refused S.refused self.old.machines) past → Tells (database (catalogue_of self.old.machines.desk.catalog)) entries past
             → IfOk result (λ outcomes. HasRun (database (catalogue_of self.old.machines.desk.catalog)) (fits (catalogue_of self.old.machines.desk.catalog)) whole transactions.now outcomes.items (counted D.kept S.kept D.refused S.refused self.old.machines) (counted D.kept S.kept D.refused S.refused self.new.machines) entries past) }
@@ -414,14 +393,11 @@ impl<D: DeskStore, S: SiteStore> Solo<D, S> {
     /// has changed by this. A fault is want of memory, or a store whose medium has refused meanwhile.
     pub fn parts(&mut self, leaf: &Leaf) -> Result<Option<Vec<Part>>, Fault>
         ensures sent { result ≢ Err faults.Unsent }
-        ensures clean { OfStores D.is_clean S.is_clean self.new.machines → OfStores D.is_clean S.is_clean self.old.machines }
-        ensures sound { OfStores D.is_clean S.is_clean self.new.machines → OfStores D.is_sound S.is_sound self.old.machines → OfStores D.is_sound S.is_sound self.new.machines }
+        ensures leaves { LeavesMachines D.is_clean S.is_clean D.is_sound S.is_sound D.refused S.refused self.old.machines self.new.machines }
         ensures parts { OfStores D.is_clean S.is_clean self.new.machines → OfStores D.is_sound S.is_sound self.old.machines → AreFit (database (catalogue_of self.old.machines.desk.catalog)) (counted D.kept S.kept D.refused S.refused self.old.machines)
             → IfOk result (λ shown. option_map (λ parts. parts.items) shown ≡ parts_kept (database (catalogue_of self.old.machines.desk.catalog)) (counted D.kept S.kept D.refused S.refused self.old.machines) leaf.now) }
-        ensures same { OfStores D.is_clean S.is_clean self.new.machines → OfStores D.is_sound S.is_sound self.old.machines → held D.kept S.kept self.new.machines ≡ held D.kept S.kept self.old.machines }
+        ensures same { StaysAsItIs (OfStores D.is_clean S.is_clean) (OfStores D.is_sound S.is_sound) (held D.kept S.kept) self.old.machines self.new.machines }
         ensures still { (self.new.current ≡ self.old.current) × (self.new.stopped ≡ self.old.stopped) }
-        ensures catalog { self.new.machines.desk.catalog ≡ self.old.machines.desk.catalog }
-        ensures counts { NoFewer (counts D.refused S.refused self.old.machines) (counts D.refused S.refused self.new.machines) }
         ensures fails { OfStores D.is_clean S.is_clean self.new.machines → OfStores D.is_sound S.is_sound self.old.machines → AreFit (database (catalogue_of self.old.machines.desk.catalog)) (counted D.kept S.kept D.refused S.refused self.old.machines)
             → IfErr result (FailsFor (counts D.refused S.refused self.old.machines) (counts D.refused S.refused self.new.machines)) }
     {
@@ -434,18 +410,15 @@ impl<D: DeskStore, S: SiteStore> Solo<D, S> {
     /// refused meanwhile.
     pub fn rebuilt(&mut self, relation: &Text) -> Result<Option<Vec<Row>>, Fault>
         ensures sent { result ≢ Err faults.Unsent }
-        ensures clean { OfStores D.is_clean S.is_clean self.new.machines → OfStores D.is_clean S.is_clean self.old.machines }
-        ensures sound { OfStores D.is_clean S.is_clean self.new.machines → OfStores D.is_sound S.is_sound self.old.machines → OfStores D.is_sound S.is_sound self.new.machines }
+        ensures leaves { LeavesMachines D.is_clean S.is_clean D.is_sound S.is_sound D.refused S.refused self.old.machines self.new.machines }
         ensures rows { (whole : Relations) → OfStores D.is_clean S.is_clean self.new.machines → OfStores D.is_sound S.is_sound self.old.machines → AreFit (database (catalogue_of self.old.machines.desk.catalog)) (counted D.kept S.kept D.refused S.refused self.old.machines)
             → AreThoseOf (database (catalogue_of self.old.machines.desk.catalog)) (counted D.kept S.kept D.refused S.refused self.old.machines) whole → FitsSchema (schemas_of (catalogue_of self.old.machines.desk.catalog)) whole
             → IfOk result (λ shown. option_map (λ rows. rows.items) shown ≡ rows_shown (database (catalogue_of self.old.machines.desk.catalog)) whole relation.now) }
         ensures served { (whole : Relations) (past : List (Deed (language (database (catalogue_of self.old.machines.desk.catalog))))) → OfStores D.is_clean S.is_clean self.new.machines → OfStores D.is_sound S.is_sound self.old.machines
             → IsServed (database (catalogue_of self.old.machines.desk.catalog)) whole (counted D.kept S.kept D.refused S.refused self.old.machines) past
             → IfOk result (λ shown. option_map (λ rows. rows.items) shown ≡ rows_shown (database (catalogue_of self.old.machines.desk.catalog)) (after_committed (database (catalogue_of self.old.machines.desk.catalog)) past whole) relation.now) }
-        ensures same { OfStores D.is_clean S.is_clean self.new.machines → OfStores D.is_sound S.is_sound self.old.machines → held D.kept S.kept self.new.machines ≡ held D.kept S.kept self.old.machines }
+        ensures same { StaysAsItIs (OfStores D.is_clean S.is_clean) (OfStores D.is_sound S.is_sound) (held D.kept S.kept) self.old.machines self.new.machines }
         ensures still { (self.new.current ≡ self.old.current) × (self.new.stopped ≡ self.old.stopped) }
-        ensures catalog { self.new.machines.desk.catalog ≡ self.old.machines.desk.catalog }
-        ensures counts { NoFewer (counts D.refused S.refused self.old.machines) (counts D.refused S.refused self.new.machines) }
         ensures fails_after { (whole : Relations) (past : List (Deed (language (database (catalogue_of self.old.machines.desk.catalog))))) → OfStores D.is_clean S.is_clean self.new.machines → OfStores D.is_sound S.is_sound self.old.machines
             → IsServed (database (catalogue_of self.old.machines.desk.catalog)) whole (counted D.kept S.kept D.refused S.refused self.old.machines) past
             → IfErr result (FailsFor (counts D.refused S.refused self.old.machines) (counts D.refused S.refused self.new.machines)) }

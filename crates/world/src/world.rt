@@ -22,12 +22,13 @@ ghost use Rattle.world.specs.Events.{is_unsent};
 ghost use Rattle.world.specs.Counted.{NoFewer, counts};
 ghost use Rattle.world.specs.Fault.{FailsFor, is_memory};
 ghost use Rattle.world.specs.Following.{Follows, Passes};
+ghost use Rattle.world.specs.Frame.{LeavesMachines, StaysAsItIs, StaysOnErr};
 ghost use Rattle.world.specs.Held.{OfStores, held};
 ghost use Rattle.world.specs.History.{AnswerInTurn, committed_of};
 ghost use Rattle.world.specs.Machines.{AreFit};
 ghost use Rattle.world.specs.Posted.{letters_in};
 ghost use Rattle.world.specs.Refused.{IsToldOf};
-ghost use Rattle.world.specs.Runs.{AppliesWhole, IsRun, RunsOn};
+ghost use Rattle.world.specs.Runs.{GoesOn, IsRun, RunsOn};
 ghost use Rattle.world.specs.Steps.{Steps, answer_of};
 ghost use Rattle.world.specs.contracts.world.World.{the_row};
 ghost use Rattle.world.specs.Settled.{AreThoseOf, ShowsSerial, parts_kept, rows_shown};
@@ -37,7 +38,7 @@ use crate::event::{Entry, Event};
 use crate::fault::Fault;
 use crate::happening::happen;
 use crate::history::{Committed, committed_in};
-use crate::laws::{database_is_of_catalogue, language_is_lawful, runs_are_serial, runs_are_whole};
+use crate::laws::{database_is_of_catalogue, language_is_lawful, runs_are_serial, runs_hold};
 use crate::log::Log;
 use crate::machines::Machines;
 use crate::opening::start;
@@ -113,28 +114,26 @@ impl<D: DeskStore, S: SiteStore> World<D, S> {
 
     /// An event happens, and has an entry, the last one from now on.
     fn happens(&mut self, event: Event) -> Result<(), Fault>
-        ensures clean { OfStores D.is_clean S.is_clean self.new.machines → OfStores D.is_clean S.is_clean self.old.machines }
-        ensures sound { OfStores D.is_clean S.is_clean self.new.machines → OfStores D.is_sound S.is_sound self.old.machines → OfStores D.is_sound S.is_sound self.new.machines }
+        ensures leaves { LeavesMachines D.is_clean S.is_clean D.is_sound S.is_sound D.refused S.refused self.old.machines self.new.machines }
         ensures ok { (whole : Relations) (past : List (Deed (language (database (catalogue_of self.old.machines.desk.catalog)))))
             → OfStores D.is_clean S.is_clean self.new.machines → OfStores D.is_sound S.is_sound self.old.machines
             → IsRun (database (catalogue_of self.old.machines.desk.catalog)) whole (held D.kept S.kept self.old.machines) self.old.entries.items past
             → OnOk result (RunsOn (database (catalogue_of self.old.machines.desk.catalog)) whole (held D.kept S.kept self.new.machines) self.new.entries.items past) }
-        ensures whole { (whole : Relations) (past : List (Deed (language (database (catalogue_of self.old.machines.desk.catalog)))))
+        ensures goes_on { (whole : Relations) (past : List (Deed (language (database (catalogue_of self.old.machines.desk.catalog)))))
             → OfStores D.is_clean S.is_clean self.new.machines → OfStores D.is_sound S.is_sound self.old.machines
             → IsRun (database (catalogue_of self.old.machines.desk.catalog)) whole (held D.kept S.kept self.old.machines) self.old.entries.items past
-            → OnOk result (AppliesWhole (database (catalogue_of self.old.machines.desk.catalog)) whole (held D.kept S.kept self.new.machines) self.new.entries.items past) }
+            → OnOk result (GoesOn (database (catalogue_of self.old.machines.desk.catalog)) whole (held D.kept S.kept self.new.machines) self.new.entries.items past) }
         ensures entry { OnOk result ((entry : EntryNow) × ((entry.event ≡ event) × (self.new.entries.items ≡ self.old.entries.items ++ entry ∷ []))) }
         ensures unsent { result ≡ Err faults.Unsent → is_unsent self.old.machines.desk.catalog.0 self.old.entries.items event ≡ true }
         ensures nowhere { is_unsent self.old.machines.desk.catalog.0 self.old.entries.items event ≡ true → (result ≡ Err faults.Unsent) ⊎ (result ≡ Err (faults.Desk refusals.Memory)) }
         ensures refused { (whole : Relations) (past : List (Deed (language (database (catalogue_of self.old.machines.desk.catalog))))) (asked : CallNow)
             → IsRun (database (catalogue_of self.old.machines.desk.catalog)) whole (held D.kept S.kept self.old.machines) self.old.entries.items past → event ≡ events.Call asked
             → IfErr result (λ fault. (fault ≡ faults.Desk refusals.Memory) ⊎ IsToldOf (database (catalogue_of self.old.machines.desk.catalog)) (table_of self.old.machines.desk.present) asked fault) }
-        ensures err { OfStores D.is_clean S.is_clean self.new.machines → OfStores D.is_sound S.is_sound self.old.machines → OnErr result (held D.kept S.kept self.new.machines ≡ held D.kept S.kept self.old.machines) }
-        ensures catalog { self.new.machines.desk.catalog ≡ self.old.machines.desk.catalog }
+        ensures err { StaysOnErr (OfStores D.is_clean S.is_clean) (OfStores D.is_sound S.is_sound) (held D.kept S.kept) self.old.machines self.new.machines result }
         ensures same { OnErr result (self.new.entries.items ≡ self.old.entries.items) }
     {
         database_is_of_catalogue(self.machines.desk.catalog());
-        runs_are_whole(self.machines.desk.catalog());
+        runs_hold(self.machines.desk.catalog());
         self.entries.make_room()?;
         match happen(&mut self.machines, &self.entries, &event) {
             Ok(out) => {
@@ -148,9 +147,7 @@ impl<D: DeskStore, S: SiteStore> World<D, S> {
     /// Events happen one after another; one that is refused is passed over. Want of memory ends it: the answer is
     /// then how many events came before.
     pub fn run(&mut self, events: &[Event]) -> Result<(), usize>
-        ensures clean { OfStores D.is_clean S.is_clean self.new.machines → OfStores D.is_clean S.is_clean self.old.machines }
-        ensures sound { OfStores D.is_clean S.is_clean self.new.machines → OfStores D.is_sound S.is_sound self.old.machines → OfStores D.is_sound S.is_sound self.new.machines }
-        ensures catalog { self.new.machines.desk.catalog ≡ self.old.machines.desk.catalog }
+        ensures leaves { LeavesMachines D.is_clean S.is_clean D.is_sound S.is_sound D.refused S.refused self.old.machines self.new.machines }
         ensures runs { (whole : Relations) (past : List (Deed (language (database (catalogue_of self.old.machines.desk.catalog)))))
             → OfStores D.is_clean S.is_clean self.new.machines → OfStores D.is_sound S.is_sound self.old.machines
             → IsRun (database (catalogue_of self.old.machines.desk.catalog)) whole (held D.kept S.kept self.old.machines) self.old.entries.items past
@@ -176,14 +173,12 @@ impl<D: DeskStore, S: SiteStore> World<D, S> {
 
     /// An event happens, or is refused. Without memory nothing has changed.
     fn pass(&mut self, event: &Event) -> Result<(), Memory>
-        ensures clean { OfStores D.is_clean S.is_clean self.new.machines → OfStores D.is_clean S.is_clean self.old.machines }
-        ensures sound { OfStores D.is_clean S.is_clean self.new.machines → OfStores D.is_sound S.is_sound self.old.machines → OfStores D.is_sound S.is_sound self.new.machines }
-        ensures catalog { self.new.machines.desk.catalog ≡ self.old.machines.desk.catalog }
+        ensures leaves { LeavesMachines D.is_clean S.is_clean D.is_sound S.is_sound D.refused S.refused self.old.machines self.new.machines }
         ensures ok { (whole : Relations) (past : List (Deed (language (database (catalogue_of self.old.machines.desk.catalog)))))
             → OfStores D.is_clean S.is_clean self.new.machines → OfStores D.is_sound S.is_sound self.old.machines
             → IsRun (database (catalogue_of self.old.machines.desk.catalog)) whole (held D.kept S.kept self.old.machines) self.old.entries.items past
             → OnOk result (Passes (database (catalogue_of self.old.machines.desk.catalog)) whole event.now (held D.kept S.kept self.old.machines) self.old.entries.items (held D.kept S.kept self.new.machines) self.new.entries.items past) }
-        ensures err { OfStores D.is_clean S.is_clean self.new.machines → OfStores D.is_sound S.is_sound self.old.machines → OnErr result (held D.kept S.kept self.new.machines ≡ held D.kept S.kept self.old.machines) }
+        ensures err { StaysOnErr (OfStores D.is_clean S.is_clean) (OfStores D.is_sound S.is_sound) (held D.kept S.kept) self.old.machines self.new.machines result }
         ensures same { OnErr result (self.new.entries.items ≡ self.old.entries.items) }
     {
         let again = event.copy()?;
@@ -221,14 +216,11 @@ impl<D: DeskStore, S: SiteStore> World<D, S> {
     /// has changed by this. A fault is want of memory, or a store whose medium has refused meanwhile.
     pub fn parts(&mut self, leaf: &Leaf) -> Result<Option<Vec<Part>>, Fault>
         ensures sent { result ≢ Err faults.Unsent }
-        ensures clean { OfStores D.is_clean S.is_clean self.new.machines → OfStores D.is_clean S.is_clean self.old.machines }
-        ensures sound { OfStores D.is_clean S.is_clean self.new.machines → OfStores D.is_sound S.is_sound self.old.machines → OfStores D.is_sound S.is_sound self.new.machines }
+        ensures leaves { LeavesMachines D.is_clean S.is_clean D.is_sound S.is_sound D.refused S.refused self.old.machines self.new.machines }
         ensures parts { OfStores D.is_clean S.is_clean self.new.machines → OfStores D.is_sound S.is_sound self.old.machines → AreFit (database (catalogue_of self.old.machines.desk.catalog)) (held D.kept S.kept self.old.machines)
             → IfOk result (λ shown. option_map (λ parts. parts.items) shown ≡ parts_kept (database (catalogue_of self.old.machines.desk.catalog)) (held D.kept S.kept self.old.machines) leaf.now) }
-        ensures same { OfStores D.is_clean S.is_clean self.new.machines → OfStores D.is_sound S.is_sound self.old.machines → held D.kept S.kept self.new.machines ≡ held D.kept S.kept self.old.machines }
+        ensures same { StaysAsItIs (OfStores D.is_clean S.is_clean) (OfStores D.is_sound S.is_sound) (held D.kept S.kept) self.old.machines self.new.machines }
         ensures entries { self.new.entries.items ≡ self.old.entries.items }
-        ensures catalog { self.new.machines.desk.catalog ≡ self.old.machines.desk.catalog }
-        ensures counts { NoFewer (counts D.refused S.refused self.old.machines) (counts D.refused S.refused self.new.machines) }
         ensures fails { OfStores D.is_clean S.is_clean self.new.machines → OfStores D.is_sound S.is_sound self.old.machines → AreFit (database (catalogue_of self.old.machines.desk.catalog)) (held D.kept S.kept self.old.machines)
             → IfErr result (FailsFor (counts D.refused S.refused self.old.machines) (counts D.refused S.refused self.new.machines)) }
     {
@@ -241,8 +233,7 @@ impl<D: DeskStore, S: SiteStore> World<D, S> {
     /// refused meanwhile.
     pub fn rebuilt(&mut self, relation: &Text) -> Result<Option<Vec<Row>>, Fault>
         ensures sent { result ≢ Err faults.Unsent }
-        ensures clean { OfStores D.is_clean S.is_clean self.new.machines → OfStores D.is_clean S.is_clean self.old.machines }
-        ensures sound { OfStores D.is_clean S.is_clean self.new.machines → OfStores D.is_sound S.is_sound self.old.machines → OfStores D.is_sound S.is_sound self.new.machines }
+        ensures leaves { LeavesMachines D.is_clean S.is_clean D.is_sound S.is_sound D.refused S.refused self.old.machines self.new.machines }
         ensures rows { (whole : Relations) → OfStores D.is_clean S.is_clean self.new.machines → OfStores D.is_sound S.is_sound self.old.machines → AreFit (database (catalogue_of self.old.machines.desk.catalog)) (held D.kept S.kept self.old.machines)
             → AreThoseOf (database (catalogue_of self.old.machines.desk.catalog)) (held D.kept S.kept self.old.machines) whole → FitsSchema (schemas_of (catalogue_of self.old.machines.desk.catalog)) whole
             → IfOk result (λ shown. option_map (λ rows. rows.items) shown ≡ rows_shown (database (catalogue_of self.old.machines.desk.catalog)) whole relation.now) }
@@ -250,10 +241,8 @@ impl<D: DeskStore, S: SiteStore> World<D, S> {
             → OfStores D.is_clean S.is_clean self.new.machines → OfStores D.is_sound S.is_sound self.old.machines
             → IsRun (database (catalogue_of self.old.machines.desk.catalog)) whole (held D.kept S.kept self.old.machines) self.old.entries.items past
             → IfOk result (λ shown. ShowsSerial (database (catalogue_of self.old.machines.desk.catalog)) whole self.old.entries.items relation.now (option_map (λ rows. rows.items) shown)) }
-        ensures same { OfStores D.is_clean S.is_clean self.new.machines → OfStores D.is_sound S.is_sound self.old.machines → held D.kept S.kept self.new.machines ≡ held D.kept S.kept self.old.machines }
+        ensures same { StaysAsItIs (OfStores D.is_clean S.is_clean) (OfStores D.is_sound S.is_sound) (held D.kept S.kept) self.old.machines self.new.machines }
         ensures entries { self.new.entries.items ≡ self.old.entries.items }
-        ensures catalog { self.new.machines.desk.catalog ≡ self.old.machines.desk.catalog }
-        ensures counts { NoFewer (counts D.refused S.refused self.old.machines) (counts D.refused S.refused self.new.machines) }
         ensures fails_after { (whole : Relations) (past : List (Deed (language (database (catalogue_of self.old.machines.desk.catalog)))))
             → OfStores D.is_clean S.is_clean self.new.machines → OfStores D.is_sound S.is_sound self.old.machines
             → IsRun (database (catalogue_of self.old.machines.desk.catalog)) whole (held D.kept S.kept self.old.machines) self.old.entries.items past

@@ -1,5 +1,5 @@
 -- Why `commit_alone` meets its contract.
-use Rattle.std.proofs.Common.{◌∙◌, sym, ap}
+use Rattle.std.proofs.Common.{rules, ◌∙◌, sym, ap}
 use Rattle.catalog.specs.Relation.{catalogue_of}
 use Rattle.world.specs.Held.{counted}
 use Rattle.world.proofs.Moving.{if_ok}
@@ -20,8 +20,8 @@ returns-in-Ok-clause-ok g c = λ db of is clean sound fit.
 pub returns-in-Err-clause-served : goal.returns-in-Err-clause-served
 returns-in-Err-clause-served g c = λ db whole past of law is clean sound served.
     then_on db law whole (counted g.D.DeskStore.kept g.S.SiteStore.kept g.D.DeskStore.refused g.S.SiteStore.refused c.args.machines.now) (counted g.D.DeskStore.kept g.S.SiteStore.kept g.D.DeskStore.refused g.S.SiteStore.refused c.commit.new.machines) (counted g.D.DeskStore.kept g.S.SiteStore.kept g.D.DeskStore.refused g.S.SiteStore.refused c.take_back.new.machines) past
-    (c.commit.ensures.served db whole past of law is (c.take_back.ensures.clean clean) sound served)
-    (λ more so. c.take_back.ensures.served db whole more of law (is ∙ ap catalogue_of (sym c.commit.ensures.catalog)) clean (c.commit.ensures.sound (c.take_back.ensures.clean clean) sound) so)
+    (c.commit.ensures.served db whole past of law is (c.take_back.ensures.leaves.clean clean) sound served)
+    (λ more so. c.take_back.ensures.served db whole more of law (is ∙ ap catalogue_of (sym c.commit.ensures.leaves.catalog)) clean (c.commit.ensures.leaves.sound (c.take_back.ensures.leaves.clean clean) sound) so)
 
 pub returns-in-Ok-clause-denied : goal.returns-in-Ok-clause-denied
 returns-in-Ok-clause-denied g c = λ db of is clean sound fit. if_err c.hears.result (λ told memory. inl (is_memory told memory)) c.hears.ensures.own
@@ -31,16 +31,21 @@ returns-in-Err-clause-denied g c = λ db of is clean sound fit.
     let before = counted g.D.DeskStore.kept g.S.SiteStore.kept g.D.DeskStore.refused g.S.SiteStore.refused c.args.machines.now in
     let middle = counted g.D.DeskStore.kept g.S.SiteStore.kept g.D.DeskStore.refused g.S.SiteStore.refused c.commit.new.machines in
     let after = counted g.D.DeskStore.kept g.S.SiteStore.kept g.D.DeskStore.refused g.S.SiteStore.refused c.take_back.new.machines in
-    taken_back db c.args.txn (call.Commit c.args.txn) before middle after c.take_back.result c.in-Err.refusal c.take_back.ensures.told (c.in-Err.ensures.denied db of is (c.take_back.ensures.clean clean) sound fit)
-    (λ fit_middle. c.take_back.ensures.taken db of (is ∙ ap catalogue_of (sym c.commit.ensures.catalog)) clean (c.commit.ensures.sound (c.take_back.ensures.clean clean) sound) fit_middle)
+    taken_back db c.args.txn (call.Commit c.args.txn) before middle after c.take_back.result c.in-Err.refusal c.take_back.ensures.told (c.in-Err.ensures.denied db of is (c.take_back.ensures.leaves.clean clean) sound fit)
+    (λ fit_middle. c.take_back.ensures.taken db of (is ∙ ap catalogue_of (sym c.commit.ensures.leaves.catalog)) clean (c.commit.ensures.leaves.sound (c.take_back.ensures.leaves.clean clean) sound) fit_middle)
 
 pub returns-in-Ok-clause-blames : goal.returns-in-Ok-clause-blames
 returns-in-Ok-clause-blames g c = λ clean sound. memory_only c.hears.result (counts g.D.DeskStore.refused g.S.SiteStore.refused c.args.machines.now) (counts g.D.DeskStore.refused g.S.SiteStore.refused c.commit.new.machines) c.hears.ensures.own
 
-pub returns-in-Err-clause-counts : goal.returns-in-Err-clause-counts
-returns-in-Err-clause-counts g c = no_fewer_then (counts g.D.DeskStore.refused g.S.SiteStore.refused c.args.machines.now) (counts g.D.DeskStore.refused g.S.SiteStore.refused c.commit.new.machines) (counts g.D.DeskStore.refused g.S.SiteStore.refused c.take_back.new.machines) c.commit.ensures.counts c.take_back.ensures.counts
+pub returns-in-Err-clause-leaves : goal.returns-in-Err-clause-leaves
+returns-in-Err-clause-leaves g c = record {
+  clean = search rules;
+  sound = search rules;
+  counts = no_fewer_then (counts g.D.DeskStore.refused g.S.SiteStore.refused c.args.machines.now) (counts g.D.DeskStore.refused g.S.SiteStore.refused c.commit.new.machines) (counts g.D.DeskStore.refused g.S.SiteStore.refused c.take_back.new.machines) c.commit.ensures.leaves.counts c.take_back.ensures.leaves.counts;
+  catalog = search rules;
+}
 
 pub returns-in-Err-clause-blames : goal.returns-in-Err-clause-blames
 returns-in-Err-clause-blames g c = λ clean sound.
-    taken_stops (counts g.D.DeskStore.refused g.S.SiteStore.refused c.args.machines.now) (counts g.D.DeskStore.refused g.S.SiteStore.refused c.commit.new.machines) (counts g.D.DeskStore.refused g.S.SiteStore.refused c.take_back.new.machines) c.commit.ensures.counts c.take_back.ensures.counts c.in-Err.refusal c.take_back.result
-    (c.in-Err.ensures.blames (c.take_back.ensures.clean clean) sound) (c.take_back.ensures.blames clean (c.commit.ensures.sound (c.take_back.ensures.clean clean) sound))
+    taken_stops (counts g.D.DeskStore.refused g.S.SiteStore.refused c.args.machines.now) (counts g.D.DeskStore.refused g.S.SiteStore.refused c.commit.new.machines) (counts g.D.DeskStore.refused g.S.SiteStore.refused c.take_back.new.machines) c.commit.ensures.leaves.counts c.take_back.ensures.leaves.counts c.in-Err.refusal c.take_back.result
+    (c.in-Err.ensures.blames (c.take_back.ensures.leaves.clean clean) sound) (c.take_back.ensures.blames clean (c.commit.ensures.leaves.sound (c.take_back.ensures.leaves.clean clean) sound))

@@ -1,5 +1,5 @@
 -- Why `decide` meets its contract.
-use Rattle.std.proofs.Common.{◌≡◌, ◌∙◌, refl, sym, ap, true, false}
+use Rattle.std.proofs.Common.{rules, ◌≡◌, ◌∙◌, refl, sym, ap, true, false}
 use Rattle.world.specs.Held.{counted}
 use Rattle.world.specs.Serving.{did_decide, had_ended, is_end, tells}
 use Rattle.world.proofs.Denying.{not_decided}
@@ -30,5 +30,10 @@ returns-clause-denied g c = λ db of is clean sound fit.
     let goes_on : tells is_end c.args.told.items ≡ false = ap (tells is_end) (sym c.as_slice.ensures.value) ∙ sym c.tells_end.ensures ∙ c.if-tells_end.false in
     if_err c.commit_alone.result (λ told denied. not_decided db c.args.txn c.args.told.items (counted g.D.DeskStore.kept g.S.SiteStore.kept g.D.DeskStore.refused g.S.SiteStore.refused c.args.machines.now) (counted g.D.DeskStore.kept g.S.SiteStore.kept g.D.DeskStore.refused g.S.SiteStore.refused c.commit_alone.new.machines) told goes_on denied) (c.commit_alone.ensures.denied db of is clean sound fit)
 
-pub returns-then-tells_end-clause-counts : goal.returns-then-tells_end-clause-counts
-returns-then-tells_end-clause-counts g c = no_fewer (counts g.D.DeskStore.refused g.S.SiteStore.refused c.args.machines.now)
+pub returns-then-tells_end-clause-leaves : goal.returns-then-tells_end-clause-leaves
+returns-then-tells_end-clause-leaves g c = record {
+  clean = search rules;
+  sound = search rules;
+  counts = no_fewer (counts g.D.DeskStore.refused g.S.SiteStore.refused c.args.machines.now);
+  catalog = search rules;
+}

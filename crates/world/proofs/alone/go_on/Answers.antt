@@ -1,5 +1,5 @@
 -- Why `go_on` meets its contract.
-use Rattle.std.proofs.Common.{refl, subst, List}
+use Rattle.std.proofs.Common.{rules, refl, subst, List}
 use Rattle.desk.specs.declared.reply.Notice.{Notice}
 use Rattle.world.specs.Held.{counted}
 use Rattle.world.specs.Serving.{DoesDecide}
@@ -31,8 +31,13 @@ returns-in-Ok-clause-denied g c = λ db of is clean sound fit.
 pub returns-in-Err-clause-denied : goal.returns-in-Err-clause-denied
 returns-in-Err-clause-denied g c = λ db of is clean sound fit. commit_stops (is_memory c.in-Err.refusal c.in-Err.ensures.own)
 
-pub returns-in-Err-clause-counts : goal.returns-in-Err-clause-counts
-returns-in-Err-clause-counts g c = no_fewer (counts g.D.DeskStore.refused g.S.SiteStore.refused c.args.machines.now)
+pub returns-in-Err-clause-leaves : goal.returns-in-Err-clause-leaves
+returns-in-Err-clause-leaves g c = record {
+  clean = search rules;
+  sound = search rules;
+  counts = no_fewer (counts g.D.DeskStore.refused g.S.SiteStore.refused c.args.machines.now);
+  catalog = search rules;
+}
 
 pub returns-in-Err-clause-blames : goal.returns-in-Err-clause-blames
 returns-in-Err-clause-blames g c = λ clean sound. memory_stops (counts g.D.DeskStore.refused g.S.SiteStore.refused c.args.machines.now) (counts g.D.DeskStore.refused g.S.SiteStore.refused c.args.machines.now) c.in-Err.refusal c.in-Err.ensures.own

@@ -1,5 +1,5 @@
 -- Why `take_back` meets its contract.
-use Rattle.std.proofs.Common.{◌∙◌, inr, refl, sym}
+use Rattle.std.proofs.Common.{rules, ◌∙◌, inr, refl, sym}
 use Rattle.world.specs.Held.{counted}
 use Rattle.world.specs.Denying.{is_rolled_back}
 use Rattle.world.proofs.Denying.{rolled_back}
@@ -20,5 +20,10 @@ pub returns-else-is_stop-2-clause-taken : goal.returns-else-is_stop-2-clause-tak
 returns-else-is_stop-2-clause-taken g c = λ db of is clean sound fit.
     rolled_back db c.args.txn (counted g.D.DeskStore.kept g.S.SiteStore.kept g.D.DeskStore.refused g.S.SiteStore.refused c.args.machines.now) (counted g.D.DeskStore.kept g.S.SiteStore.kept g.D.DeskStore.refused g.S.SiteStore.refused c.roll_back.new.machines) c.args.refusal c.in-Err.other (sym c.is_stop-in-Err.ensures ∙ c.if-is_stop-2.false) (c.in-Err.ensures.denied db of is clean sound fit)
 
-pub returns-then-is_stop-clause-counts : goal.returns-then-is_stop-clause-counts
-returns-then-is_stop-clause-counts g c = no_fewer (counts g.D.DeskStore.refused g.S.SiteStore.refused c.args.machines.now)
+pub returns-then-is_stop-clause-leaves : goal.returns-then-is_stop-clause-leaves
+returns-then-is_stop-clause-leaves g c = record {
+  clean = search rules;
+  sound = search rules;
+  counts = no_fewer (counts g.D.DeskStore.refused g.S.SiteStore.refused c.args.machines.now);
+  catalog = search rules;
+}

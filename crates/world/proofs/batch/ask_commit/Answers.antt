@@ -1,5 +1,5 @@
 -- Why `ask_commit` meets its contract.
-use Rattle.std.proofs.Common.{◌∙◌, ◌++◌, ◌∷◌, [], List, refl, sym, ap}
+use Rattle.std.proofs.Common.{rules, ◌∙◌, ◌++◌, ◌∷◌, [], List, refl, sym, ap}
 use Rattle.world.specs.declared.transaction.Came as cames
 use Rattle.catalog.specs.Relation.{catalogue_of}
 use Rattle.world.specs.Held.{counted}
@@ -17,18 +17,18 @@ returns-then-refused-clause-ok g c = λ db of is clean sound fit.
     let before = counted g.D.DeskStore.kept g.S.SiteStore.kept g.D.DeskStore.refused g.S.SiteStore.refused c.args.machines.now in
     let middle = counted g.D.DeskStore.kept g.S.SiteStore.kept g.D.DeskStore.refused g.S.SiteStore.refused c.commit.new.machines in
     let after = counted g.D.DeskStore.kept g.S.SiteStore.kept g.D.DeskStore.refused g.S.SiteStore.refused c.ask_rollback.new.machines in
-    let clean_here = c.ask_rollback.ensures.clean clean in
+    let clean_here = c.ask_rollback.ensures.leaves.clean clean in
     let comes = came_of db (call.Commit c.args.txn) before middle _ (λ heard. heard.items) c.commit.result c.told.result c.in_ok-one.one c.in_ok-one.was c.told.ensures.heard c.told.ensures.refused
     (c.commit.ensures.ok db of is clean_here sound fit) (c.commit.ensures.denied db of is clean_here sound fit) in
     if_ok c.ask_rollback.result
     (λ all back. commit_refused db c.args.txn c.in_ok-one.one c.args.came.items c.push_reserved.new.self.items all.items before middle after comes (c.is_refused-refused.ensures.refused c.args.txn c.if-refused.true) (c.push_reserved.ensures.items ∙ ap (λ (came : List cames.Came). came ++ c.in_ok-one.one ∷ []) c.make_room.ensures.items) back)
-    (c.ask_rollback.ensures.ok db of (is ∙ ap catalogue_of (sym c.commit.ensures.catalog)) clean (c.commit.ensures.sound clean_here sound) (comes_fit db (call.Commit c.args.txn) before middle c.in_ok-one.one comes))
+    (c.ask_rollback.ensures.ok db of (is ∙ ap catalogue_of (sym c.commit.ensures.leaves.catalog)) clean (c.commit.ensures.leaves.sound clean_here sound) (comes_fit db (call.Commit c.args.txn) before middle c.in_ok-one.one comes))
 
 pub returns-then-refused-clause-served : goal.returns-then-refused-clause-served
 returns-then-refused-clause-served g c = λ db whole past of law is clean sound served.
     then_on db law whole (counted g.D.DeskStore.kept g.S.SiteStore.kept g.D.DeskStore.refused g.S.SiteStore.refused c.args.machines.now) (counted g.D.DeskStore.kept g.S.SiteStore.kept g.D.DeskStore.refused g.S.SiteStore.refused c.commit.new.machines) (counted g.D.DeskStore.kept g.S.SiteStore.kept g.D.DeskStore.refused g.S.SiteStore.refused c.ask_rollback.new.machines) past
-    (c.commit.ensures.served db whole past of law is (c.ask_rollback.ensures.clean clean) sound served)
-    (λ more so. c.ask_rollback.ensures.served db whole more of law (is ∙ ap catalogue_of (sym c.commit.ensures.catalog)) clean (c.commit.ensures.sound (c.ask_rollback.ensures.clean clean) sound) so)
+    (c.commit.ensures.served db whole past of law is (c.ask_rollback.ensures.leaves.clean clean) sound served)
+    (λ more so. c.ask_rollback.ensures.served db whole more of law (is ∙ ap catalogue_of (sym c.commit.ensures.leaves.catalog)) clean (c.commit.ensures.leaves.sound (c.ask_rollback.ensures.leaves.clean clean) sound) so)
 
 pub returns-else-refused-clause-ok : goal.returns-else-refused-clause-ok
 returns-else-refused-clause-ok g c = λ db of is clean sound fit.
@@ -43,8 +43,13 @@ returns-in_err-make_room-clause-served g c = λ db whole past of law is clean so
     let here = counted g.D.DeskStore.kept g.S.SiteStore.kept g.D.DeskStore.refused g.S.SiteStore.refused c.args.machines.now in
     same_on db law whole here here past served refl
 
-pub returns-in_err-make_room-clause-counts : goal.returns-in_err-make_room-clause-counts
-returns-in_err-make_room-clause-counts g c = no_fewer (counts g.D.DeskStore.refused g.S.SiteStore.refused c.args.machines.now)
+pub returns-in_err-make_room-clause-leaves : goal.returns-in_err-make_room-clause-leaves
+returns-in_err-make_room-clause-leaves g c = record {
+  clean = search rules;
+  sound = search rules;
+  counts = no_fewer (counts g.D.DeskStore.refused g.S.SiteStore.refused c.args.machines.now);
+  catalog = search rules;
+}
 
 pub returns-in_err-make_room-clause-blames : goal.returns-in_err-make_room-clause-blames
 returns-in_err-make_room-clause-blames g c = λ clean sound. told_on c.from_residual.result c.in_err-make_room.field-0.0 (counts g.D.DeskStore.refused g.S.SiteStore.refused c.args.machines.now) (counts g.D.DeskStore.refused g.S.SiteStore.refused c.args.machines.now) c.from_residual.ensures.1 (memory_stops (counts g.D.DeskStore.refused g.S.SiteStore.refused c.args.machines.now) (counts g.D.DeskStore.refused g.S.SiteStore.refused c.args.machines.now) c.in_err-make_room.field-0.0 c.in_err-make_room.ensures.memory)
@@ -54,8 +59,13 @@ returns-in_err-one-clause-blames g c = λ clean sound.
     told_on c.from_residual-in_err-one.result c.in_err-one.field-0.0 (counts g.D.DeskStore.refused g.S.SiteStore.refused c.args.machines.now) (counts g.D.DeskStore.refused g.S.SiteStore.refused c.commit.new.machines) c.from_residual-in_err-one.ensures.1
     (told_stops _ (λ heard. heard.items) c.commit.result c.told.result c.in_err-one.field-0.0 (counts g.D.DeskStore.refused g.S.SiteStore.refused c.args.machines.now) (counts g.D.DeskStore.refused g.S.SiteStore.refused c.commit.new.machines) c.in_err-one.was c.told.ensures.heard c.told.ensures.refused (c.commit.ensures.blames clean sound))
 
-pub returns-then-refused-clause-counts : goal.returns-then-refused-clause-counts
-returns-then-refused-clause-counts g c = no_fewer_then (counts g.D.DeskStore.refused g.S.SiteStore.refused c.args.machines.now) (counts g.D.DeskStore.refused g.S.SiteStore.refused c.commit.new.machines) (counts g.D.DeskStore.refused g.S.SiteStore.refused c.ask_rollback.new.machines) c.commit.ensures.counts c.ask_rollback.ensures.counts
+pub returns-then-refused-clause-leaves : goal.returns-then-refused-clause-leaves
+returns-then-refused-clause-leaves g c = record {
+  clean = search rules;
+  sound = search rules;
+  counts = no_fewer_then (counts g.D.DeskStore.refused g.S.SiteStore.refused c.args.machines.now) (counts g.D.DeskStore.refused g.S.SiteStore.refused c.commit.new.machines) (counts g.D.DeskStore.refused g.S.SiteStore.refused c.ask_rollback.new.machines) c.commit.ensures.leaves.counts c.ask_rollback.ensures.leaves.counts;
+  catalog = search rules;
+}
 
 pub returns-then-refused-clause-blames : goal.returns-then-refused-clause-blames
-returns-then-refused-clause-blames g c = λ clean sound. call_since c.ask_rollback.result (counts g.D.DeskStore.refused g.S.SiteStore.refused c.args.machines.now) (counts g.D.DeskStore.refused g.S.SiteStore.refused c.commit.new.machines) (counts g.D.DeskStore.refused g.S.SiteStore.refused c.ask_rollback.new.machines) c.commit.ensures.counts (c.ask_rollback.ensures.blames clean (c.commit.ensures.sound (c.ask_rollback.ensures.clean clean) sound))
+returns-then-refused-clause-blames g c = λ clean sound. call_since c.ask_rollback.result (counts g.D.DeskStore.refused g.S.SiteStore.refused c.args.machines.now) (counts g.D.DeskStore.refused g.S.SiteStore.refused c.commit.new.machines) (counts g.D.DeskStore.refused g.S.SiteStore.refused c.ask_rollback.new.machines) c.commit.ensures.leaves.counts (c.ask_rollback.ensures.blames clean (c.commit.ensures.leaves.sound (c.ask_rollback.ensures.leaves.clean clean) sound))

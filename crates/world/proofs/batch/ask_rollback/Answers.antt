@@ -1,5 +1,5 @@
 -- Why `ask_rollback` meets its contract.
-use Rattle.std.proofs.Common.{◌∙◌, ◌++◌, ◌∷◌, [], List, refl, ap}
+use Rattle.std.proofs.Common.{rules, ◌∙◌, ◌++◌, ◌∷◌, [], List, refl, ap}
 use Rattle.world.specs.declared.transaction.Came as cames
 use Rattle.world.specs.declared.event.Call.TheVariants as call
 use Rattle.world.specs.Held.{counted}
@@ -23,8 +23,13 @@ returns-in_err-make_room-clause-served g c = λ db whole past of law is clean so
     let here = counted g.D.DeskStore.kept g.S.SiteStore.kept g.D.DeskStore.refused g.S.SiteStore.refused c.args.machines.now in
     same_on db law whole here here past served refl
 
-pub returns-in_err-make_room-clause-counts : goal.returns-in_err-make_room-clause-counts
-returns-in_err-make_room-clause-counts g c = no_fewer (counts g.D.DeskStore.refused g.S.SiteStore.refused c.args.machines.now)
+pub returns-in_err-make_room-clause-leaves : goal.returns-in_err-make_room-clause-leaves
+returns-in_err-make_room-clause-leaves g c = record {
+  clean = search rules;
+  sound = search rules;
+  counts = no_fewer (counts g.D.DeskStore.refused g.S.SiteStore.refused c.args.machines.now);
+  catalog = search rules;
+}
 
 pub returns-in_err-make_room-clause-blames : goal.returns-in_err-make_room-clause-blames
 returns-in_err-make_room-clause-blames g c = λ clean sound. told_on c.from_residual.result c.in_err-make_room.field-0.0 (counts g.D.DeskStore.refused g.S.SiteStore.refused c.args.machines.now) (counts g.D.DeskStore.refused g.S.SiteStore.refused c.args.machines.now) c.from_residual.ensures.1 (memory_stops (counts g.D.DeskStore.refused g.S.SiteStore.refused c.args.machines.now) (counts g.D.DeskStore.refused g.S.SiteStore.refused c.args.machines.now) c.in_err-make_room.field-0.0 c.in_err-make_room.ensures.memory)

@@ -1,5 +1,5 @@
 -- Why `deliver_next` meets its contract.
-use Rattle.std.proofs.Common.{◌≡◌, refl, subst, List}
+use Rattle.std.proofs.Common.{rules, ◌≡◌, refl, subst, List}
 use Rattle.store.specs.declared.letter.Letter.{Letter}
 use Rattle.world.specs.Delivering.{Goes}
 use Rattle.world.specs.Counted.{counts}
@@ -45,8 +45,13 @@ returns-in-Err-clause-err g c = λ db of is clean sound fit.
     let new = counts g.D.DeskStore.refused g.S.SiteStore.refused c.deliver_one.new.machines in
     nothing_breaks db before after old new c.args.post.now.waiting.items c.args.post.now.heard.items (c.in-Err.ensures.err clean sound) (fit_uncounted db before old fit)
 
-pub returns-in_default-clause-counts : goal.returns-in_default-clause-counts
-returns-in_default-clause-counts g c = no_fewer (counts g.D.DeskStore.refused g.S.SiteStore.refused c.args.machines.now)
+pub returns-in_default-clause-leaves : goal.returns-in_default-clause-leaves
+returns-in_default-clause-leaves g c = record {
+  clean = search rules;
+  sound = search rules;
+  counts = no_fewer (counts g.D.DeskStore.refused g.S.SiteStore.refused c.args.machines.now);
+  catalog = search rules;
+}
 
 pub returns-in-Ok-clause-blames : goal.returns-in-Ok-clause-blames
 returns-in-Ok-clause-blames g c = λ clean sound. memory_only c.add.result (counts g.D.DeskStore.refused g.S.SiteStore.refused c.args.machines.now) (counts g.D.DeskStore.refused g.S.SiteStore.refused c.deliver_one.new.machines) c.add.ensures.own

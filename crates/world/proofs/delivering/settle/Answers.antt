@@ -1,5 +1,5 @@
 -- Why `settle` meets its contract.
-use Rattle.std.proofs.Common.{◌≡◌, ◌∙◌, ◌+◌, ◌-◌, ℕ, suc, refl, sym, ap, subst, arith}
+use Rattle.std.proofs.Common.{rules, ◌≡◌, ◌∙◌, ◌+◌, ◌-◌, ℕ, suc, refl, sym, ap, subst, arith}
 use Rattle.catalog.specs.Relation.{catalogue_of}
 use Rattle.protocol.specs.Rounds.{RanksUnder}
 use Rattle.world.specs.Held.{counted}
@@ -31,18 +31,18 @@ loop-preserved g c =
     let one_less : 9 - c.loop.counter ≡ suc (8 - c.loop.counter) = omega (arith, c.loop-test.true) in
     let same : 8 - c.loop.counter ≡ 9 - (c.loop.counter + 1) = omega arith in
     record {
-      clean = λ x. c.loop.invariant.clean (c.deliver_round.ensures.clean x);
-      sound = λ x s. c.deliver_round.ensures.sound x (c.loop.invariant.sound (c.deliver_round.ensures.clean x) s);
-      catalog = c.deliver_round.ensures.catalog ∙ c.loop.invariant.catalog;
-      counts = no_fewer_then (counts g.D.DeskStore.refused g.S.SiteStore.refused c.args.machines.now) (counts g.D.DeskStore.refused g.S.SiteStore.refused c.loop.machines) (counts g.D.DeskStore.refused g.S.SiteStore.refused c.deliver_round.new.machines) c.loop.invariant.counts c.deliver_round.ensures.counts;
+      clean = λ x. c.loop.invariant.clean (c.deliver_round.ensures.leaves.clean x);
+      sound = λ x s. c.deliver_round.ensures.leaves.sound x (c.loop.invariant.sound (c.deliver_round.ensures.leaves.clean x) s);
+      catalog = c.deliver_round.ensures.leaves.catalog ∙ c.loop.invariant.catalog;
+      counts = no_fewer_then (counts g.D.DeskStore.refused g.S.SiteStore.refused c.args.machines.now) (counts g.D.DeskStore.refused g.S.SiteStore.refused c.loop.machines) (counts g.D.DeskStore.refused g.S.SiteStore.refused c.deliver_round.new.machines) c.loop.invariant.counts c.deliver_round.ensures.leaves.counts;
       goes = λ db of is clean sound fit.
-          let so_far = c.loop.invariant.goes db of is (c.deliver_round.ensures.clean clean) sound fit in
-          then_goes db (λ w. w) first here so_far there (c.in_ok-deliver_round.ensures.ok db of (is ∙ ap catalogue_of (sym c.loop.invariant.catalog)) clean (c.loop.invariant.sound (c.deliver_round.ensures.clean clean) sound) so_far.fit);
+          let so_far = c.loop.invariant.goes db of is (c.deliver_round.ensures.leaves.clean clean) sound fit in
+          then_goes db (λ w. w) first here so_far there (c.in_ok-deliver_round.ensures.ok db of (is ∙ ap catalogue_of (sym c.loop.invariant.catalog)) clean (c.loop.invariant.sound (c.deliver_round.ensures.leaves.clean clean) sound) so_far.fit);
       ranks = λ db of is clean sound fit.
-          let so_far = c.loop.invariant.goes db of is (c.deliver_round.ensures.clean clean) sound fit in
-          let ranked = c.loop.invariant.ranks db of is (c.deliver_round.ensures.clean clean) sound fit in
+          let so_far = c.loop.invariant.goes db of is (c.deliver_round.ensures.leaves.clean clean) sound fit in
+          let ranked = c.loop.invariant.ranks db of is (c.deliver_round.ensures.leaves.clean clean) sound fit in
           subst (λ (k : ℕ). RanksUnder k (world_at db there)) same
-          (c.in_ok-deliver_round.ensures.ranks db (8 - c.loop.counter) of (is ∙ ap catalogue_of (sym c.loop.invariant.catalog)) clean (c.loop.invariant.sound (c.deliver_round.ensures.clean clean) sound) so_far.fit
+          (c.in_ok-deliver_round.ensures.ranks db (8 - c.loop.counter) of (is ∙ ap catalogue_of (sym c.loop.invariant.catalog)) clean (c.loop.invariant.sound (c.deliver_round.ensures.leaves.clean clean) sound) so_far.fit
           (subst (λ (k : ℕ). RanksUnder k (world_at db here)) one_less ranked));
     }
 
@@ -57,14 +57,19 @@ pub returns-in_err-deliver_round-clause-err : goal.returns-in_err-deliver_round-
 returns-in_err-deliver_round-clause-err g c = λ db of is clean sound fit.
     let first = put_out_by (counted g.D.DeskStore.kept g.S.SiteStore.kept g.D.DeskStore.refused g.S.SiteStore.refused c.args.machines.now) c.args.out in
     let here = scene (counted g.D.DeskStore.kept g.S.SiteStore.kept g.D.DeskStore.refused g.S.SiteStore.refused c.loop.machines) c.loop.post in
-    let so_far = c.loop.invariant.goes db of is (c.deliver_round.ensures.clean clean) sound fit in
+    let so_far = c.loop.invariant.goes db of is (c.deliver_round.ensures.leaves.clean clean) sound fit in
     on_any_err c.from_residual.result (then_breaks db (λ w. w) first here so_far (counted g.D.DeskStore.kept g.S.SiteStore.kept g.D.DeskStore.refused g.S.SiteStore.refused c.deliver_round.new.machines)
-    (c.in_err-deliver_round.ensures.err db of (is ∙ ap catalogue_of (sym c.loop.invariant.catalog)) clean (c.loop.invariant.sound (c.deliver_round.ensures.clean clean) sound) so_far.fit))
+    (c.in_err-deliver_round.ensures.err db of (is ∙ ap catalogue_of (sym c.loop.invariant.catalog)) clean (c.loop.invariant.sound (c.deliver_round.ensures.leaves.clean clean) sound) so_far.fit))
 
-pub returns-in_err-deliver_round-clause-counts : goal.returns-in_err-deliver_round-clause-counts
-returns-in_err-deliver_round-clause-counts g c = no_fewer_then (counts g.D.DeskStore.refused g.S.SiteStore.refused c.args.machines.now) (counts g.D.DeskStore.refused g.S.SiteStore.refused c.loop.machines) (counts g.D.DeskStore.refused g.S.SiteStore.refused c.deliver_round.new.machines) c.loop.invariant.counts c.deliver_round.ensures.counts
+pub returns-in_err-deliver_round-clause-leaves : goal.returns-in_err-deliver_round-clause-leaves
+returns-in_err-deliver_round-clause-leaves g c = record {
+  clean = search rules;
+  sound = search rules;
+  counts = no_fewer_then (counts g.D.DeskStore.refused g.S.SiteStore.refused c.args.machines.now) (counts g.D.DeskStore.refused g.S.SiteStore.refused c.loop.machines) (counts g.D.DeskStore.refused g.S.SiteStore.refused c.deliver_round.new.machines) c.loop.invariant.counts c.deliver_round.ensures.leaves.counts;
+  catalog = search rules;
+}
 
 pub returns-in_err-deliver_round-clause-blames : goal.returns-in_err-deliver_round-clause-blames
 returns-in_err-deliver_round-clause-blames g c = λ clean sound.
     told_on c.from_residual.result c.in_err-deliver_round.field-0.0 (counts g.D.DeskStore.refused g.S.SiteStore.refused c.args.machines.now) (counts g.D.DeskStore.refused g.S.SiteStore.refused c.deliver_round.new.machines) c.from_residual.ensures.1
-    (stops_since (counts g.D.DeskStore.refused g.S.SiteStore.refused c.args.machines.now) (counts g.D.DeskStore.refused g.S.SiteStore.refused c.loop.machines) (counts g.D.DeskStore.refused g.S.SiteStore.refused c.deliver_round.new.machines) c.loop.invariant.counts c.in_err-deliver_round.field-0.0 (c.in_err-deliver_round.ensures.blames clean (c.loop.invariant.sound (c.deliver_round.ensures.clean clean) sound)))
+    (stops_since (counts g.D.DeskStore.refused g.S.SiteStore.refused c.args.machines.now) (counts g.D.DeskStore.refused g.S.SiteStore.refused c.loop.machines) (counts g.D.DeskStore.refused g.S.SiteStore.refused c.deliver_round.new.machines) c.loop.invariant.counts c.in_err-deliver_round.field-0.0 (c.in_err-deliver_round.ensures.blames clean (c.loop.invariant.sound (c.deliver_round.ensures.leaves.clean clean) sound)))

@@ -1,5 +1,5 @@
 -- Why `take` meets its contract.
-use Rattle.std.proofs.Common.{◌≡◌, refl, ◌∙◌, sym, ap, subst, true, false, nat_eq, List, ℕ}
+use Rattle.std.proofs.Common.{rules, ◌≡◌, refl, ◌∙◌, sym, ap, subst, true, false, nat_eq, List, ℕ}
 use Rattle.std.specs.Cmp.Lexicographic.{pointwise}
 use Rattle.std.specs.List.{list_any}
 use Rattle.catalog.specs.Catalogue.{Catalogue}
@@ -20,11 +20,16 @@ returns-clause-ok g c = λ db of is clean sound fit.
     let after = held g.D.DeskStore.kept g.S.SiteStore.kept c.deliver.new.self in
     let old = counts g.D.DeskStore.refused g.S.SiteStore.refused c.args.machines.now in
     let new = counts g.D.DeskStore.refused g.S.SiteStore.refused c.deliver.new.self in
-    if_ok c.deliver.result (λ out taken. was_taken db c.args.letter before after out.letters out.replies old new c.deliver.ensures.counts (spared_so (HaveRefused old new) db c.args.letter before after out.letters out.replies taken))
+    if_ok c.deliver.result (λ out taken. was_taken db c.args.letter before after out.letters out.replies old new c.deliver.ensures.leaves.counts (spared_so (HaveRefused old new) db c.args.letter before after out.letters out.replies taken))
     (c.deliver.ensures.spared db of is clean sound (fit_uncounted db before old fit) of_site)
 
-pub returns-then-not-has_site-clause-counts : goal.returns-then-not-has_site-clause-counts
-returns-then-not-has_site-clause-counts g c = no_fewer (counts g.D.DeskStore.refused g.S.SiteStore.refused c.args.machines.now)
+pub returns-then-not-has_site-clause-leaves : goal.returns-then-not-has_site-clause-leaves
+returns-then-not-has_site-clause-leaves g c = record {
+  clean = search rules;
+  sound = search rules;
+  counts = no_fewer (counts g.D.DeskStore.refused g.S.SiteStore.refused c.args.machines.now);
+  catalog = search rules;
+}
 
 pub returns-then-not-has_site-clause-told : goal.returns-then-not-has_site-clause-told
 returns-then-not-has_site-clause-told g c = λ db of is fit.

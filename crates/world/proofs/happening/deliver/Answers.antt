@@ -1,4 +1,5 @@
 -- Why `deliver` meets its contract.
+use Rattle.world.proofs.Leaves.{leaves_still}
 use Rattle.std.proofs.Common.{◌≡◌, ◌∙◌, sym, ap, subst, not, true, nat_eq, List, ℕ, Some}
 use Rattle.protocol.proofs.Basics.{clash}
 use Rattle.world.specs.Events.{is_none_of}
@@ -36,3 +37,12 @@ returns-clause-nowhere g c = λ none.
     let tested = sym c.has_site.ensures ∙ c.if-not-has_site.false in
     let found = subst (λ x. list_any (λ site. pointwise nat_eq site c.in-Some.letter.now.site) x.0 ≡ true) c.catalog.ensures tested in
     clash (subst (λ o. is_none_of c.args.machines.now.desk.catalog.0 o ≡ true) there none) (ap not found)
+
+pub returns-in_default-clause-leaves : goal.returns-in_default-clause-leaves
+returns-in_default-clause-leaves g c = leaves_still g.D.DeskStore.is_clean g.S.SiteStore.is_clean g.D.DeskStore.is_sound g.S.SiteStore.is_sound g.D.DeskStore.refused g.S.SiteStore.refused c.args.machines.now
+
+pub returns-then-not-has_site-clause-leaves : goal.returns-then-not-has_site-clause-leaves
+returns-then-not-has_site-clause-leaves g c = leaves_still g.D.DeskStore.is_clean g.S.SiteStore.is_clean g.D.DeskStore.is_sound g.S.SiteStore.is_sound g.D.DeskStore.refused g.S.SiteStore.refused c.args.machines.now
+
+pub returns-in_err-again-clause-leaves : goal.returns-in_err-again-clause-leaves
+returns-in_err-again-clause-leaves g c = leaves_still g.D.DeskStore.is_clean g.S.SiteStore.is_clean g.D.DeskStore.is_sound g.S.SiteStore.is_sound g.D.DeskStore.refused g.S.SiteStore.refused c.args.machines.now

@@ -1,4 +1,5 @@
 -- Why `happen` meets its contract.
+use Rattle.world.proofs.Leaves.{leaves_still}
 use Rattle.std.proofs.Common.{◌++◌, ◌∷◌, [], refl, sym, ap, subst, true, IfOk}
 use Rattle.protocol.specs.World.{Desk_restarts, desk_restarts}
 use Rattle.world.specs.declared.event.Event as events
@@ -29,3 +30,12 @@ returns-in-DeskRestarts-clause-ok g c = λ db whole past of is clean sound so.
     (by_desk_ok (λ out. RunsOn db whole after (entries ++ entry_of what out ∷ []) past) c.restart.result c.by_desk-in-DeskRestarts.result c.by_desk-in-DeskRestarts.ensures
     (if_ok_too c.restart.result (λ out kept_so leads. runs_on db whole before after entries past what out desk_restarts (Desk_restarts true) so leads refl (ap Desk_restarts (sym kept_so))
     (silent_step db before after out.letters out.replies what desk_restarts leads refl refl (desk_restarts_silent (world_of db before [] []) refl))) c.restart.ensures.called (c.restart.ensures.ok db clean sound so.fit)))
+
+pub returns-in_err-copy-in-SiteGivesUp-clause-leaves : goal.returns-in_err-copy-in-SiteGivesUp-clause-leaves
+returns-in_err-copy-in-SiteGivesUp-clause-leaves g c = leaves_still g.D.DeskStore.is_clean g.S.SiteStore.is_clean g.D.DeskStore.is_sound g.S.SiteStore.is_sound g.D.DeskStore.refused g.S.SiteStore.refused c.args.machines.now
+
+pub returns-in_err-copy-in-SiteInquires-clause-leaves : goal.returns-in_err-copy-in-SiteInquires-clause-leaves
+returns-in_err-copy-in-SiteInquires-clause-leaves g c = leaves_still g.D.DeskStore.is_clean g.S.SiteStore.is_clean g.D.DeskStore.is_sound g.S.SiteStore.is_sound g.D.DeskStore.refused g.S.SiteStore.refused c.args.machines.now
+
+pub returns-in_err-copy-in-SiteRestarts-clause-leaves : goal.returns-in_err-copy-in-SiteRestarts-clause-leaves
+returns-in_err-copy-in-SiteRestarts-clause-leaves g c = leaves_still g.D.DeskStore.is_clean g.S.SiteStore.is_clean g.D.DeskStore.is_sound g.S.SiteStore.is_sound g.D.DeskStore.refused g.S.SiteStore.refused c.args.machines.now

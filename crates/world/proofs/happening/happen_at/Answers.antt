@@ -1,4 +1,5 @@
 -- Why `happen_at` meets its contract.
+use Rattle.world.proofs.Leaves.{leaves_still}
 use Rattle.std.proofs.Common.{◌≡◌, ◌∙◌, sym, ap, subst, not, true, nat_eq, List, ℕ}
 use Rattle.protocol.proofs.Basics.{clash}
 use Rattle.std.specs.Cmp.Lexicographic.{pointwise}
@@ -33,3 +34,6 @@ returns-in-Err-clause-nowhere g c = λ none.
     let tested = sym c.has_site.ensures ∙ c.if-not-has_site.false in
     let found = subst (λ n. list_any (λ site. pointwise nat_eq site n) c.args.machines.now.desk.catalog.0 ≡ true) c.site.ensures (subst (λ x. list_any (λ site. pointwise nat_eq site c.site.result.now) x.0 ≡ true) c.catalog.ensures tested) in
     clash none (ap not found)
+
+pub returns-then-not-has_site-clause-leaves : goal.returns-then-not-has_site-clause-leaves
+returns-then-not-has_site-clause-leaves g c = leaves_still g.D.DeskStore.is_clean g.S.SiteStore.is_clean g.D.DeskStore.is_sound g.S.SiteStore.is_sound g.D.DeskStore.refused g.S.SiteStore.refused c.args.machines.now

@@ -14,7 +14,7 @@ use Rattle.world.proofs.opening.start.Goals as goal
 pub returns-in-Ok-clause-opens : goal.returns-in-Ok-clause-opens
 returns-in-Ok-clause-opens c = λ db placed.
     opens_of db (catalogue_of c.args.catalog.now) c.args.whole.now (held desk_kept kept_of (record { alloc = c.args.alloc; desk = c.in-Ok.desk; sites = c.in_ok-sites.sites })) c.relations-relations.ensures.formed placed c.in_ok-sites.ensures.started
-    (c.in-Ok.ensures.ok db tt) (λ txn. (c.in-Ok.ensures.life tt tt).commits txn ∙ c.new.ensures.commits txn)
+    (c.in-Ok.ensures.ok db tt) (λ txn. (c.in-Ok.ensures.life tt).commits txn ∙ c.new.ensures.commits txn)
 
 pub returns-in-Err-clause-err : goal.returns-in-Err-clause-err
 returns-in-Err-clause-err c =

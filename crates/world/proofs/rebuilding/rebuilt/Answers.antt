@@ -1,5 +1,5 @@
 -- Why `rebuilt` meets its contract.
-use Rattle.std.proofs.Common.{◌≡◌, subst, option_map}
+use Rattle.std.proofs.Common.{rules, ◌≡◌, subst, option_map}
 use Rattle.meaning.specs.declared.statement.Statement.TheVariants as statement
 use Rattle.meaning.specs.Schema.{relation_named}
 use Rattle.catalog.specs.FragmentLeaf.{schemas_of}
@@ -16,8 +16,18 @@ returns-clause-rows g c = λ whole clean sound fit those fits.
     let found = subst (λ x. c.in_ok-statement.field-0 ≡ option_map (λ relation. statement.Select (everything relation)) (relation_named c.args.name.now (schemas_of (catalogue_of x)))) c.catalog.ensures c.in_ok-statement.ensures.statement in
     shows_rows (schemas_of catalogue) whole c.args.name.now c.in_ok-statement.field-0 c.in-Some.statement c.in_ok-answer.answer c.rows_of.result.items fits found c.in-Some.is (c.in_ok-answer.ensures.answer whole clean sound fit those fits) c.rows_of.ensures
 
-pub returns-in_err-statement-clause-counts : goal.returns-in_err-statement-clause-counts
-returns-in_err-statement-clause-counts g c = no_fewer (counts g.D.DeskStore.refused g.S.SiteStore.refused c.args.machines.now)
+pub returns-in_err-statement-clause-leaves : goal.returns-in_err-statement-clause-leaves
+returns-in_err-statement-clause-leaves g c = record {
+  clean = search rules;
+  sound = search rules;
+  counts = no_fewer (counts g.D.DeskStore.refused g.S.SiteStore.refused c.args.machines.now);
+  catalog = search rules;
+}
 
-pub returns-in_default-clause-counts : goal.returns-in_default-clause-counts
-returns-in_default-clause-counts g c = no_fewer (counts g.D.DeskStore.refused g.S.SiteStore.refused c.args.machines.now)
+pub returns-in_default-clause-leaves : goal.returns-in_default-clause-leaves
+returns-in_default-clause-leaves g c = record {
+  clean = search rules;
+  sound = search rules;
+  counts = no_fewer (counts g.D.DeskStore.refused g.S.SiteStore.refused c.args.machines.now);
+  catalog = search rules;
+}

@@ -1,5 +1,5 @@
 -- Why `do_at` meets its contract.
-use Rattle.std.proofs.Common.{◌≡◌, ◌∙◌, ◌∷◌, ap, sym, subst, Some, inl, inr, ⊎_elim, IfErr, IfSome}
+use Rattle.std.proofs.Common.{rules, ◌≡◌, ◌∙◌, ◌∷◌, ap, sym, subst, Some, inl, inr, ⊎_elim, IfErr, IfSome}
 use Rattle.site.specs.Refusals.{AsksToKeep}
 use Rattle.world.specs.declared.fault.Fault.TheVariants as fault
 use Rattle.world.specs.Counted.{HaveRefused, NoFewer, counts_of}
@@ -53,16 +53,22 @@ returns-clause-told g t c = λ letter seat is there.
     let called = ap (λ what. is_called (place_of what) (seat_from content site)) (sym is) ∙ (ap (λ n. is_called n (seat_from content site)) (sym c.site.ensures) ∙ sym c.is_called.ensures ∙ c.if-not-is_called.false) in
     first_tells c.do_one.result (seat_from content site) seat (seats_in content rest) letter called here (c.do_one.ensures.told letter is called)
 
-pub returns-then-not-is_called-clause-counts : goal.returns-then-not-is_called-clause-counts
-returns-then-not-is_called-clause-counts g t c =
-    let refused = g.S.SiteStore.refused in
-    subst (λ all. NoFewer (counts_of refused all) (counts_of refused (c.in-Some.site.now ∷ c.do_at.new.sites))) (sym c.in-Some.ensures.cases.0) (at_most (refused c.in-Some.site.now.store), c.do_at.ensures.counts)
+pub returns-then-not-is_called-clause-leaves : goal.returns-then-not-is_called-clause-leaves
+returns-then-not-is_called-clause-leaves g t c = record {
+  clean = search rules;
+  sound = search rules;
+  counts = let refused = g.S.SiteStore.refused in
+      subst (λ all. NoFewer (counts_of refused all) (counts_of refused (c.in-Some.site.now ∷ c.do_at.new.sites))) (sym c.in-Some.ensures.cases.0) (at_most (refused c.in-Some.site.now.store), c.do_at.ensures.leaves.counts);
+}
 
-pub returns-clause-counts : goal.returns-clause-counts
-returns-clause-counts g t c =
-    let refused = g.S.SiteStore.refused in
-    let rest = c.in-Some.rest.now in
-    subst (λ all. NoFewer (counts_of refused all) (counts_of refused (c.do_one.new.site ∷ rest))) (sym c.in-Some.ensures.cases.0) (c.do_one.ensures.counts, no_fewer (counts_of refused rest))
+pub returns-clause-leaves : goal.returns-clause-leaves
+returns-clause-leaves g t c = record {
+  clean = search rules;
+  sound = search rules;
+  counts = let refused = g.S.SiteStore.refused in
+      let rest = c.in-Some.rest.now in
+      subst (λ all. NoFewer (counts_of refused all) (counts_of refused (c.do_one.new.site ∷ rest))) (sym c.in-Some.ensures.cases.0) (c.do_one.ensures.leaves.counts, no_fewer (counts_of refused rest));
+}
 
 pub returns-then-not-is_called-clause-vote : goal.returns-then-not-is_called-clause-vote
 returns-then-not-is_called-clause-vote g t c = λ letter seat is there keeps.

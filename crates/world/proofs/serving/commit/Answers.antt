@@ -1,5 +1,5 @@
 -- Why `commit` meets its contract.
-use Rattle.std.proofs.Common.{List, ◌∙◌, sym, ap, inl}
+use Rattle.std.proofs.Common.{rules, List, ◌∙◌, sym, ap, inl}
 use Rattle.catalog.specs.Relation.{catalogue_of}
 use Rattle.protocol.specs.Desk.{Commit_call}
 use Rattle.protocol.specs.Letters.{txn_name}
@@ -32,7 +32,7 @@ returns-in-Ok-clause-ok g c = λ db of is clean sound fit.
     let leads = leads_counted db (asked ask) before mid old new c.in-Ok.out.letters c.in-Ok.out.replies made.leads in
     let serves : (heard : List Notice) → Goes db (λ w. w) (put_out_by (with_counts mid new) c.in-Ok.out) (settled after heard) → Serves db ask (with_counts before old) after heard = λ heard goes. call_serves db ask (with_counts before old) (with_counts mid new) c.in-Ok.out leads (none_fewer old new c.commit.ensures.uncalled) after heard goes in
     if_ok c.settle.result (λ heard goes. record { choice = no_choice db; accepted = made.accepted; within = made.within; serves = serves heard.items goes })
-    (c.settle.ensures.ok db of (is ∙ ap catalogue_of (sym c.commit.ensures.catalog)) clean (c.commit.ensures.sound (c.settle.ensures.clean clean) sound) leads.fit)
+    (c.settle.ensures.ok db of (is ∙ ap catalogue_of (sym c.commit.ensures.leaves.catalog)) clean (c.commit.ensures.leaves.sound (c.settle.ensures.leaves.clean clean) sound) leads.fit)
 
 pub returns-in-Ok-clause-served : goal.returns-in-Ok-clause-served
 returns-in-Ok-clause-served g c = λ db whole past of law is clean sound served.
@@ -45,8 +45,8 @@ returns-in-Ok-clause-served g c = λ db whole past of law is clean sound served.
     let made = c.in-Ok.ensures.ok db (no_choice db) (over_of db c.args.machines.now.desk.catalog of is) (fit_uncounted db before old fit) in
     let ask : Ask (language db) = To_do (txn_name c.args.txn) Commit_call (no_choice db) in
     let leads = leads_counted db (asked ask) before mid old new c.in-Ok.out.letters c.in-Ok.out.replies made.leads in
-    let is_mid = is ∙ ap catalogue_of (sym c.commit.ensures.catalog) in
-    let sound_mid = c.commit.ensures.sound (c.settle.ensures.clean clean) sound in
+    let is_mid = is ∙ ap catalogue_of (sym c.commit.ensures.leaves.catalog) in
+    let sound_mid = c.commit.ensures.leaves.sound (c.settle.ensures.leaves.clean clean) sound in
     call_served db law whole ask (with_counts before old) (with_counts mid new) after c.in-Ok.out past c.settle.result (λ heard. heard.items) served leads (none_fewer old new c.commit.ensures.uncalled)
     (c.settle.ensures.ok db of is_mid clean sound_mid leads.fit) (c.settle.ensures.err db of is_mid clean sound_mid leads.fit)
 
@@ -69,11 +69,21 @@ returns-in-Err-clause-denied g c = λ db of is clean sound fit.
     let new = counts g.D.DeskStore.refused g.S.SiteStore.refused c.commit.new.self in
     still_denied db (with_counts before old) (with_counts mid new) (call.Commit c.args.txn) c.in-Err.refusal fit (same_counted before mid old new c.in-Err.ensures.err c.commit.ensures.uncalled) (c.in-Err.ensures.told db)
 
-pub returns-in-Ok-clause-counts : goal.returns-in-Ok-clause-counts
-returns-in-Ok-clause-counts g c = no_fewer_then (counts g.D.DeskStore.refused g.S.SiteStore.refused c.args.machines.now) (counts g.D.DeskStore.refused g.S.SiteStore.refused c.commit.new.self) (counts g.D.DeskStore.refused g.S.SiteStore.refused c.settle.new.machines) (none_fewer (counts g.D.DeskStore.refused g.S.SiteStore.refused c.args.machines.now) (counts g.D.DeskStore.refused g.S.SiteStore.refused c.commit.new.self) c.commit.ensures.uncalled) c.settle.ensures.counts
+pub returns-in-Ok-clause-leaves : goal.returns-in-Ok-clause-leaves
+returns-in-Ok-clause-leaves g c = record {
+  clean = search rules;
+  sound = search rules;
+  counts = no_fewer_then (counts g.D.DeskStore.refused g.S.SiteStore.refused c.args.machines.now) (counts g.D.DeskStore.refused g.S.SiteStore.refused c.commit.new.self) (counts g.D.DeskStore.refused g.S.SiteStore.refused c.settle.new.machines) (none_fewer (counts g.D.DeskStore.refused g.S.SiteStore.refused c.args.machines.now) (counts g.D.DeskStore.refused g.S.SiteStore.refused c.commit.new.self) c.commit.ensures.uncalled) c.settle.ensures.leaves.counts;
+  catalog = search rules;
+}
 
 pub returns-in-Ok-clause-blames : goal.returns-in-Ok-clause-blames
-returns-in-Ok-clause-blames g c = λ clean sound. call_since c.settle.result (counts g.D.DeskStore.refused g.S.SiteStore.refused c.args.machines.now) (counts g.D.DeskStore.refused g.S.SiteStore.refused c.commit.new.self) (counts g.D.DeskStore.refused g.S.SiteStore.refused c.settle.new.machines) (none_fewer (counts g.D.DeskStore.refused g.S.SiteStore.refused c.args.machines.now) (counts g.D.DeskStore.refused g.S.SiteStore.refused c.commit.new.self) c.commit.ensures.uncalled) (c.settle.ensures.blames clean (c.commit.ensures.sound (c.settle.ensures.clean clean) sound))
+returns-in-Ok-clause-blames g c = λ clean sound. call_since c.settle.result (counts g.D.DeskStore.refused g.S.SiteStore.refused c.args.machines.now) (counts g.D.DeskStore.refused g.S.SiteStore.refused c.commit.new.self) (counts g.D.DeskStore.refused g.S.SiteStore.refused c.settle.new.machines) (none_fewer (counts g.D.DeskStore.refused g.S.SiteStore.refused c.args.machines.now) (counts g.D.DeskStore.refused g.S.SiteStore.refused c.commit.new.self) c.commit.ensures.uncalled) (c.settle.ensures.blames clean (c.commit.ensures.leaves.sound (c.settle.ensures.leaves.clean clean) sound))
 
-pub returns-in-Err-clause-counts : goal.returns-in-Err-clause-counts
-returns-in-Err-clause-counts g c = none_fewer (counts g.D.DeskStore.refused g.S.SiteStore.refused c.args.machines.now) (counts g.D.DeskStore.refused g.S.SiteStore.refused c.commit.new.self) c.commit.ensures.uncalled
+pub returns-in-Err-clause-leaves : goal.returns-in-Err-clause-leaves
+returns-in-Err-clause-leaves g c = record {
+  clean = search rules;
+  sound = search rules;
+  counts = none_fewer (counts g.D.DeskStore.refused g.S.SiteStore.refused c.args.machines.now) (counts g.D.DeskStore.refused g.S.SiteStore.refused c.commit.new.self) c.commit.ensures.uncalled;
+  catalog = search rules;
+}

@@ -1,5 +1,5 @@
 -- Why `greet` meets its contract.
-use Rattle.std.proofs.Common.{List, ◌∙◌, sym, ap, inl}
+use Rattle.std.proofs.Common.{rules, List, ◌∙◌, sym, ap, inl}
 use Rattle.catalog.specs.Relation.{catalogue_of}
 use Rattle.desk.specs.Database.{language}
 use Rattle.desk.specs.declared.reply.Notice.{Notice}
@@ -30,7 +30,7 @@ returns-in-Ok-clause-ok g c = λ db of is clean sound fit.
     let leads = leads_counted db (asked ask) before mid old new c.in-Ok.out.letters c.in-Ok.out.replies made in
     let serves : (heard : List Notice) → Goes db (λ w. w) (put_out_by (with_counts mid new) c.in-Ok.out) (settled after heard) → Serves db ask (with_counts before old) after heard = λ heard goes. call_serves db ask (with_counts before old) (with_counts mid new) c.in-Ok.out leads (none_fewer old new c.begin.ensures.uncalled) after heard goes in
     if_ok c.settle.result (λ heard goes. serves heard.items goes)
-    (c.settle.ensures.ok db of (is ∙ ap catalogue_of (sym c.begin.ensures.catalog)) clean (c.begin.ensures.sound (c.settle.ensures.clean clean) sound) leads.fit)
+    (c.settle.ensures.ok db of (is ∙ ap catalogue_of (sym c.begin.ensures.leaves.catalog)) clean (c.begin.ensures.leaves.sound (c.settle.ensures.leaves.clean clean) sound) leads.fit)
 
 pub returns-in-Ok-clause-served : goal.returns-in-Ok-clause-served
 returns-in-Ok-clause-served g c = λ db whole past of law is clean sound served.
@@ -43,8 +43,8 @@ returns-in-Ok-clause-served g c = λ db whole past of law is clean sound served.
     let made = c.in-Ok.ensures.ok db (over_of db c.args.machines.now.desk.catalog of is) (fit_uncounted db before old fit) in
     let ask : Ask (language db) = To_begin in
     let leads = leads_counted db (asked ask) before mid old new c.in-Ok.out.letters c.in-Ok.out.replies made in
-    let is_mid = is ∙ ap catalogue_of (sym c.begin.ensures.catalog) in
-    let sound_mid = c.begin.ensures.sound (c.settle.ensures.clean clean) sound in
+    let is_mid = is ∙ ap catalogue_of (sym c.begin.ensures.leaves.catalog) in
+    let sound_mid = c.begin.ensures.leaves.sound (c.settle.ensures.leaves.clean clean) sound in
     call_served db law whole ask (with_counts before old) (with_counts mid new) after c.in-Ok.out past c.settle.result (λ heard. heard.items) served leads (none_fewer old new c.begin.ensures.uncalled)
     (c.settle.ensures.ok db of is_mid clean sound_mid leads.fit) (c.settle.ensures.err db of is_mid clean sound_mid leads.fit)
 
@@ -67,11 +67,21 @@ returns-in-Err-clause-denied g c = λ db of is clean sound fit.
     let new = counts g.D.DeskStore.refused g.S.SiteStore.refused c.begin.new.self in
     still_denied db (with_counts before old) (with_counts mid new) call.Begin c.in-Err.refusal fit (same_counted before mid old new c.in-Err.ensures.err c.begin.ensures.uncalled) (c.in-Err.ensures.full db (over_of db c.args.machines.now.desk.catalog of is) (fit_uncounted db before old fit))
 
-pub returns-in-Ok-clause-counts : goal.returns-in-Ok-clause-counts
-returns-in-Ok-clause-counts g c = no_fewer_then (counts g.D.DeskStore.refused g.S.SiteStore.refused c.args.machines.now) (counts g.D.DeskStore.refused g.S.SiteStore.refused c.begin.new.self) (counts g.D.DeskStore.refused g.S.SiteStore.refused c.settle.new.machines) (none_fewer (counts g.D.DeskStore.refused g.S.SiteStore.refused c.args.machines.now) (counts g.D.DeskStore.refused g.S.SiteStore.refused c.begin.new.self) c.begin.ensures.uncalled) c.settle.ensures.counts
+pub returns-in-Ok-clause-leaves : goal.returns-in-Ok-clause-leaves
+returns-in-Ok-clause-leaves g c = record {
+  clean = search rules;
+  sound = search rules;
+  counts = no_fewer_then (counts g.D.DeskStore.refused g.S.SiteStore.refused c.args.machines.now) (counts g.D.DeskStore.refused g.S.SiteStore.refused c.begin.new.self) (counts g.D.DeskStore.refused g.S.SiteStore.refused c.settle.new.machines) (none_fewer (counts g.D.DeskStore.refused g.S.SiteStore.refused c.args.machines.now) (counts g.D.DeskStore.refused g.S.SiteStore.refused c.begin.new.self) c.begin.ensures.uncalled) c.settle.ensures.leaves.counts;
+  catalog = search rules;
+}
 
 pub returns-in-Ok-clause-blames : goal.returns-in-Ok-clause-blames
-returns-in-Ok-clause-blames g c = λ clean sound. call_since c.settle.result (counts g.D.DeskStore.refused g.S.SiteStore.refused c.args.machines.now) (counts g.D.DeskStore.refused g.S.SiteStore.refused c.begin.new.self) (counts g.D.DeskStore.refused g.S.SiteStore.refused c.settle.new.machines) (none_fewer (counts g.D.DeskStore.refused g.S.SiteStore.refused c.args.machines.now) (counts g.D.DeskStore.refused g.S.SiteStore.refused c.begin.new.self) c.begin.ensures.uncalled) (c.settle.ensures.blames clean (c.begin.ensures.sound (c.settle.ensures.clean clean) sound))
+returns-in-Ok-clause-blames g c = λ clean sound. call_since c.settle.result (counts g.D.DeskStore.refused g.S.SiteStore.refused c.args.machines.now) (counts g.D.DeskStore.refused g.S.SiteStore.refused c.begin.new.self) (counts g.D.DeskStore.refused g.S.SiteStore.refused c.settle.new.machines) (none_fewer (counts g.D.DeskStore.refused g.S.SiteStore.refused c.args.machines.now) (counts g.D.DeskStore.refused g.S.SiteStore.refused c.begin.new.self) c.begin.ensures.uncalled) (c.settle.ensures.blames clean (c.begin.ensures.leaves.sound (c.settle.ensures.leaves.clean clean) sound))
 
-pub returns-in-Err-clause-counts : goal.returns-in-Err-clause-counts
-returns-in-Err-clause-counts g c = none_fewer (counts g.D.DeskStore.refused g.S.SiteStore.refused c.args.machines.now) (counts g.D.DeskStore.refused g.S.SiteStore.refused c.begin.new.self) c.begin.ensures.uncalled
+pub returns-in-Err-clause-leaves : goal.returns-in-Err-clause-leaves
+returns-in-Err-clause-leaves g c = record {
+  clean = search rules;
+  sound = search rules;
+  counts = none_fewer (counts g.D.DeskStore.refused g.S.SiteStore.refused c.args.machines.now) (counts g.D.DeskStore.refused g.S.SiteStore.refused c.begin.new.self) c.begin.ensures.uncalled;
+  catalog = search rules;
+}

@@ -1,5 +1,5 @@
 -- Why `decided` meets its contract.
-use Rattle.std.proofs.Common.{◌≡◌, ◌∙◌, ap, sym, subst, map}
+use Rattle.std.proofs.Common.{rules, ◌≡◌, ◌∙◌, ap, sym, subst, map}
 use Rattle.desk.specs.State.{table_of}
 use Rattle.world.specs.Counted.{counts_of}
 use Rattle.world.specs.Settled.{AreDecided}
@@ -15,11 +15,26 @@ returns-clause-all g c = λ db clean sound fit.
     subst (AreDecided (table_of desk.present)) (sym all)
     (decided_are db (kept desk.store) (kept c.kept.new.self.store) (table_of desk.present) c.in_ok-kept.kept fit.desk (c.kept.ensures.same clean.0 sound.0) (c.in_ok-kept.ensures.all clean.0))
 
-pub returns-in_err-kept-clause-counts : goal.returns-in_err-kept-clause-counts
-returns-in_err-kept-clause-counts g c = (c.kept.ensures.counts, no_fewer (counts_of g.S.SiteStore.refused c.args.machines.now.sites.items))
+pub returns-in_err-kept-clause-leaves : goal.returns-in_err-kept-clause-leaves
+returns-in_err-kept-clause-leaves g c = record {
+  clean = search rules;
+  sound = search rules;
+  counts = (c.kept.ensures.leaves_store.counts, no_fewer (counts_of g.S.SiteStore.refused c.args.machines.now.sites.items));
+  catalog = search rules;
+}
 
-pub returns-in_err-txns_of-clause-counts : goal.returns-in_err-txns_of-clause-counts
-returns-in_err-txns_of-clause-counts g c = (c.kept.ensures.counts, no_fewer (counts_of g.S.SiteStore.refused c.args.machines.now.sites.items))
+pub returns-in_err-txns_of-clause-leaves : goal.returns-in_err-txns_of-clause-leaves
+returns-in_err-txns_of-clause-leaves g c = record {
+  clean = search rules;
+  sound = search rules;
+  counts = (c.kept.ensures.leaves_store.counts, no_fewer (counts_of g.S.SiteStore.refused c.args.machines.now.sites.items));
+  catalog = search rules;
+}
 
-pub returns-clause-counts : goal.returns-clause-counts
-returns-clause-counts g c = (c.kept.ensures.counts, no_fewer (counts_of g.S.SiteStore.refused c.args.machines.now.sites.items))
+pub returns-clause-leaves : goal.returns-clause-leaves
+returns-clause-leaves g c = record {
+  clean = search rules;
+  sound = search rules;
+  counts = (c.kept.ensures.leaves_store.counts, no_fewer (counts_of g.S.SiteStore.refused c.args.machines.now.sites.items));
+  catalog = search rules;
+}

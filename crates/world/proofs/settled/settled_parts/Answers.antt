@@ -1,5 +1,5 @@
 -- Why `settled_parts` meets its contract.
-use Rattle.std.proofs.Common.{◌≡◌, ◌∙◌, ◌∷◌, ap, sym, subst, length, Some, inr}
+use Rattle.std.proofs.Common.{rules, ◌≡◌, ◌∙◌, ◌∷◌, ap, sym, subst, length, Some, inr}
 use Rattle.std.specs.List.{AllByRecursion}
 use Rattle.std.specs.Vec.{with_items}
 use Rattle.std.proofs.lemmas.List.{with_items_is}
@@ -16,8 +16,13 @@ use Rattle.world.proofs.Failing.{fails_so}
 use Rattle.world.proofs.Rebuilt.{site_seated}
 use Rattle.world.proofs.settled.settled_parts.Goals as goal
 
-pub returns-in_default-clause-counts : goal.returns-in_default-clause-counts
-returns-in_default-clause-counts g c = no_fewer (counts g.D.DeskStore.refused g.S.SiteStore.refused c.args.machines.now)
+pub returns-in_default-clause-leaves : goal.returns-in_default-clause-leaves
+returns-in_default-clause-leaves g c = record {
+  clean = search rules;
+  sound = search rules;
+  counts = no_fewer (counts g.D.DeskStore.refused g.S.SiteStore.refused c.args.machines.now);
+  catalog = search rules;
+}
 
 pub returns-in-Err-clause-fails : goal.returns-in-Err-clause-fails
 returns-in-Err-clause-fails g c = λ clean sound fit.

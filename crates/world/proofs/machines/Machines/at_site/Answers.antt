@@ -1,5 +1,5 @@
 -- Why `at_site` meets its contract.
-use Rattle.std.proofs.Common.{Bool, ◌≡◌, ◌∙◌, ap, sym, subst, Some, inl, inr, ⊎_elim}
+use Rattle.std.proofs.Common.{rules, Bool, ◌≡◌, ◌∙◌, ap, sym, subst, Some, inl, inr, ⊎_elim}
 use Rattle.protocol.specs.Letters.{txn_name}
 use Rattle.site.specs.State.{state_of}
 use Rattle.desk.specs.Database.{language, sent}
@@ -47,11 +47,21 @@ returns-in-Ok-clause-keeps g c = λ db seat letter clean sound fit is there.
 pub returns-in-Ok-clause-vote : goal.returns-in-Ok-clause-vote
 returns-in-Ok-clause-vote g c = λ letter seat is there keeps none. ⊎_elim (λ unmade. inl unmade) (λ more. inr (inr more)) (c.in-Ok.ensures.vote letter seat is there keeps (sym c.put_out.ensures.kept ∙ none))
 
-pub returns-in-Ok-clause-counts : goal.returns-in-Ok-clause-counts
-returns-in-Ok-clause-counts g c = (at_most (g.D.DeskStore.refused c.args.self.now.desk.store), c.do_among.ensures.counts)
+pub returns-in-Ok-clause-leaves : goal.returns-in-Ok-clause-leaves
+returns-in-Ok-clause-leaves g c = record {
+  clean = search rules;
+  sound = search rules;
+  counts = (at_most (g.D.DeskStore.refused c.args.self.now.desk.store), c.do_among.ensures.leaves.counts);
+  catalog = search rules;
+}
 
-pub returns-in-Err-clause-counts : goal.returns-in-Err-clause-counts
-returns-in-Err-clause-counts g c = (at_most (g.D.DeskStore.refused c.args.self.now.desk.store), c.do_among.ensures.counts)
+pub returns-in-Err-clause-leaves : goal.returns-in-Err-clause-leaves
+returns-in-Err-clause-leaves g c = record {
+  clean = search rules;
+  sound = search rules;
+  counts = (at_most (g.D.DeskStore.refused c.args.self.now.desk.store), c.do_among.ensures.leaves.counts);
+  catalog = search rules;
+}
 
 pub returns-in-Err-clause-blames : goal.returns-in-Err-clause-blames
 returns-in-Err-clause-blames g c = λ letter is made clean sound.

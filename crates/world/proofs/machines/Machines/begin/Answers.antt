@@ -1,10 +1,11 @@
 -- Why `begin` meets its contract.
+use Rattle.world.proofs.Counting.{none_fewer}
 use Rattle.desk.specs.State.{table_of}
 use Rattle.world.specs.Held.{held}
 use Rattle.world.proofs.Machinery.{begin_leads}
 use Rattle.world.proofs.Moving.{if_ok}
 use Rattle.world.specs.Counted.{counts, counts_of}
-use Rattle.std.proofs.Common.{◌∷◌}
+use Rattle.std.proofs.Common.{◌∷◌, rules, ap}
 use Rattle.world.proofs.Refusing.{if_err}
 use Rattle.world.proofs.Stops.{limit_stops}
 use Rattle.world.proofs.machines.Machines.begin.Goals as goal
@@ -20,3 +21,12 @@ returns-clause-full g c = λ db over fit. c.begin.ensures.full db over fit.desk
 
 pub returns-clause-blames : goal.returns-clause-blames
 returns-clause-blames g c = if_err c.begin.result (limit_stops (counts g.D.DeskStore.refused g.S.SiteStore.refused c.args.self.now) (g.D.DeskStore.refused c.begin.new.self.store ∷ counts_of g.S.SiteStore.refused c.args.self.now.sites.items)) c.begin.ensures.own
+
+pub returns-clause-leaves : goal.returns-clause-leaves
+returns-clause-leaves g c = record {
+  clean = search rules;
+  sound = search rules;
+  counts = none_fewer (counts g.D.DeskStore.refused g.S.SiteStore.refused c.args.self.now) (g.D.DeskStore.refused c.begin.new.self.store ∷ counts_of g.S.SiteStore.refused c.args.self.now.sites.items)
+      (ap (λ store. g.D.DeskStore.refused store ∷ counts_of g.S.SiteStore.refused c.args.self.now.sites.items) c.begin.ensures.store);
+  catalog = search rules;
+}

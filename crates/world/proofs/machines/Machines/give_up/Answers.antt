@@ -1,4 +1,7 @@
 -- Why `give_up` meets its contract.
+use Rattle.world.proofs.Counting.{none_fewer}
+use Rattle.world.specs.Counted.{counts, counts_of}
+use Rattle.std.proofs.Common.{rules, ap, ◌∷◌}
 use Rattle.protocol.specs.Desk.{Give_up}
 use Rattle.protocol.specs.Letters.{txn_name}
 use Rattle.desk.specs.Calls.{txn_in}
@@ -16,3 +19,12 @@ returns-clause-ok g c = λ db choice over fit.
     let txn = txn_in db before.table c.args.txn in
     if_ok c.give_up.result (λ out steps. asked_leads db before (g.D.DeskStore.kept new.store) (table_of new.present) c.args.txn choice Give_up out.letters out.replies fit steps (give_up_explained (txn_name c.args.txn) choice txn) (give_up_accepted txn))
     (c.give_up.ensures.ok db choice over fit.desk)
+
+pub returns-clause-leaves : goal.returns-clause-leaves
+returns-clause-leaves g c = record {
+  clean = search rules;
+  sound = search rules;
+  counts = none_fewer (counts g.D.DeskStore.refused g.S.SiteStore.refused c.args.self.now) (g.D.DeskStore.refused c.give_up.new.self.store ∷ counts_of g.S.SiteStore.refused c.args.self.now.sites.items)
+      (ap (λ store. g.D.DeskStore.refused store ∷ counts_of g.S.SiteStore.refused c.args.self.now.sites.items) c.give_up.ensures.store);
+  catalog = search rules;
+}

@@ -1,4 +1,7 @@
 -- Why `restart` meets its contract.
+use Rattle.world.proofs.Counting.{no_fewer}
+use Rattle.world.specs.Counted.{counts_of}
+use Rattle.std.proofs.Common.{rules}
 use Rattle.desk.specs.State.{table_of}
 use Rattle.world.specs.Held.{held}
 use Rattle.world.proofs.Machinery.{restart_leads}
@@ -9,4 +12,12 @@ pub returns-clause-ok : goal.returns-clause-ok
 returns-clause-ok g c = λ db clean sound fit.
     let before = held g.D.DeskStore.kept g.S.SiteStore.kept c.args.self.now in
     let new = c.restart_kept.new.self in
-    if_ok c.restart_kept.result (λ out restarts. restart_leads db before (g.D.DeskStore.kept new.store) (table_of new.present) out.letters out.replies fit restarts) (c.restart_kept.ensures.ok db clean.0 sound.0 fit.desk)
+    if_ok c.restart_kept.result (λ out restarts. restart_leads db before (g.D.DeskStore.kept new.store) (table_of new.present) out.letters out.replies fit restarts) (c.restart_kept.ensures.restarts.ok db clean.0 fit.desk)
+
+pub returns-clause-leaves : goal.returns-clause-leaves
+returns-clause-leaves g c = record {
+  clean = search rules;
+  sound = search rules;
+  counts = (c.restart_kept.ensures.restarts.begins.leaves.counts, no_fewer (counts_of g.S.SiteStore.refused c.args.self.now.sites.items));
+  catalog = search rules;
+}

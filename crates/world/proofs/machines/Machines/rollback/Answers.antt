@@ -1,4 +1,5 @@
 -- Why `rollback` meets its contract.
+use Rattle.world.proofs.Counting.{none_fewer}
 use Rattle.protocol.specs.Desk.{Rollback}
 use Rattle.protocol.specs.Letters.{txn_name}
 use Rattle.desk.specs.Calls.{txn_in}
@@ -8,7 +9,7 @@ use Rattle.world.proofs.Ends.{rollback_explained}
 use Rattle.world.proofs.Machinery.{asked_leads}
 use Rattle.world.proofs.Moving.{if_ok_too}
 use Rattle.world.specs.Counted.{counts, counts_of}
-use Rattle.std.proofs.Common.{◌∷◌}
+use Rattle.std.proofs.Common.{◌∷◌, rules, ap}
 use Rattle.catalog.specs.Relation.{catalogue_of}
 use Rattle.world.specs.Base.{database}
 use Rattle.world.proofs.Refusing.{if_err}
@@ -25,3 +26,12 @@ returns-clause-ok g c = λ db choice over fit.
 
 pub returns-clause-blames : goal.returns-clause-blames
 returns-clause-blames g c = if_err c.rollback.result (λ told why. refused_stops (counts g.D.DeskStore.refused g.S.SiteStore.refused c.args.self.now) (g.D.DeskStore.refused c.rollback.new.self.store ∷ counts_of g.S.SiteStore.refused c.args.self.now.sites.items) told _ why) (c.rollback.ensures.told (database (catalogue_of c.args.self.now.desk.catalog)))
+
+pub returns-clause-leaves : goal.returns-clause-leaves
+returns-clause-leaves g c = record {
+  clean = search rules;
+  sound = search rules;
+  counts = none_fewer (counts g.D.DeskStore.refused g.S.SiteStore.refused c.args.self.now) (g.D.DeskStore.refused c.rollback.new.self.store ∷ counts_of g.S.SiteStore.refused c.args.self.now.sites.items)
+      (ap (λ store. g.D.DeskStore.refused store ∷ counts_of g.S.SiteStore.refused c.args.self.now.sites.items) c.rollback.ensures.store);
+  catalog = search rules;
+}

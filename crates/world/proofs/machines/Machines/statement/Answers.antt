@@ -1,5 +1,6 @@
 -- Why `statement` meets its contract.
-use Rattle.std.proofs.Common.{◌≡◌, None, ◌∷◌}
+use Rattle.world.proofs.Counting.{none_fewer}
+use Rattle.std.proofs.Common.{◌≡◌, None, ◌∷◌, rules, ap}
 use Rattle.protocol.specs.Desk.{State, refusal}
 use Rattle.meaning.specs.declared.statement.Statement.{Statement}
 use Rattle.desk.specs.Calls.{txn_in}
@@ -32,3 +33,12 @@ returns-clause-told g c = λ db of is fit. statement_refused db (table_of c.args
 
 pub returns-clause-blames : goal.returns-clause-blames
 returns-clause-blames g c = if_err c.statement.result (λ told why. statement_stops (counts g.D.DeskStore.refused g.S.SiteStore.refused c.args.self.now) (g.D.DeskStore.refused c.statement.new.self.store ∷ counts_of g.S.SiteStore.refused c.args.self.now.sites.items) told _ _ _ why) (c.statement.ensures.told (database (catalogue_of c.args.self.now.desk.catalog)) some)
+
+pub returns-clause-leaves : goal.returns-clause-leaves
+returns-clause-leaves g c = record {
+  clean = search rules;
+  sound = search rules;
+  counts = none_fewer (counts g.D.DeskStore.refused g.S.SiteStore.refused c.args.self.now) (g.D.DeskStore.refused c.statement.new.self.store ∷ counts_of g.S.SiteStore.refused c.args.self.now.sites.items)
+      (ap (λ store. g.D.DeskStore.refused store ∷ counts_of g.S.SiteStore.refused c.args.self.now.sites.items) c.statement.ensures.store);
+  catalog = search rules;
+}

@@ -1,11 +1,12 @@
 -- Why `World::happens` meets its contract.
+use Rattle.world.proofs.Leaves.{leaves_still}
 use Rattle.std.proofs.Common.{refl, sym, subst, ◌++◌, List}
 use Rattle.catalog.specs.Relation.{catalogue_of}
 use Rattle.desk.specs.OfCatalogue.{IsOfCatalogue}
 use Rattle.world.specs.declared.event.Entry.{Entry}
 use Rattle.world.specs.Base.{database}
 use Rattle.world.specs.Held.{held}
-use Rattle.world.specs.Runs.{IsRun, RunsAreWhole, RunsOn}
+use Rattle.world.specs.Runs.{IsRun, RunsHold, RunsOn}
 use Rattle.world.proofs.world.World.happens.Goals as goal
 
 pub returns-in-Err-clause-refused : goal.returns-in-Err-clause-refused
@@ -13,14 +14,17 @@ returns-in-Err-clause-refused g c = λ whole past asked run is_call.
     let of = subst (λ x. IsOfCatalogue (database (catalogue_of x))) c.catalog.ensures c.database_is_of_catalogue.ensures.of_catalogue in
     c.in-Err.ensures.refused (database (catalogue_of c.args.self.now.machines.desk.catalog)) asked of refl run.fit is_call
 
-pub returns-in-Ok-clause-whole : goal.returns-in-Ok-clause-whole
-returns-in-Ok-clause-whole g c = λ whole past clean sound run.
+pub returns-in-Ok-clause-goes_on : goal.returns-in-Ok-clause-goes_on
+returns-in-Ok-clause-goes_on g c = λ whole past clean sound run.
     let db = database (catalogue_of c.args.self.now.machines.desk.catalog) in
     let before = held g.D.DeskStore.kept g.S.SiteStore.kept c.args.self.now.machines in
     let after = held g.D.DeskStore.kept g.S.SiteStore.kept c.happen.new.machines in
     let of = subst (λ x. IsOfCatalogue (database (catalogue_of x))) c.catalog.ensures c.database_is_of_catalogue.ensures.of_catalogue in
-    let law = subst (λ x. RunsAreWhole (database (catalogue_of x))) c.catalog-2.ensures c.runs_are_whole.ensures in
+    let law = subst (λ x. RunsHold (database (catalogue_of x))) c.catalog-2.ensures c.runs_hold.ensures in
     let with_room = subst (λ (entries : List Entry). IsRun db whole before entries past) (sym c.in_ok-make_room.ensures.items) run in
     let happened = c.in-Ok.ensures.ok db whole past of refl clean sound with_room in
     let on = subst (λ (entries : List Entry). RunsOn db whole after entries past) (sym c.push.ensures) happened in
-    record { on = on; applied = law whole after c.push.new.self.items (past ++ on.deeds) on.run_on }
+    record { on = on; holds = law whole after c.push.new.self.items (past ++ on.deeds) on.run_on }
+
+pub returns-in_err-make_room-clause-leaves : goal.returns-in_err-make_room-clause-leaves
+returns-in_err-make_room-clause-leaves g c = leaves_still g.D.DeskStore.is_clean g.S.SiteStore.is_clean g.D.DeskStore.is_sound g.S.SiteStore.is_sound g.D.DeskStore.refused g.S.SiteStore.refused c.args.self.now.machines

@@ -14,13 +14,14 @@ use Rattle.world.specs.Held.{OfStores, held}
 use Rattle.world.specs.Machines.{Machines}
 use Rattle.world.specs.Runs.{IsRun, RunsOn}
 use Rattle.world.proofs.Follow.{passes_more, runs_still}
+use Rattle.world.proofs.Leaves.{leaves_still, leaves_then}
 use Rattle.world.proofs.world.World.run.Goals as goal
 
 pub loop-event-init : goal.loop-event-init
 loop-event-init g c =
     let machines = held g.D.DeskStore.kept g.S.SiteStore.kept c.args.self.now.machines in
     let db = database (catalogue_of c.args.self.now.machines.desk.catalog) in
-    (λ clean. clean, λ clean sound. sound, refl, refl, λ whole past clean sound run. (runs_still db whole machines c.args.self.now.entries.items past run, (refl, refl)))
+    (leaves_still g.D.DeskStore.is_clean g.S.SiteStore.is_clean g.D.DeskStore.is_sound g.S.SiteStore.is_sound g.D.DeskStore.refused g.S.SiteStore.refused c.args.self.now.machines, refl, λ whole past clean sound run. (runs_still db whole machines c.args.self.now.entries.items past run, (refl, refl)))
 
 pub loop-event-preserved : goal.loop-event-preserved
 loop-event-preserved g c =
@@ -35,17 +36,15 @@ loop-event-preserved g c =
     let what = c.event-item.result in
     let db = database (catalogue_of start.machines.desk.catalog) in
     let passed = subst (λ (x : List (List ℕ) × List SplitRelation). (whole : Relations) (past : List (Deed (language (database (catalogue_of x))))) → OfStores D.is_clean S.is_clean now.machines → OfStores D.is_sound S.is_sound mid.machines
-    → IsRun (database (catalogue_of x)) whole (held D.kept S.kept mid.machines) mid.entries.items past → Passes (database (catalogue_of x)) whole what (held D.kept S.kept mid.machines) mid.entries.items (held D.kept S.kept now.machines) now.entries.items past) all.2 c.in-Ok.ensures.ok in
+    → IsRun (database (catalogue_of x)) whole (held D.kept S.kept mid.machines) mid.entries.items past → Passes (database (catalogue_of x)) whole what (held D.kept S.kept mid.machines) mid.entries.items (held D.kept S.kept now.machines) now.entries.items past) all.0.catalog c.in-Ok.ensures.ok in
     let one_more : take (i + 1) events ≡ take i events ++ what ∷ [] = take_more events i what c.loop-event-test.true ∙ ap (λ (e : Event). take i events ++ e ∷ []) (sym c.event-item.is) in (
-      λ clean. all.0 (c.in-Ok.ensures.clean clean),
-      λ clean sound. c.in-Ok.ensures.sound clean (all.1 (c.in-Ok.ensures.clean clean) sound),
-      c.in-Ok.ensures.catalog ∙ all.2,
-      ap (λ n. n + 1) all.3,
+      leaves_then D.is_clean S.is_clean D.is_sound S.is_sound D.refused S.refused start.machines mid.machines now.machines all.0 c.in-Ok.ensures.leaves,
+      ap (λ n. n + 1) all.1,
       λ whole past clean sound run.
-          let clean_mid = c.in-Ok.ensures.clean clean in
-          let so = all.4 whole past clean_mid sound run in
+          let clean_mid = c.in-Ok.ensures.leaves.clean clean in
+          let so = all.2 whole past clean_mid sound run in
           let both = passes_more db whole (take i events) what (held D.kept S.kept start.machines) (held D.kept S.kept mid.machines) (held D.kept S.kept now.machines) start.entries.items mid.entries.items now.entries.items past so.0 so.1
-          (passed whole (past ++ so.0.deeds) clean (all.1 clean_mid sound) so.0.run_on) in
+          (passed whole (past ++ so.0.deeds) clean (all.0.sound clean_mid sound) so.0.run_on) in
           (both.0, subst (λ es. Follows db es (held D.kept S.kept start.machines) start.entries.items (held D.kept S.kept now.machines) now.entries.items) (sym one_more) both.1),
     )
 
@@ -58,9 +57,9 @@ returns-in-Err-clause-runs g c = λ whole past clean sound run.
     let mid = c.loop-event.self in
     let now = c.pass.new.self in
     let db = database (catalogue_of start.machines.desk.catalog) in
-    let clean_mid = c.in-Err.ensures.clean clean in
-    let so = all.4 whole past clean_mid sound run in
-    subst (λ (m : Machines). RunsOn db whole m now.entries.items past) (sym (c.in-Err.ensures.err clean (all.1 clean_mid sound))) (subst (λ (es : List Entry). RunsOn db whole (held D.kept S.kept mid.machines) es past) (sym c.in-Err.ensures.same) so.0)
+    let clean_mid = c.in-Err.ensures.leaves.clean clean in
+    let so = all.2 whole past clean_mid sound run in
+    subst (λ (m : Machines). RunsOn db whole m now.entries.items past) (sym (c.in-Err.ensures.err clean (all.0.sound clean_mid sound))) (subst (λ (es : List Entry). RunsOn db whole (held D.kept S.kept mid.machines) es past) (sym c.in-Err.ensures.same) so.0)
 
 pub returns-in-Err-clause-some : goal.returns-in-Err-clause-some
 returns-in-Err-clause-some g c = λ whole past clean sound run.
@@ -73,10 +72,10 @@ returns-in-Err-clause-some g c = λ whole past clean sound run.
     let events = c.args.events.now in
     let db = database (catalogue_of start.machines.desk.catalog) in
     let first = held D.kept S.kept start.machines in
-    let clean_mid = c.in-Err.ensures.clean clean in
-    let so = all.4 whole past clean_mid sound run in
-    subst (λ (n : ℕ). Follows db (take n events) first start.entries.items (held D.kept S.kept now.machines) now.entries.items) (sym all.3)
-    (subst (λ (m : Machines). Follows db (take c.loop-event.event-index events) first start.entries.items m now.entries.items) (sym (c.in-Err.ensures.err clean (all.1 clean_mid sound)))
+    let clean_mid = c.in-Err.ensures.leaves.clean clean in
+    let so = all.2 whole past clean_mid sound run in
+    subst (λ (n : ℕ). Follows db (take n events) first start.entries.items (held D.kept S.kept now.machines) now.entries.items) (sym all.1)
+    (subst (λ (m : Machines). Follows db (take c.loop-event.event-index events) first start.entries.items m now.entries.items) (sym (c.in-Err.ensures.err clean (all.0.sound clean_mid sound)))
     (subst (λ (es : List Entry). Follows db (take c.loop-event.event-index events) first start.entries.items (held D.kept S.kept mid.machines) es) (sym c.in-Err.ensures.same) so.1))
 
 pub returns-clause-all : goal.returns-clause-all
@@ -87,4 +86,7 @@ returns-clause-all g c = λ whole past clean sound run.
     let mid = c.loop-event.self in
     let events = c.args.events.now in
     let db = database (catalogue_of start.machines.desk.catalog) in
-    subst (λ (es : List Event). Follows db es (held D.kept S.kept start.machines) start.entries.items (held D.kept S.kept mid.machines) mid.entries.items) (take_all c.loop-event.event-index events c.loop-event-test.false) (c.loop-event.invariant.4 whole past clean sound run).1
+    subst (λ (es : List Event). Follows db es (held D.kept S.kept start.machines) start.entries.items (held D.kept S.kept mid.machines) mid.entries.items) (take_all c.loop-event.event-index events c.loop-event-test.false) (c.loop-event.invariant.2 whole past clean sound run).1
+
+pub returns-in-Err-clause-leaves : goal.returns-in-Err-clause-leaves
+returns-in-Err-clause-leaves g c = leaves_then g.D.DeskStore.is_clean g.S.SiteStore.is_clean g.D.DeskStore.is_sound g.S.SiteStore.is_sound g.D.DeskStore.refused g.S.SiteStore.refused c.args.self.now.machines c.loop-event.self.machines c.pass.new.self.machines c.loop-event.invariant.0 c.in-Err.ensures.leaves

@@ -1,0 +1,17 @@
+-- Why `laws::runs_hold` meets its contract.
+use Rattle.catalog.specs.Relation.{catalogue_of}
+use Rattle.desk.specs.Database.{language}
+use Rattle.protocol.specs.World.{World}
+use Rattle.std.proofs.Common.{subst}
+use Rattle.world.specs.Base.{database}
+use Rattle.world.specs.Runs.{Holds}
+use Rattle.world.proofs.laws.runs_hold.Goals as goal
+
+pub returns : goal.returns
+returns c = λ whole machines entries past run.
+    subst (λ (w : World (language (database (catalogue_of c.args.catalog.now)))). Holds whole w) run.is
+    (record {
+      apart = c.parts_one_and_two.ensures whole run.opening run.events run.opens;
+      line = c.part_three.ensures whole run.opening run.events run.opens;
+      applied = c.applied_whole_and_once.ensures whole run.opening run.events run.opens;
+    })
