@@ -16,7 +16,7 @@ returns-in_ok-add_sent-in-Ok-clause-runs c = λ whole has.
     let stepped = c.step.follows.holds-at-none in
     let clean = are_clean new.machines in
     let on : GoesOn (database (catalogue_of old.machines.desk.catalog)) whole (held desk_kept kept_of new.machines) new.entries.items has.reached.0 =
-        subst (λ r. OnOk (answer_of r) (GoesOn (database (catalogue_of old.machines.desk.catalog)) whole (held desk_kept kept_of new.machines) new.entries.items has.reached.0)) c.in-Ok.is (stepped.goes_on whole has.reached.0 clean has.sound has.reached.1) in
+    subst (λ r. OnOk (answer_of r) (GoesOn (database (catalogue_of old.machines.desk.catalog)) whole (held desk_kept kept_of new.machines) new.entries.items has.reached.0)) c.in-Ok.is (stepped.goes_on whole has.reached.0 clean has.sound has.reached.1) in
     goes_on whole old new stepped.catalog (stepped.sound clean has.sound) has.reached on.on
 
 pub returns-in-Err-clause-runs : goal.returns-in-Err-clause-runs
