@@ -5,8 +5,9 @@
 # work that earlier checks kept, so check the crate first. Where all edits of a crate were refused, edits/TRIED
 # gets the checksum of what they were tried on, and .ci/run fails where that is another one.
 #
-#   bench/edits.sh [CRATE[/NAME] ..]      without words: the crates whose record is missing or of another text
-#   bench/edits.sh --recorded             tries nothing: fails where a crate's record is missing or of another text
+#   bench/edits.sh [CRATE[/NAME] ..]      without words: the crates whose record is missing, of another text, or `untried`
+#   bench/edits.sh --recorded             tries nothing: fails where a crate's record is missing or of another text, and
+#                                         names the crates that stand there as `untried`
 set -u
 cd "$(dirname "$0")/.."
 exec python3 - "$@" <<'PYTHON'
@@ -114,7 +115,7 @@ def record(crate, told):
     found = recorded()
     found[crate] = told
     with open(TRIED, "w", encoding="utf-8") as it:
-        it.write("# The text at which each crate's edits were all seen refused (bench/edits.sh).\n")
+        it.write("# The text at which each crate's edits were all seen refused (bench/edits.sh); untried: not all of them yet.\n")
         it.writelines(f"{name} {found[name]}\n" for name in sorted(found) if name in crates())
 
 
@@ -199,9 +200,10 @@ def stale():
 
 
 if sys.argv[1:] == ["--recorded"]:
+    said = recorded()
     for crate in stale():
-        print(f"edits/TRIED: the edits of {crate} were not tried on this text: bench/edits.sh {crate}")
-    sys.exit(1 if stale() else 0)
+        print(f"edits/TRIED: the edits of {crate} were not {'all tried yet' if said.get(crate) == 'untried' else 'tried on this text'}: bench/edits.sh {crate}")
+    sys.exit(1 if any(said.get(crate) != "untried" for crate in stale()) else 0)
 words = sys.argv[1:] or stale()
 chosen = {crate: [it for it in edits_of(crate) if any(f"{crate}/" == f"{word}/" or f"{it.path}".startswith(f"edits/{word}") for word in words)] for crate in crates()}
 sys.exit(0 if all([is_well(crate, some) for crate, some in chosen.items() if some]) else 1)
