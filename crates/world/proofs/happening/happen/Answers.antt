@@ -1,5 +1,6 @@
 -- Why `happen` meets its contract.
-use Rattle.std.proofs.Common.{◌++◌, ◌∷◌, [], refl, sym, ap, subst, true, IfErr, IfOk}
+use Rattle.world.proofs.Leaves.{leaves_still}
+use Rattle.std.proofs.Common.{ℕ, List, ◌++◌, ◌∷◌, [], refl, sym, ap, subst, true, IfErr, IfOk}
 use Rattle.protocol.specs.World.{Desk_restarts, desk_restarts}
 use Rattle.world.specs.declared.event.Event as events
 use Rattle.world.specs.declared.event.Event.TheVariants as event
@@ -58,3 +59,63 @@ returns-in-DeskRestarts-clause-refused g c = λ db of is fit.
     subst (λ (what : events.Event). IfErr c.by_desk-in-DeskRestarts.result (IsRefusedFor sound db before after c.args.log.now.items what)) (sym c.in-DeskRestarts.is)
     (by_desk_err (IsRefusedFor sound db before after c.args.log.now.items (event.DeskRestarts kept)) c.restart.result c.by_desk-in-DeskRestarts.result c.by_desk-in-DeskRestarts.ensures
     (desk_refused sound db before after c.args.log.now.items c.restart.result kept c.restart.ensures.told))
+
+pub returns-in_ok-copy-in-SiteGivesUp-clause-ok : goal.returns-in_ok-copy-in-SiteGivesUp-clause-ok
+returns-in_ok-copy-in-SiteGivesUp-clause-ok g c = λ db whole past of is clean sound so.
+    let after = held g.D.DeskStore.kept g.S.SiteStore.kept c.happen_at.new.machines in
+    let entries = c.args.log.now.items in
+    subst (λ (what : events.Event). IfOk c.happen_at.result (λ out. RunsOn db whole after (entries ++ entry_of what out ∷ []) past)) (sym c.in-SiteGivesUp.is)
+    (c.happen_at.ensures.ok db whole entries (event.SiteGivesUp c.in-SiteGivesUp.site c.in-SiteGivesUp.ticket) past of is clean sound (ap (λ (site : List ℕ). event.SiteGivesUp site c.in-SiteGivesUp.ticket) (sym c.in_ok-copy-in-SiteGivesUp.ensures)) so)
+
+pub returns-in_ok-copy-in-SiteGivesUp-clause-refused : goal.returns-in_ok-copy-in-SiteGivesUp-clause-refused
+returns-in_ok-copy-in-SiteGivesUp-clause-refused g c = λ db of is fit.
+    let D = g.D.DeskStore in
+    let S = g.S.SiteStore in
+    let old = c.args.machines.now in
+    let new = c.happen_at.new.machines in
+    let entries = c.args.log.now.items in
+    subst (λ (what : events.Event). IfErr c.happen_at.result (IsRefusedFor (OfStores D.is_clean S.is_clean new × OfStores D.is_sound S.is_sound old) db (counted D.kept S.kept D.refused S.refused old) (counted D.kept S.kept D.refused S.refused new) entries what)) (sym c.in-SiteGivesUp.is)
+    (c.happen_at.ensures.refused db entries (event.SiteGivesUp c.in-SiteGivesUp.site c.in-SiteGivesUp.ticket) of is fit (ap (λ (site : List ℕ). event.SiteGivesUp site c.in-SiteGivesUp.ticket) (sym c.in_ok-copy-in-SiteGivesUp.ensures)))
+
+pub returns-in_ok-copy-in-SiteInquires-clause-ok : goal.returns-in_ok-copy-in-SiteInquires-clause-ok
+returns-in_ok-copy-in-SiteInquires-clause-ok g c = λ db whole past of is clean sound so.
+    let after = held g.D.DeskStore.kept g.S.SiteStore.kept c.happen_at-in-SiteInquires.new.machines in
+    let entries = c.args.log.now.items in
+    subst (λ (what : events.Event). IfOk c.happen_at-in-SiteInquires.result (λ out. RunsOn db whole after (entries ++ entry_of what out ∷ []) past)) (sym c.in-SiteInquires.is)
+    (c.happen_at-in-SiteInquires.ensures.ok db whole entries (event.SiteInquires c.in-SiteInquires.site) past of is clean sound (ap (λ (site : List ℕ). event.SiteInquires site) (sym c.in_ok-copy-in-SiteInquires.ensures)) so)
+
+pub returns-in_ok-copy-in-SiteInquires-clause-refused : goal.returns-in_ok-copy-in-SiteInquires-clause-refused
+returns-in_ok-copy-in-SiteInquires-clause-refused g c = λ db of is fit.
+    let D = g.D.DeskStore in
+    let S = g.S.SiteStore in
+    let old = c.args.machines.now in
+    let new = c.happen_at-in-SiteInquires.new.machines in
+    let entries = c.args.log.now.items in
+    subst (λ (what : events.Event). IfErr c.happen_at-in-SiteInquires.result (IsRefusedFor (OfStores D.is_clean S.is_clean new × OfStores D.is_sound S.is_sound old) db (counted D.kept S.kept D.refused S.refused old) (counted D.kept S.kept D.refused S.refused new) entries what)) (sym c.in-SiteInquires.is)
+    (c.happen_at-in-SiteInquires.ensures.refused db entries (event.SiteInquires c.in-SiteInquires.site) of is fit (ap (λ (site : List ℕ). event.SiteInquires site) (sym c.in_ok-copy-in-SiteInquires.ensures)))
+
+pub returns-in_ok-copy-in-SiteRestarts-clause-ok : goal.returns-in_ok-copy-in-SiteRestarts-clause-ok
+returns-in_ok-copy-in-SiteRestarts-clause-ok g c = λ db whole past of is clean sound so.
+    let after = held g.D.DeskStore.kept g.S.SiteStore.kept c.happen_at-in-SiteRestarts.new.machines in
+    let entries = c.args.log.now.items in
+    subst (λ (what : events.Event). IfOk c.happen_at-in-SiteRestarts.result (λ out. RunsOn db whole after (entries ++ entry_of what out ∷ []) past)) (sym c.in-SiteRestarts.is)
+    (c.happen_at-in-SiteRestarts.ensures.ok db whole entries (event.SiteRestarts c.in-SiteRestarts.site c.in-SiteRestarts.kept) past of is clean sound (ap (λ (site : List ℕ). event.SiteRestarts site c.in-SiteRestarts.kept) (sym c.in_ok-copy-in-SiteRestarts.ensures)) so)
+
+pub returns-in_ok-copy-in-SiteRestarts-clause-refused : goal.returns-in_ok-copy-in-SiteRestarts-clause-refused
+returns-in_ok-copy-in-SiteRestarts-clause-refused g c = λ db of is fit.
+    let D = g.D.DeskStore in
+    let S = g.S.SiteStore in
+    let old = c.args.machines.now in
+    let new = c.happen_at-in-SiteRestarts.new.machines in
+    let entries = c.args.log.now.items in
+    subst (λ (what : events.Event). IfErr c.happen_at-in-SiteRestarts.result (IsRefusedFor (OfStores D.is_clean S.is_clean new × OfStores D.is_sound S.is_sound old) db (counted D.kept S.kept D.refused S.refused old) (counted D.kept S.kept D.refused S.refused new) entries what)) (sym c.in-SiteRestarts.is)
+    (c.happen_at-in-SiteRestarts.ensures.refused db entries (event.SiteRestarts c.in-SiteRestarts.site c.in-SiteRestarts.kept) of is fit (ap (λ (site : List ℕ). event.SiteRestarts site c.in-SiteRestarts.kept) (sym c.in_ok-copy-in-SiteRestarts.ensures)))
+
+pub returns-in_err-copy-in-SiteGivesUp-clause-leaves : goal.returns-in_err-copy-in-SiteGivesUp-clause-leaves
+returns-in_err-copy-in-SiteGivesUp-clause-leaves g c = leaves_still g.D.DeskStore.is_clean g.S.SiteStore.is_clean g.D.DeskStore.is_sound g.S.SiteStore.is_sound g.D.DeskStore.refused g.S.SiteStore.refused c.args.machines.now
+
+pub returns-in_err-copy-in-SiteInquires-clause-leaves : goal.returns-in_err-copy-in-SiteInquires-clause-leaves
+returns-in_err-copy-in-SiteInquires-clause-leaves g c = leaves_still g.D.DeskStore.is_clean g.S.SiteStore.is_clean g.D.DeskStore.is_sound g.S.SiteStore.is_sound g.D.DeskStore.refused g.S.SiteStore.refused c.args.machines.now
+
+pub returns-in_err-copy-in-SiteRestarts-clause-leaves : goal.returns-in_err-copy-in-SiteRestarts-clause-leaves
+returns-in_err-copy-in-SiteRestarts-clause-leaves g c = leaves_still g.D.DeskStore.is_clean g.S.SiteStore.is_clean g.D.DeskStore.is_sound g.S.SiteStore.is_sound g.D.DeskStore.refused g.S.SiteStore.refused c.args.machines.now
