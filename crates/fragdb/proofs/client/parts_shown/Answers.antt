@@ -10,8 +10,8 @@ returns-in_ok-parts_text-in-Ok-clause-shown c = λ catalogue whole past h.
     let old = c.args.database.now in
     let new = c.parts.new.self in
     let found = option_map (λ parts. parts.items) c.in-Ok.found in
-    let over = ap catalogue_of (c.catalog.ensures ∙ c.parts.ensures.catalog) ∙ h.catalog in (
-      shows_on catalogue whole past old new h c.parts.ensures.still c.parts.ensures.catalog c.parts.ensures.sound c.parts.ensures.same,
+    let over = ap catalogue_of (c.catalog.ensures ∙ c.parts.ensures.leaves.catalog) ∙ h.catalog in (
+      shows_on catalogue whole past old new h c.parts.ensures.still c.parts.ensures.leaves.catalog c.parts.ensures.leaves.sound c.parts.ensures.same,
       (
         stands_still catalogue whole past old new h c.parts.ensures.still c.parts.ensures.same,
         c.in_ok-parts_text-in-Ok.ensures ∙ ap (λ (other : Catalogue). parts_text c.args.mode other c.args.name.now c.args.leaf.now found) over

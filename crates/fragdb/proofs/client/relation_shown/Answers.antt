@@ -14,10 +14,10 @@ returns-in-Ok-clause-shown c = λ catalogue whole past h.
     let name = c.in_ok-name.name in
     let named : name ≡ c.args.name.now = c.in_ok-name.ensures in
     let found = option_map (λ rows. rows.items) c.in-Ok.found in
-    let over = ap catalogue_of (c.catalog.ensures ∙ c.rebuilt.ensures.catalog) ∙ h.catalog in
+    let over = ap catalogue_of (c.catalog.ensures ∙ c.rebuilt.ensures.leaves.catalog) ∙ h.catalog in
     record {
       later = past;
-      goes_on = shows_on catalogue whole past old new h c.rebuilt.ensures.still c.rebuilt.ensures.catalog c.rebuilt.ensures.sound c.rebuilt.ensures.same;
+      goes_on = shows_on catalogue whole past old new h c.rebuilt.ensures.still c.rebuilt.ensures.leaves.catalog c.rebuilt.ensures.leaves.sound c.rebuilt.ensures.same;
       answers = (
         stands_still catalogue whole past old new h c.rebuilt.ensures.still c.rebuilt.ensures.same,
         λ other those fits.

@@ -1,4 +1,5 @@
 -- Why `finish` meets its contract.
+use Rattle.std.proofs.Common.{rules}
 use Rattle.world.proofs.Counting.{no_fewer}
 use Rattle.world.specs.Counted.{counts}
 use Rattle.world.proofs.batch.finish.Goals as goal

@@ -41,12 +41,12 @@ loop-fetch-preserved g c =
     let i = c.loop-fetch.fetch-index in
     let Brings : List (List ℕ) × List SplitRelation → Machines → Type 0 = λ x machines. (whole : Relations) → OfStores D.is_clean S.is_clean now → OfStores D.is_sound S.is_sound mid → AreFit (database (catalogue_of x)) machines → AreThoseOf (database (catalogue_of x)) machines whole →
     AreDecided machines.table c.args.decided.now → row ≡ brought_of (database (catalogue_of x)) whole fetch in (
-      λ clean. all.0 (step.clean clean),
-      λ clean sound. step.sound clean (all.1 (step.clean clean) sound),
-      λ clean sound. step.same clean (all.1 (step.clean clean) sound) ∙ all.2 (step.clean clean) sound,
-      step.catalog ∙ all.3,
+      λ clean. all.0 (step.leaves.clean clean),
+      λ clean sound. step.leaves.sound clean (all.1 (step.leaves.clean clean) sound),
+      λ clean sound. step.same clean (all.1 (step.leaves.clean clean) sound) ∙ all.2 (step.leaves.clean clean) sound,
+      step.leaves.catalog ∙ all.3,
       λ whole clean sound fit those are.
-          let mid_clean = step.clean clean in
+          let mid_clean = step.leaves.clean clean in
           let mid_sound = all.1 mid_clean sound in
           let brings = subst (Brings start.desk.catalog) (all.2 mid_clean sound) (subst (λ x. Brings x (of mid)) all.3 step.brought) in
           let bring = brought_of (database (catalogue_of start.desk.catalog)) whole in
@@ -54,7 +54,7 @@ loop-fetch-preserved g c =
           c.in_ok-push.ensures.items
           ∙ ap₂ (λ (front : List FetchRows) (last : FetchRows). front ++ last ∷ []) (all.4 whole mid_clean sound fit those are) (brings whole clean mid_sound fit those are)
           ∙ sym (ap (map bring) one_more ∙ map-append bring (take i fetches) (fetch ∷ [])),
-      no_fewer_then (counts D.refused S.refused start) (counts D.refused S.refused mid) (counts D.refused S.refused now) all.5 step.counts,
+      no_fewer_then (counts D.refused S.refused start) (counts D.refused S.refused mid) (counts D.refused S.refused now) all.5 step.leaves.counts,
     )
 
 pub returns-clause-brought : goal.returns-clause-brought

@@ -20,14 +20,14 @@ returns-in-Ok-clause-shown c = λ whole has.
     let machines = held desk_kept kept_of c.args.self.now.world.machines in
     let found = option_map (λ parts. parts.items) c.in-Ok.found in
     let kept : found ≡ parts_kept (database catalogue) machines c.args.leaf.now = c.in-Ok.ensures.parts (are_clean c.parts.new.self.machines) has.sound has.reached.1.fit in
-    let over = ap catalogue_of (c.catalog.ensures ∙ c.parts.ensures.catalog) in
+    let over = ap catalogue_of (c.catalog.ensures ∙ c.parts.ensures.leaves.catalog) in
     IfOk-weaker c.parts_text.result _ _ (λ text h. (machines, has.reached, h ∙ ap (λ (catalogue : Catalogue). parts_text Tabs catalogue c.args.name.now c.args.leaf.now found) over ∙ ap (parts_text Tabs catalogue c.args.name.now c.args.leaf.now) kept)) c.parts_text.ensures
 
 pub returns-in-Ok-clause-runs : goal.returns-in-Ok-clause-runs
-returns-in-Ok-clause-runs c = λ whole has. looks whole c.args.self.now.world c.parts.new.self c.parts.ensures.catalog c.parts.ensures.sound c.parts.ensures.same c.parts.ensures.entries has
+returns-in-Ok-clause-runs c = λ whole has. looks whole c.args.self.now.world c.parts.new.self c.parts.ensures.leaves.catalog c.parts.ensures.leaves.sound c.parts.ensures.same c.parts.ensures.entries has
 
 pub returns-in-Err-clause-runs : goal.returns-in-Err-clause-runs
-returns-in-Err-clause-runs c = λ whole has. looks whole c.args.self.now.world c.parts.new.self c.parts.ensures.catalog c.parts.ensures.sound c.parts.ensures.same c.parts.ensures.entries has
+returns-in-Err-clause-runs c = λ whole has. looks whole c.args.self.now.world c.parts.new.self c.parts.ensures.leaves.catalog c.parts.ensures.leaves.sound c.parts.ensures.same c.parts.ensures.entries has
 
 pub returns-in-Err-clause-shown : goal.returns-in-Err-clause-shown
 returns-in-Err-clause-shown c = λ whole has.

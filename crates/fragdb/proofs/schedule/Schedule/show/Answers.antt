@@ -13,14 +13,14 @@ pub returns-in-Ok-clause-shown : goal.returns-in-Ok-clause-shown
 returns-in-Ok-clause-shown c = λ whole has.
     let found = option_map (λ rows. rows.items) c.in-Ok.found in
     let serial = c.in-Ok.ensures.serial whole has.reached.0 (are_clean c.rebuilt.new.self.machines) has.sound has.reached.1 in
-    let over = ap catalogue_of (c.catalog.ensures ∙ c.rebuilt.ensures.catalog) in
+    let over = ap catalogue_of (c.catalog.ensures ∙ c.rebuilt.ensures.leaves.catalog) in
     IfOk-weaker c.relation_text.result _ _ (λ text h. (found, serial, h ∙ ap (λ (catalogue : Catalogue). relation_text Tabs catalogue c.args.name.now found) over)) c.relation_text.ensures
 
 pub returns-in-Ok-clause-runs : goal.returns-in-Ok-clause-runs
-returns-in-Ok-clause-runs c = λ whole has. looks whole c.args.self.now.world c.rebuilt.new.self c.rebuilt.ensures.catalog c.rebuilt.ensures.sound c.rebuilt.ensures.same c.rebuilt.ensures.entries has
+returns-in-Ok-clause-runs c = λ whole has. looks whole c.args.self.now.world c.rebuilt.new.self c.rebuilt.ensures.leaves.catalog c.rebuilt.ensures.leaves.sound c.rebuilt.ensures.same c.rebuilt.ensures.entries has
 
 pub returns-in-Err-clause-runs : goal.returns-in-Err-clause-runs
-returns-in-Err-clause-runs c = λ whole has. looks whole c.args.self.now.world c.rebuilt.new.self c.rebuilt.ensures.catalog c.rebuilt.ensures.sound c.rebuilt.ensures.same c.rebuilt.ensures.entries has
+returns-in-Err-clause-runs c = λ whole has. looks whole c.args.self.now.world c.rebuilt.new.self c.rebuilt.ensures.leaves.catalog c.rebuilt.ensures.leaves.sound c.rebuilt.ensures.same c.rebuilt.ensures.entries has
 
 pub returns-in-Err-clause-shown : goal.returns-in-Err-clause-shown
 returns-in-Err-clause-shown c = λ whole has.

@@ -1,4 +1,5 @@
 -- Why `command` meets its contract.
+use Rattle.world.proofs.Leaves.{leaves_still}
 use Rattle.std.proofs.Common.{◌∙◌, List, ap, refl, subst, sym, ℕ, inl, inr, ⊎_elim, Err}
 use Rattle.reader.specs.declared.command.Command.TheVariants.{Begin, Commit, Rollback}
 use Rattle.world.specs.Denying.{IsUnreadable}
@@ -61,3 +62,6 @@ returns-in-Err-clause-unread g c = λ none. (tt, subst (λ (schemas : List Relat
 
 pub returns-in-Err-clause-blames : goal.returns-in-Err-clause-blames
 returns-in-Err-clause-blames g c = λ clean sound. unreadable_stops (counts g.D.DeskStore.refused g.S.SiteStore.refused c.args.self.now.machines) (counts g.D.DeskStore.refused g.S.SiteStore.refused c.args.self.now.machines) c.in-Err.refusal _ c.args.text.now c.in-Err.ensures.unread
+
+pub returns-in-Err-clause-leaves : goal.returns-in-Err-clause-leaves
+returns-in-Err-clause-leaves g c = leaves_still g.D.DeskStore.is_clean g.S.SiteStore.is_clean g.D.DeskStore.is_sound g.S.SiteStore.is_sound g.D.DeskStore.refused g.S.SiteStore.refused c.args.self.now.machines

@@ -1,4 +1,5 @@
 -- Why `execute` meets its contract.
+use Rattle.world.proofs.Leaves.{leaves_still}
 use Rattle.std.proofs.Common.{List, ℕ, refl, sym, subst, ◌∙◌}
 use Rattle.catalog.specs.declared.relation.SplitRelation.{SplitRelation}
 use Rattle.catalog.specs.Relation.{catalogue_of}
@@ -63,3 +64,6 @@ returns-clause-inside g c = λ txn going some spelled. c.command-done.ensures.in
 
 pub returns-clause-blames : goal.returns-clause-blames
 returns-clause-blames g c = λ going clean sound. c.command-done.ensures.blames clean sound
+
+pub returns-in-Some-clause-leaves : goal.returns-in-Some-clause-leaves
+returns-in-Some-clause-leaves g c = leaves_still g.D.DeskStore.is_clean g.S.SiteStore.is_clean g.D.DeskStore.is_sound g.S.SiteStore.is_sound g.D.DeskStore.refused g.S.SiteStore.refused c.args.self.now.machines

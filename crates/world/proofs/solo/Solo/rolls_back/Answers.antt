@@ -1,4 +1,5 @@
 -- Why `rolls_back` meets its contract.
+use Rattle.world.proofs.Leaves.{leaves_still}
 use Rattle.std.proofs.Common.{inr, refl}
 use Rattle.world.specs.Serving.{did_roll_back}
 use Rattle.world.specs.Held.{counted}
@@ -14,3 +15,6 @@ returns-in-Err-clause-denied g c = λ db text of is clean sound fit spelled. rol
 
 pub returns-in_default-clause-denied : goal.returns-in_default-clause-denied
 returns-in_default-clause-denied g c = λ db text of is clean sound fit spelled. declines_outside c.in_default.is (inr spelled) refl (as_before db (counted g.D.DeskStore.kept g.S.SiteStore.kept g.D.DeskStore.refused g.S.SiteStore.refused c.args.self.now.machines) (counted g.D.DeskStore.kept g.S.SiteStore.kept g.D.DeskStore.refused g.S.SiteStore.refused c.args.self.now.machines) fit refl)
+
+pub returns-in_default-clause-leaves : goal.returns-in_default-clause-leaves
+returns-in_default-clause-leaves g c = leaves_still g.D.DeskStore.is_clean g.S.SiteStore.is_clean g.D.DeskStore.is_sound g.S.SiteStore.is_sound g.D.DeskStore.refused g.S.SiteStore.refused c.args.self.now.machines

@@ -1,4 +1,5 @@
 -- Why `World::happens` meets its contract.
+use Rattle.world.proofs.Leaves.{leaves_still}
 use Rattle.std.proofs.Common.{refl, sym, subst, ◌++◌, List}
 use Rattle.catalog.specs.Relation.{catalogue_of}
 use Rattle.desk.specs.OfCatalogue.{IsOfCatalogue}
@@ -31,3 +32,6 @@ returns-in-Ok-clause-goes_on g c = λ whole past clean sound run.
     let happened = c.in-Ok.ensures.ok db whole past of refl clean sound with_room in
     let on = subst (λ (entries : List Entry). RunsOn db whole after entries past) (sym c.push.ensures) happened in
     record { on = on; holds = law whole after c.push.new.self.items (past ++ on.deeds) on.run_on }
+
+pub returns-in_err-make_room-clause-leaves : goal.returns-in_err-make_room-clause-leaves
+returns-in_err-make_room-clause-leaves g c = leaves_still g.D.DeskStore.is_clean g.S.SiteStore.is_clean g.D.DeskStore.is_sound g.S.SiteStore.is_sound g.D.DeskStore.refused g.S.SiteStore.refused c.args.self.now.machines

@@ -1,4 +1,5 @@
 -- Why `World::pass` meets its contract.
+use Rattle.world.proofs.Leaves.{leaves_still}
 use Rattle.std.proofs.Common.{subst, ◌∙◌, sym, inl}
 use Rattle.catalog.specs.Relation.{catalogue_of}
 use Rattle.world.specs.declared.event.Event.{Event}
@@ -41,3 +42,6 @@ returns-else-is_memory-clause-happens g c = λ whole past clean sound run.
     (passes_by db c.in_ok-again.again before after a b old.entries.items new.entries.items c.in-Err.fault (sym c.is_memory.ensures ∙ c.if-is_memory.false)
     (refused_soundly (OfStores D.is_clean S.is_clean new.machines × OfStores D.is_sound S.is_sound old.machines) db (with_counts before a) (with_counts after b) old.entries.items c.in_ok-again.again c.in-Err.fault (clean, sound) (c.in-Err.ensures.refused whole past run))
     (c.in-Err.ensures.err clean sound) c.in-Err.ensures.same)
+
+pub returns-in_err-again-clause-leaves : goal.returns-in_err-again-clause-leaves
+returns-in_err-again-clause-leaves g c = leaves_still g.D.DeskStore.is_clean g.S.SiteStore.is_clean g.D.DeskStore.is_sound g.S.SiteStore.is_sound g.D.DeskStore.refused g.S.SiteStore.refused c.args.self.now.machines

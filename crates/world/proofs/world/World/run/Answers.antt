@@ -99,3 +99,6 @@ returns-clause-all g c = λ whole past clean sound run.
     let events = c.args.events.now in
     let db = database (catalogue_of start.machines.desk.catalog) in
     subst (λ (es : List Event). Follows db es (counted D.kept S.kept D.refused S.refused start.machines) start.entries.items (counted D.kept S.kept D.refused S.refused mid.machines) mid.entries.items) (take_all c.loop-event.event-index events c.loop-event-test.false) (c.loop-event.invariant.2 whole past clean sound run).1
+
+pub returns-in-Err-clause-leaves : goal.returns-in-Err-clause-leaves
+returns-in-Err-clause-leaves g c = leaves_then g.D.DeskStore.is_clean g.S.SiteStore.is_clean g.D.DeskStore.is_sound g.S.SiteStore.is_sound g.D.DeskStore.refused g.S.SiteStore.refused c.args.self.now.machines c.loop-event.self.machines c.pass.new.self.machines c.loop-event.invariant.0 c.in-Err.ensures.leaves
