@@ -123,7 +123,7 @@ impl<D: DeskStore, S: SiteStore> World<D, S> {
         ensures entry { OnOk result ((entry : EntryNow) × ((entry.event ≡ event) × (self.new.entries.items ≡ self.old.entries.items ++ entry ∷ []))) }
         ensures unsent { result ≡ Err faults.Unsent → is_unsent self.old.machines.desk.catalog.0 self.old.entries.items event ≡ true }
         ensures nowhere { is_unsent self.old.machines.desk.catalog.0 self.old.entries.items event ≡ true → (result ≡ Err faults.Unsent) ⊎ (result ≡ Err (faults.Desk refusals.Memory)) }
-        ensures refused { (whole : Relations) (past : List (Deed (language (database (catalogue_of self.old.machines.desk.catalog))))) 
+        ensures refused { (whole : Relations) (past : List (Deed (language (database (catalogue_of self.old.machines.desk.catalog)))))
             → IsRun (database (catalogue_of self.old.machines.desk.catalog)) whole (held D.kept S.kept self.old.machines) self.old.entries.items past
             → IfErr result (IsRefusedFor (OfStores D.is_clean S.is_clean self.new.machines × OfStores D.is_sound S.is_sound self.old.machines) (database (catalogue_of self.old.machines.desk.catalog)) (counted D.kept S.kept D.refused S.refused self.old.machines) (counted D.kept S.kept D.refused S.refused self.new.machines) self.old.entries.items event) }
         ensures err { StaysOnErr (OfStores D.is_clean S.is_clean) (OfStores D.is_sound S.is_sound) (held D.kept S.kept) self.old.machines self.new.machines result }

@@ -49,9 +49,10 @@ loop-event-preserved g c =
           let sound_mid = all.0.sound clean_mid sound in
           let first = counted D.kept S.kept D.refused S.refused start.machines in
           let last = counted D.kept S.kept D.refused S.refused now.machines in
-          let further = follows_more db (take i events) what first (counted D.kept S.kept D.refused S.refused mid.machines) last start.entries.items mid.entries.items now.entries.items so.1 (happened whole (past ++ so.0.deeds) clean sound_mid so.0.run_on) in
-          (runs_further db whole (held D.kept S.kept mid.machines) (held D.kept S.kept now.machines) mid.entries.items now.entries.items past so.0 (passed whole (past ++ so.0.deeds) clean sound_mid so.0.run_on),
-          subst (λ es. Follows db es first start.entries.items last now.entries.items) (sym one_more) further),
+          let further = follows_more db (take i events) what first (counted D.kept S.kept D.refused S.refused mid.machines) last start.entries.items mid.entries.items now.entries.items so.1 (happened whole (past ++ so.0.deeds) clean sound_mid so.0.run_on) in (
+            runs_further db whole (held D.kept S.kept mid.machines) (held D.kept S.kept now.machines) mid.entries.items now.entries.items past so.0 (passed whole (past ++ so.0.deeds) clean sound_mid so.0.run_on),
+            subst (λ es. Follows db es first start.entries.items last now.entries.items) (sym one_more) further,
+          ),
     )
 
 pub returns-in-Err-clause-runs : goal.returns-in-Err-clause-runs
