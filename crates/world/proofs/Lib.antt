@@ -23,6 +23,7 @@ pub mod Heard
 pub mod BaseOpened
 pub mod InTurn
 pub mod InSerial
+pub mod Refusals
 pub mod Follow
 pub mod Reasoned
 pub mod Counting

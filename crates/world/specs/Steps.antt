@@ -6,11 +6,8 @@ use Rattle.catalog.specs.Relation.{catalogue_of}
 use Rattle.protocol.specs.Desk.{Deed}
 use Rattle.desk.specs.declared.refusal.Refusal.TheVariants as refusals
 use Rattle.desk.specs.Database.{Database, language}
-use Rattle.desk.specs.State.{table_of}
-use Rattle.world.specs.declared.event.Call.{Call}
 use Rattle.world.specs.declared.event.Entry.{Entry}
 use Rattle.world.specs.declared.event.Event as events
-use Rattle.world.specs.declared.event.Event.TheVariants as event
 use Rattle.world.specs.declared.fault.Fault as faults
 use Rattle.world.specs.declared.fault.Fault.TheVariants as fault
 use Rattle.world.specs.declared.machines.Machines as code
@@ -18,7 +15,7 @@ use Rattle.world.specs.declared.world.World as code_world
 use Rattle.world.specs.Base.{database}
 use Rattle.world.specs.Events.{is_unsent}
 use Rattle.world.specs.Machines.{Machines}
-use Rattle.world.specs.Refused.{IsToldOf}
+use Rattle.world.specs.Refused.{IsRefusedFor}
 use Rattle.world.specs.Runs.{GoesOn, IsRun}
 
 -- the entry or the fault that is answered
@@ -30,11 +27,12 @@ answer_of (Err told) = Err told.now
 abbrev pub based : {D S : Type 0} → code_world.World D S → Database
 based world = database (catalogue_of world.machines.desk.catalog)
 
--- IsClean, IsSound: that no store of the machines failed on its own, and that each is sound; hold: what the machines hold. An event that
+-- IsClean, IsSound: that no store of the machines failed on its own, and that each is sound; hold: what the machines hold; count: so, with how often the
+-- media have refused. An event that
 -- happens has an entry, the last one, which is answered; the run goes on, and the protocol's invariant holds in the world that it leads to. One
--- that is refused changes nothing: no letter has the number or no site the name, exactly where that is told, or the coordinator refuses the
--- call as the protocol does, or memory ran out, or a machine met a limit or its store's fault.
-pub record Steps {D S : Type 0} (IsClean IsSound : code.Machines D S → Type 0) (hold : code.Machines D S → Machines) (what : events.Event) (answer : Result Entry faults.Fault) (old new : code_world.World D S) : Type 0 where
+-- that is refused changes nothing: no letter has the number or no site the name, exactly where that is told, or memory ran out, or the coordinator refuses the
+-- call as the protocol does, or the letter's machine is at a limit with it, or a restart is of the last life, or a store refused.
+pub record Steps {D S : Type 0} (IsClean IsSound : code.Machines D S → Type 0) (hold count : code.Machines D S → Machines) (what : events.Event) (answer : Result Entry faults.Fault) (old new : code_world.World D S) : Type 0 where
   pub clean : IsClean new.machines → IsClean old.machines
   pub sound : IsClean new.machines → IsSound old.machines → IsSound new.machines
   pub catalog : new.machines.desk.catalog ≡ old.machines.desk.catalog
@@ -43,7 +41,7 @@ pub record Steps {D S : Type 0} (IsClean IsSound : code.Machines D S → Type 0)
       → IsRun (based old) whole (hold old.machines) old.entries.items past → OnOk answer (GoesOn (based old) whole (hold new.machines) new.entries.items past)
   pub unsent : answer ≡ Err fault.Unsent → is_unsent old.machines.desk.catalog.0 old.entries.items what ≡ true
   pub nowhere : is_unsent old.machines.desk.catalog.0 old.entries.items what ≡ true → (answer ≡ Err fault.Unsent) ⊎ (answer ≡ Err (fault.Desk refusals.Memory))
-  pub refused : (whole : Relations) (past : List (Deed (language (based old)))) (asked : Call) → IsRun (based old) whole (hold old.machines) old.entries.items past → what ≡ event.Call asked
-      → IfErr answer (λ why. (why ≡ fault.Desk refusals.Memory) ⊎ IsToldOf (based old) (table_of old.machines.desk.present) asked why)
+  pub refused : (whole : Relations) (past : List (Deed (language (based old)))) → IsRun (based old) whole (hold old.machines) old.entries.items past
+      → IfErr answer (IsRefusedFor (IsClean new.machines × IsSound old.machines) (based old) (count old.machines) (count new.machines) old.entries.items what)
   pub err : IsClean new.machines → IsSound old.machines → OnErr answer (hold new.machines ≡ hold old.machines)
   pub same : OnErr answer (new.entries.items ≡ old.entries.items)

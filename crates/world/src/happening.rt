@@ -10,10 +10,9 @@ ghost use Rattle.protocol.specs.Desk.{Deed};
 ghost use Rattle.desk.specs.Database.{Database, language};
 ghost use Rattle.desk.specs.OfCatalogue.{IsOfCatalogue};
 ghost use Rattle.world.specs.Frame.{LeavesMachines, StaysOnErr};
-ghost use Rattle.world.specs.Held.{OfStores, held};
+ghost use Rattle.world.specs.Held.{OfStores, counted, held};
 ghost use Rattle.desk.specs.State.{table_of};
 ghost use Rattle.desk.specs.declared.refusal.Refusal.TheVariants as refusals;
-ghost use Rattle.world.specs.declared.event.Call.{Call as CallNow};
 ghost use Rattle.world.specs.declared.event.Entry.{Entry as EntryNow};
 ghost use Rattle.world.specs.declared.event.Event.{Event as EventNow};
 ghost use Rattle.world.specs.declared.event.Event.TheVariants as events;
@@ -21,7 +20,7 @@ ghost use Rattle.world.specs.declared.fault.Fault.TheVariants as faults;
 ghost use Rattle.world.specs.Events.{is_nowhere, is_unsent};
 ghost use Rattle.world.specs.Happening.{IsAtSite, told_by_desk};
 ghost use Rattle.world.specs.Machines.{AreFit, is_letter};
-ghost use Rattle.world.specs.Refused.{IsRefused, IsToldOf};
+ghost use Rattle.world.specs.Refused.{IsRefused, IsRefusedFor};
 ghost use Rattle.world.specs.Runs.{IsRun, RunsOn, entry_of};
 ghost use Rattle.world.specs.Seated.{place_of};
 
@@ -69,6 +68,8 @@ fn deliver<D: DeskStore, S: SiteStore>(
         → IsRun db whole (held D.kept S.kept machines.old) log.now.items past → IfOk result (λ out. RunsOn db whole (held D.kept S.kept machines.new) (log.now.items ++ entry_of (events.Deliver number kept) out ∷ []) past) }
     ensures unsent { result ≡ Err faults.Unsent → is_unsent machines.old.desk.catalog.0 log.now.items (events.Deliver number kept) ≡ true }
     ensures nowhere { is_unsent machines.old.desk.catalog.0 log.now.items (events.Deliver number kept) ≡ true → result ≡ Err faults.Unsent }
+    ensures refused { (db : Database) → IsOfCatalogue db → db.catalogue ≡ catalogue_of machines.old.desk.catalog → AreFit db (held D.kept S.kept machines.old)
+        → IfErr result (IsRefusedFor (OfStores D.is_clean S.is_clean machines.new × OfStores D.is_sound S.is_sound machines.old) db (counted D.kept S.kept D.refused S.refused machines.old) (counted D.kept S.kept D.refused S.refused machines.new) log.now.items (events.Deliver number kept)) }
     ensures err { StaysOnErr (OfStores D.is_clean S.is_clean) (OfStores D.is_sound S.is_sound) (held D.kept S.kept) machines.old machines.new result }
 {
     let Some(letter) = log.letter(number) else {
@@ -114,6 +115,8 @@ fn happen_at<D: DeskStore, S: SiteStore>(
         → IsAtSite what kept at → IsRun db whole (held D.kept S.kept machines.old) entries past → IfOk result (λ out. RunsOn db whole (held D.kept S.kept machines.new) (entries ++ entry_of at out ∷ []) past) }
     ensures unsent { result ≡ Err faults.Unsent → is_nowhere machines.old.desk.catalog.0 (place_of what) ≡ true }
     ensures nowhere { is_nowhere machines.old.desk.catalog.0 (place_of what) ≡ true → result ≡ Err faults.Unsent }
+    ensures refused { (db : Database) (entries : List EntryNow) (at : EventNow) → IsOfCatalogue db → db.catalogue ≡ catalogue_of machines.old.desk.catalog → AreFit db (held D.kept S.kept machines.old) → IsAtSite what kept at
+        → IfErr result (IsRefusedFor (OfStores D.is_clean S.is_clean machines.new × OfStores D.is_sound S.is_sound machines.old) db (counted D.kept S.kept D.refused S.refused machines.old) (counted D.kept S.kept D.refused S.refused machines.new) entries at) }
     ensures err { StaysOnErr (OfStores D.is_clean S.is_clean) (OfStores D.is_sound S.is_sound) (held D.kept S.kept) machines.old machines.new result }
 {
     if !has_site(machines.desk.catalog(), what.site()) {
@@ -136,8 +139,8 @@ pub(crate) fn happen<D: DeskStore, S: SiteStore>(
         → IsRun db whole (held D.kept S.kept machines.old) log.now.items past → IfOk result (λ out. RunsOn db whole (held D.kept S.kept machines.new) (log.now.items ++ entry_of event.now out ∷ []) past) }
     ensures unsent { result ≡ Err faults.Unsent → is_unsent machines.old.desk.catalog.0 log.now.items event.now ≡ true }
     ensures nowhere { is_unsent machines.old.desk.catalog.0 log.now.items event.now ≡ true → (result ≡ Err faults.Unsent) ⊎ (result ≡ Err (faults.Desk refusals.Memory)) }
-    ensures refused { (db : Database) (asked : CallNow) → IsOfCatalogue db → db.catalogue ≡ catalogue_of machines.old.desk.catalog → AreFit db (held D.kept S.kept machines.old) → event.now ≡ events.Call asked
-        → IfErr result (λ fault. (fault ≡ faults.Desk refusals.Memory) ⊎ IsToldOf db (table_of machines.old.desk.present) asked fault) }
+    ensures refused { (db : Database) → IsOfCatalogue db → db.catalogue ≡ catalogue_of machines.old.desk.catalog → AreFit db (held D.kept S.kept machines.old)
+        → IfErr result (IsRefusedFor (OfStores D.is_clean S.is_clean machines.new × OfStores D.is_sound S.is_sound machines.old) db (counted D.kept S.kept D.refused S.refused machines.old) (counted D.kept S.kept D.refused S.refused machines.new) log.now.items event.now) }
     ensures err { StaysOnErr (OfStores D.is_clean S.is_clean) (OfStores D.is_sound S.is_sound) (held D.kept S.kept) machines.old machines.new result }
 {
     match event {

@@ -40,7 +40,7 @@ impl<D: DeskStore, S: SiteStore> Machines<D, S> {
     ghost use Rattle.protocol.specs.Course.{passes};
     ghost use Rattle.desk.specs.Database.{sent};
     ghost use Rattle.world.specs.Reasons.{CallKept, DeskTells, SiteTells, Tells};
-    ghost use Rattle.world.specs.Refused.{IsRefused};
+    ghost use Rattle.world.specs.Refused.{DeskRestartTells, IsRefused, PlaceTells};
     ghost use Rattle.protocol.specs.World.{begins, desk_restarts};
     ghost use Rattle.desk.specs.Calls.{IsOver};
     ghost use Rattle.desk.specs.Database.{Database, language};
@@ -114,6 +114,7 @@ impl<D: DeskStore, S: SiteStore> Machines<D, S> {
         ensures ok { (db : Database) → OfStores D.is_clean S.is_clean self.new → OfStores D.is_sound S.is_sound self.old → AreFit db (held D.kept S.kept self.old)
             → IfOk result (λ out. Leads db desk_restarts (held D.kept S.kept self.old) (held D.kept S.kept self.new) out.letters out.replies) }
         ensures called { OnOk result (kept ≡ true) }
+        ensures told { IfErr result (DeskRestartTells (OfStores D.is_clean S.is_clean self.new × OfStores D.is_sound S.is_sound self.old) (HaveRefused (counts D.refused S.refused self.old) (counts D.refused S.refused self.new)) kept (D.kept self.old.desk.store)) }
         ensures err { StaysOnErr (OfStores D.is_clean S.is_clean) (OfStores D.is_sound S.is_sound) (held D.kept S.kept) self.old self.new result }
     {
         self.desk.restart_kept(kept)
@@ -189,6 +190,8 @@ impl<D: DeskStore, S: SiteStore> Machines<D, S> {
         ensures vote { (letter : LetterNow) (seat : Seat) → what ≡ things.Take letter → seat_of letter.site (held D.kept S.kept self.old).seats ≡ Some seat → AsksToKeep seat.table letter.body
             → IfOk result (λ out. out.kept ≡ false → (kept ≡ false) ⊎ HaveRefused (counts D.refused S.refused self.old) (counts D.refused S.refused self.new)) }
         ensures called { (site : List ℕ) → what ≡ things.Restart site → OnOk result (kept ≡ true) }
+        ensures fails { (seat : Seat) → seat_of (place_of what) (held D.kept S.kept self.old).seats ≡ Some seat
+            → IfErr result (PlaceTells (OfStores D.is_clean S.is_clean self.new × OfStores D.is_sound S.is_sound self.old) (HaveRefused (counts D.refused S.refused self.old) (counts D.refused S.refused self.new)) what kept seat) }
         ensures blames { (letter : LetterNow) → what ≡ things.Take letter → kept ≡ true → OfStores D.is_clean S.is_clean self.new → OfStores D.is_sound S.is_sound self.old
             → IfErr result (λ fault. IfSome (stop_of (faults.Site fault)) (StopsFor (counts D.refused S.refused self.old) (counts D.refused S.refused self.new))) }
         ensures err { StaysOnErr (OfStores D.is_clean S.is_clean) (OfStores D.is_sound S.is_sound) (held D.kept S.kept) self.old self.new result }

@@ -12,6 +12,7 @@ ghost use Rattle.world.specs.declared.doing.Doing.TheVariants as things;
 ghost use Rattle.world.specs.declared.fault.Fault.TheVariants as faults;
 ghost use Rattle.std.specs.List.{AllByRecursion};
 ghost use Rattle.world.specs.Reasons.{SiteTells};
+ghost use Rattle.world.specs.Refused.{PlaceTells};
 ghost use Rattle.world.specs.Seats.{AreSeated, IsSeated, Seat, is_called, seat_of};
 ghost use Rattle.world.specs.Seated.{SeatDoes, SomeSeatDoes, place_of, seat_from, seats_in};
 ghost use Rattle.world.specs.Stopping.{StopsFor};
@@ -46,6 +47,7 @@ fn do_one<S: SiteStore>(
         → IfOk result (λ letters. SeatDoes what (seat_from S.kept site.old) (seat_from S.kept site.new) letters.items) }
     ensures called { (site : List ℕ) → what ≡ things.Restart site → OnOk result (kept ≡ true) }
     ensures told { (letter : LetterNow) → what ≡ things.Take letter → is_called letter.site (seat_from S.kept site.old) ≡ true → IfErr result (SiteTells (seat_from S.kept site.old) letter.body) }
+    ensures fails { IfErr result (PlaceTells (S.is_clean site.new.store × S.is_sound site.old.store) (HasRefused (S.refused site.old.store) (S.refused site.new.store)) what kept (seat_from S.kept site.old)) }
     ensures err { S.is_clean site.new.store → S.is_sound site.old.store → OnErr result (seat_from S.kept site.new ≡ seat_from S.kept site.old) }
 {
     match what {
@@ -81,6 +83,8 @@ fn do_at<S: SiteStore>(
         → IfOk result (λ letters. SomeSeatDoes what seat (seats_in S.kept sites.old) (seats_in S.kept sites.new) letters.items) }
     ensures called { (site : List ℕ) → what ≡ things.Restart site → OnOk result (kept ≡ true) }
     ensures told { (letter : LetterNow) (seat : Seat) → what ≡ things.Take letter → seat_of letter.site (seats_in S.kept sites.old) ≡ Some seat → IfErr result (SiteTells seat letter.body) }
+    ensures fails { (seat : Seat) → seat_of (place_of what) (seats_in S.kept sites.old) ≡ Some seat
+        → IfErr result (PlaceTells (AllByRecursion (λ site. S.is_clean site.store) sites.new × AllByRecursion (λ site. S.is_sound site.store) sites.old) (HaveRefused (counts_of S.refused sites.old) (counts_of S.refused sites.new)) what kept seat) }
     ensures err { AllByRecursion (λ site. S.is_clean site.store) sites.new → AllByRecursion (λ site. S.is_sound site.store) sites.old → OnErr result (seats_in S.kept sites.new ≡ seats_in S.kept sites.old) }
 {
     let Some((site, rest)) = sites.split_first_mut() else {
@@ -108,6 +112,8 @@ pub(crate) fn do_among<S: SiteStore>(
         → IfOk result (λ letters. SomeSeatDoes what seat (seats_in S.kept sites.old.items) (seats_in S.kept sites.new.items) letters.items) }
     ensures called { (site : List ℕ) → what ≡ things.Restart site → OnOk result (kept ≡ true) }
     ensures told { (letter : LetterNow) (seat : Seat) → what ≡ things.Take letter → seat_of letter.site (seats_in S.kept sites.old.items) ≡ Some seat → IfErr result (SiteTells seat letter.body) }
+    ensures fails { (seat : Seat) → seat_of (place_of what) (seats_in S.kept sites.old.items) ≡ Some seat
+        → IfErr result (PlaceTells (AllByRecursion (λ site. S.is_clean site.store) sites.new.items × AllByRecursion (λ site. S.is_sound site.store) sites.old.items) (HaveRefused (counts_of S.refused sites.old.items) (counts_of S.refused sites.new.items)) what kept seat) }
     ensures err { AllByRecursion (λ site. S.is_clean site.store) sites.new.items → AllByRecursion (λ site. S.is_sound site.store) sites.old.items → OnErr result (seats_in S.kept sites.new.items ≡ seats_in S.kept sites.old.items) }
 {
     do_at(alloc, sites.as_mut_slice(), what, kept)

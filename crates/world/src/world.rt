@@ -2,7 +2,7 @@
 
 ghost use Rattle.std.specs.Borrow.{follows_so, sem};
 ghost use mathlib.Core.Option.{none};
-ghost use Rattle.std.specs.Prelude.{⊤, ◌≡◌, ◌≢◌, ◌⊎◌, ◌++◌, ◌∷◌, [], true, List, Err, OnOk, OnErr, IfOk, IfErr, map, slice_get, take};
+ghost use Rattle.std.specs.Prelude.{⊤, ◌≡◌, ◌≢◌, ◌⊎◌, ◌++◌, ◌∷◌, [], true, List, Err, OnOk, OnErr, IfOk, IfErr, length, map, slice_get, take, ◌<◌};
 ghost use Rattle.std.specs.Option.{option_copied, option_map};
 ghost use Rattle.meaning.specs.Whole.{FitsSchema, Relations};
 ghost use Rattle.catalog.specs.FragmentLeaf.{schemas_of};
@@ -12,22 +12,19 @@ ghost use Rattle.store.specs.PlainDesk.{kept_of as desk_kept};
 ghost use Rattle.store.specs.PlainSite.{IsSound, kept_of};
 ghost use Rattle.desk.specs.Database.{language};
 ghost use Rattle.world.specs.Base.{database};
-ghost use Rattle.desk.specs.State.{table_of};
 ghost use Rattle.desk.specs.declared.refusal.Refusal.TheVariants as refusals;
-ghost use Rattle.world.specs.declared.event.Call.{Call as CallNow};
 ghost use Rattle.world.specs.declared.event.Entry.{Entry as EntryNow};
-ghost use Rattle.world.specs.declared.event.Event.TheVariants as events;
 ghost use Rattle.world.specs.declared.fault.Fault.TheVariants as faults;
 ghost use Rattle.world.specs.Events.{is_unsent};
 ghost use Rattle.world.specs.Counted.{NoFewer, counts};
 ghost use Rattle.world.specs.Fault.{FailsFor, is_memory};
-ghost use Rattle.world.specs.Following.{Follows, Passes};
+ghost use Rattle.world.specs.Following.{Follows, FollowsAtLeast, Happens};
 ghost use Rattle.world.specs.Frame.{LeavesMachines, StaysAsItIs, StaysOnErr};
-ghost use Rattle.world.specs.Held.{OfStores, held};
+ghost use Rattle.world.specs.Held.{OfStores, counted, held};
 ghost use Rattle.world.specs.History.{AnswerInTurn, committed_of};
 ghost use Rattle.world.specs.Machines.{AreFit};
 ghost use Rattle.world.specs.Posted.{letters_in};
-ghost use Rattle.world.specs.Refused.{IsToldOf};
+ghost use Rattle.world.specs.Refused.{IsRefusedFor};
 ghost use Rattle.world.specs.Runs.{GoesOn, IsRun, RunsOn};
 ghost use Rattle.world.specs.Steps.{Steps, answer_of};
 ghost use Rattle.world.specs.contracts.world.World.{the_row};
@@ -100,7 +97,7 @@ impl<D: DeskStore, S: SiteStore> World<D, S> {
     /// where no letter has the number, or no site the name; else why the machine refused, or want of memory.
     pub fn step(&mut self, event: Event) -> Result<&Entry, &Fault>
         ensures* steps { sem 𝓛 (follows_so (the_row D.row S.row) (the_row D.row S.row) self.entry.ghost_name none (λ _ _. ⊤)
-            (λ new. Steps (OfStores D.is_clean S.is_clean) (OfStores D.is_sound S.is_sound) (held D.kept S.kept) event (answer_of result) self.old new)) }
+            (λ new. Steps (OfStores D.is_clean S.is_clean) (OfStores D.is_sound S.is_sound) (held D.kept S.kept) (counted D.kept S.kept D.refused S.refused) event (answer_of result) self.old new)) }
         ensures event { IfOk result (λ entry. entry.now.event ≡ event) }
     {
         match self.happens(event) {
@@ -126,9 +123,9 @@ impl<D: DeskStore, S: SiteStore> World<D, S> {
         ensures entry { OnOk result ((entry : EntryNow) × ((entry.event ≡ event) × (self.new.entries.items ≡ self.old.entries.items ++ entry ∷ []))) }
         ensures unsent { result ≡ Err faults.Unsent → is_unsent self.old.machines.desk.catalog.0 self.old.entries.items event ≡ true }
         ensures nowhere { is_unsent self.old.machines.desk.catalog.0 self.old.entries.items event ≡ true → (result ≡ Err faults.Unsent) ⊎ (result ≡ Err (faults.Desk refusals.Memory)) }
-        ensures refused { (whole : Relations) (past : List (Deed (language (database (catalogue_of self.old.machines.desk.catalog))))) (asked : CallNow)
-            → IsRun (database (catalogue_of self.old.machines.desk.catalog)) whole (held D.kept S.kept self.old.machines) self.old.entries.items past → event ≡ events.Call asked
-            → IfErr result (λ fault. (fault ≡ faults.Desk refusals.Memory) ⊎ IsToldOf (database (catalogue_of self.old.machines.desk.catalog)) (table_of self.old.machines.desk.present) asked fault) }
+        ensures refused { (whole : Relations) (past : List (Deed (language (database (catalogue_of self.old.machines.desk.catalog)))))
+            → IsRun (database (catalogue_of self.old.machines.desk.catalog)) whole (held D.kept S.kept self.old.machines) self.old.entries.items past
+            → IfErr result (IsRefusedFor (OfStores D.is_clean S.is_clean self.new.machines × OfStores D.is_sound S.is_sound self.old.machines) (database (catalogue_of self.old.machines.desk.catalog)) (counted D.kept S.kept D.refused S.refused self.old.machines) (counted D.kept S.kept D.refused S.refused self.new.machines) self.old.entries.items event) }
         ensures err { StaysOnErr (OfStores D.is_clean S.is_clean) (OfStores D.is_sound S.is_sound) (held D.kept S.kept) self.old.machines self.new.machines result }
         ensures same { OnErr result (self.new.entries.items ≡ self.old.entries.items) }
     {
@@ -155,11 +152,12 @@ impl<D: DeskStore, S: SiteStore> World<D, S> {
         ensures all { (whole : Relations) (past : List (Deed (language (database (catalogue_of self.old.machines.desk.catalog)))))
             → OfStores D.is_clean S.is_clean self.new.machines → OfStores D.is_sound S.is_sound self.old.machines
             → IsRun (database (catalogue_of self.old.machines.desk.catalog)) whole (held D.kept S.kept self.old.machines) self.old.entries.items past
-            → OnOk result (Follows (database (catalogue_of self.old.machines.desk.catalog)) events.now (held D.kept S.kept self.old.machines) self.old.entries.items (held D.kept S.kept self.new.machines) self.new.entries.items) }
+            → OnOk result (Follows (database (catalogue_of self.old.machines.desk.catalog)) events.now (counted D.kept S.kept D.refused S.refused self.old.machines) self.old.entries.items (counted D.kept S.kept D.refused S.refused self.new.machines) self.new.entries.items) }
         ensures some { (whole : Relations) (past : List (Deed (language (database (catalogue_of self.old.machines.desk.catalog)))))
             → OfStores D.is_clean S.is_clean self.new.machines → OfStores D.is_sound S.is_sound self.old.machines
             → IsRun (database (catalogue_of self.old.machines.desk.catalog)) whole (held D.kept S.kept self.old.machines) self.old.entries.items past
-            → IfErr result (λ done. Follows (database (catalogue_of self.old.machines.desk.catalog)) (take done events.now) (held D.kept S.kept self.old.machines) self.old.entries.items (held D.kept S.kept self.new.machines) self.new.entries.items) }
+            → IfErr result (λ done. FollowsAtLeast (database (catalogue_of self.old.machines.desk.catalog)) (take done events.now) (counted D.kept S.kept D.refused S.refused self.old.machines) self.old.entries.items (counted D.kept S.kept D.refused S.refused self.new.machines) self.new.entries.items) }
+        ensures few { IfErr result (λ done. done < length events.now) }
     {
         let mut done = 0;
         for event in events {
@@ -174,10 +172,14 @@ impl<D: DeskStore, S: SiteStore> World<D, S> {
     /// An event happens, or is refused. Without memory nothing has changed.
     fn pass(&mut self, event: &Event) -> Result<(), Memory>
         ensures leaves { LeavesMachines D.is_clean S.is_clean D.is_sound S.is_sound D.refused S.refused self.old.machines self.new.machines }
-        ensures ok { (whole : Relations) (past : List (Deed (language (database (catalogue_of self.old.machines.desk.catalog)))))
+        ensures runs { (whole : Relations) (past : List (Deed (language (database (catalogue_of self.old.machines.desk.catalog)))))
             → OfStores D.is_clean S.is_clean self.new.machines → OfStores D.is_sound S.is_sound self.old.machines
             → IsRun (database (catalogue_of self.old.machines.desk.catalog)) whole (held D.kept S.kept self.old.machines) self.old.entries.items past
-            → OnOk result (Passes (database (catalogue_of self.old.machines.desk.catalog)) whole event.now (held D.kept S.kept self.old.machines) self.old.entries.items (held D.kept S.kept self.new.machines) self.new.entries.items past) }
+            → OnOk result (RunsOn (database (catalogue_of self.old.machines.desk.catalog)) whole (held D.kept S.kept self.new.machines) self.new.entries.items past) }
+        ensures happens { (whole : Relations) (past : List (Deed (language (database (catalogue_of self.old.machines.desk.catalog)))))
+            → OfStores D.is_clean S.is_clean self.new.machines → OfStores D.is_sound S.is_sound self.old.machines
+            → IsRun (database (catalogue_of self.old.machines.desk.catalog)) whole (held D.kept S.kept self.old.machines) self.old.entries.items past
+            → OnOk result (Happens (database (catalogue_of self.old.machines.desk.catalog)) event.now (counted D.kept S.kept D.refused S.refused self.old.machines) self.old.entries.items (counted D.kept S.kept D.refused S.refused self.new.machines) self.new.entries.items) }
         ensures err { StaysOnErr (OfStores D.is_clean S.is_clean) (OfStores D.is_sound S.is_sound) (held D.kept S.kept) self.old.machines self.new.machines result }
         ensures same { OnErr result (self.new.entries.items ≡ self.old.entries.items) }
     {

@@ -1,13 +1,15 @@
 -- Why `happen` meets its contract.
 use Rattle.world.proofs.Leaves.{leaves_still}
-use Rattle.std.proofs.Common.{◌++◌, ◌∷◌, [], refl, sym, ap, subst, true, IfOk}
+use Rattle.std.proofs.Common.{ℕ, List, ◌++◌, ◌∷◌, [], refl, sym, ap, subst, true, IfErr, IfOk}
 use Rattle.protocol.specs.World.{Desk_restarts, desk_restarts}
 use Rattle.world.specs.declared.event.Event as events
 use Rattle.world.specs.declared.event.Event.TheVariants as event
-use Rattle.world.specs.Held.{held}
+use Rattle.world.specs.Held.{OfStores, counted, held}
 use Rattle.world.specs.Machines.{world_of}
+use Rattle.world.specs.Refused.{IsRefusedFor}
 use Rattle.world.specs.Runs.{RunsOn, entry_of}
 use Rattle.world.proofs.Moving.{if_ok_too}
+use Rattle.world.proofs.Refusals.{by_desk_err, call_refused, desk_refused}
 use Rattle.world.proofs.Running.{by_desk_ok, runs_on}
 use Rattle.world.proofs.Told.{desk_restarts_silent, silent_step}
 use Rattle.world.proofs.happening.happen.Goals as goal
@@ -30,6 +32,84 @@ returns-in-DeskRestarts-clause-ok g c = λ db whole past of is clean sound so.
     (by_desk_ok (λ out. RunsOn db whole after (entries ++ entry_of what out ∷ []) past) c.restart.result c.by_desk-in-DeskRestarts.result c.by_desk-in-DeskRestarts.ensures
     (if_ok_too c.restart.result (λ out kept_so leads. runs_on db whole before after entries past what out desk_restarts (Desk_restarts true) so leads refl (ap Desk_restarts (sym kept_so))
     (silent_step db before after out.letters out.replies what desk_restarts leads refl refl (desk_restarts_silent (world_of db before [] []) refl))) c.restart.ensures.called (c.restart.ensures.ok db clean sound so.fit)))
+
+pub returns-in-Call-clause-refused : goal.returns-in-Call-clause-refused
+returns-in-Call-clause-refused g c = λ db of is fit.
+    let D = g.D.DeskStore in
+    let S = g.S.SiteStore in
+    let old = c.args.machines.now in
+    let new = c.call.new.machines in
+    let sound = OfStores D.is_clean S.is_clean new × OfStores D.is_sound S.is_sound old in
+    let before = counted D.kept S.kept D.refused S.refused old in
+    let after = counted D.kept S.kept D.refused S.refused new in
+    subst (λ (what : events.Event). IfErr c.by_desk.result (IsRefusedFor sound db before after c.args.log.now.items what)) (sym c.in-Call.is)
+    (by_desk_err (IsRefusedFor sound db before after c.args.log.now.items (event.Call c.in-Call.asked)) c.call.result c.by_desk.result c.by_desk.ensures
+    (call_refused sound db before after c.args.log.now.items c.call.result c.in-Call.asked (c.call.ensures.refused db of is fit)))
+
+pub returns-in-DeskRestarts-clause-refused : goal.returns-in-DeskRestarts-clause-refused
+returns-in-DeskRestarts-clause-refused g c = λ db of is fit.
+    let D = g.D.DeskStore in
+    let S = g.S.SiteStore in
+    let old = c.args.machines.now in
+    let new = c.restart.new.self in
+    let sound = OfStores D.is_clean S.is_clean new × OfStores D.is_sound S.is_sound old in
+    let before = counted D.kept S.kept D.refused S.refused old in
+    let after = counted D.kept S.kept D.refused S.refused new in
+    let kept = c.in-DeskRestarts.kept in
+    subst (λ (what : events.Event). IfErr c.by_desk-in-DeskRestarts.result (IsRefusedFor sound db before after c.args.log.now.items what)) (sym c.in-DeskRestarts.is)
+    (by_desk_err (IsRefusedFor sound db before after c.args.log.now.items (event.DeskRestarts kept)) c.restart.result c.by_desk-in-DeskRestarts.result c.by_desk-in-DeskRestarts.ensures
+    (desk_refused sound db before after c.args.log.now.items c.restart.result kept c.restart.ensures.told))
+
+pub returns-in_ok-copy-in-SiteGivesUp-clause-ok : goal.returns-in_ok-copy-in-SiteGivesUp-clause-ok
+returns-in_ok-copy-in-SiteGivesUp-clause-ok g c = λ db whole past of is clean sound so.
+    let after = held g.D.DeskStore.kept g.S.SiteStore.kept c.happen_at.new.machines in
+    let entries = c.args.log.now.items in
+    subst (λ (what : events.Event). IfOk c.happen_at.result (λ out. RunsOn db whole after (entries ++ entry_of what out ∷ []) past)) (sym c.in-SiteGivesUp.is)
+    (c.happen_at.ensures.ok db whole entries (event.SiteGivesUp c.in-SiteGivesUp.site c.in-SiteGivesUp.ticket) past of is clean sound (ap (λ (site : List ℕ). event.SiteGivesUp site c.in-SiteGivesUp.ticket) (sym c.in_ok-copy-in-SiteGivesUp.ensures)) so)
+
+pub returns-in_ok-copy-in-SiteGivesUp-clause-refused : goal.returns-in_ok-copy-in-SiteGivesUp-clause-refused
+returns-in_ok-copy-in-SiteGivesUp-clause-refused g c = λ db of is fit.
+    let D = g.D.DeskStore in
+    let S = g.S.SiteStore in
+    let old = c.args.machines.now in
+    let new = c.happen_at.new.machines in
+    let entries = c.args.log.now.items in
+    subst (λ (what : events.Event). IfErr c.happen_at.result (IsRefusedFor (OfStores D.is_clean S.is_clean new × OfStores D.is_sound S.is_sound old) db (counted D.kept S.kept D.refused S.refused old) (counted D.kept S.kept D.refused S.refused new) entries what)) (sym c.in-SiteGivesUp.is)
+    (c.happen_at.ensures.refused db entries (event.SiteGivesUp c.in-SiteGivesUp.site c.in-SiteGivesUp.ticket) of is fit (ap (λ (site : List ℕ). event.SiteGivesUp site c.in-SiteGivesUp.ticket) (sym c.in_ok-copy-in-SiteGivesUp.ensures)))
+
+pub returns-in_ok-copy-in-SiteInquires-clause-ok : goal.returns-in_ok-copy-in-SiteInquires-clause-ok
+returns-in_ok-copy-in-SiteInquires-clause-ok g c = λ db whole past of is clean sound so.
+    let after = held g.D.DeskStore.kept g.S.SiteStore.kept c.happen_at-in-SiteInquires.new.machines in
+    let entries = c.args.log.now.items in
+    subst (λ (what : events.Event). IfOk c.happen_at-in-SiteInquires.result (λ out. RunsOn db whole after (entries ++ entry_of what out ∷ []) past)) (sym c.in-SiteInquires.is)
+    (c.happen_at-in-SiteInquires.ensures.ok db whole entries (event.SiteInquires c.in-SiteInquires.site) past of is clean sound (ap (λ (site : List ℕ). event.SiteInquires site) (sym c.in_ok-copy-in-SiteInquires.ensures)) so)
+
+pub returns-in_ok-copy-in-SiteInquires-clause-refused : goal.returns-in_ok-copy-in-SiteInquires-clause-refused
+returns-in_ok-copy-in-SiteInquires-clause-refused g c = λ db of is fit.
+    let D = g.D.DeskStore in
+    let S = g.S.SiteStore in
+    let old = c.args.machines.now in
+    let new = c.happen_at-in-SiteInquires.new.machines in
+    let entries = c.args.log.now.items in
+    subst (λ (what : events.Event). IfErr c.happen_at-in-SiteInquires.result (IsRefusedFor (OfStores D.is_clean S.is_clean new × OfStores D.is_sound S.is_sound old) db (counted D.kept S.kept D.refused S.refused old) (counted D.kept S.kept D.refused S.refused new) entries what)) (sym c.in-SiteInquires.is)
+    (c.happen_at-in-SiteInquires.ensures.refused db entries (event.SiteInquires c.in-SiteInquires.site) of is fit (ap (λ (site : List ℕ). event.SiteInquires site) (sym c.in_ok-copy-in-SiteInquires.ensures)))
+
+pub returns-in_ok-copy-in-SiteRestarts-clause-ok : goal.returns-in_ok-copy-in-SiteRestarts-clause-ok
+returns-in_ok-copy-in-SiteRestarts-clause-ok g c = λ db whole past of is clean sound so.
+    let after = held g.D.DeskStore.kept g.S.SiteStore.kept c.happen_at-in-SiteRestarts.new.machines in
+    let entries = c.args.log.now.items in
+    subst (λ (what : events.Event). IfOk c.happen_at-in-SiteRestarts.result (λ out. RunsOn db whole after (entries ++ entry_of what out ∷ []) past)) (sym c.in-SiteRestarts.is)
+    (c.happen_at-in-SiteRestarts.ensures.ok db whole entries (event.SiteRestarts c.in-SiteRestarts.site c.in-SiteRestarts.kept) past of is clean sound (ap (λ (site : List ℕ). event.SiteRestarts site c.in-SiteRestarts.kept) (sym c.in_ok-copy-in-SiteRestarts.ensures)) so)
+
+pub returns-in_ok-copy-in-SiteRestarts-clause-refused : goal.returns-in_ok-copy-in-SiteRestarts-clause-refused
+returns-in_ok-copy-in-SiteRestarts-clause-refused g c = λ db of is fit.
+    let D = g.D.DeskStore in
+    let S = g.S.SiteStore in
+    let old = c.args.machines.now in
+    let new = c.happen_at-in-SiteRestarts.new.machines in
+    let entries = c.args.log.now.items in
+    subst (λ (what : events.Event). IfErr c.happen_at-in-SiteRestarts.result (IsRefusedFor (OfStores D.is_clean S.is_clean new × OfStores D.is_sound S.is_sound old) db (counted D.kept S.kept D.refused S.refused old) (counted D.kept S.kept D.refused S.refused new) entries what)) (sym c.in-SiteRestarts.is)
+    (c.happen_at-in-SiteRestarts.ensures.refused db entries (event.SiteRestarts c.in-SiteRestarts.site c.in-SiteRestarts.kept) of is fit (ap (λ (site : List ℕ). event.SiteRestarts site c.in-SiteRestarts.kept) (sym c.in_ok-copy-in-SiteRestarts.ensures)))
 
 pub returns-in_err-copy-in-SiteGivesUp-clause-leaves : goal.returns-in_err-copy-in-SiteGivesUp-clause-leaves
 returns-in_err-copy-in-SiteGivesUp-clause-leaves g c = leaves_still g.D.DeskStore.is_clean g.S.SiteStore.is_clean g.D.DeskStore.is_sound g.S.SiteStore.is_sound g.D.DeskStore.refused g.S.SiteStore.refused c.args.machines.now

@@ -11,6 +11,9 @@ use Rattle.world.proofs.Reasoned.{first_tells}
 use Rattle.std.specs.List.{AllByRecursion}
 use Rattle.world.specs.Stopping.{StopsFor}
 use Rattle.world.specs.Taking.{stop_of}
+use Rattle.world.proofs.Refusals.{first_fails, places_so}
+use Rattle.world.specs.Refused.{PlaceTells}
+use Rattle.store.specs.Fault.{HasRefused}
 use Rattle.world.proofs.Stops.{first_stops, other_stops}
 use Rattle.world.proofs.seats.+do_at.Goals as goal
 
@@ -109,3 +112,32 @@ returns-clause-blames g t c = λ letter is made clean sound.
     let there = subst (AllByRecursion (λ site. g.S.SiteStore.is_sound site.store)) c.in-Some.ensures.cases.0 sound in
     subst (λ all. IfErr c.do_one.result (λ told. IfSome (stop_of (fault.Site told)) (StopsFor (counts_of refused all) (counts_of refused (c.do_one.new.site ∷ rest))))) (sym c.in-Some.ensures.cases.0)
     (first_stops c.do_one.result (refused c.in-Some.site.now.store) (refused c.do_one.new.site.store) (counts_of refused rest) (counts_of refused rest) (c.do_one.ensures.blames letter is made clean.0 there.0))
+
+pub returns-then-not-is_called-clause-fails : goal.returns-then-not-is_called-clause-fails
+returns-then-not-is_called-clause-fails g t c = λ seat there.
+    let S = g.S.SiteStore in
+    let content = S.kept in
+    let refused = S.refused in
+    let site = c.in-Some.site.now in
+    let rest = c.in-Some.rest.now in
+    let new = c.do_at.new.sites in
+    let here : seat_of (place_of c.args.what) (seat_from content site ∷ seats_in content rest) ≡ Some seat = subst (λ all. seat_of (place_of c.args.what) (seats_in content all) ≡ Some seat) c.in-Some.ensures.cases.0 there in
+    let apart = ap (λ n. is_called n (seat_from content site)) (sym c.site.ensures) ∙ sym c.is_called.ensures ∙ c.if-not-is_called.true in
+    subst (λ all. IfErr c.do_at.result (PlaceTells (AllByRecursion (λ site. S.is_clean site.store) (site ∷ new) × AllByRecursion (λ site. S.is_sound site.store) all) (HaveRefused (counts_of refused all) (counts_of refused (site ∷ new))) c.args.what c.args.kept seat)) (sym c.in-Some.ensures.cases.0)
+    (places_so c.do_at.result (AllByRecursion (λ site. S.is_clean site.store) new × AllByRecursion (λ site. S.is_sound site.store) rest) (HaveRefused (counts_of refused rest) (counts_of refused new)) _ _ (λ so. (so.0.1, so.1.1)) (λ more. inr more) c.args.what c.args.kept seat
+    (c.do_at.ensures.fails seat (there_later (place_of c.args.what) (seat_from content site) seat (seats_in content rest) apart here)))
+
+pub returns-clause-fails : goal.returns-clause-fails
+returns-clause-fails g t c = λ seat there.
+    let S = g.S.SiteStore in
+    let content = S.kept in
+    let refused = S.refused in
+    let site = c.in-Some.site.now in
+    let rest = c.in-Some.rest.now in
+    let new = c.do_one.new.site in
+    let here : seat_of (place_of c.args.what) (seat_from content site ∷ seats_in content rest) ≡ Some seat = subst (λ all. seat_of (place_of c.args.what) (seats_in content all) ≡ Some seat) c.in-Some.ensures.cases.0 there in
+    let called = ap (λ n. is_called n (seat_from content site)) (sym c.site.ensures) ∙ sym c.is_called.ensures ∙ c.if-not-is_called.false in
+    let same = first_is (place_of c.args.what) (seat_from content site) seat (seats_in content rest) called here in
+    subst (λ all. IfErr c.do_one.result (PlaceTells (AllByRecursion (λ site. S.is_clean site.store) (new ∷ rest) × AllByRecursion (λ site. S.is_sound site.store) all) (HaveRefused (counts_of refused all) (counts_of refused (new ∷ rest))) c.args.what c.args.kept seat)) (sym c.in-Some.ensures.cases.0)
+    (places_so c.do_one.result (S.is_clean new.store × S.is_sound site.store) (HasRefused (refused site.store) (refused new.store)) _ _ (λ so. (so.0.0, so.1.0)) (λ more. inl more) c.args.what c.args.kept seat
+    (first_fails c.do_one.result _ _ c.args.what c.args.kept (seat_from content site) seat same c.do_one.ensures.fails))

@@ -1,8 +1,11 @@
 -- Why `do_one` meets its contract.
-use Rattle.std.proofs.Common.{refl}
+use Rattle.std.proofs.Common.{refl, subst, IfErr}
 use Rattle.world.proofs.Reasoned.{named_tells}
 use Rattle.world.proofs.Moving.{on_err, seat_same, unchanged}
+use Rattle.world.specs.Refused.{PlaceTells}
 use Rattle.world.specs.Seated.{seat_from}
+use Rattle.world.proofs.Refusals.{letter_fails, restart_fails}
+use Rattle.store.specs.Fault.{HasRefused}
 use Rattle.world.proofs.Stops.{site_stops}
 use Rattle.world.proofs.seats.do_one.Goals as goal
 
@@ -21,3 +24,21 @@ pub returns-in-Take-clause-blames : goal.returns-in-Take-clause-blames
 returns-in-Take-clause-blames g c = λ letter is made clean sound.
     let refused = g.S.SiteStore.refused in
     site_stops c.take_kept.result c.args.kept (refused c.args.site.now.store) (refused c.take_kept.new.self.store) made c.take_kept.ensures.fails.refusal (c.take_kept.ensures.fails.intact clean sound) c.take_kept.ensures.fails.plain
+
+pub returns-in-Take-clause-fails : goal.returns-in-Take-clause-fails
+returns-in-Take-clause-fails g c =
+    let S = g.S.SiteStore in
+    let old = c.args.site.now in
+    letter_fails c.take_kept.result (S.is_clean c.take_kept.new.self.store × S.is_sound old.store) (HasRefused (S.refused old.store) (S.refused c.take_kept.new.self.store)) c.args.what c.in-Take.letter c.args.kept (seat_from S.kept old) c.in-Take.is
+
+pub returns-clause-fails : goal.returns-clause-fails
+returns-clause-fails g c =
+    let S = g.S.SiteStore in
+    let old = c.args.site.now in
+    let new = c.restart_kept.new.self.store in
+    let sound = S.is_clean new × S.is_sound old.store in
+    let refused = HasRefused (S.refused old.store) (S.refused new) in
+    let restarts = c.restart_kept.ensures.restarts in
+    subst (λ r. IfErr r (PlaceTells sound refused c.args.what c.args.kept (seat_from S.kept old))) c.in-Err-restart_kept.is
+    (restart_fails c.restart_kept.result sound refused c.args.what c.in-Restart.field-0 c.args.kept (seat_from S.kept old) (S.kept new) c.in-Restart.is
+    restarts.begins.refusal (λ so. restarts.begins.damaged so.0 so.1) (λ so. restarts.begins.full so.0) restarts.own (λ so. restarts.begins.same so.0 so.1))

@@ -1,5 +1,5 @@
 -- Why `at_site` meets its contract.
-use Rattle.std.proofs.Common.{rules, Bool, ◌≡◌, ◌∙◌, ap, sym, subst, Some, inl, inr, ⊎_elim}
+use Rattle.std.proofs.Common.{rules, Bool, ℕ, List, Err, ◌≡◌, ◌∙◌, ap, sym, subst, Some, inl, inr, ⊎_elim}
 use Rattle.protocol.specs.Letters.{txn_name}
 use Rattle.site.specs.State.{state_of}
 use Rattle.desk.specs.Database.{language, sent}
@@ -12,8 +12,10 @@ use Rattle.world.specs.Seats.{seat_of}
 use Rattle.world.specs.Seated.{SomeSeatDoes, place_of, seats_in}
 use Rattle.world.proofs.Machinery.{put_out_leads, take_within}
 use Rattle.world.proofs.Counting.{at_most}
-use Rattle.world.specs.Counted.{counts_of}
+use Rattle.std.specs.List.{AllByRecursion}
+use Rattle.world.specs.Counted.{HaveRefused, counts_of}
 use Rattle.world.specs.Taking.{stop_of}
+use Rattle.world.proofs.Refusals.{places_so}
 use Rattle.world.proofs.Stops.{later_stops}
 use Rattle.world.proofs.machines.Machines.at_site.Goals as goal
 
@@ -68,3 +70,11 @@ returns-in-Err-clause-blames g c = λ letter is made clean sound.
     let refused = g.S.SiteStore.refused in
     let desk = g.D.DeskStore.refused c.args.self.now.desk.store in
     later_stops desk desk (counts_of refused c.args.self.now.sites.items) (counts_of refused c.do_among.new.sites.items) (stop_of (fault.Site c.in-Err.fault)) (c.in-Err.ensures.blames letter is made clean.1 sound.1)
+
+pub returns-in-Err-clause-fails : goal.returns-in-Err-clause-fails
+returns-in-Err-clause-fails g c = λ seat there.
+    let S = g.S.SiteStore in
+    let old = c.args.self.now.sites.items in
+    let new = c.do_among.new.sites.items in
+    places_so {T = List ℕ} (Err c.in-Err.fault) (AllByRecursion (λ site. S.is_clean site.store) new × AllByRecursion (λ site. S.is_sound site.store) old) (HaveRefused (counts_of S.refused old) (counts_of S.refused new)) _ _
+    (λ so. (so.0.1, so.1.1)) (λ more. inr more) c.args.what c.args.kept seat (c.in-Err.ensures.fails seat there)

@@ -1,11 +1,14 @@
 -- Why `restart` meets its contract.
 use Rattle.world.proofs.Counting.{no_fewer}
 use Rattle.world.specs.Counted.{counts_of}
-use Rattle.std.proofs.Common.{rules}
+use Rattle.std.proofs.Common.{rules, inl, inr, ⊎_elim}
 use Rattle.desk.specs.State.{table_of}
 use Rattle.world.specs.Held.{held}
 use Rattle.world.proofs.Machinery.{restart_leads}
 use Rattle.world.proofs.Moving.{if_ok}
+use Rattle.world.proofs.Refusals.{desk_fails}
+use Rattle.world.specs.Counted.{HaveRefused, counts}
+use Rattle.world.specs.Held.{OfStores}
 use Rattle.world.proofs.machines.Machines.restart.Goals as goal
 
 pub returns-clause-ok : goal.returns-clause-ok
@@ -21,3 +24,14 @@ returns-clause-leaves g c = record {
   counts = (c.restart_kept.ensures.restarts.begins.leaves.counts, no_fewer (counts_of g.S.SiteStore.refused c.args.self.now.sites.items));
   catalog = search rules;
 }
+
+pub returns-clause-told : goal.returns-clause-told
+returns-clause-told g c =
+    let D = g.D.DeskStore in
+    let S = g.S.SiteStore in
+    let old = c.args.self.now in
+    let new = c.restart_kept.new.self in
+    let begins = c.restart_kept.ensures.restarts.begins in
+    desk_fails c.restart_kept.result _ _ c.args.kept (D.kept old.desk.store) (D.kept new.store) begins.own
+    (λ is. ⊎_elim (λ unmade. inl unmade) (λ more. inr (inl more)) (c.restart_kept.ensures.refusal is))
+    (λ so is. begins.damaged so.0.0 so.1.0 is) (λ so is. begins.full so.0.0 is) (λ so. begins.same so.0.0 so.1.0)

@@ -5,14 +5,21 @@ use Rattle.catalog.specs.Relation.{catalogue_of}
 use Rattle.desk.specs.OfCatalogue.{IsOfCatalogue}
 use Rattle.world.specs.declared.event.Entry.{Entry}
 use Rattle.world.specs.Base.{database}
-use Rattle.world.specs.Held.{held}
+use Rattle.world.specs.Held.{OfStores, counted, held}
+use Rattle.world.specs.Refused.{IsRefusedFor}
 use Rattle.world.specs.Runs.{IsRun, RunsHold, RunsOn}
 use Rattle.world.proofs.world.World.happens.Goals as goal
 
 pub returns-in-Err-clause-refused : goal.returns-in-Err-clause-refused
-returns-in-Err-clause-refused g c = λ whole past asked run is_call.
+returns-in-Err-clause-refused g c = λ whole past run.
+    let D = g.D.DeskStore in
+    let S = g.S.SiteStore in
+    let old = c.args.self.now.machines in
+    let new = c.happen.new.machines in
+    let db = database (catalogue_of old.desk.catalog) in
     let of = subst (λ x. IsOfCatalogue (database (catalogue_of x))) c.catalog.ensures c.database_is_of_catalogue.ensures.of_catalogue in
-    c.in-Err.ensures.refused (database (catalogue_of c.args.self.now.machines.desk.catalog)) asked of refl run.fit is_call
+    subst (λ (entries : List Entry). IsRefusedFor (OfStores D.is_clean S.is_clean new × OfStores D.is_sound S.is_sound old) db (counted D.kept S.kept D.refused S.refused old) (counted D.kept S.kept D.refused S.refused new) entries c.args.event c.in-Err.fault) c.in_ok-make_room.ensures.items
+    (c.in-Err.ensures.refused db of refl run.fit)
 
 pub returns-in-Ok-clause-goes_on : goal.returns-in-Ok-clause-goes_on
 returns-in-Ok-clause-goes_on g c = λ whole past clean sound run.

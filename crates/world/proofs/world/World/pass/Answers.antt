@@ -1,30 +1,47 @@
 -- Why `World::pass` meets its contract.
 use Rattle.world.proofs.Leaves.{leaves_still}
-use Rattle.std.proofs.Common.{Err, subst, ap, ◌∙◌, sym}
+use Rattle.std.proofs.Common.{subst, ◌∙◌, sym, inl}
 use Rattle.catalog.specs.Relation.{catalogue_of}
 use Rattle.world.specs.declared.event.Event.{Event}
 use Rattle.world.specs.Base.{database}
-use Rattle.world.specs.Following.{Passes}
-use Rattle.world.specs.Held.{held}
-use Rattle.world.proofs.Follow.{passes_by, passes_on}
+use Rattle.world.specs.Counted.{counts}
+use Rattle.world.specs.Following.{Happens}
+use Rattle.world.specs.Held.{OfStores, held}
+use Rattle.world.proofs.Counting.{with_counts}
+use Rattle.world.proofs.Follow.{passes_by, runs_same}
+use Rattle.world.proofs.Refusals.{refused_soundly}
 use Rattle.world.proofs.world.World.pass.Goals as goal
 
-pub returns-in-Ok-clause-ok : goal.returns-in-Ok-clause-ok
-returns-in-Ok-clause-ok g c = λ whole past clean sound run.
-    let db = database (catalogue_of c.args.self.now.machines.desk.catalog) in
-    let before = held g.D.DeskStore.kept g.S.SiteStore.kept c.args.self.now.machines in
-    let after = held g.D.DeskStore.kept g.S.SiteStore.kept c.happens.new.self.machines in
-    subst (λ (what : Event). Passes db whole what before c.args.self.now.entries.items after c.happens.new.self.entries.items past) c.in_ok-again.ensures
-    (passes_on db whole c.in_ok-again.again before after c.args.self.now.entries.items c.happens.new.self.entries.items past (c.in-Ok.ensures.ok whole past clean sound run) c.in-Ok.ensures.entry)
+pub returns-in-Ok-clause-runs : goal.returns-in-Ok-clause-runs
+returns-in-Ok-clause-runs g c = λ whole past clean sound run. c.in-Ok.ensures.ok whole past clean sound run
 
-pub returns-else-is_memory-clause-ok : goal.returns-else-is_memory-clause-ok
-returns-else-is_memory-clause-ok g c = λ whole past clean sound run.
+pub returns-in-Ok-clause-happens : goal.returns-in-Ok-clause-happens
+returns-in-Ok-clause-happens g c = λ whole past clean sound run.
+    let entry = c.in-Ok.ensures.entry in
+    inl (entry.0, (entry.1.0 ∙ c.in_ok-again.ensures, entry.1.1))
+
+pub returns-else-is_memory-clause-runs : goal.returns-else-is_memory-clause-runs
+returns-else-is_memory-clause-runs g c = λ whole past clean sound run.
     let db = database (catalogue_of c.args.self.now.machines.desk.catalog) in
     let before = held g.D.DeskStore.kept g.S.SiteStore.kept c.args.self.now.machines in
     let after = held g.D.DeskStore.kept g.S.SiteStore.kept c.happens.new.self.machines in
-    subst (λ (what : Event). Passes db whole what before c.args.self.now.entries.items after c.happens.new.self.entries.items past) c.in_ok-again.ensures
-    (passes_by db whole c.in_ok-again.again before after c.args.self.now.entries.items c.happens.new.self.entries.items past c.in-Err.fault run (sym c.is_memory.ensures ∙ c.if-is_memory.false)
-    (λ asked is_call. c.in-Err.ensures.refused whole past asked run is_call) (λ is. c.in-Err.ensures.unsent (ap Err is)) (c.in-Err.ensures.err clean sound) c.in-Err.ensures.same)
+    runs_same db whole before after c.args.self.now.entries.items c.happens.new.self.entries.items past run (c.in-Err.ensures.err clean sound) c.in-Err.ensures.same
+
+pub returns-else-is_memory-clause-happens : goal.returns-else-is_memory-clause-happens
+returns-else-is_memory-clause-happens g c = λ whole past clean sound run.
+    let D = g.D.DeskStore in
+    let S = g.S.SiteStore in
+    let old = c.args.self.now in
+    let new = c.happens.new.self in
+    let db = database (catalogue_of old.machines.desk.catalog) in
+    let a = counts D.refused S.refused old.machines in
+    let b = counts D.refused S.refused new.machines in
+    let before = held D.kept S.kept old.machines in
+    let after = held D.kept S.kept new.machines in
+    subst (λ (what : Event). Happens db what (with_counts before a) old.entries.items (with_counts after b) new.entries.items) c.in_ok-again.ensures
+    (passes_by db c.in_ok-again.again before after a b old.entries.items new.entries.items c.in-Err.fault (sym c.is_memory.ensures ∙ c.if-is_memory.false)
+    (refused_soundly (OfStores D.is_clean S.is_clean new.machines × OfStores D.is_sound S.is_sound old.machines) db (with_counts before a) (with_counts after b) old.entries.items c.in_ok-again.again c.in-Err.fault (clean, sound) (c.in-Err.ensures.refused whole past run))
+    (c.in-Err.ensures.err clean sound) c.in-Err.ensures.same)
 
 pub returns-in_err-again-clause-leaves : goal.returns-in_err-again-clause-leaves
 returns-in_err-again-clause-leaves g c = leaves_still g.D.DeskStore.is_clean g.S.SiteStore.is_clean g.D.DeskStore.is_sound g.S.SiteStore.is_sound g.D.DeskStore.refused g.S.SiteStore.refused c.args.self.now.machines

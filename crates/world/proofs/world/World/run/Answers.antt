@@ -2,18 +2,18 @@
 use Rattle.std.proofs.Common.{◌≡◌, ◌∙◌, ◌+◌, ◌++◌, ◌∷◌, [], refl, sym, ap, subst, List, ℕ, take}
 use Rattle.std.proofs.lemmas.List.{take_all, take_more}
 use Rattle.meaning.specs.Whole.{Relations}
-use Rattle.catalog.specs.declared.relation.SplitRelation.{SplitRelation}
 use Rattle.catalog.specs.Relation.{catalogue_of}
 use Rattle.protocol.specs.Desk.{Deed}
 use Rattle.desk.specs.Database.{language}
 use Rattle.world.specs.declared.event.Entry.{Entry}
 use Rattle.world.specs.declared.event.Event.{Event}
 use Rattle.world.specs.Base.{database}
-use Rattle.world.specs.Following.{Follows, Passes}
-use Rattle.world.specs.Held.{OfStores, held}
+use Rattle.world.specs.Following.{Follows, FollowsAtLeast, Happens}
+use Rattle.world.specs.Held.{OfStores, counted, held}
 use Rattle.world.specs.Machines.{Machines}
 use Rattle.world.specs.Runs.{IsRun, RunsOn}
-use Rattle.world.proofs.Follow.{passes_more, runs_still}
+use Rattle.world.proofs.Counting.{with_counts}
+use Rattle.world.proofs.Follow.{follows_more, runs_further, runs_still}
 use Rattle.world.proofs.Leaves.{leaves_still, leaves_then}
 use Rattle.world.proofs.world.World.run.Goals as goal
 
@@ -35,17 +35,24 @@ loop-event-preserved g c =
     let events = c.args.events.now in
     let what = c.event-item.result in
     let db = database (catalogue_of start.machines.desk.catalog) in
-    let passed = subst (λ (x : List (List ℕ) × List SplitRelation). (whole : Relations) (past : List (Deed (language (database (catalogue_of x))))) → OfStores D.is_clean S.is_clean now.machines → OfStores D.is_sound S.is_sound mid.machines
-    → IsRun (database (catalogue_of x)) whole (held D.kept S.kept mid.machines) mid.entries.items past → Passes (database (catalogue_of x)) whole what (held D.kept S.kept mid.machines) mid.entries.items (held D.kept S.kept now.machines) now.entries.items past) all.0.catalog c.in-Ok.ensures.ok in
+    let same : catalogue_of mid.machines.desk.catalog ≡ catalogue_of start.machines.desk.catalog = ap catalogue_of all.0.catalog in
+    let passed = subst (λ x. (whole : Relations) (past : List (Deed (language (database x)))) → OfStores D.is_clean S.is_clean now.machines → OfStores D.is_sound S.is_sound mid.machines
+    → IsRun (database x) whole (held D.kept S.kept mid.machines) mid.entries.items past → RunsOn (database x) whole (held D.kept S.kept now.machines) now.entries.items past) same c.in-Ok.ensures.runs in
+    let happened = subst (λ x. (whole : Relations) (past : List (Deed (language (database x)))) → OfStores D.is_clean S.is_clean now.machines → OfStores D.is_sound S.is_sound mid.machines
+    → IsRun (database x) whole (held D.kept S.kept mid.machines) mid.entries.items past → Happens (database x) what (counted D.kept S.kept D.refused S.refused mid.machines) mid.entries.items (counted D.kept S.kept D.refused S.refused now.machines) now.entries.items) same c.in-Ok.ensures.happens in
     let one_more : take (i + 1) events ≡ take i events ++ what ∷ [] = take_more events i what c.loop-event-test.true ∙ ap (λ (e : Event). take i events ++ e ∷ []) (sym c.event-item.is) in (
       leaves_then D.is_clean S.is_clean D.is_sound S.is_sound D.refused S.refused start.machines mid.machines now.machines all.0 c.in-Ok.ensures.leaves,
       ap (λ n. n + 1) all.1,
       λ whole past clean sound run.
           let clean_mid = c.in-Ok.ensures.leaves.clean clean in
           let so = all.2 whole past clean_mid sound run in
-          let both = passes_more db whole (take i events) what (held D.kept S.kept start.machines) (held D.kept S.kept mid.machines) (held D.kept S.kept now.machines) start.entries.items mid.entries.items now.entries.items past so.0 so.1
-          (passed whole (past ++ so.0.deeds) clean (all.0.sound clean_mid sound) so.0.run_on) in
-          (both.0, subst (λ es. Follows db es (held D.kept S.kept start.machines) start.entries.items (held D.kept S.kept now.machines) now.entries.items) (sym one_more) both.1),
+          let sound_mid = all.0.sound clean_mid sound in
+          let first = counted D.kept S.kept D.refused S.refused start.machines in
+          let last = counted D.kept S.kept D.refused S.refused now.machines in
+          let further = follows_more db (take i events) what first (counted D.kept S.kept D.refused S.refused mid.machines) last start.entries.items mid.entries.items now.entries.items so.1 (happened whole (past ++ so.0.deeds) clean sound_mid so.0.run_on) in (
+            runs_further db whole (held D.kept S.kept mid.machines) (held D.kept S.kept now.machines) mid.entries.items now.entries.items past so.0 (passed whole (past ++ so.0.deeds) clean sound_mid so.0.run_on),
+            subst (λ es. Follows db es first start.entries.items last now.entries.items) (sym one_more) further,
+          ),
     )
 
 pub returns-in-Err-clause-runs : goal.returns-in-Err-clause-runs
@@ -71,12 +78,18 @@ returns-in-Err-clause-some g c = λ whole past clean sound run.
     let now = c.pass.new.self in
     let events = c.args.events.now in
     let db = database (catalogue_of start.machines.desk.catalog) in
-    let first = held D.kept S.kept start.machines in
+    let first = counted D.kept S.kept D.refused S.refused start.machines in
+    let there = counted D.kept S.kept D.refused S.refused mid.machines in
+    let last = counted D.kept S.kept D.refused S.refused now.machines in
     let clean_mid = c.in-Err.ensures.leaves.clean clean in
     let so = all.2 whole past clean_mid sound run in
-    subst (λ (n : ℕ). Follows db (take n events) first start.entries.items (held D.kept S.kept now.machines) now.entries.items) (sym all.1)
-    (subst (λ (m : Machines). Follows db (take c.loop-event.event-index events) first start.entries.items m now.entries.items) (sym (c.in-Err.ensures.err clean (all.0.sound clean_mid sound)))
-    (subst (λ (es : List Entry). Follows db (take c.loop-event.event-index events) first start.entries.items (held D.kept S.kept mid.machines) es) (sym c.in-Err.ensures.same) so.1))
+    let follows = subst (λ (es : List Entry). Follows db (take c.loop-event.event-index events) first start.entries.items there es) (sym c.in-Err.ensures.same) so.1 in
+    subst (λ (n : ℕ). FollowsAtLeast db (take n events) first start.entries.items last now.entries.items) (sym all.1) (record {
+      there = there;
+      follows = follows;
+      same = ap (λ (m : Machines). with_counts m there.refused) (c.in-Err.ensures.err clean (all.0.sound clean_mid sound));
+      counts = c.in-Err.ensures.leaves.counts;
+    })
 
 pub returns-clause-all : goal.returns-clause-all
 returns-clause-all g c = λ whole past clean sound run.
@@ -86,7 +99,7 @@ returns-clause-all g c = λ whole past clean sound run.
     let mid = c.loop-event.self in
     let events = c.args.events.now in
     let db = database (catalogue_of start.machines.desk.catalog) in
-    subst (λ (es : List Event). Follows db es (held D.kept S.kept start.machines) start.entries.items (held D.kept S.kept mid.machines) mid.entries.items) (take_all c.loop-event.event-index events c.loop-event-test.false) (c.loop-event.invariant.2 whole past clean sound run).1
+    subst (λ (es : List Event). Follows db es (counted D.kept S.kept D.refused S.refused start.machines) start.entries.items (counted D.kept S.kept D.refused S.refused mid.machines) mid.entries.items) (take_all c.loop-event.event-index events c.loop-event-test.false) (c.loop-event.invariant.2 whole past clean sound run).1
 
 pub returns-in-Err-clause-leaves : goal.returns-in-Err-clause-leaves
 returns-in-Err-clause-leaves g c = leaves_then g.D.DeskStore.is_clean g.S.SiteStore.is_clean g.D.DeskStore.is_sound g.S.SiteStore.is_sound g.D.DeskStore.refused g.S.SiteStore.refused c.args.self.now.machines c.loop-event.self.machines c.pass.new.self.machines c.loop-event.invariant.0 c.in-Err.ensures.leaves
