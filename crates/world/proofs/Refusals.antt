@@ -35,20 +35,20 @@ use Rattle.world.specs.Taking.{stop_of}
 use Rattle.world.proofs.Moving.{unchanged}
 
 -- ---- what is said of a store holds of the stores that it is among
-restarts_so : (S R S2 R2 : Type 0) → (S2 → S) → (R → R2) → (kept : Bool) (seat : Seat) (told : site_faults.SiteFault) → SiteRestartTells S R kept seat told → SiteRestartTells S2 R2 kept seat told
-restarts_so S R S2 R2 back on kept seat site_fault.Memory why = tt
-restarts_so S R S2 R2 back on kept seat (site_fault.Store store_faults.Refused) why = ⊎_elim (λ unmade. inl unmade) (λ refused. inr (on refused)) why
-restarts_so S R S2 R2 back on kept seat (site_fault.Store store_faults.Memory) why = tt
-restarts_so S R S2 R2 back on kept seat (site_fault.Store store_faults.Damaged) why = λ so. why (back so)
-restarts_so S R S2 R2 back on kept seat site_fault.Full why = λ so. why (back so)
-restarts_so S R S2 R2 back on kept seat site_fault.Stranger why = absurd why
+restarts_so : (S R Sounds Refuses : Type 0) → (Sounds → S) → (R → Refuses) → (kept : Bool) (seat : Seat) (told : site_faults.SiteFault) → SiteRestartTells S R kept seat told → SiteRestartTells Sounds Refuses kept seat told
+restarts_so S R Sounds Refuses back on kept seat site_fault.Memory why = tt
+restarts_so S R Sounds Refuses back on kept seat (site_fault.Store store_faults.Refused) why = ⊎_elim (λ unmade. inl unmade) (λ refused. inr (on refused)) why
+restarts_so S R Sounds Refuses back on kept seat (site_fault.Store store_faults.Memory) why = tt
+restarts_so S R Sounds Refuses back on kept seat (site_fault.Store store_faults.Damaged) why = λ so. why (back so)
+restarts_so S R Sounds Refuses back on kept seat site_fault.Full why = λ so. why (back so)
+restarts_so S R Sounds Refuses back on kept seat site_fault.Stranger why = absurd why
 
-pub places_so : {T : Type 0} (result : Result T site_faults.SiteFault) (S R S2 R2 : Type 0) → (S2 → S) → (R → R2) → (what : doing.Doing) (kept : Bool) (seat : Seat) → IfErr result (PlaceTells S R what kept seat) → IfErr result (PlaceTells S2 R2 what kept seat)
-places_so (Ok done) S R S2 R2 back on what kept seat why = tt
-places_so (Err told) S R S2 R2 back on (things.Take letter) kept seat why = tt
-places_so (Err told) S R S2 R2 back on (things.GiveUp place ticket) kept seat why = absurd why
-places_so (Err told) S R S2 R2 back on (things.Inquire place) kept seat why = why
-places_so (Err told) S R S2 R2 back on (things.Restart place) kept seat why = restarts_so S R S2 R2 back on kept seat told why
+pub places_so : {T : Type 0} (result : Result T site_faults.SiteFault) (S R Sounds Refuses : Type 0) → (Sounds → S) → (R → Refuses) → (what : doing.Doing) (kept : Bool) (seat : Seat) → IfErr result (PlaceTells S R what kept seat) → IfErr result (PlaceTells Sounds Refuses what kept seat)
+places_so (Ok done) S R Sounds Refuses back on what kept seat why = tt
+places_so (Err told) S R Sounds Refuses back on (things.Take letter) kept seat why = tt
+places_so (Err told) S R Sounds Refuses back on (things.GiveUp place ticket) kept seat why = absurd why
+places_so (Err told) S R Sounds Refuses back on (things.Inquire place) kept seat why = why
+places_so (Err told) S R Sounds Refuses back on (things.Restart place) kept seat why = restarts_so S R Sounds Refuses back on kept seat told why
 
 -- ---- one site
 pub letter_fails : {T : Type 0} (result : Result T site_faults.SiteFault) (S R : Type 0) (what : doing.Doing) (letter : Letter) (kept : Bool) (seat : Seat) → what ≡ things.Take letter → IfErr result (PlaceTells S R what kept seat)
