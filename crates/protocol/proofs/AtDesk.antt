@@ -7,12 +7,12 @@ use Rattle.protocol.specs.Letter.{Body, Open, Letter, letters_to, is_for_desk}
 use Rattle.protocol.specs.Site.{Status, on_letter, site_after, said}
 use Rattle.protocol.specs.Desk.{Ask, Stage, Undecided, Known, Deed, is_undecided, is_new, opening, opens, visits, asks_out, writes_out}
 use Rattle.protocol.specs.World.{World, addressed, with_site, turned}
-pub use Rattle.protocol.specs.Course.{Stands}
+pub use Rattle.protocol.specs.StatementCourse.{Stands}
 use Rattle.protocol.proofs.Basics.{Every, In, every_append, every_map, put_all, same_law, if_true, if_false, by_test, clash, some_is, left_true, right_true, found, or_cases}
 use Rattle.protocol.proofs.Locks.{Once}
 use Rattle.protocol.proofs.Turns.{every_letter}
 use Rattle.protocol.proofs.Going.{asks_each, writes_each}
-use Rattle.protocol.proofs.Queue.{at, at_append, at_here, at_away, OutAt, Spot, spot_out, spot_open, asks_at, writes_at}
+use Rattle.protocol.proofs.Queue.{at, at_append, at_here, at_away, OutAt, VisitPlace, spot_out, spot_open, asks_at, writes_at}
 use Rattle.protocol.proofs.AtSite.{Room, moved}
 
 module _ {L : Lang} where
@@ -25,7 +25,7 @@ module _ {L : Lang} where
   pub record Goes (t : Name) (u v : Undecided L) (letters : List (Letter L)) : Type 0 where
     pub own : Every (λ l. l.txn ≡ t) letters
     pub among : ((a : L.Site) → u.visited a ≡ true → In a L.sites) → (a : L.Site) → v.visited a ≡ true → In a L.sites
-    pub spots : (a : L.Site) (f : Name → Status L) (bs : List (Body L)) → Spot f (u.visited a) (u.ticket a) (u.sent a) bs → Spot f (v.visited a) (v.ticket a) (v.sent a) (bs ++ at a letters)
+    pub spots : (a : L.Site) (f : Name → Status L) (bs : List (Body L)) → VisitPlace f (u.visited a) (u.ticket a) (u.sent a) bs → VisitPlace f (v.visited a) (v.ticket a) (v.sent a) (bs ++ at a letters)
 
   -- the coordinator's turn
   pub turn_stands : (t : Name) (u v : Undecided L) (w : World L) (letters : List (Letter L)) (deeds : List (Deed L)) → Stands t u w → Goes t u v letters → Stands t v (turned w t (record { txn = Known v; letters = letters; deeds = deeds }))
@@ -33,7 +33,7 @@ module _ {L : Lang} where
     alone = every_append (λ l. l.txn ≡ t) w.letters letters stands.alone goes.own;
     others = put_all same same_law t (Known v) w.desk.txn (λ j x. same j t ≡ false → is_undecided x ≡ false) (λ other. clash ((same_law t t).1 refl) other) (λ j away other. stands.others j other);
     among = goes.among stands.among;
-    spots = λ a. subst (Spot (w.sites a).status (v.visited a) (v.ticket a) (v.sent a)) (sym (at_append a w.letters letters)) (goes.spots a (w.sites a).status (at a w.letters) (stands.spots a));
+    spots = λ a. subst (VisitPlace (w.sites a).status (v.visited a) (v.ticket a) (v.sent a)) (sym (at_append a w.letters letters)) (goes.spots a (w.sites a).status (at a w.letters) (stands.spots a));
   }
 
   -- nothing is said to a site
@@ -75,11 +75,11 @@ module _ {L : Lang} where
         go (Some d) rest = if_false (L.same_site a b) (d ∷ at a (letters_to t says sites)) (at a (letters_to t says sites)) apart ∙ rest
 
     -- an Open to each new site
-    open_step : (f : Name → Status L) (tk : Option Name) (n : ℕ) (bs out : List (Body L)) (x c : Bool) → (x ≡ true → c ≡ false) → (x ≡ true → out ≡ Open ∷ []) → (x ≡ false → out ≡ []) → Spot f c tk n bs → Spot f (c || x) tk n (bs ++ out)
+    open_step : (f : Name → Status L) (tk : Option Name) (n : ℕ) (bs out : List (Body L)) (x c : Bool) → (x ≡ true → c ≡ false) → (x ≡ true → out ≡ Open ∷ []) → (x ≡ false → out ≡ []) → VisitPlace f c tk n bs → VisitPlace f (c || x) tk n (bs ++ out)
     open_step f tk n bs out true true new one none spot = let e : true ≡ false = new refl in cc
-    open_step f tk n bs out true false new one none spot = subst (λ z. Spot f true tk n (bs ++ z)) (sym (one refl)) (spot_open f tk n bs spot)
-    open_step f tk n bs out false true new one none spot = subst (Spot f true tk n) (sym (ap (λ z. bs ++ z) (none refl) ∙ append-nil bs)) spot
-    open_step f tk n bs out false false new one none spot = subst (Spot f false tk n) (sym (ap (λ z. bs ++ z) (none refl) ∙ append-nil bs)) spot
+    open_step f tk n bs out true false new one none spot = subst (λ z. VisitPlace f true tk n (bs ++ z)) (sym (one refl)) (spot_open f tk n bs spot)
+    open_step f tk n bs out false true new one none spot = subst (VisitPlace f true tk n) (sym (ap (λ z. bs ++ z) (none refl) ∙ append-nil bs)) spot
+    open_step f tk n bs out false false new one none spot = subst (VisitPlace f false tk n) (sym (ap (λ z. bs ++ z) (none refl) ∙ append-nil bs)) spot
 
     module _ (once : Once L.sites) (t : Name) (u : Undecided L) (leaves : List L.Leaf) (homes : (g : L.Leaf) → In g leaves → In (L.home g) L.sites) where
       opens_at_new : (a : L.Site) → is_new u leaves a ≡ true → at a (opens t u leaves) ≡ Open ∷ []
@@ -97,7 +97,7 @@ module _ {L : Lang} where
         among = λ old a is. ⊎_elim (old a) (λ new. (let g = found (λ g. L.same_site (L.home g) a) leaves (right_true (not (u.visited a)) (list_any (λ g. L.same_site (L.home g) a) leaves) new) in subst (λ b. In b L.sites) ((law.sites (L.home g.0) a).0 g.2) (homes g.0 g.1))) (or_cases (u.visited a) (is_new u leaves a) is);
         spots = λ a f bs spot.
             let first = open_step f (u.ticket a) (u.sent a) bs (at a (opens t u leaves)) (is_new u leaves a) (u.visited a) (λ new. unvisited a new) (opens_at_new a) (opens_at_old a) spot in
-            subst (Spot f (u.visited a || is_new u leaves a) (u.ticket a) (sent a)) (append_assoc bs (at a (opens t u leaves)) (at a out) ∙ ap (λ x. bs ++ x) (sym (at_append a (opens t u leaves) out)))
+            subst (VisitPlace f (u.visited a || is_new u leaves a) (u.ticket a) (sent a)) (append_assoc bs (at a (opens t u leaves)) (at a out) ∙ ap (λ x. bs ++ x) (sym (at_append a (opens t u leaves) out)))
             (spot_out f (u.visited a || is_new u leaves a) (u.ticket a) (u.sent a) (sent a) (bs ++ at a (opens t u leaves)) (at a out) first (outs a));
       }
         where
@@ -142,11 +142,11 @@ module _ {L : Lang} where
           alone = every_append (λ x. x.txn ≡ t) q (addressed l.site l.txn replies) alone.1 (every_map (λ x. x.txn ≡ t) _ replies (λ b. alone.0));
           others = stands.others;
           among = stands.among;
-          spots = put_all L.same_site law.sites l.site (site_after (w.sites l.site) act) w.sites (λ a s. Spot s.status (u.visited a) (u.ticket a) (u.sent a) (at a (q ++ addressed l.site l.txn replies)))
+          spots = put_all L.same_site law.sites l.site (site_after (w.sites l.site) act) w.sites (λ a s. VisitPlace s.status (u.visited a) (u.ticket a) (u.sent a) (at a (q ++ addressed l.site l.txn replies)))
               (let now = moved bare (w.sites l.site) l.txn (u.visited l.site) (u.ticket l.site) (u.sent l.site) l.body (at l.site q) to_site room
-              (subst (Spot (w.sites l.site).status (u.visited l.site) (u.ticket l.site) (u.sent l.site)) (ap (at l.site) e ∙ if_true (L.same_site l.site l.site) (l.body ∷ at l.site q) (at l.site q) ((law.sites l.site l.site).1 refl)) (stands.spots l.site)) in
-              subst (Spot (site_after (w.sites l.site) act).status (u.visited l.site) (u.ticket l.site) (u.sent l.site))
+              (subst (VisitPlace (w.sites l.site).status (u.visited l.site) (u.ticket l.site) (u.sent l.site)) (ap (at l.site) e ∙ if_true (L.same_site l.site l.site) (l.body ∷ at l.site q) (at l.site q) ((law.sites l.site l.site).1 refl)) (stands.spots l.site)) in
+              subst (VisitPlace (site_after (w.sites l.site) act).status (u.visited l.site) (u.ticket l.site) (u.sent l.site))
               (sym (at_append l.site q (addressed l.site l.txn replies) ∙ ap (λ x. at l.site q ++ x) (at_here l.site l.site l.txn replies ((law.sites l.site l.site).1 refl)))) now)
-              (λ a other. subst (Spot (w.sites a).status (u.visited a) (u.ticket a) (u.sent a))
+              (λ a other. subst (VisitPlace (w.sites a).status (u.visited a) (u.ticket a) (u.sent a))
               (ap (at a) e ∙ if_false (L.same_site a l.site) (l.body ∷ at a q) (at a q) other ∙ sym (at_append a q (addressed l.site l.txn replies) ∙ ap (λ x. at a q ++ x) (at_away a l.site l.txn replies other) ∙ append-nil (at a q))) (stands.spots a));
         }

@@ -3,11 +3,11 @@ use Rattle.std.proofs.Common.{◌≡◌, refl, sym, ap, ◌∙◌, subst, ℕ, �
 use Rattle.std.proofs.lemmas.Bool.{eq-eqb}
 use Rattle.protocol.specs.Language.{Lang, IsLawful, Name, same, put}
 use Rattle.protocol.specs.Letter.{Vote, Yes, No, Read, Body, Open, Prepare, Commit, Ticket, Voted}
-use Rattle.protocol.specs.Site.{Visit, Status, Dead, Alive, Prepared, SiteState, Act, Prepares, Ends, is_prepared, on_letter, on_prepare, site_after, said}
+use Rattle.protocol.specs.Site.{Visit, Status, Dead, Active, Prepared, SiteState, Act, Prepares, Ends, is_prepared, on_letter, on_prepare, site_after, said}
 use Rattle.protocol.specs.Desk.{Undecided, may_hold, voter_at, voters_of, commits}
 use Rattle.protocol.specs.Parts.{In}
-use Rattle.protocol.specs.Spots.{at, Unlocked, Spot, away, asked, offered, works, Flow}
-use Rattle.protocol.specs.Leaving.{Closed, Leaves, is_free, is_own, hears_commit, LeavingAt}
+use Rattle.protocol.specs.VisitPlaces.{at, Unlocked, VisitPlace, away, asked, offered, works, Flow}
+use Rattle.protocol.specs.AfterAbort.{Closed, Leaves, is_free, is_own, hears_commit, LeavingAt}
 use Rattle.protocol.specs.Committing.{VotedBy, Ballot, is_aside, is_asked, has_voted, is_counted}
 use Rattle.protocol.proofs.Basics.{in_flat, either, either_if, put_all, put_here, same_law, if_true, clash, by_test}
 
@@ -26,7 +26,7 @@ module _ {L : Lang} (E : Type 0) where
   counted_vote f k No good by = absurd (good refl)
 
   -- a site is asked to prepare
-  module _ (s : SiteState L) (t k : Name) (tk : Option Name) (v : Visit L) (b : Bool) (vote : Option Vote) (visited : b ≡ true) (own : tk ≡ Some k) (none : vote ≡ None) (alive : s.status k ≡ Alive v) (free : (j : Name) → same j k ≡ false → Unlocked (s.status j)) where
+  module _ (s : SiteState L) (t k : Name) (tk : Option Name) (v : Visit L) (b : Bool) (vote : Option Vote) (visited : b ≡ true) (own : tk ≡ Some k) (none : vote ≡ None) (active : s.status k ≡ Active v) (free : (j : Name) → same j k ≡ false → Unlocked (s.status j)) where
     abbrev Asked : Act L → Type 0
     Asked act = Ballot E (site_after s act).status b tk vote (said s act)
 
@@ -46,18 +46,18 @@ module _ {L : Lang} (E : Type 0) where
     )
 
     pub prepares : (kept : Bool) → (kept ≡ true) ⊎ E → Asked (on_letter s t kept (Prepare k v.done))
-    prepares kept excuse = subst (λ st. Asked (on_prepare kept t k v.done st)) (sym alive)
+    prepares kept excuse = subst (λ st. Asked (on_prepare kept t k v.done st)) (sym active)
         (subst Asked (sym (if_true (v.done == v.done) _ (Ends k (Voted k No ∷ [])) (eq-eqb v.done v.done refl)))
         (either Asked (L.is_empty v.changes) _ _ votes_read
         (either_if Asked kept _ _ (λ is. votes_yes) (λ refused. ⊎_elim (λ is. clash is refused) votes_no excuse))))
 
   -- ---- from a statement
-  pub begins_ballot : (f : Name → Status L) (b : Bool) (tk : Option Name) (n : ℕ) (bs more : List (Body L)) → Spot f b tk n bs → bs ≡ [] → (b ≡ false → more ≡ []) → ((k : Name) → b ≡ true → tk ≡ Some k → more ≡ Prepare k n ∷ []) → Ballot E f b tk None (bs ++ more)
+  pub begins_ballot : (f : Name → Status L) (b : Bool) (tk : Option Name) (n : ℕ) (bs more : List (Body L)) → VisitPlace f b tk n bs → bs ≡ [] → (b ≡ false → more ≡ []) → ((k : Name) → b ≡ true → tk ≡ Some k → more ≡ Prepare k n ∷ []) → Ballot E f b tk None (bs ++ more)
   begins_ballot f b tk n bs more (away s) silent none asks = is_aside s.unvisited refl (ap (λ x. x ++ more) silent ∙ none s.unvisited) s.free
   begins_ballot f b tk n bs more (asked s) silent none asks = let e : [] ≡ Open ∷ [] = sym silent ∙ s.waits in cc
   begins_ballot f b tk n bs more (offered k s) silent none asks = let e : [] ≡ Ticket k ∷ [] = sym silent ∙ s.waits in cc
   begins_ballot f b tk n bs more (works k s) silent none asks =
-      is_asked k s.visit s.visited s.ticket refl (ap (λ x. x ++ more) silent ∙ asks k s.visited s.ticket ∙ ap (λ m. Prepare k m ∷ []) (sym (subst (Flow k s.visit.done n) silent s.flow))) s.alive s.free
+      is_asked k s.visit s.visited s.ticket refl (ap (λ x. x ++ more) silent ∙ asks k s.visited s.ticket ∙ ap (λ m. Prepare k m ∷ []) (sym (subst (Flow k s.visit.done n) silent s.flow))) s.active s.free
 
   -- ---- to an end
   locks_of : (O : Name → Type 0) (f : Name → Status L) (k : Name) (bs : List (Body L)) → O k → ((j : Name) → same j k ≡ false → Unlocked (f j)) → (j : Name) → Leaves O j (f j) bs
@@ -65,7 +65,7 @@ module _ {L : Lang} (E : Type 0) where
 
   pub ballot_leaving : (f : Name → Status L) (b : Bool) (tk : Option Name) (vote : Option Vote) (bs : List (Body L)) → Ballot E f b tk vote bs → LeavingAt (Hears b tk vote) f bs
   ballot_leaving f b tk vote bs (is_aside unvisited none silent free) = record { locks = λ j. is_free (free j); closed = subst (Closed (Hears b tk vote)) (sym silent) tt }
-  ballot_leaving f b tk vote bs (is_asked k v visited own none waits alive free) =
+  ballot_leaving f b tk vote bs (is_asked k v visited own none waits active free) =
       let hears : Hears b tk vote k = (visited, ap may_hold none, own) in
       record { locks = locks_of (Hears b tk vote) f k bs hears free; closed = subst (Closed (Hears b tk vote)) (sym waits) (inl hears, tt) }
   ballot_leaving f b tk vote bs (has_voted k Yes visited own none waits by) = record { locks = locks_of (Hears b tk vote) f k bs (visited, ap may_hold none, own) by.1; closed = subst (Closed (Hears b tk vote)) (sym waits) tt }
@@ -78,7 +78,7 @@ module _ {L : Lang} (E : Type 0) where
   -- all votes are in: only a site that voted Yes has locks, and its Commit goes out
   pub all_in_leaving : (f : Name → Status L) (b : Bool) (tk : Option Name) (vote : Option Vote) (bs more : List (Body L)) → Ballot E f b tk vote bs → (b ≡ true → is_some vote ≡ true) → ((k : Name) → b ≡ true → vote ≡ Some Yes → tk ≡ Some k → In (Commit k) more) → Closed (λ k. ⊥) more → LeavingAt (λ k. ⊥) f (bs ++ more)
   all_in_leaving f b tk vote bs more (is_aside unvisited none silent free) in_ hears closed = record { locks = λ j. is_free (free j); closed = subst (λ x. Closed (λ k. ⊥) (x ++ more)) (sym silent) closed }
-  all_in_leaving f b tk vote bs more (is_asked k v visited own none waits alive free) in_ hears closed = let e : false ≡ true = sym (ap is_some none) ∙ in_ visited in cc
+  all_in_leaving f b tk vote bs more (is_asked k v visited own none waits active free) in_ hears closed = let e : false ≡ true = sym (ap is_some none) ∙ in_ visited in cc
   all_in_leaving f b tk vote bs more (has_voted k x visited own none waits by) in_ hears closed = let e : false ≡ true = sym (ap is_some none) ∙ in_ visited in cc
   all_in_leaving f b tk vote bs more (is_counted k Yes visited own is silent by) in_ hears closed = record {
     locks = λ j. ⊎_elim (λ same_. subst (λ i. Leaves (λ i. ⊥) i (f i) (bs ++ more)) (sym ((same_law j k).0 same_)) (commits_by by.0 (hears k visited is own))) (λ other. is_free (by.1 j other)) (by_test (same j k));
@@ -93,7 +93,7 @@ module _ {L : Lang} (E : Type 0) where
   -- nothing waits: the vote is in
   pub silent_in : (f : Name → Status L) (b : Bool) (tk : Option Name) (vote : Option Vote) (bs : List (Body L)) → Ballot E f b tk vote bs → bs ≡ [] → (not b || is_some vote) ≡ true
   silent_in f b tk vote bs (is_aside unvisited none silent free) e = rw unvisited refl
-  silent_in f b tk vote bs (is_asked k v visited own none waits alive free) e = let f : [] ≡ Prepare k v.done ∷ [] = sym e ∙ waits in cc
+  silent_in f b tk vote bs (is_asked k v visited own none waits active free) e = let f : [] ≡ Prepare k v.done ∷ [] = sym e ∙ waits in cc
   silent_in f b tk vote bs (has_voted k x visited own none waits by) e = let f : [] ≡ Voted k x ∷ [] = sym e ∙ waits in cc
   silent_in f b tk vote bs (is_counted k x visited own is silent by) e = rw (visited, is) refl
 

@@ -6,7 +6,7 @@ use Rattle.protocol.specs.Parts.{op_of, operations}
 use Rattle.protocol.specs.Language.{Lang, IsLawful, Name, same, put}
 use Rattle.protocol.specs.Letter.{Yes, No, Read, Body, Open, Fetch, Write, Prepare, Commit, Abort, Ticket, Rows, Refused, Voted, Ack, Inquire, Letter}
 use Rattle.protocol.specs.Site.{SiteState}
-use Rattle.protocol.specs.Desk.{Idle, Undecided, Known, Turn, desk_after}
+use Rattle.protocol.specs.Desk.{Idle, Undecided, Known, Transition, desk_after}
 use Rattle.protocol.specs.World.{World, with_site, turned}
 use Rattle.protocol.specs.Serial.{phases_of, phased_of}
 use Rattle.protocol.proofs.Basics.{Every, every_more, every_append, In, in_left, in_right, in_append, put_all, put_here, clash, same_law, by_test}
@@ -87,7 +87,7 @@ module _ {L : Lang} where
         }
 
   -- a turn of the coordinator
-  module _ (o : L.Site → Name → Name) (ops : L.Site → Name → List (Op L)) (w : World L) (t : Name) (turn : Turn L) (base : Base o ops w) (good : Good o w t turn) (booked : Booked o ops w t turn) where
+  module _ (o : L.Site → Name → Name) (ops : L.Site → Name → List (Op L)) (w : World L) (t : Name) (turn : Transition L) (base : Base o ops w) (good : Good o w t turn) (booked : Booked o ops w t turn) where
     -- operations of a visit whose transaction votes don't grow
     pub closed : (a : L.Site) (k j : Name) → o a k ≡ j → Und w.desk j (λ u. is_voting u.stage ≡ true) → booked.new a k ≡ ops a k
     closed a k j owner votes =

@@ -4,14 +4,14 @@ use Rattle.std.proofs.lemmas.Grind.{flat_map-append}
 use Rattle.protocol.specs.Parts.{op_of, operations}
 use Rattle.protocol.specs.Language.{Lang, IsLawful, Name, same}
 use Rattle.protocol.specs.Letter.{Letter}
-use Rattle.protocol.specs.Site.{Status, Dead, Alive, Prepared, is_dead, has_exclusive, inquiries, inquiry_of}
+use Rattle.protocol.specs.Site.{Status, Dead, Active, Prepared, is_dead, has_exclusive, inquiries, inquiry_of}
 use Rattle.protocol.specs.Desk.{Undecided, fresh, Txn, Unknown, Known, Row, Deed, Began, commits, next_txn, txn_restarted}
 use Rattle.protocol.specs.World.{World, begun, inquires, desk_lives}
 use Rattle.protocol.specs.Serial.{is_committed, phases_of, phased_of, statement_in, answer_in, IsOpening}
 use Rattle.protocol.proofs.Basics.{Every, every_append, every_flat, In, put_all, clash, same_law}
 use Rattle.protocol.proofs.Fits.{Born, Und, is_voting}
 use Rattle.protocol.proofs.SiteEvents.{inquire_fit}
-use Rattle.protocol.proofs.PartFour.{not_born, born_next, born_restarted, was_before, begun_fit, none_known, lives_before, lives_fit, opening_fit}
+use Rattle.protocol.proofs.AppliedOnce.{not_born, born_next, born_restarted, was_before, begun_fit, none_known, lives_before, lives_fit, opening_fit}
 use Rattle.protocol.proofs.Locks.{Once}
 use Rattle.protocol.proofs.Ops.{Op, on}
 use Rattle.protocol.proofs.Data.{TellsBody}
@@ -52,12 +52,12 @@ module _ {L : Lang} (o : L.Site → Name → Name) (ops : L.Site → Name → Li
     where
       plain : (k : Name) (st : Status L) → Every NoOps (inquiry_of a k st)
       plain k Dead = tt
-      plain k (Alive v) = tt
+      plain k (Active v) = tt
       plain k (Prepared t i) = ((λ b j. refl), tt)
 
       one : (k : Name) (st : Status L) → Every (λ l. TellsBody (ops l.site) (w.sites l.site) l.body) (inquiry_of a k st)
       one k Dead = tt
-      one k (Alive v) = tt
+      one k (Active v) = tt
       one k (Prepared t i) = (tt, tt)
 
   -- a new transaction
@@ -190,10 +190,10 @@ module _ {L : Lang} (law : IsLawful L) where
       lives = λ k here. absurd (subst (In k) (opening.tickets a) here);
       once = subst Once (sym (opening.tickets a)) tt;
       alone = λ j k g apart ex. absurd (nobody g ((w.sites a).status j) (opening.visits a j) ex);
-      seen = λ j k v g apart e. let f : Dead ≡ Alive v = sym (opening.visits a k) ∙ e in cc;
+      seen = λ j k v g apart e. let f : Dead ≡ Active v = sym (opening.visits a k) ∙ e in cc;
     };
     data_at = λ a. record {
-      visits = λ k v e. absurd (let f : Dead ≡ Alive v = sym (opening.visits a k) ∙ e in cc);
+      visits = λ k v e. absurd (let f : Dead ≡ Active v = sym (opening.visits a k) ∙ e in cc);
       rows = λ k t i e. absurd (let f : Dead ≡ Prepared t i = sym (opening.visits a k) ∙ e in cc);
       fresh = λ k not_. refl;
     };
@@ -210,5 +210,5 @@ module _ {L : Lang} (law : IsLawful L) where
     where
       nobody : (g : L.Leaf) (st : Status L) → st ≡ Dead → has_exclusive g st ≡ true → ⊥
       nobody g Dead e ex = cc
-      nobody g (Alive v) e ex = cc
+      nobody g (Active v) e ex = cc
       nobody g (Prepared t i) e ex = cc

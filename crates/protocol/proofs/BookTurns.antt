@@ -4,7 +4,7 @@ use Rattle.std.specs.List.{list_any, list_all}
 use Rattle.protocol.specs.Parts.{op_of, Untouched}
 use Rattle.protocol.specs.Language.{Lang, IsLawful, Name, same, put}
 use Rattle.protocol.specs.Letter.{Yes, No, Read, Vote, Body, Open, Fetch, Write, Prepare, Commit, Abort, Ticket, Rows, Refused, Voted, Ack, Inquire, Letter, is_for_desk}
-use Rattle.protocol.specs.Desk.{Ask, Stage, Idle, Reading, Writing, Voting, Undecided, Txn, Unknown, Known, Row, Choice, Deed, Stated, Worked, Phased, Committed, Aborted, Rolled_back, By_vote, By_refusal, By_store, Given_up, Why, Turn, Request, State, Commit_call, Rollback, Give_up, stays, is_named, ask_of, opens, visits, states, ends_by, phases, votes_go, decides, commits, voters_of, are_all_in, when, to_prepare, may_hold, vote_at, to_abort, on_state, on_commit_call, on_rollback, on_request, ticket_goes, on_ticket, with_rows, on_rows, on_refused, counts, on_vote, on_known, on_unknown, is_pair, are_acked, on_row, on_desk_letter}
+use Rattle.protocol.specs.Desk.{Ask, Stage, Idle, Reading, Writing, Voting, Undecided, Txn, Unknown, Known, Row, Choice, Deed, Stated, Worked, Phased, Committed, Aborted, Rolled_back, By_vote, By_refusal, By_store, Given_up, Why, Transition, Request, State, Commit_call, Rollback, Give_up, stays, is_named, ask_of, opens, visits, states, ends_by, phases, votes_go, decides, commits, voters_of, are_all_in, when, to_prepare, may_hold, vote_at, to_abort, on_state, on_commit_call, on_rollback, on_request, ticket_goes, on_ticket, with_rows, on_rows, on_refused, counts, on_vote, on_known, on_unknown, is_pair, are_acked, on_row, on_desk_letter}
 use Rattle.protocol.specs.World.{World}
 use Rattle.protocol.proofs.Basics.{Every, In, either, either_if, put_all, some_is, left_true, right_true}
 use Rattle.protocol.proofs.Fits.{Drawn, is_voting, FitsBody, Own, Fit}
@@ -96,7 +96,7 @@ module _ {L : Lang} (law : IsLawful L) (o : L.Site → Name → Name) (ops : L.S
       phase_decided idle all (x ∷ xs) = plain_booked o ops w t (record { txn = Row (x ∷ xs) []; letters = (phases t u).letters; deeds = Phased t ∷ Committed t ∷ [] }) refl refl refl (refl, (refl, tt)) (starts refl (view_plain w.past (Phased t ∷ Committed t ∷ []) t refl refl refl) u e idle (λ v f. absurd (no_row (x ∷ xs) [] v f))) (λ y f. absurd (no_row (x ∷ xs) [] y f)) (λ done. (told_now, λ y f. inr (refl, untouched_is idle all y f))) prepares_tell
 
       phases_booked : u.stage ≡ Idle → Booked o ops w t (phases t u)
-      phases_booked idle = either_if (λ (turn : Turn L). Booked o ops w t (record { txn = turn.txn; letters = (phases t u).letters; deeds = Phased t ∷ turn.deeds })) (are_all_in u (λ a. None)) _ _ (λ all. phase_decided idle all (voters_of u (λ a. None)))
+      phases_booked idle = either_if (λ (turn : Transition L). Booked o ops w t (record { txn = turn.txn; letters = (phases t u).letters; deeds = Phased t ∷ turn.deeds })) (are_all_in u (λ a. None)) _ _ (λ all. phase_decided idle all (voters_of u (λ a. None)))
           (λ waits. plain_booked o ops w t (record { txn = Known (record u { stage = Voting (λ a. None) }); letters = (phases t u).letters; deeds = Phased t ∷ [] }) refl refl refl (refl, tt) (starts refl (view_plain w.past (Phased t ∷ []) t refl refl refl) u e idle (λ v f. subst (λ z. (z.ticket ≡ u.ticket) × (is_voting z.stage ≡ true)) (known_is (record u { stage = Voting (λ a. None) }) v f) (refl, refl))) (voting_book (λ a. None)) (λ done. cc) prepares_tell)
 
     state_booked : (s : L.Statement) (choice : Choice L) → u.stage ≡ Idle → (fs : List (L.Leaf × L.Query)) → Booked o ops w t (record { txn = (states t u s (map ask_of fs) choice).txn; letters = (states t u s (map ask_of fs) choice).letters; deeds = Stated t s ∷ (states t u s (map ask_of fs) choice).deeds })

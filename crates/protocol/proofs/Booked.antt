@@ -5,7 +5,7 @@ use Rattle.protocol.specs.Parts.{op_of, operations, Untouched}
 use Rattle.protocol.specs.Language.{Lang, IsLawful, Name}
 use Rattle.protocol.specs.Letter.{Letter, is_for_desk}
 use Rattle.protocol.specs.Site.{SiteState}
-use Rattle.protocol.specs.Desk.{Ask, Stage, Idle, Reading, Writing, Undecided, Txn, Known, Deed, Answered, Turn, asks_out, writes_out, opens, opening, is_new, asks_go, writing, writes_go, after_letters}
+use Rattle.protocol.specs.Desk.{Ask, Stage, Idle, Reading, Writing, Undecided, Txn, Known, Deed, Answered, Transition, asks_out, writes_out, opens, opening, is_new, asks_go, writing, writes_go, after_letters}
 use Rattle.protocol.specs.World.{World}
 use Rattle.protocol.specs.Serial.{statement_in, answer_in, answers_of, phases_of}
 use Rattle.protocol.proofs.Basics.{Every, every_more, every_append, clash}
@@ -26,11 +26,11 @@ module _ {L : Lang} where
   Tells ops sites l = TellsBody (ops l.site) (sites l.site) l.body × (is_for_desk l.body ≡ false)
 
   -- a turn begins a first phase, or none
-  pub data PhaseTurn (w : World L) (t : Name) (turn : Turn L) : Type 0 where
+  pub data PhaseTurn (w : World L) (t : Name) (turn : Transition L) : Type 0 where
     goes_on : phases_of turn.deeds ≡ [] → ((v : Undecided L) → turn.txn ≡ Known v → is_voting v.stage ≡ true → (u : Undecided L) × (w.desk.txn t ≡ Known u) × (is_voting u.stage ≡ true)) → PhaseTurn w t turn
     starts : phases_of turn.deeds ≡ t ∷ [] → SameView w.past (w.past ++ turn.deeds) t → (u : Undecided L) → w.desk.txn t ≡ Known u → u.stage ≡ Idle → ((v : Undecided L) → turn.txn ≡ Known v → (v.ticket ≡ u.ticket) × (is_voting v.stage ≡ true)) → PhaseTurn w t turn
 
-  pub gone_phase : (w : World L) (t : Name) (turn : Turn L) → phases_of turn.deeds ≡ [] → ((v : Undecided L) → turn.txn ≡ Known v → ⊥) → PhaseTurn w t turn
+  pub gone_phase : (w : World L) (t : Name) (turn : Transition L) → phases_of turn.deeds ≡ [] → ((v : Undecided L) → turn.txn ≡ Known v → ⊥) → PhaseTurn w t turn
   gone_phase w t turn none gone = goes_on none (λ v e voting. absurd (gone v e))
 
   pub still_phase : (w : World L) (t : Name) (x : Txn L) (letters : List (Letter L)) → w.desk.txn t ≡ x → PhaseTurn w t (record { txn = x; letters = letters; deeds = [] })
@@ -50,7 +50,7 @@ module _ {L : Lang} where
   none_put [] all a k = refl
   none_put (l ∷ letters) all a k = ap₂ (λ x y. x ++ y) (all.0 a k) (none_put letters all.1 a k)
 
-  pub record Booked (o : L.Site → Name → Name) (ops : L.Site → Name → List (Op L)) (w : World L) (t : Name) (turn : Turn L) : Type 0 where
+  pub record Booked (o : L.Site → Name → Name) (ops : L.Site → Name → List (Op L)) (w : World L) (t : Name) (turn : Transition L) : Type 0 where
     pub new : L.Site → Name → List (Op L)
     pub grow : L.Site → Option Name
     pub ext : Ext grow ops new
@@ -76,7 +76,7 @@ module _ {L : Lang} where
 
   module _ (o : L.Site → Name → Name) (ops : L.Site → Name → List (Op L)) (w : World L) (t : Name) where
     -- a turn in which no statement goes on
-    pub plain_booked : (turn : Turn L) → flat_map (work_in t) turn.deeds ≡ [] → flat_map (statement_in t) turn.deeds ≡ [] → flat_map (answer_in t) turn.deeds ≡ [] → Every (λ d. txn_of d ≡ t) turn.deeds → PhaseTurn w t turn →
+    pub plain_booked : (turn : Transition L) → flat_map (work_in t) turn.deeds ≡ [] → flat_map (statement_in t) turn.deeds ≡ [] → flat_map (answer_in t) turn.deeds ≡ [] → Every (λ d. txn_of d ≡ t) turn.deeds → PhaseTurn w t turn →
         ((v : Undecided L) → turn.txn ≡ Known v → BookAt o ops w.sites w.letters w.past t v × ((a : L.Site) (k : Name) → v.ticket a ≡ Some k → Drawn (w.sites a) k × (o a k ≡ t))) →
         (IsCommitted turn.deeds t → Told w.past t Idle × ((u : Undecided L) → w.desk.txn t ≡ Known u → (is_voting u.stage ≡ true) ⊎ ((phases_of turn.deeds ≡ t ∷ []) × Untouched u))) → Every (Plain ops w.sites) turn.letters → Booked o ops w t turn
     plain_booked turn a b c only phase book told tells =
@@ -186,12 +186,12 @@ module _ {L : Lang} where
 
       -- writes go out
       pub writes_booked : (visited : L.Site → Bool) (letters : List (Letter L)) → FirstTell letters → (answer : L.Answer) (ws : List (L.Leaf × L.Write)) (before : List (Deed L)) → Every (λ d. txn_of d ≡ t) before → ((ds : List (Deed L)) → phases_of ds ≡ [] → phases_of (before ++ ds) ≡ []) → ((ds : List (Deed L)) → (IsCommitted ds t → ⊥) → IsCommitted (before ++ ds) t → ⊥) → BookAt o ops w.sites w.letters (w.past ++ before) t (record v { stage = Writing answer ws }) →
-          let turn : Turn L = after_letters letters (writes_go t (record v { visited = visited }) answer ws) in
+          let turn : Transition L = after_letters letters (writes_go t (record v { visited = visited }) answer ws) in
           Booked o ops w t (record { txn = turn.txn; letters = turn.letters; deeds = before ++ turn.deeds })
       writes_booked visited letters first answer ws before only unphased no_commit book =
           let r = writes_sent law t v.ticket ws v.sent ops book.sent in
           let out = writes_out {L = L} t v.ticket ws v.sent in
-          subst (λ (turn : Turn L). Booked o ops w t (record { txn = turn.txn; letters = turn.letters; deeds = before ++ turn.deeds })) (sym (first_written t (record v { visited = visited }) answer letters out.sent out.left out.letters))
+          subst (λ (turn : Transition L). Booked o ops w t (record { txn = turn.txn; letters = turn.letters; deeds = before ++ turn.deeds })) (sym (first_written t (record v { visited = visited }) answer letters out.sent out.left out.letters))
           (written_booked visited answer (letters ++ out.letters) out.sent before r.new r.ext only unphased no_commit
           (every_append (Tells r.new w.sites) letters out.letters (first.tell r.new) (ops_tell r.new out.letters r.tells)) (λ a k. r.put_out a k ∙ ap (λ l. ops a k ++ l) (sym (first.put out.letters a k))) out.left
           (book_writes law o w.sites t ops w.letters (letters ++ out.letters) (w.past ++ before) (record v { stage = Writing answer ws }) answer ws visited refl book r))

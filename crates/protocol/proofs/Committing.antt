@@ -3,14 +3,14 @@ use Rattle.std.proofs.Common.{◌≡◌, refl, sym, ap, ◌∙◌, subst, ◌||�
 use Rattle.std.specs.List.{list_all}
 use Rattle.protocol.specs.Language.{Lang, IsLawful, Name, same, put}
 use Rattle.protocol.specs.Letter.{Vote, Yes, No, Read, Body, Open, Fetch, Write, Prepare, Commit, Abort, Ticket, Rows, Refused, Voted, Ack, Inquire, Letter, letters_to, is_for_desk}
-use Rattle.protocol.specs.Site.{Visit, Status, Alive, on_letter, site_after, said, is_within}
-use Rattle.protocol.specs.Desk.{Choice, Voting, Undecided, Txn, Unknown, Known, Row, Deed, Phased, Committed, Aborted, By_vote, By_store, Why, Commit_call, Turn, stays, is_named, is_undecided, is_short_txn, when, to_prepare, voter_at, voters_of, are_all_in, commits, decides, votes_go, phases, on_commit_call, counts, on_vote, on_request, on_desk_letter, desk_after, is_desk_within, ends_by}
+use Rattle.protocol.specs.Site.{Visit, Status, Active, on_letter, site_after, said, is_within}
+use Rattle.protocol.specs.Desk.{Choice, Voting, Undecided, Txn, Unknown, Known, Row, Deed, Phased, Committed, Aborted, By_vote, By_store, Why, Commit_call, Transition, stays, is_named, is_undecided, is_short_txn, when, to_prepare, voter_at, voters_of, are_all_in, commits, decides, votes_go, phases, on_commit_call, counts, on_vote, on_request, on_desk_letter, desk_after, is_desk_within, ends_by}
 use Rattle.protocol.specs.World.{World, turned, turns, with_site, addressed, comes, comes_to, called}
 use Rattle.protocol.specs.Client.{first, next, IsQuiet}
 use Rattle.protocol.specs.Parts.{In}
-use Rattle.protocol.specs.Spots.{at, Unlocked}
-use Rattle.protocol.specs.Course.{Steady}
-use Rattle.protocol.specs.Leaving.{Closed, is_free, LeavingAt, Ending, EndKept, Within}
+use Rattle.protocol.specs.VisitPlaces.{at, Unlocked}
+use Rattle.protocol.specs.StatementCourse.{Steady}
+use Rattle.protocol.specs.AfterAbort.{Closed, is_free, LeavingAt, Ending, EndKept, Within}
 use Rattle.protocol.specs.Committing.{VotedBy, Ballot, is_aside, is_asked, has_voted, is_counted, InVote, Committing, in_vote, is_done, is_undone, CommitKept}
 use Rattle.protocol.proofs.Basics.{Every, every_append, every_map, either, either_if, put_all, put_here, same_law, same_refl, if_true, clash, all_in}
 use Rattle.protocol.proofs.Locks.{Once}
@@ -19,7 +19,7 @@ use Rattle.protocol.proofs.Queue.{at_append, at_here, at_away}
 use Rattle.protocol.proofs.AtSite.{head_is}
 use Rattle.protocol.proofs.AtDesk.{at_said, at_unsaid}
 use Rattle.protocol.proofs.Limits.{OfTheEnd, turn_within, end_within}
-use Rattle.protocol.proofs.Leaving.{NoOp, closed_none}
+use Rattle.protocol.proofs.AfterAbort.{NoOp, closed_none}
 use Rattle.protocol.proofs.Ended.{at_none, in_front, elsewhere, ending_goes_on, ending_quiet}
 use Rattle.protocol.proofs.Loose.{ends, ends_within}
 use Rattle.protocol.proofs.Ballots.{Hears, none_behind, counted_vote, prepares, begins_ballot, ballot_leaving, all_in_leaving, silent_in, in_votes, is_voter, commit_out}
@@ -107,7 +107,7 @@ module _ {L : Lang} (law : IsLawful L) (once : Once L.sites) (E : Type 0) (t : N
         decided_short false (v ∷ voters) = refl
 
         now_short : is_short_txn (Known u) ≡ true → (kept : Bool) → is_short_txn (votes_go t u votes kept).txn ≡ true
-        now_short short kept = either (λ (turn : Turn L). is_short_txn turn.txn ≡ true) (are_all_in u votes) _ _ (decided_short kept (voters_of u votes)) short
+        now_short short kept = either (λ (turn : Transition L). is_short_txn turn.txn ≡ true) (are_all_in u votes) _ _ (decided_short kept (voters_of u votes)) short
 
   -- ---- a commit is asked for
   no_voters : (visited : L.Site → Bool) (ticket : L.Site → Option Name) (sites : List L.Site) → flat_map (λ a. if visited a then voter_at a None (ticket a) else []) sites ≡ []
@@ -120,7 +120,7 @@ module _ {L : Lang} (law : IsLawful L) (once : Once L.sites) (E : Type 0) (t : N
 
   -- before the first vote nothing goes out but the Prepares
   none_out : (u : Undecided L) → (votes_go t u (λ a. None) true).letters ≡ []
-  none_out u = either (λ (turn : Turn L). turn.letters ≡ []) (are_all_in u (λ a. None)) _ _
+  none_out u = either (λ (turn : Transition L). turn.letters ≡ []) (are_all_in u (λ a. None)) _ _
       (ap (λ voters. (decides t (record u { stage = Voting (λ a. None) }) true voters).letters) (no_voters u.visited u.ticket L.sites)) refl
 
   module _ (w : World L) (steady : Steady t w) (choice : Choice L) where
@@ -190,8 +190,8 @@ module _ {L : Lang} (law : IsLawful L) (once : Once L.sites) (E : Type 0) (t : N
     after = record w { letters = q }
 
     -- a site is asked
-    prepare_comes : (kept : Bool) (choice : Choice L) (k : Name) (visit : Visit L) → v.visited here ≡ true → v.ticket here ≡ Some k → vote.votes here ≡ None → l.body ≡ Prepare k visit.done → at here q ≡ [] → (w.sites here).status k ≡ Alive visit → ((j : Name) → same j k ≡ false → Unlocked ((w.sites here).status j)) → (kept ≡ true) ⊎ E → Committing E t before (comes_to (is_for_desk l.body) after kept choice l)
-    prepare_comes kept choice k visit visited mine none is silent alive free excuse =
+    prepare_comes : (kept : Bool) (choice : Choice L) (k : Name) (visit : Visit L) → v.visited here ≡ true → v.ticket here ≡ Some k → vote.votes here ≡ None → l.body ≡ Prepare k visit.done → at here q ≡ [] → (w.sites here).status k ≡ Active visit → ((j : Name) → same j k ≡ false → Unlocked ((w.sites here).status j)) → (kept ≡ true) ⊎ E → Committing E t before (comes_to (is_for_desk l.body) after kept choice l)
+    prepare_comes kept choice k visit visited mine none is silent active free excuse =
         let s = w.sites here in
         let act = on_letter s l.txn kept l.body in
         let said_ = addressed here l.txn (said s act) in
@@ -210,7 +210,7 @@ module _ {L : Lang} (law : IsLawful L) (once : Once L.sites) (E : Type 0) (t : N
               (subst (Ballot E (site_after s act).status (v.visited here) (v.ticket here) (vote.votes here))
               (sym (at_append here q said_ ∙ ap (λ x. x ++ at here said_) silent ∙ at_here here here l.txn (said s act) ((law.sites here here).1 refl)))
               (subst (λ c. Ballot E (site_after s (on_letter s l.txn kept c)).status (v.visited here) (v.ticket here) (vote.votes here) (said s (on_letter s l.txn kept c))) (sym is)
-              (prepares E s l.txn k (v.ticket here) visit (v.visited here) (vote.votes here) visited mine none alive free kept excuse)))
+              (prepares E s l.txn k (v.ticket here) visit (v.visited here) (vote.votes here) visited mine none active free kept excuse)))
               (λ a other. subst (Ballot E (w.sites a).status (v.visited a) (v.ticket a) (vote.votes a)) (sym (at_append a q said_ ∙ ap (λ x. at a q ++ x) (at_away a here l.txn (said s act) other) ∙ append-nil (at a q))) (elsewhere_at a other));
           past = vote.past;
         })))
@@ -268,9 +268,9 @@ module _ {L : Lang} (law : IsLawful L) (once : Once L.sites) (E : Type 0) (t : N
       where
         go : Ballot E (w.sites here).status (v.visited here) (v.ticket here) (vote.votes here) (l.body ∷ at here q) → Committing E t before (comes after kept choice l)
         go (is_aside unvisited none silent free) = let f : l.body ∷ at here q ≡ [] = silent in cc
-        go (is_asked k visit visited mine none waits alive free) =
+        go (is_asked k visit visited mine none waits active free) =
             let is = head_is l.body (Prepare k visit.done) (at here q) [] waits in
-            prepare_comes kept choice k visit visited mine none is (none_behind l.body (Prepare k visit.done) (at here q) waits) alive free (subst (CommitKept E kept) is excuse)
+            prepare_comes kept choice k visit visited mine none is (none_behind l.body (Prepare k visit.done) (at here q) waits) active free (subst (CommitKept E kept) is excuse)
         go (has_voted k x visited mine none waits by) =
             let is = head_is l.body (Voted k x) (at here q) [] waits in
             vote_comes k x visited mine none is (none_behind l.body (Voted k x) (at here q) waits) by kept choice (subst (CommitKept E kept) is excuse)
@@ -312,7 +312,7 @@ module _ {L : Lang} (E F : Type 0) (more : E → F) where
 
   ballot_more : (f : Name → Status L) (b : Bool) (tk : Option Name) (vote : Option Vote) (bs : List (Body L)) → Ballot E f b tk vote bs → Ballot F f b tk vote bs
   ballot_more f b tk vote bs (is_aside unvisited none silent free) = is_aside unvisited none silent free
-  ballot_more f b tk vote bs (is_asked k v visited own none waits alive free) = is_asked k v visited own none waits alive free
+  ballot_more f b tk vote bs (is_asked k v visited own none waits active free) = is_asked k v visited own none waits active free
   ballot_more f b tk vote bs (has_voted k x visited own none waits by) = has_voted k x visited own none waits (voted_more f k x by)
   ballot_more f b tk vote bs (is_counted k x visited own is silent by) = is_counted k x visited own is silent by
 

@@ -4,7 +4,7 @@ use Rattle.std.specs.Prelude.{⊤}
 use Rattle.protocol.specs.Parts.{op_of}
 use Rattle.protocol.specs.Language.{Lang, IsLawful, Name, same, put, written}
 use Rattle.protocol.specs.Letter.{Yes, No, Read, Vote, Body, Open, Fetch, Write, Prepare, Commit, Abort, Ticket, Rows, Refused, Voted, Ack, Inquire}
-use Rattle.protocol.specs.Site.{Visit, Status, Dead, Alive, Prepared, SiteState, Act, has_exclusive, has_lock, sees, next_ticket, new_visit, site_after, said, restarted, site_restarted, on_give_up}
+use Rattle.protocol.specs.Site.{Visit, Status, Dead, Active, Prepared, SiteState, Act, has_exclusive, has_lock, sees, next_ticket, new_visit, site_after, said, restarted, site_restarted, on_give_up}
 use Rattle.protocol.proofs.Basics.{Every, In, in_append, put_all, put_here, clash, same_law, either_if, by_test, or_left}
 use Rattle.protocol.proofs.Fits.{Drawn}
 use Rattle.protocol.proofs.SiteTable.{Acted, says_nothing, says_gone, says_no, says_yes, says_ack, opens, reads, writes, prepares, only_read, votes_no, refuses, applies, ends, discards}
@@ -28,7 +28,7 @@ module _ {L : Lang} where
     pub shared : (g : L.Leaf) (q : L.Query) → In (Get g q) past → v.shared g ≡ true
 
   pub record SiteData (ops : Name → List (Op L)) (s : SiteState L) : Type 0 where
-    pub visits : (k : Name) (v : Visit L) → s.status k ≡ Alive v → VisitAt (ops k) v
+    pub visits : (k : Name) (v : Visit L) → s.status k ≡ Active v → VisitAt (ops k) v
     pub rows : (k t : Name) (i : L.Intentions) → s.status k ≡ Prepared t i → i ≡ adds L (sets (ops k)) L.none
     pub fresh : (k : Name) → (Drawn s k → ⊥) → ops k ≡ []
 
@@ -44,7 +44,7 @@ module _ {L : Lang} where
     pub leaf : L.Leaf
     pub query : L.Query
     pub nth : NthOp ops n (Get leaf query)
-    pub now : (v : Visit L) → s.status k ≡ Alive v → (v.shared leaf ≡ true) × (rows ≡ L.parts query (written L leaf (sets nth.before) (s.kept leaf)))
+    pub now : (v : Visit L) → s.status k ≡ Active v → (v.shared leaf ≡ true) × (rows ≡ L.parts query (written L leaf (sets nth.before) (s.kept leaf)))
 
   abbrev pub TellsVote : List (Op L) → Vote → Type 0
   TellsVote ops Read = sets ops ≡ []
@@ -68,7 +68,7 @@ module _ {L : Lang} where
 
   -- a visit that lives has what it shared, unchanged
   abbrev pub ReadsStay : (Name → List (Op L)) → SiteState L → SiteState L → Type 0
-  ReadsStay ops s new = (k : Name) (v : Visit L) → new.status k ≡ Alive v → (ops k ≡ []) ⊎ ((u : Visit L) × (s.status k ≡ Alive u) × ((g : L.Leaf) → u.shared g ≡ true → (v.shared g ≡ true) × (new.kept g ≡ s.kept g)))
+  ReadsStay ops s new = (k : Name) (v : Visit L) → new.status k ≡ Active v → (ops k ≡ []) ⊎ ((u : Visit L) × (s.status k ≡ Active u) × ((g : L.Leaf) → u.shared g ≡ true → (v.shared g ≡ true) × (new.kept g ≡ s.kept g)))
 
   pub body_tells : (ops : Name → List (Op L)) (s new : SiteState L) (b : Body L) → ReadsStay ops s new → TellsBody ops s b → TellsBody ops new b
   body_tells ops s new Open stay tells = tt
@@ -96,23 +96,23 @@ module _ {L : Lang} where
     pub data_after : SiteData ops new
     pub stay : ReadsStay ops s new
 
-  pub visit_is : (a b : Visit L) → Alive a ≡ Alive b → a ≡ b
+  pub visit_is : (a b : Visit L) → Active a ≡ Active b → a ≡ b
   visit_is a b e = cc
 
   same_steps : (ops : Name → List (Op L)) (s : SiteState L) → SiteData ops s → Steps ops s s
   same_steps ops s now = record { data_after = now; stay = λ k v e. inr (v, e, λ g is. (is, refl)) }
 
-  -- a ticket that isn't alive any more
-  put_steps : (ops : Name → List (Op L)) (s : SiteState L) (kept : L.Leaf → L.Content) (k : Name) (st : Status L) (names : List Name) → SiteData ops s → ((v : Visit L) → st ≡ Alive v → ⊥) →
-      ((t : Name) (i : L.Intentions) → st ≡ Prepared t i → i ≡ adds L (sets (ops k)) L.none) → ((j : Name) (u : Visit L) (g : L.Leaf) → same j k ≡ false → s.status j ≡ Alive u → u.shared g ≡ true → kept g ≡ s.kept g) →
+  -- a ticket that isn't active any more
+  put_steps : (ops : Name → List (Op L)) (s : SiteState L) (kept : L.Leaf → L.Content) (k : Name) (st : Status L) (names : List Name) → SiteData ops s → ((v : Visit L) → st ≡ Active v → ⊥) →
+      ((t : Name) (i : L.Intentions) → st ≡ Prepared t i → i ≡ adds L (sets (ops k)) L.none) → ((j : Name) (u : Visit L) (g : L.Leaf) → same j k ≡ false → s.status j ≡ Active u → u.shared g ≡ true → kept g ≡ s.kept g) →
       Steps ops s (record s { kept = kept; status = put same k st s.status; known = names })
   put_steps ops s kept k st names now dead row unchanged = record {
     data_after = record {
-      visits = λ j v. put_all same same_law k st s.status (λ j x. x ≡ Alive v → VisitAt (ops j) v) (λ e. absurd (dead v e)) (λ j other e. now.visits j v e) j;
+      visits = λ j v. put_all same same_law k st s.status (λ j x. x ≡ Active v → VisitAt (ops j) v) (λ e. absurd (dead v e)) (λ j other e. now.visits j v e) j;
       rows = λ j t i. put_all same same_law k st s.status (λ j x. x ≡ Prepared t i → i ≡ adds L (sets (ops j)) L.none) (row t i) (λ j other e. now.rows j t i e) j;
       fresh = now.fresh;
     };
-    stay = λ j v. put_all same same_law k st s.status (λ j x. x ≡ Alive v → (ops j ≡ []) ⊎ ((u : Visit L) × (s.status j ≡ Alive u) × ((g : L.Leaf) → u.shared g ≡ true → (v.shared g ≡ true) × (kept g ≡ s.kept g))))
+    stay = λ j v. put_all same same_law k st s.status (λ j x. x ≡ Active v → (ops j ≡ []) ⊎ ((u : Visit L) × (s.status j ≡ Active u) × ((g : L.Leaf) → u.shared g ≡ true → (v.shared g ≡ true) × (kept g ≡ s.kept g))))
         (λ e. absurd (dead v e)) (λ j other e. inr (v, e, λ g is. (is, unchanged j v g other e is))) j;
   }
 
@@ -120,19 +120,19 @@ module _ {L : Lang} where
   ends_steps ops s k names now = put_steps ops s s.kept k Dead names now (λ v e. cc) (λ t i e. cc) (λ j u g other e is. refl)
 
   -- a visit goes on
-  locks_steps : (ops : Name → List (Op L)) (s : SiteState L) (k : Name) (v w : Visit L) (h : L.Leaf) (names : List Name) → SiteData ops s → s.status k ≡ Alive v → VisitAt (ops k) w → ((g : L.Leaf) → v.shared g ≡ true → w.shared g ≡ true) →
-      Steps ops s (record s { status = put same k (Alive w) (λ j. sees h (s.status j)); known = names })
+  locks_steps : (ops : Name → List (Op L)) (s : SiteState L) (k : Name) (v w : Visit L) (h : L.Leaf) (names : List Name) → SiteData ops s → s.status k ≡ Active v → VisitAt (ops k) w → ((g : L.Leaf) → v.shared g ≡ true → w.shared g ≡ true) →
+      Steps ops s (record s { status = put same k (Active w) (λ j. sees h (s.status j)); known = names })
   locks_steps ops s k v w h names now e visit more =
       let f : Name → Status L = λ j. sees h (s.status j) in
       record {
         data_after = record {
-          visits = λ j x. put_all same same_law k (Alive w) f (λ j y. y ≡ Alive x → VisitAt (ops j) x) (λ is. subst (VisitAt (ops k)) (visit_is w x is) visit)
+          visits = λ j x. put_all same same_law k (Active w) f (λ j y. y ≡ Active x → VisitAt (ops j) x) (λ is. subst (VisitAt (ops k)) (visit_is w x is) visit)
               (λ j other is. let from = seen_from h (s.status j) x is in let old = now.visits j from.0 from.1 in
               subst (VisitAt (ops j)) (sym from.2) (record { past = old.past; rest = old.rest; split = old.split; done = old.done; changes = old.changes; shared = old.shared })) j;
-          rows = λ j t i. put_all same same_law k (Alive w) f (λ j y. y ≡ Prepared t i → i ≡ adds L (sets (ops j)) L.none) (λ is. cc) (λ j other is. now.rows j t i (sees_prepared h (s.status j) t i is)) j;
+          rows = λ j t i. put_all same same_law k (Active w) f (λ j y. y ≡ Prepared t i → i ≡ adds L (sets (ops j)) L.none) (λ is. cc) (λ j other is. now.rows j t i (sees_prepared h (s.status j) t i is)) j;
           fresh = now.fresh;
         };
-        stay = λ j x. put_all same same_law k (Alive w) f (λ j y. y ≡ Alive x → (ops j ≡ []) ⊎ ((u : Visit L) × (s.status j ≡ Alive u) × ((g : L.Leaf) → u.shared g ≡ true → (x.shared g ≡ true) × (s.kept g ≡ s.kept g))))
+        stay = λ j x. put_all same same_law k (Active w) f (λ j y. y ≡ Active x → (ops j ≡ []) ⊎ ((u : Visit L) × (s.status j ≡ Active u) × ((g : L.Leaf) → u.shared g ≡ true → (x.shared g ≡ true) × (s.kept g ≡ s.kept g))))
             (λ is. inr (v, e, λ g held. (subst (λ z. z.shared g ≡ true) (visit_is w x is) (more g held), refl)))
             (λ j other is. let from = seen_from h (s.status j) x is in inr (from.0, from.1, λ g held. (subst (λ z. z.shared g ≡ true) (sym from.2) held, refl))) j;
       }
@@ -187,13 +187,13 @@ module _ {L : Lang} where
     acted_steps ops s t b act now locked tells (says_ack k e) = same_steps ops s now
     acted_steps ops s t b act now locked tells opens = record {
       data_after = record {
-        visits = λ j v. put_all same same_law (next_ticket s) (Alive (new_visit s)) s.status (λ j x. x ≡ Alive v → VisitAt (ops j) v)
+        visits = λ j v. put_all same same_law (next_ticket s) (Active (new_visit s)) s.status (λ j x. x ≡ Active v → VisitAt (ops j) v)
             (λ e. subst (VisitAt (ops (next_ticket s))) (visit_is (new_visit s) v e) (record { past = []; rest = []; split = now.fresh (next_ticket s) (not_drawn s); done = refl; changes = refl; shared = λ g q here. absurd here }))
             (λ j other e. now.visits j v e) j;
-        rows = λ j u i. put_all same same_law (next_ticket s) (Alive (new_visit s)) s.status (λ j x. x ≡ Prepared u i → i ≡ adds L (sets (ops j)) L.none) (λ e. cc) (λ j other e. now.rows j u i e) j;
+        rows = λ j u i. put_all same same_law (next_ticket s) (Active (new_visit s)) s.status (λ j x. x ≡ Prepared u i → i ≡ adds L (sets (ops j)) L.none) (λ e. cc) (λ j other e. now.rows j u i e) j;
         fresh = λ j new. now.fresh j (λ drawn. new (drawn_next s j drawn));
       };
-      stay = λ j v. put_all same same_law (next_ticket s) (Alive (new_visit s)) s.status (λ j x. x ≡ Alive v → (ops j ≡ []) ⊎ ((u : Visit L) × (s.status j ≡ Alive u) × ((g : L.Leaf) → u.shared g ≡ true → (v.shared g ≡ true) × (s.kept g ≡ s.kept g))))
+      stay = λ j v. put_all same same_law (next_ticket s) (Active (new_visit s)) s.status (λ j x. x ≡ Active v → (ops j ≡ []) ⊎ ((u : Visit L) × (s.status j ≡ Active u) × ((g : L.Leaf) → u.shared g ≡ true → (v.shared g ≡ true) × (s.kept g ≡ s.kept g))))
           (λ e. inl (now.fresh (next_ticket s) (not_drawn s))) (λ j other e. inr (v, e, λ g is. (is, refl))) j;
     }
     acted_steps ops s t b act now locked tells (reads k op g q v e next free) = locks_steps ops s k v _ g _ now e (read_visit (ops k) v op g q (now.visits k v e) tells next)
@@ -211,7 +211,7 @@ module _ {L : Lang} where
         (λ j v g other f held. untouched (ops k) i g (s.kept g) (now.rows k u i e) (free j v g other f held))
       where
         -- what another visit shares isn't touched by the row
-        free : (j : Name) (v : Visit L) (g : L.Leaf) → same j k ≡ false → s.status j ≡ Alive v → v.shared g ≡ true → L.touches g i ≡ false
+        free : (j : Name) (v : Visit L) (g : L.Leaf) → same j k ≡ false → s.status j ≡ Active v → v.shared g ≡ true → L.touches g i ≡ false
         free j v g other f held = ⊎_elim
             (λ is. clash (ap (has_lock g) f ∙ or_left (v.shared g) (L.touches g v.changes) held) (locked.alone k j g (unequal j k other) (ap (has_exclusive g) e ∙ is)))
             (λ none. none) (by_test (L.touches g i))
@@ -233,7 +233,7 @@ module _ {L : Lang} where
             leaf = g;
             query = q;
             nth = tells;
-            now = λ x f. let eq = visit_is _ x (sym (put_here same same_law k (Alive (record v { done = op; shared = put L.same_leaf g true v.shared })) (λ j. sees g (s.status j))) ∙ f) in (
+            now = λ x f. let eq = visit_is _ x (sym (put_here same same_law k (Active (record v { done = op; shared = put L.same_leaf g true v.shared })) (λ j. sees g (s.status j))) ∙ f) in (
               subst (λ z. z.shared g ≡ true) eq (put_here L.same_leaf law.leaves g true v.shared),
               ap (L.parts q) (ap (λ i. L.changed g i (s.kept g)) at.changes ∙ changed_by L law g (sets at.past) (s.kept g) ∙ ap (λ l. written L g (sets l) (s.kept g)) is.0),
             );
@@ -279,17 +279,17 @@ module _ {L : Lang} where
       stay = λ k v e. absurd (no_visit (s.status k) v e);
     }
       where
-        no_visit : (st : Status L) (v : Visit L) → restarted st ≡ Alive v → ⊥
+        no_visit : (st : Status L) (v : Visit L) → restarted st ≡ Active v → ⊥
         no_visit Dead v e = cc
-        no_visit (Alive u) v e = cc
+        no_visit (Active u) v e = cc
         no_visit (Prepared t i) v e = cc
 
         row_is : (st : Status L) (t : Name) (i : L.Intentions) → restarted st ≡ Prepared t i → st ≡ Prepared t i
         row_is Dead t i e = cc
-        row_is (Alive u) t i e = cc
+        row_is (Active u) t i e = cc
         row_is (Prepared u j) t i e = e
 
     pub give_up_steps : (ops : Name → List (Op L)) (s : SiteState L) (k : Name) (st : Status L) → SiteData ops s → Steps ops s (site_after s (on_give_up k st))
     give_up_steps ops s k Dead now = same_steps ops s now
-    give_up_steps ops s k (Alive v) now = ends_steps ops s k _ now
+    give_up_steps ops s k (Active v) now = ends_steps ops s k _ now
     give_up_steps ops s k (Prepared t i) now = same_steps ops s now

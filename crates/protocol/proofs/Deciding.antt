@@ -3,8 +3,8 @@ use Rattle.std.proofs.Common.{◌≡◌, refl, sym, ap, ◌∙◌, subst, Bool, 
 use Rattle.std.proofs.lemmas.List.Folds.{list_any-append}
 use Rattle.protocol.specs.Language.{Lang, IsLawful, Name, same}
 use Rattle.protocol.specs.Letter.{Yes, No, Read, Vote, Body, Abort, Voted, Letter}
-use Rattle.protocol.specs.Site.{Status, Dead, Alive, Prepared, is_dead, is_alive}
-use Rattle.protocol.specs.Desk.{Voting, Undecided, Txn, Unknown, Known, Row, Deed, Committed, Aborted, By_store, Turn, desk_after, ends_by, voter_at, voters_of, are_all_in, decides, votes_go, commits, may_hold, vote_at, to_abort, when}
+use Rattle.protocol.specs.Site.{Status, Dead, Active, Prepared, is_dead, is_active}
+use Rattle.protocol.specs.Desk.{Voting, Undecided, Txn, Unknown, Known, Row, Deed, Committed, Aborted, By_store, Transition, desk_after, ends_by, voter_at, voters_of, are_all_in, decides, votes_go, commits, may_hold, vote_at, to_abort, when}
 use Rattle.protocol.specs.World.{World, is_site}
 use Rattle.protocol.specs.Serial.{is_committed, commits_it}
 use Rattle.protocol.proofs.Basics.{Every, In, every_more, every_flat, clash, same_law, same_refl, either, either_if, or_cases, or_left, or_right, not_true, by_test, found, all_in, in_flat, some_is, if_true}
@@ -68,15 +68,15 @@ module _ {L : Lang} (law : IsLawful L) where
           let here = site_in a L.sites ticket.3 in
           ⊎_elim (λ n. clash ticket.2 (not_true (v.visited a) n)) (λ s. s) (or_cases (not (v.visited a)) (is_some (votes a)) (all_in (λ b. not (v.visited b) || is_some (votes b)) a L.sites all here))
 
-      quiet_by : (a : L.Site) (k : Name) → Own a k v → (x : Option Vote) → votes a ≡ x → is_some x ≡ true → is_alive ((w.sites a).status k) ≡ false
+      quiet_by : (a : L.Site) (k : Name) → Own a k v → (x : Option Vote) → votes a ≡ x → is_some x ≡ true → is_active ((w.sites a).status k) ≡ false
       quiet_by a k own None f some = cc
-      quiet_by a k own (Some Yes) f some = ap is_alive (known.votes votes stage a Yes f k own).1
+      quiet_by a k own (Some Yes) f some = ap is_active (known.votes votes stage a Yes f k own).1
       quiet_by a k own (Some No) f some = absurd (known.none votes stage a f)
       quiet_by a k own (Some Read) f some = dead_quiet ((w.sites a).status k) (known.votes votes stage a Read f k own)
         where
-          dead_quiet : (st : Status L) → is_dead st ≡ true → is_alive st ≡ false
+          dead_quiet : (st : Status L) → is_dead st ≡ true → is_active st ≡ false
           dead_quiet Dead d = refl
-          dead_quiet (Alive x) d = cc
+          dead_quiet (Active x) d = cc
           dead_quiet (Prepared n i) d = refl
 
       dead_read : (a : L.Site) (k : Name) → Own a k v → (x : Option Vote) → votes a ≡ x → is_some x ≡ true → (is_dead ((w.sites a).status k) ≡ false) ⊎ In (record { site = a; txn = t; body = Voted k Read }) w.letters
@@ -85,7 +85,7 @@ module _ {L : Lang} (law : IsLawful L) where
       dead_read a k own (Some No) f some = absurd (known.none votes stage a f)
       dead_read a k own (Some Read) f some = inr (known.reads votes stage a k f own)
 
-      pub all_quiet : are_all_in v votes ≡ true → (a : L.Site) (k : Name) → Own a k v → is_alive ((w.sites a).status k) ≡ false
+      pub all_quiet : are_all_in v votes ≡ true → (a : L.Site) (k : Name) → Own a k v → is_active ((w.sites a).status k) ≡ false
       all_quiet all a k own = quiet_by a k own (votes a) refl (has_voted all a k own)
 
       yes_by : (a : L.Site) (k : Name) (i : L.Intentions) → Own a k v → (w.sites a).status k ≡ Prepared t i → (x : Option Vote) → votes a ≡ x → is_some x ≡ true → votes a ≡ Some Yes
@@ -103,7 +103,7 @@ module _ {L : Lang} (law : IsLawful L) where
           (rw (if_true (v.visited a) (voter_at a (votes a) (v.ticket a)) [] ticket.2, yes, own) (inl refl))
 
       votes_of_voters : (x : L.Site × Name) → IsVoter x → Votes o w.sites t x
-      votes_of_voters x is = let ticket = known.tickets x.0 x.1 is.1 in (ticket.0, ticket.1, ap is_alive (known.votes votes stage x.0 Yes is.0 x.1 is.1).1)
+      votes_of_voters x is = let ticket = known.tickets x.0 x.1 is.1 in (ticket.0, ticket.1, ap is_active (known.votes votes stage x.0 Yes is.0 x.1 is.1).1)
 
       -- the transaction is committed, with its commit row where somebody voted Yes
       commit_fine : (x : Txn L) (letters : List (Letter L)) (before : List (Deed L)) → ((j : Name) → is_committed before j ≡ false) → ((a : L.Site) (k : Name) → Own a k u → Own a k v) → are_all_in v votes ≡ true →
@@ -142,7 +142,7 @@ module _ {L : Lang} (law : IsLawful L) where
   module _ (o : L.Site → Name → Name) (w : World L) (t : Name) (fit : Fit o w) (u : Undecided L) (e : w.desk.txn t ≡ Known u) (v : Undecided L) (votes : L.Site → Option Vote) (known : KnownAt o w.sites w.letters t (record v { stage = Voting votes })) where
     pub votes_fine : (kept : Bool) (letters : List (Letter L)) (before : List (Deed L)) → ((j : Name) → is_committed before j ≡ false) → ((a : L.Site) (k : Name) → Own a k u → Own a k v) → Grows u (record v { stage = Voting votes }) →
         TurnFine o w t (record { txn = (votes_go t v votes kept).txn; letters = letters; deeds = before ++ (votes_go t v votes kept).deeds })
-    votes_fine kept letters before none own grows = either_if (λ (turn : Turn L). TurnFine o w t (record { txn = turn.txn; letters = letters; deeds = before ++ turn.deeds })) (are_all_in v votes) _ _
+    votes_fine kept letters before none own grows = either_if (λ (turn : Transition L). TurnFine o w t (record { txn = turn.txn; letters = letters; deeds = before ++ turn.deeds })) (are_all_in v votes) _ _
         (λ all. commits_or_ends o w t fit u e (record v { stage = Voting votes }) votes known refl kept letters before none own all (voters_of v votes) refl)
         (λ waits. goes_fine o w t fit u (record v { stage = Voting votes }) letters (before ++ []) e grows known (λ j. list_any-append (commits_it j) before [] ∙ ap (λ b. b || false) (none j)))
 
@@ -164,5 +164,5 @@ module _ {L : Lang} (law : IsLawful L) where
 
     pub votes_letters : (kept : Bool) → ((a : L.Site) (k : Name) → Own a k v → Own a k u) →
         Every (Fits o (desk_after w.desk t (votes_go t v votes kept).txn) (w.past ++ (votes_go t v votes kept).deeds) w.sites) (votes_go t v votes kept).letters
-    votes_letters kept own = either_if (λ (turn : Turn L). Every (Fits o (desk_after w.desk t turn.txn) (w.past ++ turn.deeds) w.sites) turn.letters) (are_all_in v votes) _ _
+    votes_letters kept own = either_if (λ (turn : Transition L). Every (Fits o (desk_after w.desk t turn.txn) (w.past ++ turn.deeds) w.sites) turn.letters) (are_all_in v votes) _ _
         (λ all. decided_letters kept all own (voters_of v votes) refl) (λ waits. tt)

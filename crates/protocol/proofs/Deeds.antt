@@ -9,16 +9,16 @@ use Rattle.protocol.specs.Desk.{Deed, Began, Stated, Worked, Answered, Phased, C
 use Rattle.protocol.specs.World.{World}
 use Rattle.protocol.specs.Serial.{commits_it, is_committed, phased_of, phases_of, committed, statement_in, statements_of, answer_in, answers_of}
 use Rattle.protocol.specs.Client.{IsReached}
-use Rattle.protocol.specs.Leaving.{Fruitless}
+use Rattle.protocol.specs.AfterAbort.{Fruitless}
 use Rattle.protocol.specs.Parts.{Work}
 use Rattle.protocol.specs.ClientLaw.{log}
 use Rattle.protocol.proofs.Basics.{Every, In, every_more, by_test, same_law, same_refl, if_true, if_false}
 use Rattle.protocol.proofs.Locks.{from_filter}
 use Rattle.protocol.proofs.Fits.{Born}
 use Rattle.protocol.proofs.Works.{txn_of, view_other}
-use Rattle.protocol.proofs.DeepSites.{IsDeep}
-use Rattle.protocol.proofs.DeepEvents.{run_deep, opening_deep}
-use Rattle.protocol.proofs.Reached.{behind}
+use Rattle.protocol.proofs.InvariantSites.{IsDeep}
+use Rattle.protocol.proofs.InvariantEvents.{run_deep, opening_deep}
+use Rattle.protocol.proofs.ForgottenLetters.{behind}
 
 -- filters that agree on a list
 filter_same : {A : Type 0} (p q : A → Bool) (xs : List A) → ((x : A) → In x xs → p x ≡ q x) → filter p xs ≡ filter q xs

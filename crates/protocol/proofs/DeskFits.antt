@@ -3,8 +3,8 @@ use Rattle.std.proofs.Common.{◌≡◌, sym, ◌∙◌, subst, true, false, Lis
 use Rattle.std.proofs.lemmas.List.Folds.{list_any-append}
 use Rattle.protocol.specs.Language.{Lang, Name, same, put}
 use Rattle.protocol.specs.Letter.{Yes, No, Read, Body, Open, Fetch, Write, Prepare, Commit, Abort, Ticket, Rows, Refused, Voted, Ack, Inquire, Letter}
-use Rattle.protocol.specs.Site.{Prepared, is_dead, is_alive, is_prepared}
-use Rattle.protocol.specs.Desk.{Undecided, Known, Row, Deed, Desk, Turn, desk_after}
+use Rattle.protocol.specs.Site.{Prepared, is_dead, is_active, is_prepared}
+use Rattle.protocol.specs.Desk.{Undecided, Known, Row, Deed, Desk, Transition, desk_after}
 use Rattle.protocol.specs.World.{World, turned}
 use Rattle.protocol.specs.Serial.{is_committed, commits_it}
 use Rattle.protocol.proofs.Basics.{Every, In, put_all, put_here, put_there, every_append, every_more, clash, same_law, or_cases, or_left, or_right, by_test, some_is}
@@ -26,7 +26,7 @@ module _ {L : Lang} where
     pub born : (t : Name) → Born w.desk t → Born d t
     pub grown : (t : Name) → Born w.desk t → (v : Undecided L) → d.txn t ≡ Known v → (u : Undecided L) × (w.desk.txn t ≡ Known u) × Grows u v
     pub more : (t : Name) → IsCommitted w.past t → IsCommitted past t
-    pub newly : (t : Name) → IsCommitted past t → (IsCommitted w.past t) ⊎ ((u : Undecided L) × (w.desk.txn t ≡ Known u) × ((a : L.Site) (k : Name) → Own a k u → is_alive ((w.sites a).status k) ≡ false))
+    pub newly : (t : Name) → IsCommitted past t → (IsCommitted w.past t) ⊎ ((u : Undecided L) × (w.desk.txn t ≡ Known u) × ((a : L.Site) (k : Name) → Own a k u → is_active ((w.sites a).status k) ≡ false))
 
   module _ (o : L.Site → Name → Name) (w : World L) (d : Desk L) (past : List (Deed L)) (fit : Fit o w) (later : DeskLater o w d past) where
     own_later : (t : Name) (a : L.Site) (k : Name) → Born w.desk t → Und w.desk t (OwnVoting a k) → Und d t (OwnVoting a k)
@@ -63,17 +63,17 @@ module _ {L : Lang} where
     letters_desk letters all = every_more (Fits o w.desk w.past w.sites) (Fits o d past w.sites) letters (λ l is. (later.born l.txn is.0, body_desk l.site l.txn l.body is.0 is.1)) all
 
   -- what a turn of one transaction has to keep
-  pub record TurnFine (o : L.Site → Name → Name) (w : World L) (t : Name) (turn : Turn L) : Type 0 where
+  pub record TurnFine (o : L.Site → Name → Name) (w : World L) (t : Name) (turn : Transition L) : Type 0 where
     pub grows : (v : Undecided L) → turn.txn ≡ Known v → (u : Undecided L) × (w.desk.txn t ≡ Known u) × Grows u v
     pub known : (v : Undecided L) → turn.txn ≡ Known v → KnownAt o w.sites w.letters t v
     pub rows : (vs acked : List (L.Site × Name)) → turn.txn ≡ Row vs acked → ((IsCommitted w.past t) ⊎ (IsCommitted turn.deeds t)) × Every (Gone w.sites) acked × Every (Votes o w.sites t) vs
     pub only : (j : Name) → same j t ≡ false → is_committed turn.deeds j ≡ false
-    pub commits : IsCommitted turn.deeds t → (u : Undecided L) × (w.desk.txn t ≡ Known u) × ((v : Undecided L) → turn.txn ≡ Known v → ⊥) × ((a : L.Site) (k : Name) → Own a k u → is_alive ((w.sites a).status k) ≡ false)
+    pub commits : IsCommitted turn.deeds t → (u : Undecided L) × (w.desk.txn t ≡ Known u) × ((v : Undecided L) → turn.txn ≡ Known v → ⊥) × ((a : L.Site) (k : Name) → Own a k u → is_active ((w.sites a).status k) ≡ false)
         × ((a : L.Site) (k : Name) → Own a k u → (is_dead ((w.sites a).status k) ≡ false) ⊎ In (record { site = a; txn = t; body = Voted k Read }) w.letters)
         × ((a : L.Site) (k : Name) (i : L.Intentions) → Own a k u → (w.sites a).status k ≡ Prepared t i → (vs : List (L.Site × Name)) × (acked : List (L.Site × Name)) × (turn.txn ≡ Row vs acked) × In (a, k) vs)
     pub keeps : (vs acked : List (L.Site × Name)) → w.desk.txn t ≡ Row vs acked → (a : L.Site) (k : Name) (i : L.Intentions) → In (a, k) vs → (w.sites a).status k ≡ Prepared t i → (new : List (L.Site × Name)) × (turn.txn ≡ Row vs new)
 
-  module _ (o : L.Site → Name → Name) (w : World L) (t : Name) (turn : Turn L) (fit : Fit o w) (fine : TurnFine o w t turn) where
+  module _ (o : L.Site → Name → Name) (w : World L) (t : Name) (turn : Transition L) (fit : Fit o w) (fine : TurnFine o w t turn) where
     pub split : (j : Name) → IsCommitted (w.past ++ turn.deeds) j → (IsCommitted w.past j) ⊎ ((j ≡ t) × IsCommitted turn.deeds t)
     split j done = ⊎_elim (λ was. inl was)
         (λ now. ⊎_elim (λ is. let eq = (same_law j t).0 is in inr (eq, subst (IsCommitted turn.deeds) eq now)) (λ other. clash now (fine.only j other)) (by_test (same j t)))

@@ -3,7 +3,7 @@ use Rattle.std.proofs.Common.{◌≡◌, refl, sym, ap, subst, ℕ, suc, ◌≤�
 use Rattle.std.specs.List.{list_any, list_all}
 use Rattle.protocol.specs.Language.{Lang, Name, same, put}
 use Rattle.protocol.specs.Letter.{Vote, Yes, No, Read, Body, Open, Fetch, Write, Prepare, Commit, Abort, Ticket, Rows, Refused, Voted, Ack, Inquire}
-use Rattle.protocol.specs.Desk.{Ask, Choice, Stage, Idle, Reading, Writing, Voting, Undecided, Txn, Unknown, Known, Row, Deed, Aborted, Rolled_back, By_refusal, By_vote, By_store, Turn, when, to_prepare, ends_by, commits, decides, voters_of, are_all_in, votes_go, on_commit_call, on_rollback, stays, to_abort, may_hold, vote_at, ticket_goes, on_ticket, with_rows, on_rows, on_refused, counts, on_vote, on_known, on_unknown, is_pair, are_acked, on_ack, on_row, on_desk_letter, is_named}
+use Rattle.protocol.specs.Desk.{Ask, Choice, Stage, Idle, Reading, Writing, Voting, Undecided, Txn, Unknown, Known, Row, Deed, Aborted, Rolled_back, By_refusal, By_vote, By_store, Transition, when, to_prepare, ends_by, commits, decides, voters_of, are_all_in, votes_go, on_commit_call, on_rollback, stays, to_abort, may_hold, vote_at, ticket_goes, on_ticket, with_rows, on_rows, on_refused, counts, on_vote, on_known, on_unknown, is_pair, are_acked, on_ack, on_row, on_desk_letter, is_named}
 use Rattle.protocol.proofs.Basics.{Every, every_map, either, some_is}
 use Rattle.protocol.proofs.Turns.{every_letter}
 use Rattle.protocol.proofs.Ranks.{is_stage_reading, is_reading, rank, Lower, stays_low, ends_low, asks_low, writes_low, works_low}
@@ -24,7 +24,7 @@ module _ (L : Lang) where
   module _ (t : Name) (a : L.Site) (kept : Bool) (choice : Choice L) where
     module _ (u : Undecided L) where
       -- a turn at this undecided transaction
-      abbrev LowHere : ℕ → Turn L → Type 0
+      abbrev LowHere : ℕ → Transition L → Type 0
       LowHere n turn = Lower t (is_stage_reading u.stage) n turn
 
       same_low : (n : ℕ) → LowHere n (stays (Known u))

@@ -4,7 +4,7 @@ use Rattle.std.specs.List.{list_any, list_all}
 use Rattle.protocol.specs.Language.{Lang, IsLawful, Name, same, put}
 use Rattle.protocol.specs.Letter.{Yes, No, Read, Vote, Body, Open, Fetch, Write, Prepare, Commit, Abort, Ticket, Rows, Refused, Voted, Ack, Inquire, Letter}
 use Rattle.protocol.specs.Site.{is_dead}
-use Rattle.protocol.specs.Desk.{Ask, Stage, Idle, Reading, Writing, Voting, Undecided, Txn, Unknown, Known, Row, Choice, Deed, Stated, Worked, Phased, Aborted, Rolled_back, By_vote, By_refusal, Given_up, Turn, Request, State, Commit_call, Rollback, Give_up, desk_after, stays, is_named, states, ends_by, phases, votes_go, decides, voters_of, are_all_in, when, to_prepare, on_state, on_commit_call, on_rollback, on_request, ticket_goes, on_ticket, with_rows, on_rows, on_refused, counts, on_vote, on_known, on_unknown, is_pair, are_acked, on_ack, on_row, on_desk_letter}
+use Rattle.protocol.specs.Desk.{Ask, Stage, Idle, Reading, Writing, Voting, Undecided, Txn, Unknown, Known, Row, Choice, Deed, Stated, Worked, Phased, Aborted, Rolled_back, By_vote, By_refusal, Given_up, Transition, Request, State, Commit_call, Rollback, Give_up, desk_after, stays, is_named, states, ends_by, phases, votes_go, decides, voters_of, are_all_in, when, to_prepare, on_state, on_commit_call, on_rollback, on_request, ticket_goes, on_ticket, with_rows, on_rows, on_refused, counts, on_vote, on_known, on_unknown, is_pair, are_acked, on_ack, on_row, on_desk_letter}
 use Rattle.protocol.specs.World.{World, is_site}
 use Rattle.protocol.specs.Serial.{is_committed}
 use Rattle.protocol.proofs.Basics.{every_append, Every, In, put_all, every_in, clash, same_law, either, either_if, some_is, found, all_in, left_true, right_true}
@@ -30,7 +30,7 @@ module _ {L : Lang} where
 
   -- a transaction that still counts votes is voting
   pub votes_voting : (t : Name) (u : Undecided L) (votes : L.Site → Option Vote) (y : Undecided L) → (votes_go t u votes true).txn ≡ Known y → is_voting y.stage ≡ true
-  votes_voting t u votes y = either (λ (turn : Turn L). turn.txn ≡ Known y → is_voting y.stage ≡ true) (are_all_in u votes) _ _
+  votes_voting t u votes y = either (λ (turn : Transition L). turn.txn ≡ Known y → is_voting y.stage ≡ true) (are_all_in u votes) _ _
       (go (voters_of u votes)) (λ g. ap (λ z. is_voting z.stage) (sym (known_is (record u { stage = Voting votes }) y g)))
     where
       go : (xs : List (L.Site × Name)) → (decides t (record u { stage = Voting votes }) true xs).txn ≡ Known y → is_voting y.stage ≡ true

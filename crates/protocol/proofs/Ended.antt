@@ -4,15 +4,15 @@ use Rattle.std.specs.List.{list_any}
 use Rattle.protocol.specs.Language.{Lang, IsLawful, Name, same}
 use Rattle.protocol.specs.Letter.{Body, Open, Fetch, Write, Prepare, Commit, Abort, Ticket, Rows, Refused, Voted, Ack, Inquire, Letter, is_for_desk}
 use Rattle.protocol.specs.Site.{Status, on_letter, site_after, said, is_within}
-use Rattle.protocol.specs.Desk.{Choice, Txn, Unknown, Known, Row, Deed, Turn, stays, is_undecided, is_pair, are_acked, on_unknown, on_row, on_desk_letter, desk_after, is_desk_within}
+use Rattle.protocol.specs.Desk.{Choice, Txn, Unknown, Known, Row, Deed, Transition, stays, is_undecided, is_pair, are_acked, on_unknown, on_row, on_desk_letter, desk_after, is_desk_within}
 use Rattle.protocol.specs.World.{World, addressed, with_site, turned, comes_to}
 use Rattle.protocol.specs.Client.{first, next, IsQuiet}
-use Rattle.protocol.specs.Spots.{at, Unlocked}
-use Rattle.protocol.specs.Leaving.{Leaves, is_free, is_own, hears_abort, hears_commit, LeavingAt, Ending, EndKept, Within}
+use Rattle.protocol.specs.VisitPlaces.{at, Unlocked}
+use Rattle.protocol.specs.AfterAbort.{Leaves, is_free, is_own, hears_abort, hears_commit, LeavingAt, Ending, EndKept, Within}
 use Rattle.protocol.proofs.Basics.{Every, In, either, either_if, put_all, same_law, if_true, if_false, clash, by_test}
 use Rattle.protocol.proofs.Queue.{at_append, at_here, at_away}
 use Rattle.protocol.proofs.Limits.{OfTheEnd, end_within}
-use Rattle.protocol.proofs.Leaving.{NoOp, NoEnd, closed_none, leaving_lost, leaving_more, left}
+use Rattle.protocol.proofs.AfterAbort.{NoOp, NoEnd, closed_none, leaving_lost, leaving_more, left}
 
 module _ {L : Lang} where
   -- letters that ask a site for nothing to do
@@ -21,7 +21,7 @@ module _ {L : Lang} where
   at_none a (l ∷ letters) none = either (λ bs. Every NoOp bs) (L.same_site a l.site) (l.body ∷ at a letters) (at a letters) (none.0, at_none a letters none.1) (at_none a letters none.1)
 
   -- a turn of a decided transaction: it stays decided, no operation goes out, nothing happens
-  pub record Idles (turn : Turn L) : Type 0 where
+  pub record Idles (turn : Transition L) : Type 0 where
     pub decided : is_undecided turn.txn ≡ false
     pub none : Every (λ l. NoOp l.body) turn.letters
     pub deeds : turn.deeds ≡ []
@@ -127,7 +127,7 @@ module _ {L : Lang} where
         past = ending.past;
       }
 
-      ending_at_desk : (turn : Turn L) → NoEnd l.body → Idles turn → Ending deeds (turned (record w { letters = q }) l.txn turn)
+      ending_at_desk : (turn : Transition L) → NoEnd l.body → Idles turn → Ending deeds (turned (record w { letters = q }) l.txn turn)
       ending_at_desk turn none idles =
           let lost = ending_lost none in
           record {

@@ -3,27 +3,27 @@ use Rattle.std.proofs.Common.{◌≡◌, refl, sym, ap, ◌∙◌, subst, Bool, 
 use Rattle.protocol.specs.Language.{Lang, IsLawful, Name, same}
 use Rattle.protocol.specs.Letter.{Body, Vote, Reason, Open, Fetch, Write, Prepare, Commit, Abort, Ticket, Rows, Refused, Voted, Ack, Inquire, Letter, is_for_desk}
 use Rattle.protocol.specs.Site.{on_letter, site_after, said, is_within}
-use Rattle.protocol.specs.Desk.{Choice, Stage, Idle, Reading, Writing, Voting, Undecided, Known, Deed, Aborted, By_refusal, Turn, stays, is_named, ticket_goes, on_ticket, on_refused, on_vote, on_known, on_desk_letter, desk_after, is_desk_within, ends_by}
+use Rattle.protocol.specs.Desk.{Choice, Stage, Idle, Reading, Writing, Voting, Undecided, Known, Deed, Aborted, By_refusal, Transition, stays, is_named, ticket_goes, on_ticket, on_refused, on_vote, on_known, on_desk_letter, desk_after, is_desk_within, ends_by}
 use Rattle.protocol.specs.World.{World, turned, turns, with_site, addressed, comes_to}
 use Rattle.protocol.specs.Parts.{is_voting}
 use Rattle.protocol.specs.Client.{first, next, IsQuiet}
-use Rattle.protocol.specs.Spots.{at}
-use Rattle.protocol.specs.Course.{AtSites}
-use Rattle.protocol.specs.Leaving.{LeavingAt, Ending, EndKept, Within, Own, Fruitless, Since, leaves_of, AreVisited, Loose, Failing, doomed, has_ended}
+use Rattle.protocol.specs.VisitPlaces.{at}
+use Rattle.protocol.specs.StatementCourse.{AtSites}
+use Rattle.protocol.specs.AfterAbort.{LeavingAt, Ending, EndKept, Within, Own, Fruitless, Since, leaves_of, AreVisited, Loose, Failing, doomed, has_ended}
 use Rattle.protocol.proofs.Basics.{Every, In, every_append, every_map, either, either_if, put_all, put_there, same_refl, if_true, clash, by_test}
 use Rattle.protocol.proofs.Locks.{Once}
 use Rattle.protocol.proofs.Queue.{at_append, at_here, at_away}
 use Rattle.protocol.proofs.Waiting.{in_at}
-use Rattle.protocol.proofs.Working.{with_ticket}
+use Rattle.protocol.proofs.StatementMeetsNoLock.{with_ticket}
 use Rattle.protocol.proofs.Limits.{end_within}
-use Rattle.protocol.proofs.Leaving.{NoEnd, left}
+use Rattle.protocol.proofs.AfterAbort.{NoEnd, left}
 use Rattle.protocol.proofs.Ended.{in_front, elsewhere, end_or_not, desk_no_end, ending_goes_on, ending_quiet}
 use Rattle.protocol.proofs.Loose.{loose_ends, loose_lost, ends_within}
 use Rattle.protocol.proofs.LooseTurns.{LooseTurn, since_more, loose_turned, loose_stays, goes_loose, rows_loose}
 
 module _ {L : Lang} where
   -- what a letter from a site makes of a transaction that may be given up
-  data KnownTurn (t : Name) (u : Undecided L) (turn : Turn L) : Type 0 where
+  data KnownTurn (t : Name) (u : Undecided L) (turn : Transition L) : Type 0 where
     goes : LooseTurn t u turn → KnownTurn t u turn
     ends : (d : Deed L) → turn ≡ ends_by t u d → Fruitless t d → KnownTurn t u turn
 
@@ -118,7 +118,7 @@ module _ {L : Lang} where
         }) (λ b k own. own) (λ b c here. in_at b c q out here)
 
     -- at the coordinator
-    turn_step : NoEnd l.body → (turn : Turn L) → KnownTurn t loose.u turn → Step (turned (record w { letters = q }) t turn)
+    turn_step : NoEnd l.body → (turn : Transition L) → KnownTurn t loose.u turn → Step (turned (record w { letters = q }) t turn)
     turn_step none turn (goes to) = still (loose_turned law t before (record w { letters = q }) turn (loose_lost law t before w l q e none loose) to) to.ticket (λ a c here. in_at a c q turn.letters here)
     turn_step none turn (ends d is fruitless) = subst (λ x. Step (turned (record w { letters = q }) t x)) (sym is)
         (over (w.past ++ d ∷ []) (since_more t before w.past (d ∷ []) loose.since (fruitless, tt)) (loose_ends law once t before d (record w { letters = q }) (loose_lost law t before w l q e none loose)))

@@ -3,7 +3,7 @@ use Rattle.std.proofs.Common.{◌≡◌, suc, ◌≤◌, true, false, List, ◌+
 use Rattle.std.specs.Prelude.{⊤}
 use Rattle.protocol.specs.Language.{Lang, Name, same}
 use Rattle.protocol.specs.Letter.{Yes, No, Read, Vote, Body, Open, Fetch, Write, Prepare, Commit, Abort, Ticket, Rows, Refused, Voted, Ack, Inquire, Letter}
-use Rattle.protocol.specs.Site.{Prepared, SiteState, is_dead, is_alive, is_prepared}
+use Rattle.protocol.specs.Site.{Prepared, SiteState, is_dead, is_active, is_prepared}
 use Rattle.protocol.specs.Desk.{Voting, Undecided, Known, Row, Deed, Desk}
 use Rattle.protocol.specs.World.{World, is_site}
 pub use Rattle.protocol.specs.Parts.{is_voting}
@@ -36,7 +36,7 @@ module _ {L : Lang} where
 
   -- what a vote that was put out says
   abbrev pub FitsVote : Desk L → SiteState L → Name → Name → Vote → Type 0
-  FitsVote d s t k Yes = (is_alive (s.status k) ≡ false) × Und d t (λ u. (i : L.Intentions) × (s.status k ≡ Prepared t i))
+  FitsVote d s t k Yes = (is_active (s.status k) ≡ false) × Und d t (λ u. (i : L.Intentions) × (s.status k ≡ Prepared t i))
   FitsVote d s t k Read = (is_dead (s.status k) ≡ true) × Und d t (λ u. is_voting u.stage ≡ true)
   FitsVote d s t k No = ⊤
 
@@ -46,14 +46,14 @@ module _ {L : Lang} where
   FitsBody o d past a s t (Ticket k) = Drawn s k × (o a k ≡ t) × (is_site L a L.sites ≡ true) × Und d t (λ u. u.visited a ≡ true)
   FitsBody o d past a s t (Fetch k op g q) = Drawn s k × (o a k ≡ t) × Und d t (Own a k)
   FitsBody o d past a s t (Write k op g x) = Drawn s k × (o a k ≡ t) × Und d t (Own a k)
-  FitsBody o d past a s t (Prepare k count) = Drawn s k × (o a k ≡ t) × Und d t (OwnVoting a k) × (IsCommitted past t → is_alive (s.status k) ≡ false)
-  FitsBody o d past a s t (Commit k) = Drawn s k × (o a k ≡ t) × IsCommitted past t × (is_alive (s.status k) ≡ false)
+  FitsBody o d past a s t (Prepare k count) = Drawn s k × (o a k ≡ t) × Und d t (OwnVoting a k) × (IsCommitted past t → is_active (s.status k) ≡ false)
+  FitsBody o d past a s t (Commit k) = Drawn s k × (o a k ≡ t) × IsCommitted past t × (is_active (s.status k) ≡ false)
   FitsBody o d past a s t (Abort k) = Drawn s k × (o a k ≡ t) × Und d t (Other a k) × (IsCommitted past t → is_prepared (s.status k) ≡ false)
   FitsBody o d past a s t (Rows k op rows) = ⊤
   FitsBody o d past a s t (Refused k reason) = ⊤
   FitsBody o d past a s t (Voted k vote) = Drawn s k × (o a k ≡ t) × FitsVote d s t k vote
   FitsBody o d past a s t (Ack k) = Drawn s k × (o a k ≡ t) × (is_dead (s.status k) ≡ true)
-  FitsBody o d past a s t (Inquire k) = Drawn s k × (o a k ≡ t) × (is_alive (s.status k) ≡ false)
+  FitsBody o d past a s t (Inquire k) = Drawn s k × (o a k ≡ t) × (is_active (s.status k) ≡ false)
 
   abbrev pub Fits : (L.Site → Name → Name) → Desk L → List (Deed L) → (L.Site → SiteState L) → Letter L → Type 0
   Fits o d past sites l = Born d l.txn × FitsBody o d past l.site (sites l.site) l.txn l.body
@@ -87,7 +87,7 @@ module _ {L : Lang} where
 
   -- a voter of a commit row
   abbrev pub Votes : (L.Site → Name → Name) → (L.Site → SiteState L) → Name → L.Site × Name → Type 0
-  Votes o sites t v = Drawn (sites v.0) v.1 × (o v.0 v.1 ≡ t) × (is_alive ((sites v.0).status v.1) ≡ false)
+  Votes o sites t v = Drawn (sites v.0) v.1 × (o v.0 v.1 ≡ t) × (is_active ((sites v.0).status v.1) ≡ false)
 
   pub record Fit (o : L.Site → Name → Name) (w : World L) : Type 0 where
     pub live : (a : L.Site) (k : Name) → is_dead ((w.sites a).status k) ≡ false → Drawn (w.sites a) k

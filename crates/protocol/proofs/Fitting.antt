@@ -4,16 +4,16 @@ use Rattle.std.specs.List.{list_all}
 use Rattle.protocol.specs.Language.{Lang, IsLawful, Name, same, put}
 use Rattle.protocol.specs.Letter.{Vote, Yes, No, Read, Body, Open, Fetch, Write, Prepare, Commit, Abort, Ticket, Rows, Refused, Voted, Ack, Inquire, Letter, is_for_desk}
 use Rattle.protocol.specs.Site.{on_letter, site_after, said, is_within}
-use Rattle.protocol.specs.Desk.{Ask, Choice, Stage, Idle, Reading, Writing, Voting, Undecided, is_undecided, Txn, Unknown, Known, Row, Deed, Request, State, Commit_call, Rollback, Give_up, Rolled_back, Aborted, Given_up, By_refusal, By_vote, By_store, Turn, fresh, stays, ask_of, write_out, writes_out, is_new, opening, opens, visits, asks_go, writing, writes_go, after_letters, works, states, to_prepare, when, vote_at, to_abort, may_hold, ends_by, commits, decides, voters_of, are_all_in, votes_go, phases, on_commit_call, on_state, on_rollback, on_request, ticket_goes, on_ticket, with_rows, on_rows, on_refused, counts, on_vote, is_named, on_known, on_desk_letter, next_txn, desk_began, desk_after, is_desk_within}
+use Rattle.protocol.specs.Desk.{Ask, Choice, Stage, Idle, Reading, Writing, Voting, Undecided, is_undecided, Txn, Unknown, Known, Row, Deed, Request, State, Commit_call, Rollback, Give_up, Rolled_back, Aborted, Given_up, By_refusal, By_vote, By_store, Transition, fresh, stays, ask_of, write_out, writes_out, is_new, opening, opens, visits, asks_go, writing, writes_go, after_letters, works, states, to_prepare, when, vote_at, to_abort, may_hold, ends_by, commits, decides, voters_of, are_all_in, votes_go, phases, on_commit_call, on_state, on_rollback, on_request, ticket_goes, on_ticket, with_rows, on_rows, on_refused, counts, on_vote, is_named, on_known, on_desk_letter, next_txn, desk_began, desk_after, is_desk_within}
 use Rattle.protocol.specs.World.{World, begun, begins, turned, turns, with_site, site_steps, addressed, comes_to}
 use Rattle.protocol.specs.Serial.{IsOpening}
 use Rattle.protocol.specs.Client.{first, next, rest_of, loses}
-use Rattle.protocol.specs.Course.{RowsFit}
+use Rattle.protocol.specs.StatementCourse.{RowsFit}
 use Rattle.protocol.specs.Fitting.{Suits, StatusFits, BodyFits, StageFits, TxnFits, SiteFitting, Fitting, FittingLaw}
 use Rattle.protocol.proofs.Basics.{Every, every_append, every_more, either, put_all, same_law, some_is}
 use Rattle.protocol.proofs.Turns.{every_letter}
 use Rattle.protocol.proofs.Going.{asks_each, opening_is}
-use Rattle.protocol.proofs.Leaving.{NoOp}
+use Rattle.protocol.proofs.AfterAbort.{NoOp}
 use Rattle.protocol.proofs.Ended.{Idles, letter_idles}
 use Rattle.protocol.proofs.FittingSites.{letter_fits}
 
@@ -22,7 +22,7 @@ module _ {L : Lang} (law : IsLawful L) (fits : L.Leaf → L.Content → Bool) wh
   LetterFits l = BodyFits L fits l.body
 
   -- a turn after which what waits and what goes out fits
-  abbrev TurnFits : Turn L → Type 0
+  abbrev TurnFits : Transition L → Type 0
   TurnFits turn = TxnFits L fits turn.txn × Every LetterFits turn.letters
 
   opens_fit : (t : Name) (u : Undecided L) (leaves : List L.Leaf) → Every LetterFits (opens t u leaves)
@@ -62,7 +62,7 @@ module _ {L : Lang} (law : IsLawful L) (fits : L.Leaf → L.Content → Bool) wh
   asks_go_fit : (t : Name) (u : Undecided L) (s : L.Statement) (asks : List (Ask L)) → TurnFits (asks_go t u s asks)
   asks_go_fit t u s asks = (tt, asks_each LetterFits t u.ticket (λ g q k n e. tt) asks u.sent)
 
-  after_opens : (t : Name) (u : Undecided L) (leaves : List L.Leaf) (turn : Turn L) → TurnFits turn → TurnFits (after_letters (opens t u leaves) turn)
+  after_opens : (t : Name) (u : Undecided L) (leaves : List L.Leaf) (turn : Transition L) → TurnFits turn → TurnFits (after_letters (opens t u leaves) turn)
   after_opens t u leaves turn fit = (fit.0, every_append LetterFits (opens t u leaves) turn.letters (opens_fit t u leaves) fit.1)
 
   module _ (t : Name) (choice : Choice L) (suits : Every (Suits L fits) choice.1) where
@@ -187,7 +187,7 @@ module _ {L : Lang} (law : IsLawful L) (fits : L.Leaf → L.Content → Bool) wh
   decided_fits (Row voters acked) none = tt
   decided_fits (Known u) none = let e : true ≡ false = none in cc
 
-  idles_fit : (turn : Turn L) → Idles turn → TurnFits turn
+  idles_fit : (turn : Transition L) → Idles turn → TurnFits turn
   idles_fit turn idles = (decided_fits turn.txn idles.decided, every_more (λ l. NoOp l.body) LetterFits turn.letters (λ l none. no_op_fits l.body none) idles.none)
 
   desk_letter_fit : (t : Name) (a : L.Site) (kept : Bool) (choice : Choice L) → Every (Suits L fits) choice.1 → (c : Body L) (x : Txn L) → TxnFits L fits x → TurnFits (on_desk_letter t a kept choice c x)
@@ -195,7 +195,7 @@ module _ {L : Lang} (law : IsLawful L) (fits : L.Leaf → L.Content → Bool) wh
   desk_letter_fit t a kept choice suits c Unknown fit = idles_fit _ (letter_idles t a kept choice c Unknown refl)
   desk_letter_fit t a kept choice suits c (Row voters acked) fit = idles_fit _ (letter_idles t a kept choice c (Row voters acked) refl)
 
-  turns_fit : (w : World L) (t : Name) (turn : Turn L) → TurnFits turn → Fitting L fits w → Fitting L fits (turns w t turn)
+  turns_fit : (w : World L) (t : Name) (turn : Transition L) → TurnFits turn → Fitting L fits w → Fitting L fits (turns w t turn)
   turns_fit w t turn to fit = either (Fitting L fits) (is_desk_within (desk_after w.desk t turn.txn)) (turned w t turn) w (record {
     sites = fit.sites;
     letters = every_append LetterFits w.letters turn.letters fit.letters to.1;
@@ -258,7 +258,7 @@ module _ {L : Lang} (law : IsLawful L) (fits : L.Leaf → L.Content → Bool) wh
   rows_are_fit w l formed fit = go l.body
     where
       go : (c : Body L) → RowsFit l.site (w.sites l.site) c
-      go (Fetch k op g q) = λ home v alive. formed g q _ (subst (StatusFits L fits) alive ((fit.sites l.site).status k) g ((w.sites l.site).kept g) ((fit.sites l.site).kept g home))
+      go (Fetch k op g q) = λ home v active. formed g q _ (subst (StatusFits L fits) active ((fit.sites l.site).status k) g ((w.sites l.site).kept g) ((fit.sites l.site).kept g home))
       go Open = tt
       go (Write k op g x) = tt
       go (Prepare k n) = tt

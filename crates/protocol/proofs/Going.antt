@@ -2,7 +2,7 @@
 use Rattle.std.proofs.Common.{◌≡◌, refl, sym, ap, ◌∙◌, subst, ℕ, suc, Bool, true, false, ◌||◌, List, [], ◌∷◌, ◌++◌, Option, Some, None}
 use Rattle.protocol.specs.Language.{Lang, IsLawful, Name, put}
 use Rattle.protocol.specs.Letter.{Vote, Body, Open, Fetch, Write, Letter}
-use Rattle.protocol.specs.Desk.{Ask, Stage, Idle, Reading, Writing, Voting, Undecided, Known, Deed, Answered, Turn, desk_after, ask_out, asks_out, write_out, writes_out, is_new, opening, opens, visits, asks_go, writing, writes_go, after_letters}
+use Rattle.protocol.specs.Desk.{Ask, Stage, Idle, Reading, Writing, Voting, Undecided, Known, Deed, Answered, Transition, desk_after, ask_out, asks_out, write_out, writes_out, is_new, opening, opens, visits, asks_go, writing, writes_go, after_letters}
 use Rattle.protocol.specs.World.{World, turned}
 use Rattle.protocol.specs.Serial.{is_committed}
 use Rattle.protocol.proofs.Basics.{Every, every_append, or_left, or_right, any_in, some_is}
@@ -12,11 +12,11 @@ use Rattle.protocol.proofs.Turns.{known_is, und_put, goes_fine, every_letter}
 
 module _ {L : Lang} where
   -- a turn that keeps the invariant, with its letters
-  pub record Good (o : L.Site → Name → Name) (w : World L) (t : Name) (turn : Turn L) : Type 0 where
+  pub record Good (o : L.Site → Name → Name) (w : World L) (t : Name) (turn : Transition L) : Type 0 where
     pub fine : TurnFine o w t turn
     pub letters : Every (Fits o (desk_after w.desk t turn.txn) (w.past ++ turn.deeds) w.sites) turn.letters
 
-  pub good_moves : (o : L.Site → Name → Name) (w : World L) (t : Name) (turn : Turn L) → Fit o w → Good o w t turn → Fit o (turned w t turn)
+  pub good_moves : (o : L.Site → Name → Name) (w : World L) (t : Name) (turn : Transition L) → Fit o w → Good o w t turn → Fit o (turned w t turn)
   good_moves o w t turn fit good = turn_moves o w t turn fit good.fine good.letters
 
   -- what holds of each fetch to an own ticket holds of all that go out
@@ -119,7 +119,7 @@ module _ {L : Lang} (law : IsLawful L) (o : L.Site → Name → Name) (w : World
       }
 
   -- letters before those of a write turn are letters of the turn
-  abbrev pub write_turn : (L.Site → Bool) → List (Letter L) → L.Answer → List (L.Leaf × L.Write) → Turn L
+  abbrev pub write_turn : (L.Site → Bool) → List (Letter L) → L.Answer → List (L.Leaf × L.Write) → Transition L
   write_turn visited letters answer ws = after_letters letters (writes_go t (record v { visited = visited }) answer ws)
 
   -- the writes go out; the deeds depend on whether the answer is given
@@ -127,7 +127,7 @@ module _ {L : Lang} (law : IsLawful L) (o : L.Site → Name → Name) (w : World
       Good o w t (record { txn = (write_turn visited letters answer ws).txn; letters = (write_turn visited letters answer ws).letters; deeds = deeds (write_turn visited letters answer ws).deeds })
   writes_good visited letters first answer ws deeds none answered =
       let out = writes_out {L = L} t v.ticket ws v.sent in
-      subst (λ (turn : Turn L). Good o w t (record { txn = turn.txn; letters = turn.letters; deeds = deeds turn.deeds })) (sym (first_written t (record v { visited = visited }) answer letters out.sent out.left out.letters))
+      subst (λ (turn : Transition L). Good o w t (record { txn = turn.txn; letters = turn.letters; deeds = deeds turn.deeds })) (sym (first_written t (record v { visited = visited }) answer letters out.sent out.left out.letters))
       (written_good visited first.more answer (letters ++ out.letters) out.sent deeds none answered
       (λ x mine seen past. every_append (Fits o (desk_after w.desk t (Known x)) past w.sites) letters out.letters (first.fits x seen past)
       (writes_each (Fits o (desk_after w.desk t (Known x)) past w.sites) t v.ticket (λ g y k n is. (fit.born t u e, own_fits x past (L.home g) k (mine (L.home g) k is) is)) ws v.sent)) out.left)

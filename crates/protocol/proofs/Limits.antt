@@ -5,10 +5,10 @@ use Rattle.std.specs.Prelude.{⊤}
 use Rattle.std.specs.List.{list_all}
 use Rattle.protocol.specs.Language.{Lang, IsLawful, Name, same, put}
 use Rattle.protocol.specs.Letter.{Body, Letter, Open, Fetch, Write, Prepare, Commit, Abort, Ticket, Rows, Refused, Voted, Ack, Inquire, No, Read, is_for_desk}
-use Rattle.protocol.specs.Site.{Status, Dead, Alive, Prepared, SiteState, Act, Ends, is_dead, is_alive, is_short, is_within, on_letter, on_prepare, on_commit, on_abort, with_status, site_after, said}
-use Rattle.protocol.specs.Desk.{Txn, Choice, Request, Turn, Desk, desk_began, on_request, on_desk_letter, is_unknown, is_undecided, is_short_txn, is_desk_within, desk_after}
+use Rattle.protocol.specs.Site.{Status, Dead, Active, Prepared, SiteState, Act, Ends, is_dead, is_active, is_short, is_within, on_letter, on_prepare, on_commit, on_abort, with_status, site_after, said}
+use Rattle.protocol.specs.Desk.{Txn, Choice, Request, Transition, Desk, desk_began, on_request, on_desk_letter, is_unknown, is_undecided, is_short_txn, is_desk_within, desk_after}
 use Rattle.protocol.specs.Client.{first, next}
-use Rattle.protocol.specs.Leaving.{Within}
+use Rattle.protocol.specs.AfterAbort.{Within}
 use Rattle.protocol.specs.World.{World, begins, begun, called, turns, turned, site_steps, with_site, addressed, comes_to}
 use Rattle.protocol.proofs.Basics.{either, either_if, put_all, same_law, left_true, right_true, both_true}
 
@@ -42,19 +42,19 @@ fewer_still m n limit less some = le-leb m limit (let h = leb-true n limit some 
 
 module _ {L : Lang} where
   -- a ticket has another status
-  put_within : (s : SiteState L) (k : Name) (x : Status L) → (is_short x ≡ true) → (is_alive x ≡ false) → is_within s ≡ true → is_within (with_status s (put same k x s.status) s.known) ≡ true
+  put_within : (s : SiteState L) (k : Name) (x : Status L) → (is_short x ≡ true) → (is_active x ≡ false) → is_within s ≡ true → is_within (with_status s (put same k x s.status) s.known) ≡ true
   put_within s k x short dead within =
       let a = nat_lt s.life (2 ^ 63) in
       let b = nat_lt s.number (2 ^ 63) in
       let c = list_all (λ j. is_short (s.status j)) s.known in
-      let d = nat_le (length (filter (λ j. is_alive (s.status j)) s.known)) 1024 in
+      let d = nat_le (length (filter (λ j. is_active (s.status j)) s.known)) 1024 in
       let new = put same k x s.status in
       let keeps : Name → Bool = λ j. not (is_dead (new j)) in
       let abc = left_true (a && b && c) d within in
-      both_true (a && b && list_all (λ j. is_short (new j)) (filter keeps s.known)) (nat_le (length (filter (λ j. is_alive (new j)) (filter keeps s.known))) 1024)
+      both_true (a && b && list_all (λ j. is_short (new j)) (filter keeps s.known)) (nat_le (length (filter (λ j. is_active (new j)) (filter keeps s.known))) 1024)
       (both_true (a && b) (list_all (λ j. is_short (new j)) (filter keeps s.known)) (left_true (a && b) c abc)
       (all_filter (λ j. is_short (s.status j)) (λ j. is_short (new j)) keeps s.known (put_all same same_law k x s.status (λ j y. is_short (s.status j) ≡ true → is_short y ≡ true) (λ was. short) (λ j other was. was)) (right_true (a && b) c abc)))
-      (fewer_still _ (length (filter (λ j. is_alive (s.status j)) s.known)) 1024 (fewer (λ j. is_alive (s.status j)) (λ j. is_alive (new j)) keeps s.known (put_all same same_law k x s.status (λ j y. is_alive y ≡ true → is_alive (s.status j) ≡ true) (λ is. (let e : true ≡ false = sym is ∙ dead in cc)) (λ j other is. is))) (right_true (a && b && c) d within))
+      (fewer_still _ (length (filter (λ j. is_active (s.status j)) s.known)) 1024 (fewer (λ j. is_active (s.status j)) (λ j. is_active (new j)) keeps s.known (put_all same same_law k x s.status (λ j y. is_active y ≡ true → is_active (s.status j) ≡ true) (λ is. (let e : true ≡ false = sym is ∙ dead in cc)) (λ j other is. is))) (right_true (a && b && c) d within))
 
   -- what ends or prepares a visit meets no limit
   abbrev pub OfTheEnd : Body L → Type 0
@@ -73,16 +73,16 @@ module _ {L : Lang} where
     prepare_within : (kept : Bool) (t k : Name) (n : ℕ) (st : Status L) → Stays (on_prepare kept t k n st)
     prepare_within kept t k n Dead = within
     prepare_within kept t k n (Prepared j i) = within
-    prepare_within kept t k n (Alive v) = either Stays (v.done == n) _ _ (either Stays (L.is_empty v.changes) _ _ (ends_within k (Voted k Read ∷ [])) (either Stays kept _ _ (put_within s k (Prepared t v.changes) refl refl within) (ends_within k (Voted k No ∷ [])))) (ends_within k (Voted k No ∷ []))
+    prepare_within kept t k n (Active v) = either Stays (v.done == n) _ _ (either Stays (L.is_empty v.changes) _ _ (ends_within k (Voted k Read ∷ [])) (either Stays kept _ _ (put_within s k (Prepared t v.changes) refl refl within) (ends_within k (Voted k No ∷ [])))) (ends_within k (Voted k No ∷ []))
 
     commit_within : (kept : Bool) (k : Name) (st : Status L) → Stays (on_commit kept k st)
     commit_within kept k Dead = within
-    commit_within kept k (Alive v) = within
+    commit_within kept k (Active v) = within
     commit_within kept k (Prepared t i) = either Stays kept _ _ (put_within s k Dead refl refl within) within
 
     abort_within : (kept : Bool) (k : Name) (st : Status L) → Stays (on_abort kept k st)
     abort_within kept k Dead = within
-    abort_within kept k (Alive v) = ends_within k []
+    abort_within kept k (Active v) = ends_within k []
     abort_within kept k (Prepared t i) = either Stays kept _ _ (ends_within k []) within
 
     pub end_within : (t : Name) (kept : Bool) (c : Body L) → OfTheEnd c → is_within (site_after s (on_letter s t kept c)) ≡ true
@@ -115,7 +115,7 @@ module _ {L : Lang} where
       (fewer_still _ (length (filter (λ j. is_undecided (d.txn j)) d.known)) 256 (fewer (λ j. is_undecided (d.txn j)) (λ j. is_undecided (new j)) keeps d.known (put_all same same_law t x d.txn (λ j y. is_undecided y ≡ true → is_undecided (d.txn j) ≡ true) less (λ j other is. is))) (right_true (a && b && c) e within))
 
   -- ---- worlds
-  turns_within : (w : World L) (t : Name) (turn : Turn L) → Within w → Within (turns w t turn)
+  turns_within : (w : World L) (t : Name) (turn : Transition L) → Within w → Within (turns w t turn)
   turns_within w t turn within = either_if Within (is_desk_within (desk_after w.desk t turn.txn)) (turned w t turn) w (λ is. record { desk = is; sites = within.sites }) (λ full. within)
 
   pub begins_within : (w : World L) → Within w → Within (begins w)

@@ -6,16 +6,16 @@ use Rattle.protocol.specs.Site.{Status}
 use Rattle.protocol.specs.Desk.{Ask, Choice, Stage, Idle, Reading, Writing, Voting, Undecided, Unknown, Known, Deed, Stated, Worked, Answered, Aborted, Rolled_back, Given_up, Rollback, Give_up, Request, is_undecided, on_request, on_rollback, desk_after, is_desk_within, when, to_abort, may_hold, vote_at, ends_by}
 use Rattle.protocol.specs.World.{World, turned, turns, called}
 use Rattle.protocol.specs.Parts.{is_voting}
-use Rattle.protocol.specs.Spots.{at, Spot, away, asked, offered, works, Flow}
-use Rattle.protocol.specs.Course.{Stands, AskStands, WriteWaits, Far, reads, writes, is_answered, InStatement, Steady}
-use Rattle.protocol.specs.Leaving.{Closed, Leaves, is_free, is_own, hears_abort, hears_commit, LeavingAt, Ending, Within, Own, Since, Loose, AreVisited, leaves_of}
+use Rattle.protocol.specs.VisitPlaces.{at, VisitPlace, away, asked, offered, works, Flow}
+use Rattle.protocol.specs.StatementCourse.{Stands, AskStands, WriteWaits, Far, reads, writes, is_answered, InStatement, Steady}
+use Rattle.protocol.specs.AfterAbort.{Closed, Leaves, is_free, is_own, hears_abort, hears_commit, LeavingAt, Ending, Within, Own, Since, Loose, AreVisited, leaves_of}
 use Rattle.protocol.proofs.Basics.{Every, In, in_left, in_right, put_all, same_law, if_true, by_test, some_is}
 use Rattle.protocol.proofs.Locks.{Once}
 use Rattle.protocol.proofs.Turns.{every_letter}
 use Rattle.protocol.proofs.Queue.{at_append}
 use Rattle.protocol.proofs.AtDesk.{at_said}
 use Rattle.protocol.proofs.Limits.{turn_within}
-use Rattle.protocol.proofs.Leaving.{NoOp, NoEnd, closed_none, leaving_lost}
+use Rattle.protocol.proofs.AfterAbort.{NoOp, NoEnd, closed_none, leaving_lost}
 use Rattle.protocol.proofs.Ended.{at_none, by_site}
 
 module _ {L : Lang} where
@@ -65,7 +65,7 @@ module _ {L : Lang} where
   flow_closed O k own d n (Ack j ∷ bs) flow = absurd flow
   flow_closed O k own d n (Inquire j ∷ bs) flow = absurd flow
 
-  pub spot_leaving : (f : Name → Status L) (b : Bool) (tk : Option Name) (n : ℕ) (bs : List (Body L)) → Spot f b tk n bs → LeavingAt (λ k. (b ≡ true) × (tk ≡ Some k)) f bs
+  pub spot_leaving : (f : Name → Status L) (b : Bool) (tk : Option Name) (n : ℕ) (bs : List (Body L)) → VisitPlace f b tk n bs → LeavingAt (λ k. (b ≡ true) × (tk ≡ Some k)) f bs
   spot_leaving f b tk n bs (away s) = record { locks = λ k. is_free (s.free k); closed = subst (Closed (λ k. (b ≡ true) × (tk ≡ Some k))) (sym s.silent) tt }
   spot_leaving f b tk n bs (asked s) = record { locks = λ k. is_free (s.free k); closed = subst (Closed (λ k. (b ≡ true) × (tk ≡ Some k))) (sym s.waits) tt }
   spot_leaving f b tk n bs (offered j s) = record { locks = λ k. is_free (s.free k); closed = subst (Closed (λ k. (b ≡ true) × (tk ≡ Some k))) (sym s.waits) tt }

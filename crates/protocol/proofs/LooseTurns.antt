@@ -3,18 +3,18 @@ use Rattle.std.proofs.Common.{◌≡◌, refl, sym, ap, ◌∙◌, subst, ℕ, s
 use Rattle.std.specs.List.{list_all}
 use Rattle.protocol.specs.Language.{Lang, IsLawful, Name, same, put}
 use Rattle.protocol.specs.Letter.{Body, Open, Fetch, Write, Prepare, Commit, Abort, Ticket, Rows, Refused, Voted, Ack, Inquire, Letter}
-use Rattle.protocol.specs.Desk.{Ask, Choice, Stage, Idle, Reading, Writing, Voting, Undecided, Known, Deed, Turn, stays, is_undecided, ask_out, asks_out, write_out, writes_out, is_new, opening, opens, visits, asks_go, writing, writes_go, after_letters, works, ticket_goes, awaits, with_rows, on_rows}
+use Rattle.protocol.specs.Desk.{Ask, Choice, Stage, Idle, Reading, Writing, Voting, Undecided, Known, Deed, Transition, stays, is_undecided, ask_out, asks_out, write_out, writes_out, is_new, opening, opens, visits, asks_go, writing, writes_go, after_letters, works, ticket_goes, awaits, with_rows, on_rows}
 use Rattle.protocol.specs.World.{World, turned}
 use Rattle.protocol.specs.Parts.{is_voting}
-use Rattle.protocol.specs.Spots.{at}
-use Rattle.protocol.specs.Course.{AtSites}
-use Rattle.protocol.specs.Leaving.{Closed, LeavingAt, Own, Fruitless, Since, AreVisited, leaves_of, Loose}
+use Rattle.protocol.specs.VisitPlaces.{at}
+use Rattle.protocol.specs.StatementCourse.{AtSites}
+use Rattle.protocol.specs.AfterAbort.{Closed, LeavingAt, Own, Fruitless, Since, AreVisited, leaves_of, Loose}
 use Rattle.protocol.proofs.Basics.{Every, In, every_append, every_more, every_self, either, either_if, put_all, put_here, same_law, same_refl, clash, or_left, or_cases, right_true, found, not_false}
 use Rattle.protocol.proofs.Turns.{every_letter}
 use Rattle.protocol.proofs.Going.{opening_is, first_written}
 use Rattle.protocol.proofs.Ranks.{all_visited, in_map}
 use Rattle.protocol.proofs.Queue.{at_append}
-use Rattle.protocol.proofs.Leaving.{closed_append, left}
+use Rattle.protocol.proofs.AfterAbort.{closed_append, left}
 use Rattle.protocol.proofs.Loose.{leaving_to}
 
 -- what is said of each leaf
@@ -53,7 +53,7 @@ module _ {L : Lang} where
       closed_still (Inquire k) own = tt
 
   -- a turn after which the transaction may still be given up
-  pub record LooseTurn (t : Name) (u : Undecided L) (turn : Turn L) : Type 0 where
+  pub record LooseTurn (t : Name) (u : Undecided L) (turn : Transition L) : Type 0 where
     pub new : Undecided L
     pub is : turn.txn ≡ Known new
     pub calm : is_voting new.stage ≡ false
@@ -72,7 +72,7 @@ module _ {L : Lang} where
     fruitless = every_append (Fruitless t) since.more deeds since.fruitless fruitless;
   }
 
-  abbrev pub loose_turned : IsLawful L → (t : Name) (before : List (Deed L)) (w : World L) (turn : Turn L) (loose : Loose t before w) (to : LooseTurn t loose.u turn) → Loose t before (turned w t turn)
+  abbrev pub loose_turned : IsLawful L → (t : Name) (before : List (Deed L)) (w : World L) (turn : Transition L) (loose : Loose t before w) (to : LooseTurn t loose.u turn) → Loose t before (turned w t turn)
   loose_turned law t before w turn loose to = record {
     u = to.new;
     known = put_here same same_law t turn.txn w.desk.txn ∙ to.is;

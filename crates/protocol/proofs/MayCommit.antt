@@ -4,21 +4,21 @@ use Rattle.protocol.specs.Parts.{Untouched}
 use Rattle.protocol.specs.Language.{Lang, IsLawful, Name}
 use Rattle.protocol.specs.Letter.{Letter, is_for_desk}
 use Rattle.protocol.specs.Site.{SiteState, on_letter, site_after, said, on_give_up, site_restarted, is_within}
-use Rattle.protocol.specs.Desk.{Undecided, Known, Choice, Turn, on_request, on_desk_letter, desk_after, desk_began, desk_restarted, is_desk_within}
+use Rattle.protocol.specs.Desk.{Undecided, Known, Choice, Transition, on_request, on_desk_letter, desk_after, desk_began, desk_restarted, is_desk_within}
 use Rattle.protocol.specs.World.{World, is_site, Event, Begin, Call, Deliver, Site_gives_up, Site_inquires, Site_restarts, Desk_restarts, with_site, addressed, turned, turns, begun, comes_to, delivered, gives_up, inquires, restarts, desk_lives, happens}
 use Rattle.protocol.proofs.Basics.{In, every_at, in_at, either, clash}
 use Rattle.protocol.proofs.Fits.{is_voting, IsCommitted, Fits}
 use Rattle.protocol.proofs.DeskFits.{split}
 use Rattle.protocol.proofs.Turns.{known_is}
-use Rattle.protocol.proofs.PartFour.{was_before, lives_before}
+use Rattle.protocol.proofs.AppliedOnce.{was_before, lives_before}
 use Rattle.protocol.proofs.Going.{Good}
 use Rattle.protocol.proofs.DeskSteps.{request_good, letter_good}
 use Rattle.protocol.proofs.Ops.{Op}
 use Rattle.protocol.proofs.Booked.{Booked, PhaseTurn, goes_on, starts}
 use Rattle.protocol.proofs.BookTurns.{request_booked, letter_booked}
 use Rattle.protocol.proofs.Viable.{Viable}
-use Rattle.protocol.proofs.Deep.{Deep}
-use Rattle.protocol.proofs.DeepCommits.{viable_t}
+use Rattle.protocol.proofs.Invariant.{Deep}
+use Rattle.protocol.proofs.InvariantCommits.{viable_t}
 
 module _ {L : Lang} (law : IsLawful L) (whole : L.Whole) (o : L.Site → Name → Name) (ops : L.Site → Name → List (Op L)) (w : World L) (deep : Deep o ops whole w) where
   -- who is committed then was so before, or might be
@@ -29,7 +29,7 @@ module _ {L : Lang} (law : IsLawful L) (whole : L.Whole) (o : L.Site → Name �
   as_before t done = inl done
 
   -- a turn of the coordinator
-  turned_before : (t : Name) (turn : Turn L) → Good o w t turn → Booked o ops w t turn → Before (turned w t turn)
+  turned_before : (t : Name) (turn : Transition L) → Good o w t turn → Booked o ops w t turn → Before (turned w t turn)
   turned_before t turn good booked j done = ⊎_elim (λ was. inl was)
       (λ new. inr (subst (λ n. Viable ops w n ⊎ ((u : Undecided L) × (w.desk.txn n ≡ Known u) × Untouched u)) (sym new.0) (now new.1)))
       (split o w t turn deep.base.fit good.fine j done)
@@ -43,7 +43,7 @@ module _ {L : Lang} (law : IsLawful L) (whole : L.Whole) (o : L.Site → Name �
           let c = good.fine.commits commits in
           ⊎_elim (λ votes. inl (voting commits c.0 c.1 votes booked.phase)) (λ first. inr (c.0, c.1, first.1)) (booked.votes commits c.0 c.1)
 
-  turns_before : (t : Name) (turn : Turn L) → Good o w t turn → Booked o ops w t turn → Before (turns w t turn)
+  turns_before : (t : Name) (turn : Transition L) → Good o w t turn → Booked o ops w t turn → Before (turns w t turn)
   turns_before t turn good booked = either Before (is_desk_within (desk_after w.desk t turn.txn)) (turned w t turn) w (turned_before t turn good booked) as_before
 
   -- a letter comes; that to a site commits nobody

@@ -1,7 +1,7 @@
 -- What one client's transaction has written is what its statements mean over whole databases.
 use Rattle.std.proofs.Common.{◌≡◌, refl, sym, ap, ap₂, ◌∙◌, subst, List, [], ◌∷◌, map, filter, inl, ⊎_elim, Some, append-nil}
 use Rattle.protocol.specs.Language.{Lang, IsLawful, Name, written}
-use Rattle.protocol.specs.Site.{Visit, Alive}
+use Rattle.protocol.specs.Site.{Visit, Active}
 use Rattle.protocol.specs.Desk.{Undecided, Known, Deed, Idle}
 use Rattle.protocol.specs.World.{World}
 use Rattle.protocol.specs.Serial.{is_committed, phases_of, statements_of, Gives, AllExplained, whole_after, serial_whole}
@@ -12,12 +12,12 @@ use Rattle.protocol.proofs.Fits.{IsCommitted, Own}
 use Rattle.protocol.proofs.Works.{Work, works}
 use Rattle.protocol.proofs.Book.{Told}
 use Rattle.protocol.proofs.Line.{Line, RightFrom, after, every_here}
-use Rattle.protocol.proofs.Deep.{Counts}
-use Rattle.protocol.proofs.DeepSites.{IsDeep}
-use Rattle.protocol.proofs.DeepEvents.{run_deep, opening_deep}
+use Rattle.protocol.proofs.Invariant.{Counts}
+use Rattle.protocol.proofs.InvariantSites.{IsDeep}
+use Rattle.protocol.proofs.InvariantEvents.{run_deep, opening_deep}
 use Rattle.protocol.proofs.SerialLaw.{IsExplained, explained_works, serial_works, serial_law}
 use Rattle.protocol.proofs.OwnReads.{right_now}
-use Rattle.protocol.proofs.Reached.{behind, reached_serial}
+use Rattle.protocol.proofs.ForgottenLetters.{behind, reached_serial}
 
 module _ {L : Lang} (law : IsLawful L) where
   -- the whole database after committed transactions is one
@@ -68,8 +68,8 @@ module _ {L : Lang} (law : IsLawful L) where
         line_whole v.past (Counts reached_deep.1 (behind reached.gone v)) _ reached.explained deep.base.told (λ t done. inl done) (phases_of v.past) whole (λ g. L.content g whole) reached.opens.is_whole (λ g. refl) deep.line
 
     -- of an undecided transaction whose visits all live
-    pub works_meant : (t : Name) (u : Undecided L) → v.desk.txn t ≡ Known u → ((a : L.Site) (k : Name) → Own a k u → (x : Visit L) × ((v.sites a).status k ≡ Alive x)) → Every IsMeant (works v.past t)
-    works_meant t u known alive =
+    pub works_meant : (t : Name) (u : Undecided L) → v.desk.txn t ≡ Known u → ((a : L.Site) (k : Name) → Own a k u → (x : Visit L) × ((v.sites a).status k ≡ Active x)) → Every IsMeant (works v.past t)
+    works_meant t u known active =
         let deep = reached_deep.2 in
         let serial = reached_serial whole v reached (serial_law law) in
-        all_meant (works v.past t) (now whole v) _ now_whole serial.rebuilt (right_now law reached_deep.0 reached_deep.1 (behind reached.gone v) t deep.base u known alive [] (works v.past t) (deep.base.book t u known).reads) (explained_works t v.past reached.explained)
+        all_meant (works v.past t) (now whole v) _ now_whole serial.rebuilt (right_now law reached_deep.0 reached_deep.1 (behind reached.gone v) t deep.base u known active [] (works v.past t) (deep.base.book t u known).reads) (explained_works t v.past reached.explained)

@@ -3,18 +3,18 @@ use Rattle.std.proofs.Common.{◌≡◌, refl, sym, ap, ap₂, ◌∙◌, true, 
 use Rattle.std.proofs.lemmas.List.{map-append}
 use Rattle.std.specs.List.{list_any}
 use Rattle.protocol.specs.Language.{Lang, IsLawful, Name}
-use Rattle.protocol.specs.Site.{Status, Dead, Alive, Prepared}
+use Rattle.protocol.specs.Site.{Status, Dead, Active, Prepared}
 use Rattle.protocol.specs.Desk.{Deed, Desk, Began, Stated, Worked, Answered, Phased, Committed, Aborted, Rolled_back, Why, next_txn}
 use Rattle.protocol.specs.World.{World}
 use Rattle.protocol.specs.Serial.{commits_it, committed, statements_of, answers_of, with_decided, with_all_decided, whole_after, answers_in_turn, serial_whole, serial_answers, IsSerial}
 use Rattle.protocol.specs.Client.{IsReached, IsQuiet}
-use Rattle.protocol.specs.Spots.{Unlocked}
-use Rattle.protocol.specs.Leaving.{Since, Fruitless}
+use Rattle.protocol.specs.VisitPlaces.{Unlocked}
+use Rattle.protocol.specs.AfterAbort.{Since, Fruitless}
 use Rattle.protocol.specs.Parts.{Work}
 use Rattle.protocol.specs.ClientLaw.{log}
 use Rattle.protocol.specs.OneClient.{Rebuilds, now, stated_in, answered_in, Outcome, Did_commit, Did_end, Leads, Follows, done_in, OneAtATime}
 use Rattle.protocol.proofs.Basics.{Every, every_append, same_refl}
-use Rattle.protocol.proofs.Reached.{reached_serial}
+use Rattle.protocol.proofs.ForgottenLetters.{reached_serial}
 use Rattle.protocol.proofs.SerialLaw.{serial_law}
 use Rattle.protocol.proofs.Works.{txn_of}
 use Rattle.protocol.proofs.Deeds.{IsFresh, Of, next_is_fresh, statements_before, answers_before, statements_own, answers_own, none_committed, one_committed, log_own, log_phases, log_commits, log_statements, log_answers, fruitless_own}
@@ -49,7 +49,7 @@ module _ {L : Lang} (law : IsLawful L) where
     where
       one : (st : Status L) → Unlocked st → with_decided d g st content ≡ content
       one Dead free = refl
-      one (Alive v) free = refl
+      one (Active v) free = refl
       one (Prepared t i) free = absurd free
 
   pub quiet_rebuilt : (whole : L.Whole) (w : World L) → IsReached whole w → IsQuiet w → Rebuilds w (now whole w)

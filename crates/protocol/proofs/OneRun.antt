@@ -8,7 +8,7 @@ use Rattle.protocol.specs.Serial.{committed}
 use Rattle.protocol.specs.Site.{Dead}
 use Rattle.protocol.specs.Toy.{toy, Move, part_of}
 use Rattle.protocol.specs.Client.{rounds, IsQuiet}
-use Rattle.protocol.specs.Course.{AtSites, RoomOr, RowsFit, passes, Well}
+use Rattle.protocol.specs.StatementCourse.{AtSites, RoomOr, RowsFit, passes, Well}
 use Rattle.protocol.specs.ClientLaw.{Doing, taken, does, IsDone}
 use Rattle.protocol.proofs.ToyLaws.{toy_lawful, toy_once}
 use Rattle.protocol.proofs.Transaction.{client_law}
@@ -65,7 +65,7 @@ taken_well : (w : World toy) (l : Letter toy) → passes w true moves l ≡ true
 taken_well w l within = record { is_kept = refl; within = within; room = room l.body; fit = fit l.body; homes = at_sites (false ∷ true ∷ []) }
   where
     room : (c : Body toy) → RoomOr ⊥ (w.sites l.site) c
-    room (Write k op g x) = λ v alive. inl refl
+    room (Write k op g x) = λ v active. inl refl
     room Open = tt
     room (Fetch k op g q) = tt
     room (Prepare k n) = tt
@@ -79,7 +79,7 @@ taken_well w l within = record { is_kept = refl; within = within; room = room l.
     room (Inquire k) = tt
 
     fit : (c : Body toy) → RowsFit l.site (w.sites l.site) c
-    fit (Fetch k op g q) = λ home v alive. refl
+    fit (Fetch k op g q) = λ home v active. refl
     fit Open = tt
     fit (Write k op g x) = tt
     fit (Prepare k n) = tt

@@ -8,14 +8,14 @@ use Rattle.protocol.specs.Site.{SiteState, Status, on_letter, site_after, said}
 use Rattle.protocol.specs.Desk.{Ask, Choice, Idle, Undecided, Known, Deed, Stated, Worked, Answered, State, ticket_goes, stays, is_named, on_request, on_state, on_known, on_ticket, on_rows, on_desk_letter, desk_after, is_desk_within}
 use Rattle.protocol.specs.World.{World, addressed, with_site, turned, called, comes_to}
 use Rattle.protocol.specs.Client.{first, next}
-use Rattle.protocol.specs.Spots.{at, Spot, Works, Flow, away, asked, offered, works}
-use Rattle.protocol.specs.Course.{AtSites, Stands, AskWaits, came, unsent, sent, told, AskStands, Far, reads, writes, is_answered, InStatement, Steady, RowsFit, Room, passes_to, Well}
+use Rattle.protocol.specs.VisitPlaces.{at, VisitPlace, Works, Flow, away, asked, offered, works}
+use Rattle.protocol.specs.StatementCourse.{AtSites, Stands, AskWaits, came, unsent, sent, told, AskStands, Far, reads, writes, is_answered, InStatement, Steady, RowsFit, Room, passes_to, Well}
 use Rattle.protocol.proofs.Basics.{Every, In, every_more, in_right, if_true, same_refl, clash}
 use Rattle.protocol.proofs.Locks.{Once}
 use Rattle.protocol.proofs.Queue.{at_append, at_here}
 use Rattle.protocol.proofs.AtSite.{fetch_acts, head_is}
 use Rattle.protocol.proofs.AtDesk.{site_stands}
-use Rattle.protocol.proofs.Working.{with_ticket, ticket_came, first_ticket, rows_came}
+use Rattle.protocol.proofs.StatementMeetsNoLock.{with_ticket, ticket_came, first_ticket, rows_came}
 use Rattle.protocol.proofs.Waiting.{in_at, all_came, none_unsent}
 use Rattle.protocol.proofs.Stating.{GoesOn, turned_on, ticket_on, rows_on, states_on}
 
@@ -43,34 +43,34 @@ module _ {L : Lang} where
   flow_head k d n (Ack j) bs flow = absurd flow
   flow_head k d n (Inquire j) bs flow = absurd flow
 
-  pub spot_head : (f : Name → Status L) (b : Bool) (tk : Option Name) (n : ℕ) (c : Body L) (bs : List (Body L)) → Spot f b tk n (c ∷ bs) → OfStatement c
+  pub spot_head : (f : Name → Status L) (b : Bool) (tk : Option Name) (n : ℕ) (c : Body L) (bs : List (Body L)) → VisitPlace f b tk n (c ∷ bs) → OfStatement c
   spot_head f b tk n c bs (away s) = let e : c ∷ bs ≡ [] = s.silent in cc
   spot_head f b tk n c bs (asked s) = subst OfStatement (sym (head_is c Open bs [] s.waits)) tt
   spot_head f b tk n c bs (offered k s) = subst OfStatement (sym (head_is c (Ticket k) bs [] s.waits)) tt
   spot_head f b tk n c bs (works k s) = flow_head k s.visit.done n c bs s.flow
 
   -- what a fetch brings
-  fetch_said : (s : SiteState L) (t : Name) (b : Bool) (tk : Option Name) (n : ℕ) (k : Name) (op : ℕ) (g : L.Leaf) (q : L.Query) (bs : List (Body L)) (a : L.Site) → L.home g ≡ a → RowsFit a s (Fetch k op g q) → Spot s.status b tk n (Fetch k op g q ∷ bs) →
+  fetch_said : (s : SiteState L) (t : Name) (b : Bool) (tk : Option Name) (n : ℕ) (k : Name) (op : ℕ) (g : L.Leaf) (q : L.Query) (bs : List (Body L)) (a : L.Site) → L.home g ≡ a → RowsFit a s (Fetch k op g q) → VisitPlace s.status b tk n (Fetch k op g q ∷ bs) →
       (rows : L.Rows) × (L.well_formed g rows ≡ true) × (said s (on_letter s t true (Fetch k op g q)) ≡ Rows k op rows ∷ [])
   fetch_said s t b tk n k op g q bs a home fit (away p) = let e : Fetch k op g q ∷ bs ≡ [] = p.silent in cc
   fetch_said s t b tk n k op g q bs a home fit (asked p) = let e : Fetch k op g q ∷ bs ≡ Open ∷ [] = p.waits in cc
   fetch_said s t b tk n k op g q bs a home fit (offered j p) = let e : Fetch k op g q ∷ bs ≡ Ticket j ∷ [] = p.waits in cc
   fetch_said s t b tk n k op g q bs a home fit (works j p) =
       let w : Works k s.status b tk n (Fetch k op g q ∷ bs) = subst (λ i. Works i s.status b tk n (Fetch k op g q ∷ bs)) (sym p.flow.0) p in
-      (L.parts q (L.changed g w.visit.changes (s.kept g)), fit home w.visit w.alive, ap (said s) (fetch_acts s b tk n k bs op g q w))
+      (L.parts q (L.changed g w.visit.changes (s.kept g)), fit home w.visit w.active, ap (said s) (fetch_acts s b tk n k bs op g q w))
 
   -- a letter comes to its site: what is awaited is on its way still
   module _ (law : IsLawful L) (t : Name) (s : L.Statement) (before : List (Deed L)) (u : Undecided L) (w : World L) (l : Letter L) (q : List (Letter L)) (e : w.letters ≡ l ∷ q) (stands : Stands t u w) (fit : RowsFit l.site (w.sites l.site) l.body) (to_site : is_for_desk l.body ≡ false) where
     abbrev out : List (Letter L)
     out = addressed l.site l.txn (said (w.sites l.site) (on_letter (w.sites l.site) l.txn true l.body))
 
-    front : Spot (w.sites l.site).status (u.visited l.site) (u.ticket l.site) (u.sent l.site) (l.body ∷ at l.site q)
-    front = subst (Spot (w.sites l.site).status (u.visited l.site) (u.ticket l.site) (u.sent l.site)) (ap (at l.site) e ∙ if_true (L.same_site l.site l.site) (l.body ∷ at l.site q) (at l.site q) ((law.sites l.site l.site).1 refl)) (stands.spots l.site)
+    front : VisitPlace (w.sites l.site).status (u.visited l.site) (u.ticket l.site) (u.sent l.site) (l.body ∷ at l.site q)
+    front = subst (VisitPlace (w.sites l.site).status (u.visited l.site) (u.ticket l.site) (u.sent l.site)) (ap (at l.site) e ∙ if_true (L.same_site l.site l.site) (l.body ∷ at l.site q) (at l.site q) ((law.sites l.site l.site).1 refl)) (stands.spots l.site)
 
     answered_here : (x : Ask L) (k : Name) (n : ℕ) → x.number ≡ Some n → L.same_site (L.home x.leaf) l.site ≡ true → Fetch k n x.leaf x.query ≡ l.body → AskWaits u (q ++ out) x
     answered_here x k n number here is =
         let a = l.site in
-        let told_ = fetch_said (w.sites a) l.txn (u.visited a) (u.ticket a) (u.sent a) k n x.leaf x.query (at a q) a ((law.sites (L.home x.leaf) a).0 here) (subst (RowsFit a (w.sites a)) (sym is) fit) (subst (λ c. Spot (w.sites a).status (u.visited a) (u.ticket a) (u.sent a) (c ∷ at a q)) (sym is) front) in
+        let told_ = fetch_said (w.sites a) l.txn (u.visited a) (u.ticket a) (u.sent a) k n x.leaf x.query (at a q) a ((law.sites (L.home x.leaf) a).0 here) (subst (RowsFit a (w.sites a)) (sym is) fit) (subst (λ c. VisitPlace (w.sites a).status (u.visited a) (u.ticket a) (u.sent a) (c ∷ at a q)) (sym is) front) in
         told k n told_.0 number told_.1
         (subst (In (Rows k n told_.0)) (sym (at_append (L.home x.leaf) q out)) (in_right (Rows k n told_.0) (at (L.home x.leaf) q) (at (L.home x.leaf) out)
         (subst (In (Rows k n told_.0)) (sym (at_here (L.home x.leaf) a l.txn _ here ∙ ap (λ c. said (w.sites a) (on_letter (w.sites a) l.txn true c)) (sym is) ∙ told_.2)) (inl refl))))
@@ -138,7 +138,7 @@ module _ {L : Lang} where
 
       head_of : OfStatement l.body
       head_of = spot_head (w.sites l.site).status (at_.u.visited l.site) (at_.u.ticket l.site) (at_.u.sent l.site) l.body (at l.site q)
-          (subst (Spot (w.sites l.site).status (at_.u.visited l.site) (at_.u.ticket l.site) (at_.u.sent l.site)) (ap (at l.site) e ∙ if_true (L.same_site l.site l.site) (l.body ∷ at l.site q) (at l.site q) ((law.sites l.site l.site).1 refl)) (at_.stands.spots l.site))
+          (subst (VisitPlace (w.sites l.site).status (at_.u.visited l.site) (at_.u.ticket l.site) (at_.u.sent l.site)) (ap (at l.site) e ∙ if_true (L.same_site l.site l.site) (l.body ∷ at l.site q) (at l.site q) ((law.sites l.site l.site).1 refl)) (at_.stands.spots l.site))
 
       at_desk : is_for_desk l.body ≡ true → InStatement t s before (turned (record w { letters = q }) l.txn (on_desk_letter l.txn l.site kept choice l.body (w.desk.txn l.txn)))
       at_desk to_desk = subst (λ j. InStatement t s before (turned (record w { letters = q }) j (on_desk_letter j l.site kept choice l.body (w.desk.txn j)))) (sym own)

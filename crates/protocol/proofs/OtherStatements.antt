@@ -4,7 +4,7 @@ use Rattle.std.specs.List.{filter, list_any, list_all, flat_map}
 use Rattle.std.proofs.lemmas.List.{map-append}
 use Rattle.protocol.specs.Language.{Lang, Name, same, put}
 use Rattle.protocol.specs.Letter.{Body, Letter, No, Read, Lock, Full, Open, Fetch, Write, Prepare, Commit, Abort, Ticket, Rows, Refused, Voted, Ack, Inquire}
-use Rattle.protocol.specs.Site.{Visit, Status, Dead, Alive, Prepared, SiteState, Act, Says, Opens, Locks, Prepares, Applies, Ends, on_fetch, on_write, on_prepare, on_commit, on_abort, is_dead, is_alive, has_exclusive, has_lock, others_exclusive, others_lock, next_ticket, new_visit, with_status, on_letter, on_give_up, site_after, said, sees, restarted, site_restarted, inquiry_of, inquiries, is_short, is_within}
+use Rattle.protocol.specs.Site.{Visit, Status, Dead, Active, Prepared, SiteState, Act, Says, Opens, Locks, Prepares, Applies, Ends, on_fetch, on_write, on_prepare, on_commit, on_abort, is_dead, is_active, has_exclusive, has_lock, others_exclusive, others_lock, next_ticket, new_visit, with_status, on_letter, on_give_up, site_after, said, sees, restarted, site_restarted, inquiry_of, inquiries, is_short, is_within}
 use Rattle.protocol.specs.Statements.{Statements, with_statements, body_with, letter_with, visit_with, status_with, site_with, act_with}
 
 -- tests that agree on each item agree on the list
@@ -28,27 +28,27 @@ if_with f false x y = refl
 module _ {L : Lang} (S : Statements L) where
   dead_same : (st : Status L) → is_dead (status_with S st) ≡ is_dead st
   dead_same Dead = refl
-  dead_same (Alive v) = refl
+  dead_same (Active v) = refl
   dead_same (Prepared t i) = refl
 
-  alive_same : (st : Status L) → is_alive (status_with S st) ≡ is_alive st
+  alive_same : (st : Status L) → is_active (status_with S st) ≡ is_active st
   alive_same Dead = refl
-  alive_same (Alive v) = refl
+  alive_same (Active v) = refl
   alive_same (Prepared t i) = refl
 
   short_same : (st : Status L) → is_short (status_with S st) ≡ is_short st
   short_same Dead = refl
-  short_same (Alive v) = refl
+  short_same (Active v) = refl
   short_same (Prepared t i) = refl
 
   exclusive_same : (g : L.Leaf) (st : Status L) → has_exclusive g (status_with S st) ≡ has_exclusive g st
   exclusive_same g Dead = refl
-  exclusive_same g (Alive v) = refl
+  exclusive_same g (Active v) = refl
   exclusive_same g (Prepared t i) = refl
 
   lock_same : (g : L.Leaf) (st : Status L) → has_lock g (status_with S st) ≡ has_lock g st
   lock_same g Dead = refl
-  lock_same g (Alive v) = refl
+  lock_same g (Active v) = refl
   lock_same g (Prepared t i) = refl
 
   others_exclusive_same : (s : SiteState L) (k : Name) (g : L.Leaf) → others_exclusive (site_with S s) k g ≡ others_exclusive s k g
@@ -65,54 +65,54 @@ module _ {L : Lang} (S : Statements L) where
       fetched : (st : Status L) → act_with S (on_fetch s kept k op g q st) ≡ on_fetch (site_with S s) kept k op g q (status_with S st)
       fetched Dead = refl
       fetched (Prepared u i) = refl
-      fetched (Alive v) = alive (op == suc v.done) (others_exclusive s k g) (others_exclusive (site_with S s) k g) (others_exclusive_same s k g) kept
+      fetched (Active v) = active (op == suc v.done) (others_exclusive s k g) (others_exclusive (site_with S s) k g) (others_exclusive_same s k g) kept
         where
-          alive : (next locked also : Bool) → also ≡ locked → (keeps : Bool) → act_with S (if next then (if locked then Ends k (Refused k Lock ∷ []) else (if keeps then Locks k (record v { done = op; shared = put L.same_leaf g true v.shared }) g (Rows k op (L.parts q (L.changed g v.changes (s.kept g))) ∷ []) else Says [])) else Says []) ≡
+          active : (next locked also : Bool) → also ≡ locked → (keeps : Bool) → act_with S (if next then (if locked then Ends k (Refused k Lock ∷ []) else (if keeps then Locks k (record v { done = op; shared = put L.same_leaf g true v.shared }) g (Rows k op (L.parts q (L.changed g v.changes (s.kept g))) ∷ []) else Says [])) else Says []) ≡
               (if next then (if also then Ends k (Refused k Lock ∷ []) else (if keeps then Locks k (record (visit_with S v) { done = op; shared = put L.same_leaf g true v.shared }) g (Rows k op (L.parts q (L.changed g v.changes (s.kept g))) ∷ []) else Says [])) else Says [])
-          alive false locked also is keeps = refl
-          alive true true true is keeps = refl
-          alive true true false is keeps = absurd cc
-          alive true false true is keeps = absurd cc
-          alive true false false is true = refl
-          alive true false false is false = refl
+          active false locked also is keeps = refl
+          active true true true is keeps = refl
+          active true true false is keeps = absurd cc
+          active true false true is keeps = absurd cc
+          active true false false is true = refl
+          active true false false is false = refl
   act_same s t kept (Write k op g x) = written (s.status k)
     where
       written : (st : Status L) → act_with S (on_write k op g x st) ≡ on_write k op g x (status_with S st)
       written Dead = refl
       written (Prepared u i) = refl
-      written (Alive v) = alive (op == suc v.done) (v.foreign g) (L.is_full g x v.changes)
+      written (Active v) = active (op == suc v.done) (v.foreign g) (L.is_full g x v.changes)
         where
-          alive : (next foreign full : Bool) → act_with S (if next then (if foreign then Ends k (Refused k Lock ∷ []) else (if full then Ends k (Refused k Full ∷ []) else Locks k (record v { done = op; changes = L.add g x v.changes }) g [])) else Says []) ≡
+          active : (next foreign full : Bool) → act_with S (if next then (if foreign then Ends k (Refused k Lock ∷ []) else (if full then Ends k (Refused k Full ∷ []) else Locks k (record v { done = op; changes = L.add g x v.changes }) g [])) else Says []) ≡
               (if next then (if foreign then Ends k (Refused k Lock ∷ []) else (if full then Ends k (Refused k Full ∷ []) else Locks k (record (visit_with S v) { done = op; changes = L.add g x v.changes }) g [])) else Says [])
-          alive false foreign full = refl
-          alive true true full = refl
-          alive true false true = refl
-          alive true false false = refl
+          active false foreign full = refl
+          active true true full = refl
+          active true false true = refl
+          active true false false = refl
   act_same s t kept (Prepare k count) = prepared (s.status k)
     where
       prepared : (st : Status L) → act_with S (on_prepare kept t k count st) ≡ on_prepare kept t k count (status_with S st)
       prepared Dead = refl
       prepared (Prepared u i) = refl
-      prepared (Alive v) = alive (v.done == count) (L.is_empty v.changes) kept
+      prepared (Active v) = active (v.done == count) (L.is_empty v.changes) kept
         where
-          alive : (done empty keeps : Bool) → act_with S (if done then (if empty then Ends k (Voted k Read ∷ []) else (if keeps then Prepares k t v.changes else Ends k (Voted k No ∷ []))) else Ends k (Voted k No ∷ [])) ≡
+          active : (done empty keeps : Bool) → act_with S (if done then (if empty then Ends k (Voted k Read ∷ []) else (if keeps then Prepares k t v.changes else Ends k (Voted k No ∷ []))) else Ends k (Voted k No ∷ [])) ≡
               (if done then (if empty then Ends k (Voted k Read ∷ []) else (if keeps then Prepares k t v.changes else Ends k (Voted k No ∷ []))) else Ends k (Voted k No ∷ []))
-          alive false empty keeps = refl
-          alive true true keeps = refl
-          alive true false true = refl
-          alive true false false = refl
+          active false empty keeps = refl
+          active true true keeps = refl
+          active true false true = refl
+          active true false false = refl
   act_same s t kept (Commit k) = committed (s.status k) kept
     where
       committed : (st : Status L) (keeps : Bool) → act_with S (on_commit keeps k st) ≡ on_commit keeps k (status_with S st)
       committed Dead keeps = refl
-      committed (Alive v) keeps = refl
+      committed (Active v) keeps = refl
       committed (Prepared u i) true = refl
       committed (Prepared u i) false = refl
   act_same s t kept (Abort k) = aborted (s.status k) kept
     where
       aborted : (st : Status L) (keeps : Bool) → act_with S (on_abort keeps k st) ≡ on_abort keeps k (status_with S st)
       aborted Dead keeps = refl
-      aborted (Alive v) keeps = refl
+      aborted (Active v) keeps = refl
       aborted (Prepared u i) true = refl
       aborted (Prepared u i) false = refl
   act_same s t kept (Ticket k) = refl
@@ -138,12 +138,12 @@ module _ {L : Lang} (S : Statements L) where
 
   sees_same : (g : L.Leaf) (st : Status L) → status_with S (sees g st) ≡ sees g (status_with S st)
   sees_same g Dead = refl
-  sees_same g (Alive v) = refl
+  sees_same g (Active v) = refl
   sees_same g (Prepared t i) = refl
 
   restarted_same : (st : Status L) → status_with S (restarted st) ≡ restarted (status_with S st)
   restarted_same Dead = refl
-  restarted_same (Alive v) = refl
+  restarted_same (Active v) = refl
   restarted_same (Prepared t i) = refl
 
   visit_same : (s : SiteState L) → visit_with S (new_visit s) ≡ new_visit (site_with S s)
@@ -158,9 +158,9 @@ module _ {L : Lang} (S : Statements L) where
   after_same s (Says replies) = refl
   after_same s Opens =
       ap (λ (x : SiteState (with_statements L S)). record x { number = suc s.number })
-      (with_same s (put same (next_ticket s) (Alive (new_visit s)) s.status) (put same (next_ticket s) (Alive (new_visit (site_with S s))) (λ j. status_with S (s.status j)))
-      (λ j. status_put (next_ticket s) (Alive (new_visit s)) s.status j ∙ ap (λ (v : Visit (with_statements L S)). if same j (next_ticket s) then Alive v else status_with S (s.status j)) (visit_same s)) (s.known ++ next_ticket s ∷ []))
-  after_same s (Locks k v g replies) = put_same_status s k (Alive v) (Alive (visit_with S v)) refl (λ j. sees g (s.status j)) (λ j. sees g (status_with S (s.status j))) (λ j. sees_same g (s.status j))
+      (with_same s (put same (next_ticket s) (Active (new_visit s)) s.status) (put same (next_ticket s) (Active (new_visit (site_with S s))) (λ j. status_with S (s.status j)))
+      (λ j. status_put (next_ticket s) (Active (new_visit s)) s.status j ∙ ap (λ (v : Visit (with_statements L S)). if same j (next_ticket s) then Active v else status_with S (s.status j)) (visit_same s)) (s.known ++ next_ticket s ∷ []))
+  after_same s (Locks k v g replies) = put_same_status s k (Active v) (Active (visit_with S v)) refl (λ j. sees g (s.status j)) (λ j. sees g (status_with S (s.status j))) (λ j. sees_same g (s.status j))
   after_same s (Prepares k t i) = put_same_status s k (Prepared t i) (Prepared t i) refl s.status (λ j. status_with S (s.status j)) (λ j. refl)
   after_same s (Applies k i) =
       ap (λ (x : SiteState (with_statements L S)). record x { kept = λ g. L.changed g i (s.kept g) })
@@ -179,7 +179,7 @@ module _ {L : Lang} (S : Statements L) where
   -- giving a visit up, restarts and inquiries
   pub give_up_same : (k : Name) (st : Status L) → act_with S (on_give_up k st) ≡ on_give_up k (status_with S st)
   give_up_same k Dead = refl
-  give_up_same k (Alive v) = refl
+  give_up_same k (Active v) = refl
   give_up_same k (Prepared t i) = refl
 
   pub restart_same : (s : SiteState L) → site_with S (site_restarted s) ≡ site_restarted (site_with S s)
@@ -189,7 +189,7 @@ module _ {L : Lang} (S : Statements L) where
 
   inquiry_same : (a : L.Site) (k : Name) (st : Status L) → map (letter_with S) (inquiry_of a k st) ≡ inquiry_of a k (status_with S st)
   inquiry_same a k Dead = refl
-  inquiry_same a k (Alive v) = refl
+  inquiry_same a k (Active v) = refl
   inquiry_same a k (Prepared t i) = refl
 
   pub inquiries_same : (a : L.Site) (s : SiteState L) → map (letter_with S) (inquiries a s) ≡ inquiries a (site_with S s)
@@ -204,4 +204,4 @@ module _ {L : Lang} (S : Statements L) where
   within_same s =
       ap₂ (λ (a b : Bool). nat_lt s.life (2 ^ 63) && nat_lt s.number (2 ^ 63) && a && b)
       (all_same (λ k. is_short (status_with S (s.status k))) (λ k. is_short (s.status k)) (λ k. short_same (s.status k)) s.known)
-      (ap (λ (names : List Name). nat_le (length names) 1024) (filter_same (λ k. is_alive (status_with S (s.status k))) (λ k. is_alive (s.status k)) (λ k. alive_same (s.status k)) s.known))
+      (ap (λ (names : List Name). nat_le (length names) 1024) (filter_same (λ k. is_active (status_with S (s.status k))) (λ k. is_active (s.status k)) (λ k. alive_same (s.status k)) s.known))

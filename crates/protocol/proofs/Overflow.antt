@@ -3,13 +3,13 @@ use Rattle.std.proofs.Common.{◌≡◌, refl, sym, ap, ◌∙◌, subst, ℕ, s
 use Rattle.std.proofs.lemmas.Bool.{eq-eqb}
 use Rattle.protocol.specs.Language.{Lang, IsLawful, Name}
 use Rattle.protocol.specs.Letter.{Body, Open, Fetch, Write, Prepare, Commit, Abort, Ticket, Rows, Refused, Voted, Ack, Inquire, Lock, Full, Letter, is_for_desk}
-use Rattle.protocol.specs.Site.{Visit, SiteState, Alive, Act, Says, Ends, Locks, on_letter, on_write, site_after, said, is_within}
+use Rattle.protocol.specs.Site.{Visit, SiteState, Active, Act, Says, Ends, Locks, on_letter, on_write, site_after, said, is_within}
 use Rattle.protocol.specs.Desk.{Choice, Undecided, Known, Deed, Stated, Worked, Answered, Ask}
 use Rattle.protocol.specs.World.{World, with_site, addressed, comes_to}
 use Rattle.protocol.specs.Client.{first, next, IsQuiet}
-use Rattle.protocol.specs.Spots.{at, Spot, Works, away, asked, offered, works}
-use Rattle.protocol.specs.Course.{InStatement, Steady, Room, RoomOr, passes_to, Well}
-use Rattle.protocol.specs.Leaving.{EndKept, Within, Since, Loose, Failing, doomed, has_ended, Went}
+use Rattle.protocol.specs.VisitPlaces.{at, VisitPlace, Works, away, asked, offered, works}
+use Rattle.protocol.specs.StatementCourse.{InStatement, Steady, Room, RoomOr, passes_to, Well}
+use Rattle.protocol.specs.AfterAbort.{EndKept, Within, Since, Loose, Failing, doomed, has_ended, Went}
 use Rattle.protocol.proofs.Basics.{In, in_right, if_true, if_false, clash}
 use Rattle.protocol.proofs.Locks.{Once}
 use Rattle.protocol.proofs.Queue.{at_append, at_here}
@@ -24,7 +24,7 @@ module _ {L : Lang} where
   write_refused s t k b tk n op g x bs p full =
       let v = p.visit in
       let new = Locks k (record v { done = op; changes = L.add g x v.changes }) g [] in
-      ap (said s) (ap (on_write k op g x) p.alive
+      ap (said s) (ap (on_write k op g x) p.active
       ∙ if_true (op == suc v.done) (if v.foreign g then Ends k (Refused k Lock ∷ []) else (if L.is_full g x v.changes then Ends k (Refused k Full ∷ []) else new)) (Says []) (eq-eqb op (suc v.done) p.flow.1)
       ∙ if_false (v.foreign g) (Ends k (Refused k Lock ∷ [])) (if L.is_full g x v.changes then Ends k (Refused k Full ∷ []) else new) (p.own g)
       ∙ if_true (L.is_full g x v.changes) (Ends k (Refused k Full ∷ [])) new full)
@@ -34,8 +34,8 @@ module _ {L : Lang} where
       abbrev here : L.Site
       here = l.site
 
-      front : Spot (w.sites here).status (at_.u.visited here) (at_.u.ticket here) (at_.u.sent here) (l.body ∷ at here q)
-      front = subst (Spot (w.sites here).status (at_.u.visited here) (at_.u.ticket here) (at_.u.sent here)) (ap (at here) e ∙ in_front law l q) (at_.stands.spots here)
+      front : VisitPlace (w.sites here).status (at_.u.visited here) (at_.u.ticket here) (at_.u.sent here) (l.body ∷ at here q)
+      front = subst (VisitPlace (w.sites here).status (at_.u.visited here) (at_.u.ticket here) (at_.u.sent here)) (ap (at here) e ∙ in_front law l q) (at_.stands.spots here)
 
       goes : Room (w.sites here) l.body → Went E t s before (next w kept choice)
       goes room = inl (statement_step law once t s law.touches_none before w at_ kept choice l q e E well room)
@@ -86,19 +86,19 @@ module _ {L : Lang} where
           go (over deeds since ending) = has_ended deeds since ending
 
       write_goes : (k : Name) (op : ℕ) (g : L.Leaf) (x : L.Write) → l.body ≡ Write k op g x → Went E t s before (next w kept choice)
-      write_goes k op g x is = by_spot (subst (λ c. Spot (w.sites here).status (at_.u.visited here) (at_.u.ticket here) (at_.u.sent here) (c ∷ at here q)) is front)
+      write_goes k op g x is = by_spot (subst (λ c. VisitPlace (w.sites here).status (at_.u.visited here) (at_.u.ticket here) (at_.u.sent here) (c ∷ at here q)) is front)
         where
-          room : (v : Visit L) → (w.sites here).status k ≡ Alive v → L.is_full g x v.changes ≡ false → Room (w.sites here) (Write k op g x)
-          room v alive none y other = subst (λ z. L.is_full g x z.changes ≡ false) (visit_is v y (sym alive ∙ other)) none
+          room : (v : Visit L) → (w.sites here).status k ≡ Active v → L.is_full g x v.changes ≡ false → Room (w.sites here) (Write k op g x)
+          room v active none y other = subst (λ z. L.is_full g x z.changes ≡ false) (visit_is v y (sym active ∙ other)) none
             where
-              visit_is : (v y : Visit L) → Alive v ≡ Alive y → v ≡ y
+              visit_is : (v y : Visit L) → Active v ≡ Active y → v ≡ y
               visit_is v y f = cc
 
           by_full : (p : Works k (w.sites here).status (at_.u.visited here) (at_.u.ticket here) (at_.u.sent here) (Write k op g x ∷ at here q)) → (b : Bool) → L.is_full g x p.visit.changes ≡ b → Went E t s before (next w kept choice)
-          by_full p false none = goes (subst (Room (w.sites here)) (sym is) (room p.visit p.alive none))
-          by_full p true full = ⊎_elim (λ none. clash full none) (λ excuse. inr (excuse, overflows k op g x is p full)) (subst (RoomOr E (w.sites here)) is well.room p.visit p.alive)
+          by_full p false none = goes (subst (Room (w.sites here)) (sym is) (room p.visit p.active none))
+          by_full p true full = ⊎_elim (λ none. clash full none) (λ excuse. inr (excuse, overflows k op g x is p full)) (subst (RoomOr E (w.sites here)) is well.room p.visit p.active)
 
-          by_spot : Spot (w.sites here).status (at_.u.visited here) (at_.u.ticket here) (at_.u.sent here) (Write k op g x ∷ at here q) → Went E t s before (next w kept choice)
+          by_spot : VisitPlace (w.sites here).status (at_.u.visited here) (at_.u.ticket here) (at_.u.sent here) (Write k op g x ∷ at here q) → Went E t s before (next w kept choice)
           by_spot (away p) = let f : Write k op g x ∷ at here q ≡ [] = p.silent in cc
           by_spot (asked p) = let f : Write k op g x ∷ at here q ≡ Open ∷ [] = p.waits in cc
           by_spot (offered j p) = let f : Write k op g x ∷ at here q ≡ Ticket j ∷ [] = p.waits in cc

@@ -3,7 +3,7 @@ use Rattle.std.proofs.Common.{◌≡◌, refl, sym, ap, ◌∙◌, subst, ℕ, s
 use Rattle.std.specs.List.{list_any}
 use Rattle.protocol.specs.Language.{Lang, IsLawful, Name, same, written}
 use Rattle.protocol.specs.Letter.{Rows}
-use Rattle.protocol.specs.Site.{Visit, Status, Dead, Alive, Prepared, has_lock}
+use Rattle.protocol.specs.Site.{Visit, Status, Dead, Active, Prepared, has_lock}
 use Rattle.protocol.specs.Desk.{Ask, Undecided, Known}
 use Rattle.protocol.specs.World.{World}
 use Rattle.protocol.specs.Serial.{settled}
@@ -52,13 +52,13 @@ module _ {L : Lang} where
         (λ is. absurd (other (sym ((base.fit.known j v f).tickets a i its).1 ∙ ap (o a) (sym ((same_law k i).0 is)) ∙ ((base.fit.known t u e).tickets a k own).1)))
         (λ none. none) (by_test (same k i))
 
-    module _ (alive : (a : L.Site) (k : Name) → Own a k u → (v : Visit L) × ((w.sites a).status k ≡ Alive v)) where
+    module _ (active : (a : L.Site) (k : Name) → Own a k u → (v : Visit L) × ((w.sites a).status k ≡ Active v)) where
       -- what it read it has locked, and it is kept now
       one_read : (own : List (L.Leaf × L.Write)) (q : Ask L) → AskCame t u.ticket ops w.letters own q → ((k : Name) × Own (L.home q.leaf) k u × (has_lock q.leaf ((w.sites (L.home q.leaf)).status k) ≡ true)) × (q.rows ≡ Some (L.parts q.query (written L q.leaf own (settled w q.leaf))))
       one_read own q came =
           let a = L.home q.leaf in
           let k = came.sent.name in
-          let visit = alive a k came.sent.is in
+          let visit = active a k came.sent.is in
           let rows : RowsAt (ops a k) (w.sites a) k came.number came.rows = every_in (λ l. TellsBody (ops l.site) (w.sites l.site) l.body) w.letters (record { site = a; txn = t; body = Rows k came.number came.rows }) base.tells (came.came k came.sent.is) in
           let one = nth_same (ops a k) came.number (Get rows.leaf rows.query) (Get q.leaf q.query) rows.nth came.sent.nth in
           let leaf = get_leaf rows.leaf q.leaf rows.query q.query one.1 in
@@ -78,9 +78,9 @@ module _ {L : Lang} where
                 ∙ ap (L.parts q.query) (sym (written_on L q.leaf (sets came.sent.nth.before) ((w.sites a).kept q.leaf)) ∙ ap (λ l. written L q.leaf l ((w.sites a).kept q.leaf)) came.sent.before ∙ written_on L q.leaf own ((w.sites a).kept q.leaf) ∙ ap (written L q.leaf own) (sym settled_is))),
           )
         where
-          no_visit : (v : Visit L) (st : Status L) (g : L.Leaf) → st ≡ Alive v → changes_it w.past g st ≡ true → ⊥
+          no_visit : (v : Visit L) (st : Status L) (g : L.Leaf) → st ≡ Active v → changes_it w.past g st ≡ true → ⊥
           no_visit v Dead g f is = cc
-          no_visit v (Alive x) g f is = cc
+          no_visit v (Active x) g f is = cc
           no_visit v (Prepared n i) g f is = cc
 
       -- all that it read is of the settled contents with its own earlier writes

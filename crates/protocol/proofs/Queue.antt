@@ -2,10 +2,10 @@
 use Rattle.std.proofs.Common.{◌≡◌, refl, sym, ap, ◌∙◌, subst, ℕ, suc, Bool, true, false, List, [], ◌∷◌, ◌++◌, if◌then◌else◌, Option, Some, None, append-nil}
 use Rattle.protocol.specs.Language.{Lang, IsLawful, Name, put}
 use Rattle.protocol.specs.Letter.{Body, Open, Fetch, Write, Prepare, Commit, Abort, Ticket, Rows, Refused, Voted, Ack, Inquire, Letter}
-use Rattle.protocol.specs.Site.{Status, Dead, Alive, Prepared, has_lock}
+use Rattle.protocol.specs.Site.{Status, Dead, Active, Prepared, has_lock}
 use Rattle.protocol.specs.Desk.{Ask, ask_out, asks_out, write_out, writes_out}
 use Rattle.protocol.specs.World.{addressed}
-pub use Rattle.protocol.specs.Spots.{at, Unlocked, Flow, Away, Asked, Offered, Works, Spot, away, asked, offered, works}
+pub use Rattle.protocol.specs.VisitPlaces.{at, Unlocked, Flow, Away, Asked, Offered, Works, VisitPlace, away, asked, offered, works}
 use Rattle.protocol.proofs.Basics.{if_true, if_false, some_is}
 
 module _ {L : Lang} where
@@ -27,7 +27,7 @@ module _ {L : Lang} where
 
   pub unlocked_free : (g : L.Leaf) (st : Status L) → Unlocked st → has_lock g st ≡ false
   unlocked_free g Dead free = refl
-  unlocked_free g (Alive v) free = free g
+  unlocked_free g (Active v) free = free g
   unlocked_free g (Prepared t i) free = absurd free
 
   pub flow_append : (k : Name) (d n m : ℕ) (bs more : List (Body L)) → Flow k d n bs → Flow k n m more → Flow k d m (bs ++ more)
@@ -66,7 +66,7 @@ module _ {L : Lang} where
   nothing_more bs more e = ap (λ x. bs ++ x) e ∙ append-nil bs
 
   -- the coordinator sends what it may
-  pub spot_out : (f : Name → Status L) (b : Bool) (tk : Option Name) (n m : ℕ) (bs more : List (Body L)) → Spot f b tk n bs → OutAt tk n m more → Spot f b tk m (bs ++ more)
+  pub spot_out : (f : Name → Status L) (b : Bool) (tk : Option Name) (n m : ℕ) (bs more : List (Body L)) → VisitPlace f b tk n bs → OutAt tk n m more → VisitPlace f b tk m (bs ++ more)
   spot_out f b tk n m bs more (away s) out =
       let none = out_silent tk n m more s.no_ticket out in
       away (record { unvisited = s.unvisited; no_ticket = s.no_ticket; nothing_sent = none.1 ∙ s.nothing_sent; silent = nothing_more bs more none.0 ∙ s.silent; free = s.free })
@@ -75,19 +75,19 @@ module _ {L : Lang} where
       asked (record { visited = s.visited; no_ticket = s.no_ticket; nothing_sent = none.1 ∙ s.nothing_sent; waits = nothing_more bs more none.0 ∙ s.waits; free = s.free })
   spot_out f b tk n m bs more (offered k s) out =
       let none = out_silent tk n m more s.no_ticket out in
-      offered k (record { visited = s.visited; no_ticket = s.no_ticket; nothing_sent = none.1 ∙ s.nothing_sent; waits = nothing_more bs more none.0 ∙ s.waits; visit = s.visit; alive = s.alive; nothing_done = s.nothing_done; own = s.own; free = s.free })
+      offered k (record { visited = s.visited; no_ticket = s.no_ticket; nothing_sent = none.1 ∙ s.nothing_sent; waits = nothing_more bs more none.0 ∙ s.waits; visit = s.visit; active = s.active; nothing_done = s.nothing_done; own = s.own; free = s.free })
   spot_out f b tk n m bs more (works k s) out =
-      works k (record { visited = s.visited; ticket = s.ticket; visit = s.visit; alive = s.alive; own = s.own; free = s.free; flow = flow_append k s.visit.done n m bs more s.flow (out_flow tk k n m more s.ticket out) })
+      works k (record { visited = s.visited; ticket = s.ticket; visit = s.visit; active = s.active; own = s.own; free = s.free; flow = flow_append k s.visit.done n m bs more s.flow (out_flow tk k n m more s.ticket out) })
 
   -- a new site is visited, its Open goes out
-  pub spot_open : (f : Name → Status L) (tk : Option Name) (n : ℕ) (bs : List (Body L)) → Spot f false tk n bs → Spot f true tk n (bs ++ Open ∷ [])
+  pub spot_open : (f : Name → Status L) (tk : Option Name) (n : ℕ) (bs : List (Body L)) → VisitPlace f false tk n bs → VisitPlace f true tk n (bs ++ Open ∷ [])
   spot_open f tk n bs (away s) = asked (record { visited = refl; no_ticket = s.no_ticket; nothing_sent = s.nothing_sent; waits = ap (λ x. x ++ Open ∷ []) s.silent; free = s.free })
   spot_open f tk n bs (asked s) = let e : false ≡ true = s.visited in cc
   spot_open f tk n bs (offered k s) = let e : false ≡ true = s.visited in cc
   spot_open f tk n bs (works k s) = let e : false ≡ true = s.visited in cc
 
   -- its ticket comes
-  pub spot_ticket : (f : Name → Status L) (b : Bool) (n : ℕ) (k : Name) (bs : List (Body L)) (tk : Option Name) → Spot f b tk n (Ticket k ∷ bs) → Spot f b (Some k) n bs × (tk ≡ None)
+  pub spot_ticket : (f : Name → Status L) (b : Bool) (n : ℕ) (k : Name) (bs : List (Body L)) (tk : Option Name) → VisitPlace f b tk n (Ticket k ∷ bs) → VisitPlace f b (Some k) n bs × (tk ≡ None)
   spot_ticket f b n k bs tk (away s) = let e : Ticket k ∷ bs ≡ [] = s.silent in cc
   spot_ticket f b n k bs tk (asked s) = let e : Ticket k ∷ bs ≡ Open ∷ [] = s.waits in cc
   spot_ticket f b n k bs tk (offered j s) =
@@ -96,7 +96,7 @@ module _ {L : Lang} where
           visited = s.visited;
           ticket = refl;
           visit = s.visit;
-          alive = ap f is ∙ s.alive;
+          active = ap f is ∙ s.active;
           own = s.own;
           free = λ i other. s.free i;
           flow = subst (Flow k s.visit.done n) (sym (none_behind k j bs s.waits)) (s.nothing_done ∙ sym s.nothing_sent);
@@ -112,12 +112,12 @@ module _ {L : Lang} where
   spot_ticket f b n k bs tk (works j s) = absurd s.flow
 
   -- rows come
-  pub spot_rows : (f : Name → Status L) (b : Bool) (tk : Option Name) (n : ℕ) (k : Name) (m : ℕ) (rows : L.Rows) (bs : List (Body L)) → Spot f b tk n (Rows k m rows ∷ bs) → Spot f b tk n bs × (tk ≡ Some k)
+  pub spot_rows : (f : Name → Status L) (b : Bool) (tk : Option Name) (n : ℕ) (k : Name) (m : ℕ) (rows : L.Rows) (bs : List (Body L)) → VisitPlace f b tk n (Rows k m rows ∷ bs) → VisitPlace f b tk n bs × (tk ≡ Some k)
   spot_rows f b tk n k m rows bs (away s) = let e : Rows k m rows ∷ bs ≡ [] = s.silent in cc
   spot_rows f b tk n k m rows bs (asked s) = let e : Rows k m rows ∷ bs ≡ Open ∷ [] = s.waits in cc
   spot_rows f b tk n k m rows bs (offered j s) = let e : Rows k m rows ∷ bs ≡ Ticket j ∷ [] = s.waits in cc
   spot_rows f b tk n k m rows bs (works j s) =
-      (works j (record { visited = s.visited; ticket = s.ticket; visit = s.visit; alive = s.alive; own = s.own; free = s.free; flow = s.flow.1 }), s.ticket ∙ ap (λ i. Some i) (sym s.flow.0))
+      (works j (record { visited = s.visited; ticket = s.ticket; visit = s.visit; active = s.active; own = s.own; free = s.free; flow = s.flow.1 }), s.ticket ∙ ap (λ i. Some i) (sym s.flow.0))
 
   -- ---- what goes out, by site
   fetch_out : (b : Bool) (tk : Option Name) (k : Name) (n m z : ℕ) (g : L.Leaf) (q : L.Query) (bs : List (Body L)) → (b ≡ true → (tk ≡ Some k) × (m ≡ n)) → OutAt tk (if b then suc m else n) z bs → OutAt tk n z (if b then Fetch k (suc m) g q ∷ bs else bs)

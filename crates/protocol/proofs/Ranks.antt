@@ -2,8 +2,8 @@
 use Rattle.std.proofs.Common.{◌≡◌, refl, sym, ap, ◌∙◌, subst, ℕ, suc, ◌≤◌, ◌==◌, not, ◌&&◌, ◌||◌, Bool, true, false, List, [], ◌∷◌, ◌++◌, map, Option, Some, None, inl, inr, arith}
 use Rattle.protocol.specs.Language.{Lang, IsLawful, Name}
 use Rattle.protocol.specs.Letter.{Body, Open, Fetch, Write, Prepare, Commit, Abort, Ticket, Rows, Refused, Voted, Ack, Inquire, Letter}
-use Rattle.protocol.specs.Site.{SiteState, Status, Dead, Alive, Prepared, Act, on_letter, on_fetch, on_write, on_prepare, on_commit, on_abort, others_exclusive, said}
-use Rattle.protocol.specs.Desk.{Ask, Choice, Undecided, Txn, Deed, Turn, writes_out, is_new, opens, visits, asks_go, writing, writes_go, works, stays, when, to_abort, vote_at, may_hold, ends_by}
+use Rattle.protocol.specs.Site.{SiteState, Status, Dead, Active, Prepared, Act, on_letter, on_fetch, on_write, on_prepare, on_commit, on_abort, others_exclusive, said}
+use Rattle.protocol.specs.Desk.{Ask, Choice, Undecided, Txn, Deed, Transition, writes_out, is_new, opens, visits, asks_go, writing, writes_go, works, stays, when, to_abort, vote_at, may_hold, ends_by}
 pub use Rattle.protocol.specs.Rounds.{is_stage_reading, is_reading, rank, rank_in}
 use Rattle.protocol.proofs.Basics.{Every, every_append, In, either, any_in, some_is}
 use Rattle.protocol.proofs.Turns.{every_letter}
@@ -89,32 +89,32 @@ module _ {L : Lang} where
     fetch_lowers : (k : Name) (op : ℕ) (g : L.Leaf) (q : L.Query) (st : Status L) → Lowers (Fetch k op g q) (on_fetch s kept k op g q st)
     fetch_lowers k op g q Dead = (refused_low r k op g q, tt)
     fetch_lowers k op g q (Prepared u i) = tt
-    fetch_lowers k op g q (Alive v) =
+    fetch_lowers k op g q (Active v) =
         either (Lowers (Fetch k op g q)) (op == suc v.done) _ _
         (either (Lowers (Fetch k op g q)) (others_exclusive s k g) _ _ (refused_low r k op g q, tt) (either (Lowers (Fetch k op g q)) kept _ _ (rows_low r k op g q _, tt) tt)) tt
 
     write_lowers : (k : Name) (op : ℕ) (g : L.Leaf) (x : L.Write) (st : Status L) → Lowers (Write k op g x) (on_write k op g x st)
     write_lowers k op g x Dead = tt
     write_lowers k op g x (Prepared u i) = tt
-    write_lowers k op g x (Alive v) =
+    write_lowers k op g x (Active v) =
         either (Lowers (Write k op g x)) (op == suc v.done) _ _
         (either (Lowers (Write k op g x)) (v.foreign g) _ _ (omega arith, tt) (either (Lowers (Write k op g x)) (L.is_full g x v.changes) _ _ (omega arith, tt) tt)) tt
 
     prepare_lowers : (k : Name) (n : ℕ) (st : Status L) → Lowers (Prepare k n) (on_prepare kept t k n st)
     prepare_lowers k n Dead = (omega arith, tt)
     prepare_lowers k n (Prepared u i) = (omega arith, tt)
-    prepare_lowers k n (Alive v) =
+    prepare_lowers k n (Active v) =
         either (Lowers (Prepare k n)) (v.done == n) _ _
         (either (Lowers (Prepare k n)) (L.is_empty v.changes) _ _ (omega arith, tt) (either (Lowers (Prepare k n)) kept _ _ (omega arith, tt) (omega arith, tt))) (omega arith, tt)
 
     commit_lowers : (k : Name) (st : Status L) → Lowers (Commit k) (on_commit kept k st)
     commit_lowers k Dead = (omega arith, tt)
-    commit_lowers k (Alive v) = (omega arith, tt)
+    commit_lowers k (Active v) = (omega arith, tt)
     commit_lowers k (Prepared u i) = either (Lowers (Commit k)) kept _ _ (omega arith, tt) tt
 
     abort_lowers : (k : Name) (st : Status L) → Lowers (Abort k) (on_abort kept k st)
     abort_lowers k Dead = tt
-    abort_lowers k (Alive v) = tt
+    abort_lowers k (Active v) = tt
     abort_lowers k (Prepared u i) = either (Lowers (Abort k)) kept _ _ tt tt
 
     pub site_lowers : (b : Body L) → Lowers b (on_letter s t kept b)
@@ -132,7 +132,7 @@ module _ {L : Lang} where
     site_lowers (Inquire k) = tt
 
   -- a turn whose letters rank below n, and which begins no reading
-  pub record Lower (t : Name) (r : Bool) (n : ℕ) (turn : Turn L) : Type 0 where
+  pub record Lower (t : Name) (r : Bool) (n : ℕ) (turn : Transition L) : Type 0 where
     pub falls : is_reading turn.txn ≡ true → r ≡ true
     pub under : Every (λ l. (l.txn ≡ t) × (suc (rank (is_reading turn.txn) l.body) ≤ n)) turn.letters
 

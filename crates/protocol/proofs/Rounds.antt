@@ -3,7 +3,7 @@ use Rattle.std.proofs.Common.{◌≡◌, refl, sym, ◌∙◌, subst, ℕ, zero,
 use Rattle.protocol.specs.Language.{Lang, Name, same, put}
 use Rattle.protocol.specs.Letter.{Letter, Body, is_for_desk}
 use Rattle.protocol.specs.Site.{SiteState, on_letter, site_after, said, is_within}
-use Rattle.protocol.specs.Desk.{Choice, Txn, Unknown, Known, Row, Aborted, Given_up, Request, Commit_call, Rollback, Give_up, Turn, desk_after, on_request, on_desk_letter, is_desk_within}
+use Rattle.protocol.specs.Desk.{Choice, Txn, Unknown, Known, Row, Aborted, Given_up, Request, Commit_call, Rollback, Give_up, Transition, desk_after, on_request, on_desk_letter, is_desk_within}
 use Rattle.protocol.specs.World.{World, called, comes, comes_to, turns, turned, site_steps, with_site, addressed}
 use Rattle.protocol.specs.Client.{first, next, deliveries, round, rounds, RoundsLaw}
 pub use Rattle.protocol.specs.Rounds.{InRound, RoundByLetter}
@@ -29,7 +29,7 @@ module _ {L : Lang} where
   addressed_under w a t n [] all = tt
   addressed_under w a t n (b ∷ bodies) all = ((let h = all.0 in omega arith), addressed_under w a t n bodies all.1)
 
-  turn_brings : (n : ℕ) (w : World L) (t : Name) (turn : Turn L) → (is_reading turn.txn ≡ true → is_reading (w.desk.txn t) ≡ true) → Every (λ l. rank_in (put same t turn.txn w.desk.txn) l ≤ n) turn.letters → Brings n w (turns w t turn)
+  turn_brings : (n : ℕ) (w : World L) (t : Name) (turn : Transition L) → (is_reading turn.txn ≡ true → is_reading (w.desk.txn t) ≡ true) → Every (λ l. rank_in (put same t turn.txn w.desk.txn) l ≤ n) turn.letters → Brings n w (turns w t turn)
   turn_brings n w t turn falls under = either (Brings n w) (is_desk_within (desk_after w.desk t turn.txn)) (turned w t turn) w
       (record {
         new = turn.letters;

@@ -10,9 +10,9 @@ use Rattle.protocol.proofs.Ops.{written_append}
 use Rattle.protocol.proofs.Works.{Work, work_in, works, own_of}
 use Rattle.protocol.proofs.Book.{Told}
 use Rattle.protocol.proofs.Line.{Line, RightFrom, after, every_here}
-use Rattle.protocol.proofs.Deep.{Counts}
-use Rattle.protocol.proofs.DeepSites.{IsDeep}
-use Rattle.protocol.proofs.DeepEvents.{run_deep, opening_deep}
+use Rattle.protocol.proofs.Invariant.{Counts}
+use Rattle.protocol.proofs.InvariantSites.{IsDeep}
+use Rattle.protocol.proofs.InvariantEvents.{run_deep, opening_deep}
 
 module _ {L : Lang} where
   -- an evaluated statement answers and writes as its meaning over every whole database that gives its rows

@@ -2,7 +2,7 @@
 use Rattle.std.proofs.Common.{◌≡◌, refl, sym, ap, ◌∙◌, subst, ◌&&◌, Bool, true, false, List, [], ◌∷◌, ◌⊎◌, inl, inr, ⊎_elim}
 use Rattle.std.specs.List.{list_any}
 use Rattle.protocol.specs.Language.{Lang, IsLawful, Name, same}
-use Rattle.protocol.specs.Site.{Status, Dead, Alive, Prepared, is_dead, has_exclusive, has_lock}
+use Rattle.protocol.specs.Site.{Status, Dead, Active, Prepared, is_dead, has_exclusive, has_lock}
 use Rattle.protocol.specs.Desk.{Txn, Unknown, Known, Row, Deed, Desk}
 use Rattle.protocol.specs.World.{World}
 use Rattle.protocol.specs.Serial.{is_committed, with_row, with_decided, with_all_decided, settled}
@@ -17,22 +17,22 @@ module _ {L : Lang} where
   -- a prepared row of a committed transaction that touches the leaf
   abbrev pub changes_it : List (Deed L) → L.Leaf → Status L → Bool
   changes_it past g Dead = false
-  changes_it past g (Alive v) = false
+  changes_it past g (Active v) = false
   changes_it past g (Prepared t i) = is_committed past t && L.touches g i
 
   abbrev pub changed_by_row : L.Leaf → Status L → L.Content → L.Content
   changed_by_row g Dead c = c
-  changed_by_row g (Alive v) c = c
+  changed_by_row g (Active v) c = c
   changed_by_row g (Prepared t i) c = L.changed g i c
 
   pub changes_exclusive : (past : List (Deed L)) (g : L.Leaf) (st : Status L) → changes_it past g st ≡ true → has_exclusive g st ≡ true
   changes_exclusive past g Dead e = e
-  changes_exclusive past g (Alive v) e = cc
+  changes_exclusive past g (Active v) e = cc
   changes_exclusive past g (Prepared t i) e = right_true (is_committed past t) (L.touches g i) e
 
   lock_lives : (g : L.Leaf) (st : Status L) → has_lock g st ≡ true → is_dead st ≡ false
   lock_lives g Dead e = cc
-  lock_lives g (Alive v) e = refl
+  lock_lives g (Active v) e = refl
   lock_lives g (Prepared t i) e = refl
 
   -- the list of those who change it: nobody, or one
@@ -51,7 +51,7 @@ module _ {L : Lang} where
   module _ (law : IsLawful L) (o : L.Site → Name → Name) (ops : L.Site → Name → List (Op L)) (w : World L) (base : Base o ops w) (g : L.Leaf) where
     neutral : (k : Name) (st : Status L) → (w.sites (L.home g)).status k ≡ st → changes_it w.past g st ≡ false → (c : L.Content) → with_decided w.desk g st c ≡ c
     neutral k Dead e none c = refl
-    neutral k (Alive v) e none c = refl
+    neutral k (Active v) e none c = refl
     neutral k (Prepared t i) e none c = go (w.desk.txn t) refl
       where
         go : (x : Txn L) → w.desk.txn t ≡ x → with_row g i x c ≡ c
@@ -62,7 +62,7 @@ module _ {L : Lang} where
 
     decided_row : (k : Name) (st : Status L) → (w.sites (L.home g)).status k ≡ st → changes_it w.past g st ≡ true → (c : L.Content) → with_decided w.desk g st c ≡ changed_by_row g st c
     decided_row k Dead e is c = refl
-    decided_row k (Alive v) e is c = refl
+    decided_row k (Active v) e is c = refl
     decided_row k (Prepared t i) e is c =
         let row = (base.fit.prepared (L.home g) k t i e).voter (left_true (is_committed w.past t) (L.touches g i) is) in
         ap (λ x. with_row g i x c) row.2
@@ -102,7 +102,7 @@ module _ {L : Lang} where
   -- the same committed transactions
   pub changes_same : (past later : List (Deed L)) (g : L.Leaf) → ((t : Name) → is_committed later t ≡ is_committed past t) → (st : Status L) → changes_it later g st ≡ changes_it past g st
   changes_same past later g alike Dead = refl
-  changes_same past later g alike (Alive v) = refl
+  changes_same past later g alike (Active v) = refl
   changes_same past later g alike (Prepared t i) = ap (λ b. b && L.touches g i) (alike t)
 
   -- a row is applied

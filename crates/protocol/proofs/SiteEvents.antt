@@ -2,7 +2,7 @@
 use Rattle.std.proofs.Common.{◌≡◌, refl, ap, ◌∙◌, subst, suc, ◌&&◌, Bool, true, false, List, [], ◌∷◌, if◌then◌else◌, ◌⊎◌, inl, inr, ⊎_elim, arith, le_refl, le_trans, le_of_lt, lt-suc_self}
 use Rattle.protocol.specs.Language.{Lang, IsLawful, Name, same}
 use Rattle.protocol.specs.Letter.{Body, Open, Fetch, Write, Prepare, Commit, Abort, Ticket, Rows, Refused, Voted, Ack, Inquire}
-use Rattle.protocol.specs.Site.{Status, Dead, Alive, Prepared, SiteState, Act, Opens, Ends, is_dead, is_alive, next_ticket, new_visit, on_letter, site_after, said, restarted, site_restarted, on_give_up, inquiry_of, inquiries, is_within}
+use Rattle.protocol.specs.Site.{Status, Dead, Active, Prepared, SiteState, Act, Opens, Ends, is_dead, is_active, next_ticket, new_visit, on_letter, site_after, said, restarted, site_restarted, on_give_up, inquiry_of, inquiries, is_within}
 use Rattle.protocol.specs.Desk.{Deed, Desk}
 use Rattle.protocol.specs.World.{World, with_site, addressed, site_steps, gives_up, inquires, restarts}
 use Rattle.protocol.proofs.Basics.{Every, put_all, every_append, every_more, every_flat, clash, same_law, same_refl, either, either_if, both_true, left_true, right_true, if_true}
@@ -85,11 +85,11 @@ module _ {L : Lang} where
         let new = site_after s Opens in
         let later : Later p w.desk w.past a s new = record {
           drawn = drawn_next s;
-          dead = λ j h. put_all same same_law k (Alive (new_visit s)) s.status (λ j x. Drawn s j → is_dead (s.status j) ≡ true → is_dead x ≡ true) (λ drawn. absurd (not_drawn s drawn)) (λ j other drawn e. e) j h;
-          quiet = λ j h. put_all same same_law k (Alive (new_visit s)) s.status (λ j x. Drawn s j → is_alive (s.status j) ≡ false → is_alive x ≡ false) (λ drawn. absurd (not_drawn s drawn)) (λ j other drawn e. e) j h;
-          stays = λ j u i v known. put_all same same_law k (Alive (new_visit s)) s.status (λ j x. s.status j ≡ Prepared u i → x ≡ Prepared u i) (λ row. absurd (not_drawn s (fit.live a k (ap is_dead row)))) (λ j other row. row) j;
-          comes = λ j u i. put_all same same_law k (Alive (new_visit s)) s.status (λ j x. x ≡ Prepared u i → (s.status j ≡ Prepared u i) ⊎ ((p a j ≡ u) × Born w.desk u × Und w.desk u (OwnVoting a j) × (IsCommitted w.past u → ⊥))) (λ row. cc) (λ j other row. inl row) j;
-          live = put_all same same_law k (Alive (new_visit s)) s.status (λ j x. is_dead x ≡ false → Drawn new j) (λ e. inr (refl, le_refl (suc s.number))) (λ j other e. drawn_next s j (fit.live a j e));
+          dead = λ j h. put_all same same_law k (Active (new_visit s)) s.status (λ j x. Drawn s j → is_dead (s.status j) ≡ true → is_dead x ≡ true) (λ drawn. absurd (not_drawn s drawn)) (λ j other drawn e. e) j h;
+          quiet = λ j h. put_all same same_law k (Active (new_visit s)) s.status (λ j x. Drawn s j → is_active (s.status j) ≡ false → is_active x ≡ false) (λ drawn. absurd (not_drawn s drawn)) (λ j other drawn e. e) j h;
+          stays = λ j u i v known. put_all same same_law k (Active (new_visit s)) s.status (λ j x. s.status j ≡ Prepared u i → x ≡ Prepared u i) (λ row. absurd (not_drawn s (fit.live a k (ap is_dead row)))) (λ j other row. row) j;
+          comes = λ j u i. put_all same same_law k (Active (new_visit s)) s.status (λ j x. x ≡ Prepared u i → (s.status j ≡ Prepared u i) ⊎ ((p a j ≡ u) × Born w.desk u × Und w.desk u (OwnVoting a j) × (IsCommitted w.past u → ⊥))) (λ row. cc) (λ j other row. inl row) j;
+          live = put_all same same_law k (Active (new_visit s)) s.status (λ j x. is_dead x ≡ false → Drawn new j) (λ e. inr (refl, le_refl (suc s.number))) (λ j other e. drawn_next s j (fit.live a j e));
         } in
         site_moves law p w a new (addressed a t (said s Opens)) refit later
         (addressed_fit p w a new t (Ticket k ∷ []) born
@@ -121,27 +121,27 @@ module _ {L : Lang} where
 
     dead_is : (st : Status L) → is_dead st ≡ true → is_dead (restarted st) ≡ true
     dead_is Dead e = e
-    dead_is (Alive v) e = refl
+    dead_is (Active v) e = refl
     dead_is (Prepared t i) e = e
 
-    quiet_is : (st : Status L) → is_alive (restarted st) ≡ false
+    quiet_is : (st : Status L) → is_active (restarted st) ≡ false
     quiet_is Dead = refl
-    quiet_is (Alive v) = refl
+    quiet_is (Active v) = refl
     quiet_is (Prepared t i) = refl
 
     stays_is : (st : Status L) (t : Name) (i : L.Intentions) → st ≡ Prepared t i → restarted st ≡ Prepared t i
     stays_is Dead t i e = e
-    stays_is (Alive v) t i e = cc
+    stays_is (Active v) t i e = cc
     stays_is (Prepared u j) t i e = e
 
     comes_is : (st : Status L) (t : Name) (i : L.Intentions) → restarted st ≡ Prepared t i → st ≡ Prepared t i
     comes_is Dead t i e = e
-    comes_is (Alive v) t i e = cc
+    comes_is (Active v) t i e = cc
     comes_is (Prepared u j) t i e = e
 
     live_is : (st : Status L) → is_dead (restarted st) ≡ false → is_dead st ≡ false
     live_is Dead e = e
-    live_is (Alive v) e = refl
+    live_is (Active v) e = refl
     live_is (Prepared u j) e = refl
 
     pub restart_later : (o : L.Site → Name → Name) (w : World L) (a : L.Site) → Fit o w → Later o w.desk w.past a (w.sites a) (site_restarted (w.sites a))
@@ -165,7 +165,7 @@ module _ {L : Lang} where
         go : (st : Status L) → (w.sites a).status k ≡ st → Fit o (site_steps w a (site_after (w.sites a) (on_give_up k st)) [])
         go Dead e = either (Fit o) (is_within (w.sites a)) _ w (site_moves law o w a (w.sites a) [] fit (same_later o w.desk w.past a (w.sites a) (fit.live a)) tt) fit
         go (Prepared t i) e = either (Fit o) (is_within (w.sites a)) _ w (site_moves law o w a (w.sites a) [] fit (same_later o w.desk w.past a (w.sites a) (fit.live a)) tt) fit
-        go (Alive v) e = either (Fit o) (is_within (site_after (w.sites a) (Ends k []))) _ w (site_moves law o w a (site_after (w.sites a) (Ends k [])) [] fit (from_visit o w.desk w.past a (w.sites a) (fit.live a) k v Dead (site_after (w.sites a) (Ends k [])).known e (λ t i row. cc)) tt) fit
+        go (Active v) e = either (Fit o) (is_within (site_after (w.sites a) (Ends k []))) _ w (site_moves law o w a (site_after (w.sites a) (Ends k [])) [] fit (from_visit o w.desk w.past a (w.sites a) (fit.live a) k v Dead (site_after (w.sites a) (Ends k [])).known e (λ t i row. cc)) tt) fit
 
     -- inquiries
     pub inquire_fit : (o : L.Site → Name → Name) (w : World L) (a : L.Site) → Fit o w → Fit o (inquires w a)
@@ -182,5 +182,5 @@ module _ {L : Lang} where
       where
         go : (k : Name) (st : Status L) → (w.sites a).status k ≡ st → Every (Fits o w.desk w.past w.sites) (inquiry_of a k st)
         go k Dead e = tt
-        go k (Alive v) e = tt
-        go k (Prepared t i) e = (((fit.prepared a k t i e).born, (fit.live a k (ap is_dead e), (fit.prepared a k t i e).owner, ap is_alive e)), tt)
+        go k (Active v) e = tt
+        go k (Prepared t i) e = (((fit.prepared a k t i e).born, (fit.live a k (ap is_dead e), (fit.prepared a k t i e).owner, ap is_active e)), tt)

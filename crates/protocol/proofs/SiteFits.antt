@@ -2,7 +2,7 @@
 use Rattle.std.proofs.Common.{◌≡◌, refl, sym, ap, ◌∙◌, subst, true, false, List, ◌⊎◌, inl, ⊎_elim}
 use Rattle.protocol.specs.Language.{Lang, IsLawful, Name, put}
 use Rattle.protocol.specs.Letter.{Yes, No, Read, Vote, Body, Open, Fetch, Write, Prepare, Commit, Abort, Ticket, Rows, Refused, Voted, Ack, Inquire, Letter}
-use Rattle.protocol.specs.Site.{Status, Dead, Alive, Prepared, SiteState, is_dead, is_alive, is_prepared}
+use Rattle.protocol.specs.Site.{Status, Dead, Active, Prepared, SiteState, is_dead, is_active, is_prepared}
 use Rattle.protocol.specs.Desk.{Undecided, Known, Deed, Desk}
 use Rattle.protocol.specs.World.{World, with_site}
 use Rattle.protocol.proofs.Basics.{Every, in_left, put_all, put_here, every_append, every_more, clash}
@@ -13,7 +13,7 @@ module _ {L : Lang} where
   pub record Later (o : L.Site → Name → Name) (d : Desk L) (past : List (Deed L)) (a : L.Site) (s new : SiteState L) : Type 0 where
     pub drawn : (k : Name) → Drawn s k → Drawn new k
     pub dead : (k : Name) → Drawn s k → is_dead (s.status k) ≡ true → is_dead (new.status k) ≡ true
-    pub quiet : (k : Name) → Drawn s k → is_alive (s.status k) ≡ false → is_alive (new.status k) ≡ false
+    pub quiet : (k : Name) → Drawn s k → is_active (s.status k) ≡ false → is_active (new.status k) ≡ false
     pub stays : (k t : Name) (i : L.Intentions) (u : Undecided L) → d.txn t ≡ Known u → s.status k ≡ Prepared t i → new.status k ≡ Prepared t i
     pub comes : (k t : Name) (i : L.Intentions) → new.status k ≡ Prepared t i → (s.status k ≡ Prepared t i) ⊎ ((o a k ≡ t) × Born d t × Und d t (OwnVoting a k) × (IsCommitted past t → ⊥))
     pub live : (k : Name) → is_dead (new.status k) ≡ false → Drawn new k
@@ -21,7 +21,7 @@ module _ {L : Lang} where
   -- nothing is prepared where no transaction has it prepared
   pub not_prepared : (st : Status L) → ((t : Name) (i : L.Intentions) → st ≡ Prepared t i → ⊥) → is_prepared st ≡ false
   not_prepared Dead none = refl
-  not_prepared (Alive v) none = refl
+  not_prepared (Active v) none = refl
   not_prepared (Prepared t i) none = absurd (none t i refl)
 
   pub is_prepared_at : (st : Status L) (t : Name) (i : L.Intentions) → st ≡ Prepared t i → is_prepared st ≡ true

@@ -2,7 +2,7 @@
 use Rattle.std.proofs.Common.{◌≡◌, refl, sym, ap, ◌∙◌, subst, true, false, List, ◌⊎◌, inl, inr, Some, arith}
 use Rattle.protocol.specs.Language.{Lang, Name, same, put}
 use Rattle.protocol.specs.Letter.{Body, Open}
-use Rattle.protocol.specs.Site.{Visit, Status, Dead, Alive, Prepared, SiteState, Act, is_dead, is_alive, is_prepared, sees, next_ticket, site_after, said}
+use Rattle.protocol.specs.Site.{Visit, Status, Dead, Active, Prepared, SiteState, Act, is_dead, is_active, is_prepared, sees, next_ticket, site_after, said}
 use Rattle.protocol.specs.Desk.{Undecided, Known, Deed, Desk}
 use Rattle.protocol.specs.World.{World}
 use Rattle.protocol.proofs.Basics.{Every, put_all, put_here, clash, same_law, some_is}
@@ -13,22 +13,22 @@ use Rattle.protocol.proofs.SiteFits.{Later, same_later}
 module _ {L : Lang} where
   pub sees_dead : (g : L.Leaf) (st : Status L) → is_dead (sees g st) ≡ is_dead st
   sees_dead g Dead = refl
-  sees_dead g (Alive v) = refl
+  sees_dead g (Active v) = refl
   sees_dead g (Prepared t i) = refl
 
-  pub sees_alive : (g : L.Leaf) (st : Status L) → is_alive (sees g st) ≡ is_alive st
+  pub sees_alive : (g : L.Leaf) (st : Status L) → is_active (sees g st) ≡ is_active st
   sees_alive g Dead = refl
-  sees_alive g (Alive v) = refl
+  sees_alive g (Active v) = refl
   sees_alive g (Prepared t i) = refl
 
   pub sees_prepared : (g : L.Leaf) (st : Status L) (t : Name) (i : L.Intentions) → sees g st ≡ Prepared t i → st ≡ Prepared t i
   sees_prepared g Dead t i e = e
-  sees_prepared g (Alive v) t i e = cc
+  sees_prepared g (Active v) t i e = cc
   sees_prepared g (Prepared u j) t i e = e
 
   pub prepared_sees : (g : L.Leaf) (st : Status L) (t : Name) (i : L.Intentions) → st ≡ Prepared t i → sees g st ≡ Prepared t i
   prepared_sees g Dead t i e = e
-  prepared_sees g (Alive v) t i e = cc
+  prepared_sees g (Active v) t i e = cc
   prepared_sees g (Prepared u j) t i e = e
 
   pub not_drawn : (s : SiteState L) → Drawn s (next_ticket s) → ⊥
@@ -37,46 +37,46 @@ module _ {L : Lang} where
   pub same_row : (t u : Name) (i j : L.Intentions) (st : Status L) → st ≡ Prepared t i → st ≡ Prepared u j → t ≡ u
   same_row t u i j st e f = let g : Prepared t i ≡ Prepared u j = sym e ∙ f in cc
 
-  neither_is_dead : (st : Status L) → is_alive st ≡ false → is_prepared st ≡ false → is_dead st ≡ true
+  neither_is_dead : (st : Status L) → is_active st ≡ false → is_prepared st ≡ false → is_dead st ≡ true
   neither_is_dead Dead a p = refl
-  neither_is_dead (Alive v) a p = cc
+  neither_is_dead (Active v) a p = cc
   neither_is_dead (Prepared t i) a p = cc
 
   module _ (o : L.Site → Name → Name) (d : Desk L) (past : List (Deed L)) (a : L.Site) (s : SiteState L) (live : (k : Name) → is_dead (s.status k) ≡ false → Drawn s k) where
     -- one ticket gets another status, the others are alike
     put_later : (k : Name) (st : Status L) (f : Name → Status L) (names : List Name) (kept : L.Leaf → L.Content) → Drawn s k →
-        ((j : Name) → is_dead (f j) ≡ is_dead (s.status j)) → ((j : Name) → is_alive (f j) ≡ is_alive (s.status j)) →
+        ((j : Name) → is_dead (f j) ≡ is_dead (s.status j)) → ((j : Name) → is_active (f j) ≡ is_active (s.status j)) →
         ((j t : Name) (i : L.Intentions) → f j ≡ Prepared t i → s.status j ≡ Prepared t i) → ((j t : Name) (i : L.Intentions) → s.status j ≡ Prepared t i → f j ≡ Prepared t i) →
-        (is_dead (s.status k) ≡ true → is_dead st ≡ true) → (is_alive (s.status k) ≡ false → is_alive st ≡ false) →
+        (is_dead (s.status k) ≡ true → is_dead st ≡ true) → (is_active (s.status k) ≡ false → is_active st ≡ false) →
         ((t : Name) (i : L.Intentions) (u : Undecided L) → d.txn t ≡ Known u → s.status k ≡ Prepared t i → st ≡ Prepared t i) →
         ((t : Name) (i : L.Intentions) → st ≡ Prepared t i → (s.status k ≡ Prepared t i) ⊎ ((o a k ≡ t) × Born d t × Und d t (OwnVoting a k) × (IsCommitted past t → ⊥))) →
         Later o d past a s (record s { kept = kept; status = put same k st f; known = names })
     put_later k st f names kept drawn like_dead like_alive from_row to_row dead quiet stays comes = record {
       drawn = λ j h. h;
       dead = λ j h. put_all same same_law k st f (λ j x. is_dead (s.status j) ≡ true → is_dead x ≡ true) dead (λ j other e. like_dead j ∙ e) j;
-      quiet = λ j h. put_all same same_law k st f (λ j x. is_alive (s.status j) ≡ false → is_alive x ≡ false) quiet (λ j other e. like_alive j ∙ e) j;
+      quiet = λ j h. put_all same same_law k st f (λ j x. is_active (s.status j) ≡ false → is_active x ≡ false) quiet (λ j other e. like_alive j ∙ e) j;
       stays = λ j t i u e. put_all same same_law k st f (λ j x. s.status j ≡ Prepared t i → x ≡ Prepared t i) (stays t i u e) (λ j other row. to_row j t i row) j;
       comes = λ j t i. put_all same same_law k st f (λ j x. x ≡ Prepared t i → (s.status j ≡ Prepared t i) ⊎ ((o a j ≡ t) × Born d t × Und d t (OwnVoting a j) × (IsCommitted past t → ⊥))) (comes t i) (λ j other row. inl (from_row j t i row)) j;
       live = λ j. put_all same same_law k st f (λ j x. is_dead x ≡ false → Drawn s j) (λ e. drawn) (λ j other e. live j (sym (like_dead j) ∙ e)) j;
     }
 
-    alive_drawn : (k : Name) (v : Visit L) → s.status k ≡ Alive v → Drawn s k
+    alive_drawn : (k : Name) (v : Visit L) → s.status k ≡ Active v → Drawn s k
     alive_drawn k v e = live k (ap is_dead e)
 
     -- a visit locks, is prepared or ends
-    from_alive : (k : Name) (v : Visit L) (st : Status L) (g : L.Leaf) (names : List Name) → s.status k ≡ Alive v →
+    from_alive : (k : Name) (v : Visit L) (st : Status L) (g : L.Leaf) (names : List Name) → s.status k ≡ Active v →
         ((t : Name) (i : L.Intentions) → st ≡ Prepared t i → (o a k ≡ t) × Born d t × Und d t (OwnVoting a k) × (IsCommitted past t → ⊥)) →
         Later o d past a s (record s { status = put same k st (λ j. sees g (s.status j)); known = names })
     from_alive k v st g names e fine = put_later k st (λ j. sees g (s.status j)) names s.kept (alive_drawn k v e)
         (λ j. sees_dead g (s.status j)) (λ j. sees_alive g (s.status j)) (λ j t i. sees_prepared g (s.status j) t i) (λ j t i. prepared_sees g (s.status j) t i)
-        (λ dead. clash dead (ap is_dead e)) (λ quiet. clash (ap is_alive e) quiet) (λ t i u known row. let f : Alive v ≡ Prepared t i = sym e ∙ row in cc) (λ t i row. inr (fine t i row))
+        (λ dead. clash dead (ap is_dead e)) (λ quiet. clash (ap is_active e) quiet) (λ t i u known row. let f : Active v ≡ Prepared t i = sym e ∙ row in cc) (λ t i row. inr (fine t i row))
 
-    pub from_visit : (k : Name) (v : Visit L) (st : Status L) (names : List Name) → s.status k ≡ Alive v →
+    pub from_visit : (k : Name) (v : Visit L) (st : Status L) (names : List Name) → s.status k ≡ Active v →
         ((t : Name) (i : L.Intentions) → st ≡ Prepared t i → (o a k ≡ t) × Born d t × Und d t (OwnVoting a k) × (IsCommitted past t → ⊥)) →
         Later o d past a s (record s { status = put same k st s.status; known = names })
     from_visit k v st names e fine = put_later k st s.status names s.kept (alive_drawn k v e)
         (λ j. refl) (λ j. refl) (λ j t i row. row) (λ j t i row. row)
-        (λ dead. clash dead (ap is_dead e)) (λ quiet. clash (ap is_alive e) quiet) (λ t i u known row. let f : Alive v ≡ Prepared t i = sym e ∙ row in cc) (λ t i row. inr (fine t i row))
+        (λ dead. clash dead (ap is_dead e)) (λ quiet. clash (ap is_active e) quiet) (λ t i u known row. let f : Active v ≡ Prepared t i = sym e ∙ row in cc) (λ t i row. inr (fine t i row))
 
     -- a prepared row goes, its transaction being decided
     from_row : (k u : Name) (i : L.Intentions) (names : List Name) (kept : L.Leaf → L.Content) → s.status k ≡ Prepared u i → Und d u (λ v. ⊥) →
@@ -111,7 +111,7 @@ module _ {L : Lang} where
     letter_later t b act born fit_b (writes k op g x v e next free) no_open = from_alive o w.desk w.past a (w.sites a) (fit.live a) k v _ g _ e (λ u i row. cc)
     letter_later t b act born fit_b (prepares k n v e done) no_open = from_visit o w.desk w.past a (w.sites a) (fit.live a) k v _ _ e
         (λ u i row. let is : t ≡ u = same_row t u v.changes i (Prepared t v.changes) refl row in
-        subst (λ n. (o a k ≡ n) × Born w.desk n × Und w.desk n (OwnVoting a k) × (IsCommitted w.past n → ⊥)) is (fit_b.1, born, fit_b.2, λ decided. clash (ap is_alive e) (fit_b.3 decided)))
+        subst (λ n. (o a k ≡ n) × Born w.desk n × Und w.desk n (OwnVoting a k) × (IsCommitted w.past n → ⊥)) is (fit_b.1, born, fit_b.2, λ decided. clash (ap is_active e) (fit_b.3 decided)))
     letter_later t b act born fit_b (only_read k n v e done empty) no_open = from_visit o w.desk w.past a (w.sites a) (fit.live a) k v Dead _ e (λ u i row. cc)
     letter_later t b act born fit_b (votes_no k n v e) no_open = from_visit o w.desk w.past a (w.sites a) (fit.live a) k v Dead _ e (λ u i row. cc)
     letter_later t b act born fit_b (refuses c k v reason e) no_open = from_visit o w.desk w.past a (w.sites a) (fit.live a) k v Dead _ e (λ u i row. cc)
@@ -126,14 +126,14 @@ module _ {L : Lang} where
     letter_said t b act fit_b (says_gone k op g q) no_open = (tt, tt)
     letter_said t b act fit_b (says_no k n) no_open = ((fit_b.0, fit_b.1, tt), tt)
     letter_said t b act fit_b (says_yes k n u i e) no_open =
-        ((fit_b.0, fit_b.1, (ap is_alive e, λ v known. (i, subst (λ n. (w.sites a).status k ≡ Prepared n i) (sym (fit.prepared a k u i e).owner ∙ fit_b.1) e))), tt)
+        ((fit_b.0, fit_b.1, (ap is_active e, λ v known. (i, subst (λ n. (w.sites a).status k ≡ Prepared n i) (sym (fit.prepared a k u i e).owner ∙ fit_b.1) e))), tt)
     letter_said t b act fit_b (says_ack k e) no_open = ((fit_b.0, fit_b.1, neither_is_dead ((w.sites a).status k) fit_b.3 e), tt)
     letter_said t b act fit_b opens no_open = absurd (no_open refl)
     letter_said t b act fit_b (reads k op g q v e next free) no_open = (tt, tt)
     letter_said t b act fit_b (writes k op g x v e next free) no_open = tt
     letter_said t b act fit_b (prepares k n v e done) no_open =
         let now = put_here same same_law k (Prepared t v.changes) (w.sites a).status in
-        ((fit_b.0, fit_b.1, (ap is_alive now, λ u known. (v.changes, now))), tt)
+        ((fit_b.0, fit_b.1, (ap is_active now, λ u known. (v.changes, now))), tt)
     letter_said t b act fit_b (only_read k n v e done empty) no_open = ((fit_b.0, fit_b.1, (ap is_dead (put_here same same_law k Dead (w.sites a).status), λ u f. (fit_b.2 u f).1)), tt)
     letter_said t b act fit_b (votes_no k n v e) no_open = ((fit_b.0, fit_b.1, tt), tt)
     letter_said t b act fit_b (refuses c k v reason e) no_open = (tt, tt)

@@ -4,16 +4,16 @@ use Rattle.std.proofs.lemmas.Bool.{eq-eqb}
 use Rattle.std.specs.List.{list_all}
 use Rattle.protocol.specs.Language.{Lang, IsLawful, Name, same, put}
 use Rattle.protocol.specs.Letter.{Body, Fetch, Ticket, Rows, Letter}
-use Rattle.protocol.specs.Desk.{Ask, Choice, Stage, Idle, Reading, Writing, Undecided, Known, Deed, Stated, Worked, Answered, Turn, ask_of, ask_out, asks_out, write_out, writes_out, opens, visits, asks_go, writing, writes_go, after_letters, works, states, stays, ticket_goes, is_numbered, awaits, with_rows, on_rows, after_deed}
+use Rattle.protocol.specs.Desk.{Ask, Choice, Stage, Idle, Reading, Writing, Undecided, Known, Deed, Stated, Worked, Answered, Transition, ask_of, ask_out, asks_out, write_out, writes_out, opens, visits, asks_go, writing, writes_go, after_letters, works, states, stays, ticket_goes, is_numbered, awaits, with_rows, on_rows, after_deed}
 use Rattle.protocol.specs.World.{World, turned}
-use Rattle.protocol.specs.Course.{AtSites, Stands, AskWaits, came, unsent, sent, told, AskStands, WriteWaits, Far, reads, writes, is_answered, InStatement}
+use Rattle.protocol.specs.StatementCourse.{AtSites, Stands, AskWaits, came, unsent, sent, told, AskStands, WriteWaits, Far, reads, writes, is_answered, InStatement}
 use Rattle.protocol.proofs.Basics.{Every, In, every_more, every_self, put_here, same_law, clash, not_false, both_true}
 use Rattle.protocol.proofs.Locks.{Once}
 use Rattle.protocol.proofs.Ranks.{all_visited, in_map}
 use Rattle.protocol.proofs.Queue.{at}
 use Rattle.protocol.proofs.AtDesk.{Goes, First, first_none, first_opens, asks_goes, writes_goes}
 use Rattle.protocol.proofs.Going.{first_written}
-use Rattle.protocol.proofs.Working.{GoesTo, turned_stands, stays_goes, stage_goes, with_ticket}
+use Rattle.protocol.proofs.StatementMeetsNoLock.{GoesTo, turned_stands, stays_goes, stage_goes, with_ticket}
 use Rattle.protocol.proofs.Waiting.{AskReady, new_ask, old_ask, asks_wait, in_at}
 
 -- two facts of each
@@ -23,11 +23,11 @@ two_facts P Q R (x ∷ xs) to p q = (to x p.0 q.0, two_facts P Q R xs to p.1 q.1
 
 module _ {L : Lang} where
   -- a turn after which the statement goes on; q and past: the letters and deeds before it
-  pub record GoesOn (t : Name) (s : L.Statement) (before : List (Deed L)) (u : Undecided L) (q : List (Letter L)) (past : List (Deed L)) (turn : Turn L) : Type 0 where
+  pub record GoesOn (t : Name) (s : L.Statement) (before : List (Deed L)) (u : Undecided L) (q : List (Letter L)) (past : List (Deed L)) (turn : Transition L) : Type 0 where
     pub to : GoesTo t u turn
     pub far : Far t s before to.new (q ++ turn.letters) (past ++ turn.deeds)
 
-  pub turned_on : (t : Name) (s : L.Statement) (before : List (Deed L)) (u : Undecided L) (w : World L) (turn : Turn L) → Stands t u w → GoesOn t s before u w.letters w.past turn → InStatement t s before (turned w t turn)
+  pub turned_on : (t : Name) (s : L.Statement) (before : List (Deed L)) (u : Undecided L) (w : World L) (turn : Transition L) → Stands t u w → GoesOn t s before u w.letters w.past turn → InStatement t s before (turned w t turn)
   turned_on t s before u w turn stands on = record {
     u = on.to.new;
     known = put_here same same_law t turn.txn w.desk.txn ∙ on.to.is;
@@ -136,7 +136,7 @@ module _ {L : Lang} where
         go true here = ⊎_elim (λ e. absurd (other e)) (λ there. there) here
         go false here = here
 
-    still_on : (v : Undecided L) (turn : Turn L) → u ≡ v → turn ≡ stays (Known v) → Far t s before u q past → GoesOn t s before u q past turn
+    still_on : (v : Undecided L) (turn : Transition L) → u ≡ v → turn ≡ stays (Known v) → Far t s before u q past → GoesOn t s before u q past turn
     still_on v turn e is far = subst (GoesOn t s before u q past) (sym (is ∙ ap (λ x. stays (Known x)) (sym e))) (record { to = stays_goes t u; far = subst (λ x. Far t s before u x (past ++ [])) (sym (append-nil q)) (subst (Far t s before u q) (sym (append-nil past)) far) })
 
     module _ (k : Name) (choice : Choice L) (first : u.ticket a ≡ None) where
@@ -248,7 +248,7 @@ module _ {L : Lang} where
             (every_self (λ x. In (L.home x.leaf) L.sites × ((visits u leaves).visited (L.home x.leaf) ≡ true)) asks (λ x here. let there = in_map (λ (y : Ask L). y.leaf) x asks here in (home_of asks seen x.leaf there, not_false ((visits u leaves).visited (L.home x.leaf)) (all_visited law u leaves x.leaf there))))
             (new_asks leaves (f ∷ fs) (λ g here. here)) refl refl
 
-        later : (turn : Turn L) → GoesOn t s past u [] (past ++ Stated t s ∷ []) turn → GoesOn t s past u [] past (after_deed (Stated t s) turn)
+        later : (turn : Transition L) → GoesOn t s past u [] (past ++ Stated t s ∷ []) turn → GoesOn t s past u [] past (after_deed (Stated t s) turn)
         later turn on = record {
           to = record { new = on.to.new; is = on.to.is; goes = on.to.goes };
           far = subst (Far t s past on.to.new turn.letters) (append_assoc past (Stated t s ∷ []) turn.deeds) on.far;

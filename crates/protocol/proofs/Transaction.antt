@@ -5,8 +5,8 @@ use Rattle.protocol.specs.Letter.{Body, Letter, Open, Fetch, Write, Prepare, Com
 use Rattle.protocol.specs.Desk.{Choice, Deed, Began, Stated, Worked, Answered, Phased, Committed, Aborted, Rolled_back, Why, State, Commit_call, Rollback, next_txn, desk_began, is_desk_within}
 use Rattle.protocol.specs.World.{World, begun, begins, called}
 use Rattle.protocol.specs.Client.{first, next, IsQuiet}
-use Rattle.protocol.specs.Course.{Steady, InStatement, Well}
-use Rattle.protocol.specs.Leaving.{EndKept, Within, Ending, Went}
+use Rattle.protocol.specs.StatementCourse.{Steady, InStatement, Well}
+use Rattle.protocol.specs.AfterAbort.{EndKept, Within, Ending, Went}
 use Rattle.protocol.specs.Committing.{Committing, CommitKept}
 use Rattle.protocol.specs.Parts.{Work}
 use Rattle.protocol.specs.ClientLaw.{taken, OfFirst, AllTaken, Doing, does_one, does, AllDone, log, Kept, ClientLaw}
@@ -18,7 +18,7 @@ use Rattle.protocol.proofs.Loose.{steady_loose, rollback_ends}
 use Rattle.protocol.proofs.OneStatement.{statement_starts, statement_ends}
 use Rattle.protocol.proofs.Overflow.{went_on}
 use Rattle.protocol.proofs.Committing.{commit_starts, commit_goes_on, commit_ends}
-use Rattle.protocol.proofs.Course.{begins_steady}
+use Rattle.protocol.proofs.StatementCourse.{begins_steady}
 
 module _ {L : Lang} (law : IsLawful L) where
   -- what each letter keeps holds where none waits any more

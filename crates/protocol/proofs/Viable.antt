@@ -4,7 +4,7 @@ use Rattle.std.proofs.Math.Seq.{drop-append_seam}
 pub use Rattle.protocol.specs.Parts.{ViableNow, is_row, may_go_on, Viable}
 use Rattle.protocol.specs.Language.{Lang, IsLawful, Name, same, put}
 use Rattle.protocol.specs.Letter.{Read, Body, Voted, Letter}
-use Rattle.protocol.specs.Site.{Visit, Status, Dead, Alive, Prepared, SiteState, Act, has_exclusive, has_lock, sees, next_ticket, new_visit, site_after, said, restarted, site_restarted, on_give_up}
+use Rattle.protocol.specs.Site.{Visit, Status, Dead, Active, Prepared, SiteState, Act, has_exclusive, has_lock, sees, next_ticket, new_visit, site_after, said, restarted, site_restarted, on_give_up}
 use Rattle.protocol.specs.World.{World, addressed}
 use Rattle.protocol.proofs.Basics.{In, put_all, clash, same_law, by_test, or_cases, if_true, if_false, every_in}
 use Rattle.protocol.proofs.Fits.{Drawn, Own}
@@ -20,7 +20,7 @@ module _ {L : Lang} where
   rest_is ops v at = ap (λ n. drop n ops) at.done ∙ ap (drop (length at.past)) at.split ∙ drop-append_seam at.past at.rest
 
   -- a visit that has done all may go on
-  all_may_go_on : (ops : List (Op L)) (st : Status L) (v : Visit L) → st ≡ Alive v → v.done ≡ length ops → ViableNow ops st
+  all_may_go_on : (ops : List (Op L)) (st : Status L) (v : Visit L) → st ≡ Active v → v.done ≡ length ops → ViableNow ops st
   all_may_go_on ops st v e n = may_go_on v e (λ g is. let f : false ≡ true = sym (ap (λ l. writes_to L g (sets l)) (ap (λ m. drop m ops) n ∙ drop_all ops)) ∙ is in cc)
     where
       drop_all : (xs : List (Op L)) → drop (length xs) xs ≡ []
@@ -51,11 +51,11 @@ module _ {L : Lang} where
       before : (f : L.Leaf → Bool) (g : L.Leaf) → put L.same_leaf h true f g ≡ false → f g ≡ false
       before f g e = ⊎_elim (λ is. clash (if_true (L.same_leaf g h) true (f g) is) e) (λ other. sym (if_false (L.same_leaf g h) true (f g) other) ∙ e) (by_test (L.same_leaf g h))
 
-  locks_was : (ops : Name → List (Op L)) (s : SiteState L) (k : Name) (w : Visit L) (h : L.Leaf) (names : List Name) → (ViableNow (ops k) (Alive w) → ViableNow (ops k) (s.status k)) → Was ops s (record s { status = put same k (Alive w) (λ j. sees h (s.status j)); known = names })
-  locks_was ops s k w h names here j drawn = put_all same same_law k (Alive w) (λ j. sees h (s.status j)) (λ j x. ViableNow (ops j) x → ViableNow (ops j) (s.status j)) here (λ j other now. sees_was (ops j) h (s.status j) now) j
+  locks_was : (ops : Name → List (Op L)) (s : SiteState L) (k : Name) (w : Visit L) (h : L.Leaf) (names : List Name) → (ViableNow (ops k) (Active w) → ViableNow (ops k) (s.status k)) → Was ops s (record s { status = put same k (Active w) (λ j. sees h (s.status j)); known = names })
+  locks_was ops s k w h names here j drawn = put_all same same_law k (Active w) (λ j. sees h (s.status j)) (λ j x. ViableNow (ops j) x → ViableNow (ops j) (s.status j)) here (λ j other now. sees_was (ops j) h (s.status j) now) j
 
   -- a visit that did its next operation
-  next_was : (ops : List (Op L)) (st : Status L) (v w : Visit L) (op : Op L) (at : VisitAt ops v) (nth : NthOp ops (suc v.done) op) → st ≡ Alive v → w.done ≡ suc v.done → w.foreign ≡ v.foreign → ((g : L.Leaf) → writes_to L g (sets (op ∷ [])) ≡ true → v.foreign g ≡ false) → ViableNow ops (Alive w) → ViableNow ops st
+  next_was : (ops : List (Op L)) (st : Status L) (v w : Visit L) (op : Op L) (at : VisitAt ops v) (nth : NthOp ops (suc v.done) op) → st ≡ Active v → w.done ≡ suc v.done → w.foreign ≡ v.foreign → ((g : L.Leaf) → writes_to L g (sets (op ∷ [])) ≡ true → v.foreign g ≡ false) → ViableNow ops (Active w) → ViableNow ops st
   next_was ops st v w op at nth e done foreign free (is_row t i f) = cc
   next_was ops st v w op at nth e done foreign free (may_go_on x f later) =
       let is = next_is ops v (suc v.done) op at nth refl in
@@ -85,7 +85,7 @@ module _ {L : Lang} where
     acted_was ops s t b act now tells (says_no k n) = same_was ops s
     acted_was ops s t b act now tells (says_yes k n u i e) = same_was ops s
     acted_was ops s t b act now tells (says_ack k e) = same_was ops s
-    acted_was ops s t b act now tells opens = λ j drawn. put_all same same_law (next_ticket s) (Alive (new_visit s)) s.status (λ j x. Drawn s j → ViableNow (ops j) x → ViableNow (ops j) (s.status j)) (λ d viable. absurd (not_drawn s d)) (λ j other d viable. viable) j drawn
+    acted_was ops s t b act now tells opens = λ j drawn. put_all same same_law (next_ticket s) (Active (new_visit s)) s.status (λ j x. Drawn s j → ViableNow (ops j) x → ViableNow (ops j) (s.status j)) (λ d viable. absurd (not_drawn s d)) (λ j other d viable. viable) j drawn
     acted_was ops s t b act now tells (reads k op g q v e next free) = locks_was ops s k _ g s.known (next_was (ops k) (s.status k) v _ (Get g q) (now.visits k v e) (record { before = tells.before; after = tells.after; split = tells.split; number = sym next ∙ tells.number }) e next refl (λ h is. cc))
     acted_was ops s t b act now tells (writes k op g x v e next free) = locks_was ops s k _ g s.known (next_was (ops k) (s.status k) v _ (Set g x) (now.visits k v e) (record { before = tells.before; after = tells.after; split = tells.split; number = sym next ∙ tells.number }) e next refl
         (λ h is. subst (λ n. v.foreign n ≡ false) ((law.leaves g h).0 (⊎_elim (λ f. f) (λ f. cc) (or_cases (L.same_leaf g h) false is))) free))
@@ -123,12 +123,12 @@ module _ {L : Lang} where
     where
       go : (st : Status L) → ViableNow (ops k) (restarted st) → ViableNow (ops k) st
       go Dead viable = viable
-      go (Alive v) viable = dead_not (ops k) (Alive v) viable
+      go (Active v) viable = dead_not (ops k) (Active v) viable
       go (Prepared t i) viable = viable
 
   pub give_up_was : (ops : Name → List (Op L)) (s : SiteState L) (j : Name) (st : Status L) → Was ops s (site_after s (on_give_up j st))
   give_up_was ops s j Dead = same_was ops s
-  give_up_was ops s j (Alive v) = put_was ops s j Dead s.known s.kept (dead_not (ops j) (s.status j))
+  give_up_was ops s j (Active v) = put_was ops s j Dead s.known s.kept (dead_not (ops j) (s.status j))
   give_up_was ops s j (Prepared t i) = same_was ops s
 
   -- a letter among those addressed

@@ -4,9 +4,9 @@ use Rattle.protocol.specs.Language.{Lang, IsLawful, Name, put}
 use Rattle.protocol.specs.Letter.{Body, Open, Fetch, Ticket, Rows, Letter}
 use Rattle.protocol.specs.Desk.{Ask, Undecided, ask_out, asks_out}
 use Rattle.protocol.specs.World.{World}
-pub use Rattle.protocol.specs.Course.{AskWaits, WriteWaits, came, unsent, sent, told}
+pub use Rattle.protocol.specs.StatementCourse.{AskWaits, WriteWaits, came, unsent, sent, told}
 use Rattle.protocol.proofs.Basics.{Every, In, every_more, in_left, in_right, if_true}
-use Rattle.protocol.proofs.Queue.{at, at_append, Spot, away, asked, offered, works}
+use Rattle.protocol.proofs.Queue.{at, at_append, VisitPlace, away, asked, offered, works}
 use Rattle.protocol.proofs.AtDesk.{Stands}
 
 module _ {L : Lang} where
@@ -14,7 +14,7 @@ module _ {L : Lang} where
   not_silent : (w : World L) (t : Name) (u : Undecided L) (a : L.Site) → Stands t u w → w.letters ≡ [] → u.visited a ≡ true → u.ticket a ≡ None → ⊥
   not_silent w t u a stands silent visited no_ticket = go (stands.spots a)
     where
-      go : Spot (w.sites a).status (u.visited a) (u.ticket a) (u.sent a) (at a w.letters) → ⊥
+      go : VisitPlace (w.sites a).status (u.visited a) (u.ticket a) (u.sent a) (at a w.letters) → ⊥
       go (away s) = let e : true ≡ false = sym visited ∙ s.unvisited in cc
       go (asked s) = let e : [] ≡ Open ∷ [] = sym (ap (at a) silent) ∙ s.waits in cc
       go (offered k s) = let e : [] ≡ Ticket k ∷ [] = sym (ap (at a) silent) ∙ s.waits in cc

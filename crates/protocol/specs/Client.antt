@@ -3,7 +3,7 @@ use Rattle.std.specs.Prelude.{◌≡◌, ℕ, zero, suc, Bool, false, List, [], 
 use Rattle.protocol.specs.Language.{Lang, Name}
 use Rattle.protocol.specs.Letter.{Letter}
 use Rattle.protocol.specs.Desk.{Choice, Request, Commit_call, Rollback, Give_up, is_undecided}
-use Rattle.protocol.specs.Spots.{Unlocked}
+use Rattle.protocol.specs.VisitPlaces.{Unlocked}
 use Rattle.protocol.specs.World.{World, Event, begins, called, comes, run}
 use Rattle.protocol.specs.Serial.{AllExplained, IsOpening, IsSerial, committed_whole}
 

@@ -7,8 +7,8 @@ use Rattle.protocol.specs.World.{World, begins, called}
 use Rattle.protocol.specs.Serial.{IsOpening}
 use Rattle.protocol.specs.Parts.{Work}
 use Rattle.protocol.specs.Client.{next, IsQuiet}
-use Rattle.protocol.specs.Course.{AtSites, Steady, Well}
-use Rattle.protocol.specs.Leaving.{EndKept, Within, Since, Ending, Went, Lost}
+use Rattle.protocol.specs.StatementCourse.{AtSites, Steady, Well}
+use Rattle.protocol.specs.AfterAbort.{EndKept, Within, Since, Ending, Went, Lost}
 use Rattle.protocol.specs.Committing.{Committing, CommitKept}
 
 module _ {L : Lang} where

@@ -3,12 +3,12 @@ use Rattle.std.specs.Prelude.{◌≡◌, ◌⊎◌, ⊤, Bool, true, false, List
 use Rattle.std.specs.List.{AllByRecursion}
 use Rattle.protocol.specs.Language.{Lang, Name, same}
 use Rattle.protocol.specs.Letter.{Vote, Yes, No, Read, Body, Prepare, Commit, Abort, Voted}
-use Rattle.protocol.specs.Site.{Visit, Status, Alive, is_prepared}
+use Rattle.protocol.specs.Site.{Visit, Status, Active, is_prepared}
 use Rattle.protocol.specs.Desk.{Voting, Undecided, Known, Deed, Phased, Committed, Aborted, Why, is_undecided, are_all_in}
 use Rattle.protocol.specs.World.{World}
 use Rattle.protocol.specs.Parts.{In}
-use Rattle.protocol.specs.Spots.{at, Unlocked}
-use Rattle.protocol.specs.Leaving.{Ending}
+use Rattle.protocol.specs.VisitPlaces.{at, Unlocked}
+use Rattle.protocol.specs.AfterAbort.{Ending}
 
 module _ {L : Lang} where
   -- what stands behind ticket k once its site has voted: a prepared row, or no lock; a No has an excuse. f: the statuses of the site
@@ -20,7 +20,7 @@ module _ {L : Lang} where
   -- where a site stands in the first phase. b: whether it is visited, tk: its ticket, vote: that which was counted, bs: what waits to and from it
   pub data Ballot (E : Type 0) (f : Name → Status L) (b : Bool) (tk : Option Name) (vote : Option Vote) (bs : List (Body L)) : Type 0 where
     is_aside : b ≡ false → vote ≡ None → bs ≡ [] → ((j : Name) → Unlocked (f j)) → Ballot E f b tk vote bs
-    is_asked : (k : Name) (v : Visit L) → b ≡ true → tk ≡ Some k → vote ≡ None → bs ≡ Prepare k v.done ∷ [] → f k ≡ Alive v → ((j : Name) → same j k ≡ false → Unlocked (f j)) → Ballot E f b tk vote bs
+    is_asked : (k : Name) (v : Visit L) → b ≡ true → tk ≡ Some k → vote ≡ None → bs ≡ Prepare k v.done ∷ [] → f k ≡ Active v → ((j : Name) → same j k ≡ false → Unlocked (f j)) → Ballot E f b tk vote bs
     has_voted : (k : Name) (x : Vote) → b ≡ true → tk ≡ Some k → vote ≡ None → bs ≡ Voted k x ∷ [] → VotedBy E f k x → Ballot E f b tk vote bs
     is_counted : (k : Name) (x : Vote) → b ≡ true → tk ≡ Some k → vote ≡ Some x → bs ≡ [] → VotedBy ⊥ f k x → Ballot E f b tk vote bs
 

@@ -62,7 +62,7 @@ pub data Refusal : Type 0 where
   No_transaction Busy Ended : Refusal
 
 -- a transaction after a step, the letters put out, and the deeds done
-pub record Turn (L : Lang) : Type 0 where
+pub record Transition (L : Lang) : Type 0 where
   pub txn : Txn L
   pub letters : List (Letter L)
   pub deeds : List (Deed L)
@@ -111,7 +111,7 @@ are_acked L voters acked = list_all (λ v. list_any (is_pair L v.0 v.1) acked) v
 
 module _ {L : Lang} where
   -- nothing is put out
-  abbrev pub stays : Txn L → Turn L
+  abbrev pub stays : Txn L → Transition L
   stays x = record { txn = x; letters = []; deeds = [] }
 
   -- a new transaction
@@ -170,38 +170,38 @@ module _ {L : Lang} where
   visits u leaves = record u { visited = λ a. u.visited a || is_new u leaves a }
 
   -- the fetches whose sites have given a ticket go out
-  abbrev pub asks_go : Name → Undecided L → L.Statement → List (Ask L) → Turn L
+  abbrev pub asks_go : Name → Undecided L → L.Statement → List (Ask L) → Transition L
   asks_go t u s asks =
       let out = asks_out t u.ticket asks u.sent in
       record { txn = Known (record u { sent = out.sent; stage = Reading s out.left }); letters = out.letters; deeds = [] }
 
   -- the answer is given when every write was sent
-  abbrev pub writing : Name → Undecided L → L.Answer → (L.Site → ℕ) → List (L.Leaf × L.Write) → List (Letter L) → Turn L
+  abbrev pub writing : Name → Undecided L → L.Answer → (L.Site → ℕ) → List (L.Leaf × L.Write) → List (Letter L) → Transition L
   writing t u answer sent [] letters = record { txn = Known (record u { sent = sent; stage = Idle }); letters = letters; deeds = Answered t answer ∷ [] }
   writing t u answer sent (w ∷ ws) letters = record { txn = Known (record u { sent = sent; stage = Writing answer (w ∷ ws) }); letters = letters; deeds = [] }
 
   -- the writes whose sites have given a ticket go out
-  abbrev pub writes_go : Name → Undecided L → L.Answer → List (L.Leaf × L.Write) → Turn L
+  abbrev pub writes_go : Name → Undecided L → L.Answer → List (L.Leaf × L.Write) → Transition L
   writes_go t u answer ws =
       let out = writes_out t u.ticket ws u.sent in
       writing t u answer out.sent out.left out.letters
 
   -- letters before the others
-  abbrev pub after_letters : List (Letter L) → Turn L → Turn L
+  abbrev pub after_letters : List (Letter L) → Transition L → Transition L
   after_letters letters turn = record turn { letters = letters ++ turn.letters }
 
   -- a deed before the others
-  abbrev pub after_deed : Deed L → Turn L → Turn L
+  abbrev pub after_deed : Deed L → Transition L → Transition L
   after_deed d turn = record turn { deeds = d ∷ turn.deeds }
 
   -- the rows are in: the statement is evaluated, new sites of its writes are opened, and its writes go out
-  abbrev pub works : Name → Undecided L → L.Statement → List (Ask L) → Choice L → Turn L
+  abbrev pub works : Name → Undecided L → L.Statement → List (Ask L) → Choice L → Transition L
   works t u s asks choice =
       let leaves = map (λ w. w.0) choice.1 in
       after_deed (Worked t s asks choice) (after_letters (opens t u leaves) (writes_go t (visits u leaves) choice.0 choice.1))
 
   -- a statement without fetches is evaluated at once, for any other new sites of its fetches are opened
-  abbrev pub states : Name → Undecided L → L.Statement → List (Ask L) → Choice L → Turn L
+  abbrev pub states : Name → Undecided L → L.Statement → List (Ask L) → Choice L → Transition L
   states t u s [] choice = works t u s [] choice
   states t u s (q ∷ qs) choice =
       let leaves = map (λ q. q.leaf) (q ∷ qs) in
@@ -228,7 +228,7 @@ module _ {L : Lang} where
   to_abort (Some k) = Some (Abort k)
 
   -- the transaction ends without a commit, and whoever may hold locks hears Abort
-  abbrev pub ends_by : Name → Undecided L → Deed L → Turn L
+  abbrev pub ends_by : Name → Undecided L → Deed L → Transition L
   ends_by t u d = record { txn = Unknown; letters = letters_to t (λ a. when (u.visited a && may_hold (vote_at u.stage a)) (to_abort (u.ticket a))) L.sites; deeds = d ∷ [] }
 
   -- a Commit to each voter
@@ -236,7 +236,7 @@ module _ {L : Lang} where
   commits t voters = map (λ v. record { site = v.0; txn = t; body = Commit v.1 }) voters
 
   -- all votes are in, none is No: committed at once where none is Yes, else where the commit row is kept
-  abbrev pub decides : Name → Undecided L → Bool → List (L.Site × Name) → Turn L
+  abbrev pub decides : Name → Undecided L → Bool → List (L.Site × Name) → Transition L
   decides t u kept [] = record { txn = Unknown; letters = []; deeds = Committed t ∷ [] }
   decides t u kept (v ∷ vs) =
       if kept
@@ -252,35 +252,35 @@ module _ {L : Lang} where
   are_all_in u votes = list_all (λ a. not (u.visited a) || is_some (votes a)) L.sites
 
   -- the first phase goes on with these votes
-  abbrev pub votes_go : Name → Undecided L → (L.Site → Option Vote) → Bool → Turn L
+  abbrev pub votes_go : Name → Undecided L → (L.Site → Option Vote) → Bool → Transition L
   votes_go t u votes kept =
       if are_all_in u votes
       then decides t (record u { stage = Voting votes }) kept (voters_of u votes)
       else stays (Known (record u { stage = Voting votes }))
 
   -- the first phase: each visited site is asked to prepare what was sent to it; a transaction without sites is committed right away
-  abbrev pub phases : Name → Undecided L → Turn L
+  abbrev pub phases : Name → Undecided L → Transition L
   phases t u =
       let turn = votes_go t u (λ a. None) true in
       record turn { letters = letters_to t (λ a. when (u.visited a) (to_prepare u a (u.ticket a))) L.sites; deeds = Phased t ∷ turn.deeds }
 
   -- a commit is asked for between statements alone
-  abbrev pub on_commit_call : Name → Undecided L → Stage L → Turn L
+  abbrev pub on_commit_call : Name → Undecided L → Stage L → Transition L
   on_commit_call t u Idle = phases t u
   on_commit_call t u stage = stays (Known u)
 
   -- so is a statement
-  abbrev pub on_state : Name → Undecided L → L.Statement → Choice L → Stage L → Turn L
+  abbrev pub on_state : Name → Undecided L → L.Statement → Choice L → Stage L → Transition L
   on_state t u s choice Idle = after_deed (Stated t s) (states t u s (map ask_of (L.fetches s)) choice)
   on_state t u s choice stage = stays (Known u)
 
   -- a rollback is too late in the first phase
-  abbrev pub on_rollback : Name → Undecided L → Stage L → Turn L
+  abbrev pub on_rollback : Name → Undecided L → Stage L → Transition L
   on_rollback t u (Voting votes) = stays (Known u)
   on_rollback t u stage = ends_by t u (Rolled_back t)
 
   -- what a request of its client makes of a transaction; a refused request changes nothing
-  abbrev pub on_request : Name → Choice L → Request L → Txn L → Turn L
+  abbrev pub on_request : Name → Choice L → Request L → Txn L → Transition L
   on_request t choice (State s) (Known u) = on_state t u s choice u.stage
   on_request t choice Commit_call (Known u) = on_commit_call t u u.stage
   on_request t choice Rollback (Known u) = on_rollback t u u.stage
@@ -306,14 +306,14 @@ module _ {L : Lang} where
   refusal request txn = Some No_transaction
 
   -- a ticket, that of the site so far aside: the statement goes on where the operations waited for it
-  abbrev pub ticket_goes : Name → Undecided L → Choice L → Stage L → Turn L
+  abbrev pub ticket_goes : Name → Undecided L → Choice L → Stage L → Transition L
   ticket_goes t u choice Idle = stays (Known u)
   ticket_goes t u choice (Reading s asks) = asks_go t u s asks
   ticket_goes t u choice (Writing answer ws) = writes_go t u answer ws
   ticket_goes t u choice (Voting votes) = stays (Known u)
 
   -- one ticket of a site is enough, a further one hears Abort
-  abbrev pub on_ticket : Name → Undecided L → L.Site → Name → Choice L → Option Name → Turn L
+  abbrev pub on_ticket : Name → Undecided L → L.Site → Name → Choice L → Option Name → Transition L
   on_ticket t u a k choice None = ticket_goes t (record u { ticket = put L.same_site a (Some k) u.ticket }) choice u.stage
   on_ticket t u a k choice (Some j) =
       if same j k
@@ -329,34 +329,34 @@ module _ {L : Lang} where
   with_rows a n rows q = if awaits a n rows q then record q { rows = Some rows } else q
 
   -- rows come; when all are in, the statement is evaluated
-  abbrev pub rows_go : Name → Undecided L → L.Statement → List (Ask L) → Choice L → Turn L
+  abbrev pub rows_go : Name → Undecided L → L.Statement → List (Ask L) → Choice L → Transition L
   rows_go t u s asks choice =
       if list_all (λ q. is_some q.rows) asks
       then works t u s asks choice
       else stays (Known (record u { stage = Reading s asks }))
 
   -- rows are waited for while a statement reads
-  abbrev pub on_rows : Name → Undecided L → L.Site → ℕ → L.Rows → Choice L → Stage L → Turn L
+  abbrev pub on_rows : Name → Undecided L → L.Site → ℕ → L.Rows → Choice L → Stage L → Transition L
   on_rows t u a n rows choice (Reading s asks) = rows_go t u s (map (with_rows a n rows) asks) choice
   on_rows t u a n rows choice stage = stays (Known u)
 
   -- a refused operation ends the transaction, but not one in its first phase
-  abbrev pub on_refused : Name → Undecided L → Stage L → Turn L
+  abbrev pub on_refused : Name → Undecided L → Stage L → Transition L
   on_refused t u (Voting votes) = stays (Known u)
   on_refused t u stage = ends_by t u (Aborted t By_refusal)
 
   -- one No aborts, other votes go on
-  abbrev pub counts : Name → Undecided L → L.Site → (L.Site → Option Vote) → Bool → Vote → Turn L
+  abbrev pub counts : Name → Undecided L → L.Site → (L.Site → Option Vote) → Bool → Vote → Transition L
   counts t u a votes kept No = ends_by t (record u { stage = Voting (put L.same_site a (Some No) votes) }) (Aborted t By_vote)
   counts t u a votes kept vote = votes_go t u (put L.same_site a (Some vote) votes) kept
 
   -- a site votes once
-  abbrev pub on_vote : Name → Undecided L → L.Site → Bool → Vote → Stage L → Turn L
+  abbrev pub on_vote : Name → Undecided L → L.Site → Bool → Vote → Stage L → Transition L
   on_vote t u a kept vote (Voting votes) = if is_none (votes a) then counts t u a votes kept vote else stays (Known u)
   on_vote t u a kept vote stage = stays (Known u)
 
   -- what a letter from a site makes of an undecided transaction; Rows, refusals and votes are those of its ticket
-  abbrev pub on_known : Name → Undecided L → L.Site → Bool → Choice L → Body L → Turn L
+  abbrev pub on_known : Name → Undecided L → L.Site → Bool → Choice L → Body L → Transition L
   on_known t u a kept choice (Ticket k) = on_ticket t u a k choice (u.ticket a)
   on_known t u a kept choice (Rows k n rows) = if is_named (u.ticket a) k then on_rows t u a n rows choice u.stage else stays (Known u)
   on_known t u a kept choice (Refused k reason) = if is_named (u.ticket a) k then on_refused t u u.stage else stays (Known u)
@@ -365,13 +365,13 @@ module _ {L : Lang} where
   on_known t u a kept choice body = stays (Known u)
 
   -- an unknown transaction is presumed aborted
-  abbrev pub on_unknown : Name → L.Site → Body L → Turn L
+  abbrev pub on_unknown : Name → L.Site → Body L → Transition L
   on_unknown t a (Ticket k) = record { txn = Unknown; letters = record { site = a; txn = t; body = Abort k } ∷ []; deeds = [] }
   on_unknown t a (Inquire k) = record { txn = Unknown; letters = record { site = a; txn = t; body = Abort k } ∷ []; deeds = [] }
   on_unknown t a body = stays Unknown
 
   -- with the last acknowledgement the commit row goes; if its store refuses that, the acknowledgement is as good as lost. One that comes again changes nothing
-  abbrev pub on_ack : List (L.Site × Name) → List (L.Site × Name) → L.Site × Name → Bool → Turn L
+  abbrev pub on_ack : List (L.Site × Name) → List (L.Site × Name) → L.Site × Name → Bool → Transition L
   on_ack voters acked v kept =
       if list_any (is_pair L v.0 v.1) voters && not (list_any (is_pair L v.0 v.1) acked)
       then (if are_acked L voters (acked ++ v ∷ [])
@@ -380,14 +380,14 @@ module _ {L : Lang} where
       else stays (Row voters acked)
 
   -- a committed transaction answers acknowledgements and inquiries
-  abbrev pub on_row : Name → List (L.Site × Name) → List (L.Site × Name) → L.Site → Bool → Body L → Turn L
+  abbrev pub on_row : Name → List (L.Site × Name) → List (L.Site × Name) → L.Site → Bool → Body L → Transition L
   on_row t voters acked a kept (Ack k) = on_ack voters acked (a, k) kept
   on_row t voters acked a kept (Inquire k) = record { txn = Row voters acked; letters = record { site = a; txn = t; body = Commit k } ∷ []; deeds = [] }
   on_row t voters acked a kept (Ticket k) = stays (Row voters acked)
   on_row t voters acked a kept body = stays (Row voters acked)
 
   -- what a letter from a site makes of its transaction
-  abbrev pub on_desk_letter : Name → L.Site → Bool → Choice L → Body L → Txn L → Turn L
+  abbrev pub on_desk_letter : Name → L.Site → Bool → Choice L → Body L → Txn L → Transition L
   on_desk_letter t a kept choice body (Known u) = on_known t u a kept choice body
   on_desk_letter t a kept choice body Unknown = on_unknown t a body
   on_desk_letter t a kept choice body (Row voters acked) = on_row t voters acked a kept body
@@ -419,7 +419,7 @@ module _ {L : Lang} where
   desk_began d = record (with_txns d (put same (next_txn d) (Known fresh) d.txn) (d.known ++ next_txn d ∷ [])) { number = suc d.number }
 
   -- a restart aborts the undecided ones and sends the commits again
-  abbrev pub txn_restarted : Name → Txn L → Turn L
+  abbrev pub txn_restarted : Name → Txn L → Transition L
   txn_restarted t Unknown = stays Unknown
   txn_restarted t (Known u) = record { txn = Unknown; letters = []; deeds = Aborted t By_restart ∷ [] }
   txn_restarted t (Row voters acked) = record { txn = Row voters []; letters = commits t voters; deeds = [] }

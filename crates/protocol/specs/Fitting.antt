@@ -3,12 +3,12 @@ use Rattle.std.specs.Prelude.{◌≡◌, ⊤, Bool, true}
 use Rattle.std.specs.List.{AllByRecursion}
 use Rattle.protocol.specs.Language.{Lang, Name}
 use Rattle.protocol.specs.Letter.{Body, Write, Letter}
-use Rattle.protocol.specs.Site.{Status, Dead, Alive, Prepared, SiteState}
+use Rattle.protocol.specs.Site.{Status, Dead, Active, Prepared, SiteState}
 use Rattle.protocol.specs.Desk.{Choice, Stage, Writing, Txn, Known, Request}
 use Rattle.protocol.specs.World.{World, begins, called}
 use Rattle.protocol.specs.Serial.{IsOpening}
 use Rattle.protocol.specs.Client.{next, loses}
-use Rattle.protocol.specs.Course.{RowsFit}
+use Rattle.protocol.specs.StatementCourse.{RowsFit}
 
 -- fits: whether a content fits a leaf
 module _ (L : Lang) (fits : L.Leaf → L.Content → Bool) where
@@ -23,7 +23,7 @@ module _ (L : Lang) (fits : L.Leaf → L.Content → Bool) where
   -- those of a visit or a prepared row
   abbrev pub StatusFits : Status L → Type 0
   StatusFits Dead = ⊤
-  StatusFits (Alive v) = KeepsFit v.changes
+  StatusFits (Active v) = KeepsFit v.changes
   StatusFits (Prepared t i) = KeepsFit i
 
   -- the write of a letter

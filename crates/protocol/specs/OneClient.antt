@@ -5,7 +5,7 @@ use Rattle.protocol.specs.Desk.{Began, Phased, Committed, next_txn}
 use Rattle.protocol.specs.World.{World}
 use Rattle.protocol.specs.Serial.{whole_after, answers_in_turn, serial_whole, serial_answers, committed_whole}
 use Rattle.protocol.specs.Client.{IsReached, IsQuiet}
-use Rattle.protocol.specs.Leaving.{Since}
+use Rattle.protocol.specs.AfterAbort.{Since}
 use Rattle.protocol.specs.Parts.{Work}
 use Rattle.protocol.specs.ClientLaw.{log}
 

@@ -3,7 +3,7 @@ use Rattle.std.specs.Prelude.{◌≡◌, ◌⊎◌, ⊤, ◌&&◌, Bool, true, f
 use Rattle.std.specs.List.{list_any, flat_map, AllByRecursion}
 use Rattle.protocol.specs.Language.{Lang, Name, same, written}
 use Rattle.protocol.specs.Letter.{Read, Body, Fetch, Write, Voted, Letter}
-use Rattle.protocol.specs.Site.{Visit, Status, Alive, Prepared, has_lock}
+use Rattle.protocol.specs.Site.{Visit, Status, Active, Prepared, has_lock}
 use Rattle.protocol.specs.Desk.{Ask, Choice, Stage, Idle, Voting, Undecided, Known, Deed, Worked}
 use Rattle.protocol.specs.World.{World, Event, happens, run}
 use Rattle.protocol.specs.Serial.{is_committed, phases_of, settled, IsOpening}
@@ -76,7 +76,7 @@ module _ {L : Lang} where
   -- a ticket is prepared, or lives and no write sent to it that it hasn't done meets a leaf foreign to it
   pub data ViableNow (ops : List (Op L)) (st : Status L) : Type 0 where
     is_row : (t : Name) (i : L.Intentions) → st ≡ Prepared t i → ViableNow ops st
-    may_go_on : (v : Visit L) → st ≡ Alive v → ((g : L.Leaf) → writes_to L g (sets (drop v.done ops)) ≡ true → v.foreign g ≡ false) → ViableNow ops st
+    may_go_on : (v : Visit L) → st ≡ Active v → ((g : L.Leaf) → writes_to L g (sets (drop v.done ops)) ≡ true → v.foreign g ≡ false) → ViableNow ops st
 
   -- a transaction in its first phase is viable: each of its tickets is so, or has put out the vote Read
   pub record Viable (ops : L.Site → Name → List (Op L)) (w : World L) (t : Name) : Type 0 where

@@ -14,7 +14,7 @@ pub record Visit (L : Lang) : Type 0 where
 -- what stands behind a ticket: nothing, a visit, or a prepared row
 pub data Status (L : Lang) : Type 0 where
   Dead : Status L
-  Alive : (visit : Visit L) → Status L
+  Active : (visit : Visit L) → Status L
   Prepared : (txn : Name) (changes : L.Intentions) → Status L
 
 -- kept content and prepared rows are stored, visits and locks are not; known: the tickets that aren't dead, oldest first
@@ -41,9 +41,9 @@ module _ {L : Lang} where
   is_dead _ = false
 
   -- whether a visit does
-  abbrev pub is_alive : Status L → Bool
-  is_alive (Alive v) = true
-  is_alive _ = false
+  abbrev pub is_active : Status L → Bool
+  is_active (Active v) = true
+  is_active _ = false
 
   -- whether a prepared row does
   abbrev pub is_prepared : Status L → Bool
@@ -53,13 +53,13 @@ module _ {L : Lang} where
   -- an exclusive lock stands on each leaf of the intentions
   abbrev pub has_exclusive : L.Leaf → Status L → Bool
   has_exclusive g Dead = false
-  has_exclusive g (Alive v) = L.touches g v.changes
+  has_exclusive g (Active v) = L.touches g v.changes
   has_exclusive g (Prepared t i) = L.touches g i
 
   -- a lock of either kind
   abbrev pub has_lock : L.Leaf → Status L → Bool
   has_lock g Dead = false
-  has_lock g (Alive v) = v.shared g || L.touches g v.changes
+  has_lock g (Active v) = v.shared g || L.touches g v.changes
   has_lock g (Prepared t i) = L.touches g i
 
   -- whether a ticket but k has an exclusive lock on the leaf
@@ -82,7 +82,7 @@ module _ {L : Lang} where
   abbrev pub on_fetch : SiteState L → Bool → Name → ℕ → L.Leaf → L.Query → Status L → Act L
   on_fetch s kept k op g q Dead = Says (Refused k Gone ∷ [])
   on_fetch s kept k op g q (Prepared t i) = Says []
-  on_fetch s kept k op g q (Alive v) =
+  on_fetch s kept k op g q (Active v) =
       if op == suc v.done
       then (if others_exclusive s k g
       then Ends k (Refused k Lock ∷ [])
@@ -95,7 +95,7 @@ module _ {L : Lang} where
   abbrev pub on_write : Name → ℕ → L.Leaf → L.Write → Status L → Act L
   on_write k op g x Dead = Says []
   on_write k op g x (Prepared t i) = Says []
-  on_write k op g x (Alive v) =
+  on_write k op g x (Active v) =
       if op == suc v.done
       then (if v.foreign g
       then Ends k (Refused k Lock ∷ [])
@@ -108,7 +108,7 @@ module _ {L : Lang} where
   abbrev pub on_prepare : Bool → Name → Name → ℕ → Status L → Act L
   on_prepare kept t k count Dead = Says (Voted k No ∷ [])
   on_prepare kept t k count (Prepared u i) = Says (Voted k Yes ∷ [])
-  on_prepare kept t k count (Alive v) =
+  on_prepare kept t k count (Active v) =
       if v.done == count
       then (if L.is_empty v.changes
       then Ends k (Voted k Read ∷ [])
@@ -118,13 +118,13 @@ module _ {L : Lang} where
   -- a prepared row is applied, anything else has been
   abbrev pub on_commit : Bool → Name → Status L → Act L
   on_commit kept k Dead = Says (Ack k ∷ [])
-  on_commit kept k (Alive v) = Says (Ack k ∷ [])
+  on_commit kept k (Active v) = Says (Ack k ∷ [])
   on_commit kept k (Prepared t i) = if kept then Applies k i else Says []
 
   -- a visit ends, a prepared row is let go
   abbrev pub on_abort : Bool → Name → Status L → Act L
   on_abort kept k Dead = Says []
-  on_abort kept k (Alive v) = Ends k []
+  on_abort kept k (Active v) = Ends k []
   on_abort kept k (Prepared t i) = if kept then Ends k [] else Says []
 
   -- the table: what a letter about the transaction does; kept: whether the step's store call, if it has one, was kept
@@ -140,7 +140,7 @@ module _ {L : Lang} where
   -- a leaf that another has locked is foreign to a visit
   abbrev pub sees : L.Leaf → Status L → Status L
   sees g Dead = Dead
-  sees g (Alive v) = Alive (record v { foreign = put L.same_leaf g true v.foreign })
+  sees g (Active v) = Active (record v { foreign = put L.same_leaf g true v.foreign })
   sees g (Prepared t i) = Prepared t i
 
   -- other statuses; known are those of these names that aren't dead
@@ -150,8 +150,8 @@ module _ {L : Lang} where
   -- the state after a step
   abbrev pub site_after : SiteState L → Act L → SiteState L
   site_after s (Says replies) = s
-  site_after s Opens = record (with_status s (put same (next_ticket s) (Alive (new_visit s)) s.status) (s.known ++ next_ticket s ∷ [])) { number = suc s.number }
-  site_after s (Locks k v g replies) = with_status s (put same k (Alive v) (λ j. sees g (s.status j))) s.known
+  site_after s Opens = record (with_status s (put same (next_ticket s) (Active (new_visit s)) s.status) (s.known ++ next_ticket s ∷ [])) { number = suc s.number }
+  site_after s (Locks k v g replies) = with_status s (put same k (Active v) (λ j. sees g (s.status j))) s.known
   site_after s (Prepares k t i) = with_status s (put same k (Prepared t i) s.status) s.known
   site_after s (Applies k i) = record (with_status s (put same k Dead s.status) s.known) { kept = λ g. L.changed g i (s.kept g) }
   site_after s (Ends k replies) = with_status s (put same k Dead s.status) s.known
@@ -168,13 +168,13 @@ module _ {L : Lang} where
   -- a visit can be given up, a prepared row can't
   abbrev pub on_give_up : Name → Status L → Act L
   on_give_up k Dead = Says []
-  on_give_up k (Alive v) = Ends k []
+  on_give_up k (Active v) = Ends k []
   on_give_up k (Prepared t i) = Says []
 
   -- an inquiry for each prepared row, by ticket
   abbrev pub inquiry_of : L.Site → Name → Status L → List (Letter L)
   inquiry_of a k Dead = []
-  inquiry_of a k (Alive v) = []
+  inquiry_of a k (Active v) = []
   inquiry_of a k (Prepared t i) = record { site = a; txn = t; body = Inquire k } ∷ []
 
   -- the inquiries of all prepared rows
@@ -184,7 +184,7 @@ module _ {L : Lang} where
   -- a restart loses the visits and keeps the prepared rows, whose locks are so taken again
   abbrev pub restarted : Status L → Status L
   restarted Dead = Dead
-  restarted (Alive v) = Dead
+  restarted (Active v) = Dead
   restarted (Prepared t i) = Prepared t i
 
   -- a new life, in which tickets are numbered from 1 again
@@ -194,9 +194,9 @@ module _ {L : Lang} where
   -- a visit's operations are below 2^63
   abbrev pub is_short : Status L → Bool
   is_short Dead = true
-  is_short (Alive v) = nat_lt v.done (2 ^ 63)
+  is_short (Active v) = nat_lt v.done (2 ^ 63)
   is_short (Prepared t i) = true
 
   -- the limits of a site: 1,024 visits that aren't prepared, numbers below 2^63. A step that would lead past them is refused as Full
   abbrev pub is_within : SiteState L → Bool
-  is_within s = nat_lt s.life (2 ^ 63) && nat_lt s.number (2 ^ 63) && list_all (λ k. is_short (s.status k)) s.known && nat_le (length (filter (λ k. is_alive (s.status k)) s.known)) 1024
+  is_within s = nat_lt s.life (2 ^ 63) && nat_lt s.number (2 ^ 63) && list_all (λ k. is_short (s.status k)) s.known && nat_le (length (filter (λ k. is_active (s.status k)) s.known)) 1024

@@ -2,7 +2,7 @@
 use Rattle.std.specs.Prelude.{Bool, List, map}
 use Rattle.protocol.specs.Language.{Lang}
 use Rattle.protocol.specs.Letter.{Body, Open, Fetch, Write, Prepare, Commit, Abort, Ticket, Rows, Refused, Voted, Ack, Inquire, Letter}
-use Rattle.protocol.specs.Site.{Visit, Status, Dead, Alive, Prepared, SiteState, Act, Says, Opens, Locks, Prepares, Applies, Ends}
+use Rattle.protocol.specs.Site.{Visit, Status, Dead, Active, Prepared, SiteState, Act, Says, Opens, Locks, Prepares, Applies, Ends}
 
 -- the statements of a language, over the leaves of another
 pub record Statements (L : Lang) : Type 1 where
@@ -78,7 +78,7 @@ module _ {L : Lang} (S : Statements L) where
 
   abbrev pub status_with : Status L → Status (with_statements L S)
   status_with Dead = Dead
-  status_with (Alive v) = Alive (visit_with v)
+  status_with (Active v) = Active (visit_with v)
   status_with (Prepared t i) = Prepared t i
 
   abbrev pub site_with : SiteState L → SiteState (with_statements L S)

@@ -4,7 +4,7 @@ use Rattle.std.specs.List.{list_any, flat_map}
 use Rattle.protocol.specs.Language.{Lang, Name, put}
 use Rattle.protocol.specs.Letter.{Body, Letter, is_for_desk}
 use Rattle.protocol.specs.Site.{SiteState, on_letter, site_after, said, on_give_up, inquiries, site_restarted, is_within}
-use Rattle.protocol.specs.Desk.{Choice, Deed, Began, Request, Turn, Desk, on_request, on_desk_letter, desk_after, next_txn, desk_began, txn_restarted, desk_restarted, is_desk_within}
+use Rattle.protocol.specs.Desk.{Choice, Deed, Began, Request, Transition, Desk, on_request, on_desk_letter, desk_after, next_txn, desk_began, txn_restarted, desk_restarted, is_desk_within}
 
 -- letters: every one ever sent, oldest first; past: what happened to transactions, oldest first
 pub record World (L : Lang) : Type 0 where
@@ -37,7 +37,7 @@ module _ {L : Lang} where
   with_site w a s letters = record w { sites = put L.same_site a s w.sites; letters = w.letters ++ letters }
 
   -- a transaction after its turn
-  abbrev pub turned : World L → Name → Turn L → World L
+  abbrev pub turned : World L → Name → Transition L → World L
   turned w t turn = record w { desk = desk_after w.desk t turn.txn; letters = w.letters ++ turn.letters; past = w.past ++ turn.deeds }
 
   -- a site within its limits after a step, else the step is refused and the world is as it was
@@ -45,7 +45,7 @@ module _ {L : Lang} where
   site_steps w a s letters = if is_within s then with_site w a s letters else w
 
   -- a turn within the limits, else it is refused and the world is as it was
-  abbrev pub turns : World L → Name → Turn L → World L
+  abbrev pub turns : World L → Name → Transition L → World L
   turns w t turn = if is_desk_within (desk_after w.desk t turn.txn) then turned w t turn else w
 
   -- a new transaction is there
@@ -91,7 +91,7 @@ module _ {L : Lang} where
   -- the coordinator has restarted
   abbrev pub desk_lives : World L → World L
   desk_lives w =
-      let turn : Name → Turn L = λ t. txn_restarted t (w.desk.txn t) in
+      let turn : Name → Transition L = λ t. txn_restarted t (w.desk.txn t) in
       record w { desk = desk_restarted w.desk; letters = w.letters ++ flat_map (λ t. (turn t).letters) w.desk.known; past = w.past ++ flat_map (λ t. (turn t).deeds) w.desk.known }
 
   -- so, within the limits

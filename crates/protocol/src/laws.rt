@@ -11,7 +11,7 @@ ghost use Rattle.protocol.specs.Premise.{PremiseIsMet};
 ghost use Rattle.protocol.specs.Refusing.{RequestLaw};
 ghost use Rattle.protocol.specs.Rounds.{RoundByLetter};
 ghost use Rattle.protocol.specs.Serial.{SerialLaw};
-ghost use Rattle.protocol.specs.Smooth.{SmoothLaw};
+ghost use Rattle.protocol.specs.WithoutRefusal.{SmoothLaw};
 ghost use Rattle.protocol.specs.Toy.{toy};
 
 /// The serial law: after every list of events the committed transactions, run one after another over

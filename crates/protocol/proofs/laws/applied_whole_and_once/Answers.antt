@@ -1,4 +1,4 @@
-use Rattle.protocol.proofs.PartFour.{applied_whole_and_once}
+use Rattle.protocol.proofs.AppliedOnce.{applied_whole_and_once}
 use Rattle.protocol.proofs.ToyLaws.{toy_lawful}
 use Rattle.protocol.proofs.laws.applied_whole_and_once.Goals as goal
 

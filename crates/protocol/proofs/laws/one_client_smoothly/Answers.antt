@@ -1,10 +1,10 @@
 use Rattle.std.proofs.Common.{refl, true, List, [], ◌∷◌}
 use Rattle.std.specs.List.{AllByRecursion}
 use Rattle.protocol.specs.Fitting.{Suits}
-use Rattle.protocol.specs.Smooth.{IsHoused}
+use Rattle.protocol.specs.WithoutRefusal.{IsHoused}
 use Rattle.protocol.specs.Toy.{toy}
 use Rattle.protocol.proofs.OneRun.{at_sites}
-use Rattle.protocol.proofs.Smooth.{smooth_law}
+use Rattle.protocol.proofs.WithoutRefusal.{smooth_law}
 use Rattle.protocol.proofs.ToyLaws.{toy_lawful, toy_once}
 use Rattle.protocol.proofs.laws.one_client_smoothly.Goals as goal
 

@@ -1,4 +1,4 @@
-use Rattle.protocol.proofs.PartsOneToThree.{part_three}
+use Rattle.protocol.proofs.LineOfCommits.{part_three}
 use Rattle.protocol.proofs.ToyLaws.{toy_lawful}
 use Rattle.protocol.proofs.laws.part_three.Goals as goal
 

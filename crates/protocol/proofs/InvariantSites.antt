@@ -4,7 +4,7 @@ use Rattle.protocol.specs.Parts.{op_of, In, Viable}
 use Rattle.protocol.proofs.Booked.{NoOps}
 use Rattle.protocol.specs.Language.{Lang, IsLawful, Name, same, put}
 use Rattle.protocol.specs.Letter.{Read, Body, Open, Commit, Voted}
-use Rattle.protocol.specs.Site.{Status, Dead, Alive, Prepared, SiteState, Act, Opens, Applies, Ends, is_dead, is_prepared, sees, next_ticket, new_visit, on_letter, site_after, said, restarted, site_restarted, on_give_up, is_within}
+use Rattle.protocol.specs.Site.{Status, Dead, Active, Prepared, SiteState, Act, Opens, Applies, Ends, is_dead, is_prepared, sees, next_ticket, new_visit, on_letter, site_after, said, restarted, site_restarted, on_give_up, is_within}
 use Rattle.protocol.specs.Serial.{phases_of}
 use Rattle.protocol.specs.World.{World, with_site, site_steps, addressed, gives_up, restarts}
 use Rattle.protocol.proofs.Basics.{Every, put_all, put_here, put_there, clash, same_law, either, by_test, if_true, if_false}
@@ -19,7 +19,7 @@ use Rattle.protocol.proofs.Data.{TellsBody, acted_steps, acted_says, acted_plain
 use Rattle.protocol.proofs.Base.{Base, base_site}
 use Rattle.protocol.proofs.Viable.{acted_was, read_was, restarted_was, give_up_was, in_addressed}
 use Rattle.protocol.proofs.Settled.{changes_it, settled_same, settled_applied}
-use Rattle.protocol.proofs.Deep.{Deep, viable_site, deep_site, site_settled}
+use Rattle.protocol.proofs.Invariant.{Deep, viable_site, deep_site, site_settled}
 
 module _ {L : Lang} (law : IsLawful L) (whole : L.Whole) where
   -- the invariant with owners and operations that the world doesn't store
@@ -42,19 +42,19 @@ module _ {L : Lang} (law : IsLawful L) (whole : L.Whole) where
     row_stays t b act fits (says_no k m) other j n i done row = row
     row_stays t b act fits (says_yes k m u x e) other j n i done row = row
     row_stays t b act fits (says_ack k e) other j n i done row = row
-    row_stays t b act fits opens other j n i done row = put_all same same_law (next_ticket (w.sites a)) (Alive (new_visit (w.sites a))) (w.sites a).status (λ j x. (w.sites a).status j ≡ Prepared n i → x ≡ Prepared n i)
+    row_stays t b act fits opens other j n i done row = put_all same same_law (next_ticket (w.sites a)) (Active (new_visit (w.sites a))) (w.sites a).status (λ j x. (w.sites a).status j ≡ Prepared n i → x ≡ Prepared n i)
         (λ r. absurd (not_drawn (w.sites a) (deep.base.fit.live a (next_ticket (w.sites a)) (ap is_dead r)))) (λ j apart r. r) j row
     row_stays t b act fits (reads k op g q v e next free) other j n i done row = put_all same same_law k _ (λ j. sees g ((w.sites a).status j)) (λ j x. (w.sites a).status j ≡ Prepared n i → x ≡ Prepared n i)
-        (λ r. let f : Alive v ≡ Prepared n i = sym e ∙ r in cc) (λ j apart r. prepared_sees g ((w.sites a).status j) n i r) j row
+        (λ r. let f : Active v ≡ Prepared n i = sym e ∙ r in cc) (λ j apart r. prepared_sees g ((w.sites a).status j) n i r) j row
     row_stays t b act fits (writes k op g x v e next free) other j n i done row = put_all same same_law k _ (λ j. sees g ((w.sites a).status j)) (λ j x. (w.sites a).status j ≡ Prepared n i → x ≡ Prepared n i)
-        (λ r. let f : Alive v ≡ Prepared n i = sym e ∙ r in cc) (λ j apart r. prepared_sees g ((w.sites a).status j) n i r) j row
+        (λ r. let f : Active v ≡ Prepared n i = sym e ∙ r in cc) (λ j apart r. prepared_sees g ((w.sites a).status j) n i r) j row
     row_stays t b act fits (prepares k m v e all) other j n i done row = put_all same same_law k (Prepared t v.changes) (w.sites a).status (λ j x. (w.sites a).status j ≡ Prepared n i → x ≡ Prepared n i)
-        (λ r. let f : Alive v ≡ Prepared n i = sym e ∙ r in cc) (λ j apart r. r) j row
-    row_stays t b act fits (only_read k m v e all empty) other j n i done row = put_all same same_law k Dead (w.sites a).status (λ j x. (w.sites a).status j ≡ Prepared n i → x ≡ Prepared n i) (λ r. let f : Alive v ≡ Prepared n i = sym e ∙ r in cc) (λ j apart r. r) j row
-    row_stays t b act fits (votes_no k m v e) other j n i done row = put_all same same_law k Dead (w.sites a).status (λ j x. (w.sites a).status j ≡ Prepared n i → x ≡ Prepared n i) (λ r. let f : Alive v ≡ Prepared n i = sym e ∙ r in cc) (λ j apart r. r) j row
-    row_stays t b act fits (refuses c k v reason e) other j n i done row = put_all same same_law k Dead (w.sites a).status (λ j x. (w.sites a).status j ≡ Prepared n i → x ≡ Prepared n i) (λ r. let f : Alive v ≡ Prepared n i = sym e ∙ r in cc) (λ j apart r. r) j row
+        (λ r. let f : Active v ≡ Prepared n i = sym e ∙ r in cc) (λ j apart r. r) j row
+    row_stays t b act fits (only_read k m v e all empty) other j n i done row = put_all same same_law k Dead (w.sites a).status (λ j x. (w.sites a).status j ≡ Prepared n i → x ≡ Prepared n i) (λ r. let f : Active v ≡ Prepared n i = sym e ∙ r in cc) (λ j apart r. r) j row
+    row_stays t b act fits (votes_no k m v e) other j n i done row = put_all same same_law k Dead (w.sites a).status (λ j x. (w.sites a).status j ≡ Prepared n i → x ≡ Prepared n i) (λ r. let f : Active v ≡ Prepared n i = sym e ∙ r in cc) (λ j apart r. r) j row
+    row_stays t b act fits (refuses c k v reason e) other j n i done row = put_all same same_law k Dead (w.sites a).status (λ j x. (w.sites a).status j ≡ Prepared n i → x ≡ Prepared n i) (λ r. let f : Active v ≡ Prepared n i = sym e ∙ r in cc) (λ j apart r. r) j row
     row_stays t b act fits (applies k u x e) other j n i done row = absurd (other k u x refl)
-    row_stays t b act fits (ends c k v e) other j n i done row = put_all same same_law k Dead (w.sites a).status (λ j x. (w.sites a).status j ≡ Prepared n i → x ≡ Prepared n i) (λ r. let f : Alive v ≡ Prepared n i = sym e ∙ r in cc) (λ j apart r. r) j row
+    row_stays t b act fits (ends c k v e) other j n i done row = put_all same same_law k Dead (w.sites a).status (λ j x. (w.sites a).status j ≡ Prepared n i → x ≡ Prepared n i) (λ r. let f : Active v ≡ Prepared n i = sym e ∙ r in cc) (λ j apart r. r) j row
     row_stays t b act fits (discards k u x e) other j n i done row = put_all same same_law k Dead (w.sites a).status (λ j y. (w.sites a).status j ≡ Prepared n i → y ≡ Prepared n i)
         (λ r. let is : n ≡ t = sym (deep.base.fit.prepared a k n i r).owner ∙ fits.1 in clash (ap is_prepared r) (fits.3 (subst (IsCommitted w.past) is done))) (λ j apart r. r) j row
 
@@ -124,7 +124,7 @@ module _ {L : Lang} (law : IsLawful L) (whole : L.Whole) where
         deep_site law o p ops whole w a new letters deep base (acted_was law (ops a) s t Open Opens (deep.base.data_at a) tt row)
         (λ c k n here. let r = in_addressed a c t n (Voted k Read) (said s Opens) here in (r.0, read_was law (ops a) s t Open Opens tt row k r.1))
         (site_settled law o p ops whole w a new letters deep.base base (λ g. refl) (λ k n i done e. row_stays t Open Opens fits row (λ k u i f. cc) k n i done e)
-        (λ k n i done. put_all same same_law (next_ticket s) (Alive (new_visit s)) s.status (λ j x. x ≡ Prepared n i → s.status j ≡ Prepared n i) (λ e. cc) (λ j other e. e) k))
+        (λ k n i done. put_all same same_law (next_ticket s) (Active (new_visit s)) s.status (λ j x. x ≡ Prepared n i → s.status j ≡ Prepared n i) (λ e. cc) (λ j other e. e) k))
 
     -- whatever a letter does
     acted_deep : (t : Name) (b : Body L) (act : Act L) → Born w.desk t → FitsBody o w.desk w.past a (w.sites a) t b → TellsBody (ops a) (w.sites a) b → Acted (w.sites a) t b act → ((b ≡ Open) → ⊥) → (p : L.Site → Name → Name) × Deep p ops whole (with_site w a (site_after (w.sites a) act) (addressed a t (said (w.sites a) act)))
@@ -191,15 +191,15 @@ module _ {L : Lang} (law : IsLawful L) (whole : L.Whole) where
         go : (st : Status L) → (w.sites a).status k ≡ st → Deep o ops whole (site_steps w a (site_after (w.sites a) (on_give_up k st)) [])
         go Dead e = same_deep
         go (Prepared t i) e = same_deep
-        go (Alive v) e =
+        go (Active v) e =
             let s = w.sites a in
             let new = site_after s (Ends k []) in
             let later = from_visit o w.desk w.past a s (deep.base.fit.live a) k v Dead new.known e (λ t i row. cc) in
             either (λ x. Deep o ops whole x) (is_within new) (with_site w a new []) w
-            (let base = base_site law o o ops w a new [] deep.base (site_moves law o w a new [] deep.base.fit later tt) (λ c j h. refl) (gives_up_locked law s k (Alive v) (deep.base.locked a)) (give_up_steps law (ops a) s k (Alive v) (deep.base.data_at a)) tt in
-            deep_site law o o ops whole w a new [] deep base (give_up_was (ops a) s k (Alive v)) (λ c j u here. absurd here)
+            (let base = base_site law o o ops w a new [] deep.base (site_moves law o w a new [] deep.base.fit later tt) (λ c j h. refl) (gives_up_locked law s k (Active v) (deep.base.locked a)) (give_up_steps law (ops a) s k (Active v) (deep.base.data_at a)) tt in
+            deep_site law o o ops whole w a new [] deep base (give_up_was (ops a) s k (Active v)) (λ c j u here. absurd here)
             (site_settled law o o ops whole w a new [] deep.base base (λ g. refl)
-            (λ j n i done row. put_all same same_law k Dead s.status (λ j x. s.status j ≡ Prepared n i → x ≡ Prepared n i) (λ r. let f : Alive v ≡ Prepared n i = sym e ∙ r in cc) (λ j apart r. r) j row)
+            (λ j n i done row. put_all same same_law k Dead s.status (λ j x. s.status j ≡ Prepared n i → x ≡ Prepared n i) (λ r. let f : Active v ≡ Prepared n i = sym e ∙ r in cc) (λ j apart r. r) j row)
             (λ j n i done row. ⊎_elim (λ was. was) (λ fresh. absurd (fresh.3 done)) (later.comes j n i row))))
             deep
 

@@ -6,8 +6,8 @@ use Rattle.protocol.specs.Letter.{Letter}
 use Rattle.protocol.specs.Desk.{Ask, Choice, Deed, Stated, Worked, Answered, Phased, Committed, State, Commit_call, next_txn, desk_began, desk_after, on_request, is_desk_within}
 use Rattle.protocol.specs.World.{World, begins, called}
 use Rattle.protocol.specs.Client.{IsQuiet, IsReached, next}
-use Rattle.protocol.specs.Course.{AtSites, InStatement, Room, Steady, passes}
-use Rattle.protocol.specs.Leaving.{Within}
+use Rattle.protocol.specs.StatementCourse.{AtSites, InStatement, Room, Steady, passes}
+use Rattle.protocol.specs.AfterAbort.{Within}
 use Rattle.protocol.specs.Committing.{Committing}
 use Rattle.protocol.specs.Fitting.{Fitting, Suits}
 

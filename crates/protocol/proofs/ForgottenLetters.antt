@@ -3,7 +3,7 @@ use Rattle.std.proofs.Common.{◌≡◌, refl, sym, ap, ◌∙◌, subst, Bool, 
 use Rattle.protocol.specs.Language.{Lang, IsLawful, Name}
 use Rattle.protocol.specs.Letter.{Letter, is_for_desk}
 use Rattle.protocol.specs.Site.{SiteState, is_within, on_letter, site_after, said}
-use Rattle.protocol.specs.Desk.{Choice, Began, Request, Turn, desk_after, desk_began, is_desk_within, next_txn}
+use Rattle.protocol.specs.Desk.{Choice, Began, Request, Transition, desk_after, desk_began, is_desk_within, next_txn}
 use Rattle.protocol.specs.World.{World, Event, Begin, Call, Deliver, begins, begun, called, comes, comes_to, delivered, happens, run, turns, turned, site_steps, with_site, addressed}
 use Rattle.protocol.specs.Serial.{Explained, AllExplained, IsOpening, IsSerial, SerialLaw, committed, serial_whole, statements_of}
 use Rattle.protocol.specs.Client.{first, next, rest_of, loses, IsReached, ReachedLaw}
@@ -28,7 +28,7 @@ module _ {L : Lang} where
   letter_at (g ∷ gone) l q = letter_at gone l q
 
   -- what is done behind letters that have gone
-  turns_behind : (gone : List (Letter L)) (w : World L) (t : Name) (turn : Turn L) → turns (behind gone w) t turn ≡ behind gone (turns w t turn)
+  turns_behind : (gone : List (Letter L)) (w : World L) (t : Name) (turn : Transition L) → turns (behind gone w) t turn ≡ behind gone (turns w t turn)
   turns_behind gone w t turn = go (is_desk_within (desk_after w.desk t turn.txn))
     where
       go : (b : Bool) → (if b then turned (behind gone w) t turn else behind gone w) ≡ behind gone (if b then turned w t turn else w)

@@ -6,14 +6,14 @@ use Rattle.protocol.specs.Desk.{Choice, Txn, Unknown, Known, Row, Deed, Aborted,
 use Rattle.protocol.specs.World.{World, begun, begins, called, turned, turns}
 use Rattle.protocol.specs.Serial.{IsOpening}
 use Rattle.protocol.specs.Client.{next, IsQuiet}
-use Rattle.protocol.specs.Spots.{Unlocked}
-use Rattle.protocol.specs.Course.{AtSites, Steady}
-use Rattle.protocol.specs.Leaving.{LeavingAt, EndKept, Within, Since, Ending, doomed, has_ended, Failing, Went, Lost, may_end, has_gone}
+use Rattle.protocol.specs.VisitPlaces.{Unlocked}
+use Rattle.protocol.specs.StatementCourse.{AtSites, Steady}
+use Rattle.protocol.specs.AfterAbort.{LeavingAt, EndKept, Within, Since, Ending, doomed, has_ended, Failing, Went, Lost, may_end, has_gone}
 use Rattle.protocol.specs.ClientLaw.{CourseLaw}
-use Rattle.protocol.specs.Spots.{at}
+use Rattle.protocol.specs.VisitPlaces.{at}
 use Rattle.protocol.proofs.Basics.{either, put_all, put_here, same_law, if_true}
 use Rattle.protocol.proofs.Locks.{Once}
-use Rattle.protocol.proofs.Working.{begins_stands}
+use Rattle.protocol.proofs.StatementMeetsNoLock.{begins_stands}
 use Rattle.protocol.proofs.Limits.{begins_within, called_within, next_within}
 use Rattle.protocol.proofs.Ended.{ending_goes_on, ending_quiet}
 use Rattle.protocol.proofs.Loose.{steady_loose, statement_loose, give_up_ends, rollback_ends}

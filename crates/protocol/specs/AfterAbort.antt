@@ -7,8 +7,8 @@ use Rattle.protocol.specs.Site.{Status, is_prepared, is_within}
 use Rattle.protocol.specs.Desk.{Stage, Idle, Reading, Writing, Voting, Undecided, Known, Deed, Began, Stated, Worked, Answered, Phased, Committed, Aborted, Rolled_back, is_undecided, is_desk_within}
 use Rattle.protocol.specs.World.{World}
 use Rattle.protocol.specs.Parts.{In, is_voting}
-use Rattle.protocol.specs.Spots.{at, Unlocked}
-use Rattle.protocol.specs.Course.{InStatement}
+use Rattle.protocol.specs.VisitPlaces.{at, Unlocked}
+use Rattle.protocol.specs.StatementCourse.{InStatement}
 
 module _ {L : Lang} where
   -- whoever is to do something for its ticket hears Abort after it, or the ticket is still its transaction's own (O)

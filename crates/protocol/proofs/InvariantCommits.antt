@@ -2,8 +2,8 @@
 use Rattle.std.proofs.Common.{◌≡◌, refl, sym, ap, ◌∙◌, subst, Bool, true, false, ◌||◌, List, [], ◌++◌, ◌⊎◌, inl, inr, ⊎_elim, append-nil}
 use Rattle.protocol.specs.Language.{Lang, IsLawful, Name, same, put, written}
 use Rattle.protocol.specs.Letter.{Read, Voted}
-use Rattle.protocol.specs.Site.{Status, Dead, Alive, Prepared, is_dead, is_alive, has_exclusive}
-use Rattle.protocol.specs.Desk.{Undecided, Known, Deed, Turn}
+use Rattle.protocol.specs.Site.{Status, Dead, Active, Prepared, is_dead, is_active, has_exclusive}
+use Rattle.protocol.specs.Desk.{Undecided, Known, Deed, Transition}
 use Rattle.protocol.specs.World.{World, turned}
 use Rattle.protocol.specs.Serial.{is_committed, phases_of, settled}
 use Rattle.protocol.proofs.Basics.{every_in, In, put_here, clash, same_law, by_test, left_true, right_true, both_true}
@@ -22,10 +22,10 @@ use Rattle.protocol.proofs.Line.{Line, Two, line_decided, two_same}
 use Rattle.protocol.proofs.Viable.{ViableNow, is_row, Viable, alone_at}
 use Rattle.protocol.proofs.Settled.{changes_it, changed_by_row, changes_exclusive, settled_none, settled_one, settled_same}
 use Rattle.protocol.proofs.OwnReads.{own_sent, writes_at, apart_tickets}
-use Rattle.protocol.proofs.Deep.{Counts, Deep, line_works, two_works}
-use Rattle.protocol.proofs.DeepTurns.{base_next, viable_other, voting_sent, works_stay, committed_join}
+use Rattle.protocol.proofs.Invariant.{Counts, Deep, line_works, two_works}
+use Rattle.protocol.proofs.InvariantTurns.{base_next, viable_other, voting_sent, works_stay, committed_join}
 
-module _ {L : Lang} (law : IsLawful L) (o : L.Site → Name → Name) (ops : L.Site → Name → List (Op L)) (whole : L.Whole) (w : World L) (t : Name) (turn : Turn L) (deep : Deep o ops whole w) (good : Good o w t turn) (booked : Booked o ops w t turn)
+module _ {L : Lang} (law : IsLawful L) (o : L.Site → Name → Name) (ops : L.Site → Name → List (Op L)) (whole : L.Whole) (w : World L) (t : Name) (turn : Transition L) (deep : Deep o ops whole w) (good : Good o w t turn) (booked : Booked o ops w t turn)
     (unphased : phases_of turn.deeds ≡ []) (done : IsCommitted turn.deeds t) (u : Undecided L) (e : w.desk.txn t ≡ Known u) (votes : is_voting u.stage ≡ true) where
   abbrev base : Base o ops w
   base = deep.base
@@ -48,7 +48,7 @@ module _ {L : Lang} (law : IsLawful L) (o : L.Site → Name → Name) (ops : L.S
     where
       go : (a : L.Site) (k : Name) → Own a k u → (st : Status L) → (w.sites a).status k ≡ st → ViableNow (ops a k) ((w.sites a).status k) ⊎ In (record { site = a; txn = t; body = Voted k Read }) w.letters
       go a k own Dead f = ⊎_elim (λ lives. clash (ap is_dead f) lives) (λ letter. inr letter) ((good.fine.commits done).4 a k (own_t a k own))
-      go a k own (Alive v) f = clash (ap is_alive f) ((good.fine.commits done).3 a k (own_t a k own))
+      go a k own (Active v) f = clash (ap is_active f) ((good.fine.commits done).3 a k (own_t a k own))
       go a k own (Prepared n i) f = inl (is_row n i f)
 
   -- where it writes it has a prepared row
@@ -62,7 +62,7 @@ module _ {L : Lang} (law : IsLawful L) (o : L.Site → Name → Name) (ops : L.S
       go k own is Dead f = ⊎_elim (λ lives. clash (ap is_dead f) lives)
           (λ letter. let none : sets (ops (L.home g) k) ≡ [] = every_in (λ l. TellsBody (ops l.site) (w.sites l.site) l.body) w.letters (record { site = L.home g; txn = t; body = Voted k Read }) base.tells letter in
           absurd (let z : false ≡ true = sym (ap (writes_to L g) none) ∙ is in cc)) ((good.fine.commits done).4 (L.home g) k (own_t (L.home g) k own))
-      go k own is (Alive v) f = clash (ap is_alive f) ((good.fine.commits done).3 (L.home g) k (own_t (L.home g) k own))
+      go k own is (Active v) f = clash (ap is_active f) ((good.fine.commits done).3 (L.home g) k (own_t (L.home g) k own))
       go k own is (Prepared n i) f =
           let rows = (base.data_at (L.home g)).rows k n i f in
           let eq : n ≡ t = sym (base.fit.prepared (L.home g) k n i f).owner ∙ ((base.fit.known t u e).tickets (L.home g) k own).1 in
@@ -95,12 +95,12 @@ module _ {L : Lang} (law : IsLawful L) (o : L.Site → Name → Name) (ops : L.S
     where
       stays : (st : Status L) → changes_it w.past g st ≡ true → changes_it later g st ≡ true
       stays Dead is = cc
-      stays (Alive v) is = cc
+      stays (Active v) is = cc
       stays (Prepared n i) is = both_true (is_committed later n) (L.touches g i) (was_committed o w t turn base.fit good.fine n (left_true (is_committed w.past n) (L.touches g i) is)) (right_true (is_committed w.past n) (L.touches g i) is)
 
       was : writes_to L g (own_of (works w.past t)) ≡ false → (k : Name) (st : Status L) → (w.sites (L.home g)).status k ≡ st → changes_it later g st ≡ true → changes_it w.past g st ≡ true
       was none k Dead f is = cc
-      was none k (Alive v) f is = cc
+      was none k (Active v) f is = cc
       was none k (Prepared n i) f is = ⊎_elim
           (λ old. both_true (is_committed w.past n) (L.touches g i) old (right_true (is_committed later n) (L.touches g i) is))
           (λ now. let own = (base.fit.prepared (L.home g) k n i f).own u (subst (λ m. w.desk.txn m ≡ Known u) (sym now.0) e) in

@@ -3,16 +3,16 @@ use Rattle.std.proofs.Common.{◌≡◌, refl, sym, ap, ◌∙◌, subst, ℕ, �
 use Rattle.std.specs.List.{list_all}
 use Rattle.protocol.specs.Language.{Lang, IsLawful, Name, same}
 use Rattle.protocol.specs.Letter.{Body, Letter, Open, Fetch, Write, Prepare, Commit, Abort, Ticket, Rows, Refused, Voted, Ack, Inquire, is_for_desk}
-use Rattle.protocol.specs.Site.{Visit, Status, Dead, Alive, Prepared, SiteState}
-use Rattle.protocol.specs.Desk.{Ask, Choice, Stage, Idle, Reading, Writing, Voting, Undecided, Known, Unknown, Row, Txn, Turn, Deed, Stated, Worked, State, after_deed, desk_after, is_desk_within, is_named, is_undecided, on_desk_letter, on_known, on_request, on_rows, on_state, on_ticket, states, ticket_goes, visits, with_rows, works, writing}
+use Rattle.protocol.specs.Site.{Visit, Status, Dead, Active, Prepared, SiteState}
+use Rattle.protocol.specs.Desk.{Ask, Choice, Stage, Idle, Reading, Writing, Voting, Undecided, Known, Unknown, Row, Txn, Transition, Deed, Stated, Worked, State, after_deed, desk_after, is_desk_within, is_named, is_undecided, on_desk_letter, on_known, on_request, on_rows, on_state, on_ticket, states, ticket_goes, visits, with_rows, works, writing}
 use Rattle.protocol.specs.World.{World, called, comes_to, turned, turns}
 use Rattle.protocol.specs.Client.{IsQuiet, IsReached, first, next}
-use Rattle.protocol.specs.Spots.{Spot, Unlocked, at, away, asked, offered, works as is_working}
-use Rattle.protocol.specs.Course.{AtSites, InStatement, Room, RoomOr, Stands, passes, passes_to}
-use Rattle.protocol.specs.Leaving.{Within}
+use Rattle.protocol.specs.VisitPlaces.{VisitPlace, Unlocked, at, away, asked, offered, works as is_working}
+use Rattle.protocol.specs.StatementCourse.{AtSites, InStatement, Room, RoomOr, Stands, passes, passes_to}
+use Rattle.protocol.specs.AfterAbort.{Within}
 use Rattle.protocol.specs.Parts.{Work, In, work_in}
 use Rattle.protocol.specs.Fitting.{Fitting, StatusFits, Suits, TxnFits}
-use Rattle.protocol.specs.Smooth.{InCourse, IsHoused, Ready, Smooth, SmoothLaw}
+use Rattle.protocol.specs.WithoutRefusal.{InCourse, IsHoused, Ready, Smooth, SmoothLaw}
 use Rattle.protocol.proofs.Basics.{Every, every_in, in_left, in_right, if_true, put_here, same_law, same_refl, some_is}
 use Rattle.protocol.proofs.Locks.{Once}
 use Rattle.protocol.proofs.Data.{untouched}
@@ -21,7 +21,7 @@ use Rattle.protocol.proofs.OneClient.{quiet_rebuilt}
 use Rattle.protocol.proofs.Meant.{IsMeant, now_whole, reached_deep, works_meant}
 use Rattle.protocol.proofs.Overflow.{went_on}
 use Rattle.protocol.proofs.OneStatement.{statement_starts, statement_ends}
-use Rattle.protocol.proofs.Course.{begins_steady}
+use Rattle.protocol.proofs.StatementCourse.{begins_steady}
 use Rattle.protocol.proofs.Committing.{commit_starts, commit_goes_on, commit_ends}
 use Rattle.protocol.proofs.Transaction.{kept_commit}
 use Rattle.protocol.proofs.Fitting.{fitting_law}
@@ -37,7 +37,7 @@ none_touched false b e = e
 
 module _ {L : Lang} where
   -- whether a turn evaluates its statement with a choice: else it is the turn without writes
-  data Uses (t : Name) (u : Undecided L) (c : Choice L) (turn other : Turn L) : Type 0 where
+  data Uses (t : Name) (u : Undecided L) (c : Choice L) (turn other : Transition L) : Type 0 where
     uses_none : turn ≡ other → Uses t u c turn other
     uses_it : (s : L.Statement) (asks : List (Ask L)) (v : Undecided L) → turn.txn ≡ Known v → v.ticket ≡ u.ticket → In (Worked t s asks c) turn.deeds → Uses t u c turn other
 
@@ -45,7 +45,7 @@ module _ {L : Lang} where
   writing_known t u answer sent [] letters = (_, (refl, refl))
   writing_known t u answer sent (x ∷ left) letters = (_, (refl, refl))
 
-  works_use : (t : Name) (u : Undecided L) (s : L.Statement) (asks : List (Ask L)) (c : Choice L) (other : Turn L) → Uses t u c (works t u s asks c) other
+  works_use : (t : Name) (u : Undecided L) (s : L.Statement) (asks : List (Ask L)) (c : Choice L) (other : Transition L) → Uses t u c (works t u s asks c) other
   works_use t u s asks c other = let known = writing_known t (visits u (map (λ w. w.0) c.1)) c.0 _ _ _ in uses_it s asks known.0 known.1.0 known.1.1 (inl refl)
 
   module _ (t : Name) (u : Undecided L) (c : Choice L) where
@@ -73,7 +73,7 @@ module _ {L : Lang} where
     first_ticket_uses a k None = ticket_uses _ u.stage
     first_ticket_uses a k (Some j) = refl
 
-    rows_use : (b : Bool) (s : L.Statement) (asks : List (Ask L)) (none : Turn L) → Uses t u c (if b then works t u s asks c else none) (if b then works t u s asks (bare L c) else none)
+    rows_use : (b : Bool) (s : L.Statement) (asks : List (Ask L)) (none : Transition L) → Uses t u c (if b then works t u s asks c else none) (if b then works t u s asks (bare L c) else none)
     rows_use true s asks none = works_use t u s asks c _
     rows_use false s asks none = uses_none refl
 
@@ -83,7 +83,7 @@ module _ {L : Lang} where
     reads_use a n rows (Writing answer ws) = uses_none refl
     reads_use a n rows (Voting votes) = uses_none refl
 
-    named_use : (b : Bool) (turn other none : Turn L) → Uses t u c turn other → Uses t u c (if b then turn else none) (if b then other else none)
+    named_use : (b : Bool) (turn other none : Transition L) → Uses t u c turn other → Uses t u c (if b then turn else none) (if b then other else none)
     named_use true turn other none uses = uses
     named_use false turn other none uses = uses_none refl
 
@@ -112,11 +112,11 @@ module _ {L : Lang} where
       in_right x (work_in t d) (deeds.works past t) (in_works t s asks c past below)
 
   -- behind a ticket of a transaction that works stands its visit
-  spot_alive : (f : Name → Status L) (b : Bool) (tk : Option Name) (n : ℕ) (bs : List (Body L)) (k : Name) → Spot f b tk n bs → tk ≡ Some k → (v : Visit L) × (f k ≡ Alive v)
+  spot_alive : (f : Name → Status L) (b : Bool) (tk : Option Name) (n : ℕ) (bs : List (Body L)) (k : Name) → VisitPlace f b tk n bs → tk ≡ Some k → (v : Visit L) × (f k ≡ Active v)
   spot_alive f b tk n bs k (away x) is = let none = sym x.no_ticket ∙ is in cc
   spot_alive f b tk n bs k (asked x) is = let none = sym x.no_ticket ∙ is in cc
   spot_alive f b tk n bs k (offered j x) is = let none = sym x.no_ticket ∙ is in cc
-  spot_alive f b tk n bs k (is_working j x) is = (x.visit, ap f (some_is (sym is ∙ x.ticket)) ∙ x.alive)
+  spot_alive f b tk n bs k (is_working j x) is = (x.visit, ap f (some_is (sym is ∙ x.ticket)) ∙ x.active)
 
   room_or : (s : SiteState L) (body : Body L) → Room s body → RoomOr ⊥ s body
   room_or s (Write k op g x) room = λ v is. inl (room v is)
@@ -148,16 +148,16 @@ module _ {L : Lang} (law : IsLawful L) (once : Once L.sites) (fits : L.Leaf → 
 
   module _ (whole : L.Whole) where
     -- a turn is that without writes, or its choice is housed
-    turn_housed : (w : World L) (t : Name) (u : Undecided L) (c : Choice L) (turn other : Turn L) → ((a : L.Site) (k : Name) → u.ticket a ≡ Some k → (v : Visit L) × ((w.sites a).status k ≡ Alive v)) →
+    turn_housed : (w : World L) (t : Name) (u : Undecided L) (c : Choice L) (turn other : Transition L) → ((a : L.Site) (k : Name) → u.ticket a ≡ Some k → (v : Visit L) × ((w.sites a).status k ≡ Active v)) →
         is_desk_within (desk_after w.desk t turn.txn) ≡ true → Uses t u c turn other → IsReached whole (turns w t turn) → (turn ≡ other) ⊎ AreHoused c
-    turn_housed w t u c turn other alive within (uses_none is) reached = inl is
-    turn_housed w t u c turn other alive within (uses_it s asks v known ticket here) reached =
+    turn_housed w t u c turn other active within (uses_none is) reached = inl is
+    turn_housed w t u c turn other active within (uses_it s asks v known ticket here) reached =
         let there : IsReached whole (turned w t turn) = subst (IsReached whole) (if_true (is_desk_within (desk_after w.desk t turn.txn)) (turned w t turn) w within) reached in
         let x : Work L = record { statement = s; asks = asks; choice = c } in
-        let meant = works_meant law whole (turned w t turn) there t v (put_here same same_law t turn.txn w.desk.txn ∙ known) (λ a k own. alive a k (ap (λ (f : L.Site → Option Name). f a) (sym ticket) ∙ own)) in
+        let meant = works_meant law whole (turned w t turn) there t v (put_here same same_law t turn.txn w.desk.txn ∙ known) (λ a k own. active a k (ap (λ (f : L.Site → Option Name). f a) (sym ticket) ∙ own)) in
         inr (meant_housed x (every_in (IsMeant law) (deeds.works (turned w t turn).past t) x meant (in_works t s asks c (turned w t turn).past (in_right (Worked t s asks c) w.past turn.deeds here))))
 
-    stands_alive : (t : Name) (u : Undecided L) (w : World L) → Stands t u w → (a : L.Site) (k : Name) → u.ticket a ≡ Some k → (v : Visit L) × ((w.sites a).status k ≡ Alive v)
+    stands_alive : (t : Name) (u : Undecided L) (w : World L) → Stands t u w → (a : L.Site) (k : Name) → u.ticket a ≡ Some k → (v : Visit L) × ((w.sites a).status k ≡ Active v)
     stands_alive t u w stands a k own = spot_alive (w.sites a).status (u.visited a) (u.ticket a) (u.sent a) (at a w.letters) k (stands.spots a) own
 
     -- a statement is accepted
@@ -170,7 +170,7 @@ module _ {L : Lang} (law : IsLawful L) (once : Once L.sites) (fits : L.Leaf → 
 
       stated : (c : Choice L) → is_desk_within (desk_after w.desk t (on_request t c (State s) (w.desk.txn t)).txn) ≡ true → IsReached whole (called w t c (State s)) → InCourse L fits t s w.past (called w t c (State s))
       stated c within reached = ⊎_elim
-          (λ same_. subst (λ (turn : Turn L). InCourse L fits t s w.past (turns w t turn)) (sym same_) (with_choice (bare L c) (none_housed c) (subst (λ (turn : Turn L). is_desk_within (desk_after w.desk t turn.txn) ≡ true) same_ within)))
+          (λ same_. subst (λ (turn : Transition L). InCourse L fits t s w.past (turns w t turn)) (sym same_) (with_choice (bare L c) (none_housed c) (subst (λ (turn : Transition L). is_desk_within (desk_after w.desk t turn.txn) ≡ true) same_ within)))
           (λ good. with_choice c good within)
           (turn_housed w t ready.steady.u c (on_request t c (State s) (w.desk.txn t)) (on_request t (bare L c) (State s) (w.desk.txn t)) (stands_alive t ready.steady.u w ready.steady.stands) within
           (subst (λ (x : Txn L). Uses t ready.steady.u c (on_request t c (State s) x) (on_request t (bare L c) (State s) x)) (sym ready.steady.known) (state_uses t ready.steady.u c s ready.steady.u.stage)) reached)
@@ -205,7 +205,7 @@ module _ {L : Lang} (law : IsLawful L) (once : Once L.sites) (fits : L.Leaf → 
           own : l.txn ≡ t
           own = (subst (Every (λ (x : Letter L). x.txn ≡ t)) e here.course.stands.alone).0
 
-          turn_of : Choice L → Turn L
+          turn_of : Choice L → Transition L
           turn_of d = on_desk_letter l.txn l.site kept d l.body (w.desk.txn l.txn)
 
           uses : Uses l.txn here.course.u c (turn_of c) (turn_of (bare L c))
@@ -218,7 +218,7 @@ module _ {L : Lang} (law : IsLawful L) (once : Once L.sites) (fits : L.Leaf → 
               let fits_in : is_desk_within (desk_after w.desk l.txn (turn_of c).txn) ≡ true = sym (ap (λ b. passes_to b w kept c l) to_desk) ∙ smooth.within in
               ⊎_elim
               (λ (same_ : turn_of c ≡ turn_of (bare L c)). comes_bare c (ap (λ b. comes_to b behind_it kept c l) to_desk ∙ ap (turns behind_it l.txn) same_ ∙ sym (ap (λ b. comes_to b behind_it kept (bare L c) l) to_desk))
-              (ap (λ b. passes_to b w kept (bare L c) l) to_desk ∙ ap (λ (x : Turn L). is_desk_within (desk_after w.desk l.txn x.txn)) (sym same_) ∙ fits_in) smooth)
+              (ap (λ b. passes_to b w kept (bare L c) l) to_desk ∙ ap (λ (x : Transition L). is_desk_within (desk_after w.desk l.txn x.txn)) (sym same_) ∙ fits_in) smooth)
               (λ good. comes_with c good smooth)
               (turn_housed behind_it l.txn here.course.u c (turn_of c) (turn_of (bare L c)) (stands_alive t here.course.u w here.course.stands) fits_in uses
               (subst (λ b. IsReached whole (comes_to b behind_it kept c l)) to_desk there))
@@ -237,7 +237,7 @@ module _ {L : Lang} (law : IsLawful L) (once : Once L.sites) (fits : L.Leaf → 
         unlocked_fits : (a : L.Site) (k : Name) (st : Status L) → (w.sites a).status k ≡ st → Unlocked st → StatusFits L fits st
         unlocked_fits a k Dead is free = tt
         unlocked_fits a k (Prepared t i) is free = absurd free
-        unlocked_fits a k (Alive v) is free = λ g c fit.
+        unlocked_fits a k (Active v) is free = λ g c fit.
             let deep = reached_deep law whole w reached in
             let visit = (deep.2.base.data_at a).visits k v is in
             ap (fits g) (untouched law visit.past v.changes g c visit.changes (none_touched (v.shared g) (L.touches g v.changes) (free g))) ∙ fit

@@ -3,8 +3,8 @@ use Rattle.std.proofs.Common.{◌≡◌, refl, sym, ap, ◌∙◌, subst, Bool, 
 use Rattle.std.proofs.lemmas.List.Folds.{list_any-append}
 use Rattle.protocol.specs.Language.{Lang, IsLawful, Name, same, written}
 use Rattle.protocol.specs.Letter.{Read, Voted}
-use Rattle.protocol.specs.Site.{Visit, Status, Dead, Alive, Prepared, is_dead, is_alive}
-use Rattle.protocol.specs.Desk.{Idle, Reading, Writing, Voting, Stage, Undecided, Known, Deed, Turn}
+use Rattle.protocol.specs.Site.{Visit, Status, Dead, Active, Prepared, is_dead, is_active}
+use Rattle.protocol.specs.Desk.{Idle, Reading, Writing, Voting, Stage, Undecided, Known, Deed, Transition}
 use Rattle.protocol.specs.World.{World, turned}
 use Rattle.protocol.specs.Serial.{is_committed, commits_it, phases_of, settled}
 use Rattle.protocol.proofs.Basics.{every_in, In, in_append, put_here, put_there, clash, same_law, by_test, left_true, right_true, both_true, if_true, if_false}
@@ -21,9 +21,9 @@ use Rattle.protocol.proofs.Line.{Line, Two, Apart, RightFrom, right_same, reads_
 use Rattle.protocol.proofs.Viable.{ViableNow, is_row, may_go_on, Viable, alone_at}
 use Rattle.protocol.proofs.Settled.{changes_it, changes_same, settled_same}
 use Rattle.protocol.proofs.OwnReads.{writes_at, apart_tickets, right_now, read_lock}
-use Rattle.protocol.proofs.Deep.{Counts, Deep, deep_moves, line_works, two_works}
+use Rattle.protocol.proofs.Invariant.{Counts, Deep, deep_moves, line_works, two_works}
 
-module _ {L : Lang} (law : IsLawful L) (o : L.Site → Name → Name) (ops : L.Site → Name → List (Op L)) (whole : L.Whole) (w : World L) (t : Name) (turn : Turn L) (deep : Deep o ops whole w) (good : Good o w t turn) (booked : Booked o ops w t turn) where
+module _ {L : Lang} (law : IsLawful L) (o : L.Site → Name → Name) (ops : L.Site → Name → List (Op L)) (whole : L.Whole) (w : World L) (t : Name) (turn : Transition L) (deep : Deep o ops whole w) (good : Good o w t turn) (booked : Booked o ops w t turn) where
   abbrev base : Base o ops w
   base = deep.base
 
@@ -146,13 +146,13 @@ module _ {L : Lang} (law : IsLawful L) (o : L.Site → Name → Name) (ops : L.S
     works_all : (j : Name) → In j (phases_of w.past ++ t ∷ []) → works later j ≡ works w.past j
     works_all j here = ⊎_elim (works_stay j) (λ last. ⊎_elim (λ is. subst (λ n. works later n ≡ works w.past n) (sym is) works_own) (λ none. absurd none) last) (in_append j (phases_of w.past) (t ∷ []) here)
 
-    -- its tickets while it is viable: all alive
-    alive_now : Viable booked.new next t → (a : L.Site) (k : Name) → Own a k u → (v : Visit L) × ((w.sites a).status k ≡ Alive v)
+    -- its tickets while it is viable: all active
+    alive_now : Viable booked.new next t → (a : L.Site) (k : Name) → Own a k u → (v : Visit L) × ((w.sites a).status k ≡ Active v)
     alive_now viable a k own =
         let same_ticket = (votes viable.u (sym (put_here same same_law t turn.txn w.desk.txn) ∙ viable.known)).0 in
         ⊎_elim (λ now. go now) (λ letter. absurd (no_read_yet a k (old_letter a k t letter))) (viable.each a k (ap (λ f. f a) same_ticket ∙ own))
       where
-        go : ViableNow (booked.new a k) ((w.sites a).status k) → (v : Visit L) × ((w.sites a).status k ≡ Alive v)
+        go : ViableNow (booked.new a k) ((w.sites a).status k) → (v : Visit L) × ((w.sites a).status k ≡ Active v)
         go (is_row n i f) = absurd (no_row_yet a k n i own f)
         go (may_go_on v f free) = (v, f)
 
@@ -163,12 +163,12 @@ module _ {L : Lang} (law : IsLawful L) (o : L.Site → Name → Name) (ops : L.S
         let own_ = subst (Own a k) (known_is u c.0 (sym e ∙ c.1)) own in
         ⊎_elim (λ lives. go ((w.sites a).status k) refl lives (c.3 a k own_)) (λ letter. no_read_yet a k letter) (c.4 a k own_)
       where
-        go : (st : Status L) → (w.sites a).status k ≡ st → is_dead ((w.sites a).status k) ≡ false → is_alive ((w.sites a).status k) ≡ false → ⊥
+        go : (st : Status L) → (w.sites a).status k ≡ st → is_dead ((w.sites a).status k) ≡ false → is_active ((w.sites a).status k) ≡ false → ⊥
         go Dead f lives quiet = clash (ap is_dead f) lives
-        go (Alive v) f lives quiet = clash (ap is_alive f) quiet
+        go (Active v) f lives quiet = clash (ap is_active f) quiet
         go (Prepared n i) f lives quiet = no_row_yet a k n i own f
 
-    alive_counts : Counts booked.new next t → (a : L.Site) (k : Name) → Own a k u → (v : Visit L) × ((w.sites a).status k ≡ Alive v)
+    alive_counts : Counts booked.new next t → (a : L.Site) (k : Name) → Own a k u → (v : Visit L) × ((w.sites a).status k ≡ Active v)
     alive_counts counts a k own = ⊎_elim
         (λ done. ⊎_elim (λ was. absurd (not_before was)) (λ now. absurd (no_ticket now.1 a k own)) (split o w t turn base.fit good.fine t done))
         (λ viable. alive_now viable a k own) counts
@@ -180,12 +180,12 @@ module _ {L : Lang} (law : IsLawful L) (o : L.Site → Name → Name) (ops : L.S
       where
         stays : (st : Status L) → changes_it w.past g st ≡ true → changes_it later g st ≡ true
         stays Dead is = cc
-        stays (Alive v) is = cc
+        stays (Active v) is = cc
         stays (Prepared n i) is = both_true (is_committed later n) (L.touches g i) (was_committed o w t turn base.fit good.fine n (left_true (is_committed w.past n) (L.touches g i) is)) (right_true (is_committed w.past n) (L.touches g i) is)
 
         was : (k : Name) (st : Status L) → (w.sites (L.home g)).status k ≡ st → changes_it later g st ≡ true → changes_it w.past g st ≡ true
         was k Dead f is = cc
-        was k (Alive v) f is = cc
+        was k (Active v) f is = cc
         was k (Prepared n i) f is = both_true (is_committed w.past n) (L.touches g i)
             (⊎_elim (λ old. old) (λ now. absurd (clash ((base.fit.prepared (L.home g) k n i f).own u (subst (λ m. w.desk.txn m ≡ Known u) (sym now.0) e)).1 (ap is_voting idle))) (split o w t turn base.fit good.fine n (left_true (is_committed later n) (L.touches g i) is)))
             (right_true (is_committed later n) (L.touches g i) is)

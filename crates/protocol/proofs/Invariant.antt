@@ -3,7 +3,7 @@ use Rattle.std.proofs.Common.{◌≡◌, refl, sym, ap, ◌∙◌, subst, Bool, 
 pub use Rattle.protocol.specs.Parts.{Counts}
 use Rattle.protocol.specs.Language.{Lang, IsLawful, Name, put}
 use Rattle.protocol.specs.Letter.{Read, Voted, Letter}
-use Rattle.protocol.specs.Site.{Status, Dead, Alive, Prepared, SiteState}
+use Rattle.protocol.specs.Site.{Status, Dead, Active, Prepared, SiteState}
 use Rattle.protocol.specs.World.{World, with_site}
 use Rattle.protocol.specs.Serial.{is_committed, phases_of, settled}
 use Rattle.protocol.proofs.Basics.{In, in_append, put_all, left_true}
@@ -85,10 +85,10 @@ module _ {L : Lang} where
       where
         there : (g : L.Leaf) (k : Name) (st : Status L) → (w.sites a).status k ≡ st → changes_it w.past g st ≡ true → (new.status k ≡ st) × (changes_it w.past g (new.status k) ≡ true)
         there g k Dead e is = cc
-        there g k (Alive v) e is = cc
+        there g k (Active v) e is = cc
         there g k (Prepared t i) e is = let now = stays k t i (left_true (is_committed w.past t) (L.touches g i) is) e in (now, ap (changes_it w.past g) now ∙ is)
 
         back : (g : L.Leaf) (k : Name) (st : Status L) → new.status k ≡ st → changes_it w.past g st ≡ true → changes_it w.past g ((w.sites a).status k) ≡ true
         back g k Dead e is = cc
-        back g k (Alive v) e is = cc
+        back g k (Active v) e is = cc
         back g k (Prepared t i) e is = ap (changes_it w.past g) (was k t i (left_true (is_committed w.past t) (L.touches g i) is) e) ∙ is

@@ -2,11 +2,11 @@
 use Rattle.std.proofs.Common.{◌≡◌, refl, sym, ap, ◌∙◌, subst, ℕ, Bool, true, false, List, [], ◌∷◌, Some, None, append-nil}
 use Rattle.protocol.specs.Language.{Lang, IsLawful, Name, same, put}
 use Rattle.protocol.specs.Letter.{Ticket, Rows, Letter}
-use Rattle.protocol.specs.Desk.{Stage, Undecided, Known, Turn, fresh, next_txn, is_undecided, stays}
+use Rattle.protocol.specs.Desk.{Stage, Undecided, Known, Transition, fresh, next_txn, is_undecided, stays}
 use Rattle.protocol.specs.World.{World, begun, turned}
 pub use Rattle.protocol.specs.Client.{IsQuiet}
 use Rattle.protocol.proofs.Basics.{Every, put_all, same_law, if_true, if_false, clash}
-use Rattle.protocol.proofs.Queue.{at, Spot, away, spot_ticket, spot_rows}
+use Rattle.protocol.proofs.Queue.{at, VisitPlace, away, spot_ticket, spot_rows}
 use Rattle.protocol.proofs.AtDesk.{Stands, Goes, turn_stands}
 
 module _ {L : Lang} where
@@ -20,17 +20,17 @@ module _ {L : Lang} where
   }
 
   -- a turn after which the statement goes on
-  pub record GoesTo (t : Name) (u : Undecided L) (turn : Turn L) : Type 0 where
+  pub record GoesTo (t : Name) (u : Undecided L) (turn : Transition L) : Type 0 where
     pub new : Undecided L
     pub is : turn.txn ≡ Known new
     pub goes : Goes t u new turn.letters
 
-  pub turned_stands : (t : Name) (u : Undecided L) (w : World L) (turn : Turn L) → Stands t u w → (to : GoesTo t u turn) → Stands t to.new (turned w t turn)
+  pub turned_stands : (t : Name) (u : Undecided L) (w : World L) (turn : Transition L) → Stands t u w → (to : GoesTo t u turn) → Stands t to.new (turned w t turn)
   turned_stands t u w turn stands to = subst (λ x. Stands t to.new (turned w t (record { txn = x; letters = turn.letters; deeds = turn.deeds }))) (sym to.is) (turn_stands t u to.new w turn.letters turn.deeds stands to.goes)
 
   -- nothing goes out
   pub stage_goes : (t : Name) (u : Undecided L) (stage : Stage L) → Goes t u (record u { stage = stage }) []
-  stage_goes t u stage = record { own = tt; among = λ old. old; spots = λ a f bs spot. subst (Spot f (u.visited a) (u.ticket a) (u.sent a)) (sym (append-nil bs)) spot }
+  stage_goes t u stage = record { own = tt; among = λ old. old; spots = λ a f bs spot. subst (VisitPlace f (u.visited a) (u.ticket a) (u.sent a)) (sym (append-nil bs)) spot }
 
   abbrev pub stays_goes : (t : Name) (u : Undecided L) → GoesTo t u (stays (Known u))
   stays_goes t u = record { new = u; is = refl; goes = stage_goes t u u.stage }
@@ -46,19 +46,19 @@ module _ {L : Lang} where
         alone = (subst (Every (λ l. l.txn ≡ t)) e stands.alone).1;
         others = stands.others;
         among = stands.among;
-        spots = put_all L.same_site law.sites a (Some k) u.ticket (λ b tk. Spot (w.sites b).status (u.visited b) tk (u.sent b) (at b q))
-            (spot_ticket (w.sites a).status (u.visited a) (u.sent a) k (at a q) (u.ticket a) (subst (Spot (w.sites a).status (u.visited a) (u.ticket a) (u.sent a)) (ap (at a) e ∙ if_true (L.same_site a a) (Ticket k ∷ at a q) (at a q) ((law.sites a a).1 refl)) (stands.spots a))).0
-            (λ b other. subst (Spot (w.sites b).status (u.visited b) (u.ticket b) (u.sent b)) (ap (at b) e ∙ if_false (L.same_site b a) (Ticket k ∷ at b q) (at b q) other) (stands.spots b));
+        spots = put_all L.same_site law.sites a (Some k) u.ticket (λ b tk. VisitPlace (w.sites b).status (u.visited b) tk (u.sent b) (at b q))
+            (spot_ticket (w.sites a).status (u.visited a) (u.sent a) k (at a q) (u.ticket a) (subst (VisitPlace (w.sites a).status (u.visited a) (u.ticket a) (u.sent a)) (ap (at a) e ∙ if_true (L.same_site a a) (Ticket k ∷ at a q) (at a q) ((law.sites a a).1 refl)) (stands.spots a))).0
+            (λ b other. subst (VisitPlace (w.sites b).status (u.visited b) (u.ticket b) (u.sent b)) (ap (at b) e ∙ if_false (L.same_site b a) (Ticket k ∷ at b q) (at b q) other) (stands.spots b));
       }
 
       -- the site had given none before
       pub first_ticket : (k : Name) → w.letters ≡ record { site = a; txn = t; body = Ticket k } ∷ q → u.ticket a ≡ None
-      first_ticket k e = (spot_ticket (w.sites a).status (u.visited a) (u.sent a) k (at a q) (u.ticket a) (subst (Spot (w.sites a).status (u.visited a) (u.ticket a) (u.sent a)) (ap (at a) e ∙ if_true (L.same_site a a) (Ticket k ∷ at a q) (at a q) ((law.sites a a).1 refl)) (stands.spots a))).1
+      first_ticket k e = (spot_ticket (w.sites a).status (u.visited a) (u.sent a) k (at a q) (u.ticket a) (subst (VisitPlace (w.sites a).status (u.visited a) (u.ticket a) (u.sent a)) (ap (at a) e ∙ if_true (L.same_site a a) (Ticket k ∷ at a q) (at a q) ((law.sites a a).1 refl)) (stands.spots a))).1
 
       -- rows come, and are those of the site's ticket
       pub rows_came : (k : Name) (m : ℕ) (rows : L.Rows) → w.letters ≡ record { site = a; txn = t; body = Rows k m rows } ∷ q → Stands t u (record w { letters = q }) × (u.ticket a ≡ Some k)
       rows_came k m rows e =
-          let here = spot_rows (w.sites a).status (u.visited a) (u.ticket a) (u.sent a) k m rows (at a q) (subst (Spot (w.sites a).status (u.visited a) (u.ticket a) (u.sent a)) (ap (at a) e ∙ if_true (L.same_site a a) (Rows k m rows ∷ at a q) (at a q) ((law.sites a a).1 refl)) (stands.spots a)) in (
+          let here = spot_rows (w.sites a).status (u.visited a) (u.ticket a) (u.sent a) k m rows (at a q) (subst (VisitPlace (w.sites a).status (u.visited a) (u.ticket a) (u.sent a)) (ap (at a) e ∙ if_true (L.same_site a a) (Rows k m rows ∷ at a q) (at a q) ((law.sites a a).1 refl)) (stands.spots a)) in (
             record {
               alone = (subst (Every (λ l. l.txn ≡ t)) e stands.alone).1;
               others = stands.others;
@@ -68,6 +68,6 @@ module _ {L : Lang} where
             here.1,
           )
         where
-          by_site : (b : L.Site) → Spot (w.sites a).status (u.visited a) (u.ticket a) (u.sent a) (at a q) → (x : Bool) → L.same_site b a ≡ x → Spot (w.sites b).status (u.visited b) (u.ticket b) (u.sent b) (at b q)
-          by_site b here true is = subst (λ c. Spot (w.sites c).status (u.visited c) (u.ticket c) (u.sent c) (at c q)) (sym ((law.sites b a).0 is)) here
-          by_site b here false other = subst (Spot (w.sites b).status (u.visited b) (u.ticket b) (u.sent b)) (ap (at b) e ∙ if_false (L.same_site b a) (Rows k m rows ∷ at b q) (at b q) other) (stands.spots b)
+          by_site : (b : L.Site) → VisitPlace (w.sites a).status (u.visited a) (u.ticket a) (u.sent a) (at a q) → (x : Bool) → L.same_site b a ≡ x → VisitPlace (w.sites b).status (u.visited b) (u.ticket b) (u.sent b) (at b q)
+          by_site b here true is = subst (λ c. VisitPlace (w.sites c).status (u.visited c) (u.ticket c) (u.sent c) (at c q)) (sym ((law.sites b a).0 is)) here
+          by_site b here false other = subst (VisitPlace (w.sites b).status (u.visited b) (u.ticket b) (u.sent b)) (ap (at b) e ∙ if_false (L.same_site b a) (Rows k m rows ∷ at b q) (at b q) other) (stands.spots b)

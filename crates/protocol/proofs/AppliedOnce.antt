@@ -4,8 +4,8 @@ use Rattle.std.proofs.lemmas.List.Folds.{list_any-append}
 use Rattle.std.specs.List.{flat_map, list_any}
 use Rattle.protocol.specs.Language.{Lang, IsLawful, Name, same}
 use Rattle.protocol.specs.Letter.{Body, Abort, Ack, Letter, is_for_desk}
-use Rattle.protocol.specs.Site.{Status, Dead, Prepared, SiteState, is_dead, is_prepared, Alive}
-use Rattle.protocol.specs.Desk.{Undecided, fresh, is_pair, Txn, Unknown, Known, Row, Choice, Began, Desk, Turn, on_request, on_desk_letter, desk_after, next_txn, desk_began, commits, txn_restarted, desk_restarted, is_desk_within}
+use Rattle.protocol.specs.Site.{Status, Dead, Prepared, SiteState, is_dead, is_prepared, Active}
+use Rattle.protocol.specs.Desk.{Undecided, fresh, is_pair, Txn, Unknown, Known, Row, Choice, Began, Desk, Transition, on_request, on_desk_letter, desk_after, next_txn, desk_began, commits, txn_restarted, desk_restarted, is_desk_within}
 use Rattle.protocol.specs.World.{World, is_site, Event, Begin, Call, Deliver, Site_gives_up, Site_inquires, Site_restarts, Desk_restarts, turned, turns, begun, comes_to, delivered, desk_lives, happens, run}
 use Rattle.protocol.specs.Serial.{is_committed, commits_it, IsOpening}
 use Rattle.protocol.specs.Applied.{AckedOnce, AbortsNone, AppliesOnce, AppliedWholeAndOnce}
@@ -128,7 +128,7 @@ module _ {L : Lang} where
     }
 
   module _ (law : IsLawful L) where
-    pub turns_fit : (o : L.Site → Name → Name) (w : World L) (t : Name) (turn : Turn L) → Fit o w → Good o w t turn → Fit o (turns w t turn)
+    pub turns_fit : (o : L.Site → Name → Name) (w : World L) (t : Name) (turn : Transition L) → Fit o w → Good o w t turn → Fit o (turns w t turn)
     turns_fit o w t turn fit good = either (Fit o) (is_desk_within (desk_after w.desk t turn.txn)) (turned w t turn) w (good_moves o w t turn fit good) fit
 
     comes_fit : (o : L.Site → Name → Name) (w : World L) (kept : Bool) (choice : Choice L) (l : Letter L) → Fit o w → Fits o w.desk w.past w.sites l → In l w.letters → (desk : Bool) → (p : L.Site → Name → Name) × Fit p (comes_to desk w kept choice l)
@@ -167,7 +167,7 @@ module _ {L : Lang} where
 
     dead_is : (st : Status L) → is_dead st ≡ true → st ≡ Dead
     dead_is Dead e = refl
-    dead_is (Alive v) e = cc
+    dead_is (Active v) e = cc
     dead_is (Prepared t i) e = cc
 
     pub applies_of : (o : L.Site → Name → Name) (w : World L) → Fit o w → AppliesOnce w

@@ -2,7 +2,7 @@
 use Rattle.std.specs.Prelude.{◌≡◌, ⊤, ℕ, suc, ◌||◌, Bool, true, false, List, [], ◌∷◌, if◌then◌else◌, Option, Some, None}
 use Rattle.protocol.specs.Language.{Lang, Name, same}
 use Rattle.protocol.specs.Letter.{Body, Open, Fetch, Write, Ticket, Rows, Letter}
-use Rattle.protocol.specs.Site.{Visit, Status, Dead, Alive, Prepared}
+use Rattle.protocol.specs.Site.{Visit, Status, Dead, Active, Prepared}
 
 module _ {L : Lang} where
   -- the bodies of the letters to and from a site, in their order
@@ -13,7 +13,7 @@ module _ {L : Lang} where
   -- nobody has a lock by this status, and it isn't prepared
   abbrev pub Unlocked : Status L → Type 0
   Unlocked Dead = ⊤
-  Unlocked (Alive v) = (g : L.Leaf) → (v.shared g || L.touches g v.changes) ≡ false
+  Unlocked (Active v) = (g : L.Leaf) → (v.shared g || L.touches g v.changes) ≡ false
   Unlocked (Prepared t i) = ⊥
 
   -- operations of ticket k with the numbers after d, up to n, in order; rows of it anywhere
@@ -47,7 +47,7 @@ module _ {L : Lang} where
     pub nothing_sent : n ≡ 0
     pub waits : bs ≡ Ticket k ∷ []
     pub visit : Visit L
-    pub alive : f k ≡ Alive visit
+    pub active : f k ≡ Active visit
     pub nothing_done : visit.done ≡ 0
     pub own : (g : L.Leaf) → visit.foreign g ≡ false
     pub free : (j : Name) → Unlocked (f j)
@@ -57,14 +57,14 @@ module _ {L : Lang} where
     pub visited : b ≡ true
     pub ticket : tk ≡ Some k
     pub visit : Visit L
-    pub alive : f k ≡ Alive visit
+    pub active : f k ≡ Active visit
     pub own : (g : L.Leaf) → visit.foreign g ≡ false
     pub free : (j : Name) → same j k ≡ false → Unlocked (f j)
     pub flow : Flow k visit.done n bs
 
   -- where a site stands while a statement works
-  pub data Spot (f : Name → Status L) (b : Bool) (tk : Option Name) (n : ℕ) (bs : List (Body L)) : Type 0 where
-    away : Away f b tk n bs → Spot f b tk n bs
-    asked : Asked f b tk n bs → Spot f b tk n bs
-    offered : (k : Name) → Offered k f b tk n bs → Spot f b tk n bs
-    works : (k : Name) → Works k f b tk n bs → Spot f b tk n bs
+  pub data VisitPlace (f : Name → Status L) (b : Bool) (tk : Option Name) (n : ℕ) (bs : List (Body L)) : Type 0 where
+    away : Away f b tk n bs → VisitPlace f b tk n bs
+    asked : Asked f b tk n bs → VisitPlace f b tk n bs
+    offered : (k : Name) → Offered k f b tk n bs → VisitPlace f b tk n bs
+    works : (k : Name) → Works k f b tk n bs → VisitPlace f b tk n bs

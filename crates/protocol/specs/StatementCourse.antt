@@ -3,11 +3,11 @@ use Rattle.std.specs.Prelude.{◌≡◌, ◌⊎◌, ⊤, ℕ, map, Bool, true, f
 use Rattle.std.specs.List.{list_all, AllByRecursion}
 use Rattle.protocol.specs.Language.{Lang, Name, same}
 use Rattle.protocol.specs.Letter.{Body, Fetch, Write, Rows, Letter, is_for_desk}
-use Rattle.protocol.specs.Site.{Visit, Alive, SiteState, on_letter, site_after, is_within}
+use Rattle.protocol.specs.Site.{Visit, Active, SiteState, on_letter, site_after, is_within}
 use Rattle.protocol.specs.Desk.{Ask, Choice, Idle, Reading, Writing, Undecided, Known, Deed, Stated, Worked, Answered, is_undecided, on_desk_letter, desk_after, is_desk_within}
 use Rattle.protocol.specs.World.{World}
 use Rattle.protocol.specs.Parts.{In}
-use Rattle.protocol.specs.Spots.{at, Spot}
+use Rattle.protocol.specs.VisitPlaces.{at, VisitPlace}
 
 -- each of these leaves is at one of the sites
 abbrev pub AtSites : (L : Lang) → List L.Leaf → Type 0
@@ -19,7 +19,7 @@ module _ {L : Lang} where
     pub alone : AllByRecursion (λ l. l.txn ≡ t) w.letters
     pub others : (j : Name) → same j t ≡ false → is_undecided (w.desk.txn j) ≡ false
     pub among : (a : L.Site) → u.visited a ≡ true → In a L.sites
-    pub spots : (a : L.Site) → Spot (w.sites a).status (u.visited a) (u.ticket a) (u.sent a) (at a w.letters)
+    pub spots : (a : L.Site) → VisitPlace (w.sites a).status (u.visited a) (u.ticket a) (u.sent a) (at a w.letters)
 
   -- a fetch has its rows, or waits for the ticket of a visited site, or is on its way, or its rows are
   pub data AskWaits (u : Undecided L) (letters : List (Letter L)) (q : Ask L) : Type 0 where
@@ -63,17 +63,17 @@ module _ {L : Lang} where
 
   -- the write that waits has room among the intentions of its visit
   abbrev pub Room : SiteState L → Body L → Type 0
-  Room s (Write k op g x) = (v : Visit L) → s.status k ≡ Alive v → L.is_full g x v.changes ≡ false
+  Room s (Write k op g x) = (v : Visit L) → s.status k ≡ Active v → L.is_full g x v.changes ≡ false
   Room s body = ⊤
 
   -- so, or there is an excuse
   abbrev pub RoomOr : (E : Type 0) → SiteState L → Body L → Type 0
-  RoomOr E s (Write k op g x) = (v : Visit L) → s.status k ≡ Alive v → (L.is_full g x v.changes ≡ false) ⊎ E
+  RoomOr E s (Write k op g x) = (v : Visit L) → s.status k ≡ Active v → (L.is_full g x v.changes ≡ false) ⊎ E
   RoomOr E s body = ⊤
 
   -- the rows that a fetch brings of a leaf of site a fit it
   abbrev pub RowsFit : L.Site → SiteState L → Body L → Type 0
-  RowsFit a s (Fetch k op g q) = L.home g ≡ a → (v : Visit L) → s.status k ≡ Alive v → L.well_formed g (L.parts q (L.changed g v.changes (s.kept g))) ≡ true
+  RowsFit a s (Fetch k op g q) = L.home g ≡ a → (v : Visit L) → s.status k ≡ Active v → L.well_formed g (L.parts q (L.changed g v.changes (s.kept g))) ≡ true
   RowsFit a s body = ⊤
 
   -- the step that a letter makes is within the limits

@@ -5,13 +5,13 @@ use Rattle.std.proofs.lemmas.List.Folds.{list_any-append}
 use Rattle.std.proofs.Common.{append-nil}
 use Rattle.protocol.specs.Language.{Lang, IsLawful, Name, same}
 use Rattle.protocol.specs.Letter.{Read, Voted, Letter, is_for_desk}
-use Rattle.protocol.specs.Site.{Status, Dead, Alive, Prepared, SiteState, inquiries, inquiry_of}
-use Rattle.protocol.specs.Desk.{fresh, Known, Choice, Began, Turn, on_request, on_desk_letter, desk_after, next_txn, desk_began, txn_restarted, desk_restarted, is_desk_within}
+use Rattle.protocol.specs.Site.{Status, Dead, Active, Prepared, SiteState, inquiries, inquiry_of}
+use Rattle.protocol.specs.Desk.{fresh, Known, Choice, Began, Transition, on_request, on_desk_letter, desk_after, next_txn, desk_began, txn_restarted, desk_restarted, is_desk_within}
 use Rattle.protocol.specs.World.{World, is_site, Event, Begin, Call, Deliver, Site_gives_up, Site_inquires, Site_restarts, Desk_restarts, turned, turns, begun, comes_to, delivered, inquires, desk_lives, happens, run}
 use Rattle.protocol.specs.Serial.{is_committed, commits_it, phases_of, phased_of, settled, IsOpening}
 use Rattle.protocol.proofs.Basics.{Every, every_at, every_in, every_flat, In, in_at, in_append, put_all, same_law, either, by_test}
 use Rattle.protocol.proofs.Fits.{Born, Fits}
-use Rattle.protocol.proofs.PartFour.{not_born, none_known, no_commits}
+use Rattle.protocol.proofs.AppliedOnce.{not_born, none_known, no_commits}
 use Rattle.protocol.proofs.Going.{Good}
 use Rattle.protocol.proofs.DeskSteps.{request_good, letter_good}
 use Rattle.protocol.proofs.Ops.{Op}
@@ -24,10 +24,10 @@ use Rattle.protocol.proofs.BaseEvents.{inquire_base, began_view, begun_base, liv
 use Rattle.protocol.proofs.Line.{Line, Two}
 use Rattle.protocol.proofs.Viable.{Viable}
 use Rattle.protocol.proofs.Settled.{changes_it, changes_same, settled_none, settled_same}
-use Rattle.protocol.proofs.Deep.{Counts, Deep, deep_moves}
-use Rattle.protocol.proofs.DeepSites.{IsDeep, Next, no_event, restart_viable, give_up_viable, comes_deep, restart_deep, give_up_deep}
-use Rattle.protocol.proofs.DeepTurns.{viable_was, quiet_deep, begun_deep}
-use Rattle.protocol.proofs.DeepCommits.{commits_deep}
+use Rattle.protocol.proofs.Invariant.{Counts, Deep, deep_moves}
+use Rattle.protocol.proofs.InvariantSites.{IsDeep, Next, no_event, restart_viable, give_up_viable, comes_deep, restart_deep, give_up_deep}
+use Rattle.protocol.proofs.InvariantTurns.{viable_was, quiet_deep, begun_deep}
+use Rattle.protocol.proofs.InvariantCommits.{commits_deep}
 
 or_false : (b : Bool) → (b || false) ≡ b
 or_false true = refl
@@ -90,14 +90,14 @@ module _ {L : Lang} (law : IsLawful L) (whole : L.Whole) where
 
         one : (j : Name) (st : Status L) → Every NoVote (inquiry_of a j st)
         one j Dead = tt
-        one j (Alive v) = tt
+        one j (Active v) = tt
         one j (Prepared n i) = ((λ k f. cc), tt)
 
     inquires_deep : (a : L.Site) → Deep o ops whole (inquires w a)
     inquires_deep a = deep_moves law o o ops ops whole w (inquires w a) deep (inquire_base o ops w deep.base law a) refl (λ t here. refl) (λ t. refl) (inquires_was a) (λ g. refl)
 
     -- a turn of the coordinator
-    turned_deep : (t : Name) (turn : Turn L) → Good o w t turn → Booked o ops w t turn → Next law whole ops w (turned w t turn)
+    turned_deep : (t : Name) (turn : Transition L) → Good o w t turn → Booked o ops w t turn → Next law whole ops w (turned w t turn)
     turned_deep t turn good booked = (o, booked.new, go booked.phase, viable_was law o ops whole w t turn deep good booked)
       where
         go : PhaseTurn w t turn → Deep o booked.new whole (turned w t turn)
@@ -107,7 +107,7 @@ module _ {L : Lang} (law : IsLawful L) (whole : L.Whole) where
             ⊎_elim (λ votes. commits_deep law o ops whole w t turn deep good booked none done c.0 c.1 votes) (λ first. absurd (let f : [] ≡ t ∷ [] = sym none ∙ first.0 in cc)) (booked.votes done c.0 c.1))
             (λ not_. quiet_deep law o ops whole w t turn deep good booked not_ none) (by_test (is_committed turn.deeds t))
 
-    turns_deep : (t : Name) (turn : Turn L) → Good o w t turn → Booked o ops w t turn → Next law whole ops w (turns w t turn)
+    turns_deep : (t : Name) (turn : Transition L) → Good o w t turn → Booked o ops w t turn → Next law whole ops w (turns w t turn)
     turns_deep t turn good booked = either (Next law whole ops w) (is_desk_within (desk_after w.desk t turn.txn)) (turned w t turn) w (turned_deep t turn good booked) (no_event law whole o ops w deep)
 
     letter_deep : (kept : Bool) (choice : Choice L) (l : Letter L) → Fits o w.desk w.past w.sites l → TellsBody (ops l.site) (w.sites l.site) l.body → In l w.letters → (desk : Bool) → Next law whole ops w (comes_to desk w kept choice l)

@@ -6,9 +6,9 @@ use Rattle.protocol.specs.World.{happens, World, run}
 use Rattle.protocol.specs.Serial.{is_committed, phases_of, settled}
 use Rattle.protocol.specs.Parts.{sets, works, writes_to, operations, Viable, Counts, Two, Line, AreApart, PartsOneAndTwo, PartThree}
 use Rattle.protocol.proofs.Viable.{alone_at}
-use Rattle.protocol.proofs.DeepSites.{IsDeep}
+use Rattle.protocol.proofs.InvariantSites.{IsDeep}
 use Rattle.protocol.proofs.MayCommit.{commits_before}
-use Rattle.protocol.proofs.DeepEvents.{happens_deep, run_deep, opening_deep}
+use Rattle.protocol.proofs.InvariantEvents.{happens_deep, run_deep, opening_deep}
 
 module _ {L : Lang} (law : IsLawful L) where
   -- the operations of the invariant are those of the letters

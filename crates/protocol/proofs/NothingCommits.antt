@@ -3,11 +3,11 @@ use Rattle.std.proofs.Common.{◌≡◌, refl, sym, ap, ◌∙◌, subst, ℕ, s
 use Rattle.std.specs.List.{list_all, list_any}
 use Rattle.protocol.specs.Language.{Lang, Name, same, put}
 use Rattle.protocol.specs.Letter.{Body, Open, Fetch, Write, Prepare, Commit, Abort, Ticket, Rows, Refused, Voted, Ack, Inquire, Letter, is_for_desk}
-use Rattle.protocol.specs.Site.{SiteState, Status, Dead, Alive, Prepared, Act, is_within, on_letter, on_fetch, on_write, on_commit, on_abort, others_exclusive, said, site_after}
-use Rattle.protocol.specs.Desk.{Ask, Choice, Stage, Idle, Reading, Writing, Voting, Undecided, Txn, Unknown, Known, Row, Deed, Began, Stated, Worked, Answered, Phased, Committed, Aborted, Rolled_back, By_refusal, Given_up, State, Rollback, Give_up, Turn, when, ends_by, stays, to_abort, may_hold, vote_at, ticket_goes, on_ticket, with_rows, on_rows, on_refused, on_known, on_unknown, is_pair, are_acked, on_row, on_desk_letter, on_request, on_rollback, on_state, is_named, desk_after, desk_began, is_desk_within, next_txn, asks_go, writing, writes_go, writes_out, works, states, opens, visits, is_new}
+use Rattle.protocol.specs.Site.{SiteState, Status, Dead, Active, Prepared, Act, is_within, on_letter, on_fetch, on_write, on_commit, on_abort, others_exclusive, said, site_after}
+use Rattle.protocol.specs.Desk.{Ask, Choice, Stage, Idle, Reading, Writing, Voting, Undecided, Txn, Unknown, Known, Row, Deed, Began, Stated, Worked, Answered, Phased, Committed, Aborted, Rolled_back, By_refusal, Given_up, State, Rollback, Give_up, Transition, when, ends_by, stays, to_abort, may_hold, vote_at, ticket_goes, on_ticket, with_rows, on_rows, on_refused, on_known, on_unknown, is_pair, are_acked, on_row, on_desk_letter, on_request, on_rollback, on_state, is_named, desk_after, desk_began, is_desk_within, next_txn, asks_go, writing, writes_go, writes_out, works, states, opens, visits, is_new}
 use Rattle.protocol.specs.World.{World, addressed, begins, begun, called, comes, comes_to, turned, turns}
 use Rattle.protocol.specs.Serial.{commits_it, committed, is_committed, phases_of}
-use Rattle.protocol.specs.Vain.{AreInVain, is_of_commit}
+use Rattle.protocol.specs.NothingCommits.{AreInVain, is_of_commit}
 use Rattle.protocol.proofs.Basics.{Every, every_append, either, some_is}
 use Rattle.protocol.proofs.Turns.{every_letter}
 use Rattle.protocol.proofs.Going.{asks_each, first_written, opening_is, writes_each}
@@ -63,21 +63,21 @@ module _ {L : Lang} where
     fetch_quiet : (k : Name) (op : ℕ) (g : L.Leaf) (q : L.Query) (st : Status L) → Quiet (on_fetch s kept k op g q st)
     fetch_quiet k op g q Dead = (refl, tt)
     fetch_quiet k op g q (Prepared u i) = tt
-    fetch_quiet k op g q (Alive v) = either Quiet (op == suc v.done) _ _ (either Quiet (others_exclusive s k g) _ _ (refl, tt) (either Quiet kept _ _ (refl, tt) tt)) tt
+    fetch_quiet k op g q (Active v) = either Quiet (op == suc v.done) _ _ (either Quiet (others_exclusive s k g) _ _ (refl, tt) (either Quiet kept _ _ (refl, tt) tt)) tt
 
     write_quiet : (k : Name) (op : ℕ) (g : L.Leaf) (x : L.Write) (st : Status L) → Quiet (on_write k op g x st)
     write_quiet k op g x Dead = tt
     write_quiet k op g x (Prepared u i) = tt
-    write_quiet k op g x (Alive v) = either Quiet (op == suc v.done) _ _ (either Quiet (v.foreign g) _ _ (refl, tt) (either Quiet (L.is_full g x v.changes) _ _ (refl, tt) tt)) tt
+    write_quiet k op g x (Active v) = either Quiet (op == suc v.done) _ _ (either Quiet (v.foreign g) _ _ (refl, tt) (either Quiet (L.is_full g x v.changes) _ _ (refl, tt) tt)) tt
 
     commit_quiet : (k : Name) (st : Status L) → Quiet (on_commit kept k st)
     commit_quiet k Dead = (refl, tt)
-    commit_quiet k (Alive v) = (refl, tt)
+    commit_quiet k (Active v) = (refl, tt)
     commit_quiet k (Prepared u i) = either Quiet kept _ _ (refl, tt) tt
 
     abort_quiet : (k : Name) (st : Status L) → Quiet (on_abort kept k st)
     abort_quiet k Dead = tt
-    abort_quiet k (Alive v) = tt
+    abort_quiet k (Active v) = tt
     abort_quiet k (Prepared u i) = either Quiet kept _ _ tt tt
 
     site_quiet : (b : Body L) → is_ballot b ≡ false → Quiet (on_letter s t kept b)
@@ -95,7 +95,7 @@ module _ {L : Lang} where
     site_quiet (Inquire k) none = tt
 
   -- ---- turns
-  record Mild (turn : Turn L) : Type 0 where
+  record Mild (turn : Transition L) : Type 0 where
     letters : AreCalm turn.letters
     deeds : AreInVain turn.deeds
 
@@ -261,7 +261,7 @@ module _ {L : Lang} where
     calm = two.calm;
   }
 
-  turns_vainly : (w : World L) (t : Name) (turn : Turn L) → AreCalm w.letters → Mild turn → Vainly w (turns w t turn)
+  turns_vainly : (w : World L) (t : Name) (turn : Transition L) → AreCalm w.letters → Mild turn → Vainly w (turns w t turn)
   turns_vainly w t turn calm mild = either (Vainly w) (is_desk_within (desk_after w.desk t turn.txn)) (turned w t turn) w
       (record { more = turn.deeds; vain = mild.deeds; is = refl; calm = every_append (λ l. is_ballot l.body ≡ false) w.letters turn.letters calm mild.letters }) (vainly_none w calm)
 

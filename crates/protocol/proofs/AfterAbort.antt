@@ -3,9 +3,9 @@ use Rattle.std.proofs.Common.{◌≡◌, refl, sym, ap, subst, ℕ, suc, ◌==�
 use Rattle.std.specs.Prelude.{⊤}
 use Rattle.protocol.specs.Language.{Lang, Name, same, put}
 use Rattle.protocol.specs.Letter.{Body, Open, Fetch, Write, Prepare, Commit, Abort, Ticket, Rows, Refused, Voted, Ack, Inquire, Lock, Full, Gone, Yes, No, Read}
-use Rattle.protocol.specs.Site.{Visit, Status, Dead, Alive, Prepared, SiteState, Act, Says, Opens, Locks, is_prepared, others_exclusive, next_ticket, new_visit, on_letter, on_fetch, on_write, on_prepare, on_commit, on_abort, sees, site_after, said}
-use Rattle.protocol.specs.Spots.{Unlocked}
-use Rattle.protocol.specs.Leaving.{Closed, Leaves, is_free, is_own, hears_abort, hears_commit, LeavingAt, EndKept}
+use Rattle.protocol.specs.Site.{Visit, Status, Dead, Active, Prepared, SiteState, Act, Says, Opens, Locks, is_prepared, others_exclusive, next_ticket, new_visit, on_letter, on_fetch, on_write, on_prepare, on_commit, on_abort, sees, site_after, said}
+use Rattle.protocol.specs.VisitPlaces.{Unlocked}
+use Rattle.protocol.specs.AfterAbort.{Closed, Leaves, is_free, is_own, hears_abort, hears_commit, LeavingAt, EndKept}
 use Rattle.protocol.proofs.Basics.{Every, In, in_left, either, put_all, same_law, by_test, clash}
 use Rattle.protocol.proofs.AtSite.{sees_unlocked}
 
@@ -83,7 +83,7 @@ module _ {L : Lang} where
     leaves_seen k g st bs (is_own own) = is_own own
     leaves_seen k g st bs (hears_abort here) = hears_abort here
     leaves_seen k g Dead bs (hears_commit row here) = hears_commit row here
-    leaves_seen k g (Alive v) bs (hears_commit row here) = let e : false ≡ true = row in cc
+    leaves_seen k g (Active v) bs (hears_commit row here) = let e : false ≡ true = row in cc
     leaves_seen k g (Prepared t i) bs (hears_commit row here) = hears_commit row here
 
     -- a letter that says nothing of an end is gone
@@ -150,27 +150,27 @@ module _ {L : Lang} where
 
         locks_left : (k : Name) (v : Visit L) (g : L.Leaf) (replies : List (Body L)) → Closed O replies → O k ⊎ In (Abort k) bs → After (Locks k v g replies)
         locks_left k v g replies none ends = record {
-          locks = put_all same same_law k (Alive v) (λ j. sees g (s.status j)) (λ j x. Leaves O j x (bs ++ replies)) (leaves_more k (Alive v) bs replies (by_abort k (Alive v) ends)) (λ j other. leaves_more j (sees g (s.status j)) bs replies (leaves_seen j g (s.status j) bs (rest j)));
+          locks = put_all same same_law k (Active v) (λ j. sees g (s.status j)) (λ j x. Leaves O j x (bs ++ replies)) (leaves_more k (Active v) bs replies (by_abort k (Active v) ends)) (λ j other. leaves_more j (sees g (s.status j)) bs replies (leaves_seen j g (s.status j) bs (rest j)));
           closed = closed_append bs replies closed none;
         }
 
         fetch_left : (kept : Bool) (k : Name) (op : ℕ) (g : L.Leaf) (q : L.Query) → O k ⊎ In (Abort k) bs → (st : Status L) → After (on_fetch s kept k op g q st)
         fetch_left kept k op g q ends Dead = says_left (Refused k Gone ∷ []) tt
         fetch_left kept k op g q ends (Prepared t i) = says_left [] tt
-        fetch_left kept k op g q ends (Alive v) = either After (op == suc v.done) _ _ (either After (others_exclusive s k g) _ _ (put_left k Dead (Refused k Lock ∷ []) tt (is_free tt)) (either After kept _ _ (locks_left k (record v { done = op; shared = put L.same_leaf g true v.shared }) g (Rows k op (L.parts q (L.changed g v.changes (s.kept g))) ∷ []) tt ends) (says_left [] tt))) (says_left [] tt)
+        fetch_left kept k op g q ends (Active v) = either After (op == suc v.done) _ _ (either After (others_exclusive s k g) _ _ (put_left k Dead (Refused k Lock ∷ []) tt (is_free tt)) (either After kept _ _ (locks_left k (record v { done = op; shared = put L.same_leaf g true v.shared }) g (Rows k op (L.parts q (L.changed g v.changes (s.kept g))) ∷ []) tt ends) (says_left [] tt))) (says_left [] tt)
 
         write_left : (k : Name) (op : ℕ) (g : L.Leaf) (x : L.Write) → O k ⊎ In (Abort k) bs → (st : Status L) → After (on_write k op g x st)
         write_left k op g x ends Dead = says_left [] tt
         write_left k op g x ends (Prepared t i) = says_left [] tt
-        write_left k op g x ends (Alive v) = either After (op == suc v.done) _ _ (either After (v.foreign g) _ _ (put_left k Dead (Refused k Lock ∷ []) tt (is_free tt)) (either After (L.is_full g x v.changes) _ _ (put_left k Dead (Refused k Full ∷ []) tt (is_free tt)) (locks_left k (record v { done = op; changes = L.add g x v.changes }) g [] tt ends))) (says_left [] tt)
+        write_left k op g x ends (Active v) = either After (op == suc v.done) _ _ (either After (v.foreign g) _ _ (put_left k Dead (Refused k Lock ∷ []) tt (is_free tt)) (either After (L.is_full g x v.changes) _ _ (put_left k Dead (Refused k Full ∷ []) tt (is_free tt)) (locks_left k (record v { done = op; changes = L.add g x v.changes }) g [] tt ends))) (says_left [] tt)
 
         prepare_left : (kept : Bool) (t k : Name) (n : ℕ) → O k ⊎ In (Abort k) bs → (st : Status L) → After (on_prepare kept t k n st)
         prepare_left kept t k n ends Dead = says_left (Voted k No ∷ []) tt
         prepare_left kept t k n ends (Prepared j i) = says_left (Voted k Yes ∷ []) tt
-        prepare_left kept t k n ends (Alive v) = either After (v.done == n) _ _ (either After (L.is_empty v.changes) _ _ (put_left k Dead (Voted k Read ∷ []) tt (is_free tt)) (either After kept _ _ (put_left k (Prepared t v.changes) (Voted k Yes ∷ []) tt (by_abort k (Prepared t v.changes) ends)) (put_left k Dead (Voted k No ∷ []) tt (is_free tt)))) (put_left k Dead (Voted k No ∷ []) tt (is_free tt))
+        prepare_left kept t k n ends (Active v) = either After (v.done == n) _ _ (either After (L.is_empty v.changes) _ _ (put_left k Dead (Voted k Read ∷ []) tt (is_free tt)) (either After kept _ _ (put_left k (Prepared t v.changes) (Voted k Yes ∷ []) tt (by_abort k (Prepared t v.changes) ends)) (put_left k Dead (Voted k No ∷ []) tt (is_free tt)))) (put_left k Dead (Voted k No ∷ []) tt (is_free tt))
 
         open_left : (bare : (g : L.Leaf) → L.touches g L.none ≡ false) → After Opens
-        open_left bare = put_left (next_ticket s) (Alive (new_visit s)) (Ticket (next_ticket s) ∷ []) tt (is_free (λ g. bare g))
+        open_left bare = put_left (next_ticket s) (Active (new_visit s)) (Ticket (next_ticket s) ∷ []) tt (is_free (λ g. bare g))
 
       -- a ticket dies by a letter that says its end
       dies_left : (k : Name) (replies : List (Body L)) → Closed O replies → Closed O bs → ((j : Name) → same j k ≡ false → Leaves O j (s.status j) bs) → LeavingAt O (put same k Dead s.status) (bs ++ replies)
@@ -187,12 +187,12 @@ module _ {L : Lang} where
 
       commit_left : (k : Name) → LeavingAt O s.status (Commit k ∷ bs) → (st : Status L) → s.status k ≡ st → After (on_commit true k st)
       commit_left k leaving Dead e = stays_left k (Ack k ∷ []) tt leaving.closed (no_commit k k (s.status k) bs (ap is_prepared e) (leaving.locks k)) (λ j other. other_commit j k (s.status j) bs other (leaving.locks j))
-      commit_left k leaving (Alive v) e = stays_left k (Ack k ∷ []) tt leaving.closed (no_commit k k (s.status k) bs (ap is_prepared e) (leaving.locks k)) (λ j other. other_commit j k (s.status j) bs other (leaving.locks j))
+      commit_left k leaving (Active v) e = stays_left k (Ack k ∷ []) tt leaving.closed (no_commit k k (s.status k) bs (ap is_prepared e) (leaving.locks k)) (λ j other. other_commit j k (s.status j) bs other (leaving.locks j))
       commit_left k leaving (Prepared t i) e = dies_left k (Ack k ∷ []) tt leaving.closed (λ j other. other_commit j k (s.status j) bs other (leaving.locks j))
 
       abort_left : (k : Name) → LeavingAt O s.status (Abort k ∷ bs) → (st : Status L) → s.status k ≡ st → After (on_abort true k st)
       abort_left k leaving Dead e = stays_left k [] tt leaving.closed (is_free (subst Unlocked (sym e) tt)) (λ j other. other_abort j k (s.status j) bs other (leaving.locks j))
-      abort_left k leaving (Alive v) e = dies_left k [] tt leaving.closed (λ j other. other_abort j k (s.status j) bs other (leaving.locks j))
+      abort_left k leaving (Active v) e = dies_left k [] tt leaving.closed (λ j other. other_abort j k (s.status j) bs other (leaving.locks j))
       abort_left k leaving (Prepared t i) e = dies_left k [] tt leaving.closed (λ j other. other_abort j k (s.status j) bs other (leaving.locks j))
 
       -- each letter at its site
