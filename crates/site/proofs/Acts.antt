@@ -22,44 +22,44 @@ use Rattle.protocol.specs.Language.{put}
 use Rattle.protocol.specs.Letter as protocol
 use Rattle.protocol.specs.Letter.{Body}
 use Rattle.protocol.specs.Parts.{In}
-use Rattle.protocol.specs.Site.{SiteState, Status, Dead, Alive, Prepared, Act, Says, Opens, Ends, site_after, said, on_fetch, on_write, others_exclusive}
+use Rattle.protocol.specs.Site.{SiteState, Status, Dead, Active, Prepared, Act, Says, Opens, Ends, site_after, said, on_fetch, on_write, others_exclusive}
 use Rattle.protocol.specs.Site as acts
 use Rattle.protocol.proofs.Basics.{clash, every_self}
 use Rattle.site.specs.declared.locks.Locks as locks
-use Rattle.site.specs.declared.standing.Standing as standings
-use Rattle.site.specs.declared.standing.Standing.TheVariants as standing
-use Rattle.site.specs.declared.standing.Visit as visits
+use Rattle.site.specs.declared.tickets.TicketState as standings
+use Rattle.site.specs.declared.tickets.TicketState.TheVariants as standing
+use Rattle.site.specs.declared.tickets.Visit as visits
 use Rattle.protocol.specs.Local.{local, AtKey}
 use Rattle.protocol.specs.Letters.{name_of, said_by, reason_of}
 use Rattle.site.specs.Locks.{reads, writes, is_writer, is_other, is_foreign, locks_in, place_in, with_reader, with_writer, stops}
-use Rattle.site.specs.State.{Table, Fits, Steps, table_from, state_of, stands, visiting, is_visit, txn_in}
+use Rattle.site.specs.State.{VolatileState, Fits, Steps, volatile_from, state_of, stands, visiting, is_visit, txn_in}
 use Rattle.site.specs.Moves.{next_of, stood, locked, opened, gone}
 use Rattle.site.proofs.Endings.{ended_state}
 use Rattle.site.proofs.Fitting.{fits_opened, fits_operated, fits_gone}
 use Rattle.site.proofs.Listed.{row_none}
 use Rattle.site.proofs.LockLaws.{reads-with_reader, foreign-with_reader, foreign-with_reader-others, foreign-with_writer, foreign-with_writer-others}
 use Rattle.site.proofs.Steps.{opens_state, locks_state}
-use Rattle.site.proofs.Tables.{Entries, at_ticket, set_there, set_keys, removed_there, removed_keys, put_last, last_keys, last_there, all_stop, locked_there}
-use Rattle.site.proofs.Tickets.{ticket_is, ticket_self, ticket_sym, leaf_is}
+use Rattle.site.proofs.TicketStates.{Entries, at_ticket, set_there, set_keys, removed_there, removed_keys, put_last, last_keys, last_there, all_stop, locked_there}
+use Rattle.site.proofs.TicketOrder.{ticket_is, ticket_self, ticket_sym, leaf_is}
 
 -- ---- nothing happens but something is said
-pub says_steps : (kept : SiteContent) (table : Table) → Fits kept table → (act : Act local) (answer : Option Reply) → act ≡ Says (said_by answer) → Steps kept table kept table act answer
+pub says_steps : (kept : SiteContent) (table : VolatileState) → Fits kept table → (act : Act local) (answer : Option Reply) → act ≡ Says (said_by answer) → Steps kept table kept table act answer
 says_steps kept table fits act answer is = record { fits = fits; state = ap (site_after (state_of kept table)) (sym is); says = ap (said (state_of kept table)) is }
 
 -- ---- where a table ends up, the step does
-pub steps_at : (old new : SiteContent) (before after other : Table) (act : Act local) (answer : Option Reply) → after ≡ other → Steps old before new other act answer → Steps old before new after act answer
+pub steps_at : (old new : SiteContent) (before after other : VolatileState) (act : Act local) (answer : Option Reply) → after ≡ other → Steps old before new other act answer → Steps old before new after act answer
 steps_at old new before after other act answer is steps = subst (λ t. Steps old before new t act answer) (sym is) steps
 
-module _ (kept : SiteContent) (entries : Entries) (ls : List locks.Locks) (alive life number : ℕ) (fits : Fits kept (table_from entries ls alive life number)) where
-  abbrev table : Table
-  table = table_from entries ls alive life number
+module _ (kept : SiteContent) (entries : Entries) (ls : List locks.Locks) (active life number : ℕ) (fits : Fits kept (volatile_from entries ls active life number)) where
+  abbrev table : VolatileState
+  table = volatile_from entries ls active life number
 
   -- ---- a visit ends
-  pub gone_table : (k : Ticket) (left : ℕ) → IsStrictlySortedBy ticket_cmp (keys_of entries) → table_from (remove_entry (is_at (ticket_cmp k)) entries) (map (stops k number) ls) left life number ≡ gone k left table
-  gone_table k left sorted = λ i. record { standing = λ j. removed_there k entries sorted j i; tickets = removed_keys k entries sorted i; locks = λ g. all_stop k number ls g i; alive = left; life = life; number = number }
+  pub gone_table : (k : Ticket) (left : ℕ) → IsStrictlySortedBy ticket_cmp (keys_of entries) → volatile_from (remove_entry (is_at (ticket_cmp k)) entries) (map (stops k number) ls) left life number ≡ gone k left table
+  gone_table k left sorted = λ i. record { standing = λ j. removed_there k entries sorted j i; tickets = removed_keys k entries sorted i; locks = λ g. all_stop k number ls g i; active = left; life = life; number = number }
 
-  pub ends_steps : (k : Ticket) (left : ℕ) → left ≡ alive - 1 → IsStrictlySortedBy ticket_cmp (keys_of entries) → is_visit (table.standing k) ≡ true → (act : Act local) (answer : Option Reply) → act ≡ Ends (name_of k) (said_by answer) →
-      Steps kept table kept (table_from (remove_entry (is_at (ticket_cmp k)) entries) (map (stops k number) ls) left life number) act answer
+  pub ends_steps : (k : Ticket) (left : ℕ) → left ≡ active - 1 → IsStrictlySortedBy ticket_cmp (keys_of entries) → is_visit (table.standing k) ≡ true → (act : Act local) (answer : Option Reply) → act ≡ Ends (name_of k) (said_by answer) →
+      Steps kept table kept (volatile_from (remove_entry (is_at (ticket_cmp k)) entries) (map (stops k number) ls) left life number) act answer
   ends_steps k left fewer sorted visit act answer is =
       steps_at kept kept table _ (gone k left table) act answer (gone_table k left sorted)
       (record {
@@ -68,9 +68,9 @@ module _ (kept : SiteContent) (entries : Entries) (ls : List locks.Locks) (alive
         says = ap (said (state_of kept table)) is;
       })
     where
-      no_txn : (o : Option standings.Standing) → is_visit o ≡ true → txn_in o ≡ None
+      no_txn : (o : Option standings.TicketState) → is_visit o ≡ true → txn_in o ≡ None
       no_txn None e = cc
-      no_txn (Some (standing.Alive v)) e = refl
+      no_txn (Some (standing.Active v)) e = refl
       no_txn (Some (standing.Prepared t)) e = cc
 
       rows : (j : Ticket) → kept.prepared j ≡ (if is_ticket k j then None else kept.prepared j)
@@ -90,30 +90,30 @@ module _ (kept : SiteContent) (entries : Entries) (ls : List locks.Locks) (alive
   above : AllByRecursion (λ j. ticket_cmp (next_of table) j ≡ Greater) (keys_of entries)
   above = every_self (λ j. ticket_cmp (next_of table) j ≡ Greater) (keys_of entries) above_all
 
-  abbrev begun : standings.Standing
-  begun = standing.Alive (record { done = 0; changes = fin.empty })
+  abbrev begun : standings.TicketState
+  begun = standing.Active (record { done = 0; changes = fin.empty })
 
-  pub opened_table : table_from (insert_entry ticket_cmp entries (next_of table) begun) ls (alive + 1) life (number + 1) ≡ opened table
+  pub opened_table : volatile_from (insert_entry ticket_cmp entries (next_of table) begun) ls (active + 1) life (number + 1) ≡ opened table
   opened_table =
-      ap (λ es. table_from es ls (alive + 1) life (number + 1)) (put_last (next_of table) begun entries above)
-      ∙ (λ i. record { standing = λ j. last_there (next_of table) begun entries above j i; tickets = last_keys (next_of table) begun entries i; locks = λ g. locks_in g ls; alive = add-one alive i; life = life; number = add-one number i })
+      ap (λ es. volatile_from es ls (active + 1) life (number + 1)) (put_last (next_of table) begun entries above)
+      ∙ (λ i. record { standing = λ j. last_there (next_of table) begun entries above j i; tickets = last_keys (next_of table) begun entries i; locks = λ g. locks_in g ls; active = add-one active i; life = life; number = add-one number i })
 
-  pub opens_steps : suc alive ≤ 1024 → suc number < 2 ^ 63 → (answer : Option Reply) → answer ≡ Some (reply.Ticket (next_of table)) → Steps kept table kept (table_from (insert_entry ticket_cmp entries (next_of table) begun) ls (alive + 1) life (number + 1)) Opens answer
+  pub opens_steps : suc active ≤ 1024 → suc number < 2 ^ 63 → (answer : Option Reply) → answer ≡ Some (reply.Ticket (next_of table)) → Steps kept table kept (volatile_from (insert_entry ticket_cmp entries (next_of table) begun) ls (active + 1) life (number + 1)) Opens answer
   opens_steps room lower answer is =
       steps_at kept kept table _ (opened table) Opens answer opened_table
       (record { fits = fits_opened kept table fits room lower; state = opens_state kept table fits (fits_opened kept table fits room lower); says = ap said_by (sym is) })
 
   -- ---- an operation
-  module _ (k : Ticket) (v : visits.Visit) (visit : at_ticket entries k ≡ Some (standing.Alive v)) (op : ℕ) (low_op : op < 2 ^ 63) (leaf : Leaf) (place : ℕ) (place_is : place_in leaf ls ≡ Some place) where
+  module _ (k : Ticket) (v : visits.Visit) (visit : at_ticket entries k ≡ Some (standing.Active v)) (op : ℕ) (low_op : op < 2 ^ 63) (leaf : Leaf) (place : ℕ) (place_is : place_in leaf ls ≡ Some place) where
     operated_table : (changes : Changes) (step : locks.Locks → locks.Locks) → ((l : locks.Locks) → (step l).leaf ≡ l.leaf) →
-        table_from (set_value (is_at (ticket_cmp k)) entries (standing.Alive (record { done = op; changes = changes }))) (slice_set ls place (step (locks_in leaf ls))) alive life number
-        ≡ record table { standing = stood k (Some (standing.Alive (record { done = op; changes = changes }))) table.standing; locks = locked leaf step table.locks }
+        volatile_from (set_value (is_at (ticket_cmp k)) entries (standing.Active (record { done = op; changes = changes }))) (slice_set ls place (step (locks_in leaf ls))) active life number
+        ≡ record table { standing = stood k (Some (standing.Active (record { done = op; changes = changes }))) table.standing; locks = locked leaf step table.locks }
     operated_table changes step keeps =
         λ i. record {
-          standing = λ j. set_there k entries (standing.Alive (record { done = op; changes = changes })) (standing.Alive v) visit j i;
-          tickets = set_keys k entries (standing.Alive (record { done = op; changes = changes })) i;
+          standing = λ j. set_there k entries (standing.Active (record { done = op; changes = changes })) (standing.Active v) visit j i;
+          tickets = set_keys k entries (standing.Active (record { done = op; changes = changes })) i;
           locks = λ g. locked_there leaf ls place place_is step keeps g i;
-          alive = alive;
+          active = active;
           life = life;
           number = number;
         }
@@ -154,15 +154,15 @@ module _ (kept : SiteContent) (entries : Entries) (ls : List locks.Locks) (alive
         go false = refl
 
     pub reads_steps : (act : Act local) (answer : Option Reply) → act ≡ acts.Locks (name_of k) (record v_of { done = op; shared = put (λ a b. is_eq (leaf_cmp a b)) leaf true v_of.shared }) leaf (said_by answer) →
-        Steps kept table kept (table_from (set_value (is_at (ticket_cmp k)) entries (standing.Alive (record v { done = op }))) (slice_set ls place (with_reader k (locks_in leaf ls))) alive life number) act answer
+        Steps kept table kept (volatile_from (set_value (is_at (ticket_cmp k)) entries (standing.Active (record v { done = op }))) (slice_set ls place (with_reader k (locks_in leaf ls))) active life number) act answer
     reads_steps act answer is =
-        let new : Fits kept (record table { standing = stood k (Some (standing.Alive (record v { done = op }))) table.standing; locks = locked leaf (with_reader k) table.locks }) =
+        let new : Fits kept (record table { standing = stood k (Some (standing.Active (record v { done = op }))) table.standing; locks = locked leaf (with_reader k) table.locks }) =
         fits_operated kept table fits k op v.changes v.changes v.done leaf (with_reader k) visit
         (λ j l apart. apart_reads j l (ticket_sym j k ∙ apart)) (λ l. refl) (λ g j apart. same_writes g j) (λ g. same_writes g k ∙ writes_touch g) low_op in
         steps_at kept kept table _ _ act answer (operated_table v.changes (with_reader k) (λ l. refl))
         (record {
           fits = new;
-          state = locks_state kept table fits k (standing.Alive v) op v.changes leaf (with_reader k) apart_reads (λ j l apart. foreign-with_reader-others j k l apart)
+          state = locks_state kept table fits k (standing.Active v) op v.changes leaf (with_reader k) apart_reads (λ j l apart. foreign-with_reader-others j k l apart)
               (put (λ a b. is_eq (leaf_cmp a b)) leaf true v_of.shared) own_read own_see no_row new (said_by answer)
               ∙ ap (site_after (state_of kept table)) (sym is);
           says = ap (said (state_of kept table)) is;
@@ -215,23 +215,23 @@ module _ (kept : SiteContent) (entries : Entries) (ls : List locks.Locks) (alive
           go false e = refl
 
       pub writes_steps : (act : Act local) → act ≡ acts.Locks (name_of k) (record v_of { done = op; changes = more }) leaf [] →
-          Steps kept table kept (table_from (set_value (is_at (ticket_cmp k)) entries (standing.Alive (record { done = op; changes = more }))) (slice_set ls place (with_writer k (locks_in leaf ls))) alive life number) act None
+          Steps kept table kept (volatile_from (set_value (is_at (ticket_cmp k)) entries (standing.Active (record { done = op; changes = more }))) (slice_set ls place (with_writer k (locks_in leaf ls))) active life number) act None
       writes_steps act is =
-          let new : Fits kept (record table { standing = stood k (Some (standing.Alive (record { done = op; changes = more }))) table.standing; locks = locked leaf (with_writer k) table.locks }) =
+          let new : Fits kept (record table { standing = stood k (Some (standing.Active (record { done = op; changes = more }))) table.standing; locks = locked leaf (with_writer k) table.locks }) =
           fits_operated kept table fits k op v.changes more v.done leaf (with_writer k) visit (λ j l apart. refl) (λ l. refl) others_write_same own_write low_op in
           steps_at kept kept table _ _ act None (operated_table more (with_writer k) (λ l. refl))
           (record {
             fits = new;
-            state = locks_state kept table fits k (standing.Alive v) op more leaf (with_writer k) (λ j l apart. refl) (λ j l apart. foreign-with_writer-others j k l apart)
+            state = locks_state kept table fits k (standing.Active v) op more leaf (with_writer k) (λ j l apart. refl) (λ j l apart. foreign-with_writer-others j k l apart)
                 v_of.shared same_reads same_see no_row new []
                 ∙ ap (site_after (state_of kept table)) (sym is);
             says = ap (said (state_of kept table)) is;
           })
 
   -- ---- an operation is refused, and the visit ends
-  pub refused_steps : (k : Ticket) (left : ℕ) → left ≡ alive - 1 → IsStrictlySortedBy ticket_cmp (keys_of entries) → is_visit (table.standing k) ≡ true → (act : Act local) (reason : Reason) (answer : Option Reply) →
+  pub refused_steps : (k : Ticket) (left : ℕ) → left ≡ active - 1 → IsStrictlySortedBy ticket_cmp (keys_of entries) → is_visit (table.standing k) ≡ true → (act : Act local) (reason : Reason) (answer : Option Reply) →
       answer ≡ Some (reply.Refused (record { ticket = k; reason = reason })) → act ≡ Ends (name_of k) (protocol.Refused (name_of k) (reason_of reason) ∷ []) →
-      Steps kept table kept (table_from (remove_entry (is_at (ticket_cmp k)) entries) (map (stops k number) ls) left life number) act answer
+      Steps kept table kept (volatile_from (remove_entry (is_at (ticket_cmp k)) entries) (map (stops k number) ls) left life number) act answer
   refused_steps k left fewer sorted visit act reason answer said is = ends_steps k left fewer sorted visit act answer (is ∙ ap ends (sym said))
     where
       ends : Option Reply → Act local

@@ -10,7 +10,7 @@ use Rattle.store.specs.Name.{ticket_cmp}
 use Rattle.store.specs.SiteContent.{is_ticket}
 use Rattle.protocol.specs.Parts.{In}
 use Rattle.protocol.proofs.Basics.{clash, if_false}
-use Rattle.site.proofs.Tickets.{ticket_is, ticket_sym}
+use Rattle.site.proofs.TicketOrder.{ticket_is, ticket_sym}
 
 -- tests that say the same of a list pass the same
 pub same_pass : {A : Type 0} (p q : A → Bool) (xs : List A) → ((x : A) → In x xs → p x ≡ q x) → filter p xs ≡ filter q xs

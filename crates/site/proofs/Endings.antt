@@ -8,33 +8,33 @@ use Rattle.store.specs.Content.{Content, Changes}
 use Rattle.store.specs.SiteContent.{SiteContent, is_ticket}
 use Rattle.protocol.specs.Language.{Name, same, put}
 use Rattle.protocol.specs.Parts.{In}
-use Rattle.protocol.specs.Site.{SiteState, Status, Dead, Alive, Prepared, Ends, is_dead, site_after, with_status}
+use Rattle.protocol.specs.Site.{SiteState, Status, Dead, Active, Prepared, Ends, is_dead, site_after, with_status}
 use Rattle.protocol.specs.Site as acts
 use Rattle.protocol.proofs.Basics.{if_true, if_false}
-use Rattle.site.specs.declared.standing.Standing.TheVariants as standing
+use Rattle.site.specs.declared.tickets.TicketState.TheVariants as standing
 use Rattle.protocol.specs.Local.{local}
 use Rattle.protocol.specs.Letters.{name_of, ticket_of, txn_name}
 use Rattle.site.specs.Locks.{stops, stops_reading}
-use Rattle.site.specs.State.{Table, Fits, state_of, stands, visiting}
+use Rattle.site.specs.State.{VolatileState, Fits, state_of, stands, visiting}
 use Rattle.site.specs.Moves.{gone, prepared}
 use Rattle.site.proofs.Listed.{filter_names, lives_listed}
 use Rattle.site.proofs.LockLaws.{foreign-stops, foreign-stops_reading, others-stops_reading, reads-stops_writing}
 use Rattle.site.proofs.Steps.{let_go_at, known_all}
-use Rattle.site.proofs.Tickets.{same_is, ticket_self, ticket_sym}
+use Rattle.site.proofs.TicketOrder.{same_is, ticket_self, ticket_sym}
 
-module _ (kept : SiteContent) (table : Table) (fits : Fits kept table) (k : Ticket) where
+module _ (kept : SiteContent) (table : VolatileState) (fits : Fits kept table) (k : Ticket) where
   abbrev s : SiteState local
   s = state_of kept table
 
   abbrev status : Status local → Name → Status local
   status at = put same (name_of k) at s.status
 
-  gone_at : (after : SiteContent) (alive : ℕ) → ((j : Ticket) → after.prepared j ≡ (if is_ticket k j then None else kept.prepared j)) → (j : Ticket) → stands (gone k alive table) j (after.prepared j) ≡ status Dead (name_of j)
-  gone_at after alive rows =
+  gone_at : (after : SiteContent) (active : ℕ) → ((j : Ticket) → after.prepared j ≡ (if is_ticket k j then None else kept.prepared j)) → (j : Ticket) → stands (gone k active table) j (after.prepared j) ≡ status Dead (name_of j)
+  gone_at after active rows =
       let_go_at kept table fits k None (stops k table.number) None Dead
       (λ j l apart. reads-stops_writing j k table.number (stops_reading k table.number l) ∙ others-stops_reading j k table.number l apart)
       (λ j l apart before. foreign-stops j k table.number apart before l)
-      (gone k alive table) refl refl after rows
+      (gone k active table) refl refl after rows
       (ap (visiting (λ h. stops k table.number (table.locks h)) k) (if_true (is_ticket k k) None (table.standing k) (ticket_self k)))
 
   left_names : map name_of (filter (λ j. not (is_ticket k j)) table.tickets) ≡ filter (λ j. not (is_dead (status Dead j))) (map name_of table.tickets)
@@ -45,10 +45,10 @@ module _ (kept : SiteContent) (table : Table) (fits : Fits kept table) (k : Tick
       go x here false e = ap (λ st. not (is_dead st)) (if_false (same (name_of x) (name_of k)) Dead _ (same_is x k ∙ ticket_sym x k ∙ e)) ∙ ap not (lives_listed kept table fits x here) ∙ sym (ap not e)
 
   -- a visit, or a row, has ended; the contents may be others
-  pub ended_state : (after : SiteContent) (alive : ℕ) (content : Leaf → Content) → ((j : Ticket) → after.prepared j ≡ (if is_ticket k j then None else kept.prepared j)) → ((g : Leaf) → after.content g ≡ content g) →
-      state_of after (gone k alive table) ≡ record (with_status s (status Dead) s.known) { kept = content }
-  ended_state after alive content rows is =
-      λ i. record { kept = λ g. is g i; status = λ name. gone_at after alive rows (ticket_of name) i; known = left_names i; life = table.life; number = table.number }
+  pub ended_state : (after : SiteContent) (active : ℕ) (content : Leaf → Content) → ((j : Ticket) → after.prepared j ≡ (if is_ticket k j then None else kept.prepared j)) → ((g : Leaf) → after.content g ≡ content g) →
+      state_of after (gone k active table) ≡ record (with_status s (status Dead) s.known) { kept = content }
+  ended_state after active content rows is =
+      λ i. record { kept = λ g. is g i; status = λ name. gone_at after active rows (ticket_of name) i; known = left_names i; life = table.life; number = table.number }
 
   -- a visit is prepared
   pub prepared_state : (txn : Txn) (changes : Changes) (after : SiteContent) → Fits after (prepared k txn table) →

@@ -19,9 +19,9 @@ use Rattle.protocol.proofs.Basics.{or_none_left, or_none_right, if_false}
 use Rattle.store.specs.declared.reply.Reply.{Reply}
 use Rattle.protocol.specs.Site.{Act}
 use Rattle.protocol.specs.Local.{local}
-use Rattle.site.specs.Rows.{stored}
-use Rattle.site.specs.State.{Table, Steps}
-use Rattle.site.proofs.Tickets.{is_equal}
+use Rattle.site.specs.ReadLeaf.{stored}
+use Rattle.site.specs.State.{VolatileState, Steps}
+use Rattle.site.proofs.TicketOrder.{is_equal}
 
 -- one part more
 pub stored_more : (leaf : Leaf) (parts : List (List Value)) (i : ℕ) (d : List Value) (changes : Changes) → i < length parts →
@@ -104,5 +104,5 @@ pub unchanged_is : (old new : SiteContent) → IsUnchanged old new → old ≡ n
 unchanged_is old new same = λ i. record { content = λ leaf. sym (same.content leaf) i; prepared = λ ticket. sym (same.prepared ticket) i; life = sym same.life i }
 
 -- a step over a store that is unchanged
-pub moves : (old new : SiteContent) (before after : Table) (act : Act local) (answer : Option Reply) → IsUnchanged old new → Steps old before old after act answer → Steps old before new after act answer
+pub moves : (old new : SiteContent) (before after : VolatileState) (act : Act local) (answer : Option Reply) → IsUnchanged old new → Steps old before old after act answer → Steps old before new after act answer
 moves old new before after act answer same steps = subst (λ c. Steps old before c after act answer) (unchanged_is old new same) steps

@@ -18,36 +18,36 @@ use Rattle.protocol.specs.Site.{has_exclusive, is_short}
 use Rattle.protocol.proofs.Basics.{if_true, if_false, clash, in_left, in_right, in_append, in_filter}
 use Rattle.protocol.proofs.Locks.{from_filter}
 use Rattle.site.specs.declared.locks.Locks as locks
-use Rattle.site.specs.declared.standing.Standing as standings
-use Rattle.site.specs.declared.standing.Visit as visits
-use Rattle.site.specs.declared.standing.Standing.TheVariants as standing
+use Rattle.site.specs.declared.tickets.TicketState as standings
+use Rattle.site.specs.declared.tickets.Visit as visits
+use Rattle.site.specs.declared.tickets.TicketState.TheVariants as standing
 use Rattle.site.specs.Locks.{reads, writes, stops, stops_reading}
-use Rattle.site.specs.State.{Table, Fits, IsDrawn, stands, visiting, is_visit, txn_in, visits_among}
+use Rattle.site.specs.State.{VolatileState, Fits, IsDrawn, stands, visiting, is_visit, txn_in, visits_among}
 use Rattle.site.specs.Moves.{next_of, stood, locked, opened, gone, prepared}
 use Rattle.site.proofs.Counting.{drawn_below, last_passes, one_fewer, same_pass, sorted_last, without}
 use Rattle.site.proofs.LockLaws.{others-stops_reading, writes-stops_reading, reads-stops_reading, reads-stops_writing, writes-stops_writing, others-stops_writing, released-stops_reading, released-stops_writing}
 use Rattle.site.proofs.Listed.{row_none}
 use Rattle.site.proofs.Steps.{stood_all, nothing_next}
-use Rattle.site.proofs.Tickets.{ticket_is, ticket_self, ticket_sym, ticket_same}
+use Rattle.site.proofs.TicketOrder.{ticket_is, ticket_self, ticket_sym, ticket_same}
 
 -- who has what exclusively is told by what stands there and by the row
-has_by : (new old : Table) (j : Ticket) (row : Option Row) (leaf : Leaf) → new.standing j ≡ old.standing j → has_exclusive leaf (stands new j row) ≡ has_exclusive leaf (stands old j row)
+has_by : (new old : VolatileState) (j : Ticket) (row : Option Row) (leaf : Leaf) → new.standing j ≡ old.standing j → has_exclusive leaf (stands new j row) ≡ has_exclusive leaf (stands old j row)
 has_by new old j (Some row) leaf e = refl
 has_by new old j None leaf e = ap (λ o. has_exclusive leaf (visiting new.locks j o)) e ∙ go (old.standing j)
   where
-    go : (o : Option standings.Standing) → has_exclusive leaf (visiting new.locks j o) ≡ has_exclusive leaf (visiting old.locks j o)
+    go : (o : Option standings.TicketState) → has_exclusive leaf (visiting new.locks j o) ≡ has_exclusive leaf (visiting old.locks j o)
     go None = refl
-    go (Some (standing.Alive v)) = refl
+    go (Some (standing.Active v)) = refl
     go (Some (standing.Prepared t)) = refl
 
 -- so is how many operations it has done
-short_by : (new old : Table) (j : Ticket) (row : Option Row) → new.standing j ≡ old.standing j → is_short (stands old j row) ≡ true → is_short (stands new j row) ≡ true
+short_by : (new old : VolatileState) (j : Ticket) (row : Option Row) → new.standing j ≡ old.standing j → is_short (stands old j row) ≡ true → is_short (stands new j row) ≡ true
 short_by new old j (Some row) e short = refl
 short_by new old j None e short = ap (λ o. is_short (visiting new.locks j o)) e ∙ go (old.standing j) short
   where
-    go : (o : Option standings.Standing) → is_short (visiting old.locks j o) ≡ true → is_short (visiting new.locks j o) ≡ true
+    go : (o : Option standings.TicketState) → is_short (visiting old.locks j o) ≡ true → is_short (visiting new.locks j o) ≡ true
     go None short = refl
-    go (Some (standing.Alive v)) short = short
+    go (Some (standing.Active v)) short = short
     go (Some (standing.Prepared t)) short = refl
 
 below_limit : (n : ℕ) → n < 2 ^ 63 → nat_lt n (2 ^ 63) ≡ true
@@ -61,13 +61,13 @@ drawn_still : (life number : ℕ) (j : Ticket) → (j.life < life) ⊎ ((j.life 
 drawn_still life number j (inl below) = inl below
 drawn_still life number j (inr here) = inr (here.0, (let h : j.visit ≤ number = here.1 in omega arith))
 
-module _ (kept : SiteContent) (table : Table) (fits : Fits kept table) where
+module _ (kept : SiteContent) (table : VolatileState) (fits : Fits kept table) where
   abbrev next : Ticket
   next = next_of table
 
-  pub fits_opened : suc table.alive ≤ 1024 → suc table.number < 2 ^ 63 → Fits kept (opened table)
+  pub fits_opened : suc table.active ≤ 1024 → suc table.number < 2 ^ 63 → Fits kept (opened table)
   fits_opened room lower =
-      let new = Some (standing.Alive (record { done = 0; changes = fin.empty })) in
+      let new = Some (standing.Active (record { done = 0; changes = fin.empty })) in
       let none = row_none kept table fits next (ap txn_in (nothing_next kept table fits)) in
       record {
         prepared = stood_all next new table.standing (λ j o. txn_in o ≡ option_map (λ row. row.txn) (kept.prepared j)) (sym (ap (option_map (λ row. row.txn)) none)) (λ j apart. fits.prepared j);
@@ -108,11 +108,11 @@ module _ (kept : SiteContent) (table : Table) (fits : Fits kept table) where
 
   -- a visit has done an operation, by which it has a lock more
   module _ (k : Ticket) (op : ℕ) (before after : Changes) (done : ℕ) (leaf : Leaf) (step : locks.Locks → locks.Locks)
-      (visit : table.standing k ≡ Some (standing.Alive (record { done = done; changes = before }))) where
-    abbrev new : Option standings.Standing
-    new = Some (standing.Alive (record { done = op; changes = after }))
+      (visit : table.standing k ≡ Some (standing.Active (record { done = done; changes = before }))) where
+    abbrev new : Option standings.TicketState
+    new = Some (standing.Active (record { done = op; changes = after }))
 
-    abbrev operated : Table
+    abbrev operated : VolatileState
     operated = record table { standing = stood k new table.standing; locks = locked leaf step table.locks }
 
     no_row : kept.prepared k ≡ None
@@ -166,7 +166,7 @@ module _ (kept : SiteContent) (table : Table) (fits : Fits kept table) where
           go g j false e = writes_step g j e ∙ fits.writers g j ∙ sym (has_by operated table j (kept.prepared j) g (if_false (is_ticket k j) new (table.standing j) e))
 
   -- a ticket lets go of locks
-  module _ (k : Ticket) (o : Option standings.Standing) (row : Option Row) (after : SiteContent) (alive : ℕ)
+  module _ (k : Ticket) (o : Option standings.TicketState) (row : Option Row) (after : SiteContent) (active : ℕ)
       (rows : (j : Ticket) → after.prepared j ≡ (if is_ticket k j then row else kept.prepared j)) (life : after.life ≡ kept.life) where
     at_rows : (Q : Ticket → Option Row → Type 0) → Q k row → ((j : Ticket) → is_ticket k j ≡ false → Q j (kept.prepared j)) → (j : Ticket) → Q j (after.prepared j)
     at_rows Q here there j = subst (Q j) (sym (rows j)) (go (is_ticket k j) refl)
@@ -184,7 +184,7 @@ module _ (kept : SiteContent) (table : Table) (fits : Fits kept table) where
     matches : txn_in o ≡ option_map (λ r. r.txn) row → (j : Ticket) → txn_in (stood k o table.standing j) ≡ option_map (λ r. r.txn) (after.prepared j)
     matches same = stood_all k o table.standing (λ j p. txn_in p ≡ option_map (λ r. r.txn) (after.prepared j)) (same ∙ sym (ap (option_map (λ r. r.txn)) own_row)) (λ j apart. fits.prepared j ∙ sym (ap (option_map (λ r. r.txn)) (others_row j apart)))
 
-    has_still : (new : Table) (g : Leaf) (j : Ticket) → is_ticket k j ≡ false → new.standing ≡ stood k o table.standing → has_exclusive g (stands table j (kept.prepared j)) ≡ has_exclusive g (stands new j (after.prepared j))
+    has_still : (new : VolatileState) (g : Leaf) (j : Ticket) → is_ticket k j ≡ false → new.standing ≡ stood k o table.standing → has_exclusive g (stands table j (kept.prepared j)) ≡ has_exclusive g (stands new j (after.prepared j))
     has_still new g j apart is =
         sym (ap (λ r. has_exclusive g (stands new j r)) (others_row j apart)
         ∙ has_by new table j (kept.prepared j) g (ap (λ f. f j) is ∙ if_false (is_ticket k j) o (table.standing j) apart))
@@ -197,16 +197,16 @@ module _ (kept : SiteContent) (table : Table) (fits : Fits kept table) where
 
   -- one visit fewer is counted where a visit ends, and as many as before where another ends
   abbrev pub Left : Ticket → ℕ → Type 0
-  Left k alive = ((is_visit (table.standing k) ≡ false) × (alive ≡ table.alive)) ⊎ ((is_visit (table.standing k) ≡ true) × (alive ≡ table.alive - 1))
+  Left k active = ((is_visit (table.standing k) ≡ false) × (active ≡ table.active)) ⊎ ((is_visit (table.standing k) ≡ true) × (active ≡ table.active - 1))
 
-  counted_left : (k : Ticket) (alive : ℕ) → Left k alive → alive ≡ visits_among (stood k None table.standing) (filter (λ j. not (is_ticket k j)) table.tickets)
-  counted_left k alive left = ⊎_elim
+  counted_left : (k : Ticket) (active : ℕ) → Left k active → active ≡ visits_among (stood k None table.standing) (filter (λ j. not (is_ticket k j)) table.tickets)
+  counted_left k active left = ⊎_elim
       (λ row. row.1 ∙ fits.counted ∙ ap length (same_pass was now table.tickets (λ j here. stood_all k None table.standing (λ i o. is_visit (table.standing i) ≡ is_visit o) row.0 (λ i apart. refl) j)) ∙ sym part)
       (λ ends.
       let less : suc (length (filter now table.tickets)) ≡ length (filter was table.tickets) = one_fewer k now was table.tickets fits.ascend (fits.listed k (visit_some (table.standing k) ends.0)) others none ends.0 in
-      let all : table.alive ≡ length (filter was table.tickets) = fits.counted in
-      let e : alive ≡ table.alive - 1 = ends.1 in
-      let here : alive ≡ length (filter now table.tickets) = omega (arith, less, all, e) in
+      let all : table.active ≡ length (filter was table.tickets) = fits.counted in
+      let e : active ≡ table.active - 1 = ends.1 in
+      let here : active ≡ length (filter now table.tickets) = omega (arith, less, all, e) in
       here ∙ sym part)
       left
     where
@@ -216,7 +216,7 @@ module _ (kept : SiteContent) (table : Table) (fits : Fits kept table) where
       was : Ticket → Bool
       was j = is_visit (table.standing j)
 
-      visit_some : (o : Option standings.Standing) → is_visit o ≡ true → is_some o ≡ true
+      visit_some : (o : Option standings.TicketState) → is_visit o ≡ true → is_some o ≡ true
       visit_some None e = cc
       visit_some (Some s) e = refl
 
@@ -230,11 +230,11 @@ module _ (kept : SiteContent) (table : Table) (fits : Fits kept table) where
       part = ap length (without k now table.tickets none)
 
   -- nothing stands behind a ticket any more, nor has the store a row
-  pub fits_gone : (k : Ticket) (after : SiteContent) (alive : ℕ) → Left k alive → ((j : Ticket) → after.prepared j ≡ (if is_ticket k j then None else kept.prepared j)) → after.life ≡ kept.life → Fits after (gone k alive table)
-  fits_gone k after alive left_so rows life =
+  pub fits_gone : (k : Ticket) (after : SiteContent) (active : ℕ) → Left k active → ((j : Ticket) → after.prepared j ≡ (if is_ticket k j then None else kept.prepared j)) → after.life ≡ kept.life → Fits after (gone k active table)
+  fits_gone k after active left_so rows life =
       let left : List Ticket = filter (λ j. not (is_ticket k j)) table.tickets in
       record {
-        prepared = matches k None None after alive rows life refl;
+        prepared = matches k None None after active rows life refl;
         life = fits.life ∙ sym life;
         listed = stood_all k None table.standing (λ j o. is_some o ≡ true → In j left) (λ e. cc) (λ j apart e. in_filter (λ x. not (is_ticket k x)) j table.tickets (fits.listed j e) (ap not apart));
         lives = stood_all k None table.standing (λ j o. In j left → is_some o ≡ true)
@@ -242,31 +242,31 @@ module _ (kept : SiteContent) (table : Table) (fits : Fits kept table) where
             (λ j apart here. fits.lives j (from_filter (λ x. not (is_ticket k x)) j table.tickets here).0);
         readers = λ g. stood_all k None table.standing (λ j o. reads j (stops k table.number (table.locks g)) ≡ true → is_visit o ≡ true)
             (λ e. clash e (reads-stops_writing k k table.number (stops_reading k table.number (table.locks g)) ∙ reads-stops_reading k table.number (table.locks g)))
-            (λ j apart e. fits.readers g j (sym (reads_apart k None None after alive rows life g j apart) ∙ e));
+            (λ j apart e. fits.readers g j (sym (reads_apart k None None after active rows life g j apart) ∙ e));
         writers = λ g j. go g j (is_ticket k j) refl;
         drawn = stood_all k None table.standing (λ j o. is_some o ≡ true → IsDrawn table j) (λ e. cc) (λ j apart. fits.drawn j);
         fresh = stood_all k None table.standing (λ j o. is_visit o ≡ true → (j.life ≡ table.life) × (j.visit ≤ table.number)) (λ e. cc) (λ j apart. fits.fresh j);
         released = λ g. released-stops_writing k table.number (stops_reading k table.number (table.locks g)) (released-stops_reading k table.number (table.locks g) (fits.released g));
         ascend = IsStrictlySortedBy-filter ticket_cmp (λ j. not (is_ticket k j)) table.tickets fits.ascend;
-        counted = counted_left k alive left_so;
-        few = ⊎_elim (λ row. let n : table.alive ≤ 1024 = fits.few in let e : alive ≡ table.alive = row.1 in omega (arith, n, e)) (λ less. let n : table.alive ≤ 1024 = fits.few in let e : alive ≡ table.alive - 1 = less.1 in omega (arith, n, e)) left_so;
+        counted = counted_left k active left_so;
+        few = ⊎_elim (λ row. let n : table.active ≤ 1024 = fits.few in let e : active ≡ table.active = row.1 in omega (arith, n, e)) (λ less. let n : table.active ≤ 1024 = fits.few in let e : active ≡ table.active - 1 = less.1 in omega (arith, n, e)) left_so;
         short = λ j. shorter j (is_ticket k j) refl;
         low = fits.low;
       }
     where
-      shorter : (j : Ticket) (b : Bool) → is_ticket k j ≡ b → is_short (stands (gone k alive table) j (after.prepared j)) ≡ true
-      shorter j true e = subst (λ i. is_short (stands (gone k alive table) i (after.prepared i)) ≡ true) (ticket_is k j e)
-          (ap (λ r. is_short (stands (gone k alive table) k r)) (own_row k None None after alive rows life) ∙ ap (λ o. is_short (visiting (λ h. stops k table.number (table.locks h)) k o)) (if_true (is_ticket k k) None (table.standing k) (ticket_self k)))
-      shorter j false e = ap (λ r. is_short (stands (gone k alive table) j r)) (others_row k None None after alive rows life j e) ∙ short_by (gone k alive table) table j (kept.prepared j) (if_false (is_ticket k j) None (table.standing j) e) (fits.short j)
+      shorter : (j : Ticket) (b : Bool) → is_ticket k j ≡ b → is_short (stands (gone k active table) j (after.prepared j)) ≡ true
+      shorter j true e = subst (λ i. is_short (stands (gone k active table) i (after.prepared i)) ≡ true) (ticket_is k j e)
+          (ap (λ r. is_short (stands (gone k active table) k r)) (own_row k None None after active rows life) ∙ ap (λ o. is_short (visiting (λ h. stops k table.number (table.locks h)) k o)) (if_true (is_ticket k k) None (table.standing k) (ticket_self k)))
+      shorter j false e = ap (λ r. is_short (stands (gone k active table) j r)) (others_row k None None after active rows life j e) ∙ short_by (gone k active table) table j (kept.prepared j) (if_false (is_ticket k j) None (table.standing j) e) (fits.short j)
 
-      go : (g : Leaf) (j : Ticket) (b : Bool) → is_ticket k j ≡ b → writes j (stops k table.number (table.locks g)) ≡ has_exclusive g (stands (gone k alive table) j (after.prepared j))
-      go g j true e = subst (λ i. writes i (stops k table.number (table.locks g)) ≡ has_exclusive g (stands (gone k alive table) i (after.prepared i))) (ticket_is k j e)
+      go : (g : Leaf) (j : Ticket) (b : Bool) → is_ticket k j ≡ b → writes j (stops k table.number (table.locks g)) ≡ has_exclusive g (stands (gone k active table) j (after.prepared j))
+      go g j true e = subst (λ i. writes i (stops k table.number (table.locks g)) ≡ has_exclusive g (stands (gone k active table) i (after.prepared i))) (ticket_is k j e)
           (writes-stops_writing k table.number (stops_reading k table.number (table.locks g))
-          ∙ sym (ap (λ r. has_exclusive g (stands (gone k alive table) k r)) (own_row k None None after alive rows life) ∙ ap (λ o. has_exclusive g (visiting (λ h. stops k table.number (table.locks h)) k o)) (if_true (is_ticket k k) None (table.standing k) (ticket_self k))))
-      go g j false e = writes_apart k None None after alive rows life g j e ∙ fits.writers g j ∙ has_still k None None after alive rows life (gone k alive table) g j e refl
+          ∙ sym (ap (λ r. has_exclusive g (stands (gone k active table) k r)) (own_row k None None after active rows life) ∙ ap (λ o. has_exclusive g (visiting (λ h. stops k table.number (table.locks h)) k o)) (if_true (is_ticket k k) None (table.standing k) (ticket_self k))))
+      go g j false e = writes_apart k None None after active rows life g j e ∙ fits.writers g j ∙ has_still k None None after active rows life (gone k active table) g j e refl
 
   -- a visit is prepared
-  pub fits_prepared : (k : Ticket) (txn : Txn) (visit : visits.Visit) → table.standing k ≡ Some (standing.Alive visit) → (after : SiteContent) →
+  pub fits_prepared : (k : Ticket) (txn : Txn) (visit : visits.Visit) → table.standing k ≡ Some (standing.Active visit) → (after : SiteContent) →
       ((j : Ticket) → after.prepared j ≡ (if is_ticket k j then Some (record { txn = txn; changes = visit.changes }) else kept.prepared j)) → after.life ≡ kept.life → Fits after (prepared k txn table)
   fits_prepared k txn visit is after rows life =
       let new = Some (standing.Prepared txn) in
@@ -290,10 +290,10 @@ module _ (kept : SiteContent) (table : Table) (fits : Fits kept table) where
             let less : suc (length (filter now table.tickets)) ≡ length (filter was table.tickets) = one_fewer k now was table.tickets fits.ascend (fits.listed k (ap is_some is))
             (λ j apart. ap is_visit (if_false (is_ticket k j) new (table.standing j) apart))
             (ap is_visit (if_true (is_ticket k k) new (table.standing k) (ticket_self k))) (ap is_visit is) in
-            let all : table.alive ≡ length (filter was table.tickets) = fits.counted in
-            let left : table.alive - 1 ≡ length (filter now table.tickets) = omega (arith, less, all) in
+            let all : table.active ≡ length (filter was table.tickets) = fits.counted in
+            let left : table.active - 1 ≡ length (filter now table.tickets) = omega (arith, less, all) in
             left;
-        few = let n : table.alive ≤ 1024 = fits.few in omega (arith, n);
+        few = let n : table.active ≤ 1024 = fits.few in omega (arith, n);
         short = λ j. shorter j (is_ticket k j) refl;
         low = fits.low;
       }

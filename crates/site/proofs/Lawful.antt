@@ -17,7 +17,7 @@ use Rattle.store.specs.Laws.{NothingChanges, OneChangeMore, OneTouchMore}
 use Rattle.protocol.specs.Language.{IsLawful, written}
 use Rattle.protocol.specs.Statements.{Statements, with_statements}
 use Rattle.protocol.specs.Local.{local}
-use Rattle.site.proofs.Tickets.{leaf_is, leaf_self, leaf_sym}
+use Rattle.site.proofs.TicketOrder.{leaf_is, leaf_self, leaf_sym}
 
 bytes_same : (a b : List ℕ) → (pointwise nat_eq a b ≡ true) ↔ (a ≡ b)
 bytes_same a b = bytes_eq-Decides a b

@@ -11,7 +11,7 @@ use Rattle.store.specs.declared.name.Ticket.{Ticket}
 use Rattle.store.specs.Name.{ticket_cmp}
 use Rattle.store.specs.SiteContent.{is_ticket}
 use Rattle.protocol.proofs.Basics.{if_true}
-use Rattle.site.proofs.Tickets.{ticket_is}
+use Rattle.site.proofs.TicketOrder.{ticket_is}
 
 -- the next item changed
 front : {A : Type 0} (f : A → A) (xs : List A) (i : ℕ) (d y : A) → i < length xs → y ≡ f (get_or (map f (take i xs) ++ drop i xs) i d) → slice_set (map f (take i xs) ++ drop i xs) i y ≡ map f (take (suc i) xs) ++ drop (suc i) xs

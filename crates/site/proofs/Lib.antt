@@ -1,21 +1,21 @@
 -- What proves the contracts of the crate.
-pub mod Tickets
+pub mod TicketOrder
 pub mod LockLaws
 pub mod Listed
 pub mod Steps
 pub mod Leaves
-pub mod Tables
+pub mod TicketStates
 pub mod Counting
 pub mod Fitting
 pub mod Endings
 pub mod Acts
-pub mod Turns
+pub mod Verdicts
 pub mod Finals
 pub mod Fetched
 pub mod LeavesKept
 pub mod Lawful
 pub mod PreparedRows
-pub mod Beginning
+pub mod Recovered
 pub mod Restarting
 pub mod Inquired
 pub mod Limited

@@ -8,16 +8,16 @@ use Rattle.store.specs.declared.prepared.Prepared.{Prepared as Row}
 use Rattle.store.specs.SiteContent.{SiteContent, is_ticket}
 use Rattle.protocol.specs.Language.{Name, same}
 use Rattle.protocol.specs.Parts.{In}
-use Rattle.protocol.specs.Site.{Status, Dead, Alive, Prepared, is_dead, has_exclusive, has_lock, others_exclusive, others_lock}
+use Rattle.protocol.specs.Site.{Status, Dead, Active, Prepared, is_dead, has_exclusive, has_lock, others_exclusive, others_lock}
 use Rattle.protocol.proofs.Basics.{any_in, found, or_cases, or_left, or_right, left_true, right_true, both_true, not_true, clash, if_true, if_false}
 use Rattle.site.specs.declared.locks.Locks.{Locks}
-use Rattle.site.specs.declared.standing.Standing as standings
-use Rattle.site.specs.declared.standing.Standing.TheVariants as standing
+use Rattle.site.specs.declared.tickets.TicketState as standings
+use Rattle.site.specs.declared.tickets.TicketState.TheVariants as standing
 use Rattle.protocol.specs.Local.{local}
 use Rattle.protocol.specs.Letters.{name_of, ticket_of}
 use Rattle.site.specs.Locks.{reads, writes, is_writer, is_other, others_write, others_have}
-use Rattle.site.specs.State.{Table, Fits, state_of, stands, visiting, is_visit, txn_in}
-use Rattle.site.proofs.Tickets.{same_bool, same_is, ticket_is, ticket_self, ticket_sym}
+use Rattle.site.specs.State.{VolatileState, Fits, state_of, stands, visiting, is_visit, txn_in}
+use Rattle.site.proofs.TicketOrder.{same_bool, same_is, ticket_is, ticket_self, ticket_sym}
 
 -- all that pass are all
 pub filter_all : {A : Type 0} (p : A → Bool) (xs : List A) → ((x : A) → In x xs → p x ≡ true) → filter p xs ≡ xs
@@ -47,20 +47,20 @@ from_names n (y ∷ xs) (inr below) = inr (from_names n xs below)
 pub any_ticket : (p : Ticket → Bool) (xs : List Ticket) → list_any p xs ≡ true → (x : Ticket) × In x xs × (p x ≡ true)
 any_ticket p xs e = found p xs e
 
-dead_none : (locks : Leaf → Locks) (ticket : Ticket) (o : Option standings.Standing) → is_visit o ≡ is_dead (visiting locks ticket o) → is_visit o ≡ false
+dead_none : (locks : Leaf → Locks) (ticket : Ticket) (o : Option standings.TicketState) → is_visit o ≡ is_dead (visiting locks ticket o) → is_visit o ≡ false
 dead_none locks ticket None e = refl
-dead_none locks ticket (Some (standing.Alive v)) e = cc
+dead_none locks ticket (Some (standing.Active v)) e = cc
 dead_none locks ticket (Some (standing.Prepared t)) e = refl
 
-some_visit : (locks : Leaf → Locks) (ticket : Ticket) (o : Option standings.Standing) → is_dead (visiting locks ticket o) ≡ false → is_some o ≡ true
+some_visit : (locks : Leaf → Locks) (ticket : Ticket) (o : Option standings.TicketState) → is_dead (visiting locks ticket o) ≡ false → is_some o ≡ true
 some_visit locks ticket None e = cc
 some_visit locks ticket (Some o) e = refl
 
-some_txn : {A : Type 0} (o : Option standings.Standing) (t : A) → (is_some (txn_in o) ≡ true) → is_some o ≡ true
+some_txn : {A : Type 0} (o : Option standings.TicketState) (t : A) → (is_some (txn_in o) ≡ true) → is_some o ≡ true
 some_txn None t e = cc
 some_txn (Some o) t e = refl
 
-module _ (kept : SiteContent) (table : Table) (fits : Fits kept table) where
+module _ (kept : SiteContent) (table : VolatileState) (fits : Fits kept table) where
   abbrev row_map : Option Row → Bool
   row_map row = is_some row
 
@@ -84,9 +84,9 @@ module _ (kept : SiteContent) (table : Table) (fits : Fits kept table) where
       go None f = refl
       go (Some row) f = cc
 
-  live_of : (j : Ticket) (o : Option standings.Standing) → table.standing j ≡ o → is_some o ≡ true → is_dead (stands table j (kept.prepared j)) ≡ false
+  live_of : (j : Ticket) (o : Option standings.TicketState) → table.standing j ≡ o → is_some o ≡ true → is_dead (stands table j (kept.prepared j)) ≡ false
   live_of j None e live = cc
-  live_of j (Some (standing.Alive v)) e live = rw (row_none j (ap txn_in e), e) refl
+  live_of j (Some (standing.Active v)) e live = rw (row_none j (ap txn_in e), e) refl
   live_of j (Some (standing.Prepared t)) e live = go (kept.prepared j) (sym (fits.prepared j) ∙ ap txn_in e)
     where
       go : (row : Option Row) → option_map (λ (r : Row). r.txn) row ≡ Some t → is_dead (stands table j row) ≡ false
@@ -105,15 +105,15 @@ module _ (kept : SiteContent) (table : Table) (fits : Fits kept table) where
       go false f = refl
 
   -- who has a lock reads or writes
-  has_lock_is : (j : Ticket) (g : Leaf) (row : Option Row) (o : Option standings.Standing) → kept.prepared j ≡ row → table.standing j ≡ o → has_lock g (stands table j row) ≡ (reads j (table.locks g) || has_exclusive g (stands table j row))
+  has_lock_is : (j : Ticket) (g : Leaf) (row : Option Row) (o : Option standings.TicketState) → kept.prepared j ≡ row → table.standing j ≡ o → has_lock g (stands table j row) ≡ (reads j (table.locks g) || has_exclusive g (stands table j row))
   has_lock_is j g None None e f = rw (f, not_reading j g (ap is_visit f)) refl
-  has_lock_is j g None (Some (standing.Alive v)) e f = rw f refl
+  has_lock_is j g None (Some (standing.Active v)) e f = rw f refl
   has_lock_is j g None (Some (standing.Prepared t)) e f = rw (f, not_reading j g (ap is_visit f)) refl
   has_lock_is j g (Some row) o e f = rw (not_reading j g (go (table.standing j) (fits.prepared j ∙ ap (option_map (λ (r : Row). r.txn)) e))) refl
     where
-      go : (p : Option standings.Standing) → txn_in p ≡ Some row.txn → is_visit p ≡ false
+      go : (p : Option standings.TicketState) → txn_in p ≡ Some row.txn → is_visit p ≡ false
       go None h = refl
-      go (Some (standing.Alive v)) h = cc
+      go (Some (standing.Active v)) h = cc
       go (Some (standing.Prepared t)) h = refl
 
   pub locks_are : (j : Ticket) (g : Leaf) → has_lock g (stands table j (kept.prepared j)) ≡ (reads j (table.locks g) || writes j (table.locks g))
@@ -138,7 +138,7 @@ module _ (kept : SiteContent) (table : Table) (fits : Fits kept table) where
     where
       go : (st : Status local) → has_lock g st ≡ true → is_dead st ≡ false
       go Dead f = cc
-      go (Alive v) f = refl
+      go (Active v) f = refl
       go (Prepared t i) f = refl
 
   exclusive_lock : (j : Ticket) (g : Leaf) → writes j (table.locks g) ≡ true → has_lock g (stands table j (kept.prepared j)) ≡ true

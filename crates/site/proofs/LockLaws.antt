@@ -12,7 +12,7 @@ use Rattle.store.specs.Orders.{ticket_cmp-IsAntisymmetric}
 use Rattle.protocol.proofs.Basics.{either, either_if, or_left, or_right, clash}
 use Rattle.site.specs.declared.locks.Locks.{Locks}
 use Rattle.site.specs.Locks.{free, reads, writes, is_writer, is_other, others_write, others_have, is_foreign, with_reader, with_writer, stops_reading, stops_writing, stops}
-use Rattle.site.proofs.Tickets.{ticket_is, ticket_self, ticket_sym}
+use Rattle.site.proofs.TicketOrder.{ticket_is, ticket_self, ticket_sym}
 
 swap : (a b c : Bool) → (a || (b || c)) ≡ (b || (a || c))
 swap true true c = refl

@@ -13,14 +13,14 @@ use Rattle.store.specs.declared.letter.Letter as letters
 use Rattle.store.specs.declared.name.Ticket.{Ticket}
 use Rattle.store.specs.Name.{ticket_cmp}
 use Rattle.store.specs.Orders.{ticket_cmp_total}
-use Rattle.site.specs.declared.standing.Standing.{Standing}
-use Rattle.site.specs.declared.standing.Standing.TheVariants as standing
+use Rattle.site.specs.declared.tickets.TicketState.{TicketState}
+use Rattle.site.specs.declared.tickets.TicketState.TheVariants as standing
 use Rattle.site.specs.Inquiries.{inquiries_of, with_inquiry}
 use Rattle.site.specs.Youngest.{from_oldest}
-use Rattle.site.proofs.Tables.{Entries}
+use Rattle.site.proofs.TicketStates.{Entries}
 
 abbrev pub Youngest : Type 0
-Youngest = List (Reverse Ticket × Standing)
+Youngest = List (Reverse Ticket × TicketState)
 
 abbrev pub young_cmp : Reverse Ticket → Reverse Ticket → Ordering
 young_cmp one other = ticket_cmp other.0 one.0
@@ -29,11 +29,11 @@ abbrev at : Ticket → Ticket → Bool
 at k j = is_at (ticket_cmp k) j
 
 -- ---- the list with one entry at its end
-all_join : (P : Ticket → Type 0) (xs : Entries) (e : Ticket × Standing) → AllByRecursion P (keys_of xs) → P e.0 → AllByRecursion P (keys_of (xs ++ e ∷ []))
+all_join : (P : Ticket → Type 0) (xs : Entries) (e : Ticket × TicketState) → AllByRecursion P (keys_of xs) → P e.0 → AllByRecursion P (keys_of (xs ++ e ∷ []))
 all_join P [] e all last = (last, tt)
 all_join P (x ∷ xs) e all last = (all.0, all_join P xs e all.1 last)
 
-sorted_join : (xs : Entries) (e : Ticket × Standing) → IsStrictlySortedBy ticket_cmp (keys_of xs) → AllByRecursion (λ j. ticket_cmp j e.0 ≡ Less) (keys_of xs) → IsStrictlySortedBy ticket_cmp (keys_of (xs ++ e ∷ []))
+sorted_join : (xs : Entries) (e : Ticket × TicketState) → IsStrictlySortedBy ticket_cmp (keys_of xs) → AllByRecursion (λ j. ticket_cmp j e.0 ≡ Less) (keys_of xs) → IsStrictlySortedBy ticket_cmp (keys_of (xs ++ e ∷ []))
 unfolding IsStrictlySortedBy
 sorted_join [] e sorted below = (tt, tt)
 sorted_join (x ∷ xs) e sorted below = (all_join (λ j. ticket_cmp x.0 j ≡ Less) xs e sorted.0 below.0, sorted_join xs e sorted.1 below.1)
@@ -48,16 +48,16 @@ module _ (k : Ticket) where
   passes_remove [] ys above = refl
   passes_remove (x ∷ xs) ys above = ap (λ r. cond (is_eq r) (xs ++ ys) (x ∷ remove_entry (at k) (xs ++ ys))) above.0 ∙ ap (λ l. x ∷ l) (passes_remove xs ys above.1)
 
-  passes_set : (w : Standing) (xs ys : Entries) → AllByRecursion (λ j. ticket_cmp k j ≡ Greater) (keys_of xs) → set_value (at k) (xs ++ ys) w ≡ xs ++ set_value (at k) ys w
+  passes_set : (w : TicketState) (xs ys : Entries) → AllByRecursion (λ j. ticket_cmp k j ≡ Greater) (keys_of xs) → set_value (at k) (xs ++ ys) w ≡ xs ++ set_value (at k) ys w
   passes_set w [] ys above = refl
   passes_set w (x ∷ xs) ys above = ap (λ r. cond (is_eq r) ((x.0, w) ∷ xs ++ ys) (x ∷ set_value (at k) (xs ++ ys) w)) above.0 ∙ ap (λ l. x ∷ l) (passes_set w xs ys above.1)
 
-  passes_insert : (w : Standing) (xs ys : Entries) → AllByRecursion (λ j. ticket_cmp k j ≡ Greater) (keys_of xs) → insert_entry ticket_cmp (xs ++ ys) k w ≡ xs ++ insert_entry ticket_cmp ys k w
+  passes_insert : (w : TicketState) (xs ys : Entries) → AllByRecursion (λ j. ticket_cmp k j ≡ Greater) (keys_of xs) → insert_entry ticket_cmp (xs ++ ys) k w ≡ xs ++ insert_entry ticket_cmp ys k w
   passes_insert w [] ys above = refl
   passes_insert w (x ∷ xs) ys above = ap (λ r. match_ordering r ((k, w) ∷ x ∷ xs ++ ys) ((x.0, w) ∷ xs ++ ys) (x ∷ insert_entry ticket_cmp (xs ++ ys) k w)) above.0 ∙ ap (λ l. x ∷ l) (passes_insert w xs ys above.1)
 
   -- ---- a ticket that isn't the last
-  module _ (e : Ticket × Standing) where
+  module _ (e : Ticket × TicketState) where
     other_lookup : (xs : Entries) → at k e.0 ≡ false → lookup (at k) (xs ++ e ∷ []) ≡ lookup (at k) xs
     other_lookup [] apart = ap (λ b. cond b (Some e.1) None) apart
     other_lookup (x ∷ xs) apart = ap (cond (at k x.0) (Some x.1)) (other_lookup xs apart)
@@ -68,13 +68,13 @@ module _ (k : Ticket) where
         ap (λ l. cond (at k x.0) (xs ++ e ∷ []) (x ∷ l)) (other_remove xs apart)
         ∙ elim (at k x.0) as (λ b. cond b (xs ++ e ∷ []) (x ∷ remove_entry (at k) xs ++ e ∷ []) ≡ cond b xs (x ∷ remove_entry (at k) xs) ++ e ∷ []) [ true ↦ refl | false ↦ refl ]
 
-    other_set : (w : Standing) (xs : Entries) → at k e.0 ≡ false → set_value (at k) (xs ++ e ∷ []) w ≡ set_value (at k) xs w ++ e ∷ []
+    other_set : (w : TicketState) (xs : Entries) → at k e.0 ≡ false → set_value (at k) (xs ++ e ∷ []) w ≡ set_value (at k) xs w ++ e ∷ []
     other_set w [] apart = ap (λ b. cond b ((e.0, w) ∷ []) (e ∷ [])) apart
     other_set w (x ∷ xs) apart =
         ap (λ l. cond (at k x.0) ((x.0, w) ∷ xs ++ e ∷ []) (x ∷ l)) (other_set w xs apart)
         ∙ elim (at k x.0) as (λ b. cond b ((x.0, w) ∷ xs ++ e ∷ []) (x ∷ set_value (at k) xs w ++ e ∷ []) ≡ cond b ((x.0, w) ∷ xs) (x ∷ set_value (at k) xs w) ++ e ∷ []) [ true ↦ refl | false ↦ refl ]
 
-    less_insert : (w : Standing) (xs : Entries) → ticket_cmp k e.0 ≡ Less → insert_entry ticket_cmp (xs ++ e ∷ []) k w ≡ insert_entry ticket_cmp xs k w ++ e ∷ []
+    less_insert : (w : TicketState) (xs : Entries) → ticket_cmp k e.0 ≡ Less → insert_entry ticket_cmp (xs ++ e ∷ []) k w ≡ insert_entry ticket_cmp xs k w ++ e ∷ []
     less_insert w [] less = ap (λ r. match_ordering r ((k, w) ∷ e ∷ []) ((e.0, w) ∷ []) (e ∷ (k, w) ∷ [])) less
     less_insert w (x ∷ xs) less =
         ap (λ l. match_ordering (ticket_cmp k x.0) ((k, w) ∷ x ∷ xs ++ e ∷ []) ((x.0, w) ∷ xs ++ e ∷ []) (x ∷ l)) (less_insert w xs less)
@@ -114,7 +114,7 @@ unfolding IsStrictlySortedBy
 oldest_found k [] sorted = refl
 oldest_found k (e ∷ es) sorted =
     let xs = from_oldest es in
-    let last : Ticket × Standing = (e.0.0, e.1) in
+    let last : Ticket × TicketState = (e.0.0, e.1) in
     let below = all_below e.0.0 es sorted.0 in
     ap (λ b. cond b (Some e.1) (lookup (λ y. is_eq (ticket_cmp y.0 k)) es)) (flipped k e.0.0)
     ∙ ap (cond (at k e.0.0) (Some e.1)) (oldest_found k es sorted.1)
@@ -129,7 +129,7 @@ unfolding IsStrictlySortedBy
 oldest_removed k [] sorted = refl
 oldest_removed k (e ∷ es) sorted =
     let xs = from_oldest es in
-    let last : Ticket × Standing = (e.0.0, e.1) in
+    let last : Ticket × TicketState = (e.0.0, e.1) in
     let rest = remove_entry (λ y. is_eq (ticket_cmp y.0 k)) es in
     let below = all_below e.0.0 es sorted.0 in
     let later = ap (λ l. l ++ last ∷ []) (oldest_removed k es sorted.1) in
@@ -140,12 +140,12 @@ oldest_removed k (e ∷ es) sorted =
       | Greater ↦ λ is. later ∙ sym (other_remove k last xs (ap is_eq is))
     ] refl
 
-pub oldest_set : (k : Ticket) (w : Standing) (es : Youngest) → IsStrictlySortedBy young_cmp (keys_of es) → from_oldest (set_value (λ y. is_eq (ticket_cmp y.0 k)) es w) ≡ set_value (at k) (from_oldest es) w
+pub oldest_set : (k : Ticket) (w : TicketState) (es : Youngest) → IsStrictlySortedBy young_cmp (keys_of es) → from_oldest (set_value (λ y. is_eq (ticket_cmp y.0 k)) es w) ≡ set_value (at k) (from_oldest es) w
 unfolding IsStrictlySortedBy
 oldest_set k w [] sorted = refl
 oldest_set k w (e ∷ es) sorted =
     let xs = from_oldest es in
-    let last : Ticket × Standing = (e.0.0, e.1) in
+    let last : Ticket × TicketState = (e.0.0, e.1) in
     let rest = set_value (λ y. is_eq (ticket_cmp y.0 k)) es w in
     let below = all_below e.0.0 es sorted.0 in
     let later = ap (λ l. l ++ last ∷ []) (oldest_set k w es sorted.1) in
@@ -156,13 +156,13 @@ oldest_set k w (e ∷ es) sorted =
       | Greater ↦ λ is. later ∙ sym (other_set k last w xs (ap is_eq is))
     ] refl
 
-pub oldest_inserted : (key : Reverse Ticket) (w : Standing) (es : Youngest) → IsStrictlySortedBy young_cmp (keys_of es) → from_oldest (insert_entry young_cmp es key w) ≡ insert_entry ticket_cmp (from_oldest es) key.0 w
+pub oldest_inserted : (key : Reverse Ticket) (w : TicketState) (es : Youngest) → IsStrictlySortedBy young_cmp (keys_of es) → from_oldest (insert_entry young_cmp es key w) ≡ insert_entry ticket_cmp (from_oldest es) key.0 w
 unfolding IsStrictlySortedBy
 oldest_inserted key w [] sorted = refl
 oldest_inserted key w (e ∷ es) sorted =
     let k = key.0 in
     let xs = from_oldest es in
-    let last : Ticket × Standing = (e.0.0, e.1) in
+    let last : Ticket × TicketState = (e.0.0, e.1) in
     let rest = insert_entry young_cmp es key w in
     let below = all_below e.0.0 es sorted.0 in
     ap (λ r. from_oldest (match_ordering r ((key, w) ∷ e ∷ es) ((e.0, w) ∷ es) (e ∷ rest))) (ticket_cmp_total.antisymm e.0.0 k)
@@ -173,27 +173,27 @@ oldest_inserted key w (e ∷ es) sorted =
     ] refl
 
 -- what the calls of a visit's standing need
-pub seen_found : (k : Ticket) (es : Youngest) (old : Entries) (found : Option Standing) → IsStrictlySortedBy young_cmp (keys_of es) → from_oldest es ≡ old → lookup (at k) old ≡ found → lookup (λ y. is_eq (ticket_cmp y.0 k)) es ≡ found
+pub seen_found : (k : Ticket) (es : Youngest) (old : Entries) (found : Option TicketState) → IsStrictlySortedBy young_cmp (keys_of es) → from_oldest es ≡ old → lookup (at k) old ≡ found → lookup (λ y. is_eq (ticket_cmp y.0 k)) es ≡ found
 seen_found k es old found sorted view is = oldest_found k es sorted ∙ ap (lookup (at k)) view ∙ is
 
-pub seen_set : (k : Ticket) (w : Standing) (es new : Youngest) (old : Entries) → IsStrictlySortedBy young_cmp (keys_of es) → from_oldest es ≡ old → new ≡ set_value (λ y. is_eq (ticket_cmp y.0 k)) es w → from_oldest new ≡ set_value (at k) old w
+pub seen_set : (k : Ticket) (w : TicketState) (es new : Youngest) (old : Entries) → IsStrictlySortedBy young_cmp (keys_of es) → from_oldest es ≡ old → new ≡ set_value (λ y. is_eq (ticket_cmp y.0 k)) es w → from_oldest new ≡ set_value (at k) old w
 seen_set k w es new old sorted view is = ap from_oldest is ∙ oldest_set k w es sorted ∙ ap (λ l. set_value (at k) l w) view
 
 -- ---- inquiries
-pub inquired_last : (site : List ℕ) (xs : Entries) (e : Ticket × Standing) (after : List letters.Letter) → inquiries_of site (xs ++ e ∷ []) ++ after ≡ inquiries_of site xs ++ with_inquiry site e.0 e.1 after
+pub inquired_last : (site : List ℕ) (xs : Entries) (e : Ticket × TicketState) (after : List letters.Letter) → inquiries_of site (xs ++ e ∷ []) ++ after ≡ inquiries_of site xs ++ with_inquiry site e.0 e.1 after
 inquired_last site [] e after = one e.1
   where
-    one : (s : Standing) → with_inquiry site e.0 s [] ++ after ≡ with_inquiry site e.0 s after
-    one (standing.Alive visit) = refl
+    one : (s : TicketState) → with_inquiry site e.0 s [] ++ after ≡ with_inquiry site e.0 s after
+    one (standing.Active visit) = refl
     one (standing.Prepared txn) = refl
 inquired_last site (x ∷ xs) e after = one x.1 (inquired_last site xs e after)
   where
-    one : (s : Standing) → inquiries_of site (xs ++ e ∷ []) ++ after ≡ inquiries_of site xs ++ with_inquiry site e.0 e.1 after → with_inquiry site x.0 s (inquiries_of site (xs ++ e ∷ [])) ++ after ≡ with_inquiry site x.0 s (inquiries_of site xs) ++ with_inquiry site e.0 e.1 after
-    one (standing.Alive visit) rest = rest
+    one : (s : TicketState) → inquiries_of site (xs ++ e ∷ []) ++ after ≡ inquiries_of site xs ++ with_inquiry site e.0 e.1 after → with_inquiry site x.0 s (inquiries_of site (xs ++ e ∷ [])) ++ after ≡ with_inquiry site x.0 s (inquiries_of site xs) ++ with_inquiry site e.0 e.1 after
+    one (standing.Active visit) rest = rest
     one (standing.Prepared txn) rest = ap (with_inquiry site x.0 (standing.Prepared txn)) rest
 
 -- what is left to inquire about, and the inquiries so far
-pub inquired_more : (site : List ℕ) (rest new : Youngest) (key : Reverse Ticket) (s : Standing) (so_far after all : List letters.Letter) → rest ≡ (key, s) ∷ new → inquiries_of site (from_oldest rest) ++ so_far ≡ all → after ≡ with_inquiry site key.0 s so_far → inquiries_of site (from_oldest new) ++ after ≡ all
+pub inquired_more : (site : List ℕ) (rest new : Youngest) (key : Reverse Ticket) (s : TicketState) (so_far after all : List letters.Letter) → rest ≡ (key, s) ∷ new → inquiries_of site (from_oldest rest) ++ so_far ≡ all → after ≡ with_inquiry site key.0 s so_far → inquiries_of site (from_oldest new) ++ after ≡ all
 inquired_more site rest new key s so_far after all step is more =
     ap (λ l. inquiries_of site (from_oldest new) ++ l) more
     ∙ sym (inquired_last site (from_oldest new) (key.0, s) so_far)

@@ -21,15 +21,15 @@ use Rattle.store.specs.SiteContent.{is_ticket, row_of}
 use Rattle.protocol.specs.Parts.{In}
 use Rattle.protocol.proofs.Basics.{if_true, if_false, clash, left_true, right_true, all_in, found}
 use Rattle.site.specs.declared.locks.Locks.{Locks}
-use Rattle.site.specs.declared.standing.Standing as standings
-use Rattle.site.specs.declared.standing.Standing.TheVariants as standing
+use Rattle.site.specs.declared.tickets.TicketState as standings
+use Rattle.site.specs.declared.tickets.TicketState.TheVariants as standing
 use Rattle.site.specs.Locks.{free, locks_in, reads, writes, is_writer}
-use Rattle.site.specs.Starting.{grants, granted, stood_by, is_open, may_stand, all_may_stand}
-use Rattle.site.proofs.Tables.{Entries, at_ticket}
-use Rattle.site.proofs.Tickets.{ticket_is, ticket_same, leaf_is, leaf_sym}
+use Rattle.site.specs.Recovery.{grants, granted, stood_by, is_open, may_stand, all_may_stand}
+use Rattle.site.proofs.TicketStates.{Entries, at_ticket}
+use Rattle.site.proofs.TicketOrder.{ticket_is, ticket_same, leaf_is, leaf_sym}
 
 -- ---- entries
-pub inserted_there : (entries : Entries) (k : Ticket) (v : standings.Standing) (j : Ticket) → at_ticket (insert_entry ticket_cmp entries k v) j ≡ (if is_ticket j k then Some v else at_ticket entries j)
+pub inserted_there : (entries : Entries) (k : Ticket) (v : standings.TicketState) (j : Ticket) → at_ticket (insert_entry ticket_cmp entries k v) j ≡ (if is_ticket j k then Some v else at_ticket entries j)
 inserted_there [] k v j = refl
 inserted_there (e ∷ entries) k v j = go (ticket_cmp k e.0) refl (inserted_there entries k v j)
   where
@@ -79,7 +79,7 @@ pub none_after : (j : Ticket) (row : PreparedRow) (rows : List PreparedRow) → 
 none_after j row rows sorted is = ap (λ k. row_of k rows) (ticket_is j row.ticket is) ∙ none_below row.ticket rows (sorted_head ticket_cmp row.ticket (tickets_of rows) sorted)
 
 -- a row as it stands, or else what stood before
-abbrev pub standing_of : Option Row → Option standings.Standing → Option standings.Standing
+abbrev pub standing_of : Option Row → Option standings.TicketState → Option standings.TicketState
 standing_of None before = before
 standing_of (Some row) before = Some (standing.Prepared row.txn)
 
@@ -209,7 +209,7 @@ open_in changes g (l ∷ ls) all = go (open_in changes g ls (right_true (is_open
     go rest true = left_true (is_open changes l) _ all
     go rest false = rest
 
--- who writes, after one grant
+-- who writes, after one lock_exclusive
 writes_granted : (j k : Ticket) (changes : Changes) (l : Locks) → is_open changes l ≡ true → writes j (grants k changes l) ≡ ((is_ticket j k && touches l.leaf changes) || writes j l)
 writes_granted j k changes l is = go (touches l.leaf changes) l.writer (is_ticket j k) refl is
   where

@@ -14,13 +14,13 @@ use Rattle.protocol.specs.Parts.{In}
 use Rattle.protocol.specs.Site.{Dead, is_dead, restarted}
 use Rattle.protocol.proofs.Basics.{any_in, found, in_filter}
 use Rattle.protocol.proofs.Locks.{from_filter}
-use Rattle.site.specs.declared.standing.Standing as standings
-use Rattle.site.specs.declared.standing.Standing.TheVariants as standing
+use Rattle.site.specs.declared.tickets.TicketState as standings
+use Rattle.site.specs.declared.tickets.TicketState.TheVariants as standing
 use Rattle.protocol.specs.Letters.{name_of, ticket_of}
-use Rattle.site.specs.Starting.{Begins, Restarts, resting}
-use Rattle.site.specs.State.{Table, Fits, stands, visiting}
+use Rattle.site.specs.Recovery.{Begins, Restarts, resting}
+use Rattle.site.specs.State.{VolatileState, Fits, stands, visiting}
 use Rattle.site.proofs.Listed.{filter_names, listed_alive, lives_listed}
-use Rattle.site.proofs.Tickets.{same_bool, ticket_is, ticket_self}
+use Rattle.site.proofs.TicketOrder.{same_bool, ticket_is, ticket_self}
 
 -- lists in order that have the same tickets are the same
 same_tickets : (xs ys : List Ticket) → IsStrictlySortedBy ticket_cmp xs → IsStrictlySortedBy ticket_cmp ys → ((j : Ticket) → In j xs → In j ys) → ((j : Ticket) → In j ys → In j xs) → xs ≡ ys
@@ -46,21 +46,21 @@ row_rests : (r : Option Row) → is_some r ≡ true → is_dead (resting r) ≡ 
 row_rests None e = cc
 row_rests (Some row) e = refl
 
-row_stands : (table : Table) (j : Ticket) (r : Option Row) → is_some r ≡ true → is_dead (stands table j r) ≡ false
+row_stands : (table : VolatileState) (j : Ticket) (r : Option Row) → is_some r ≡ true → is_dead (stands table j r) ≡ false
 row_stands table j None e = cc
 row_stands table j (Some row) e = refl
 
-rested : (table : Table) (j : Ticket) (r : Option Row) → restarted (stands table j r) ≡ resting r
+rested : (table : VolatileState) (j : Ticket) (r : Option Row) → restarted (stands table j r) ≡ resting r
 rested table j (Some row) = refl
 rested table j None = go (table.standing j)
   where
-    go : (o : Option standings.Standing) → restarted (visiting table.locks j o) ≡ Dead
+    go : (o : Option standings.TicketState) → restarted (visiting table.locks j o) ≡ Dead
     go None = refl
-    go (Some (standing.Alive v)) = refl
+    go (Some (standing.Active v)) = refl
     go (Some (standing.Prepared t)) = refl
 
-module _ (old : SiteContent) (before : Table) (fits : Fits old before)
-    (new : SiteContent) (after : Table) (begun : Begins new after) (life : BeginsLife old new) where
+module _ (old : SiteContent) (before : VolatileState) (fits : Fits old before)
+    (new : SiteContent) (after : VolatileState) (begun : Begins new after) (life : BeginsLife old new) where
   abbrev row_kept : Ticket → Bool
   row_kept j = is_some (old.prepared j)
 

@@ -23,10 +23,10 @@ use Rattle.protocol.specs.Parts.{In}
 use Rattle.store.specs.Orders.{ticket_cmp_total}
 use Rattle.protocol.proofs.Basics.{clash, if_false, if_true}
 use Rattle.site.specs.Settled.{AreSettled, with_all, with_row, with_rows, with_some}
-use Rattle.site.specs.declared.standing.Standing as standings
-use Rattle.site.specs.State.{Fits, Table, txn_in}
+use Rattle.site.specs.declared.tickets.TicketState as standings
+use Rattle.site.specs.State.{Fits, VolatileState, txn_in}
 use Rattle.site.proofs.PreparedRows.{none_below}
-use Rattle.site.proofs.Tickets.{ticket_is, ticket_same, ticket_sym}
+use Rattle.site.proofs.TicketOrder.{ticket_is, ticket_same, ticket_sym}
 
 -- changes that are made over others, room for them made first
 pub made_more : (old mid new changes : Changes) → ((slot : Slot) → put_at mid slot ≡ put_at old slot) → ((slot : Slot) → put_at new slot ≡ unwrap_or (fin.get changes slot) (put_at mid slot)) → (leaf : Leaf) → made_by new leaf ≡ changed leaf changes (made_by old leaf)
@@ -108,12 +108,12 @@ each_in : (ks : List Ticket) (rows : List PreparedRow) → ((t : Ticket) → In 
 each_in ks [] all = tt
 each_in ks (row ∷ rows) all = (all row.ticket (inl refl), each_in ks rows (λ t here. all t (inr here)))
 
-stands_there : (o : Option standings.Standing) (r : Option Prepared) → txn_in o ≡ option_map (λ row. row.txn) r → is_some r ≡ true → is_some o ≡ true
+stands_there : (o : Option standings.TicketState) (r : Option Prepared) → txn_in o ≡ option_map (λ row. row.txn) r → is_some r ≡ true → is_some o ≡ true
 stands_there None None same some = some
 stands_there None (Some row) same some = absurd cc
 stands_there (Some o) r same some = refl
 
-settles : (decided : List Txn) (kept : SiteContent) (table : Table) (all : SiteKept) (made : Changes) → Lists kept all → Fits kept table → IsStrictlySortedBy ticket_cmp table.tickets → ((leaf : Leaf) → made_by made leaf ≡ with_rows decided leaf all.prepared (made_by all.parts leaf)) →
+settles : (decided : List Txn) (kept : SiteContent) (table : VolatileState) (all : SiteKept) (made : Changes) → Lists kept all → Fits kept table → IsStrictlySortedBy ticket_cmp table.tickets → ((leaf : Leaf) → made_by made leaf ≡ with_rows decided leaf all.prepared (made_by all.parts leaf)) →
     AreSettled decided kept table.tickets made
 settles decided kept table all made lists fits sorted is leaf =
     is leaf ∙ ap (with_rows decided leaf all.prepared) (lists.fragments leaf) ∙
@@ -121,7 +121,7 @@ settles decided kept table all made lists fits sorted is leaf =
     (each_in table.tickets all.prepared (λ t here. fits.listed t (stands_there (table.standing t) (kept.prepared t) (fits.prepared t) (subst (λ o. is_some o ≡ true) (lists.rows t) (some_row t all.prepared here))))) (kept.content leaf))
 
 -- so where what is kept was listed, and nothing has changed
-pub settles_still : (decided : List Txn) (old new : SiteContent) (table : Table) (all : SiteKept) (made : Changes) → IsUnchanged old new → Lists new all → Fits old table → IsStrictlySortedBy ticket_cmp table.tickets →
+pub settles_still : (decided : List Txn) (old new : SiteContent) (table : VolatileState) (all : SiteKept) (made : Changes) → IsUnchanged old new → Lists new all → Fits old table → IsStrictlySortedBy ticket_cmp table.tickets →
     ((leaf : Leaf) → made_by made leaf ≡ with_rows decided leaf all.prepared (made_by all.parts leaf)) → AreSettled decided old table.tickets made
 settles_still decided old new table all made same lists fits sorted is =
     let unchanged : new ≡ old = λ i. record { content = λ leaf. same.content leaf i; prepared = λ ticket. same.prepared ticket i; life = same.life i } in

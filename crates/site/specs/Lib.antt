@@ -1,13 +1,13 @@
 -- A site's machine over its store, in reading order.
 pub mod Fault
 pub mod Locks
-pub mod Standing
-pub mod Turn
-pub mod Rows
-pub mod Asked
+pub mod Tickets
+pub mod Verdict
+pub mod ReadLeaf
+pub mod PointRead
 pub mod State
 pub mod Moves
-pub mod Starting
+pub mod Recovery
 pub mod Inquiries
 pub mod Youngest
 pub mod Settled

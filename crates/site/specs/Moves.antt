@@ -10,17 +10,17 @@ use Rattle.store.specs.declared.name.Txn.{Txn}
 use Rattle.store.specs.Content.{Changes}
 use Rattle.store.specs.SiteContent.{is_ticket}
 use Rattle.site.specs.declared.locks.Locks.{Locks}
-use Rattle.site.specs.declared.standing.Standing as standings
-use Rattle.site.specs.declared.standing.Standing.TheVariants as standing
+use Rattle.site.specs.declared.tickets.TicketState as standings
+use Rattle.site.specs.declared.tickets.TicketState.TheVariants as standing
 use Rattle.site.specs.Locks.{with_reader, with_writer, stops, stops_reading}
-use Rattle.site.specs.State.{Table}
+use Rattle.site.specs.State.{VolatileState}
 
 -- the ticket that is drawn next
-abbrev pub next_of : Table → Ticket
+abbrev pub next_of : VolatileState → Ticket
 next_of table = record { life = table.life; visit = suc table.number }
 
 -- something else stands behind a ticket
-abbrev pub stood : Ticket → Option standings.Standing → (Ticket → Option standings.Standing) → Ticket → Option standings.Standing
+abbrev pub stood : Ticket → Option standings.TicketState → (Ticket → Option standings.TicketState) → Ticket → Option standings.TicketState
 stood ticket new standing other = if is_ticket ticket other then new else standing other
 
 -- the locks on one leaf are others
@@ -28,41 +28,41 @@ abbrev pub locked : Leaf → (Locks → Locks) → (Leaf → Locks) → Leaf →
 locked leaf step locks other = if is_eq (leaf_cmp other leaf) then step (locks other) else locks other
 
 -- a visit begins
-abbrev pub opened : Table → Table
+abbrev pub opened : VolatileState → VolatileState
 opened table = record table {
-  standing = stood (next_of table) (Some (standing.Alive (record { done = 0; changes = map.empty }))) table.standing;
+  standing = stood (next_of table) (Some (standing.Active (record { done = 0; changes = map.empty }))) table.standing;
   tickets = table.tickets ++ next_of table ∷ [];
-  alive = suc table.alive;
+  active = suc table.active;
   number = suc table.number;
 }
 
 -- a visit has done an operation that reads
-abbrev pub read : Ticket → ℕ → Changes → Leaf → Table → Table
+abbrev pub read : Ticket → ℕ → Changes → Leaf → VolatileState → VolatileState
 read ticket op changes leaf table = record table {
-  standing = stood ticket (Some (standing.Alive (record { done = op; changes = changes }))) table.standing;
+  standing = stood ticket (Some (standing.Active (record { done = op; changes = changes }))) table.standing;
   locks = locked leaf (with_reader ticket) table.locks;
 }
 
 -- one that writes
-abbrev pub wrote : Ticket → ℕ → Changes → Leaf → Table → Table
+abbrev pub wrote : Ticket → ℕ → Changes → Leaf → VolatileState → VolatileState
 wrote ticket op changes leaf table = record table {
-  standing = stood ticket (Some (standing.Alive (record { done = op; changes = changes }))) table.standing;
+  standing = stood ticket (Some (standing.Active (record { done = op; changes = changes }))) table.standing;
   locks = locked leaf (with_writer ticket) table.locks;
 }
 
 -- a visit is prepared
-abbrev pub prepared : Ticket → Txn → Table → Table
+abbrev pub prepared : Ticket → Txn → VolatileState → VolatileState
 prepared ticket txn table = record table {
   standing = stood ticket (Some (standing.Prepared txn)) table.standing;
   locks = λ leaf. stops_reading ticket table.number (table.locks leaf);
-  alive = table.alive - 1;
+  active = table.active - 1;
 }
 
 -- nothing stands behind a ticket any more
-abbrev pub gone : Ticket → ℕ → Table → Table
-gone ticket alive table = record table {
+abbrev pub gone : Ticket → ℕ → VolatileState → VolatileState
+gone ticket active table = record table {
   standing = stood ticket None table.standing;
   tickets = filter (λ other. not (is_ticket ticket other)) table.tickets;
   locks = λ leaf. stops ticket table.number (table.locks leaf);
-  alive = alive;
+  active = active;
 }

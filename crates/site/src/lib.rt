@@ -14,19 +14,14 @@
 //! ```
 #![tactic(auto)]
 
-mod asked;
-mod ending;
 pub mod fault;
-mod inquiring;
 pub mod laws;
 mod locks;
-mod present;
-mod reading;
-mod rows;
-mod settling;
+mod operations;
+mod phases;
+mod read_leaf;
+mod recovery;
 pub mod site;
-mod standing;
-mod standings;
-mod starting;
-mod turn;
-mod writing;
+mod tickets;
+mod verdict;
+mod volatile;

@@ -4,7 +4,7 @@ ghost use Rattle.std.specs.Prelude.{◌≡◌, ◌<◌, Some, OnOk, OnErr, lengt
 ghost use Rattle.std.specs.List.{list_all, list_any};
 ghost use Rattle.store.specs.SiteContent.{is_ticket};
 ghost use Rattle.site.specs.Locks.{free, others_write, is_foreign, with_reader, with_writer, stops, stops_reading, stops_writing, place_in};
-ghost use Rattle.site.specs.Starting.{grants, is_open, leaves_in};
+ghost use Rattle.site.specs.Recovery.{grants, is_open, leaves_in};
 ghost use Rattle.site.specs.declared.locks.Locks.{Locks as LocksNow};
 
 use std::alloc::Global;
@@ -63,7 +63,7 @@ impl Locks {
     }
 
     /// Grants the shared lock.
-    fn share(&mut self, ticket: Ticket) -> Result<(), Memory>
+    fn lock_shared(&mut self, ticket: Ticket) -> Result<(), Memory>
         ensures ok { OnOk result (self.new ≡ with_reader ticket self.old) }
         ensures err { OnErr result (self.new ≡ self.old) }
         ensures leaf { self.new.leaf ≡ self.old.leaf }
@@ -73,18 +73,18 @@ impl Locks {
     }
 
     /// Grants the exclusive lock.
-    fn grant(&mut self, ticket: Ticket)
+    fn lock_exclusive(&mut self, ticket: Ticket)
         ensures { self.new ≡ with_writer ticket self.old }
     {
         self.writer = Some(ticket);
     }
 
     /// Grants the exclusive lock on a leaf that changes touch.
-    fn grant_touched(&mut self, ticket: Ticket, changes: &Changes)
+    fn lock_touched(&mut self, ticket: Ticket, changes: &Changes)
         ensures { self.new ≡ grants ticket changes.now self.old }
     {
         if changes.touches(&self.leaf) {
-            self.grant(ticket);
+            self.lock_exclusive(ticket);
         }
     }
 
@@ -96,7 +96,7 @@ impl Locks {
     }
 
     /// Lets a shared lock go, after so many tickets were drawn.
-    fn stop_reading(&mut self, ticket: &Ticket, drawn: u64)
+    fn release_shared(&mut self, ticket: &Ticket, drawn: u64)
         ensures { self.new ≡ stops_reading ticket.now drawn self.old }
     {
         let _count = self.readers.len();
@@ -106,7 +106,7 @@ impl Locks {
     }
 
     /// Lets an exclusive lock go, after so many tickets were drawn.
-    fn stop_writing(&mut self, ticket: &Ticket, drawn: u64)
+    fn release_exclusive(&mut self, ticket: &Ticket, drawn: u64)
         ensures { self.new ≡ stops_writing ticket.now drawn self.old }
     {
         if let Some(writer) = self.writer
@@ -118,11 +118,11 @@ impl Locks {
     }
 
     /// Lets both go, after so many tickets were drawn.
-    fn stop(&mut self, ticket: &Ticket, drawn: u64)
+    fn release(&mut self, ticket: &Ticket, drawn: u64)
         ensures { self.new ≡ stops ticket.now drawn self.old }
     {
-        self.stop_reading(ticket, drawn);
-        self.stop_writing(ticket, drawn);
+        self.release_shared(ticket, drawn);
+        self.release_exclusive(ticket, drawn);
     }
 }
 
@@ -141,49 +141,53 @@ pub(crate) fn is_open(locks: &[Locks], changes: &Changes) -> bool
 }
 
 /// A ticket has the exclusive lock on each leaf that its changes touch.
-pub(crate) fn grant(locks: &mut [Locks], ticket: Ticket, changes: &Changes)
+pub(crate) fn lock_exclusive(locks: &mut [Locks], ticket: Ticket, changes: &Changes)
     ensures { locks.new ≡ map (grants ticket changes.now) locks.old }
 {
     for place in 0..locks.len() {
-        locks[place].grant_touched(ticket, changes);
+        locks[place].lock_touched(ticket, changes);
     }
 }
 
 /// A ticket gets the shared lock on the leaf at a place.
-pub(crate) fn share_at(locks: &mut Vec<Locks>, place: usize, ticket: Ticket) -> Result<(), Memory>
+pub(crate) fn lock_shared_at(
+    locks: &mut Vec<Locks>,
+    place: usize,
+    ticket: Ticket,
+) -> Result<(), Memory>
     requires { place < length locks.old.items }
 
     ensures ok { (at : LocksNow) → slice_get locks.old.items place ≡ Some at → OnOk result (locks.new.items ≡ slice_set locks.old.items place (with_reader ticket at)) }
     ensures err { OnErr result (locks.new.items ≡ locks.old.items) }
     ensures leaves { leaves_in locks.new.items ≡ leaves_in locks.old.items }
 {
-    locks[place].share(ticket)
+    locks[place].lock_shared(ticket)
 }
 
 /// A ticket gets the exclusive lock on the leaf at a place.
-pub(crate) fn grant_at(locks: &mut Vec<Locks>, place: usize, ticket: Ticket)
+pub(crate) fn lock_exclusive_at(locks: &mut Vec<Locks>, place: usize, ticket: Ticket)
     requires { place < length locks.old.items }
 
     ensures granted { (at : LocksNow) → slice_get locks.old.items place ≡ Some at → locks.new.items ≡ slice_set locks.old.items place (with_writer ticket at) }
     ensures leaves { leaves_in locks.new.items ≡ leaves_in locks.old.items }
 {
-    locks[place].grant(ticket);
+    locks[place].lock_exclusive(ticket);
 }
 
 /// A ticket lets go of its shared locks, after so many tickets were drawn.
-pub(crate) fn stop_reading(locks: &mut [Locks], ticket: &Ticket, drawn: u64)
+pub(crate) fn release_shared(locks: &mut [Locks], ticket: &Ticket, drawn: u64)
     ensures { locks.new ≡ map (stops_reading ticket.now drawn) locks.old }
 {
     for place in 0..locks.len() {
-        locks[place].stop_reading(ticket, drawn);
+        locks[place].release_shared(ticket, drawn);
     }
 }
 
 /// A ticket lets go of all its locks, after so many tickets were drawn.
-pub(crate) fn stop(locks: &mut [Locks], ticket: &Ticket, drawn: u64)
+pub(crate) fn release(locks: &mut [Locks], ticket: &Ticket, drawn: u64)
     ensures { locks.new ≡ map (stops ticket.now drawn) locks.old }
 {
     for place in 0..locks.len() {
-        locks[place].stop(ticket, drawn);
+        locks[place].release(ticket, drawn);
     }
 }

@@ -12,20 +12,18 @@ ghost use Rattle.store.specs.SiteContent.{IsUnchanged, BeginsLife, Lists};
 ghost use Rattle.protocol.specs.Letters.{name_of, letter_of, order_body, txn_name, kept_by, kept_in, letters_of};
 ghost use Rattle.site.specs.Refusals.{IsElsewhere, IsToKeep, IsBeyond, CallsStore, IsPastLimits, AsksElsewhere, AsksToKeep};
 ghost use Rattle.site.specs.Fault.{StopsStart};
-ghost use Rattle.site.specs.Frame.{LeavesPresent, TurnsAway, StepsBy, Reads, ChangesOrFails, RestartsOrFails};
-ghost use Rattle.site.specs.Starting.{Begins, IsStrange, leaves_in};
+ghost use Rattle.site.specs.Frame.{LeavesVolatile, TurnsAway, StepsBy, Reads, ChangesOrFails, RestartsOrFails};
+ghost use Rattle.site.specs.Recovery.{Begins, IsStrange, leaves_in};
 ghost use Rattle.site.specs.Settled.{AreSettled};
-ghost use Rattle.site.specs.State.{Fits, Steps, Takes, state_of, table_of};
+ghost use Rattle.site.specs.State.{Fits, Steps, Takes, state_of, volatile_of};
 
-use crate::ending::{abort, commit, give_up, prepare};
 use crate::fault::{SiteFault, site_fault};
 use crate::locks::Locks;
-use crate::present::Present;
-use crate::reading::fetch;
-use crate::settling::settle;
-use crate::starting::{begin, leaves_of};
-use crate::turn::is_elsewhere;
-use crate::writing::{intend, open};
+use crate::operations::{fetch, intend, open};
+use crate::phases::{abort, commit, give_up, prepare};
+use crate::recovery::{begin, leaves_of, settle};
+use crate::verdict::is_elsewhere;
+use crate::volatile::Volatile;
 use std::alloc::Global;
 use store::changes::Changes;
 use store::fault::StoreFault;
@@ -45,7 +43,7 @@ use terms::text::Text;
 #[derive(Drop)]
 pub struct Site<S: SiteStore> {
     store: S,
-    present: Present,
+    volatile: Volatile,
 }
 
 /// A store whose site didn't start, and why.
@@ -67,10 +65,10 @@ impl<S: SiteStore> Site<S> {
         ensures leaves_store { IfOk result (λ site. LeavesStore S.is_clean S.is_sound S.refused store site.store) }
         ensures leaves_still { IfErr result (λ unstarted. LeavesStore S.is_clean S.is_sound S.refused store unstarted.store) }
         ensures learnt { IfOk result (λ site. S.is_clean site.store → S.is_sound store) }
-        ensures ok { IfOk result (λ site. S.is_clean site.store → Begins (S.kept site.store) (table_of site.present)) }
+        ensures ok { IfOk result (λ site. S.is_clean site.store → Begins (S.kept site.store) (volatile_of site.volatile)) }
         ensures life { IfOk result (λ site. S.is_clean site.store → BeginsLife (S.kept store) (S.kept site.store)) }
-        ensures name { IfOk result (λ site. site.present.name ≡ name) }
-        ensures leaves { IfOk result (λ site. leaves_in site.present.locks.items ≡ leaves.now) }
+        ensures name { IfOk result (λ site. site.volatile.name ≡ name) }
+        ensures leaves { IfOk result (λ site. leaves_in site.volatile.locks.items ≡ leaves.now) }
         ensures same { IfErr result (λ unstarted. S.is_clean unstarted.store → S.is_sound store → IsUnchanged (S.kept store) (S.kept unstarted.store)) }
         ensures refusal { IfErr result (λ unstarted. unstarted.fault ≡ faults.Store store_faults.Refused → HasRefused (S.refused store) (S.refused unstarted.store)) }
         ensures full { IfErr result (λ unstarted. S.is_clean unstarted.store → unstarted.fault ≡ faults.Full → 2 ^ 63 ≤ (S.kept unstarted.store).life + 1) }
@@ -81,12 +79,12 @@ impl<S: SiteStore> Site<S> {
         match begin(&mut store, alloc, leaves) {
             Ok(begun) => Ok(Site {
                 store,
-                present: Present {
+                volatile: Volatile {
                     alloc,
                     name,
                     locks: begun.resting.locks,
                     standings: begun.resting.standings,
-                    alive: 0,
+                    active: 0,
                     life: begun.life,
                     number: 0,
                 },
@@ -97,34 +95,34 @@ impl<S: SiteStore> Site<S> {
 
     /// Restarts: visits and their locks are lost, and the next life begins. On a fault nothing has changed.
     pub fn restart(&mut self) -> Result<(), SiteFault>
-        ensures restarts { RestartsOrFails S.is_clean S.is_sound S.kept S.refused true self.old.store self.new.store self.old.present self.new.present result }
+        ensures restarts { RestartsOrFails S.is_clean S.is_sound S.kept S.refused true self.old.store self.new.store self.old.volatile self.new.volatile result }
     {
         self.restart_kept(true)
     }
 
     /// So, but where `kept` is false the store isn't called, and counts as having refused.
     pub fn restart_kept(&mut self, kept: bool) -> Result<(), SiteFault>
-        ensures restarts { RestartsOrFails S.is_clean S.is_sound S.kept S.refused kept self.old.store self.new.store self.old.present self.new.present result }
+        ensures restarts { RestartsOrFails S.is_clean S.is_sound S.kept S.refused kept self.old.store self.new.store self.old.volatile self.new.volatile result }
     {
         if !kept {
             return Err(SiteFault::Store(StoreFault::Refused));
         }
-        let alloc = self.present.alloc;
-        let leaves = leaves_of(alloc, self.present.locks.as_slice())?;
+        let alloc = self.volatile.alloc;
+        let leaves = leaves_of(alloc, self.volatile.locks.as_slice())?;
         let begun = begin(&mut self.store, alloc, leaves.as_slice())?;
-        self.present.restart(begun);
+        self.volatile.restart(begun);
         Ok(())
     }
 
     /// The site's inquiries, one about each prepared row, by ticket: what is in memory fits with the tickets
     /// in ascending order.
     pub fn inquire(&self) -> Result<Vec<Letter>, Memory>
-        ensures { Fits (S.kept self.now.store) (table_of self.now.present)
-            → IfOk result (λ letters. map letter_of letters.items ≡ inquiries self.now.present.name (state_of (S.kept self.now.store) (table_of self.now.present))) }
+        ensures { Fits (S.kept self.now.store) (volatile_of self.now.volatile)
+            → IfOk result (λ letters. map letter_of letters.items ≡ inquiries self.now.volatile.name (state_of (S.kept self.now.store) (volatile_of self.now.volatile))) }
     {
-        self.present
+        self.volatile
             .standings
-            .inquire(self.present.alloc, &self.present.name)
+            .inquire(self.volatile.alloc, &self.volatile.name)
     }
 
     /// All that the store keeps.
@@ -132,7 +130,7 @@ impl<S: SiteStore> Site<S> {
         ensures learnt { S.is_clean self.new.store → OnOk result (S.is_sound self.old.store) }
         ensures all { S.is_clean self.new.store → IfOk result (Lists (S.kept self.new.store)) }
         ensures reads { Reads S.is_clean S.is_sound S.kept S.refused self.old.store self.new.store result }
-        ensures memory { self.new.present ≡ self.old.present }
+        ensures memory { self.new.volatile ≡ self.old.volatile }
     {
         match self.store.load() {
             Ok(all) => Ok(all),
@@ -143,67 +141,67 @@ impl<S: SiteStore> Site<S> {
     /// The fragments with the intentions of those prepared rows whose transactions are decided: the changes
     /// that make them of nothing. Nothing is changed by this.
     pub fn settled(&mut self, decided: &[Txn]) -> Result<Changes, SiteFault>
-        ensures ok { S.is_clean self.new.store → Fits (S.kept self.old.store) (table_of self.old.present)
-            → IfOk result (AreSettled decided.now (S.kept self.old.store) (table_of self.old.present).tickets) }
+        ensures ok { S.is_clean self.new.store → Fits (S.kept self.old.store) (volatile_of self.old.volatile)
+            → IfOk result (AreSettled decided.now (S.kept self.old.store) (volatile_of self.old.volatile).tickets) }
         ensures reads { Reads S.is_clean S.is_sound S.kept S.refused self.old.store self.new.store result }
-        ensures memory { self.new.present ≡ self.old.present }
+        ensures memory { self.new.volatile ≡ self.old.volatile }
     {
-        let _tickets = self.present.standings.len();
+        let _tickets = self.volatile.standings.len();
         let all = self.kept()?;
         Ok(settle(all, decided)?)
     }
 
     /// Takes a letter, and answers the letters that the site puts out. On a fault nothing has changed.
     pub fn take(&mut self, letter: Letter) -> Result<Vec<Letter>, SiteFault>
-        ensures turns { TurnsAway self.old.present letter result }
-        ensures full { Fits (S.kept self.old.store) (table_of self.old.present) → result ≡ Err faults.Full → IsPastLimits (S.kept self.old.store) (table_of self.old.present) letter }
-        ensures ok { S.is_clean self.new.store → S.is_sound self.old.store → Fits (S.kept self.old.store) (table_of self.old.present)
-            → IfOk result (λ letters. Takes (S.kept self.old.store) (table_of self.old.present) (S.kept self.new.store) (table_of self.new.present) letter letters.items) }
-        ensures fails { ChangesOrFails S.is_clean S.is_sound S.kept S.refused true self.old.store self.new.store self.old.present self.new.present result }
-        ensures vote { AsksToKeep (table_of self.old.present) letter.body → IfOk result (λ letters. kept_in letters.items ≡ false → HasRefused (S.refused self.old.store) (S.refused self.new.store)) }
+        ensures turns { TurnsAway self.old.volatile letter result }
+        ensures full { Fits (S.kept self.old.store) (volatile_of self.old.volatile) → result ≡ Err faults.Full → IsPastLimits (S.kept self.old.store) (volatile_of self.old.volatile) letter }
+        ensures ok { S.is_clean self.new.store → S.is_sound self.old.store → Fits (S.kept self.old.store) (volatile_of self.old.volatile)
+            → IfOk result (λ letters. Takes (S.kept self.old.store) (volatile_of self.old.volatile) (S.kept self.new.store) (volatile_of self.new.volatile) letter letters.items) }
+        ensures fails { ChangesOrFails S.is_clean S.is_sound S.kept S.refused true self.old.store self.new.store self.old.volatile self.new.volatile result }
+        ensures vote { AsksToKeep (volatile_of self.old.volatile) letter.body → IfOk result (λ letters. kept_in letters.items ≡ false → HasRefused (S.refused self.old.store) (S.refused self.new.store)) }
     {
         self.take_kept(letter, true)
     }
 
     /// So, but where `kept` is false the store isn't called, and counts as having refused.
     pub fn take_kept(&mut self, letter: Letter, kept: bool) -> Result<Vec<Letter>, SiteFault>
-        ensures turns { TurnsAway self.old.present letter result }
-        ensures full { Fits (S.kept self.old.store) (table_of self.old.present) → result ≡ Err faults.Full → IsPastLimits (S.kept self.old.store) (table_of self.old.present) letter }
-        ensures ok { S.is_clean self.new.store → S.is_sound self.old.store → Fits (S.kept self.old.store) (table_of self.old.present)
-            → IfOk result (λ letters. Takes (S.kept self.old.store) (table_of self.old.present) (S.kept self.new.store) (table_of self.new.present) letter letters.items) }
-        ensures fails { ChangesOrFails S.is_clean S.is_sound S.kept S.refused kept self.old.store self.new.store self.old.present self.new.present result }
-        ensures vote { AsksToKeep (table_of self.old.present) letter.body → IfOk result (λ letters. kept_in letters.items ≡ false → (kept ≡ false) ⊎ HasRefused (S.refused self.old.store) (S.refused self.new.store)) }
+        ensures turns { TurnsAway self.old.volatile letter result }
+        ensures full { Fits (S.kept self.old.store) (volatile_of self.old.volatile) → result ≡ Err faults.Full → IsPastLimits (S.kept self.old.store) (volatile_of self.old.volatile) letter }
+        ensures ok { S.is_clean self.new.store → S.is_sound self.old.store → Fits (S.kept self.old.store) (volatile_of self.old.volatile)
+            → IfOk result (λ letters. Takes (S.kept self.old.store) (volatile_of self.old.volatile) (S.kept self.new.store) (volatile_of self.new.volatile) letter letters.items) }
+        ensures fails { ChangesOrFails S.is_clean S.is_sound S.kept S.refused kept self.old.store self.new.store self.old.volatile self.new.volatile result }
+        ensures vote { AsksToKeep (volatile_of self.old.volatile) letter.body → IfOk result (λ letters. kept_in letters.items ≡ false → (kept ≡ false) ⊎ HasRefused (S.refused self.old.store) (S.refused self.new.store)) }
     {
-        if !letter.site.same(&self.present.name) {
+        if !letter.site.same(&self.volatile.name) {
             return Err(SiteFault::Stranger);
         }
-        let Ok(letters) = room(self.present.alloc) else {
-            return Err(unanswered(self.present.locks.as_slice(), &letter.body));
+        let Ok(letters) = room(self.volatile.alloc) else {
+            return Err(unanswered(self.volatile.locks.as_slice(), &letter.body));
         };
         let Letter { site, txn, body } = letter;
         let order = match body {
             Body::Order(order) => order,
             Body::Reply(_) => return Ok(letters),
         };
-        let reply = obey(&mut self.store, &mut self.present, txn, order, kept)?;
+        let reply = obey(&mut self.store, &mut self.volatile, txn, order, kept)?;
         Ok(addressed(letters, site, txn, reply))
     }
 
     /// Ends a visit that isn't prepared, and does nothing else.
     pub fn give_up(&mut self, ticket: &Ticket)
-        ensures present { LeavesPresent self.old.present self.new.present }
-        ensures ok { Fits (S.kept self.old.store) (table_of self.old.present) → Steps (S.kept self.old.store) (table_of self.old.present) (S.kept self.new.store) (table_of self.new.present)
-            (on_give_up (name_of ticket.now) ((state_of (S.kept self.old.store) (table_of self.old.present)).status (name_of ticket.now))) None }
+        ensures volatile { LeavesVolatile self.old.volatile self.new.volatile }
+        ensures ok { Fits (S.kept self.old.store) (volatile_of self.old.volatile) → Steps (S.kept self.old.store) (volatile_of self.old.volatile) (S.kept self.new.store) (volatile_of self.new.volatile)
+            (on_give_up (name_of ticket.now) ((state_of (S.kept self.old.store) (volatile_of self.old.volatile)).status (name_of ticket.now))) None }
         ensures store { self.new.store ≡ self.old.store }
     {
-        give_up(&mut self.present, ticket);
+        give_up(&mut self.volatile, ticket);
     }
 
     /// The site's name.
     pub fn name(&self) -> &Text
-        ensures { result.now ≡ self.now.present.name }
+        ensures { result.now ≡ self.now.volatile.name }
     {
-        &self.present.name
+        &self.volatile.name
     }
 
     /// The store.
@@ -257,26 +255,26 @@ fn addressed(letters: Vec<Letter>, site: Text, txn: Txn, reply: Option<Reply>) -
 /// store isn't called, and counts as having refused.
 fn obey<S: SiteStore>(
     store: &mut S,
-    present: &mut Present,
+    volatile: &mut Volatile,
     txn: Txn,
     order: Order,
     kept: bool,
 ) -> Result<Option<Reply>, SiteFault>
-    ensures elsewhere { IsElsewhere present.old.locks.items order → result ≡ Err faults.Stranger }
-    ensures vote { IsToKeep (table_of present.old) order → IfOk result (λ reply. kept_by reply ≡ false → (kept ≡ false) ⊎ HasRefused (S.refused store.old) (S.refused store.new)) }
-    ensures stranger { result ≡ Err faults.Stranger → IsElsewhere present.old.locks.items order }
-    ensures full { result ≡ Err faults.Full → IsBeyond (table_of present.old) order }
-    ensures calls { (fault : StoreFaultName) → result ≡ Err (faults.Store fault) → CallsStore (table_of present.old) order }
-    ensures beyond { IsBeyond (table_of present.old) order → (result ≡ Err faults.Full) ⊎ ((result ≡ Err faults.Memory) ⊎ (result ≡ Err faults.Stranger)) }
-    ensures ok { StepsBy S.is_clean S.is_sound S.kept store.old store.new present.old present.new result (λ reply. on_letter (state_of (S.kept store.old) (table_of present.old)) (txn_name txn) (kept_by reply) (order_body order)) }
-    ensures fails { ChangesOrFails S.is_clean S.is_sound S.kept S.refused kept store.old store.new present.old present.new result }
+    ensures elsewhere { IsElsewhere volatile.old.locks.items order → result ≡ Err faults.Stranger }
+    ensures vote { IsToKeep (volatile_of volatile.old) order → IfOk result (λ reply. kept_by reply ≡ false → (kept ≡ false) ⊎ HasRefused (S.refused store.old) (S.refused store.new)) }
+    ensures stranger { result ≡ Err faults.Stranger → IsElsewhere volatile.old.locks.items order }
+    ensures full { result ≡ Err faults.Full → IsBeyond (volatile_of volatile.old) order }
+    ensures calls { (fault : StoreFaultName) → result ≡ Err (faults.Store fault) → CallsStore (volatile_of volatile.old) order }
+    ensures beyond { IsBeyond (volatile_of volatile.old) order → (result ≡ Err faults.Full) ⊎ ((result ≡ Err faults.Memory) ⊎ (result ≡ Err faults.Stranger)) }
+    ensures ok { StepsBy S.is_clean S.is_sound S.kept store.old store.new volatile.old volatile.new result (λ reply. on_letter (state_of (S.kept store.old) (volatile_of volatile.old)) (txn_name txn) (kept_by reply) (order_body order)) }
+    ensures fails { ChangesOrFails S.is_clean S.is_sound S.kept S.refused kept store.old store.new volatile.old volatile.new result }
 {
     match order {
-        Order::Open => open(present),
-        Order::Fetch(order) => fetch(store, present, order, kept),
-        Order::Intend(intention) => intend(present, intention),
-        Order::Prepare(order) => prepare(store, present, txn, order, kept),
-        Order::Commit(ticket) => commit(store, present, ticket, kept),
-        Order::Abort(ticket) => abort(store, present, ticket, kept),
+        Order::Open => open(volatile),
+        Order::Fetch(order) => fetch(store, volatile, order, kept),
+        Order::Intend(intention) => intend(volatile, intention),
+        Order::Prepare(order) => prepare(store, volatile, txn, order, kept),
+        Order::Commit(ticket) => commit(store, volatile, ticket, kept),
+        Order::Abort(ticket) => abort(store, volatile, ticket, kept),
     }
 }

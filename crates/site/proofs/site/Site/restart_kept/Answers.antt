@@ -2,9 +2,9 @@
 use Rattle.std.proofs.Common.{rules, sym, ap, ◌∙◌, subst, Err}
 use Rattle.store.specs.declared.fault.StoreFault.TheVariants as store_faults
 use Rattle.site.specs.declared.fault.SiteFault.TheVariants as faults
-use Rattle.site.specs.Starting.{Begins, IsStrange, leaves_in}
-use Rattle.site.specs.State.{table_of}
-use Rattle.site.proofs.Beginning.{fault_is}
+use Rattle.site.specs.Recovery.{Begins, IsStrange, leaves_in}
+use Rattle.site.specs.State.{volatile_of}
+use Rattle.site.proofs.Recovered.{fault_is}
 use Rattle.site.proofs.Restarting.{restarts}
 use Rattle.site.proofs.site.Site.restart_kept.Goals as goal
 
@@ -46,7 +46,7 @@ returns g c =
         uncalled = search rules;
         ok = λ clean fits.
             let begun = subst (Begins new) (sym c.restart.ensures.begun) (c.in_ok-begun.ensures.ok clean) in
-            restarts old (table_of c.args.self.now.present) fits new (table_of c.restart.new.self) begun (c.in_ok-begun.ensures.fails.life clean);
+            restarts old (volatile_of c.args.self.now.volatile) fits new (volatile_of c.restart.new.self) begun (c.in_ok-begun.ensures.fails.life clean);
         rests = search rules;
         own = search rules;
       };

@@ -1,0 +1,174 @@
+//! The rows that a fetch answers: of a whole leaf, or of the one key that it asks for.
+
+ghost use Rattle.std.specs.Prelude.{◌≡◌, [], IfOk, IfSome, option_to_list, unwrap_or};
+ghost use Rattle.std.specs.FinMap as map;
+ghost use Rattle.std.specs.List.{filter};
+ghost use Rattle.terms.specs.Cond.{conds_hold};
+ghost use Rattle.store.specs.Content.{Content, IsKeyed, changed, parts, AreKeyed};
+ghost use Rattle.site.specs.ReadLeaf.{stored};
+ghost use Rattle.site.specs.Frame.{Reads};
+ghost use Rattle.site.specs.State.{volatile_of, changes_at};
+ghost use Rattle.store.specs.Laws.{AskKey};
+ghost use Rattle.site.specs.PointRead.{key_equality_of, key_equality};
+
+use crate::fault::{SiteFault, site_fault};
+use crate::volatile::Volatile;
+use std::alloc::Global;
+use store::changes::Changes;
+use store::laws::one_key_suffices;
+use store::name::Ticket;
+use store::site_store::SiteStore;
+use store::slot::Slot;
+use terms::cond::{Cmp, Cond, Conds};
+use terms::copy::TryCopy;
+use terms::leaf::Leaf;
+use terms::memory::Memory;
+use terms::part::Part;
+use terms::value::Value;
+
+/// The parts of a leaf that meet conditions, after a visit's own changes. Conditions that ask for one key
+/// cost one part, and not the leaf.
+pub(crate) fn rows<S: SiteStore>(
+    store: &mut S,
+    volatile: &Volatile,
+    ticket: &Ticket,
+    leaf: &Leaf,
+    conds: &Conds,
+) -> Result<Vec<Part>, SiteFault>
+    ensures rows { S.is_clean store.new → S.is_sound store.old → IfOk result (λ rows. rows.items ≡ parts conds.now (changed leaf.now (changes_at (volatile_of volatile.now) ticket.now) ((S.kept store.old).content leaf.now))) }
+    ensures reads { Reads S.is_clean S.is_sound S.kept S.refused store.old store.new result }
+{
+    if let Some(key) = key_equality(conds.as_slice()) {
+        return read_point(store, volatile, ticket, leaf, key, conds);
+    }
+    let kept = match store.scan(leaf) {
+        Ok(parts) => parts,
+        Err(fault) => return Err(site_fault(fault)),
+    };
+    match volatile.changes(ticket) {
+        Some(changes) => Ok(overlaid(volatile.alloc, kept, changes, leaf, conds)?),
+        None => Ok(meeting(kept, conds)),
+    }
+}
+
+/// The parts that meet conditions, after changes. Each part stands under its own key.
+fn overlaid(
+    alloc: Global,
+    kept: Vec<Part>,
+    changes: &Changes,
+    leaf: &Leaf,
+    conds: &Conds,
+) -> Result<Vec<Part>, Memory>
+    ensures { (content : Content) → IsKeyed content → kept.items ≡ map.values content → IfOk result (λ rows. rows.items ≡ parts conds.now (changed leaf.now changes.now content)) }
+{
+    if !changes.touches(leaf) {
+        return Ok(meeting(kept, conds));
+    }
+    let mut all = stored(alloc, kept.as_slice(), leaf)?;
+    all.make_rooms(changes)?;
+    all.make(changes.copy()?);
+    let parts = all.list(leaf)?;
+    Ok(meeting(parts, conds))
+}
+
+/// The parts as changes that put them into the leaf.
+fn stored(alloc: Global, parts: &[Part], leaf: &Leaf) -> Result<Changes, Memory>
+    ensures { IfOk result (λ all. all ≡ stored leaf.now parts.now map.empty) }
+{
+    let mut all = Changes::new(alloc);
+    for part in parts {
+        all.put(leaf.copy()?, part.copy()?)?;
+    }
+    Ok(all)
+}
+
+/// The parts that meet conditions.
+fn meeting(parts: Vec<Part>, conds: &Conds) -> Vec<Part>
+    ensures { result.items ≡ filter (conds_hold conds.now) parts.items }
+{
+    let mut parts = parts;
+    parts.retain(|part| part.meets(conds.as_slice()));
+    parts
+}
+
+/// The key that a condition asks for: that the first value equals an integer.
+fn key_equality_of(cond: &Cond) -> Option<i64>
+    ensures { result ≡ key_equality_of cond.now }
+{
+    if cond.col != 0 {
+        return None;
+    }
+    match cond.cmp {
+        Cmp::Eq => match &cond.value {
+            Value::Int(key) => Some(*key),
+            Value::Text(_) => None,
+        },
+        _ => None,
+    }
+}
+
+/// The key that conditions ask for, if one of them does: no part of another key meets them all.
+pub(crate) fn key_equality(conds: &[Cond]) -> Option<i64>
+    ensures key { result ≡ key_equality conds.now }
+    ensures alone { IfSome result (AskKey conds.now) }
+{
+    for cond in conds {
+        if let Some(key) = key_equality_of(cond) {
+            return Some(key);
+        }
+    }
+    None
+}
+
+/// The part of a leaf at a key, if it meets conditions that ask for it, after a visit's own changes.
+pub(crate) fn read_point<S: SiteStore>(
+    store: &mut S,
+    volatile: &Volatile,
+    ticket: &Ticket,
+    leaf: &Leaf,
+    key: i64,
+    conds: &Conds,
+) -> Result<Vec<Part>, SiteFault>
+    requires { AskKey conds.now key }
+
+    ensures rows { S.is_clean store.new → S.is_sound store.old → IfOk result (λ rows. rows.items ≡ parts conds.now (changed leaf.now (changes_at (volatile_of volatile.now) ticket.now) ((S.kept store.old).content leaf.now))) }
+    ensures reads { Reads S.is_clean S.is_sound S.kept S.refused store.old store.new result }
+{
+    let leaf = leaf.copy()?;
+    let slot = Slot { leaf, key };
+    let kept = match store.find(&slot) {
+        Ok(part) => part,
+        Err(fault) => return Err(site_fault(fault)),
+    };
+    one_key_suffices();
+    let none = Changes::new(volatile.alloc);
+    let changes = volatile.changes(ticket).unwrap_or(&none);
+    let part = changed_at(kept, changes, &slot)?;
+    Ok(if_meets(volatile.alloc, part, conds)?)
+}
+
+/// What changes make of what is at a slot.
+fn changed_at(kept: Option<Part>, changes: &Changes, slot: &Slot) -> Result<Option<Part>, Memory>
+    ensures part { IfOk result (λ part. part ≡ unwrap_or (map.get changes.now slot.now) kept) }
+    ensures keyed { AreKeyed changes.now }
+{
+    let _count = changes.len();
+    match changes.get(slot) {
+        Some(Some(part)) => Ok(Some(part.copy()?)),
+        Some(None) => Ok(None),
+        None => Ok(kept),
+    }
+}
+
+/// The part, if there is one and it meets conditions.
+fn if_meets(alloc: Global, part: Option<Part>, conds: &Conds) -> Result<Vec<Part>, Memory>
+    ensures { IfOk result (λ parts. parts.items ≡ filter (conds_hold conds.now) (option_to_list part)) }
+{
+    let mut parts = Vec::new(alloc);
+    if let Some(part) = part
+        && part.meets(conds.as_slice())
+    {
+        parts.push(part)?;
+    }
+    Ok(parts)
+}
