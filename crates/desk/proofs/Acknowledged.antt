@@ -17,13 +17,13 @@ use Rattle.protocol.specs.Language.{Name, same}
 use Rattle.protocol.specs.Letters.{name_of, ticket_of}
 use Rattle.protocol.proofs.Basics.{same_law}
 use Rattle.desk.specs.Database.{Database, language}
-use Rattle.desk.specs.declared.standing.Committed.{Committed}
-use Rattle.desk.specs.declared.standing.Standing.{Standing}
-use Rattle.desk.specs.declared.standing.Standing.TheVariants as standing
-use Rattle.desk.specs.declared.turn.Turn.{Turn}
-use Rattle.desk.specs.Standing.{txn_of, voter_of}
-use Rattle.desk.specs.Turn.{IsTurn}
-use Rattle.desk.specs.Voters.{Keeps, are_acked, has_voter, is_new_ack, is_ticket, is_voter, voter_with, with_ack}
+use Rattle.desk.specs.declared.transaction.Committed.{Committed}
+use Rattle.desk.specs.declared.transaction.TxnState.{TxnState}
+use Rattle.desk.specs.declared.transaction.TxnState.TheVariants as standing
+use Rattle.desk.specs.declared.transition.Transition.{Transition}
+use Rattle.desk.specs.Transaction.{txn_of, voter_of}
+use Rattle.desk.specs.Transition.{IsTransition}
+use Rattle.desk.specs.Acknowledge.{Keeps, are_acked, has_voter, is_new_ack, is_ticket, is_voter, voter_with, with_ack}
 
 -- tests that follow from each other are the same
 pub same_bool : (a b : Bool) → (a ≡ true → b ≡ true) → (b ≡ true → a ≡ true) → a ≡ b
@@ -59,21 +59,21 @@ module _ (db : Database) where
   acked_is (v ∷ voters) acked = ap (λ b. b && desk.are_acked (language db) (map voter_of voters) (map voter_of acked)) (has_is acked v.site v.ticket) ∙ ap (λ b. has_voter acked v.site v.ticket && b) (acked_is voters acked)
 
   -- a step is one that is the same
-  pub turn_as : (txn : Txn) (old : Option Standing) (turn : Turn) (one other : desk.Turn (language db)) → one ≡ other → IsTurn db txn old turn other → IsTurn db txn old turn one
-  turn_as txn old turn one other same is = subst (λ w. IsTurn db txn old turn w) (sym same) is
+  pub turn_as : (txn : Txn) (old : Option TxnState) (turn : Transition) (one other : desk.Transition (language db)) → one ≡ other → IsTransition db txn old turn other → IsTransition db txn old turn one
+  turn_as txn old turn one other same is = subst (λ w. IsTransition db txn old turn w) (sym same) is
 
   -- an acknowledgement
   module _ (c : Committed) (site : List ℕ) (k : Ticket) where
     abbrev more : List Voter
     more = c.acked ++ voter_with site k ∷ []
 
-    abbrev row : List Voter → desk.Turn (language db)
+    abbrev row : List Voter → desk.Transition (language db)
     row acked = desk.stays (desk.Row (map voter_of c.voters) (map voter_of acked))
 
-    abbrev acks : Bool → desk.Turn (language db)
+    abbrev acks : Bool → desk.Transition (language db)
     acks kept = desk.on_ack {L = language db} (map voter_of c.voters) (map voter_of c.acked) (site, name_of k) kept
 
-    abbrev table : Bool → Bool → Bool → List (List ℕ × Name) → desk.Turn (language db)
+    abbrev table : Bool → Bool → Bool → List (List ℕ × Name) → desk.Transition (language db)
     table new all kept acked = if new then (if all then (if kept then desk.stays desk.Unknown else row c.acked) else desk.stays (desk.Row (map voter_of c.voters) acked)) else row c.acked
 
     more_is : map voter_of c.acked ++ (site, name_of k) ∷ [] ≡ map voter_of more
@@ -86,30 +86,30 @@ module _ (db : Database) where
         ∙ ap (λ l. table (is_new_ack c.voters c.acked site k) (desk.are_acked (language db) (map voter_of c.voters) l) kept l) more_is
         ∙ ap (λ b. table (is_new_ack c.voters c.acked site k) b kept (map voter_of more)) (acked_is c.voters more)
 
-    abbrev here : Option Standing
+    abbrev here : Option TxnState
     here = Some (standing.Committed c)
 
     -- one that comes again, or of nobody
-    pub old_ack : (txn : Txn) (turn : Turn) → is_new_ack c.voters c.acked site k ≡ false → IsTurn db txn here turn (row c.acked) → IsTurn db txn here turn (acks turn.kept)
+    pub old_ack : (txn : Txn) (turn : Transition) → is_new_ack c.voters c.acked site k ≡ false → IsTransition db txn here turn (row c.acked) → IsTransition db txn here turn (acks turn.kept)
     old_ack txn turn new is = turn_as txn here turn _ _ (ack_is turn.kept ∙ ap (λ b. table b (are_acked c.voters more) turn.kept (map voter_of more)) new) is
 
     -- one that is not the last
-    pub one_ack : (txn : Txn) (turn : Turn) (m : Committed) → m ≡ with_ack c site k → is_new_ack c.voters c.acked site k ≡ true → are_acked m.voters m.acked ≡ false →
-        IsTurn db txn here turn (desk.stays (txn_of db (Some (standing.Committed m)))) → IsTurn db txn here turn (acks turn.kept)
+    pub one_ack : (txn : Txn) (turn : Transition) (m : Committed) → m ≡ with_ack c site k → is_new_ack c.voters c.acked site k ≡ true → are_acked m.voters m.acked ≡ false →
+        IsTransition db txn here turn (desk.stays (txn_of db (Some (standing.Committed m)))) → IsTransition db txn here turn (acks turn.kept)
     one_ack txn turn m same new all is =
         turn_as txn here turn _ _ (ack_is turn.kept ∙ ap (λ b. table b (are_acked c.voters more) turn.kept (map voter_of more)) new ∙ ap (λ b. table true b turn.kept (map voter_of more)) (ap (λ x. are_acked x.voters x.acked) (sym same) ∙ all)
         ∙ ap (λ x. desk.stays (txn_of db (Some (standing.Committed x)))) (sym same)) is
 
     -- the last
-    pub last_ack : (txn : Txn) (turn : Turn) (m : Committed) → m ≡ with_ack c site k → is_new_ack c.voters c.acked site k ≡ true → are_acked m.voters m.acked ≡ true →
-        IsTurn db txn here turn (if turn.kept then desk.stays desk.Unknown else row c.acked) → IsTurn db txn here turn (acks turn.kept)
+    pub last_ack : (txn : Txn) (turn : Transition) (m : Committed) → m ≡ with_ack c site k → is_new_ack c.voters c.acked site k ≡ true → are_acked m.voters m.acked ≡ true →
+        IsTransition db txn here turn (if turn.kept then desk.stays desk.Unknown else row c.acked) → IsTransition db txn here turn (acks turn.kept)
     last_ack txn turn m same new all is =
         turn_as txn here turn _ _ (ack_is turn.kept ∙ ap (λ b. table b (are_acked c.voters more) turn.kept (map voter_of more)) new ∙ ap (λ b. table true b turn.kept (map voter_of more)) (ap (λ x. are_acked x.voters x.acked) (sym same) ∙ all)) is
 
     -- the last, where the row stays
-    pub lost_ack : (txn : Txn) (turn : Turn) (m : Committed) → m ≡ with_ack c site k → is_new_ack c.voters c.acked site k ≡ true → are_acked m.voters m.acked ≡ true → turn.kept ≡ false →
-        IsTurn db txn here turn (row c.acked) → IsTurn db txn here turn (acks turn.kept)
-    lost_ack txn turn m same new all kept is = last_ack txn turn m same new all (subst (λ b. IsTurn db txn here turn (if b then desk.stays desk.Unknown else row c.acked)) (sym kept) is)
+    pub lost_ack : (txn : Txn) (turn : Transition) (m : Committed) → m ≡ with_ack c site k → is_new_ack c.voters c.acked site k ≡ true → are_acked m.voters m.acked ≡ true → turn.kept ≡ false →
+        IsTransition db txn here turn (row c.acked) → IsTransition db txn here turn (acks turn.kept)
+    lost_ack txn turn m same new all kept is = last_ack txn turn m same new all (subst (λ b. IsTransition db txn here turn (if b then desk.stays desk.Unknown else row c.acked)) (sym kept) is)
 
 -- ---- what the store keeps
 pub txn_is : (a b : Txn) → is_txn a b ≡ true → a ≡ b

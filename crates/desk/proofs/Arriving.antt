@@ -2,8 +2,8 @@
 use Rattle.std.proofs.Common.{◌≡◌, ◌∙◌, refl, ap, ap₂, ℕ, suc, length, take, drop, ◌++◌, Bool, true, false, ◌||◌, ◌&&◌, List, [], ◌∷◌, map, Option, Some, None, is_some, if◌then◌else◌}
 use Rattle.terms.specs.declared.value.Value.{Value}
 use Rattle.catalog.specs.Catalogue.{Catalogue}
-use Rattle.desk.specs.declared.ask.Ask.{Ask}
-use Rattle.desk.specs.Brought.{are_in, are_in_with, awaits, rows_for, with_found, with_rows}
+use Rattle.desk.specs.declared.fetches.Ask.{Ask}
+use Rattle.desk.specs.Fetches.{are_in, are_in_with, awaits, rows_for, with_found, with_rows}
 use Rattle.desk.proofs.Operations.{written_back}
 
 module _ (catalogue : Catalogue) (site : List ℕ) (number : ℕ) (rows : List (List Value)) where

@@ -4,45 +4,45 @@ use Rattle.terms.specs.declared.value.Value.{Value}
 use Rattle.catalog.specs.Catalogue.{Catalogue}
 use Rattle.store.specs.declared.name.Ticket.{Ticket}
 use Rattle.store.specs.declared.name.Txn.{Txn}
-use Rattle.desk.specs.declared.ask.Ask.{Ask}
-use Rattle.desk.specs.declared.spot.Spot.{Spot}
-use Rattle.desk.specs.declared.undecided.Unsent.{Unsent}
-use Rattle.desk.specs.Brought.{awaits, with_rows}
+use Rattle.desk.specs.declared.fetches.Ask.{Ask}
+use Rattle.desk.specs.declared.participant.Participant.{Participant}
+use Rattle.desk.specs.declared.transaction.Unsent.{Unsent}
+use Rattle.desk.specs.Fetches.{awaits, with_rows}
 use Rattle.desk.specs.Database.{Database}
 use Rattle.desk.specs.Planned.{asked}
-use Rattle.desk.specs.Sending.{ask_goes, asks_go, one_more, write_goes, writes_go, AsksAtHome, UnsentAtHome}
-use Rattle.desk.specs.Spots.{spot_in}
+use Rattle.desk.specs.Send.{ask_goes, asks_go, one_more, write_goes, writes_go, AsksAtHome, UnsentAtHome}
+use Rattle.desk.specs.Participants.{participant_in}
 
 -- ---- fetches that go out
 module _ (db : Database) (txn : Txn) where
-  pub left_home : (asks : List Ask) (spots : List Spot) → AsksAtHome db asks → AsksAtHome db (asks_go txn asks spots).left
-  left_home [] spots home = tt
-  left_home (ask ∷ asks) spots home = go (λ now. left_home asks now home.1) ask.number (spot_in ask.site spots).ticket
+  pub left_home : (asks : List Ask) (participants : List Participant) → AsksAtHome db asks → AsksAtHome db (asks_go txn asks participants).left
+  left_home [] participants home = tt
+  left_home (ask ∷ asks) participants home = go (λ now. left_home asks now home.1) ask.number (participant_in ask.site participants).ticket
     where
-      go : ((now : List Spot) → AsksAtHome db (asks_go txn asks now).left) → (m : Option ℕ) (k : Option Ticket) → AsksAtHome db (ask_goes txn ask m k spots (asks_go txn asks)).left
-      go below None (Some k) = (home.0, below (one_more ask.site spots))
-      go below None None = (home.0, below spots)
-      go below (Some m) None = (home.0, below spots)
-      go below (Some m) (Some k) = (home.0, below spots)
+      go : ((now : List Participant) → AsksAtHome db (asks_go txn asks now).left) → (m : Option ℕ) (k : Option Ticket) → AsksAtHome db (ask_goes txn ask m k participants (asks_go txn asks)).left
+      go below None (Some k) = (home.0, below (one_more ask.site participants))
+      go below None None = (home.0, below participants)
+      go below (Some m) None = (home.0, below participants)
+      go below (Some m) (Some k) = (home.0, below participants)
 
-  pub left_order : (asks : List Ask) (spots : List Spot) → map asked (asks_go txn asks spots).left ≡ map asked asks
-  left_order [] spots = refl
-  left_order (ask ∷ asks) spots = go (λ now. left_order asks now) ask.number (spot_in ask.site spots).ticket
+  pub left_order : (asks : List Ask) (participants : List Participant) → map asked (asks_go txn asks participants).left ≡ map asked asks
+  left_order [] participants = refl
+  left_order (ask ∷ asks) participants = go (λ now. left_order asks now) ask.number (participant_in ask.site participants).ticket
     where
-      go : ((now : List Spot) → map asked (asks_go txn asks now).left ≡ map asked asks) → (m : Option ℕ) (k : Option Ticket) → map asked (ask_goes txn ask m k spots (asks_go txn asks)).left ≡ map asked (ask ∷ asks)
-      go below None (Some k) = ap (λ rest. asked ask ∷ rest) (below (one_more ask.site spots))
-      go below None None = ap (λ rest. asked ask ∷ rest) (below spots)
-      go below (Some m) None = ap (λ rest. asked ask ∷ rest) (below spots)
-      go below (Some m) (Some k) = ap (λ rest. asked ask ∷ rest) (below spots)
+      go : ((now : List Participant) → map asked (asks_go txn asks now).left ≡ map asked asks) → (m : Option ℕ) (k : Option Ticket) → map asked (ask_goes txn ask m k participants (asks_go txn asks)).left ≡ map asked (ask ∷ asks)
+      go below None (Some k) = ap (λ rest. asked ask ∷ rest) (below (one_more ask.site participants))
+      go below None None = ap (λ rest. asked ask ∷ rest) (below participants)
+      go below (Some m) None = ap (λ rest. asked ask ∷ rest) (below participants)
+      go below (Some m) (Some k) = ap (λ rest. asked ask ∷ rest) (below participants)
 
   -- ---- writes
-  pub unsent_home : (ws : List Unsent) (spots : List Spot) → UnsentAtHome db ws → UnsentAtHome db (writes_go txn ws spots).left
-  unsent_home [] spots home = tt
-  unsent_home (w ∷ ws) spots home = go (λ now. unsent_home ws now home.1) (spot_in w.site spots).ticket
+  pub unsent_home : (ws : List Unsent) (participants : List Participant) → UnsentAtHome db ws → UnsentAtHome db (writes_go txn ws participants).left
+  unsent_home [] participants home = tt
+  unsent_home (w ∷ ws) participants home = go (λ now. unsent_home ws now home.1) (participant_in w.site participants).ticket
     where
-      go : ((now : List Spot) → UnsentAtHome db (writes_go txn ws now).left) → (k : Option Ticket) → UnsentAtHome db (write_goes txn w k spots (writes_go txn ws)).left
-      go below (Some k) = below (one_more w.site spots)
-      go below None = (home.0, below spots)
+      go : ((now : List Participant) → UnsentAtHome db (writes_go txn ws now).left) → (k : Option Ticket) → UnsentAtHome db (write_goes txn w k participants (writes_go txn ws)).left
+      go below (Some k) = below (one_more w.site participants)
+      go below None = (home.0, below participants)
 
 -- ---- fetches that have rows
 module _ (catalogue : Catalogue) (site : List ℕ) (number : ℕ) (rows : List (List Value)) where

@@ -1,4 +1,4 @@
--- Fetches and writes are at the homes of their leaves, and at each of these there is a spot.
+-- Fetches and writes are at the homes of their leaves, and at each of these there is a participant.
 use Rattle.std.proofs.Common.{◌≡◌, refl, sym, ap, ◌∙◌, subst, ℕ, zero, suc, nat_eq, Bool, true, false, ◌||◌, List, [], ◌∷◌, map, find, Option, Some, option_and_then, unwrap_or, if◌then◌else◌}
 use Rattle.std.specs.Cmp.Lexicographic.{pointwise}
 use Rattle.std.specs.List.{AllByRecursion, list_any, slice_get}
@@ -14,17 +14,17 @@ use Rattle.answers.specs.Writes as answers
 use Rattle.answers.specs.Writes.{is_leaf_in}
 use Rattle.protocol.specs.Desk as desk
 use Rattle.protocol.specs.Letters.{leaf_of}
-use Rattle.desk.specs.declared.spot.Spot.{Spot}
+use Rattle.desk.specs.declared.participant.Participant.{Participant}
 use Rattle.desk.specs.Database.{Database, language}
 use Rattle.desk.specs.OfCatalogue.{IsOfCatalogue}
-use Rattle.desk.specs.Opening.{HaveSpots}
+use Rattle.desk.specs.Opening.{HaveParticipants}
 use Rattle.desk.specs.Planned.{ask_from, asked, fetched, home_in, unsent_from}
-use Rattle.desk.specs.Sending.{AsksAtHome, UnsentAtHome}
-use Rattle.desk.specs.Spots.{is_at, sites_of}
-use Rattle.desk.specs.Standing.{ask_of, at_leaf, write_of}
-use Rattle.desk.specs.Stating.{ask_sites, write_sites}
+use Rattle.desk.specs.Send.{AsksAtHome, UnsentAtHome}
+use Rattle.desk.specs.Participants.{is_at, sites_of}
+use Rattle.desk.specs.Transaction.{ask_of, at_leaf, write_of}
+use Rattle.desk.specs.Statement.{ask_sites, write_sites}
 use Rattle.desk.proofs.Located.{IsEither, located}
-use Rattle.desk.proofs.Spots.{text_self}
+use Rattle.desk.proofs.Participants.{text_self}
 
 -- what holds of all holds of the one that is found, and the test too
 pub found_so : {A : Type 0} (P : A → Type 0) (test : A → Bool) (xs : List A) (x : A) → AllByRecursion P xs → find test xs ≡ Some x → P x × (test x ≡ true)
@@ -44,13 +44,13 @@ any_found {A} test (y ∷ xs) is = go (test y) is (any_found test xs)
     go true is rest = (y, refl)
     go false is rest = rest is
 
--- a spot is there for a site of the list
-pub spot_there : (spots : List Spot) (place : ℕ) (site : List ℕ) → slice_get (sites_of spots) place ≡ Some site → list_any (is_at site) spots ≡ true
-spot_there [] place site is = cc
-spot_there (s ∷ spots) zero site is = let same : s.site ≡ site = cc in ap (λ b. b || list_any (is_at site) spots) (subst (λ x. pointwise nat_eq s.site x ≡ true) same (text_self s.site))
-spot_there (s ∷ spots) (suc place) site is = go (is_at site s) (spot_there spots place site is)
+-- a participant is there for a site of the list
+pub participant_there : (participants : List Participant) (place : ℕ) (site : List ℕ) → slice_get (sites_of participants) place ≡ Some site → list_any (is_at site) participants ≡ true
+participant_there [] place site is = cc
+participant_there (s ∷ participants) zero site is = let same : s.site ≡ site = cc in ap (λ b. b || list_any (is_at site) participants) (subst (λ x. pointwise nat_eq s.site x ≡ true) same (text_self s.site))
+participant_there (s ∷ participants) (suc place) site is = go (is_at site s) (participant_there participants place site is)
   where
-    go : (b : Bool) → list_any (is_at site) spots ≡ true → (b || list_any (is_at site) spots) ≡ true
+    go : (b : Bool) → list_any (is_at site) participants ≡ true → (b || list_any (is_at site) participants) ≡ true
     go true rest = refl
     go false rest = rest
 
@@ -67,22 +67,22 @@ module _ (db : Database) (of : IsOfCatalogue db) where
   pub home_is : (name : Leaf) (leaf : FragmentLeaf) → leaf_named name all ≡ Some leaf → home_in db.catalogue name ≡ db.home name
   home_is name leaf is = ap (λ (o : Option (List ℕ)). unwrap_or o []) (ap (option_and_then (λ l. slice_get db.catalogue.sites l.site)) is ∙ site_is name leaf is)
 
-  module _ (spots : List Spot) (those : sites_of spots ≡ db.sites) where
-    at_spot : (name : Leaf) (leaf : FragmentLeaf) → leaf_named name all ≡ Some leaf → list_any (is_at (db.home name)) spots ≡ true
-    at_spot name leaf is = spot_there spots leaf.site (db.home name) (ap (λ (ss : List (List ℕ)). slice_get ss leaf.site) (those ∙ of.sites) ∙ site_is name leaf is)
+  module _ (participants : List Participant) (those : sites_of participants ≡ db.sites) where
+    at_participant : (name : Leaf) (leaf : FragmentLeaf) → leaf_named name all ≡ Some leaf → list_any (is_at (db.home name)) participants ≡ true
+    at_participant name leaf is = participant_there participants leaf.site (db.home name) (ap (λ (ss : List (List ℕ)). slice_get ss leaf.site) (those ∙ of.sites) ∙ site_is name leaf is)
 
-    -- each fetch has a spot
-    pub asks_spots : (need other : Need) (fetches : List Fetch) → AllByRecursion (IsEither all need other) fetches → HaveSpots spots (ask_sites (map (ask_from db.catalogue) fetches))
-    asks_spots need other [] each = tt
-    asks_spots need other (fetch ∷ fetches) each =
+    -- each fetch has a participant
+    pub asks_participants : (need other : Need) (fetches : List Fetch) → AllByRecursion (IsEither all need other) fetches → HaveParticipants participants (ask_sites (map (ask_from db.catalogue) fetches))
+    asks_participants need other [] each = tt
+    asks_participants need other (fetch ∷ fetches) each =
         let there = located all need other fetch each.0 in
-        (subst (λ site. list_any (is_at site) spots ≡ true) (sym (home_is fetch.leaf there.0 there.1)) (at_spot fetch.leaf there.0 there.1), asks_spots need other fetches each.1)
+        (subst (λ site. list_any (is_at site) participants ≡ true) (sym (home_is fetch.leaf there.0 there.1)) (at_participant fetch.leaf there.0 there.1), asks_participants need other fetches each.1)
 
-    pub writes_spots : (list : List Write) → AllByRecursion (λ write. is_leaf_in all (answers.leaf_of write) ≡ true) list → HaveSpots spots (write_sites (map (unsent_from db.catalogue) list))
-    writes_spots [] each = tt
-    writes_spots (write ∷ list) each =
+    pub writes_participants : (list : List Write) → AllByRecursion (λ write. is_leaf_in all (answers.leaf_of write) ≡ true) list → HaveParticipants participants (write_sites (map (unsent_from db.catalogue) list))
+    writes_participants [] each = tt
+    writes_participants (write ∷ list) each =
         let there = named write each.0 in
-        (subst (λ site. list_any (is_at site) spots ≡ true) (sym (home_is (leaf_of write) there.0 there.1)) (at_spot (leaf_of write) there.0 there.1), writes_spots list each.1)
+        (subst (λ site. list_any (is_at site) participants ≡ true) (sym (home_is (leaf_of write) there.0 there.1)) (at_participant (leaf_of write) there.0 there.1), writes_participants list each.1)
       where
         named : (write : Write) → is_leaf_in all (answers.leaf_of write) ≡ true → (leaf : FragmentLeaf) × (leaf_named (leaf_of write) all ≡ Some leaf)
         named (writes.Put leaf part) is = any_found (is_name_of leaf) all is

@@ -20,26 +20,26 @@ use Rattle.protocol.proofs.Basics.{clash, every_self, if_false, if_true, in_appe
 use Rattle.store.specs.declared.letter.Letter.{Letter}
 use Rattle.desk.specs.declared.reply.Notice.{Notice}
 use Rattle.desk.specs.declared.reply.Reply.TheVariants.{Begun}
-use Rattle.desk.specs.declared.spot.Spot.{Spot}
-use Rattle.desk.specs.declared.standing.Standing.{Standing}
+use Rattle.desk.specs.declared.participant.Participant.{Participant}
+use Rattle.desk.specs.declared.transaction.TxnState.{TxnState}
 use Rattle.desk.specs.Begun.{first_of, next_of, nowhere_yet}
-use Rattle.desk.specs.Calls.{notices}
+use Rattle.desk.specs.Request.{notices}
 use Rattle.desk.specs.Database.{Database, language}
-use Rattle.desk.specs.Spots.{is_at, nowhere, sites_of, spot_in}
-use Rattle.desk.specs.Standing.{txn_of}
-use Rattle.desk.specs.State.{Begins, Fits, IsBegun, IsIn, Table, desk_of, is_open, notice_of, open_among, table_from, txn_at}
-use Rattle.desk.specs.Voters.{kept_voters}
+use Rattle.desk.specs.Participants.{is_at, nowhere, sites_of, participant_in}
+use Rattle.desk.specs.Transaction.{txn_of}
+use Rattle.desk.specs.State.{Begins, Fits, IsBegun, IsIn, VolatileState, desk_of, is_open, notice_of, open_among, volatile_from, txn_at}
+use Rattle.desk.specs.Acknowledge.{kept_voters}
 use Rattle.desk.proofs.Acknowledged.{txn_is}
 use Rattle.desk.proofs.Settled.{few_names, is_within, unknown_is}
-use Rattle.desk.proofs.Spots.{text_is}
+use Rattle.desk.proofs.Participants.{text_is}
 use Rattle.desk.proofs.Txns.{Entries, at_txn, filter_all, filter_names, filter_same, last_keys, last_there, put_last, same_txn, stood, stood_all, txn_self, txn_sym}
 
 -- ---- no site is visited
-none_visited : (j : List ℕ) (sites : List (List ℕ)) → spot_in j (nowhere_yet sites) ≡ nowhere j
+none_visited : (j : List ℕ) (sites : List (List ℕ)) → participant_in j (nowhere_yet sites) ≡ nowhere j
 none_visited j [] = refl
 none_visited j (a ∷ sites) = go (is_at j (nowhere a)) refl (none_visited j sites)
   where
-    go : (b : Bool) → pointwise nat_eq a j ≡ b → spot_in j (nowhere_yet sites) ≡ nowhere j → (if b then nowhere a else spot_in j (nowhere_yet sites)) ≡ nowhere j
+    go : (b : Bool) → pointwise nat_eq a j ≡ b → participant_in j (nowhere_yet sites) ≡ nowhere j → (if b then nowhere a else participant_in j (nowhere_yet sites)) ≡ nowhere j
     go true e rest = ap nowhere (text_is a j e)
     go false e rest = rest
 
@@ -59,18 +59,18 @@ none_sent : (sites : List (List ℕ)) → list_all (λ a. nat_lt 0 (2 ^ 63)) sit
 none_sent [] = refl
 none_sent (a ∷ sites) = none_sent sites
 
-module _ (db : Database) (kept : DeskContent) (entries : Entries) (undecided life number : ℕ) (fits : Fits db kept (table_from entries undecided life number)) (sites : List (List ℕ)) (those : db.sites ≡ sites) where
-  abbrev before : Table
-  before = table_from entries undecided life number
+module _ (db : Database) (kept : DeskContent) (entries : Entries) (undecided life number : ℕ) (fits : Fits db kept (volatile_from entries undecided life number)) (sites : List (List ℕ)) (those : db.sites ≡ sites) where
+  abbrev before : VolatileState
+  before = volatile_from entries undecided life number
 
   abbrev next : Txn
   next = next_of before
 
-  abbrev first : Standing
+  abbrev first : TxnState
   first = first_of (nowhere_yet sites)
 
-  abbrev now : Table
-  now = table_from (insert_entry txn_cmp entries next first) (undecided + 1) life (number + 1)
+  abbrev now : VolatileState
+  now = volatile_from (insert_entry txn_cmp entries next first) (undecided + 1) life (number + 1)
 
   -- it comes after all others
   above_all : (j : Txn) → In j before.txns → txn_cmp next j ≡ Greater
@@ -89,7 +89,7 @@ module _ (db : Database) (kept : DeskContent) (entries : Entries) (undecided lif
   nothing : before.standing next ≡ None
   nothing = go (before.standing next) refl
     where
-      go : (o : Option Standing) → before.standing next ≡ o → o ≡ None
+      go : (o : Option TxnState) → before.standing next ≡ o → o ≡ None
       go None e = refl
       go (Some s) e = clash (txn_self next) (apart next (fits.listed next (ap is_some e)))
 
@@ -165,10 +165,10 @@ module _ (db : Database) (kept : DeskContent) (entries : Entries) (undecided lif
       later : (j : Txn) → IsBegun before j → IsBegun now j
       later j is = ⊎_elim (λ below. inl below) (λ here. inr (here.0, (let f : j.number ≤ number = here.1 in omega arith))) is
 
-  pub begins : (table : Table) (spots : List Spot) (txn : Txn) (written : List Letter) (heard : List Notice) → spots ≡ nowhere_yet sites → table ≡ table_from (insert_entry txn_cmp entries next (first_of spots)) (undecided + 1) life (number + 1) →
+  pub begins : (table : VolatileState) (participants : List Participant) (txn : Txn) (written : List Letter) (heard : List Notice) → participants ≡ nowhere_yet sites → table ≡ volatile_from (insert_entry txn_cmp entries next (first_of participants)) (undecided + 1) life (number + 1) →
       undecided + 1 ≤ 256 → number + 2 ≤ 2 ^ 63 → txn ≡ next → written ≡ [] → heard ≡ notices txn (Some Begun) → Begins db before kept table written heard
-  begins table spots txn written heard spots_are table_is few low txn_is none heard_is =
-      let same : table ≡ now = table_is ∙ ap (λ ss. table_from (insert_entry txn_cmp entries next (first_of ss)) (undecided + 1) life (number + 1)) spots_are in
+  begins table participants txn written heard participants_are table_is few low txn_is none heard_is =
+      let same : table ≡ now = table_is ∙ ap (λ ss. volatile_from (insert_entry txn_cmp entries next (first_of ss)) (undecided + 1) life (number + 1)) participants_are in
       let fit : Fits db kept table = subst (Fits db kept) (sym same) (fits_begun few low) in
       record {
         fits = fit;

@@ -13,20 +13,20 @@ use Rattle.protocol.specs.Desk as desk
 use Rattle.protocol.specs.Language.{put}
 use Rattle.protocol.specs.Letters.{is_no, name_of, vote_of}
 use Rattle.protocol.proofs.Basics.{left_true, right_true}
-use Rattle.desk.specs.declared.spot.Spot.{Spot}
-use Rattle.desk.specs.declared.standing.Committed.{Committed}
-use Rattle.desk.specs.declared.undecided.Stage.{Stage}
-use Rattle.desk.specs.declared.undecided.Stage.TheVariants as stage
-use Rattle.desk.specs.declared.undecided.Undecided.{Undecided}
-use Rattle.desk.specs.Ballots.{counts_vote, is_first}
+use Rattle.desk.specs.declared.participant.Participant.{Participant}
+use Rattle.desk.specs.declared.transaction.Committed.{Committed}
+use Rattle.desk.specs.declared.transaction.Stage.{Stage}
+use Rattle.desk.specs.declared.transaction.Stage.TheVariants as stage
+use Rattle.desk.specs.declared.transaction.Undecided.{Undecided}
+use Rattle.desk.specs.Commit.{counts_vote, is_first}
 use Rattle.desk.specs.Called.{CallsStore, Decides, DecidesAt, DecidesWith, IsLastAck}
 use Rattle.desk.specs.Database.{Database, language, replied}
 use Rattle.desk.specs.Frame.{StepsStore}
 use Rattle.desk.specs.Orders.{is_voting}
-use Rattle.desk.specs.Spots.{changed_at, is_in, spot_in, with_vote}
-use Rattle.desk.specs.Standing.{stage_of, undecided_of, voter_of, votes_of}
-use Rattle.desk.specs.Turn.{AreSpots, voting}
-use Rattle.desk.specs.Voters.{are_acked, has_voter, is_new_ack, voter_with, voters_among, with_ack}
+use Rattle.desk.specs.Participants.{changed_at, is_in, participant_in, with_vote}
+use Rattle.desk.specs.Transaction.{stage_of, undecided_of, voter_of, votes_of}
+use Rattle.desk.specs.Transition.{AreParticipants, voting}
+use Rattle.desk.specs.Acknowledge.{are_acked, has_voter, is_new_ack, voter_with, voters_among, with_ack}
 use Rattle.desk.proofs.Acknowledged.{acked_is, has_is, unchanged}
 use Rattle.desk.proofs.Changed.{vote_counted, votes_put}
 use Rattle.desk.proofs.Counted.{named_is, none_vote, ticket_there}
@@ -38,10 +38,10 @@ no_voters [] some none = omega arith
 no_voters (v ∷ voters) some none = cc
 
 -- all votes are in, and there are voters
-pub decides_all : (db : Database) (spots : List Spot) → AreSpots db spots → (voters : List Voter) → list_all is_in spots ≡ true → voters ≡ voters_among spots → 0 < length voters → Decides {L = language db} (undecided_of db (voting spots)) (votes_of spots)
-decides_all db spots are voters all same some = record {
-  all_in = all_in_is db spots are ∙ all;
-  voters = λ none. no_voters voters some (ap (map voter_of) same ∙ sym (voters_is db spots are) ∙ none);
+pub decides_all : (db : Database) (participants : List Participant) → AreParticipants db participants → (voters : List Voter) → list_all is_in participants ≡ true → voters ≡ voters_among participants → 0 < length voters → Decides {L = language db} (undecided_of db (voting participants)) (votes_of participants)
+decides_all db participants are voters all same some = record {
+  all_in = all_in_is db participants are ∙ all;
+  voters = λ none. no_voters voters some (ap (map voter_of) same ∙ sym (voters_is db participants are) ∙ none);
 }
 
 -- a vote decides
@@ -49,43 +49,43 @@ module _ (db : Database) (u : Undecided) (a : List ℕ) (k : Ticket) (vote : Vot
   abbrev v : desk.Undecided (language db)
   v = undecided_of db u
 
-  abbrev spot : Spot
-  spot = spot_in a u.spots
+  abbrev participant : Participant
+  participant = participant_in a u.participants
 
-  abbrev now : List Spot
-  now = map (changed_at a (with_vote (Some vote))) u.spots
+  abbrev now : List Participant
+  now = map (changed_at a (with_vote (Some vote))) u.participants
 
   abbrev votes : List ℕ → Option Rattle.protocol.specs.Letter.Vote
-  votes = put (pointwise nat_eq) a (Some (vote_of vote)) (votes_of u.spots)
+  votes = put (pointwise nat_eq) a (Some (vote_of vote)) (votes_of u.participants)
 
-  first : is_first k spot.ticket ≡ true
-  first = left_true (is_first k spot.ticket) (is_none spot.vote) (right_true (is_voting u.stage) _ counts)
+  first : is_first k participant.ticket ≡ true
+  first = left_true (is_first k participant.ticket) (is_none participant.vote) (right_true (is_voting u.stage) _ counts)
 
-  none : is_none (votes_of u.spots a) ≡ true
-  none = none_vote spot.vote ∙ right_true (is_first k spot.ticket) (is_none spot.vote) (right_true (is_voting u.stage) _ counts)
+  none : is_none (votes_of u.participants a) ≡ true
+  none = none_vote participant.vote ∙ right_true (is_first k participant.ticket) (is_none participant.vote) (right_true (is_voting u.stage) _ counts)
 
   -- so it does in the protocol
   counted : Decides {L = language db} (undecided_of db (voting now)) (votes_of now) → Decides {L = language db} v votes
   counted decides =
-      let there = ticket_there a k u.spots first in
-      let same = subst (λ x. Decides {L = language db} x (votes_of now)) (vote_counted db u.spots a there vote u.stage) decides in
-      let put = subst (λ vs. desk.are_all_in {L = language db} v vs ≡ true) (votes_put db u.spots a there vote) same.all_in in
-      record { all_in = put; voters = λ nobody. same.voters (ap (λ vs. desk.voters_of {L = language db} v vs) (votes_put db u.spots a there vote) ∙ nobody) }
+      let there = ticket_there a k u.participants first in
+      let same = subst (λ x. Decides {L = language db} x (votes_of now)) (vote_counted db u.participants a there vote u.stage) decides in
+      let put = subst (λ vs. desk.are_all_in {L = language db} v vs ≡ true) (votes_put db u.participants a there vote) same.all_in in
+      record { all_in = put; voters = λ nobody. same.voters (ap (λ vs. desk.voters_of {L = language db} v vs) (votes_put db u.participants a there vote) ∙ nobody) }
 
-  by_vote : (w : Vote) → is_no w ≡ false → Decides {L = language db} v (put (pointwise nat_eq) a (Some (vote_of w)) (votes_of u.spots)) → DecidesWith {L = language db} v a (votes_of u.spots) (vote_of w)
+  by_vote : (w : Vote) → is_no w ≡ false → Decides {L = language db} v (put (pointwise nat_eq) a (Some (vote_of w)) (votes_of u.participants)) → DecidesWith {L = language db} v a (votes_of u.participants) (vote_of w)
   by_vote Yes e decides = (none, decides)
   by_vote No e decides = cc
   by_vote Read e decides = (none, decides)
 
-  at_stage : (st : Stage) → is_voting st ≡ true → Decides {L = language db} v votes → DecidesAt {L = language db} v a (vote_of vote) (stage_of db u.spots st)
+  at_stage : (st : Stage) → is_voting st ≡ true → Decides {L = language db} v votes → DecidesAt {L = language db} v a (vote_of vote) (stage_of db u.participants st)
   at_stage stage.Idle e decides = cc
   at_stage (stage.Reading r) e decides = cc
   at_stage (stage.Writing w) e decides = cc
   at_stage stage.Voting e decides = by_vote vote other decides
 
-  pub vote_calls : (given : List Spot) → given ≡ now → Decides {L = language db} (undecided_of db (voting given)) (votes_of given) → CallsStore {L = language db} a (replied db (reply.Voted (record { ticket = k; vote = vote }))) (desk.Known v)
+  pub vote_calls : (given : List Participant) → given ≡ now → Decides {L = language db} (undecided_of db (voting given)) (votes_of given) → CallsStore {L = language db} a (replied db (reply.Voted (record { ticket = k; vote = vote }))) (desk.Known v)
   vote_calls given same decides =
-      (named_is k spot.ticket ∙ first, at_stage u.stage (left_true (is_voting u.stage) _ counts) (counted (subst (λ ss. Decides {L = language db} (undecided_of db (voting ss)) (votes_of ss)) same decides)))
+      (named_is k participant.ticket ∙ first, at_stage u.stage (left_true (is_voting u.stage) _ counts) (counted (subst (λ ss. Decides {L = language db} (undecided_of db (voting ss)) (votes_of ss)) same decides)))
 
 not_so : (b : Bool) → not b ≡ true → b ≡ false
 not_so true e = cc

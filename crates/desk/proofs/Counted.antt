@@ -14,44 +14,44 @@ use Rattle.protocol.specs.Language.{Name, put, same}
 use Rattle.protocol.specs.Letter as letter
 use Rattle.protocol.specs.Letters.{is_no, name_of, txn_name, vote_of}
 use Rattle.protocol.proofs.Basics.{if_true, if_false, left_true, right_true}
-use Rattle.desk.specs.declared.spot.Spot.{Spot}
-use Rattle.desk.specs.declared.standing.Standing.{Standing}
-use Rattle.desk.specs.declared.turn.Turn.{Turn}
-use Rattle.desk.specs.declared.undecided.Stage.{Stage}
-use Rattle.desk.specs.declared.undecided.Stage.TheVariants as stage
-use Rattle.desk.specs.declared.undecided.Undecided.{Undecided}
-use Rattle.desk.specs.Ballots.{counts_vote, is_first}
+use Rattle.desk.specs.declared.participant.Participant.{Participant}
+use Rattle.desk.specs.declared.transaction.TxnState.{TxnState}
+use Rattle.desk.specs.declared.transition.Transition.{Transition}
+use Rattle.desk.specs.declared.transaction.Stage.{Stage}
+use Rattle.desk.specs.declared.transaction.Stage.TheVariants as stage
+use Rattle.desk.specs.declared.transaction.Undecided.{Undecided}
+use Rattle.desk.specs.Commit.{counts_vote, is_first}
 use Rattle.desk.specs.Database.{Database, language, replied}
 use Rattle.desk.specs.Orders.{is_voting}
-use Rattle.desk.specs.Spots.{changed_at, is_at, nowhere, sites_of, spot_in, with_vote}
-use Rattle.desk.specs.Standing.{stage_of, undecided_of, votes_of}
-use Rattle.desk.specs.Turn.{AreSpots, AtSites, IsTurn, voting}
+use Rattle.desk.specs.Participants.{changed_at, is_at, nowhere, sites_of, participant_in, with_vote}
+use Rattle.desk.specs.Transaction.{stage_of, undecided_of, votes_of}
+use Rattle.desk.specs.Transition.{AreParticipants, AtSites, IsTransition, voting}
 use Rattle.desk.proofs.Acknowledged.{ticket_same, turn_as}
 use Rattle.desk.proofs.Changed.{are_still, changed_site, same_sites, vote_counted, votes_put}
 
--- ---- the spot that is found
-pub spot_found : (a : List ℕ) (spots : List Spot) (s : Spot) → find (is_at a) spots ≡ Some s → spot_in a spots ≡ s
-spot_found a [] s e = cc
-spot_found a (x ∷ spots) s e = go (is_at a x) e (spot_found a spots s)
+-- ---- the participant that is found
+pub participant_found : (a : List ℕ) (participants : List Participant) (s : Participant) → find (is_at a) participants ≡ Some s → participant_in a participants ≡ s
+participant_found a [] s e = cc
+participant_found a (x ∷ participants) s e = go (is_at a x) e (participant_found a participants s)
   where
-    go : (b : Bool) → (if b then Some x else find (is_at a) spots) ≡ Some s → (find (is_at a) spots ≡ Some s → spot_in a spots ≡ s) → (if b then x else spot_in a spots) ≡ s
+    go : (b : Bool) → (if b then Some x else find (is_at a) participants) ≡ Some s → (find (is_at a) participants ≡ Some s → participant_in a participants ≡ s) → (if b then x else participant_in a participants) ≡ s
     go true e rest = cc
     go false e rest = rest e
 
-pub spot_missing : (a : List ℕ) (spots : List Spot) → find (is_at a) spots ≡ None → spot_in a spots ≡ nowhere a
-spot_missing a [] e = refl
-spot_missing a (x ∷ spots) e = go (is_at a x) e (spot_missing a spots)
+pub participant_missing : (a : List ℕ) (participants : List Participant) → find (is_at a) participants ≡ None → participant_in a participants ≡ nowhere a
+participant_missing a [] e = refl
+participant_missing a (x ∷ participants) e = go (is_at a x) e (participant_missing a participants)
   where
-    go : (b : Bool) → (if b then Some x else find (is_at a) spots) ≡ None → (find (is_at a) spots ≡ None → spot_in a spots ≡ nowhere a) → (if b then x else spot_in a spots) ≡ nowhere a
+    go : (b : Bool) → (if b then Some x else find (is_at a) participants) ≡ None → (find (is_at a) participants ≡ None → participant_in a participants ≡ nowhere a) → (if b then x else participant_in a participants) ≡ nowhere a
     go true e rest = cc
     go false e rest = rest e
 
 -- who has given a ticket is there
-pub ticket_there : (a : List ℕ) (k : Ticket) (spots : List Spot) → is_first k (spot_in a spots).ticket ≡ true → list_any (is_at a) spots ≡ true
+pub ticket_there : (a : List ℕ) (k : Ticket) (participants : List Participant) → is_first k (participant_in a participants).ticket ≡ true → list_any (is_at a) participants ≡ true
 ticket_there a k [] e = cc
-ticket_there a k (x ∷ spots) e = go (is_at a x) e (ticket_there a k spots)
+ticket_there a k (x ∷ participants) e = go (is_at a x) e (ticket_there a k participants)
   where
-    go : (b : Bool) → is_first k (if b then x else spot_in a spots).ticket ≡ true → (is_first k (spot_in a spots).ticket ≡ true → list_any (is_at a) spots ≡ true) → (b || list_any (is_at a) spots) ≡ true
+    go : (b : Bool) → is_first k (if b then x else participant_in a participants).ticket ≡ true → (is_first k (participant_in a participants).ticket ≡ true → list_any (is_at a) participants ≡ true) → (b || list_any (is_at a) participants) ≡ true
     go true e rest = refl
     go false e rest = rest e
 
@@ -69,88 +69,88 @@ module _ (db : Database) (t : Name) (u : Undecided) (a : List ℕ) (k : Ticket) 
   abbrev v : desk.Undecided (language db)
   v = undecided_of db u
 
-  abbrev spot : Spot
-  spot = spot_in a u.spots
+  abbrev participant : Participant
+  participant = participant_in a u.participants
 
-  abbrev turned : Bool → desk.Turn (language db)
+  abbrev turned : Bool → desk.Transition (language db)
   turned kept = desk.on_known {L = language db} t v a kept choice (replied db (reply.Voted (record { ticket = k; vote = vote })))
 
-  abbrev after : Bool → Bool → Stage → desk.Turn (language db)
-  after kept first st = if first then desk.on_vote {L = language db} t v a kept (vote_of vote) (stage_of db u.spots st) else desk.stays (desk.Known v)
+  abbrev after : Bool → Bool → Stage → desk.Transition (language db)
+  after kept first st = if first then desk.on_vote {L = language db} t v a kept (vote_of vote) (stage_of db u.participants st) else desk.stays (desk.Known v)
 
-  turned_is : (kept : Bool) → turned kept ≡ after kept (is_first k spot.ticket) u.stage
-  turned_is kept = ap (λ b. after kept b u.stage) (named_is k spot.ticket)
+  turned_is : (kept : Bool) → turned kept ≡ after kept (is_first k participant.ticket) u.stage
+  turned_is kept = ap (λ b. after kept b u.stage) (named_is k participant.ticket)
 
-  lost : (kept first : Bool) (st : Stage) → (is_voting st && (first && is_none spot.vote)) ≡ false → after kept first st ≡ desk.stays (desk.Known v)
+  lost : (kept first : Bool) (st : Stage) → (is_voting st && (first && is_none participant.vote)) ≡ false → after kept first st ≡ desk.stays (desk.Known v)
   lost kept false st e = refl
   lost kept true stage.Idle e = refl
   lost kept true (stage.Reading r) e = refl
   lost kept true (stage.Writing w) e = refl
-  lost kept true stage.Voting e = if_false (is_none (votes_of u.spots a)) _ _ (none_vote spot.vote ∙ e)
+  lost kept true stage.Voting e = if_false (is_none (votes_of u.participants a)) _ _ (none_vote participant.vote ∙ e)
 
-  counted : (kept first : Bool) (st : Stage) → (is_voting st && (first && is_none spot.vote)) ≡ true → after kept first st ≡ desk.counts {L = language db} t v a (votes_of u.spots) kept (vote_of vote)
+  counted : (kept first : Bool) (st : Stage) → (is_voting st && (first && is_none participant.vote)) ≡ true → after kept first st ≡ desk.counts {L = language db} t v a (votes_of u.participants) kept (vote_of vote)
   counted kept false st e = let f : false ≡ true = right_true (is_voting st) false e in cc
   counted kept true stage.Idle e = cc
   counted kept true (stage.Reading r) e = cc
   counted kept true (stage.Writing w) e = cc
-  counted kept true stage.Voting e = if_true (is_none (votes_of u.spots a)) _ _ (none_vote spot.vote ∙ e)
+  counted kept true stage.Voting e = if_true (is_none (votes_of u.participants a)) _ _ (none_vote participant.vote ∙ e)
 
   -- one that doesn't count
   pub vote_lost : (kept : Bool) → counts_vote u a k ≡ false → turned kept ≡ desk.stays (desk.Known v)
-  vote_lost kept e = turned_is kept ∙ lost kept (is_first k spot.ticket) u.stage e
+  vote_lost kept e = turned_is kept ∙ lost kept (is_first k participant.ticket) u.stage e
 
   module _ (e : counts_vote u a k ≡ true) where
-    pub at_site : list_any (is_at a) u.spots ≡ true
-    at_site = ticket_there a k u.spots (left_true (is_first k spot.ticket) _ (right_true (is_voting u.stage) _ e))
+    pub at_site : list_any (is_at a) u.participants ≡ true
+    at_site = ticket_there a k u.participants (left_true (is_first k participant.ticket) _ (right_true (is_voting u.stage) _ e))
 
-    abbrev now : List Spot
-    now = map (changed_at a (with_vote (Some vote))) u.spots
+    abbrev now : List Participant
+    now = map (changed_at a (with_vote (Some vote))) u.participants
 
     -- a NO aborts
-    ends_no : (kept : Bool) (w : Vote) → is_no w ≡ true → desk.counts {L = language db} t v a (votes_of u.spots) kept (vote_of w) ≡ desk.ends_by t (record v { stage = desk.Voting (put (pointwise nat_eq) a (Some (vote_of w)) (votes_of u.spots)) }) (desk.Aborted t desk.By_vote)
+    ends_no : (kept : Bool) (w : Vote) → is_no w ≡ true → desk.counts {L = language db} t v a (votes_of u.participants) kept (vote_of w) ≡ desk.ends_by t (record v { stage = desk.Voting (put (pointwise nat_eq) a (Some (vote_of w)) (votes_of u.participants)) }) (desk.Aborted t desk.By_vote)
     ends_no kept Yes e = cc
     ends_no kept No e = refl
     ends_no kept Read e = cc
 
-    goes_on : (kept : Bool) (w : Vote) → is_no w ≡ false → desk.counts {L = language db} t v a (votes_of u.spots) kept (vote_of w) ≡ desk.votes_go t v (put (pointwise nat_eq) a (Some (vote_of w)) (votes_of u.spots)) kept
+    goes_on : (kept : Bool) (w : Vote) → is_no w ≡ false → desk.counts {L = language db} t v a (votes_of u.participants) kept (vote_of w) ≡ desk.votes_go t v (put (pointwise nat_eq) a (Some (vote_of w)) (votes_of u.participants)) kept
     goes_on kept Yes e = refl
     goes_on kept No e = cc
     goes_on kept Read e = refl
 
     pub vote_no : (kept : Bool) → is_no vote ≡ true → turned kept ≡ desk.ends_by t (undecided_of db (voting now)) (desk.Aborted t desk.By_vote)
-    vote_no kept against = turned_is kept ∙ counted kept (is_first k spot.ticket) u.stage e ∙ ends_no kept vote against ∙ ap (λ x. desk.ends_by t x (desk.Aborted t desk.By_vote)) (sym (vote_counted db u.spots a at_site vote u.stage))
+    vote_no kept against = turned_is kept ∙ counted kept (is_first k participant.ticket) u.stage e ∙ ends_no kept vote against ∙ ap (λ x. desk.ends_by t x (desk.Aborted t desk.By_vote)) (sym (vote_counted db u.participants a at_site vote u.stage))
 
     pub vote_goes : (kept : Bool) → is_no vote ≡ false → turned kept ≡ desk.votes_go t (undecided_of db (voting now)) (votes_of now) kept
     vote_goes kept other =
-        turned_is kept ∙ counted kept (is_first k spot.ticket) u.stage e ∙ goes_on kept vote other
-        ∙ ap (λ x. desk.votes_go t x (put (pointwise nat_eq) a (Some (vote_of vote)) (votes_of u.spots)) kept) (sym (vote_counted db u.spots a at_site vote u.stage))
-        ∙ ap (λ vs. desk.votes_go t (undecided_of db (voting now)) vs kept) (sym (votes_put db u.spots a at_site vote))
+        turned_is kept ∙ counted kept (is_first k participant.ticket) u.stage e ∙ goes_on kept vote other
+        ∙ ap (λ x. desk.votes_go t x (put (pointwise nat_eq) a (Some (vote_of vote)) (votes_of u.participants)) kept) (sym (vote_counted db u.participants a at_site vote u.stage))
+        ∙ ap (λ vs. desk.votes_go t (undecided_of db (voting now)) vs kept) (sym (votes_put db u.participants a at_site vote))
 
 -- a step is one that is the same, whatever was kept
-pub turns_as : (db : Database) (txn : Txn) (old : Option Standing) (one other : Turn → desk.Turn (language db)) → ((turn : Turn) → one turn ≡ other turn) → {E : Type 0} (result : Result Turn E) →
-    IfOk result (λ turn. IsTurn db txn old turn (other turn)) → IfOk result (λ turn. IsTurn db txn old turn (one turn))
+pub turns_as : (db : Database) (txn : Txn) (old : Option TxnState) (one other : Transition → desk.Transition (language db)) → ((turn : Transition) → one turn ≡ other turn) → {E : Type 0} (result : Result Transition E) →
+    IfOk result (λ turn. IsTransition db txn old turn (other turn)) → IfOk result (λ turn. IsTransition db txn old turn (one turn))
 turns_as db txn old one other same (Ok turn) is = turn_as db txn old turn (one turn) (other turn) (same turn) is
 turns_as db txn old one other same (Err e) is = tt
 
--- the spots with a vote are the sites still
-pub voted_are : (db : Database) (spots : List Spot) (a : List ℕ) (vote : Vote) → AreSpots db spots → (given : List Spot) → given ≡ map (changed_at a (with_vote (Some vote))) spots → AreSpots db given
-voted_are db spots a vote are given same = subst (AreSpots db) (sym same) (are_still db (changed_at a (with_vote (Some vote))) (changed_site (with_vote (Some vote)) (λ s. refl) a) spots are)
+-- the participants with a vote are the sites still
+pub voted_are : (db : Database) (participants : List Participant) (a : List ℕ) (vote : Vote) → AreParticipants db participants → (given : List Participant) → given ≡ map (changed_at a (with_vote (Some vote))) participants → AreParticipants db given
+voted_are db participants a vote are given same = subst (AreParticipants db) (sym same) (are_still db (changed_at a (with_vote (Some vote))) (changed_site (with_vote (Some vote)) (λ s. refl) a) participants are)
 
--- the steps of a vote that counts; given are the spots with it
-module _ (db : Database) (txn : Txn) (u : Undecided) (a : List ℕ) (k : Ticket) (vote : Vote) (choice : desk.Choice (language db)) (are : AreSpots db u.spots) (e : counts_vote u a k ≡ true)
-    (given : List Spot) (same : given ≡ map (changed_at a (with_vote (Some vote))) u.spots) (old : Option Standing) where
-  abbrev wanted : Turn → desk.Turn (language db)
+-- the steps of a vote that counts; given are the participants with it
+module _ (db : Database) (txn : Txn) (u : Undecided) (a : List ℕ) (k : Ticket) (vote : Vote) (choice : desk.Choice (language db)) (are : AreParticipants db u.participants) (e : counts_vote u a k ≡ true)
+    (given : List Participant) (same : given ≡ map (changed_at a (with_vote (Some vote))) u.participants) (old : Option TxnState) where
+  abbrev wanted : Transition → desk.Transition (language db)
   wanted turn = desk.on_known {L = language db} (txn_name txn) (undecided_of db u) a turn.kept choice (replied db (reply.Voted (record { ticket = k; vote = vote })))
 
-  pub no_turn : {E : Type 0} (result : Result Turn E) → is_no vote ≡ true →
-      IfOk result (λ turn. IsTurn db txn old turn (desk.ends_by (txn_name txn) (undecided_of db (voting given)) (desk.Aborted (txn_name txn) desk.By_vote))) → IfOk result (λ turn. IsTurn db txn old turn (wanted turn))
+  pub no_turn : {E : Type 0} (result : Result Transition E) → is_no vote ≡ true →
+      IfOk result (λ turn. IsTransition db txn old turn (desk.ends_by (txn_name txn) (undecided_of db (voting given)) (desk.Aborted (txn_name txn) desk.By_vote))) → IfOk result (λ turn. IsTransition db txn old turn (wanted turn))
   no_turn result against is =
       turns_as db txn old wanted (λ turn. desk.ends_by (txn_name txn) (undecided_of db (voting given)) (desk.Aborted (txn_name txn) desk.By_vote))
       (λ turn. vote_no db (txn_name txn) u a k vote choice e turn.kept against ∙ ap (λ ss. desk.ends_by (txn_name txn) (undecided_of db (voting ss)) (desk.Aborted (txn_name txn) desk.By_vote)) (sym same))
       result is
 
-  pub vote_turn : {E : Type 0} (result : Result Turn E) → is_no vote ≡ false →
-      IfOk result (λ turn. IsTurn db txn old turn (desk.votes_go (txn_name txn) (undecided_of db (voting given)) (votes_of given) turn.kept)) → IfOk result (λ turn. IsTurn db txn old turn (wanted turn))
+  pub vote_turn : {E : Type 0} (result : Result Transition E) → is_no vote ≡ false →
+      IfOk result (λ turn. IsTransition db txn old turn (desk.votes_go (txn_name txn) (undecided_of db (voting given)) (votes_of given) turn.kept)) → IfOk result (λ turn. IsTransition db txn old turn (wanted turn))
   vote_turn result other is =
       turns_as db txn old wanted (λ turn. desk.votes_go (txn_name txn) (undecided_of db (voting given)) (votes_of given) turn.kept)
       (λ turn. vote_goes db (txn_name txn) u a k vote choice e turn.kept other ∙ ap (λ ss. desk.votes_go (txn_name txn) (undecided_of db (voting ss)) (votes_of ss) turn.kept) (sym same))
@@ -158,31 +158,31 @@ module _ (db : Database) (txn : Txn) (u : Undecided) (a : List ℕ) (k : Ticket)
 
 -- ---- a refusal
 module _ (db : Database) (t : Name) (u : Undecided) (a : List ℕ) (refusal : Refusal) (choice : desk.Choice (language db)) where
-  abbrev refusing : Bool → desk.Turn (language db)
+  abbrev refusing : Bool → desk.Transition (language db)
   refusing kept = desk.on_known {L = language db} t (undecided_of db u) a kept choice (replied db (reply.Refused refusal))
 
-  abbrev refusing_if : Bool → desk.Turn (language db)
-  refusing_if b = if b then desk.on_refused {L = language db} t (undecided_of db u) (stage_of db u.spots u.stage) else desk.stays (desk.Known (undecided_of db u))
+  abbrev refusing_if : Bool → desk.Transition (language db)
+  refusing_if b = if b then desk.on_refused {L = language db} t (undecided_of db u) (stage_of db u.participants u.stage) else desk.stays (desk.Known (undecided_of db u))
 
   -- under another ticket than the first
-  pub refusal_lost : (kept : Bool) → is_first refusal.ticket (spot_in a u.spots).ticket ≡ false → refusing kept ≡ desk.stays (desk.Known (undecided_of db u))
-  refusal_lost kept e = ap refusing_if (named_is refusal.ticket (spot_in a u.spots).ticket ∙ e)
+  pub refusal_lost : (kept : Bool) → is_first refusal.ticket (participant_in a u.participants).ticket ≡ false → refusing kept ≡ desk.stays (desk.Known (undecided_of db u))
+  refusal_lost kept e = ap refusing_if (named_is refusal.ticket (participant_in a u.participants).ticket ∙ e)
 
   -- under the first
-  pub refusal_counts : (kept : Bool) → is_first refusal.ticket (spot_in a u.spots).ticket ≡ true → refusing kept ≡ desk.on_refused {L = language db} t (undecided_of db u) (stage_of db u.spots u.stage)
-  refusal_counts kept e = ap refusing_if (named_is refusal.ticket (spot_in a u.spots).ticket ∙ e)
+  pub refusal_counts : (kept : Bool) → is_first refusal.ticket (participant_in a u.participants).ticket ≡ true → refusing kept ≡ desk.on_refused {L = language db} t (undecided_of db u) (stage_of db u.participants u.stage)
+  refusal_counts kept e = ap refusing_if (named_is refusal.ticket (participant_in a u.participants).ticket ∙ e)
 
 -- ---- the sites stay
-pub voted_sites : (a : List ℕ) (vote : Vote) (spots given : List Spot) → given ≡ map (changed_at a (with_vote (Some vote))) spots → sites_of given ≡ sites_of spots
-voted_sites a vote spots given same = ap sites_of same ∙ same_sites (changed_at a (with_vote (Some vote))) (changed_site (with_vote (Some vote)) (λ s. refl) a) spots
+pub voted_sites : (a : List ℕ) (vote : Vote) (participants given : List Participant) → given ≡ map (changed_at a (with_vote (Some vote))) participants → sites_of given ≡ sites_of participants
+voted_sites a vote participants given same = ap sites_of same ∙ same_sites (changed_at a (with_vote (Some vote))) (changed_site (with_vote (Some vote)) (λ s. refl) a) participants
 
 -- a step is at the same sites
-pub at_same : {E : Type 0} (result : Result Turn E) (one other : List (List ℕ)) → one ≡ other → IfOk result (λ turn. AtSites one turn.after) → IfOk result (λ turn. AtSites other turn.after)
+pub at_same : {E : Type 0} (result : Result Transition E) (one other : List (List ℕ)) → one ≡ other → IfOk result (λ turn. AtSites one turn.after) → IfOk result (λ turn. AtSites other turn.after)
 at_same result one other same is = subst (λ sites. IfOk result (λ turn. AtSites sites turn.after)) same is
 
 -- ---- a further ticket
 module _ (db : Database) (t : Name) (u : Undecided) (a : List ℕ) (k : Ticket) (choice : desk.Choice (language db)) where
-  abbrev given : Option Ticket → desk.Turn (language db)
+  abbrev given : Option Ticket → desk.Transition (language db)
   given first = desk.on_ticket {L = language db} t (undecided_of db u) a (name_of k) choice (option_map name_of first)
 
   -- it is the first one again
@@ -199,6 +199,6 @@ pub some_first : (first : Option Ticket) → is_none first ≡ false → first �
 some_first None e = cc
 some_first (Some k) e = λ none. (let f : Some k ≡ None = none in cc)
 
--- the spots with a vote, through the code's copies
-pub copied_vote : (a : List ℕ) (vote : Vote) (given copies slice spots : List Spot) → given ≡ copies → copies ≡ map (changed_at a (with_vote (Some vote))) slice → slice ≡ spots → given ≡ map (changed_at a (with_vote (Some vote))) spots
-copied_vote a vote given copies slice spots one two three = one ∙ two ∙ ap (map (changed_at a (with_vote (Some vote)))) three
+-- the participants with a vote, through the code's copies
+pub copied_vote : (a : List ℕ) (vote : Vote) (given copies slice participants : List Participant) → given ≡ copies → copies ≡ map (changed_at a (with_vote (Some vote))) slice → slice ≡ participants → given ≡ map (changed_at a (with_vote (Some vote))) participants
+copied_vote a vote given copies slice participants one two three = one ∙ two ∙ ap (map (changed_at a (with_vote (Some vote)))) three

@@ -15,28 +15,28 @@ use Rattle.protocol.specs.Desk as desk
 use Rattle.protocol.specs.Language.{Name}
 use Rattle.protocol.specs.Letters.{name_of, txn_name, vote_of}
 use Rattle.protocol.specs.Parts.{In}
-use Rattle.desk.specs.declared.spot.Spot.{Spot}
-use Rattle.desk.specs.declared.standing.Standing.{Standing}
-use Rattle.desk.specs.declared.turn.After.TheVariants.{Ends}
-use Rattle.desk.specs.declared.turn.Turn.{Turn}
+use Rattle.desk.specs.declared.participant.Participant.{Participant}
+use Rattle.desk.specs.declared.transaction.TxnState.{TxnState}
+use Rattle.desk.specs.declared.transition.After.TheVariants.{Ends}
+use Rattle.desk.specs.declared.transition.Transition.{Transition}
 use Rattle.desk.specs.Database.{Database, language, sent}
-use Rattle.desk.specs.Spots.{is_in, sites_of}
-use Rattle.desk.specs.Standing.{undecided_of, voter_of, votes_of}
-use Rattle.desk.specs.Turn.{AreSpots, IsTurn, after_of, voting}
-use Rattle.desk.specs.Voters.{Keeps, commit_letters, is_yes, kept_voters, voter_at, voter_with, voters_among}
+use Rattle.desk.specs.Participants.{is_in, sites_of}
+use Rattle.desk.specs.Transaction.{undecided_of, voter_of, votes_of}
+use Rattle.desk.specs.Transition.{AreParticipants, IsTransition, after_of, voting}
+use Rattle.desk.specs.Acknowledge.{Keeps, commit_letters, is_yes, kept_voters, voter_at, voter_with, voters_among}
 use Rattle.desk.proofs.Acknowledged.{keeps_same, turn_as}
-use Rattle.desk.proofs.Spots.{at_home, text_is}
+use Rattle.desk.proofs.Participants.{at_home, text_is}
 
 -- ---- site by site
-all_sites : (p : List ℕ → Bool) (q : Spot → Bool) (spots : List Spot) → ((spot : Spot) → In spot spots → p spot.site ≡ q spot) → list_all p (sites_of spots) ≡ list_all q spots
+all_sites : (p : List ℕ → Bool) (q : Participant → Bool) (participants : List Participant) → ((participant : Participant) → In participant participants → p participant.site ≡ q participant) → list_all p (sites_of participants) ≡ list_all q participants
 all_sites p q [] each = refl
-all_sites p q (s ∷ spots) each = ap (λ b. b && list_all p (sites_of spots)) (each s (inl refl)) ∙ ap (λ b. q s && b) (all_sites p q spots (λ x at. each x (inr at)))
+all_sites p q (s ∷ participants) each = ap (λ b. b && list_all p (sites_of participants)) (each s (inl refl)) ∙ ap (λ b. q s && b) (all_sites p q participants (λ x at. each x (inr at)))
 
-flat_sites : (f : List ℕ → List (List ℕ × Name)) (spots : List Spot) → ((spot : Spot) → In spot spots → f spot.site ≡ map voter_of (cons_option (voter_at spot) [])) → flat_map f (sites_of spots) ≡ map voter_of (voters_among spots)
+flat_sites : (f : List ℕ → List (List ℕ × Name)) (participants : List Participant) → ((participant : Participant) → In participant participants → f participant.site ≡ map voter_of (cons_option (voter_at participant) [])) → flat_map f (sites_of participants) ≡ map voter_of (voters_among participants)
 flat_sites f [] each = refl
-flat_sites f (s ∷ spots) each = ap (λ l. l ++ flat_map f (sites_of spots)) (each s (inl refl)) ∙ go (voter_at s) (flat_sites f spots (λ x at. each x (inr at)))
+flat_sites f (s ∷ participants) each = ap (λ l. l ++ flat_map f (sites_of participants)) (each s (inl refl)) ∙ go (voter_at s) (flat_sites f participants (λ x at. each x (inr at)))
   where
-    go : (o : Option Voter) → flat_map f (sites_of spots) ≡ map voter_of (voters_among spots) → map voter_of (cons_option o []) ++ flat_map f (sites_of spots) ≡ map voter_of (cons_option o (voters_among spots))
+    go : (o : Option Voter) → flat_map f (sites_of participants) ≡ map voter_of (voters_among participants) → map voter_of (cons_option o []) ++ flat_map f (sites_of participants) ≡ map voter_of (cons_option o (voters_among participants))
     go None rest = rest
     go (Some v) rest = ap (λ l. voter_of v ∷ l) rest
 
@@ -44,11 +44,11 @@ some_vote : (vote : Option Vote) → is_some (option_map vote_of vote) ≡ is_so
 some_vote None = refl
 some_vote (Some v) = refl
 
-one_voter : (spot : Spot) → (if spot.visited then desk.voter_at spot.site (option_map vote_of spot.vote) (option_map name_of spot.ticket) else []) ≡ map voter_of (cons_option (voter_at spot) [])
-one_voter spot = go spot.visited spot.vote spot.ticket
+one_voter : (participant : Participant) → (if participant.visited then desk.voter_at participant.site (option_map vote_of participant.vote) (option_map name_of participant.ticket) else []) ≡ map voter_of (cons_option (voter_at participant) [])
+one_voter participant = go participant.visited participant.vote participant.ticket
   where
     go : (b : Bool) (vote : Option Vote) (ticket : Option Ticket) →
-        (if b then desk.voter_at spot.site (option_map vote_of vote) (option_map name_of ticket) else []) ≡ map voter_of (cons_option (if b && is_yes vote then option_map (voter_with spot.site) ticket else None) [])
+        (if b then desk.voter_at participant.site (option_map vote_of vote) (option_map name_of ticket) else []) ≡ map voter_of (cons_option (if b && is_yes vote then option_map (voter_with participant.site) ticket else None) [])
     go false vote ticket = refl
     go true None ticket = refl
     go true (Some Yes) None = refl
@@ -60,70 +60,70 @@ pub commits_is : (db : Database) (txn : Txn) (voters : List Voter) → map (sent
 commits_is db txn [] = refl
 commits_is db txn (v ∷ voters) = ap (λ l. sent db (Rattle.desk.specs.Orders.ordered txn v.site (Rattle.store.specs.declared.order.Order.TheVariants.Commit v.ticket)) ∷ l) (commits_is db txn voters)
 
-module _ (db : Database) (spots : List Spot) (are : AreSpots db spots) where
+module _ (db : Database) (participants : List Participant) (are : AreParticipants db participants) where
   abbrev u : desk.Undecided (language db)
-  u = undecided_of db (voting spots)
+  u = undecided_of db (voting participants)
 
-  pub all_in_is : desk.are_all_in {L = language db} u (votes_of spots) ≡ list_all is_in spots
+  pub all_in_is : desk.are_all_in {L = language db} u (votes_of participants) ≡ list_all is_in participants
   all_in_is =
-      ap (λ sites. list_all (λ a. not (u.visited a) || is_some (votes_of spots a)) sites) (sym are.sites)
-      ∙ all_sites (λ a. not (u.visited a) || is_some (votes_of spots a)) is_in spots
-      (λ spot at. ap (λ x. not x.visited || is_some (option_map vote_of x.vote)) (at_home spots are.distinct spot at) ∙ ap (λ b. not spot.visited || b) (some_vote spot.vote))
+      ap (λ sites. list_all (λ a. not (u.visited a) || is_some (votes_of participants a)) sites) (sym are.sites)
+      ∙ all_sites (λ a. not (u.visited a) || is_some (votes_of participants a)) is_in participants
+      (λ participant at. ap (λ x. not x.visited || is_some (option_map vote_of x.vote)) (at_home participants are.distinct participant at) ∙ ap (λ b. not participant.visited || b) (some_vote participant.vote))
 
-  pub voters_is : desk.voters_of {L = language db} u (votes_of spots) ≡ map voter_of (voters_among spots)
+  pub voters_is : desk.voters_of {L = language db} u (votes_of participants) ≡ map voter_of (voters_among participants)
   voters_is =
-      let f : List ℕ → List (List ℕ × Name) = λ a. if u.visited a then desk.voter_at a (votes_of spots a) (u.ticket a) else [] in
+      let f : List ℕ → List (List ℕ × Name) = λ a. if u.visited a then desk.voter_at a (votes_of participants a) (u.ticket a) else [] in
       ap (λ sites. flat_map f sites) (sym are.sites)
-      ∙ flat_sites f spots (λ spot at. ap (λ x. if x.visited then desk.voter_at spot.site (option_map vote_of x.vote) (option_map name_of x.ticket) else []) (at_home spots are.distinct spot at) ∙ one_voter spot)
+      ∙ flat_sites f participants (λ participant at. ap (λ x. if x.visited then desk.voter_at participant.site (option_map vote_of x.vote) (option_map name_of x.ticket) else []) (at_home participants are.distinct participant at) ∙ one_voter participant)
 
-  pub votes_go_is : (t : Name) (kept : Bool) → desk.votes_go {L = language db} t u (votes_of spots) kept
-      ≡ (if list_all is_in spots then desk.decides {L = language db} t u kept (map voter_of (voters_among spots)) else desk.stays (desk.Known u))
+  pub votes_go_is : (t : Name) (kept : Bool) → desk.votes_go {L = language db} t u (votes_of participants) kept
+      ≡ (if list_all is_in participants then desk.decides {L = language db} t u kept (map voter_of (voters_among participants)) else desk.stays (desk.Known u))
   votes_go_is t kept =
-      ap (λ b. if b then desk.decides {L = language db} t u kept (desk.voters_of {L = language db} u (votes_of spots)) else desk.stays (desk.Known u)) all_in_is
-      ∙ ap (λ vs. if list_all is_in spots then desk.decides {L = language db} t u kept vs else desk.stays (desk.Known u)) voters_is
+      ap (λ b. if b then desk.decides {L = language db} t u kept (desk.voters_of {L = language db} u (votes_of participants)) else desk.stays (desk.Known u)) all_in_is
+      ∙ ap (λ vs. if list_all is_in participants then desk.decides {L = language db} t u kept vs else desk.stays (desk.Known u)) voters_is
 
   -- not all votes are in
-  pub votes_wait : (t : Name) (kept : Bool) → list_all is_in spots ≡ false → desk.votes_go {L = language db} t u (votes_of spots) kept ≡ desk.stays (desk.Known u)
-  votes_wait t kept is = votes_go_is t kept ∙ ap (λ b. if b then desk.decides {L = language db} t u kept (map voter_of (voters_among spots)) else desk.stays (desk.Known u)) is
+  pub votes_wait : (t : Name) (kept : Bool) → list_all is_in participants ≡ false → desk.votes_go {L = language db} t u (votes_of participants) kept ≡ desk.stays (desk.Known u)
+  votes_wait t kept is = votes_go_is t kept ∙ ap (λ b. if b then desk.decides {L = language db} t u kept (map voter_of (voters_among participants)) else desk.stays (desk.Known u)) is
 
   -- all are
-  pub votes_decide : (t : Name) (kept : Bool) (voters : List Voter) → list_all is_in spots ≡ true → voters ≡ voters_among spots → desk.votes_go {L = language db} t u (votes_of spots) kept ≡ desk.decides {L = language db} t u kept (map voter_of voters)
+  pub votes_decide : (t : Name) (kept : Bool) (voters : List Voter) → list_all is_in participants ≡ true → voters ≡ voters_among participants → desk.votes_go {L = language db} t u (votes_of participants) kept ≡ desk.decides {L = language db} t u kept (map voter_of voters)
   votes_decide t kept voters is same =
-      votes_go_is t kept ∙ ap (λ b. if b then desk.decides {L = language db} t u kept (map voter_of (voters_among spots)) else desk.stays (desk.Known u)) is
+      votes_go_is t kept ∙ ap (λ b. if b then desk.decides {L = language db} t u kept (map voter_of (voters_among participants)) else desk.stays (desk.Known u)) is
       ∙ ap (λ vs. desk.decides {L = language db} t u kept (map voter_of vs)) (sym same)
 
 -- the row is not kept
-pub unkept_is : (db : Database) (txn : Txn) (old : Option Standing) (v : desk.Undecided (language db)) (voters : List Voter) → 0 < length voters → {E : Type 0} (result : Result Turn E) →
-    IfOk result (λ turn. IsTurn db txn old turn (desk.ends_by (txn_name txn) v (desk.Aborted (txn_name txn) desk.By_store))) → IfOk result (λ turn. turn.kept ≡ false) →
-    IfOk result (λ turn. IsTurn db txn old turn (desk.decides (txn_name txn) v turn.kept (map voter_of voters)))
+pub unkept_is : (db : Database) (txn : Txn) (old : Option TxnState) (v : desk.Undecided (language db)) (voters : List Voter) → 0 < length voters → {E : Type 0} (result : Result Transition E) →
+    IfOk result (λ turn. IsTransition db txn old turn (desk.ends_by (txn_name txn) v (desk.Aborted (txn_name txn) desk.By_store))) → IfOk result (λ turn. turn.kept ≡ false) →
+    IfOk result (λ turn. IsTransition db txn old turn (desk.decides (txn_name txn) v turn.kept (map voter_of voters)))
 unkept_is db txn old v [] some result ends kept = absurd (omega arith)
-unkept_is db txn old v (x ∷ voters) some (Ok turn) ends kept = subst (λ b. IsTurn db txn old turn (desk.decides (txn_name txn) v b (map voter_of (x ∷ voters)))) (sym kept) ends
+unkept_is db txn old v (x ∷ voters) some (Ok turn) ends kept = subst (λ b. IsTransition db txn old turn (desk.decides (txn_name txn) v b (map voter_of (x ∷ voters)))) (sym kept) ends
 unkept_is db txn old v (x ∷ voters) some (Err e) ends kept = tt
 
 -- the row is kept
-pub kept_is : (db : Database) (txn : Txn) (old : Option Standing) (v : desk.Undecided (language db)) (voters : List Voter) (turn : Turn) → 0 < length voters →
-    IsTurn db txn old turn (record { txn = desk.Row (map voter_of voters) []; letters = desk.commits {L = language db} (txn_name txn) (map voter_of voters); deeds = desk.Committed (txn_name txn) ∷ [] }) →
-    IsTurn db txn old turn (desk.decides {L = language db} (txn_name txn) v true (map voter_of voters))
+pub kept_is : (db : Database) (txn : Txn) (old : Option TxnState) (v : desk.Undecided (language db)) (voters : List Voter) (turn : Transition) → 0 < length voters →
+    IsTransition db txn old turn (record { txn = desk.Row (map voter_of voters) []; letters = desk.commits {L = language db} (txn_name txn) (map voter_of voters); deeds = desk.Committed (txn_name txn) ∷ [] }) →
+    IsTransition db txn old turn (desk.decides {L = language db} (txn_name txn) v true (map voter_of voters))
 kept_is db txn old v [] turn some is = absurd (omega arith)
 kept_is db txn old v (x ∷ voters) turn some is = is
 
 -- the store keeps nothing of a transaction that ends
-pub ended_keeps : (txn : Txn) (old : Option Standing) (kept after : DeskContent) → kept.commits txn ≡ None → IsUnchanged kept after → {E : Type 0} (result : Result Turn E) →
+pub ended_keeps : (txn : Txn) (old : Option TxnState) (kept after : DeskContent) → kept.commits txn ≡ None → IsUnchanged kept after → {E : Type 0} (result : Result Transition E) →
     IfOk result (λ turn. turn.after ≡ Ends) → IfOk result (λ turn. Keeps txn (kept_voters (after_of old turn.after)) kept after)
 ended_keeps txn old kept after none same (Ok turn) is = subst (λ a. Keeps txn (kept_voters (after_of old a)) kept after) (sym is) (keeps_same txn None kept after none same)
 ended_keeps txn old kept after none same (Err e) is = tt
 
 -- ---- the voters' sites are distinct
-others_apart : (site : List ℕ) (spots : List Spot) → AllByRecursion (λ other. (site ≡ other) → ⊥) (sites_of spots) → AllByRecursion (λ other. pointwise nat_eq site other ≡ false) (map (λ voter. voter.site) (voters_among spots))
+others_apart : (site : List ℕ) (participants : List Participant) → AllByRecursion (λ other. (site ≡ other) → ⊥) (sites_of participants) → AllByRecursion (λ other. pointwise nat_eq site other ≡ false) (map (λ voter. voter.site) (voters_among participants))
 others_apart site [] apart = tt
-others_apart site (s ∷ spots) apart = go s.visited s.vote s.ticket (others_apart site spots apart.1)
+others_apart site (s ∷ participants) apart = go s.visited s.vote s.ticket (others_apart site participants apart.1)
   where
     unlike : (b : Bool) → pointwise nat_eq site s.site ≡ b → b ≡ false
     unlike true e = absurd (apart.0 (text_is site s.site e))
     unlike false e = refl
 
-    go : (b : Bool) (vote : Option Vote) (ticket : Option Ticket) → AllByRecursion (λ other. pointwise nat_eq site other ≡ false) (map (λ voter. voter.site) (voters_among spots)) →
-        AllByRecursion (λ other. pointwise nat_eq site other ≡ false) (map (λ voter. voter.site) (cons_option (if b && is_yes vote then option_map (voter_with s.site) ticket else None) (voters_among spots)))
+    go : (b : Bool) (vote : Option Vote) (ticket : Option Ticket) → AllByRecursion (λ other. pointwise nat_eq site other ≡ false) (map (λ voter. voter.site) (voters_among participants)) →
+        AllByRecursion (λ other. pointwise nat_eq site other ≡ false) (map (λ voter. voter.site) (cons_option (if b && is_yes vote then option_map (voter_with s.site) ticket else None) (voters_among participants)))
     go false vote ticket rest = rest
     go true None ticket rest = rest
     go true (Some No) ticket rest = rest
@@ -131,22 +131,22 @@ others_apart site (s ∷ spots) apart = go s.visited s.vote s.ticket (others_apa
     go true (Some Yes) None rest = rest
     go true (Some Yes) (Some k) rest = ((let e = unlike (pointwise nat_eq site s.site) refl in e), rest)
 
-voters_once : (spots : List Spot) → AreDistinct (sites_of spots) → IsDistinct (pointwise nat_eq) (map (λ voter. voter.site) (voters_among spots))
+voters_once : (participants : List Participant) → AreDistinct (sites_of participants) → IsDistinct (pointwise nat_eq) (map (λ voter. voter.site) (voters_among participants))
 unfolding IsDistinct
 voters_once [] apart = tt
-voters_once (s ∷ spots) apart = go s.visited s.vote s.ticket (voters_once spots apart.1)
+voters_once (s ∷ participants) apart = go s.visited s.vote s.ticket (voters_once participants apart.1)
   where
-    go : (b : Bool) (vote : Option Vote) (ticket : Option Ticket) → IsDistinct (pointwise nat_eq) (map (λ voter. voter.site) (voters_among spots)) →
-        IsDistinct (pointwise nat_eq) (map (λ voter. voter.site) (cons_option (if b && is_yes vote then option_map (voter_with s.site) ticket else None) (voters_among spots)))
+    go : (b : Bool) (vote : Option Vote) (ticket : Option Ticket) → IsDistinct (pointwise nat_eq) (map (λ voter. voter.site) (voters_among participants)) →
+        IsDistinct (pointwise nat_eq) (map (λ voter. voter.site) (cons_option (if b && is_yes vote then option_map (voter_with s.site) ticket else None) (voters_among participants)))
     go false vote ticket rest = rest
     go true None ticket rest = rest
     go true (Some No) ticket rest = rest
     go true (Some Read) ticket rest = rest
     go true (Some Yes) None rest = rest
-    go true (Some Yes) (Some k) rest = (others_apart s.site spots apart.0, rest)
+    go true (Some Yes) (Some k) rest = (others_apart s.site participants apart.0, rest)
 
-pub are_voters : (spots : List Spot) (voters : List Voter) → AreDistinct (sites_of spots) → voters ≡ voters_among spots → 0 < length voters → AreVoters voters
-are_voters spots voters apart same some = record { some = some; once = subst (λ vs. IsDistinct (pointwise nat_eq) (map (λ voter. voter.site) vs)) (sym same) (voters_once spots apart) }
+pub are_voters : (participants : List Participant) (voters : List Voter) → AreDistinct (sites_of participants) → voters ≡ voters_among participants → 0 < length voters → AreVoters voters
+are_voters participants voters apart same some = record { some = some; once = subst (λ vs. IsDistinct (pointwise nat_eq) (map (λ voter. voter.site) vs)) (sym same) (voters_once participants apart) }
 
 -- the store keeps the row
 pub keeps_row : (txn : Txn) (kept after : DeskContent) (voters same : List Voter) → voters ≡ same → KeepsCommit txn voters kept after → Keeps txn (Some same) kept after
@@ -163,9 +163,9 @@ somebody [] e = cc
 somebody (v ∷ voters) e = omega arith
 
 -- all votes are in, and it is decided
-pub decided_is : (db : Database) (txn : Txn) (old : Option Standing) (spots now : List Spot) → now ≡ spots → AreSpots db spots → (voters : List Voter) → list_all is_in spots ≡ true → voters ≡ voters_among spots → {E : Type 0} (result : Result Turn E) →
-    IfOk result (λ turn. IsTurn db txn old turn (desk.decides (txn_name txn) (undecided_of db (voting now)) turn.kept (map voter_of voters))) →
-    IfOk result (λ turn. IsTurn db txn old turn (desk.votes_go (txn_name txn) (undecided_of db (voting spots)) (votes_of spots) turn.kept))
-decided_is db txn old spots now same are voters all is (Ok turn) steps =
-    turn_as db txn old turn _ _ (votes_decide db spots are (txn_name txn) turn.kept voters all is ∙ ap (λ ss. desk.decides {L = language db} (txn_name txn) (undecided_of db (voting ss)) turn.kept (map voter_of voters)) (sym same)) steps
-decided_is db txn old spots now same are voters all is (Err e) steps = tt
+pub decided_is : (db : Database) (txn : Txn) (old : Option TxnState) (participants now : List Participant) → now ≡ participants → AreParticipants db participants → (voters : List Voter) → list_all is_in participants ≡ true → voters ≡ voters_among participants → {E : Type 0} (result : Result Transition E) →
+    IfOk result (λ turn. IsTransition db txn old turn (desk.decides (txn_name txn) (undecided_of db (voting now)) turn.kept (map voter_of voters))) →
+    IfOk result (λ turn. IsTransition db txn old turn (desk.votes_go (txn_name txn) (undecided_of db (voting participants)) (votes_of participants) turn.kept))
+decided_is db txn old participants now same are voters all is (Ok turn) steps =
+    turn_as db txn old turn _ _ (votes_decide db participants are (txn_name txn) turn.kept voters all is ∙ ap (λ ss. desk.decides {L = language db} (txn_name txn) (undecided_of db (voting ss)) turn.kept (map voter_of voters)) (sym same)) steps
+decided_is db txn old participants now same are voters all is (Err e) steps = tt

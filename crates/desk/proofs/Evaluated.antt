@@ -11,21 +11,21 @@ use Rattle.protocol.specs.Language.{Lang, Name}
 use Rattle.protocol.specs.Letter as protocol
 use Rattle.protocol.specs.Letters.{name_of, txn_name}
 use Rattle.desk.specs.declared.reply.Reply.TheVariants as reply
-use Rattle.desk.specs.declared.spot.Spot.{Spot}
-use Rattle.desk.specs.declared.stepping.Step.{Step}
-use Rattle.desk.specs.declared.undecided.Stage.{Stage}
-use Rattle.desk.specs.declared.undecided.Stage.TheVariants as stage
-use Rattle.desk.specs.declared.undecided.Undecided.{Undecided}
-use Rattle.desk.specs.declared.undecided.Unsent.{Unsent}
-use Rattle.desk.specs.declared.undecided.Writing.{Writing}
+use Rattle.desk.specs.declared.participant.Participant.{Participant}
+use Rattle.desk.specs.declared.statement.Progress.{Progress}
+use Rattle.desk.specs.declared.transaction.Stage.{Stage}
+use Rattle.desk.specs.declared.transaction.Stage.TheVariants as stage
+use Rattle.desk.specs.declared.transaction.Undecided.{Undecided}
+use Rattle.desk.specs.declared.transaction.Unsent.{Unsent}
+use Rattle.desk.specs.declared.transaction.Writing.{Writing}
 use Rattle.desk.specs.Database.{Database, language, sent}
-use Rattle.desk.specs.Opening.{HaveSpots, opens, visits}
-use Rattle.desk.specs.Sending.{UnsentAtHome, writes_go}
-use Rattle.desk.specs.Standing.{stage_of, undecided_of, write_of}
-use Rattle.desk.specs.Stating.{write_sites}
-use Rattle.desk.specs.Stepped.{IsStep}
-use Rattle.desk.specs.Turn.{AreSpots, told, told_to}
-use Rattle.desk.proofs.Going.{waiting_is, answered_is}
+use Rattle.desk.specs.Opening.{HaveParticipants, opens, visits}
+use Rattle.desk.specs.Send.{UnsentAtHome, writes_go}
+use Rattle.desk.specs.Transaction.{stage_of, undecided_of, write_of}
+use Rattle.desk.specs.Statement.{write_sites}
+use Rattle.desk.specs.Stepped.{IsProgress}
+use Rattle.desk.specs.Transition.{AreParticipants, told, told_to}
+use Rattle.desk.proofs.SentLetters.{waiting_is, answered_is}
 use Rattle.desk.proofs.Opened.{kept_by_visits, opens_are, visited_now}
 
 -- the leaves of writes, and their homes
@@ -41,60 +41,60 @@ writing_apart : (L : Lang) (t : Name) (v : desk.Undecided L) (st : desk.Stage L)
 writing_apart L t v st answer counts [] letters = refl
 writing_apart L t v st answer counts (x ∷ left) letters = refl
 
-module _ (db : Database) (txn : Txn) (u new : Undecided) (began : Writing) (s : Statement) (asks : List (desk.Ask (language db))) (are : AreSpots db u.spots) (have : HaveSpots u.spots (write_sites began.unsent.items)) (home : UnsentAtHome db began.unsent.items) (step : Step)
-    (spots_now : new.spots ≡ (writes_go txn began.unsent.items (visits (write_sites began.unsent.items) u.spots)).spots) (letters : step.letters.items ≡ opens txn (write_sites began.unsent.items) u.spots ++ (writes_go txn began.unsent.items (visits (write_sites began.unsent.items) u.spots)).letters) where
+module _ (db : Database) (txn : Txn) (u new : Undecided) (began : Writing) (s : Statement) (asks : List (desk.Ask (language db))) (are : AreParticipants db u.participants) (have : HaveParticipants u.participants (write_sites began.unsent.items)) (home : UnsentAtHome db began.unsent.items) (step : Progress)
+    (participants_now : new.participants ≡ (writes_go txn began.unsent.items (visits (write_sites began.unsent.items) u.participants)).participants) (letters : step.letters.items ≡ opens txn (write_sites began.unsent.items) u.participants ++ (writes_go txn began.unsent.items (visits (write_sites began.unsent.items) u.participants)).letters) where
   abbrev ws : List Unsent
   ws = began.unsent.items
 
-  abbrev opened : List Spot
-  opened = visits (write_sites ws) u.spots
+  abbrev opened : List Participant
+  opened = visits (write_sites ws) u.participants
 
-  abbrev at_work : desk.Turn (language db)
+  abbrev at_work : desk.Transition (language db)
   at_work = desk.works (txn_name txn) (undecided_of db u) s asks (began.answer, map write_of ws)
 
   -- after the Opens, apart from its stage
-  opened_is : (st : Stage) → undecided_of db (record { spots = opened; stage = st }) ≡ record (desk.visits (undecided_of db u) (write_leaves ws)) { stage = stage_of db opened st }
+  opened_is : (st : Stage) → undecided_of db (record { participants = opened; stage = st }) ≡ record (desk.visits (undecided_of db u) (write_leaves ws)) { stage = stage_of db opened st }
   opened_is st = λ i. record {
-    visited = λ j. visited_now db txn u.spots are u.stage (write_leaves ws) (write_sites ws) (homes_are db ws home) have j i;
-    ticket = λ j. option_map name_of (kept_by_visits (write_sites ws) u.spots (λ x. x.ticket) (λ x. refl) j i);
-    sent = λ j. kept_by_visits (write_sites ws) u.spots (λ x. x.sent) (λ x. refl) j i;
+    visited = λ j. visited_now db txn u.participants are u.stage (write_leaves ws) (write_sites ws) (homes_are db ws home) have j i;
+    ticket = λ j. option_map name_of (kept_by_visits (write_sites ws) u.participants (λ x. x.ticket) (λ x. refl) j i);
+    sent = λ j. kept_by_visits (write_sites ws) u.participants (λ x. x.sent) (λ x. refl) j i;
     stage = stage_of db opened st;
   }
 
   -- the writes that go out, from either
-  abbrev goes : desk.Undecided (language db) → desk.Turn (language db)
+  abbrev goes : desk.Undecided (language db) → desk.Transition (language db)
   goes v = desk.writes_go (txn_name txn) v began.answer (map write_of ws)
 
-  goes_as : goes (undecided_of db (record { spots = opened; stage = stage.Writing began })) ≡ goes (desk.visits (undecided_of db u) (write_leaves ws))
+  goes_as : goes (undecided_of db (record { participants = opened; stage = stage.Writing began })) ≡ goes (desk.visits (undecided_of db u) (write_leaves ws))
   goes_as =
       let v = desk.visits (undecided_of db u) (write_leaves ws) in
       let out = desk.writes_out {L = language db} (txn_name txn) v.ticket (map write_of ws) v.sent in
       ap goes (opened_is (stage.Writing began)) ∙ writing_apart (language db) (txn_name txn) v (stage_of db opened (stage.Writing began)) began.answer out.sent out.left out.letters
 
-  all_letters : map (sent db) (writes_go txn ws opened).letters ≡ (goes (undecided_of db (record { spots = opened; stage = stage.Writing began }))).letters → map (sent db) step.letters.items ≡ at_work.letters
-  all_letters out = ap (map (sent db)) letters ∙ map-append (sent db) (opens txn (write_sites ws) u.spots) (writes_go txn ws opened).letters
-      ∙ (λ i. opens_are db txn u.spots are u.stage (write_leaves ws) (write_sites ws) (homes_are db ws home) have i ++ (out ∙ ap (λ turn. turn.letters) goes_as) i)
+  all_letters : map (sent db) (writes_go txn ws opened).letters ≡ (goes (undecided_of db (record { participants = opened; stage = stage.Writing began }))).letters → map (sent db) step.letters.items ≡ at_work.letters
+  all_letters out = ap (map (sent db)) letters ∙ map-append (sent db) (opens txn (write_sites ws) u.participants) (writes_go txn ws opened).letters
+      ∙ (λ i. opens_are db txn u.participants are u.stage (write_leaves ws) (write_sites ws) (homes_are db ws home) have i ++ (out ∙ ap (λ turn. turn.letters) goes_as) i)
 
-  pub works_waiting : (after : Writing) → after.answer ≡ began.answer → (first : Unsent) (rest : List Unsent) → after.unsent.items ≡ first ∷ rest → after.unsent.items ≡ (writes_go txn ws opened).left → new.stage ≡ stage.Writing after → step.reply ≡ None → IsStep db txn new step at_work
+  pub works_waiting : (after : Writing) → after.answer ≡ began.answer → (first : Unsent) (rest : List Unsent) → after.unsent.items ≡ first ∷ rest → after.unsent.items ≡ (writes_go txn ws opened).left → new.stage ≡ stage.Writing after → step.reply ≡ None → IsProgress db txn new step at_work
   works_waiting after answer first rest some left now quiet =
-      let base = waiting_is db txn opened new.spots (writes_go txn ws opened).letters began home spots_now refl after answer first rest some left in
+      let base = waiting_is db txn opened new.participants (writes_go txn ws opened).letters began home participants_now refl after answer first rest some left in
       record {
-        stands = ap (λ x. desk.Known (undecided_of db (record { spots = new.spots; stage = x }))) now ∙ base.0 ∙ ap (λ turn. turn.txn) goes_as;
+        stands = ap (λ x. desk.Known (undecided_of db (record { participants = new.participants; stage = x }))) now ∙ base.0 ∙ ap (λ turn. turn.txn) goes_as;
         letters = all_letters base.1;
         replies = ap (told_to (txn_name txn)) quiet ∙ sym (ap (filter_map (told db)) (sym (ap (λ turn. turn.deeds) goes_as) ∙ base.2));
       }
 
-  pub works_answered : [] ≡ (writes_go txn ws opened).left → new.stage ≡ stage.Idle → step.reply ≡ Some (reply.Answer began.answer) → IsStep db txn new step at_work
+  pub works_answered : [] ≡ (writes_go txn ws opened).left → new.stage ≡ stage.Idle → step.reply ≡ Some (reply.Answer began.answer) → IsProgress db txn new step at_work
   works_answered none now answers =
-      let base = answered_is db txn opened new.spots (writes_go txn ws opened).letters began home spots_now refl none in
+      let base = answered_is db txn opened new.participants (writes_go txn ws opened).letters began home participants_now refl none in
       record {
-        stands = ap (λ x. desk.Known (undecided_of db (record { spots = new.spots; stage = x }))) now ∙ base.0 ∙ ap (λ turn. turn.txn) goes_as;
+        stands = ap (λ x. desk.Known (undecided_of db (record { participants = new.participants; stage = x }))) now ∙ base.0 ∙ ap (λ turn. turn.txn) goes_as;
         letters = all_letters base.1;
         replies = ap (told_to (txn_name txn)) answers ∙ sym (ap (filter_map (told db)) (sym (ap (λ turn. turn.deeds) goes_as) ∙ base.2));
       }
 
   -- whichever it is
   pub works_is : (left : List Unsent) (after : Writing) → after.answer ≡ began.answer → after.unsent.items ≡ left → left ≡ (writes_go txn ws opened).left →
-      (left ≡ [] → (new.stage ≡ stage.Idle) × (step.reply ≡ Some (reply.Answer began.answer))) → ((first : Unsent) (rest : List Unsent) → left ≡ first ∷ rest → (new.stage ≡ stage.Writing after) × (step.reply ≡ None)) → IsStep db txn new step at_work
+      (left ≡ [] → (new.stage ≡ stage.Idle) × (step.reply ≡ Some (reply.Answer began.answer))) → ((first : Unsent) (rest : List Unsent) → left ≡ first ∷ rest → (new.stage ≡ stage.Writing after) × (step.reply ≡ None)) → IsProgress db txn new step at_work
   works_is [] after answer items left answered waits = let done = answered refl in works_answered left done.0 done.1
   works_is (first ∷ rest) after answer items left answered waits = let still = waits first rest refl in works_waiting after answer first rest items (items ∙ left) still.0 still.1

@@ -31,13 +31,13 @@ use Rattle.protocol.specs.Desk as desk
 use Rattle.protocol.specs.Language.{Name}
 use Rattle.protocol.specs.Parts.{In}
 use Rattle.protocol.specs.Serial.{Explained, Gives}
-use Rattle.desk.specs.declared.ask.Ask.{Ask}
-use Rattle.desk.specs.declared.undecided.Unsent.{Unsent}
-use Rattle.desk.specs.Brought.{brought, brought_by}
+use Rattle.desk.specs.declared.fetches.Ask.{Ask}
+use Rattle.desk.specs.declared.transaction.Unsent.{Unsent}
+use Rattle.desk.specs.Fetches.{brought, brought_by}
 use Rattle.desk.specs.Database.{Database, language}
 use Rattle.desk.specs.OfCatalogue.{HasContent, IsOfCatalogue}
 use Rattle.desk.specs.Planned.{IsOfPlan, asked, fetched, unsent_from}
-use Rattle.desk.specs.Standing.{ask_of, at_leaf, write_of}
+use Rattle.desk.specs.Transaction.{ask_of, at_leaf, write_of}
 use Rattle.desk.proofs.AtHomes.{found_so, writes_are}
 use Rattle.desk.proofs.Located.{AreOf, IsEither, are_of, located, same_fetch}
 

@@ -5,7 +5,7 @@ use Rattle.catalog.specs.declared.fragment_leaf.FragmentLeaf.{FragmentLeaf}
 use Rattle.answers.specs.Evaluated.{parts_climb}
 use Rattle.answers.specs.Table.{AreParts}
 use Rattle.answers.proofs.Climbing.{parts_are}
-use Rattle.desk.specs.Brought.{fits_leaf}
+use Rattle.desk.specs.Fetches.{fits_leaf}
 use Rattle.desk.proofs.Acknowledged.{same_bool}
 
 -- what tells whether rows are parts of the leaf tells whether they fit it

@@ -1,5 +1,5 @@
 -- What proves the contracts of the crate.
-pub mod Spots
+pub mod Participants
 pub mod Changed
 pub mod Endings
 pub mod Acknowledged
@@ -12,7 +12,7 @@ pub mod Operations
 pub mod Txns
 pub mod Counts
 pub mod Settled
-pub mod Going
+pub mod SentLetters
 pub mod Limits
 pub mod Making
 pub mod Beginning

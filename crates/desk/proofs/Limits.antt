@@ -10,12 +10,12 @@ use Rattle.protocol.specs.Language.{Lang, Name, same}
 use Rattle.protocol.specs.Letters.{name_of, vote_of}
 use Rattle.protocol.specs.Letter as letter
 use Rattle.protocol.proofs.Basics.{either}
-use Rattle.desk.specs.declared.standing.Standing.{Standing}
-use Rattle.desk.specs.declared.standing.Standing.TheVariants as standing
+use Rattle.desk.specs.declared.transaction.TxnState.{TxnState}
+use Rattle.desk.specs.declared.transaction.TxnState.TheVariants as standing
 use Rattle.desk.specs.Database.{Database, language, replied}
-use Rattle.desk.specs.Spots.{spot_in}
-use Rattle.desk.specs.Standing.{txn_of, undecided_of}
-use Rattle.desk.specs.Taking.{goes_on, may_send}
+use Rattle.desk.specs.Participants.{participant_in}
+use Rattle.desk.specs.Transaction.{txn_of, undecided_of}
+use Rattle.desk.specs.Receive.{goes_on, may_send}
 
 module _ {L : Lang} where
   abbrev IsShort : desk.Txn L → Type 0
@@ -29,11 +29,11 @@ module _ {L : Lang} where
 
   short_decides : (t : Name) (u : desk.Undecided L) (kept : Bool) (voters : List (L.Site × Name)) → IsShort (desk.decides t u kept voters).txn
   short_decides t u kept [] = refl
-  short_decides t u kept (v ∷ vs) = either (λ (turn : desk.Turn L). IsShort turn.txn) kept _ _ refl refl
+  short_decides t u kept (v ∷ vs) = either (λ (turn : desk.Transition L). IsShort turn.txn) kept _ _ refl refl
 
   short_votes : (t : Name) (u : desk.Undecided L) (votes : L.Site → Option letter.Vote) (kept : Bool) → IsShort (desk.Known u) → IsShort (desk.votes_go t u votes kept).txn
   short_votes t u votes kept short =
-      either (λ (turn : desk.Turn L). IsShort turn.txn) (desk.are_all_in u votes) _ _ (short_decides t (record u { stage = desk.Voting votes }) kept (desk.voters_of u votes)) short
+      either (λ (turn : desk.Transition L). IsShort turn.txn) (desk.are_all_in u votes) _ _ (short_decides t (record u { stage = desk.Voting votes }) kept (desk.voters_of u votes)) short
 
   short_commit : (t : Name) (u : desk.Undecided L) → IsShort (desk.Known u) → (st : desk.Stage L) → IsShort (desk.on_commit_call t u st).txn
   short_commit t u short desk.Idle = short_votes t u (λ a. None) true short
@@ -62,7 +62,7 @@ module _ {L : Lang} where
   short_vote t u a kept v short desk.Idle = short
   short_vote t u a kept v short (desk.Reading s asks) = short
   short_vote t u a kept v short (desk.Writing answer ws) = short
-  short_vote t u a kept v short (desk.Voting votes) = either (λ (turn : desk.Turn L). IsShort turn.txn) (is_none (votes a)) _ _ (short_counts t u a votes kept short v) short
+  short_vote t u a kept v short (desk.Voting votes) = either (λ (turn : desk.Transition L). IsShort turn.txn) (is_none (votes a)) _ _ (short_counts t u a votes kept short v) short
 
   -- ---- requests of clients, statements aside
   pub short_called : (t : Name) (choice : desk.Choice L) (x : desk.Txn L) → IsShort x → IsShort (desk.on_request t choice desk.Commit_call x).txn
@@ -102,13 +102,13 @@ goes_on_not first (reply.Ack k) = true
 goes_on_not first (reply.Inquire k) = true
 
 module _ (db : Database) (t : Name) (a : List ℕ) (kept : Bool) (choice : desk.Choice (language db)) where
-  abbrev came : Reply → desk.Txn (language db) → desk.Turn (language db)
+  abbrev came : Reply → desk.Txn (language db) → desk.Transition (language db)
   came said x = desk.on_desk_letter {L = language db} t a kept choice (replied db said) x
 
   shut_ack : (voters acked : List (List ℕ × Name)) (v : List ℕ × Name) → IsShut {L = language db} (desk.on_ack {L = language db} voters acked v kept).txn
   shut_ack voters acked v =
-      either (λ (turn : desk.Turn (language db)). IsShut turn.txn) (list_any (desk.is_pair (language db) v.0 v.1) voters && not (list_any (desk.is_pair (language db) v.0 v.1) acked)) _ _
-      (either (λ (turn : desk.Turn (language db)). IsShut turn.txn) (desk.are_acked (language db) voters (acked ++ v ∷ [])) _ _ (either (λ (turn : desk.Turn (language db)). IsShut turn.txn) kept _ _ refl refl) refl)
+      either (λ (turn : desk.Transition (language db)). IsShut turn.txn) (list_any (desk.is_pair (language db) v.0 v.1) voters && not (list_any (desk.is_pair (language db) v.0 v.1) acked)) _ _
+      (either (λ (turn : desk.Transition (language db)). IsShut turn.txn) (desk.are_acked (language db) voters (acked ++ v ∷ [])) _ _ (either (λ (turn : desk.Transition (language db)). IsShut turn.txn) kept _ _ refl refl) refl)
       refl
 
   pub shut_came : (said : Reply) (x : desk.Txn (language db)) → IsShut x → IsShut (came said x).txn
@@ -137,17 +137,17 @@ module _ (db : Database) (t : Name) (a : List ℕ) (kept : Bool) (choice : desk.
     where
       short_ticket : (o : Option Name) → is_some o ≡ true → IsShort (desk.on_ticket {L = language db} t u a (name_of k) choice o).txn
       short_ticket None e = cc
-      short_ticket (Some j) e = either (λ (turn : desk.Turn (language db)). IsShort turn.txn) (same j (name_of k)) _ _ short short
+      short_ticket (Some j) e = either (λ (turn : desk.Transition (language db)). IsShort turn.txn) (same j (name_of k)) _ _ short short
   short_open u short (reply.Rows rows) another = cc
-  short_open u short (reply.Refused refusal) another = either (λ (turn : desk.Turn (language db)). IsShort turn.txn) (desk.is_named (u.ticket a) (name_of refusal.ticket)) _ _ (short_refusal t u short u.stage) short
-  short_open u short (reply.Voted voted) another = either (λ (turn : desk.Turn (language db)). IsShort turn.txn) (desk.is_named (u.ticket a) (name_of voted.ticket)) _ _ (short_vote t u a kept (vote_of voted.vote) short u.stage) short
+  short_open u short (reply.Refused refusal) another = either (λ (turn : desk.Transition (language db)). IsShort turn.txn) (desk.is_named (u.ticket a) (name_of refusal.ticket)) _ _ (short_refusal t u short u.stage) short
+  short_open u short (reply.Voted voted) another = either (λ (turn : desk.Transition (language db)). IsShort turn.txn) (desk.is_named (u.ticket a) (name_of voted.ticket)) _ _ (short_vote t u a kept (vote_of voted.vote) short u.stage) short
   short_open u short (reply.Ack k) another = short
   short_open u short (reply.Inquire k) another = short
 
-  pub short_came : (o : Option Standing) (said : Reply) → may_send o a said ≡ false → IsShort (txn_of db o) → IsShort (came said (txn_of db o)).txn
+  pub short_came : (o : Option TxnState) (said : Reply) → may_send o a said ≡ false → IsShort (txn_of db o) → IsShort (came said (txn_of db o)).txn
   short_came None said none short = short_shut (came said (txn_of db None)).txn (shut_came said (txn_of db None) refl)
   short_came (Some (standing.Committed c)) said none short = short_shut (came said (txn_of db (Some (standing.Committed c)))).txn (shut_came said (txn_of db (Some (standing.Committed c))) refl)
-  short_came (Some (standing.Undecided u)) said none short = short_open (undecided_of db u) short said (rests (spot_in a u.spots).ticket said none)
+  short_came (Some (standing.Undecided u)) said none short = short_open (undecided_of db u) short said (rests (participant_in a u.participants).ticket said none)
     where
       rests : (first : Option Ticket) (r : Reply) → goes_on first r ≡ false → goes_on_not (option_map name_of first) r ≡ true
       rests None (reply.Ticket k) e = cc

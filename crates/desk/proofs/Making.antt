@@ -13,26 +13,26 @@ use Rattle.store.specs.Name.{txn_cmp}
 use Rattle.protocol.specs.Desk as desk
 use Rattle.protocol.specs.Language.{Name, put, same}
 use Rattle.protocol.specs.Letters.{txn_name}
-use Rattle.desk.specs.declared.present.Present.{Present}
+use Rattle.desk.specs.declared.volatile.Volatile.{Volatile}
 use Rattle.desk.specs.declared.reply.Notice.{Notice}
 use Rattle.desk.specs.declared.reply.Reply.{Reply}
-use Rattle.desk.specs.declared.standing.Standing.{Standing}
-use Rattle.desk.specs.declared.standing.Standing.TheVariants as standing
-use Rattle.desk.specs.declared.turn.After.{After}
+use Rattle.desk.specs.declared.transaction.TxnState.{TxnState}
+use Rattle.desk.specs.declared.transaction.TxnState.TheVariants as standing
+use Rattle.desk.specs.declared.transition.After.{After}
 use Rattle.desk.specs.Planned.{IsPlanned}
-use Rattle.desk.specs.Spots.{sites_of}
+use Rattle.desk.specs.Participants.{sites_of}
 use Rattle.desk.specs.Stepped.{IsAtHome}
-use Rattle.desk.specs.declared.turn.After.TheVariants.{Becomes, Ends, Stays}
-use Rattle.desk.specs.declared.turn.Turn.{Turn}
-use Rattle.desk.specs.declared.undecided.Undecided.{Undecided}
+use Rattle.desk.specs.declared.transition.After.TheVariants.{Becomes, Ends, Stays}
+use Rattle.desk.specs.declared.transition.Transition.{Transition}
+use Rattle.desk.specs.declared.transaction.Undecided.{Undecided}
 use Rattle.protocol.proofs.Basics.{clash, if_false, some_is}
-use Rattle.desk.specs.Calls.{IsAt, notices, open_in}
+use Rattle.desk.specs.Request.{IsAt, notices, open_in}
 use Rattle.desk.specs.Database.{Database, language, replied, sent}
-use Rattle.desk.specs.Standing.{txn_of, undecided_of}
-use Rattle.desk.specs.State.{Fits, IsIn, IsInAfter, Steps, Table, closes, desk_of, is_open, notice_of, settled, table_from, table_of, txn_at}
-use Rattle.desk.specs.Taking.{may_send}
-use Rattle.desk.specs.Turn.{AtSites, IsTurn, after_of, told, told_to}
-use Rattle.desk.specs.Voters.{Keeps, kept_voters}
+use Rattle.desk.specs.Transaction.{txn_of, undecided_of}
+use Rattle.desk.specs.State.{Fits, IsIn, IsInAfter, Steps, VolatileState, closes, desk_of, is_open, notice_of, settled, volatile_from, volatile_of, txn_at}
+use Rattle.desk.specs.Receive.{may_send}
+use Rattle.desk.specs.Transition.{AtSites, IsTransition, after_of, told, told_to}
+use Rattle.desk.specs.Acknowledge.{Keeps, kept_voters}
 use Rattle.desk.proofs.Acknowledged.{keeps_same, txn_is, unchanged}
 use Rattle.desk.proofs.Limits.{short_came, shut_came, shut_request}
 use Rattle.desk.proofs.Settled.{fits_after, is_within, open_is, state_is, unknown_is}
@@ -44,12 +44,12 @@ told_is txn None = refl
 told_is txn (Some reply) = refl
 
 -- an undecided transaction has to do with the sites of the database
-pub is_at : (db : Database) (kept : DeskContent) (table : Table) → AreDistinct db.sites → Fits db kept table → (txn : Txn) → IsAt db (table.standing txn)
+pub is_at : (db : Database) (kept : DeskContent) (table : VolatileState) → AreDistinct db.sites → Fits db kept table → (txn : Txn) → IsAt db (table.standing txn)
 is_at db kept table distinct fits txn = go (table.standing txn) refl
   where
-    go : (o : Option Standing) → table.standing txn ≡ o → IsAt db o
+    go : (o : Option TxnState) → table.standing txn ≡ o → IsAt db o
     go None e = tt
-    go (Some (standing.Undecided u)) e = let s : sites_of u.spots ≡ db.sites = (fits.sites txn (standing.Undecided u) e).0 in record { sites = s; distinct = subst AreDistinct (sym s) distinct }
+    go (Some (standing.Undecided u)) e = let s : sites_of u.participants ≡ db.sites = (fits.sites txn (standing.Undecided u) e).0 in record { sites = s; distinct = subst AreDistinct (sym s) distinct }
     go (Some (standing.Committed c)) e = tt
 
 -- a transaction in its first phase sends nothing more
@@ -60,7 +60,7 @@ is_in db (Becomes (standing.Undecided u)) sites = (sites.0, subst (IsAtHome db) 
 is_in db (Becomes (standing.Committed c)) sites = tt
 
 -- ---- where nothing changes in memory
-module _ (db : Database) (kept new : DeskContent) (table : Table) (fits : Fits db kept table) (k : Txn) where
+module _ (db : Database) (kept new : DeskContent) (table : VolatileState) (fits : Fits db kept table) (k : Txn) where
   pub fits_still : Keeps k (kept_voters (table.standing k)) kept new → Fits db new table
   fits_still keeps = record {
     rows = λ j. go j (is_txn k j) refl ∙ sym (keeps.commits j);
@@ -98,19 +98,19 @@ module _ (db : Database) (kept new : DeskContent) (table : Table) (fits : Fits d
           ∙ ap (map txn_name) (filter_all (λ j. is_some (table.standing j)) table.txns fits.lives))
 
 -- ---- a step
-module _ (db : Database) (kept new : DeskContent) (present : Present) (sorted : IsStrictlySortedBy txn_cmp (keys_of present.standings.entries)) (fits : Fits db kept (table_of present)) (k : Txn) where
-  abbrev before : Table
-  before = table_of present
+module _ (db : Database) (kept new : DeskContent) (volatile : Volatile) (sorted : IsStrictlySortedBy txn_cmp (keys_of volatile.standings.entries)) (fits : Fits db kept (volatile_of volatile)) (k : Txn) where
+  abbrev before : VolatileState
+  before = volatile_of volatile
 
   -- what is known of the state after it
-  pub record IsSettled (turn : Turn) (table : Table) : Type 0 where
-    pub moved : (now : Standing) → before.standing k ≡ Some now → table ≡ table_from (settled k turn.after present.standings.entries) (if is_open (Some now) && closes turn.after then present.undecided - 1 else present.undecided) present.life present.number
+  pub record IsSettled (turn : Transition) (table : VolatileState) : Type 0 where
+    pub moved : (now : TxnState) → before.standing k ≡ Some now → table ≡ volatile_from (settled k turn.after volatile.standings.entries) (if is_open (Some now) && closes turn.after then volatile.undecided - 1 else volatile.undecided) volatile.life volatile.number
     pub still : turn.after ≡ Stays → table ≡ before
 
-  module _ (turn : Turn) (wanted : desk.Turn (language db)) (is : IsTurn db k (before.standing k) turn wanted) (sites : IsInAfter db turn.after) (keeps : Keeps k (kept_voters (after_of (before.standing k) turn.after)) kept new)
+  module _ (turn : Transition) (wanted : desk.Transition (language db)) (is : IsTransition db k (before.standing k) turn wanted) (sites : IsInAfter db turn.after) (keeps : Keeps k (kept_voters (after_of (before.standing k) turn.after)) kept new)
       (short : desk.is_short_txn wanted.txn ≡ true) (shut : desk.is_undecided (txn_of db (before.standing k)) ≡ false → desk.is_undecided wanted.txn ≡ false)
-      (some : (is_some (before.standing k) ≡ true) ⊎ (turn.after ≡ Stays)) (table : Table) (made : IsSettled turn table) where
-    abbrev FitsSo : Table → Type 0
+      (some : (is_some (before.standing k) ≡ true) ⊎ (turn.after ≡ Stays)) (table : VolatileState) (made : IsSettled turn table) where
+    abbrev FitsSo : VolatileState → Type 0
     FitsSo t = Fits db new t × (desk_of db t ≡ desk.desk_after (desk_of db before) (txn_name k) wanted.txn)
 
     still_so : turn.after ≡ Stays → FitsSo table
@@ -119,13 +119,13 @@ module _ (db : Database) (kept new : DeskContent) (present : Present) (sorted : 
       state_still db kept new before fits k wanted.txn (ap (λ a. txn_of db (after_of (before.standing k) a)) (sym stays) ∙ is.stands),
     )
 
-    moved_so : (now : Standing) → before.standing k ≡ Some now → FitsSo table
+    moved_so : (now : TxnState) → before.standing k ≡ Some now → FitsSo table
     moved_so now e = subst FitsSo (sym (made.moved now e)) (
-      fits_after db kept new present.standings.entries sorted present.undecided present.life present.number fits k now e turn.after
+      fits_after db kept new volatile.standings.entries sorted volatile.undecided volatile.life volatile.number fits k now e turn.after
           (subst (λ o. Keeps k (kept_voters (after_of o turn.after)) kept new) e keeps) sites
           (ap desk.is_short_txn stands ∙ short)
           (λ was. sym (open_is db (after_of (Some now) turn.after)) ∙ ap desk.is_undecided stands ∙ shut (ap (λ o. desk.is_undecided (txn_of db o)) e ∙ open_is db (Some now) ∙ was)),
-      state_is db kept new present.standings.entries sorted present.undecided present.life present.number fits k now e turn.after wanted.txn stands,
+      state_is db kept new volatile.standings.entries sorted volatile.undecided volatile.life volatile.number fits k now e turn.after wanted.txn stands,
     )
       where
         stands : txn_of db (after_of (Some now) turn.after) ≡ wanted.txn
@@ -134,7 +134,7 @@ module _ (db : Database) (kept new : DeskContent) (present : Present) (sorted : 
     so : FitsSo table
     so = ⊎_elim (λ s. go (before.standing k) refl s) still_so some
       where
-        go : (o : Option Standing) → before.standing k ≡ o → is_some o ≡ true → FitsSo table
+        go : (o : Option TxnState) → before.standing k ≡ o → is_some o ≡ true → FitsSo table
         go None e s = cc
         go (Some now) e s = moved_so now e
 
@@ -148,74 +148,74 @@ module _ (db : Database) (kept new : DeskContent) (present : Present) (sorted : 
     }
 
 -- ---- requests of clients, statements aside
-module _ (db : Database) (kept : DeskContent) (present : Present) (sorted : IsStrictlySortedBy txn_cmp (keys_of present.standings.entries)) (fits : Fits db kept (table_of present)) (distinct : AreDistinct db.sites)
-    (k : Txn) (choice : desk.Choice (language db)) (request : desk.Request (language db)) (turn : Turn) where
-  abbrev o : Option Standing
-  o = (table_of present).standing k
+module _ (db : Database) (kept : DeskContent) (volatile : Volatile) (sorted : IsStrictlySortedBy txn_cmp (keys_of volatile.standings.entries)) (fits : Fits db kept (volatile_of volatile)) (distinct : AreDistinct db.sites)
+    (k : Txn) (choice : desk.Choice (language db)) (request : desk.Request (language db)) (turn : Transition) where
+  abbrev o : Option TxnState
+  o = (volatile_of volatile).standing k
 
-  abbrev wanted : desk.Turn (language db)
+  abbrev wanted : desk.Transition (language db)
   wanted = desk.on_request (txn_name k) choice request (txn_of db o)
 
-  pub asks : (IsAt db o → IsTurn db k o turn wanted) → (IsAt db o → AtSites db.sites turn.after) → kept_voters (after_of o turn.after) ≡ kept_voters o → (desk.is_short_txn (txn_of db o) ≡ true → desk.is_short_txn wanted.txn ≡ true) →
-      (is_some o ≡ true) ⊎ (turn.after ≡ Stays) → (table : Table) → IsSettled db kept kept present sorted fits k turn table → (written : List Letter) (heard : List Notice) → written ≡ turn.letters.items → heard ≡ notices k turn.reply →
-      Steps db (table_of present) kept table k wanted written heard
+  pub asks : (IsAt db o → IsTransition db k o turn wanted) → (IsAt db o → AtSites db.sites turn.after) → kept_voters (after_of o turn.after) ≡ kept_voters o → (desk.is_short_txn (txn_of db o) ≡ true → desk.is_short_txn wanted.txn ≡ true) →
+      (is_some o ≡ true) ⊎ (turn.after ≡ Stays) → (table : VolatileState) → IsSettled db kept kept volatile sorted fits k turn table → (written : List Letter) (heard : List Notice) → written ≡ turn.letters.items → heard ≡ notices k turn.reply →
+      Steps db (volatile_of volatile) kept table k wanted written heard
   asks is sites keeps short some table made written heard letters replies =
-      let at = is_at db kept (table_of present) distinct fits k in
-      makes db kept kept present sorted fits k turn wanted (is at) (is_in db turn.after (sites at))
+      let at = is_at db kept (volatile_of volatile) distinct fits k in
+      makes db kept kept volatile sorted fits k turn wanted (is at) (is_in db turn.after (sites at))
       (keeps_same k (kept_voters (after_of o turn.after)) kept kept (sym (fits.rows k) ∙ sym keeps) (unchanged kept))
       (short (fits.short k)) (shut_request (txn_name k) choice request (txn_of db o)) some table made written heard letters replies
 
 -- ---- letters of sites by which no statement goes on
-module _ (db : Database) (kept new : DeskContent) (present : Present) (sorted : IsStrictlySortedBy txn_cmp (keys_of present.standings.entries)) (fits : Fits db kept (table_of present)) (distinct : AreDistinct db.sites)
-    (k : Txn) (choice : desk.Choice (language db)) (a : List ℕ) (said : Said) (turn : Turn) where
-  abbrev stood : Option Standing
-  stood = (table_of present).standing k
+module _ (db : Database) (kept new : DeskContent) (volatile : Volatile) (sorted : IsStrictlySortedBy txn_cmp (keys_of volatile.standings.entries)) (fits : Fits db kept (volatile_of volatile)) (distinct : AreDistinct db.sites)
+    (k : Txn) (choice : desk.Choice (language db)) (a : List ℕ) (said : Said) (turn : Transition) where
+  abbrev stood : Option TxnState
+  stood = (volatile_of volatile).standing k
 
-  abbrev coming : Bool → desk.Turn (language db)
+  abbrev coming : Bool → desk.Transition (language db)
   coming was = desk.on_desk_letter {L = language db} (txn_name k) a was choice (replied db said) (txn_of db stood)
 
-  pub takes : may_send stood a said ≡ false → (IsAt db stood → IsTurn db k stood turn (coming turn.kept)) → (IsAt db stood → AtSites db.sites turn.after) →
+  pub takes : may_send stood a said ≡ false → (IsAt db stood → IsTransition db k stood turn (coming turn.kept)) → (IsAt db stood → AtSites db.sites turn.after) →
       (IsAt db stood → kept.commits k ≡ kept_voters stood → Keeps k (kept_voters (after_of stood turn.after)) kept new) → (is_some stood ≡ true) ⊎ (turn.after ≡ Stays) →
-      (table : Table) → IsSettled db kept new present sorted fits k turn table → (written : List Letter) (heard : List Notice) (was : Bool) → written ≡ turn.letters.items → heard ≡ notices k turn.reply → was ≡ turn.kept →
-      Steps db (table_of present) new table k (coming was) written heard
+      (table : VolatileState) → IsSettled db kept new volatile sorted fits k turn table → (written : List Letter) (heard : List Notice) (was : Bool) → written ≡ turn.letters.items → heard ≡ notices k turn.reply → was ≡ turn.kept →
+      Steps db (volatile_of volatile) new table k (coming was) written heard
   takes rests is sites keeps some table made written heard was letters replies was_is =
-      let at = is_at db kept (table_of present) distinct fits k in
-      subst (λ b. Steps db (table_of present) new table k (coming b) written heard) (sym was_is)
-      (makes db kept new present sorted fits k turn (coming turn.kept) (is at) (is_in db turn.after (sites at)) (keeps at (sym (fits.rows k)))
+      let at = is_at db kept (volatile_of volatile) distinct fits k in
+      subst (λ b. Steps db (volatile_of volatile) new table k (coming b) written heard) (sym was_is)
+      (makes db kept new volatile sorted fits k turn (coming turn.kept) (is at) (is_in db turn.after (sites at)) (keeps at (sym (fits.rows k)))
       (short_came db (txn_name k) a turn.kept choice stood said rests (fits.short k)) (shut_came db (txn_name k) a turn.kept choice said (txn_of db stood))
       some table made written heard letters replies)
 
 -- ---- a statement goes on: the transaction is undecided still
-module _ (db : Database) (kept : DeskContent) (present : Present) (sorted : IsStrictlySortedBy txn_cmp (keys_of present.standings.entries)) (fits : Fits db kept (table_of present)) (k : Txn)
-    (old new : Undecided) (here : (table_of present).standing k ≡ Some (standing.Undecided old)) where
+module _ (db : Database) (kept : DeskContent) (volatile : Volatile) (sorted : IsStrictlySortedBy txn_cmp (keys_of volatile.standings.entries)) (fits : Fits db kept (volatile_of volatile)) (k : Txn)
+    (old new : Undecided) (here : (volatile_of volatile).standing k ≡ Some (standing.Undecided old)) where
   -- what is in memory then
-  abbrev gone_on : Table
-  gone_on = table_from (set_value (is_key (txn_cmp k)) present.standings.entries (standing.Undecided new)) present.undecided present.life present.number
+  abbrev gone_on : VolatileState
+  gone_on = volatile_from (set_value (is_key (txn_cmp k)) volatile.standings.entries (standing.Undecided new)) volatile.undecided volatile.life volatile.number
 
   never : (b : Bool) → (b && false) ≡ false
   never true = refl
   never false = refl
 
-  pub goes_on : (wanted : desk.Turn (language db)) (out : Vec Letter Global) (reply : Option Reply) → desk.Known (undecided_of db new) ≡ wanted.txn → map (sent db) out.items ≡ wanted.letters → told_to (txn_name k) reply ≡ filter_map (told db) wanted.deeds →
-      IsIn db (standing.Undecided new) → desk.is_short_txn wanted.txn ≡ true → (table : Table) → table ≡ gone_on → (written : List Letter) (heard : List Notice) → written ≡ out.items → heard ≡ notices k reply →
-      Steps db (table_of present) kept table k wanted written heard
+  pub goes_on : (wanted : desk.Transition (language db)) (out : Vec Letter Global) (reply : Option Reply) → desk.Known (undecided_of db new) ≡ wanted.txn → map (sent db) out.items ≡ wanted.letters → told_to (txn_name k) reply ≡ filter_map (told db) wanted.deeds →
+      IsIn db (standing.Undecided new) → desk.is_short_txn wanted.txn ≡ true → (table : VolatileState) → table ≡ gone_on → (written : List Letter) (heard : List Notice) → written ≡ out.items → heard ≡ notices k reply →
+      Steps db (volatile_of volatile) kept table k wanted written heard
   goes_on wanted out reply stands letters replies sites short table table_is written heard written_is heard_is =
-      let turn : Turn = record { after = Becomes (standing.Undecided new); letters = out; reply = reply; kept = true } in
-      makes db kept kept present sorted fits k turn wanted (record { stands = stands; letters = letters; replies = replies }) sites
+      let turn : Transition = record { after = Becomes (standing.Undecided new); letters = out; reply = reply; kept = true } in
+      makes db kept kept volatile sorted fits k turn wanted (record { stands = stands; letters = letters; replies = replies }) sites
       (keeps_same k None kept kept (sym (fits.rows k) ∙ ap kept_voters here) (unchanged kept)) short
       (λ shut. clash (ap (λ o. desk.is_undecided (txn_of db o)) here) shut) (inl (ap is_some here)) table
       (record {
-        moved = λ now is. table_is ∙ ap (λ n. table_from (set_value (is_key (txn_cmp k)) present.standings.entries (standing.Undecided new)) n present.life present.number) (sym (if_false (is_open (Some now) && false) (present.undecided - 1) present.undecided (never (is_open (Some now)))));
+        moved = λ now is. table_is ∙ ap (λ n. volatile_from (set_value (is_key (txn_cmp k)) volatile.standings.entries (standing.Undecided new)) n volatile.life volatile.number) (sym (if_false (is_open (Some now) && false) (volatile.undecided - 1) volatile.undecided (never (is_open (Some now)))));
         still = λ stays. cc;
       }) written heard written_is heard_is
 
 -- what isn't undecided isn't given up
-pub open_some : (o : Option Standing) (u : Undecided) → open_in o ≡ Some u → o ≡ Some (standing.Undecided u)
+pub open_some : (o : Option TxnState) (u : Undecided) → open_in o ≡ Some u → o ≡ Some (standing.Undecided u)
 open_some None u e = cc
 open_some (Some (standing.Undecided v)) u e = ap (λ x. Some (standing.Undecided x)) (some_is e)
 open_some (Some (standing.Committed c)) u e = cc
 
-pub not_given_up : (db : Database) (t : Name) (choice : desk.Choice (language db)) (o : Option Standing) → open_in o ≡ None → desk.on_request t choice desk.Give_up (txn_of db o) ≡ desk.stays (txn_of db o)
+pub not_given_up : (db : Database) (t : Name) (choice : desk.Choice (language db)) (o : Option TxnState) → open_in o ≡ None → desk.on_request t choice desk.Give_up (txn_of db o) ≡ desk.stays (txn_of db o)
 not_given_up db t choice None e = refl
 not_given_up db t choice (Some (standing.Undecided u)) e = cc
 not_given_up db t choice (Some (standing.Committed c)) e = refl

@@ -10,81 +10,81 @@ use Rattle.protocol.specs.Desk as desk
 use Rattle.protocol.specs.Letter as protocol
 use Rattle.protocol.specs.Letters.{txn_name}
 use Rattle.protocol.specs.Parts.{In}
-use Rattle.desk.specs.declared.spot.Spot.{Spot}
-use Rattle.desk.specs.declared.undecided.Stage.{Stage}
+use Rattle.desk.specs.declared.participant.Participant.{Participant}
+use Rattle.desk.specs.declared.transaction.Stage.{Stage}
 use Rattle.desk.specs.Database.{Database, language, sent}
-use Rattle.desk.specs.Opening.{is_new, open_at, opens, visited, visits, HaveSpots}
-use Rattle.desk.specs.Spots.{is_at, nowhere, spot_in}
-use Rattle.desk.specs.Standing.{undecided_of}
-use Rattle.desk.specs.Turn.{AreSpots}
-use Rattle.desk.proofs.Spots.{at_home, orders_all, said, text_is}
+use Rattle.desk.specs.Opening.{is_new, open_at, opens, visited, visits, HaveParticipants}
+use Rattle.desk.specs.Participants.{is_at, nowhere, participant_in}
+use Rattle.desk.specs.Transaction.{undecided_of}
+use Rattle.desk.specs.Transition.{AreParticipants}
+use Rattle.desk.proofs.Participants.{at_home, orders_all, said, text_is}
 
 pub any_mapped : {A B : Type 0} (p : B → Bool) (f : A → B) (xs : List A) → list_any p (map f xs) ≡ list_any (λ x. p (f x)) xs
 any_mapped p f [] = refl
 any_mapped p f (x ∷ xs) = ap (λ b. p (f x) || b) (any_mapped p f xs)
 
--- a site of these has a spot
-spot_of_one : (spots : List Spot) (sites : List (List ℕ)) (j : List ℕ) → HaveSpots spots sites → list_any (λ site. pointwise nat_eq site j) sites ≡ true → list_any (is_at j) spots ≡ true
-spot_of_one spots [] j have is = cc
-spot_of_one spots (site ∷ sites) j have is = go (pointwise nat_eq site j) refl is (spot_of_one spots sites j have.1)
+-- a site of these has a participant
+participant_of_one : (participants : List Participant) (sites : List (List ℕ)) (j : List ℕ) → HaveParticipants participants sites → list_any (λ site. pointwise nat_eq site j) sites ≡ true → list_any (is_at j) participants ≡ true
+participant_of_one participants [] j have is = cc
+participant_of_one participants (site ∷ sites) j have is = go (pointwise nat_eq site j) refl is (participant_of_one participants sites j have.1)
   where
-    go : (b : Bool) → pointwise nat_eq site j ≡ b → (b || list_any (λ site. pointwise nat_eq site j) sites) ≡ true → (list_any (λ site. pointwise nat_eq site j) sites ≡ true → list_any (is_at j) spots ≡ true) → list_any (is_at j) spots ≡ true
-    go true e is rest = subst (λ x. list_any (is_at x) spots ≡ true) (text_is site j e) have.0
+    go : (b : Bool) → pointwise nat_eq site j ≡ b → (b || list_any (λ site. pointwise nat_eq site j) sites) ≡ true → (list_any (λ site. pointwise nat_eq site j) sites ≡ true → list_any (is_at j) participants ≡ true) → list_any (is_at j) participants ≡ true
+    go true e is rest = subst (λ x. list_any (is_at x) participants ≡ true) (text_is site j e) have.0
     go false e is rest = rest is
 
--- a spot that isn't there is nowhere
-absent : (j : List ℕ) (spots : List Spot) → list_any (is_at j) spots ≡ false → spot_in j spots ≡ nowhere j
+-- a participant that isn't there is nowhere
+absent : (j : List ℕ) (participants : List Participant) → list_any (is_at j) participants ≡ false → participant_in j participants ≡ nowhere j
 absent j [] e = refl
-absent j (s ∷ spots) e = go (is_at j s) e (absent j spots)
+absent j (s ∷ participants) e = go (is_at j s) e (absent j participants)
   where
-    go : (b : Bool) → (b || list_any (is_at j) spots) ≡ false → (list_any (is_at j) spots ≡ false → spot_in j spots ≡ nowhere j) → (if b then s else spot_in j spots) ≡ nowhere j
+    go : (b : Bool) → (b || list_any (is_at j) participants) ≡ false → (list_any (is_at j) participants ≡ false → participant_in j participants ≡ nowhere j) → (if b then s else participant_in j participants) ≡ nowhere j
     go true e rest = cc
     go false e rest = rest e
 
--- what is made of each spot is made of the one of a site
-module _ (f : Spot → Spot) (keeps : (s : Spot) → (f s).site ≡ s.site) where
-  pub present : (j : List ℕ) (spots : List Spot) → list_any (is_at j) spots ≡ true → spot_in j (map f spots) ≡ f (spot_in j spots)
-  present j [] there = cc
-  present j (s ∷ spots) there = ap (λ a. if pointwise nat_eq a j then f s else spot_in j (map f spots)) (keeps s) ∙ go (is_at j s) there (present j spots)
+-- what is made of each participant is made of the one of a site
+module _ (f : Participant → Participant) (keeps : (s : Participant) → (f s).site ≡ s.site) where
+  pub volatile : (j : List ℕ) (participants : List Participant) → list_any (is_at j) participants ≡ true → participant_in j (map f participants) ≡ f (participant_in j participants)
+  volatile j [] there = cc
+  volatile j (s ∷ participants) there = ap (λ a. if pointwise nat_eq a j then f s else participant_in j (map f participants)) (keeps s) ∙ go (is_at j s) there (volatile j participants)
     where
-      go : (b : Bool) → (b || list_any (is_at j) spots) ≡ true → (list_any (is_at j) spots ≡ true → spot_in j (map f spots) ≡ f (spot_in j spots)) → (if b then f s else spot_in j (map f spots)) ≡ f (if b then s else spot_in j spots)
+      go : (b : Bool) → (b || list_any (is_at j) participants) ≡ true → (list_any (is_at j) participants ≡ true → participant_in j (map f participants) ≡ f (participant_in j participants)) → (if b then f s else participant_in j (map f participants)) ≡ f (if b then s else participant_in j participants)
       go true there rest = refl
       go false there rest = rest there
 
-  pub still_absent : (j : List ℕ) (spots : List Spot) → list_any (is_at j) (map f spots) ≡ list_any (is_at j) spots
+  pub still_absent : (j : List ℕ) (participants : List Participant) → list_any (is_at j) (map f participants) ≡ list_any (is_at j) participants
   still_absent j [] = refl
-  still_absent j (s ∷ spots) = λ i. pointwise nat_eq (keeps s i) j || still_absent j spots i
+  still_absent j (s ∷ participants) = λ i. pointwise nat_eq (keeps s i) j || still_absent j participants i
 
--- a spot that is there is that of its site
-site_is : (j : List ℕ) (spots : List Spot) → list_any (is_at j) spots ≡ true → (spot_in j spots).site ≡ j
+-- a participant that is there is that of its site
+site_is : (j : List ℕ) (participants : List Participant) → list_any (is_at j) participants ≡ true → (participant_in j participants).site ≡ j
 site_is j [] there = cc
-site_is j (s ∷ spots) there = one (is_at j s) refl there (site_is j spots)
+site_is j (s ∷ participants) there = one (is_at j s) refl there (site_is j participants)
   where
-    one : (b : Bool) → is_at j s ≡ b → (b || list_any (is_at j) spots) ≡ true → (list_any (is_at j) spots ≡ true → (spot_in j spots).site ≡ j) → (if b then s else spot_in j spots).site ≡ j
+    one : (b : Bool) → is_at j s ≡ b → (b || list_any (is_at j) participants) ≡ true → (list_any (is_at j) participants ≡ true → (participant_in j participants).site ≡ j) → (if b then s else participant_in j participants).site ≡ j
     one true e there rest = text_is s.site j e
     one false e there rest = rest there
 
 -- what visits don't touch
-pub kept_by_visits : {A : Type 0} (sites : List (List ℕ)) (spots : List Spot) (view : Spot → A) → ((s : Spot) → view (visited sites s) ≡ view s) → (j : List ℕ) → view (spot_in j (visits sites spots)) ≡ view (spot_in j spots)
+pub kept_by_visits : {A : Type 0} (sites : List (List ℕ)) (participants : List Participant) (view : Participant → A) → ((s : Participant) → view (visited sites s) ≡ view s) → (j : List ℕ) → view (participant_in j (visits sites participants)) ≡ view (participant_in j participants)
 kept_by_visits sites [] view same j = refl
-kept_by_visits sites (s ∷ spots) view same j = go (is_at j s) (kept_by_visits sites spots view same j)
+kept_by_visits sites (s ∷ participants) view same j = go (is_at j s) (kept_by_visits sites participants view same j)
   where
-    go : (b : Bool) → view (spot_in j (visits sites spots)) ≡ view (spot_in j spots) → view (if b then visited sites s else spot_in j (visits sites spots)) ≡ view (if b then s else spot_in j spots)
+    go : (b : Bool) → view (participant_in j (visits sites participants)) ≡ view (participant_in j participants) → view (if b then visited sites s else participant_in j (visits sites participants)) ≡ view (if b then s else participant_in j participants)
     go true rest = same s
     go false rest = rest
 
-module _ (db : Database) (txn : Txn) (spots : List Spot) (are : AreSpots db spots) (stage : Stage) (leaves : List Leaf) (sites : List (List ℕ)) (homes : sites ≡ map db.home leaves) (have : HaveSpots spots sites) where
+module _ (db : Database) (txn : Txn) (participants : List Participant) (are : AreParticipants db participants) (stage : Stage) (leaves : List Leaf) (sites : List (List ℕ)) (homes : sites ≡ map db.home leaves) (have : HaveParticipants participants sites) where
   abbrev u : desk.Undecided (language db)
-  u = undecided_of db (record { spots = spots; stage = stage })
+  u = undecided_of db (record { participants = participants; stage = stage })
 
   among : (j : List ℕ) → list_any (λ site. pointwise nat_eq site j) sites ≡ list_any (λ g. pointwise nat_eq (db.home g) j) leaves
   among j = ap (list_any (λ site. pointwise nat_eq site j)) homes ∙ any_mapped (λ site. pointwise nat_eq site j) db.home leaves
 
-  new_here : (spot : Spot) → In spot spots → desk.is_new u leaves spot.site ≡ is_new sites spot
-  new_here spot here = λ i. not (at_home spots are.distinct spot here i).visited && sym (among spot.site) i
+  new_here : (participant : Participant) → In participant participants → desk.is_new u leaves participant.site ≡ is_new sites participant
+  new_here participant here = λ i. not (at_home participants are.distinct participant here i).visited && sym (among participant.site) i
 
-  pub opens_are : map (sent db) (opens txn sites spots) ≡ desk.opens (txn_name txn) u leaves
-  opens_are = orders_all db txn (open_at sites) (λ a. desk.opening (desk.is_new u leaves a)) spots (λ spot here. ap desk.opening (new_here spot here) ∙ opened (is_new sites spot))
+  pub opens_are : map (sent db) (opens txn sites participants) ≡ desk.opens (txn_name txn) u leaves
+  opens_are = orders_all db txn (open_at sites) (λ a. desk.opening (desk.is_new u leaves a)) participants (λ participant here. ap desk.opening (new_here participant here) ∙ opened (is_new sites participant))
       ∙ ap (protocol.letters_to {L = language db} (txn_name txn) (λ a. desk.opening (desk.is_new u leaves a))) are.sites
     where
       opened : (b : Bool) → desk.opening {L = language db} b ≡ option_map (said db) (if b then Some order.Open else None)
@@ -92,16 +92,16 @@ module _ (db : Database) (txn : Txn) (spots : List Spot) (are : AreSpots db spot
       opened false = refl
 
   -- who is visited after it
-  pub visited_now : (j : List ℕ) → (spot_in j (visits sites spots)).visited ≡ (u.visited j || desk.is_new u leaves j)
-  visited_now j = go (list_any (is_at j) spots) refl
+  pub visited_now : (j : List ℕ) → (participant_in j (visits sites participants)).visited ≡ (u.visited j || desk.is_new u leaves j)
+  visited_now j = go (list_any (is_at j) participants) refl
     where
-      go : (b : Bool) → list_any (is_at j) spots ≡ b → (spot_in j (visits sites spots)).visited ≡ (u.visited j || desk.is_new u leaves j)
-      go true there = ap (λ s. s.visited) (present (visited sites) (λ s. refl) j spots there) ∙ (λ i. (spot_in j spots).visited || (not (spot_in j spots).visited && at_site i))
+      go : (b : Bool) → list_any (is_at j) participants ≡ b → (participant_in j (visits sites participants)).visited ≡ (u.visited j || desk.is_new u leaves j)
+      go true there = ap (λ s. s.visited) (volatile (visited sites) (λ s. refl) j participants there) ∙ (λ i. (participant_in j participants).visited || (not (participant_in j participants).visited && at_site i))
         where
-          at_site : list_any (λ site. pointwise nat_eq site (spot_in j spots).site) sites ≡ list_any (λ g. pointwise nat_eq (db.home g) j) leaves
-          at_site = ap (λ x. list_any (λ site. pointwise nat_eq site x) sites) (site_is j spots there) ∙ among j
-      go false gone = ap (λ s. s.visited) (absent j (visits sites spots) (still_absent (visited sites) (λ s. refl) j spots ∙ gone)) ∙ sym (ap (λ s. s.visited || (not s.visited && list_any (λ g. pointwise nat_eq (db.home g) j) leaves)) (absent j spots gone) ∙ none (list_any (λ g. pointwise nat_eq (db.home g) j) leaves) refl)
+          at_site : list_any (λ site. pointwise nat_eq site (participant_in j participants).site) sites ≡ list_any (λ g. pointwise nat_eq (db.home g) j) leaves
+          at_site = ap (λ x. list_any (λ site. pointwise nat_eq site x) sites) (site_is j participants there) ∙ among j
+      go false gone = ap (λ s. s.visited) (absent j (visits sites participants) (still_absent (visited sites) (λ s. refl) j participants ∙ gone)) ∙ sym (ap (λ s. s.visited || (not s.visited && list_any (λ g. pointwise nat_eq (db.home g) j) leaves)) (absent j participants gone) ∙ none (list_any (λ g. pointwise nat_eq (db.home g) j) leaves) refl)
         where
           none : (b : Bool) → list_any (λ g. pointwise nat_eq (db.home g) j) leaves ≡ b → b ≡ false
-          none true e = let f : true ≡ false = sym (spot_of_one spots sites j have (among j ∙ e)) ∙ gone in cc
+          none true e = let f : true ≡ false = sym (participant_of_one participants sites j have (among j ∙ e)) ∙ gone in cc
           none false e = refl

@@ -21,18 +21,18 @@ use Rattle.protocol.proofs.Basics.{either}
 use Rattle.desk.specs.declared.reply.Out.{Out}
 use Rattle.desk.specs.declared.refusal.Refusal.{Refusal}
 use Rattle.desk.specs.declared.refusal.Refusal.TheVariants as refusals
-use Rattle.desk.specs.declared.standing.Standing.{Standing}
-use Rattle.desk.specs.declared.standing.Standing.TheVariants as standing
+use Rattle.desk.specs.declared.transaction.TxnState.{TxnState}
+use Rattle.desk.specs.declared.transaction.TxnState.TheVariants as standing
 use Rattle.desk.specs.Database.{Database, language, replied}
 use Rattle.desk.specs.Does.{Takes}
 use Rattle.desk.specs.OfCatalogue.{IsOfCatalogue}
-use Rattle.desk.specs.Spots.{spot_in}
-use Rattle.desk.specs.Standing.{txn_of, undecided_of}
-use Rattle.desk.specs.State.{Steps, Table}
-use Rattle.desk.specs.Taking.{goes_on, is_reply, is_strange, may_send}
+use Rattle.desk.specs.Participants.{participant_in}
+use Rattle.desk.specs.Transaction.{txn_of, undecided_of}
+use Rattle.desk.specs.State.{Steps, VolatileState}
+use Rattle.desk.specs.Receive.{goes_on, is_reply, is_strange, may_send}
 
 module _ {L : Lang} where
-  abbrev IsPlain : desk.Turn L → Type 0
+  abbrev IsPlain : desk.Transition L → Type 0
   IsPlain turn = AllExplained turn.deeds
 
   plain_decides : (t : Name) (u : desk.Undecided L) (kept : Bool) (voters : List (L.Site × Name)) → IsPlain (desk.decides t u kept voters)
@@ -60,7 +60,7 @@ module _ {L : Lang} where
   plain_vote t u a kept v (desk.Voting votes) = either IsPlain (is_none (votes a)) _ _ (plain_counts t u a votes kept v) tt
 
 module _ (db : Database) (t : Name) (a : List ℕ) (kept : Bool) (choice : desk.Choice (language db)) where
-  abbrev came : Reply → desk.Txn (language db) → desk.Turn (language db)
+  abbrev came : Reply → desk.Txn (language db) → desk.Transition (language db)
   came said x = desk.on_desk_letter {L = language db} t a kept choice (replied db said) x
 
   plain_ack : (voters acked : List (List ℕ × Name)) (v : List ℕ × Name) → IsPlain {L = language db} (desk.on_ack {L = language db} voters acked v kept)
@@ -81,14 +81,14 @@ module _ (db : Database) (t : Name) (a : List ℕ) (kept : Bool) (choice : desk.
   plain_open u first is (reply.Ack k) e = tt
   plain_open u first is (reply.Inquire k) e = tt
 
-  pub plain_came : (o : Option Standing) (said : Reply) → may_send o a said ≡ false → AllExplained (came said (txn_of db o)).deeds
+  pub plain_came : (o : Option TxnState) (said : Reply) → may_send o a said ≡ false → AllExplained (came said (txn_of db o)).deeds
   plain_came None (reply.Ticket k) e = tt
   plain_came None (reply.Rows rows) e = tt
   plain_came None (reply.Refused refusal) e = tt
   plain_came None (reply.Voted voted) e = tt
   plain_came None (reply.Ack k) e = tt
   plain_came None (reply.Inquire k) e = tt
-  plain_came (Some (standing.Undecided u)) said e = plain_open (undecided_of db u) (spot_in a u.spots).ticket (λ i. option_map name_of (spot_in a u.spots).ticket) said e
+  plain_came (Some (standing.Undecided u)) said e = plain_open (undecided_of db u) (participant_in a u.participants).ticket (λ i. option_map name_of (participant_in a u.participants).ticket) said e
   plain_came (Some (standing.Committed c)) (reply.Ticket k) e = tt
   plain_came (Some (standing.Committed c)) (reply.Rows rows) e = tt
   plain_came (Some (standing.Committed c)) (reply.Refused refusal) e = tt
@@ -97,8 +97,8 @@ module _ (db : Database) (t : Name) (a : List ℕ) (kept : Bool) (choice : desk.
   plain_came (Some (standing.Committed c)) (reply.Inquire k) e = tt
 
 -- ---- what is taken
-module _ (db : Database) (before : Table) (kept : DeskContent) (after : Table) (txn : Txn) (site : List ℕ) (said : Reply) where
-  abbrev coming : Bool → desk.Choice (language db) → desk.Turn (language db)
+module _ (db : Database) (before : VolatileState) (kept : DeskContent) (after : VolatileState) (txn : Txn) (site : List ℕ) (said : Reply) where
+  abbrev coming : Bool → desk.Choice (language db) → desk.Transition (language db)
   coming was choice = desk.on_desk_letter {L = language db} (txn_name txn) site was choice (replied db said) (txn_of db (before.standing txn))
 
   abbrev HasTaken : Out → Type 0

@@ -25,14 +25,14 @@ use Rattle.protocol.specs.Parts.{In}
 use Rattle.protocol.proofs.Basics.{any_in, clash, found, if_false, if_true, in_filter, some_is}
 use Rattle.protocol.proofs.Locks.{from_filter}
 use Rattle.desk.specs.declared.reply.Notice.{Notice}
-use Rattle.desk.specs.declared.standing.Standing.{Standing}
-use Rattle.desk.specs.declared.standing.Standing.TheVariants as standing
+use Rattle.desk.specs.declared.transaction.TxnState.{TxnState}
+use Rattle.desk.specs.declared.transaction.TxnState.TheVariants as standing
 use Rattle.desk.specs.Database.{Database, language, sent}
-use Rattle.desk.specs.Standing.{txn_of}
-use Rattle.desk.specs.Starting.{Restarts, Rises, SendsAgain, commits_again, lost_among, resting, with_lost}
-use Rattle.desk.specs.State.{Fits, Table, desk_of, notice_of, table_from, txn_at}
-use Rattle.desk.specs.Turn.{told}
-use Rattle.desk.specs.Voters.{commit_letters, kept_voters}
+use Rattle.desk.specs.Transaction.{txn_of}
+use Rattle.desk.specs.Recovery.{Restarts, Rises, SendsAgain, commits_again, lost_among, resting, with_lost}
+use Rattle.desk.specs.State.{Fits, VolatileState, desk_of, notice_of, volatile_from, txn_at}
+use Rattle.desk.specs.Transition.{told}
+use Rattle.desk.specs.Acknowledge.{commit_letters, kept_voters}
 use Rattle.desk.proofs.Acknowledged.{same_bool, txn_is}
 use Rattle.desk.proofs.Decisions.{commits_is}
 use Rattle.desk.proofs.Rising.{txns_of}
@@ -52,15 +52,15 @@ same_txns xs ys one other there back =
         any_in (is_txn j) j to (go (subst (λ k. In k from) (sym (txn_is j f.0 f.2)) f.1)) (txn_self j)
 
 -- ---- entries
-head_below : (k : Txn) (e : Txn × Standing) (entries : Entries) → AllByRecursion (λ j. txn_cmp k j ≡ Less) (keys_of entries) → In e entries → is_txn k e.0 ≡ false
+head_below : (k : Txn) (e : Txn × TxnState) (entries : Entries) → AllByRecursion (λ j. txn_cmp k j ≡ Less) (keys_of entries) → In e entries → is_txn k e.0 ≡ false
 head_below k e [] below here = absurd here
-head_below k e (x ∷ entries) below (inl is) = ap (λ (y : Txn × Standing). is_txn k y.0) is ∙ ap is_eq below.0
+head_below k e (x ∷ entries) below (inl is) = ap (λ (y : Txn × TxnState). is_txn k y.0) is ∙ ap is_eq below.0
 head_below k e (x ∷ entries) below (inr here) = head_below k e entries below.1 here
 
 -- what stands there is what is listed
-entry_there : (entries : Entries) → IsStrictlySortedBy txn_cmp (keys_of entries) → (e : Txn × Standing) → In e entries → at_txn entries e.0 ≡ Some e.1
+entry_there : (entries : Entries) → IsStrictlySortedBy txn_cmp (keys_of entries) → (e : Txn × TxnState) → In e entries → at_txn entries e.0 ≡ Some e.1
 entry_there [] sorted e here = absurd here
-entry_there (x ∷ entries) sorted e (inl is) = ap (λ (y : Txn × Standing). at_txn (x ∷ entries) y.0) is ∙ if_true (is_txn x.0 x.0) (Some x.1) (at_txn entries x.0) (txn_self x.0) ∙ ap (λ (y : Txn × Standing). Some y.1) (sym is)
+entry_there (x ∷ entries) sorted e (inl is) = ap (λ (y : Txn × TxnState). at_txn (x ∷ entries) y.0) is ∙ if_true (is_txn x.0 x.0) (Some x.1) (at_txn entries x.0) (txn_self x.0) ∙ ap (λ (y : Txn × TxnState). Some y.1) (sym is)
 entry_there (x ∷ entries) sorted e (inr here) =
     if_false (is_txn e.0 x.0) (Some x.1) (at_txn entries e.0) (txn_sym e.0 x.0 ∙ head_below x.0 e entries (sorted_head txn_cmp x.0 (keys_of entries) sorted) here)
     ∙ entry_there entries (sorted_tail txn_cmp x.0 (keys_of entries) sorted) e here
@@ -97,30 +97,30 @@ row_some (x ∷ rows) j here = go (row_some rows j) (is_txn j x.txn) refl here
 
 -- ---- what a restart makes of what stands
 module _ (db : Database) where
-  abbrev turned : Txn → Option Standing → desk.Turn (language db)
+  abbrev turned : Txn → Option TxnState → desk.Transition (language db)
   turned j o = desk.txn_restarted (txn_name j) (txn_of db o)
 
-  some_row : (o : Option Standing) → is_some (kept_voters o) ≡ true → is_some o ≡ true
+  some_row : (o : Option TxnState) → is_some (kept_voters o) ≡ true → is_some o ≡ true
   some_row None e = cc
   some_row (Some s) e = refl
 
   -- who is decided stays
-  rows_stay : (j : Txn) (o : Option Standing) → (turned j o).txn ≡ txn_of db (resting (kept_voters o))
+  rows_stay : (j : Txn) (o : Option TxnState) → (turned j o).txn ≡ txn_of db (resting (kept_voters o))
   rows_stay j None = refl
   rows_stay j (Some (standing.Undecided u)) = refl
   rows_stay j (Some (standing.Committed c)) = refl
 
-  none_said : (j : Txn) (o : Option Standing) → is_some (kept_voters o) ≡ false → (turned j o).letters ≡ []
+  none_said : (j : Txn) (o : Option TxnState) → is_some (kept_voters o) ≡ false → (turned j o).letters ≡ []
   none_said j None e = refl
   none_said j (Some (standing.Undecided u)) e = refl
   none_said j (Some (standing.Committed c)) e = cc
 
-  said : (j : Txn) (o : Option Standing) (voters : List Voter) → kept_voters o ≡ Some voters → (turned j o).letters ≡ map (sent db) (commit_letters j voters)
+  said : (j : Txn) (o : Option TxnState) (voters : List Voter) → kept_voters o ≡ Some voters → (turned j o).letters ≡ map (sent db) (commit_letters j voters)
   said j None voters e = cc
   said j (Some (standing.Undecided u)) voters e = cc
   said j (Some (standing.Committed c)) voters e = sym (commits_is db j c.voters) ∙ ap (λ vs. map (sent db) (commit_letters j vs)) (some_is e)
 
-  one_lost : (j : Txn) (s : Standing) (notices : List Notice) → map notice_of (with_lost j s notices) ≡ filter_map (told db) (turned j (Some s)).deeds ++ map notice_of notices
+  one_lost : (j : Txn) (s : TxnState) (notices : List Notice) → map notice_of (with_lost j s notices) ≡ filter_map (told db) (turned j (Some s)).deeds ++ map notice_of notices
   one_lost j (standing.Undecided u) notices = refl
   one_lost j (standing.Committed c) notices = refl
 
@@ -141,7 +141,7 @@ module _ (db : Database) where
   all_said f [] each = refl
   all_said f (row ∷ rows) each = map-append (sent db) (commit_letters row.txn row.voters) (commits_again rows) ∙ (λ i. sym (each row (inl refl)) i ++ all_said f rows (λ r here. each r (inr here)) i)
 
-  all_lost : (f : Txn → List (desk.Deed (language db))) (entries : Entries) → ((e : Txn × Standing) → In e entries → f e.0 ≡ (turned e.0 (Some e.1)).deeds) → map notice_of (lost_among entries) ≡ filter_map (told db) (flat_map f (keys_of entries))
+  all_lost : (f : Txn → List (desk.Deed (language db))) (entries : Entries) → ((e : Txn × TxnState) → In e entries → f e.0 ≡ (turned e.0 (Some e.1)).deeds) → map notice_of (lost_among entries) ≡ filter_map (told db) (flat_map f (keys_of entries))
   all_lost f [] each = refl
   all_lost f (e ∷ entries) each =
       one_lost e.0 e.1 (lost_among entries) ∙ (λ i. filter_map (told db) (sym (each e (inl refl)) i) ++ all_lost f entries (λ x here. each x (inr here)) i)
@@ -150,10 +150,10 @@ module _ (db : Database) where
       told_more : (ds es : List (desk.Deed (language db))) → filter_map (told db) (ds ++ es) ≡ filter_map (told db) ds ++ filter_map (told db) es
       told_more ds es = filter_map-append (told db) ds es
 
-module _ (db : Database) (old new : DeskContent) (entries : Entries) (sorted : IsStrictlySortedBy txn_cmp (keys_of entries)) (undecided life number : ℕ) (fits : Fits db old (table_from entries undecided life number))
-    (after : Table) (ascend : IsStrictlySortedBy txn_cmp after.txns) (rises : Rises db new after) (begins : BeginsLife old new) where
-  abbrev before : Table
-  before = table_from entries undecided life number
+module _ (db : Database) (old new : DeskContent) (entries : Entries) (sorted : IsStrictlySortedBy txn_cmp (keys_of entries)) (undecided life number : ℕ) (fits : Fits db old (volatile_from entries undecided life number))
+    (after : VolatileState) (ascend : IsStrictlySortedBy txn_cmp after.txns) (rises : Rises db new after) (begins : BeginsLife old new) where
+  abbrev before : VolatileState
+  before = volatile_from entries undecided life number
 
   abbrev is_row : Txn → Bool
   is_row j = is_some (old.commits j)
@@ -213,7 +213,7 @@ module _ (db : Database) (old new : DeskContent) (entries : Entries) (sorted : I
       all_lost db (λ j. (turned db j (before.standing j)).deeds) entries (λ e here. ap (λ o. (turned db e.0 o).deeds) (entry_there entries sorted e here))
       ∙ ap (filter_map (told db)) (sym (flat_names db (λ t. (desk.txn_restarted t ((desk_of db before).txn t)).deeds) before.txns))
 
-  pub restarts : (table : Table) (written : List Letter) (heard : List Notice) → table ≡ after → SendsAgain new written → heard ≡ lost_among entries → Restarts db before new table written heard
+  pub restarts : (table : VolatileState) (written : List Letter) (heard : List Notice) → table ≡ after → SendsAgain new written → heard ≡ lost_among entries → Restarts db before new table written heard
   restarts table written heard table_is sends heard_is = record {
     fits = subst (Fits db new) (sym table_is) rises.fits;
     within = ap (λ t. desk.is_desk_within (desk_of db t)) table_is ∙ rises.within;

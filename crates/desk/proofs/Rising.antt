@@ -17,20 +17,20 @@ use Rattle.store.specs.Name.{txn_cmp}
 use Rattle.store.specs.Orders.{txn_cmp-IsAntisymmetric}
 use Rattle.protocol.specs.Parts.{In}
 use Rattle.protocol.proofs.Basics.{clash, if_true, if_false, left_true, right_true, some_is}
-use Rattle.desk.specs.declared.standing.Standing.{Standing}
-use Rattle.desk.specs.declared.standing.Standing.TheVariants as standing
+use Rattle.desk.specs.declared.transaction.TxnState.{TxnState}
+use Rattle.desk.specs.declared.transaction.TxnState.TheVariants as standing
 use Rattle.desk.specs.Database.{Database}
-use Rattle.desk.specs.Starting.{Rises, are_begun, resting, row_standing, stood_by}
-use Rattle.desk.specs.State.{Fits, IsIn, Table, is_open, open_among, table_from}
-use Rattle.desk.specs.Standing.{txn_of}
+use Rattle.desk.specs.Recovery.{Rises, are_begun, resting, row_standing, stood_by}
+use Rattle.desk.specs.State.{Fits, IsIn, VolatileState, is_open, open_among, volatile_from}
+use Rattle.desk.specs.Transaction.{txn_of}
 use Rattle.protocol.specs.Desk.{is_short_txn}
-use Rattle.desk.specs.Voters.{kept_voters}
+use Rattle.desk.specs.Acknowledge.{kept_voters}
 use Rattle.desk.proofs.Acknowledged.{txn_is}
 use Rattle.desk.proofs.Settled.{is_within}
 use Rattle.desk.proofs.Txns.{Entries, at_txn, txn_same}
 
 -- ---- entries
-pub inserted_there : (entries : Entries) (k : Txn) (v : Standing) (j : Txn) → at_txn (insert_entry txn_cmp entries k v) j ≡ (if is_txn j k then Some v else at_txn entries j)
+pub inserted_there : (entries : Entries) (k : Txn) (v : TxnState) (j : Txn) → at_txn (insert_entry txn_cmp entries k v) j ≡ (if is_txn j k then Some v else at_txn entries j)
 inserted_there [] k v j = refl
 inserted_there (e ∷ entries) k v j = go (txn_cmp k e.0) refl (inserted_there entries k v j)
   where
@@ -80,7 +80,7 @@ none_after : (j : Txn) (row : CommitRow) (rows : List CommitRow) → IsStrictlyS
 none_after j row rows sorted is = ap (λ k. voters_in k rows) (txn_is j row.txn is) ∙ none_below row.txn rows (sorted_head txn_cmp row.txn (txns_of rows) sorted)
 
 -- a row as it stands, or else what stood before
-abbrev pub standing_of : Option (List Voter) → Option Standing → Option Standing
+abbrev pub standing_of : Option (List Voter) → Option TxnState → Option TxnState
 standing_of None before = before
 standing_of (Some voters) before = Some (standing.Committed (record { voters = voters; acked = [] }))
 
@@ -108,8 +108,8 @@ module _ (db : Database) (all : DeskKept) (kept after : DeskContent) (lists : Li
   abbrev entries : Entries
   entries = stood_by all.commits []
 
-  abbrev table : Table
-  table = table_from entries 0 after.life 0
+  abbrev table : VolatileState
+  table = volatile_from entries 0 after.life 0
 
   row_is : (j : Txn) → voters_in j all.commits ≡ after.commits j
   row_is j = lists.rows j ∙ sym (life.commits j)
@@ -137,7 +137,7 @@ module _ (db : Database) (all : DeskKept) (kept after : DeskContent) (lists : Li
   none_open [] = refl
   none_open (j ∷ js) = ap (λ b. length (cond b (j ∷ filter (λ i. is_open (table.standing i)) js) (filter (λ i. is_open (table.standing i)) js))) (ap is_open (there j) ∙ shut (after.commits j)) ∙ none_open js
 
-  at_sites : (r : Option (List Voter)) (s : Standing) → resting r ≡ Some s → IsIn db s
+  at_sites : (r : Option (List Voter)) (s : TxnState) → resting r ≡ Some s → IsIn db s
   at_sites None s e = cc
   at_sites (Some voters) s e = subst (IsIn db) (some_is e) tt
 
@@ -164,7 +164,7 @@ module _ (db : Database) (all : DeskKept) (kept after : DeskContent) (lists : Li
     low = ((let a : after.life ≡ kept.life + 1 = life.life in omega arith), omega arith);
   }
 
-  pub rises : (es : Entries) (n : ℕ) → es ≡ entries → n ≡ after.life → Rises db after (table_from es 0 n 0)
+  pub rises : (es : Entries) (n : ℕ) → es ≡ entries → n ≡ after.life → Rises db after (volatile_from es 0 n 0)
   rises es n es_are n_is =
-      subst (λ m. Rises db after (table_from es 0 m 0)) (sym n_is) (subst (λ x. Rises db after (table_from x 0 after.life 0)) (sym es_are)
+      subst (λ m. Rises db after (volatile_from es 0 m 0)) (sym n_is) (subst (λ x. Rises db after (volatile_from x 0 after.life 0)) (sym es_are)
       (record { fits = fits; within = is_within db after table fits; stands = there; undecided = refl; number = refl }))

@@ -13,13 +13,13 @@ use Rattle.plan.proofs.Fetched.{one_name}
 use Rattle.answers.specs.Evaluated.{parts_climb}
 use Rattle.answers.proofs.Climbing.{parts_are}
 use Rattle.protocol.specs.Desk as desk
-use Rattle.desk.specs.declared.ask.Ask.{Ask}
-use Rattle.desk.specs.Brought.{are_in, awaits, fits_leaf, with_rows}
+use Rattle.desk.specs.declared.fetches.Ask.{Ask}
+use Rattle.desk.specs.Fetches.{are_in, awaits, fits_leaf, with_rows}
 use Rattle.desk.specs.Database.{Database, language}
 use Rattle.desk.specs.OfCatalogue.{FormsParts, IsOfCatalogue}
 use Rattle.desk.specs.Planned.{asked, fetched}
-use Rattle.desk.specs.Sending.{AsksAtHome}
-use Rattle.desk.specs.Standing.{ask_of}
+use Rattle.desk.specs.Send.{AsksAtHome}
+use Rattle.desk.specs.Transaction.{ask_of}
 use Rattle.desk.proofs.Acknowledged.{same_bool}
 use Rattle.desk.proofs.AtHomes.{found_so}
 use Rattle.desk.proofs.Located.{IsEither, located}

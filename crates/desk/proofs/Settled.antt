@@ -13,48 +13,48 @@ use Rattle.protocol.specs.Letters.{txn_name}
 use Rattle.protocol.specs.Parts.{In}
 use Rattle.protocol.proofs.Basics.{both_true, if_true, if_false, in_filter, some_is}
 use Rattle.protocol.proofs.Locks.{from_filter}
-use Rattle.desk.specs.declared.standing.Standing.{Standing}
-use Rattle.desk.specs.declared.standing.Standing.TheVariants as standing
-use Rattle.desk.specs.declared.turn.After.{After}
-use Rattle.desk.specs.declared.turn.After.TheVariants.{Stays, Ends, Becomes}
+use Rattle.desk.specs.declared.transaction.TxnState.{TxnState}
+use Rattle.desk.specs.declared.transaction.TxnState.TheVariants as standing
+use Rattle.desk.specs.declared.transition.After.{After}
+use Rattle.desk.specs.declared.transition.After.TheVariants.{Stays, Ends, Becomes}
 use Rattle.desk.specs.Database.{Database, language}
-use Rattle.desk.specs.Standing.{txn_of}
-use Rattle.desk.specs.State.{Fits, IsIn, IsInAfter, Table, closes, desk_of, is_open, open_among, settled, table_from, txn_at}
-use Rattle.desk.specs.Turn.{after_of}
-use Rattle.desk.specs.Voters.{Keeps, kept_voters}
+use Rattle.desk.specs.Transaction.{txn_of}
+use Rattle.desk.specs.State.{Fits, IsIn, IsInAfter, VolatileState, closes, desk_of, is_open, open_among, settled, volatile_from, txn_at}
+use Rattle.desk.specs.Transition.{after_of}
+use Rattle.desk.specs.Acknowledge.{Keeps, kept_voters}
 use Rattle.desk.proofs.Acknowledged.{txn_is}
 use Rattle.desk.proofs.Counts.{as_many, filter_among, one_fewer}
 use Rattle.desk.proofs.Txns.{Entries, at_txn, filter_all, filter_names, filter_same, removed_keys, removed_there, same_txn, set_keys, set_there, stood, stood_all, txn_self, txn_sym}
 
 -- ---- what the protocol sees of what stands
-pub unknown_is : (db : Database) (o : Option Standing) → not (desk.is_unknown (txn_of db o)) ≡ is_some o
+pub unknown_is : (db : Database) (o : Option TxnState) → not (desk.is_unknown (txn_of db o)) ≡ is_some o
 unknown_is db None = refl
 unknown_is db (Some (standing.Undecided u)) = refl
 unknown_is db (Some (standing.Committed c)) = refl
 
-pub open_is : (db : Database) (o : Option Standing) → desk.is_undecided (txn_of db o) ≡ is_open o
+pub open_is : (db : Database) (o : Option TxnState) → desk.is_undecided (txn_of db o) ≡ is_open o
 open_is db None = refl
 open_is db (Some (standing.Undecided u)) = refl
 open_is db (Some (standing.Committed c)) = refl
 
-pub open_some : (o : Option Standing) → is_open o ≡ true → is_some o ≡ true
+pub open_some : (o : Option TxnState) → is_open o ≡ true → is_some o ≡ true
 open_some None e = cc
 open_some (Some s) e = refl
 
 -- ---- a step of one transaction
 module _ (db : Database) (kept new : DeskContent) (entries : Entries) (sorted : IsStrictlySortedBy txn_cmp (keys_of entries)) (undecided life number : ℕ)
-    (fits : Fits db kept (table_from entries undecided life number)) (k : Txn) (now : Standing) (here : at_txn entries k ≡ Some now) (after : After) where
-  abbrev before : Table
-  before = table_from entries undecided life number
+    (fits : Fits db kept (volatile_from entries undecided life number)) (k : Txn) (now : TxnState) (here : at_txn entries k ≡ Some now) (after : After) where
+  abbrev before : VolatileState
+  before = volatile_from entries undecided life number
 
-  abbrev next : Option Standing
+  abbrev next : Option TxnState
   next = after_of (Some now) after
 
   abbrev left : ℕ
   left = if is_open (Some now) && closes after then undecided - 1 else undecided
 
-  abbrev table : Table
-  table = table_from (settled k after entries) left life number
+  abbrev table : VolatileState
+  table = volatile_from (settled k after entries) left life number
 
   there : (j : Txn) → table.standing j ≡ stood k next before.standing j
   there j = go after
@@ -170,7 +170,7 @@ module _ (db : Database) (kept new : DeskContent) (entries : Entries) (sorted : 
         go true = omega arith
         go false = omega arith
 
-    at_sites : (a : After) → IsInAfter db a → (s : Standing) → after_of (Some now) a ≡ Some s → IsIn db s
+    at_sites : (a : After) → IsInAfter db a → (s : TxnState) → after_of (Some now) a ≡ Some s → IsIn db s
     at_sites Stays sites s e = fits.sites k s (here ∙ e)
     at_sites Ends sites s e = cc
     at_sites (Becomes x) sites s e = subst (IsIn db) (some_is e) sites
@@ -195,12 +195,12 @@ names_length [] = refl
 names_length (x ∷ xs) = ap suc (names_length xs)
 
 -- so many are undecided
-pub few_names : (db : Database) (table : Table) → table.undecided ≡ open_among table.standing table.txns → length (filter (λ t. desk.is_undecided ((desk_of db table).txn t)) (map txn_name table.txns)) ≡ table.undecided
+pub few_names : (db : Database) (table : VolatileState) → table.undecided ≡ open_among table.standing table.txns → length (filter (λ t. desk.is_undecided ((desk_of db table).txn t)) (map txn_name table.txns)) ≡ table.undecided
 few_names db table counted =
     ap length (filter_names (λ t. desk.is_undecided ((desk_of db table).txn t)) (λ j. is_open (table.standing j)) table.txns (λ j listed. open_is db (table.standing j)))
     ∙ names_length (filter (λ j. is_open (table.standing j)) table.txns) ∙ sym counted
 
-module _ (db : Database) (kept : DeskContent) (table : Table) (fits : Fits db kept table) where
+module _ (db : Database) (kept : DeskContent) (table : VolatileState) (fits : Fits db kept table) where
   all_short : (xs : List Txn) → list_all (λ t. desk.is_short_txn ((desk_of db table).txn t)) (map txn_name xs) ≡ true
   all_short [] = refl
   all_short (x ∷ xs) = both_true _ _ (fits.short x) (all_short xs)

@@ -8,21 +8,21 @@ use Rattle.store.specs.declared.name.Txn.{Txn}
 use Rattle.protocol.specs.Desk as desk
 use Rattle.protocol.specs.Language.{Name}
 use Rattle.protocol.specs.Letters.{name_of, txn_name}
-use Rattle.desk.specs.declared.ask.Ask.{Ask}
-use Rattle.desk.specs.declared.spot.Spot.{Spot}
-use Rattle.desk.specs.declared.stepping.Step.{Step}
-use Rattle.desk.specs.declared.undecided.Reading.{Reading}
-use Rattle.desk.specs.declared.undecided.Stage.{Stage}
-use Rattle.desk.specs.declared.undecided.Stage.TheVariants as stage
-use Rattle.desk.specs.declared.undecided.Undecided.{Undecided}
+use Rattle.desk.specs.declared.fetches.Ask.{Ask}
+use Rattle.desk.specs.declared.participant.Participant.{Participant}
+use Rattle.desk.specs.declared.statement.Progress.{Progress}
+use Rattle.desk.specs.declared.transaction.Reading.{Reading}
+use Rattle.desk.specs.declared.transaction.Stage.{Stage}
+use Rattle.desk.specs.declared.transaction.Stage.TheVariants as stage
+use Rattle.desk.specs.declared.transaction.Undecided.{Undecided}
 use Rattle.desk.specs.Database.{Database, language, sent}
-use Rattle.desk.specs.Opening.{HaveSpots, opens, visits}
-use Rattle.desk.specs.Sending.{AsksAtHome, asks_go}
-use Rattle.desk.specs.Standing.{ask_of, stage_of, undecided_of}
-use Rattle.desk.specs.Stating.{ask_sites}
-use Rattle.desk.specs.Stepped.{IsStep}
-use Rattle.desk.specs.Turn.{AreSpots, told_to}
-use Rattle.desk.proofs.Going.{reading_is}
+use Rattle.desk.specs.Opening.{HaveParticipants, opens, visits}
+use Rattle.desk.specs.Send.{AsksAtHome, asks_go}
+use Rattle.desk.specs.Transaction.{ask_of, stage_of, undecided_of}
+use Rattle.desk.specs.Statement.{ask_sites}
+use Rattle.desk.specs.Stepped.{IsProgress}
+use Rattle.desk.specs.Transition.{AreParticipants, told_to}
+use Rattle.desk.proofs.SentLetters.{reading_is}
 use Rattle.desk.proofs.Opened.{kept_by_visits, opens_are, visited_now}
 
 -- fetches at home are at the homes of their leaves
@@ -39,35 +39,35 @@ states_some : (db : Database) (t : Name) (u : desk.Undecided (language db)) (s :
     desk.states t u s (map (ask_of db) asks) choice ≡ desk.after_letters (desk.opens t u (ask_leaves db asks)) (desk.asks_go t (desk.visits u (ask_leaves db asks)) s (map (ask_of db) asks))
 states_some db t u s choice first rest asks some = subst (λ (x : List Ask). desk.states t u s (map (ask_of db) x) choice ≡ desk.after_letters (desk.opens t u (ask_leaves db x)) (desk.asks_go t (desk.visits u (ask_leaves db x)) s (map (ask_of db) x))) (sym some) refl
 
-module _ (db : Database) (txn : Txn) (choice : desk.Choice (language db)) (u new : Undecided) (began : Reading) (first : Ask) (rest : List Ask) (some : began.asks.items ≡ first ∷ rest) (are : AreSpots db u.spots) (have : HaveSpots u.spots (ask_sites began.asks.items)) (home : AsksAtHome db began.asks.items) where
+module _ (db : Database) (txn : Txn) (choice : desk.Choice (language db)) (u new : Undecided) (began : Reading) (first : Ask) (rest : List Ask) (some : began.asks.items ≡ first ∷ rest) (are : AreParticipants db u.participants) (have : HaveParticipants u.participants (ask_sites began.asks.items)) (home : AsksAtHome db began.asks.items) where
   abbrev asks : List Ask
   asks = began.asks.items
 
-  abbrev opened : List Spot
-  opened = visits (ask_sites asks) u.spots
+  abbrev opened : List Participant
+  opened = visits (ask_sites asks) u.participants
 
   abbrev leaves : List Leaf
   leaves = ask_leaves db asks
 
   -- after the Opens, apart from its stage
-  opened_is : (st : Stage) → undecided_of db (record { spots = opened; stage = st }) ≡ record (desk.visits (undecided_of db u) leaves) { stage = stage_of db opened st }
+  opened_is : (st : Stage) → undecided_of db (record { participants = opened; stage = st }) ≡ record (desk.visits (undecided_of db u) leaves) { stage = stage_of db opened st }
   opened_is st = λ i. record {
-    visited = λ j. visited_now db txn u.spots are u.stage leaves (ask_sites asks) (homes_are db asks home) have j i;
-    ticket = λ j. option_map name_of (kept_by_visits (ask_sites asks) u.spots (λ x. x.ticket) (λ x. refl) j i);
-    sent = λ j. kept_by_visits (ask_sites asks) u.spots (λ x. x.sent) (λ x. refl) j i;
+    visited = λ j. visited_now db txn u.participants are u.stage leaves (ask_sites asks) (homes_are db asks home) have j i;
+    ticket = λ j. option_map name_of (kept_by_visits (ask_sites asks) u.participants (λ x. x.ticket) (λ x. refl) j i);
+    sent = λ j. kept_by_visits (ask_sites asks) u.participants (λ x. x.sent) (λ x. refl) j i;
     stage = stage_of db opened st;
   }
 
-  pub reads_is : (reading : Reading) → reading.statement ≡ began.statement → reading.asks.items ≡ (asks_go txn asks opened).left → new.spots ≡ (asks_go txn asks opened).spots → new.stage ≡ stage.Reading reading →
-      (step : Step) → step.letters.items ≡ opens txn (ask_sites asks) u.spots ++ (asks_go txn asks opened).letters → step.reply ≡ None → IsStep db txn new step (desk.states (txn_name txn) (undecided_of db u) began.statement (map (ask_of db) asks) choice)
-  reads_is reading statement left spots_now now step letters quiet =
-      subst (IsStep db txn new step) (sym (states_some db (txn_name txn) (undecided_of db u) began.statement choice first rest asks some)) (record {
-        stands = ap (λ x. desk.Known (undecided_of db (record { spots = new.spots; stage = x }))) now ∙ base.0 ∙ ap (λ v. (desk.asks_go (txn_name txn) v began.statement (map (ask_of db) asks)).txn) (opened_is (stage.Reading began));
-        letters = ap (map (sent db)) letters ∙ map-append (sent db) (opens txn (ask_sites asks) u.spots) (asks_go txn asks opened).letters
-            ∙ (λ i. opens_are db txn u.spots are u.stage leaves (ask_sites asks) (homes_are db asks home) have i ++ (base.1 ∙ ap (λ v. (desk.asks_go (txn_name txn) v began.statement (map (ask_of db) asks)).letters) (opened_is (stage.Reading began))) i);
+  pub reads_is : (reading : Reading) → reading.statement ≡ began.statement → reading.asks.items ≡ (asks_go txn asks opened).left → new.participants ≡ (asks_go txn asks opened).participants → new.stage ≡ stage.Reading reading →
+      (step : Progress) → step.letters.items ≡ opens txn (ask_sites asks) u.participants ++ (asks_go txn asks opened).letters → step.reply ≡ None → IsProgress db txn new step (desk.states (txn_name txn) (undecided_of db u) began.statement (map (ask_of db) asks) choice)
+  reads_is reading statement left participants_now now step letters quiet =
+      subst (IsProgress db txn new step) (sym (states_some db (txn_name txn) (undecided_of db u) began.statement choice first rest asks some)) (record {
+        stands = ap (λ x. desk.Known (undecided_of db (record { participants = new.participants; stage = x }))) now ∙ base.0 ∙ ap (λ v. (desk.asks_go (txn_name txn) v began.statement (map (ask_of db) asks)).txn) (opened_is (stage.Reading began));
+        letters = ap (map (sent db)) letters ∙ map-append (sent db) (opens txn (ask_sites asks) u.participants) (asks_go txn asks opened).letters
+            ∙ (λ i. opens_are db txn u.participants are u.stage leaves (ask_sites asks) (homes_are db asks home) have i ++ (base.1 ∙ ap (λ v. (desk.asks_go (txn_name txn) v began.statement (map (ask_of db) asks)).letters) (opened_is (stage.Reading began))) i);
         replies = ap (told_to (txn_name txn)) quiet;
       })
     where
-      base : (desk.Known (undecided_of db (record { spots = new.spots; stage = stage.Reading reading })) ≡ (desk.asks_go (txn_name txn) (undecided_of db (record { spots = opened; stage = stage.Reading began })) began.statement (map (ask_of db) asks)).txn)
-          × (map (sent db) (asks_go txn asks opened).letters ≡ (desk.asks_go (txn_name txn) (undecided_of db (record { spots = opened; stage = stage.Reading began })) began.statement (map (ask_of db) asks)).letters)
-      base = reading_is db txn opened new.spots (asks_go txn asks opened).letters began reading home statement left spots_now refl
+      base : (desk.Known (undecided_of db (record { participants = new.participants; stage = stage.Reading reading })) ≡ (desk.asks_go (txn_name txn) (undecided_of db (record { participants = opened; stage = stage.Reading began })) began.statement (map (ask_of db) asks)).txn)
+          × (map (sent db) (asks_go txn asks opened).letters ≡ (desk.asks_go (txn_name txn) (undecided_of db (record { participants = opened; stage = stage.Reading began })) began.statement (map (ask_of db) asks)).letters)
+      base = reading_is db txn opened new.participants (asks_go txn asks opened).letters began reading home statement left participants_now refl

@@ -17,7 +17,7 @@ use Rattle.protocol.specs.Language.{Name, same}
 use Rattle.protocol.specs.Letters.{txn_name}
 use Rattle.protocol.specs.Parts.{In}
 use Rattle.protocol.proofs.Basics.{same_law, if_true, if_false}
-use Rattle.desk.specs.declared.standing.Standing.{Standing}
+use Rattle.desk.specs.declared.transaction.TxnState.{TxnState}
 use Rattle.desk.specs.State.{txn_at}
 use Rattle.desk.proofs.Acknowledged.{same_bool, txn_is}
 
@@ -36,18 +36,18 @@ same_txn a b = same_bool _ _ (λ e. txn_same a b (ap txn_at ((same_law (txn_name
 
 -- ---- entries
 abbrev pub Entries : Type 0
-Entries = List (Txn × Standing)
+Entries = List (Txn × TxnState)
 
 -- what stands at a transaction
-abbrev pub at_txn : Entries → Txn → Option Standing
+abbrev pub at_txn : Entries → Txn → Option TxnState
 at_txn entries txn = lookup (is_at (txn_cmp txn)) entries
 
 -- what stands after a change at one
-abbrev pub stood : Txn → Option Standing → (Txn → Option Standing) → Txn → Option Standing
+abbrev pub stood : Txn → Option TxnState → (Txn → Option TxnState) → Txn → Option TxnState
 stood k o f j = if is_txn k j then o else f j
 
 -- what holds at that one, and elsewhere as before, holds of all
-pub stood_all : (k : Txn) (o : Option Standing) (f : Txn → Option Standing) (Q : Txn → Option Standing → Type 0) → Q k o → ((j : Txn) → is_txn k j ≡ false → Q j (f j)) → (j : Txn) → Q j (stood k o f j)
+pub stood_all : (k : Txn) (o : Option TxnState) (f : Txn → Option TxnState) (Q : Txn → Option TxnState → Type 0) → Q k o → ((j : Txn) → is_txn k j ≡ false → Q j (f j)) → (j : Txn) → Q j (stood k o f j)
 stood_all k o f Q here there j = go (is_txn k j) refl
   where
     go : (b : Bool) → is_txn k j ≡ b → Q j (if b then o else f j)
@@ -57,10 +57,10 @@ stood_all k o f Q here there j = go (is_txn k j) refl
 one_test : (k x y : Txn) → is_txn k x ≡ true → is_txn k y ≡ is_txn x y
 one_test k x y e = ap (λ z. is_txn z y) (txn_is k x e)
 
-pub set_there : (k : Txn) (entries : Entries) (new old : Standing) → at_txn entries k ≡ Some old → (j : Txn) → at_txn (set_value (is_at (txn_cmp k)) entries new) j ≡ stood k (Some new) (at_txn entries) j
+pub set_there : (k : Txn) (entries : Entries) (new old : TxnState) → at_txn entries k ≡ Some old → (j : Txn) → at_txn (set_value (is_at (txn_cmp k)) entries new) j ≡ stood k (Some new) (at_txn entries) j
 set_there k entries new old is j = lookup-set_value (eq_by_cmp_equiv txn_cmp_total) (is_txn k) (one_test k) j new entries (subst IsSome (sym is) refl)
 
-pub set_keys : (k : Txn) (entries : Entries) (new : Standing) → keys_of (set_value (is_at (txn_cmp k)) entries new) ≡ keys_of entries
+pub set_keys : (k : Txn) (entries : Entries) (new : TxnState) → keys_of (set_value (is_at (txn_cmp k)) entries new) ≡ keys_of entries
 set_keys k entries new = keys-set_value (is_at (txn_cmp k)) entries new
 
 pub removed_there : (k : Txn) (entries : Entries) → IsStrictlySortedBy txn_cmp (keys_of entries) → (j : Txn) → at_txn (remove_entry (is_at (txn_cmp k)) entries) j ≡ stood k None (at_txn entries) j
@@ -85,15 +85,15 @@ pub removed_keys : (k : Txn) (entries : Entries) → IsStrictlySortedBy txn_cmp 
 removed_keys k entries sorted = keys_left k entries (IsDistinct-from_sorted txn_cmp (keys_of entries) sorted)
 
 -- ---- a key after all others
-pub put_last : (k : Txn) (new : Standing) (entries : Entries) → AllByRecursion (λ j. txn_cmp k j ≡ Greater) (keys_of entries) → insert_entry txn_cmp entries k new ≡ entries ++ (k, new) ∷ []
+pub put_last : (k : Txn) (new : TxnState) (entries : Entries) → AllByRecursion (λ j. txn_cmp k j ≡ Greater) (keys_of entries) → insert_entry txn_cmp entries k new ≡ entries ++ (k, new) ∷ []
 put_last k new [] above = refl
 put_last k new (e ∷ entries) above = ap (λ r. match_ordering r ((k, new) ∷ e ∷ entries) ((e.0, new) ∷ entries) (e ∷ insert_entry txn_cmp entries k new)) above.0 ∙ ap (λ l. e ∷ l) (put_last k new entries above.1)
 
-pub last_keys : (k : Txn) (new : Standing) (entries : Entries) → keys_of (entries ++ (k, new) ∷ []) ≡ keys_of entries ++ k ∷ []
+pub last_keys : (k : Txn) (new : TxnState) (entries : Entries) → keys_of (entries ++ (k, new) ∷ []) ≡ keys_of entries ++ k ∷ []
 last_keys k new [] = refl
 last_keys k new (e ∷ entries) = ap (λ l. e.0 ∷ l) (last_keys k new entries)
 
-pub last_there : (k : Txn) (new : Standing) (entries : Entries) → AllByRecursion (λ j. txn_cmp k j ≡ Greater) (keys_of entries) → (j : Txn) → at_txn (entries ++ (k, new) ∷ []) j ≡ stood k (Some new) (at_txn entries) j
+pub last_there : (k : Txn) (new : TxnState) (entries : Entries) → AllByRecursion (λ j. txn_cmp k j ≡ Greater) (keys_of entries) → (j : Txn) → at_txn (entries ++ (k, new) ∷ []) j ≡ stood k (Some new) (at_txn entries) j
 last_there k new [] above j = ap (λ b. cond b (Some new) None) (txn_sym j k)
 last_there k new (e ∷ entries) above j = go (is_txn k j) refl (last_there k new entries above.1 j)
   where

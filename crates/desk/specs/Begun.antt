@@ -1,21 +1,21 @@
 -- A transaction begins.
 use Rattle.std.specs.Prelude.{ℕ, suc, List, map}
 use Rattle.store.specs.declared.name.Txn.{Txn}
-use Rattle.desk.specs.declared.spot.Spot.{Spot}
-use Rattle.desk.specs.declared.standing.Standing.{Standing}
-use Rattle.desk.specs.declared.standing.Standing.TheVariants.{Undecided}
-use Rattle.desk.specs.declared.undecided.Stage.TheVariants.{Idle}
-use Rattle.desk.specs.State.{Table}
-use Rattle.desk.specs.Spots.{nowhere}
+use Rattle.desk.specs.declared.participant.Participant.{Participant}
+use Rattle.desk.specs.declared.transaction.TxnState.{TxnState}
+use Rattle.desk.specs.declared.transaction.TxnState.TheVariants.{Undecided}
+use Rattle.desk.specs.declared.transaction.Stage.TheVariants.{Idle}
+use Rattle.desk.specs.State.{VolatileState}
+use Rattle.desk.specs.Participants.{nowhere}
 
 -- the next transaction of this life
-abbrev pub next_of : Table → Txn
+abbrev pub next_of : VolatileState → Txn
 next_of table = record { life = table.life; number = suc table.number }
 
 -- what stands behind a transaction that begins
-abbrev pub first_of : List Spot → Standing
-first_of spots = Undecided (record { spots = spots; stage = Idle })
+abbrev pub first_of : List Participant → TxnState
+first_of participants = Undecided (record { participants = participants; stage = Idle })
 
 -- no site is visited
-abbrev pub nowhere_yet : List (List ℕ) → List Spot
+abbrev pub nowhere_yet : List (List ℕ) → List Participant
 nowhere_yet sites = map nowhere sites

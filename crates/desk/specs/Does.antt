@@ -18,35 +18,35 @@ use Rattle.store.specs.Name.{txn_cmp}
 use Rattle.protocol.specs.Desk as protocol
 use Rattle.protocol.specs.Letters.{txn_name}
 use Rattle.protocol.specs.Serial.{AllExplained}
-use Rattle.desk.specs.declared.present.Present.{Present}
+use Rattle.desk.specs.declared.volatile.Volatile.{Volatile}
 use Rattle.desk.specs.declared.refusal.Refusal as refusals
 use Rattle.desk.specs.declared.refusal.Refusal.TheVariants as refusal
 use Rattle.desk.specs.declared.reply.Notice.{Notice}
-use Rattle.desk.specs.declared.standing.Standing.{Standing}
-use Rattle.desk.specs.declared.standing.Standing.TheVariants as standing
-use Rattle.desk.specs.declared.stepping.Step.{Step}
-use Rattle.desk.specs.declared.undecided.Undecided.{Undecided}
-use Rattle.desk.specs.Calls.{txn_in}
+use Rattle.desk.specs.declared.transaction.TxnState.{TxnState}
+use Rattle.desk.specs.declared.transaction.TxnState.TheVariants as standing
+use Rattle.desk.specs.declared.statement.Progress.{Progress}
+use Rattle.desk.specs.declared.transaction.Undecided.{Undecided}
+use Rattle.desk.specs.Request.{txn_in}
 use Rattle.desk.specs.Database.{Database, language}
-use Rattle.desk.specs.Sending.{AreShort}
-use Rattle.desk.specs.State.{IsIn, Steps, Table, desk_of, table_from}
-use Rattle.desk.specs.Stepped.{IsStep}
+use Rattle.desk.specs.Send.{AreShort}
+use Rattle.desk.specs.State.{IsIn, Steps, VolatileState, desk_of, volatile_from}
+use Rattle.desk.specs.Stepped.{IsProgress}
 
 -- a step is the protocol's for one answer and its writes, and these are explained
-pub record Does (db : Database) (txn : Txn) (new : Undecided) (made : Step) (wanted : protocol.Choice (language db) → protocol.Turn (language db)) : Type 0 where
+pub record Does (db : Database) (txn : Txn) (new : Undecided) (made : Progress) (wanted : protocol.Choice (language db) → protocol.Transition (language db)) : Type 0 where
   pub choice : protocol.Choice (language db)
-  pub step : IsStep db txn new made (wanted choice)
+  pub step : IsProgress db txn new made (wanted choice)
   pub explained : AllExplained (wanted choice).deeds
   pub within : IsIn db (standing.Undecided new)
 
 -- so of what stands behind a transaction
-abbrev pub DoesIn : (db : Database) → Txn → Standing → Step → (protocol.Choice (language db) → protocol.Turn (language db)) → Type 0
+abbrev pub DoesIn : (db : Database) → Txn → TxnState → Progress → (protocol.Choice (language db) → protocol.Transition (language db)) → Type 0
 DoesIn db txn (standing.Undecided new) made wanted = Does db txn new made wanted
 DoesIn db txn (standing.Committed committed) made wanted = ⊥
 
 -- an undecided transaction's counts are below the limit
-abbrev pub IsShort : Standing → Type 0
-IsShort (standing.Undecided undecided) = AreShort undecided.spots
+abbrev pub IsShort : TxnState → Type 0
+IsShort (standing.Undecided undecided) = AreShort undecided.participants
 IsShort (standing.Committed committed) = Unit {0}
 
 -- a text that is no statement's, as the reader tells it: it breaks a rule and is no command's, or it begins or ends a transaction
@@ -57,7 +57,7 @@ pub record IsUnread (schema : List RelationSchema) (text : List ℕ) (told : ref
       ⊎ ((fault ≡ record { rule = rules.Syntax; offset = 0 }) × (IsTextOf schema text command.Begin ⊎ (IsTextOf schema text command.Commit ⊎ IsTextOf schema text command.Rollback)))
 
 -- a text is a statement's, and the statement is stated
-pub record States (db : Database) (before : Table) (kept : DeskContent) (after : Table) (txn : Txn) (text : List ℕ) (written : List Letter) (heard : List Notice) : Type 0 where
+pub record States (db : Database) (before : VolatileState) (kept : DeskContent) (after : VolatileState) (txn : Txn) (text : List ℕ) (written : List Letter) (heard : List Notice) : Type 0 where
   pub statement : Statement
   pub choice : protocol.Choice (language db)
   pub spelled : IsTextOf db.schemas text (command.Run statement)
@@ -66,32 +66,32 @@ pub record States (db : Database) (before : Table) (kept : DeskContent) (after :
   pub explained : AllExplained (protocol.on_request (txn_name txn) choice (protocol.State statement) (txn_in db before txn)).deeds
 
 -- a letter of a site is taken
-pub record Takes (db : Database) (before : Table) (kept : DeskContent) (after : Table) (txn : Txn) (wanted : protocol.Choice (language db) → protocol.Turn (language db)) (written : List Letter) (heard : List Notice) : Type 0 where
+pub record Takes (db : Database) (before : VolatileState) (kept : DeskContent) (after : VolatileState) (txn : Txn) (wanted : protocol.Choice (language db) → protocol.Transition (language db)) (written : List Letter) (heard : List Notice) : Type 0 where
   pub choice : protocol.Choice (language db)
   pub steps : Steps db before kept after txn (wanted choice) written heard
   pub explained : AllExplained (wanted choice).deeds
 
 -- a statement goes on in memory
-pub record GoesOn (db : Database) (old : Present) (after : Table) (txn : Txn) (made : Step) (wanted : protocol.Choice (language db) → protocol.Turn (language db)) : Type 0 where
+pub record GoesOn (db : Database) (old : Volatile) (after : VolatileState) (txn : Txn) (made : Progress) (wanted : protocol.Choice (language db) → protocol.Transition (language db)) : Type 0 where
   pub new : Undecided
-  pub moved : after ≡ table_from (set_value (is_at (txn_cmp txn)) old.standings.entries (standing.Undecided new)) old.undecided old.life old.number
+  pub moved : after ≡ volatile_from (set_value (is_at (txn_cmp txn)) old.standings.entries (standing.Undecided new)) old.undecided old.life old.number
   pub does : Does db txn new made wanted
   pub short : protocol.is_short_txn (wanted does.choice).txn ≡ true
 
 -- for one answer and its writes, which are explained, the step sends a site more operations than the limit allows
-pub record IsLong (db : Database) (wanted : protocol.Choice (language db) → protocol.Turn (language db)) : Type 0 where
+pub record IsLong (db : Database) (wanted : protocol.Choice (language db) → protocol.Transition (language db)) : Type 0 where
   pub choice : protocol.Choice (language db)
   pub explained : AllExplained (wanted choice).deeds
   pub long : protocol.is_short_txn (wanted choice).txn ≡ false
 
 -- so the step would lead past the coordinator's limits
-pub record IsPastLimits (db : Database) (before : Table) (txn : Txn) (wanted : protocol.Choice (language db) → protocol.Turn (language db)) : Type 0 where
+pub record IsPastLimits (db : Database) (before : VolatileState) (txn : Txn) (wanted : protocol.Choice (language db) → protocol.Transition (language db)) : Type 0 where
   pub choice : protocol.Choice (language db)
   pub explained : AllExplained (wanted choice).deeds
   pub past : protocol.is_desk_within (protocol.desk_after (desk_of db before) (txn_name txn) (wanted choice).txn) ≡ false
 
 -- a text is a statement's, and to state it would lead past them
-pub record StatesPastLimits (db : Database) (before : Table) (txn : Txn) (text : List ℕ) : Type 0 where
+pub record StatesPastLimits (db : Database) (before : VolatileState) (txn : Txn) (text : List ℕ) : Type 0 where
   pub statement : Statement
   pub spelled : IsTextOf db.schemas text (command.Run statement)
   pub fits : IsStatementOf db.schemas statement

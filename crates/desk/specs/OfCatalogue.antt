@@ -15,7 +15,7 @@ use Rattle.plan.specs.Stated.{AreFetchesOf}
 use Rattle.answers.specs.Table.{AreParts}
 use Rattle.answers.specs.Writes.{writes_between}
 use Rattle.desk.specs.Database.{Database}
-use Rattle.desk.specs.Standing.{at_leaf}
+use Rattle.desk.specs.Transaction.{at_leaf}
 
 -- rows are well formed where they are parts of the leaf's columns
 abbrev pub FormsParts : Database → FragmentLeaf → Type 0

@@ -7,29 +7,29 @@ use Rattle.store.specs.declared.letter.Letter.{Letter}
 use Rattle.store.specs.declared.name.Txn.{Txn}
 use Rattle.store.specs.declared.order.Order.{Order}
 use Rattle.store.specs.declared.order.Order.TheVariants as order
-use Rattle.desk.specs.declared.spot.Spot.{Spot}
+use Rattle.desk.specs.declared.participant.Participant.{Participant}
 use Rattle.desk.specs.Orders.{ordered}
-use Rattle.desk.specs.Spots.{is_at}
+use Rattle.desk.specs.Participants.{is_at}
 
 -- whether a site is one of these, and isn't visited yet
-abbrev pub is_new : List (List ℕ) → Spot → Bool
-is_new sites spot = not spot.visited && list_any (λ site. pointwise nat_eq site spot.site) sites
+abbrev pub is_new : List (List ℕ) → Participant → Bool
+is_new sites participant = not participant.visited && list_any (λ site. pointwise nat_eq site participant.site) sites
 
 -- the order to a new site
-abbrev pub open_at : List (List ℕ) → Spot → Option Order
-open_at sites spot = if is_new sites spot then Some order.Open else None
+abbrev pub open_at : List (List ℕ) → Participant → Option Order
+open_at sites participant = if is_new sites participant then Some order.Open else None
 
 -- the Opens, in the order of the sites
-abbrev pub opens : Txn → List (List ℕ) → List Spot → List Letter
-opens txn sites spots = filter_map (λ spot. option_map (ordered txn spot.site) (open_at sites spot)) spots
+abbrev pub opens : Txn → List (List ℕ) → List Participant → List Letter
+opens txn sites participants = filter_map (λ participant. option_map (ordered txn participant.site) (open_at sites participant)) participants
 
 -- the new ones are visited from now on
-abbrev pub visited : List (List ℕ) → Spot → Spot
-visited sites spot = record spot { visited = spot.visited || is_new sites spot }
+abbrev pub visited : List (List ℕ) → Participant → Participant
+visited sites participant = record participant { visited = participant.visited || is_new sites participant }
 
-abbrev pub visits : List (List ℕ) → List Spot → List Spot
-visits sites spots = map (visited sites) spots
+abbrev pub visits : List (List ℕ) → List Participant → List Participant
+visits sites participants = map (visited sites) participants
 
--- each of these sites has a spot
-abbrev pub HaveSpots : List Spot → List (List ℕ) → Type 0
-HaveSpots spots sites = AllByRecursion (λ site. list_any (is_at site) spots ≡ true) sites
+-- each of these sites has a participant
+abbrev pub HaveParticipants : List Participant → List (List ℕ) → Type 0
+HaveParticipants participants sites = AllByRecursion (λ site. list_any (is_at site) participants ≡ true) sites

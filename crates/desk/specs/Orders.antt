@@ -10,11 +10,11 @@ use Rattle.store.specs.declared.order.Order.{Order}
 use Rattle.store.specs.declared.order.Order.TheVariants as order
 use Rattle.store.specs.declared.reply.Vote.{Vote}
 use Rattle.store.specs.declared.reply.Vote.TheVariants.{Yes, No, Read}
-use Rattle.desk.specs.declared.orders.Word.{Word}
-use Rattle.desk.specs.declared.orders.Word.TheVariants as word
-use Rattle.desk.specs.declared.spot.Spot.{Spot}
-use Rattle.desk.specs.declared.undecided.Stage.{Stage}
-use Rattle.desk.specs.declared.undecided.Stage.TheVariants as stage
+use Rattle.desk.specs.declared.send.Broadcast.{Broadcast}
+use Rattle.desk.specs.declared.send.Broadcast.TheVariants as word
+use Rattle.desk.specs.declared.participant.Participant.{Participant}
+use Rattle.desk.specs.declared.transaction.Stage.{Stage}
+use Rattle.desk.specs.declared.transaction.Stage.TheVariants as stage
 
 -- who voted No or Read has let go by itself
 abbrev pub may_hold : Option Vote → Bool
@@ -24,35 +24,35 @@ may_hold (Some No) = false
 may_hold (Some Read) = false
 
 -- the word to the sites of a transaction that ends without a commit
-abbrev pub ending_word : Stage → Word
-ending_word stage.Idle = word.Abort
-ending_word (stage.Reading reading) = word.Abort
-ending_word (stage.Writing writing) = word.Abort
-ending_word stage.Voting = word.AbortVoting
+abbrev pub abort_broadcast : Stage → Broadcast
+abort_broadcast stage.Idle = word.Abort
+abort_broadcast (stage.Reading reading) = word.Abort
+abort_broadcast (stage.Writing writing) = word.Abort
+abort_broadcast stage.Voting = word.AbortVoting
 
 -- whether a word is for a site
-abbrev pub is_for : Word → Spot → Bool
-is_for word.Prepare spot = spot.visited
-is_for word.Abort spot = spot.visited
-is_for word.AbortVoting spot = spot.visited && may_hold spot.vote
+abbrev pub is_for : Broadcast → Participant → Bool
+is_for word.Prepare participant = participant.visited
+is_for word.Abort participant = participant.visited
+is_for word.AbortVoting participant = participant.visited && may_hold participant.vote
 
 -- the order of a word to a visit, to which so many operations were sent
-abbrev pub order_of : Word → ℕ → Ticket → Order
+abbrev pub order_of : Broadcast → ℕ → Ticket → Order
 order_of word.Prepare sent ticket = order.Prepare (record { ticket = ticket; count = sent })
 order_of word.Abort sent ticket = order.Abort ticket
 order_of word.AbortVoting sent ticket = order.Abort ticket
 
 -- the order to a site, if there is one
-abbrev pub order_at : Word → Spot → Option Order
-order_at word spot = if is_for word spot then option_map (order_of word spot.sent) spot.ticket else None
+abbrev pub order_at : Broadcast → Participant → Option Order
+order_at word participant = if is_for word participant then option_map (order_of word participant.sent) participant.ticket else None
 
 -- an order's letter
 abbrev pub ordered : Txn → List ℕ → Order → Letter
 ordered txn site order = record { site = site; txn = txn; body = body.Order order }
 
 -- the letters to the sites, in their order
-abbrev pub letters_from : Txn → Word → List Spot → List Letter
-letters_from txn word spots = filter_map (λ spot. option_map (ordered txn spot.site) (order_at word spot)) spots
+abbrev pub broadcast_letters : Txn → Broadcast → List Participant → List Letter
+broadcast_letters txn word participants = filter_map (λ participant. option_map (ordered txn participant.site) (order_at word participant)) participants
 
 -- whether the first phase has begun
 abbrev pub is_voting : Stage → Bool

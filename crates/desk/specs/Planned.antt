@@ -14,10 +14,10 @@ use Rattle.plan.specs.Reduced.{FindsAll}
 use Rattle.plan.specs.Shape.{shape}
 use Rattle.plan.specs.Stated.{AreFetchesOf}
 use Rattle.protocol.specs.Letters.{leaf_of}
-use Rattle.desk.specs.declared.ask.Ask.{Ask}
-use Rattle.desk.specs.declared.undecided.Stage.{Stage}
-use Rattle.desk.specs.declared.undecided.Stage.TheVariants as stage
-use Rattle.desk.specs.declared.undecided.Unsent.{Unsent}
+use Rattle.desk.specs.declared.fetches.Ask.{Ask}
+use Rattle.desk.specs.declared.transaction.Stage.{Stage}
+use Rattle.desk.specs.declared.transaction.Stage.TheVariants as stage
+use Rattle.desk.specs.declared.transaction.Unsent.{Unsent}
 use Rattle.desk.specs.Database.{Database}
 
 -- the site of a leaf, if the catalogue has the leaf

@@ -11,40 +11,40 @@ use Rattle.protocol.specs.Desk as protocol
 use Rattle.protocol.specs.Language.{Name}
 use Rattle.protocol.specs.Letters.{txn_name}
 use Rattle.protocol.specs.Parts.{In}
-use Rattle.desk.specs.declared.present.Present.{Present}
+use Rattle.desk.specs.declared.volatile.Volatile.{Volatile}
 use Rattle.desk.specs.declared.reply.Notice.{Notice}
-use Rattle.desk.specs.declared.standing.Standing.{Standing}
-use Rattle.desk.specs.declared.standing.Standing.TheVariants as standing
-use Rattle.desk.specs.declared.turn.After.{After}
-use Rattle.desk.specs.declared.turn.After.TheVariants.{Stays, Ends, Becomes}
+use Rattle.desk.specs.declared.transaction.TxnState.{TxnState}
+use Rattle.desk.specs.declared.transaction.TxnState.TheVariants as standing
+use Rattle.desk.specs.declared.transition.After.{After}
+use Rattle.desk.specs.declared.transition.After.TheVariants.{Stays, Ends, Becomes}
 use Rattle.desk.specs.Database.{Database, language, sent}
 use Rattle.desk.specs.Planned.{IsPlanned}
-use Rattle.desk.specs.Spots.{sites_of}
-use Rattle.desk.specs.Standing.{txn_of}
+use Rattle.desk.specs.Participants.{sites_of}
+use Rattle.desk.specs.Transaction.{txn_of}
 use Rattle.desk.specs.Stepped.{IsAtHome}
-use Rattle.desk.specs.Turn.{told}
-use Rattle.desk.specs.Voters.{kept_voters}
+use Rattle.desk.specs.Transition.{told}
+use Rattle.desk.specs.Acknowledge.{kept_voters}
 
 -- what is in memory, read transaction by transaction
-pub record Table : Type 0 where
-  pub standing : Txn → Option Standing
+pub record VolatileState : Type 0 where
+  pub standing : Txn → Option TxnState
   pub txns : List Txn
   pub undecided : ℕ
   pub life : ℕ
   pub number : ℕ
 
-abbrev pub table_from : List (Txn × Standing) → ℕ → ℕ → ℕ → Table
-table_from entries undecided life number = record { standing = λ txn. lookup (is_at (txn_cmp txn)) entries; txns = keys_of entries; undecided = undecided; life = life; number = number }
+abbrev pub volatile_from : List (Txn × TxnState) → ℕ → ℕ → ℕ → VolatileState
+volatile_from entries undecided life number = record { standing = λ txn. lookup (is_at (txn_cmp txn)) entries; txns = keys_of entries; undecided = undecided; life = life; number = number }
 
-abbrev pub table_of : Present → Table
-table_of present = table_from present.standings.entries present.undecided present.life present.number
+abbrev pub volatile_of : Volatile → VolatileState
+volatile_of volatile = volatile_from volatile.standings.entries volatile.undecided volatile.life volatile.number
 
 -- the transaction of a name
 abbrev pub txn_at : Name → Txn
 txn_at name = record { life = name.life; number = name.number }
 
 -- the state that the protocol sees
-abbrev pub desk_of : (db : Database) → Table → protocol.Desk (language db)
+abbrev pub desk_of : (db : Database) → VolatileState → protocol.Desk (language db)
 desk_of db table = record {
   txn = λ name. txn_of db (table.standing (txn_at name));
   known = map txn_name table.txns;
@@ -53,7 +53,7 @@ desk_of db table = record {
 }
 
 -- whether an undecided transaction stands there
-abbrev pub is_open : Option Standing → Bool
+abbrev pub is_open : Option TxnState → Bool
 is_open None = false
 is_open (Some (standing.Undecided undecided)) = true
 is_open (Some (standing.Committed committed)) = false
@@ -67,8 +67,8 @@ closes (Becomes (standing.Committed committed)) = true
 
 -- an undecided transaction has to do with the sites of the database, what its statement still sends has the sites of its leaves,
 -- and a plan whose rows are waited for is the statement's
-abbrev pub IsIn : Database → Standing → Type 0
-IsIn db (standing.Undecided undecided) = (sites_of undecided.spots ≡ db.sites) × IsAtHome db undecided.stage × IsPlanned db undecided.stage
+abbrev pub IsIn : Database → TxnState → Type 0
+IsIn db (standing.Undecided undecided) = (sites_of undecided.participants ≡ db.sites) × IsAtHome db undecided.stage × IsPlanned db undecided.stage
 IsIn db (standing.Committed committed) = Unit
 
 -- so after a step
@@ -78,15 +78,15 @@ IsInAfter db Ends = Unit
 IsInAfter db (Becomes standing) = IsIn db standing
 
 -- a transaction was begun in an earlier life, or in this one
-abbrev pub IsBegun : Table → Txn → Type 0
+abbrev pub IsBegun : VolatileState → Txn → Type 0
 IsBegun table txn = (txn.life < table.life) ⊎ ((txn.life ≡ table.life) × (txn.number ≤ table.number))
 
 -- how many transactions are undecided
-abbrev pub open_among : (Txn → Option Standing) → List Txn → ℕ
+abbrev pub open_among : (Txn → Option TxnState) → List Txn → ℕ
 open_among standing txns = length (filter (λ txn. is_open (standing txn)) txns)
 
 -- what is in memory fits what the store keeps
-pub record Fits (db : Database) (kept : DeskContent) (table : Table) : Type 0 where
+pub record Fits (db : Database) (kept : DeskContent) (table : VolatileState) : Type 0 where
   -- the voters of decided transactions are those of the store's rows
   pub rows : (txn : Txn) → kept_voters (table.standing txn) ≡ kept.commits txn
   pub life : table.life ≡ kept.life
@@ -96,7 +96,7 @@ pub record Fits (db : Database) (kept : DeskContent) (table : Table) : Type 0 wh
   -- they were begun
   pub begun : (txn : Txn) → is_some (table.standing txn) ≡ true → IsBegun table txn
   -- each has to do with the sites of the database
-  pub sites : (txn : Txn) (standing : Standing) → table.standing txn ≡ Some standing → IsIn db standing
+  pub sites : (txn : Txn) (standing : TxnState) → table.standing txn ≡ Some standing → IsIn db standing
   -- so many are undecided
   pub counted : table.undecided ≡ open_among table.standing table.txns
   -- the limits are kept
@@ -105,7 +105,7 @@ pub record Fits (db : Database) (kept : DeskContent) (table : Table) : Type 0 wh
   pub low : (table.life < 2 ^ 63) × (table.number < 2 ^ 63)
 
 -- what stands behind transactions after a step of one of them
-abbrev pub settled : Txn → After → List (Txn × Standing) → List (Txn × Standing)
+abbrev pub settled : Txn → After → List (Txn × TxnState) → List (Txn × TxnState)
 settled txn Stays entries = entries
 settled txn Ends entries = remove_entry (is_at (txn_cmp txn)) entries
 settled txn (Becomes standing) entries = set_value (is_at (txn_cmp txn)) entries standing
@@ -115,7 +115,7 @@ abbrev pub notice_of : Notice → Name × Rattle.desk.specs.declared.reply.Reply
 notice_of notice = (txn_name notice.txn, notice.reply)
 
 -- a step of a transaction: the state after it is the protocol's, and so are the letters and the replies
-pub record Steps (db : Database) (before : Table) (kept : DeskContent) (after : Table) (txn : Txn) (wanted : protocol.Turn (language db)) (written : List Letter) (notices : List Notice) : Type 0 where
+pub record Steps (db : Database) (before : VolatileState) (kept : DeskContent) (after : VolatileState) (txn : Txn) (wanted : protocol.Transition (language db)) (written : List Letter) (notices : List Notice) : Type 0 where
   pub fits : Fits db kept after
   pub within : protocol.is_desk_within (desk_of db after) ≡ true
   pub state : desk_of db after ≡ protocol.desk_after (desk_of db before) (txn_name txn) wanted.txn
@@ -123,7 +123,7 @@ pub record Steps (db : Database) (before : Table) (kept : DeskContent) (after : 
   pub replies : map notice_of notices ≡ filter_map (told db) wanted.deeds
 
 -- a transaction begins: the state after it is the protocol's, and its client hears that it has begun
-pub record Begins (db : Database) (before : Table) (kept : DeskContent) (after : Table) (written : List Letter) (notices : List Notice) : Type 0 where
+pub record Begins (db : Database) (before : VolatileState) (kept : DeskContent) (after : VolatileState) (written : List Letter) (notices : List Notice) : Type 0 where
   pub fits : Fits db kept after
   pub within : protocol.is_desk_within (desk_of db after) ≡ true
   pub state : desk_of db after ≡ protocol.desk_began (desk_of db before)

@@ -7,15 +7,15 @@ use Rattle.store.specs.declared.name.Txn.{Txn}
 use Rattle.protocol.specs.Desk as protocol
 use Rattle.protocol.specs.Language.{put}
 use Rattle.protocol.specs.Letters.{name_of, txn_name}
-use Rattle.desk.specs.declared.spot.Spot.{Spot}
-use Rattle.desk.specs.declared.stepping.Step.{Step}
-use Rattle.desk.specs.declared.undecided.Stage.{Stage}
-use Rattle.desk.specs.declared.undecided.Stage.TheVariants as stage
-use Rattle.desk.specs.declared.undecided.Undecided.{Undecided}
+use Rattle.desk.specs.declared.participant.Participant.{Participant}
+use Rattle.desk.specs.declared.statement.Progress.{Progress}
+use Rattle.desk.specs.declared.transaction.Stage.{Stage}
+use Rattle.desk.specs.declared.transaction.Stage.TheVariants as stage
+use Rattle.desk.specs.declared.transaction.Undecided.{Undecided}
 use Rattle.desk.specs.Database.{Database, language, sent}
-use Rattle.desk.specs.Sending.{AsksAtHome, UnsentAtHome, asks_go, writes_go}
-use Rattle.desk.specs.Standing.{undecided_of}
-use Rattle.desk.specs.Turn.{told, told_to}
+use Rattle.desk.specs.Send.{AsksAtHome, UnsentAtHome, asks_go, writes_go}
+use Rattle.desk.specs.Transaction.{undecided_of}
+use Rattle.desk.specs.Transition.{told, told_to}
 
 -- the operations that a stage still sends have the sites of their leaves
 abbrev pub IsAtHome : Database → Stage → Type 0
@@ -31,17 +31,17 @@ ticketed db undecided site ticket =
     record old { ticket = put (pointwise nat_eq) site (Some (name_of ticket)) old.ticket }
 
 -- the step is the protocol's, and the transaction is still undecided
-pub record IsStep (db : Database) (txn : Txn) (new : Undecided) (step : Step) (wanted : protocol.Turn (language db)) : Type 0 where
+pub record IsProgress (db : Database) (txn : Txn) (new : Undecided) (step : Progress) (wanted : protocol.Transition (language db)) : Type 0 where
   pub stands : protocol.Known (undecided_of db new) ≡ wanted.txn
   pub letters : map (sent db) step.letters.items ≡ wanted.letters
   pub replies : told_to (txn_name txn) step.reply ≡ filter_map (told db) wanted.deeds
 
--- the spots after the operations that a stage still sends went out to these
-abbrev pub goes_to : Txn → List Spot → Stage → List Spot
-goes_to txn spots stage.Idle = spots
-goes_to txn spots (stage.Reading reading) = (asks_go txn reading.asks.items spots).spots
-goes_to txn spots (stage.Writing writing) = (writes_go txn writing.unsent.items spots).spots
-goes_to txn spots stage.Voting = spots
+-- the participants after the operations that a stage still sends went out to these
+abbrev pub goes_to : Txn → List Participant → Stage → List Participant
+goes_to txn participants stage.Idle = participants
+goes_to txn participants (stage.Reading reading) = (asks_go txn reading.asks.items participants).participants
+goes_to txn participants (stage.Writing writing) = (writes_go txn writing.unsent.items participants).participants
+goes_to txn participants stage.Voting = participants
 
 -- whether rows are waited for
 abbrev pub is_reading : Stage → Bool

@@ -13,23 +13,21 @@ ghost use Rattle.store.specs.Frame.{LeavesStore};
 ghost use Rattle.store.specs.declared.fault.StoreFault.TheVariants as store_faults;
 ghost use Rattle.store.specs.declared.reply.Reply.{Reply};
 ghost use Rattle.desk.specs.declared.refusal.Refusal.TheVariants as refusals;
-ghost use Rattle.desk.specs.Calls.{IsOver, refused_as, txn_in};
+ghost use Rattle.desk.specs.Request.{IsOver, refused_as, txn_in};
 ghost use Rattle.desk.specs.Database.{Database, language};
 ghost use Rattle.desk.specs.Does.{IsUnread, States, StatesPastLimits};
 ghost use Rattle.desk.specs.Frame.{RestartsDesk, TakesLetter};
 ghost use Rattle.desk.specs.OfCatalogue.{IsOfCatalogue};
-ghost use Rattle.desk.specs.Starting.{IsStrange, Rises};
-ghost use Rattle.desk.specs.State.{Begins, Fits, Steps, desk_of, table_of};
+ghost use Rattle.desk.specs.Recovery.{IsStrange, Rises};
+ghost use Rattle.desk.specs.State.{Begins, Fits, Steps, desk_of, volatile_of};
 
-use crate::calls::{call_begin, call_commit, call_give_up, call_rollback};
-use crate::opening::is_among;
-use crate::present::Present;
-use crate::receiving::{passed_over, take_on};
+use crate::receive::{may_send, on_reply, passed_over, take};
+use crate::recovery::{begin, restart};
 use crate::refusal::{Refusal, store_refusal};
 use crate::reply::Out;
-use crate::starting::{begin, restart};
-use crate::statements::call_statement;
-use crate::taking::{may_send, take};
+use crate::request::{call_begin, call_commit, call_give_up, call_rollback, call_statement};
+use crate::send::is_among;
+use crate::volatile::Volatile;
 use catalog::catalogue::Catalog;
 use std::alloc::Global;
 use store::commit::DeskKept;
@@ -44,7 +42,7 @@ use store::name::Txn;
 pub struct Desk<S: DeskStore> {
     store: S,
     catalog: Catalog,
-    present: Present,
+    volatile: Volatile,
 }
 
 /// A catalogue and a store whose coordinator didn't start, and why.
@@ -60,7 +58,7 @@ impl<S: DeskStore> Desk<S> {
     pub fn start(alloc: Global, catalog: Catalog, store: S) -> Result<Desk<S>, Unstarted<S>>
         ensures leaves_store { IfOk result (λ desk. LeavesStore S.is_clean S.is_sound S.refused store desk.store) }
         ensures learnt { IfOk result (λ desk. S.is_clean desk.store → S.is_sound store) }
-        ensures ok { (db : Database) → IfOk result (λ desk. S.is_clean desk.store → Rises db (S.kept desk.store) (table_of desk.present)) }
+        ensures ok { (db : Database) → IfOk result (λ desk. S.is_clean desk.store → Rises db (S.kept desk.store) (volatile_of desk.volatile)) }
         ensures life { IfOk result (λ desk. S.is_clean desk.store → BeginsLife (S.kept store) (S.kept desk.store)) }
         ensures catalog { IfOk result (λ desk. desk.catalog ≡ catalog) }
         ensures given_back { IfErr result (λ unstarted. unstarted.catalog ≡ catalog) }
@@ -76,7 +74,7 @@ impl<S: DeskStore> Desk<S> {
             Ok(begun) => Ok(Desk {
                 store,
                 catalog,
-                present: Present {
+                volatile: Volatile {
                     alloc,
                     standings: begun.standings,
                     undecided: 0,
@@ -94,76 +92,76 @@ impl<S: DeskStore> Desk<S> {
 
     /// A transaction begins. The reply names it.
     pub fn begin(&mut self) -> Result<Out, Refusal>
-        ensures ok { (db : Database) → IsOver db self.old.catalog.0 → Fits db (S.kept self.old.store) (table_of self.old.present)
-            → IfOk result (λ out. Begins db (table_of self.old.present) (S.kept self.new.store) (table_of self.new.present) out.letters out.replies) }
+        ensures ok { (db : Database) → IsOver db self.old.catalog.0 → Fits db (S.kept self.old.store) (volatile_of self.old.volatile)
+            → IfOk result (λ out. Begins db (volatile_of self.old.volatile) (S.kept self.new.store) (volatile_of self.new.volatile) out.letters out.replies) }
         ensures kept { IfOk result (λ out. out.kept ≡ true) }
         ensures own { IfErr result (λ told. (told ≡ refusals.Memory) ⊎ (told ≡ refusals.Full)) }
-        ensures full { (db : Database) → IsOver db self.old.catalog.0 → Fits db (S.kept self.old.store) (table_of self.old.present)
-            → IfErr result (λ told. (told ≡ refusals.Memory) ⊎ ((told ≡ refusals.Full) × (is_desk_within (desk_began (desk_of db (table_of self.old.present))) ≡ false))) }
-        ensures err { OnErr result (table_of self.new.present ≡ table_of self.old.present) }
+        ensures full { (db : Database) → IsOver db self.old.catalog.0 → Fits db (S.kept self.old.store) (volatile_of self.old.volatile)
+            → IfErr result (λ told. (told ≡ refusals.Memory) ⊎ ((told ≡ refusals.Full) × (is_desk_within (desk_began (desk_of db (volatile_of self.old.volatile))) ≡ false))) }
+        ensures err { OnErr result (volatile_of self.new.volatile ≡ volatile_of self.old.volatile) }
         ensures store { self.new.store ≡ self.old.store }
         ensures catalog { self.new.catalog ≡ self.old.catalog }
     {
-        call_begin(&mut self.present, self.catalog.sites())
+        call_begin(&mut self.volatile, self.catalog.sites())
     }
 
     /// The commit of a transaction is asked for: its first phase begins.
     pub fn commit(&mut self, txn: Txn) -> Result<Out, Refusal>
-        ensures ok { (db : Database) (choice : Choice (language db)) → IsOver db self.old.catalog.0 → Fits db (S.kept self.old.store) (table_of self.old.present)
-            → IfOk result (λ out. Steps db (table_of self.old.present) (S.kept self.new.store) (table_of self.new.present) txn (on_request (txn_name txn) choice Commit_call (txn_in db (table_of self.old.present) txn)) out.letters out.replies) }
+        ensures ok { (db : Database) (choice : Choice (language db)) → IsOver db self.old.catalog.0 → Fits db (S.kept self.old.store) (volatile_of self.old.volatile)
+            → IfOk result (λ out. Steps db (volatile_of self.old.volatile) (S.kept self.new.store) (volatile_of self.new.volatile) txn (on_request (txn_name txn) choice Commit_call (txn_in db (volatile_of self.old.volatile) txn)) out.letters out.replies) }
         ensures kept { IfOk result (λ out. out.kept ≡ true) }
-        ensures accepted { (db : Database) → OnOk result (refusal Commit_call (txn_in db (table_of self.old.present) txn) ≡ None) }
-        ensures told { (db : Database) → IfErr result (λ told. (told ≡ refusals.Memory) ⊎ (option_map refused_as (refusal Commit_call (txn_in db (table_of self.old.present) txn)) ≡ Some told)) }
-        ensures err { OnErr result (table_of self.new.present ≡ table_of self.old.present) }
+        ensures accepted { (db : Database) → OnOk result (refusal Commit_call (txn_in db (volatile_of self.old.volatile) txn) ≡ None) }
+        ensures told { (db : Database) → IfErr result (λ told. (told ≡ refusals.Memory) ⊎ (option_map refused_as (refusal Commit_call (txn_in db (volatile_of self.old.volatile) txn)) ≡ Some told)) }
+        ensures err { OnErr result (volatile_of self.new.volatile ≡ volatile_of self.old.volatile) }
         ensures store { self.new.store ≡ self.old.store }
         ensures catalog { self.new.catalog ≡ self.old.catalog }
     {
-        call_commit(&mut self.present, txn)
+        call_commit(&mut self.volatile, txn)
     }
 
     /// A transaction is rolled back.
     pub fn rollback(&mut self, txn: Txn) -> Result<Out, Refusal>
-        ensures ok { (db : Database) (choice : Choice (language db)) → IsOver db self.old.catalog.0 → Fits db (S.kept self.old.store) (table_of self.old.present)
-            → IfOk result (λ out. Steps db (table_of self.old.present) (S.kept self.new.store) (table_of self.new.present) txn (on_request (txn_name txn) choice Rollback (txn_in db (table_of self.old.present) txn)) out.letters out.replies) }
+        ensures ok { (db : Database) (choice : Choice (language db)) → IsOver db self.old.catalog.0 → Fits db (S.kept self.old.store) (volatile_of self.old.volatile)
+            → IfOk result (λ out. Steps db (volatile_of self.old.volatile) (S.kept self.new.store) (volatile_of self.new.volatile) txn (on_request (txn_name txn) choice Rollback (txn_in db (volatile_of self.old.volatile) txn)) out.letters out.replies) }
         ensures kept { IfOk result (λ out. out.kept ≡ true) }
-        ensures accepted { (db : Database) → OnOk result (refusal Rollback (txn_in db (table_of self.old.present) txn) ≡ None) }
-        ensures told { (db : Database) → IfErr result (λ told. (told ≡ refusals.Memory) ⊎ (option_map refused_as (refusal Rollback (txn_in db (table_of self.old.present) txn)) ≡ Some told)) }
-        ensures err { OnErr result (table_of self.new.present ≡ table_of self.old.present) }
+        ensures accepted { (db : Database) → OnOk result (refusal Rollback (txn_in db (volatile_of self.old.volatile) txn) ≡ None) }
+        ensures told { (db : Database) → IfErr result (λ told. (told ≡ refusals.Memory) ⊎ (option_map refused_as (refusal Rollback (txn_in db (volatile_of self.old.volatile) txn)) ≡ Some told)) }
+        ensures err { OnErr result (volatile_of self.new.volatile ≡ volatile_of self.old.volatile) }
         ensures store { self.new.store ≡ self.old.store }
         ensures catalog { self.new.catalog ≡ self.old.catalog }
     {
-        call_rollback(&mut self.present, txn)
+        call_rollback(&mut self.volatile, txn)
     }
 
     /// A transaction is given up. One that isn't undecided stays as it is.
     pub fn give_up(&mut self, txn: Txn) -> Result<Out, Refusal>
-        ensures ok { (db : Database) (choice : Choice (language db)) → IsOver db self.old.catalog.0 → Fits db (S.kept self.old.store) (table_of self.old.present)
-            → IfOk result (λ out. Steps db (table_of self.old.present) (S.kept self.new.store) (table_of self.new.present) txn (on_request (txn_name txn) choice Give_up (txn_in db (table_of self.old.present) txn)) out.letters out.replies) }
+        ensures ok { (db : Database) (choice : Choice (language db)) → IsOver db self.old.catalog.0 → Fits db (S.kept self.old.store) (volatile_of self.old.volatile)
+            → IfOk result (λ out. Steps db (volatile_of self.old.volatile) (S.kept self.new.store) (volatile_of self.new.volatile) txn (on_request (txn_name txn) choice Give_up (txn_in db (volatile_of self.old.volatile) txn)) out.letters out.replies) }
         ensures kept { IfOk result (λ out. out.kept ≡ true) }
         ensures own { IfErr result (λ told. told ≡ refusals.Memory) }
-        ensures err { OnErr result (table_of self.new.present ≡ table_of self.old.present) }
+        ensures err { OnErr result (volatile_of self.new.volatile ≡ volatile_of self.old.volatile) }
         ensures store { self.new.store ≡ self.old.store }
         ensures catalog { self.new.catalog ≡ self.old.catalog }
     {
-        call_give_up(&mut self.present, txn)
+        call_give_up(&mut self.volatile, txn)
     }
 
     /// A statement of a transaction, by its text. The text is read under the catalogue's schema; one of BEGIN, COMMIT or ROLLBACK
     /// is no statement's. After a refusal nothing has changed.
     pub fn statement(&mut self, txn: Txn, text: &str) -> Result<Out, Refusal>
-        ensures ok { (db : Database) → IsOfCatalogue db → db.catalogue ≡ catalogue_of self.old.catalog → Fits db (S.kept self.old.store) (table_of self.old.present)
-            → IfOk result (λ out. States db (table_of self.old.present) (S.kept self.new.store) (table_of self.new.present) txn text.now out.letters out.replies) }
+        ensures ok { (db : Database) → IsOfCatalogue db → db.catalogue ≡ catalogue_of self.old.catalog → Fits db (S.kept self.old.store) (volatile_of self.old.volatile)
+            → IfOk result (λ out. States db (volatile_of self.old.volatile) (S.kept self.new.store) (volatile_of self.new.volatile) txn text.now out.letters out.replies) }
         ensures kept { IfOk result (λ out. out.kept ≡ true) }
-        ensures accepted { (db : Database) (statement : Statement) → OnOk result (refusal (State statement) (txn_in db (table_of self.old.present) txn) ≡ None) }
-        ensures told { (db : Database) (statement : Statement) → IfErr result (λ told. (told ≡ refusals.Memory) ⊎ (option_map refused_as (refusal (State statement) (txn_in db (table_of self.old.present) txn)) ≡ Some told)
-            ⊎ ((refusal (State statement) (txn_in db (table_of self.old.present) txn) ≡ None) × (IsUnread (schemas_of (catalogue_of self.old.catalog)) text.now told ⊎ (told ≡ refusals.Full)))) }
-        ensures full { (db : Database) → IsOfCatalogue db → db.catalogue ≡ catalogue_of self.old.catalog → Fits db (S.kept self.old.store) (table_of self.old.present) → result ≡ Err refusals.Full
-            → StatesPastLimits db (table_of self.old.present) txn text.now }
-        ensures err { OnErr result (table_of self.new.present ≡ table_of self.old.present) }
+        ensures accepted { (db : Database) (statement : Statement) → OnOk result (refusal (State statement) (txn_in db (volatile_of self.old.volatile) txn) ≡ None) }
+        ensures told { (db : Database) (statement : Statement) → IfErr result (λ told. (told ≡ refusals.Memory) ⊎ (option_map refused_as (refusal (State statement) (txn_in db (volatile_of self.old.volatile) txn)) ≡ Some told)
+            ⊎ ((refusal (State statement) (txn_in db (volatile_of self.old.volatile) txn) ≡ None) × (IsUnread (schemas_of (catalogue_of self.old.catalog)) text.now told ⊎ (told ≡ refusals.Full)))) }
+        ensures full { (db : Database) → IsOfCatalogue db → db.catalogue ≡ catalogue_of self.old.catalog → Fits db (S.kept self.old.store) (volatile_of self.old.volatile) → result ≡ Err refusals.Full
+            → StatesPastLimits db (volatile_of self.old.volatile) txn text.now }
+        ensures err { OnErr result (volatile_of self.new.volatile ≡ volatile_of self.old.volatile) }
         ensures store { self.new.store ≡ self.old.store }
         ensures catalog { self.new.catalog ≡ self.old.catalog }
     {
-        call_statement(&mut self.present, &self.catalog, txn, text)
+        call_statement(&mut self.volatile, &self.catalog, txn, text)
     }
 
     /// A letter comes. One of a site that the catalogue doesn't have, and one that no site sends, are passed over.
@@ -179,16 +177,16 @@ impl<S: DeskStore> Desk<S> {
         ensures takes { TakesLetter S.is_clean S.is_sound S.kept S.refused self.old self.new letter.now kept result }
     {
         let Body::Reply(reply) = &letter.body else {
-            return Ok(passed_over(self.present.alloc));
+            return Ok(passed_over(self.volatile.alloc));
         };
         if !is_among(&letter.site, self.catalog.sites()) {
-            return Ok(passed_over(self.present.alloc));
+            return Ok(passed_over(self.volatile.alloc));
         }
         let (txn, site) = (letter.txn, &letter.site);
-        if may_send(self.present.standing(&txn), site, reply) {
-            return take_on(&mut self.present, &self.catalog, txn, site, reply);
+        if may_send(self.volatile.standing(&txn), site, reply) {
+            return on_reply(&mut self.volatile, &self.catalog, txn, site, reply);
         }
-        take(&mut self.store, &mut self.present, txn, site, reply, kept)
+        take(&mut self.store, &mut self.volatile, txn, site, reply, kept)
     }
 
     /// Restarts: undecided transactions abort and acknowledgements are lost, the next life begins, and who
@@ -210,7 +208,7 @@ impl<S: DeskStore> Desk<S> {
         if !kept {
             return Err(Refusal::Store(StoreFault::Refused));
         }
-        restart(&mut self.store, &mut self.present)
+        restart(&mut self.store, &mut self.volatile)
     }
 
     /// All that the store keeps.
@@ -219,7 +217,7 @@ impl<S: DeskStore> Desk<S> {
         ensures learnt { S.is_clean self.new.store → OnOk result (S.is_sound self.old.store) }
         ensures all { S.is_clean self.new.store → IfOk result (Lists (S.kept self.new.store)) }
         ensures same { S.is_clean self.new.store → S.is_sound self.old.store → IsUnchanged (S.kept self.old.store) (S.kept self.new.store) }
-        ensures memory { self.new.present ≡ self.old.present }
+        ensures memory { self.new.volatile ≡ self.old.volatile }
         ensures refusal { result ≡ Err (refusals.Store store_faults.Refused) → HasRefused (S.refused self.old.store) (S.refused self.new.store) }
         ensures intact { S.is_clean self.new.store → S.is_sound self.old.store → result ≢ Err (refusals.Store store_faults.Damaged) }
         ensures own { IfErr result (λ told. (told ≡ refusals.Memory) ⊎ (told ≡ refusals.Store store_faults.Refused) ⊎ (told ≡ refusals.Store store_faults.Damaged)) }

@@ -1,6 +1,6 @@
 -- Why `begin` meets its contract.
 use Rattle.std.proofs.Common.{sym, subst}
-use Rattle.desk.specs.Calls.{IsOver}
+use Rattle.desk.specs.Request.{IsOver}
 use Rattle.desk.proofs.desk.Desk.begin.Goals as goal
 
 pub returns-clause-full : goal.returns-clause-full

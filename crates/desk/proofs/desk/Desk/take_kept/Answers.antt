@@ -8,11 +8,11 @@ use Rattle.store.specs.declared.letter.Body.TheVariants as body
 use Rattle.protocol.specs.Desk.{on_desk_letter}
 use Rattle.protocol.specs.Letters.{txn_name}
 use Rattle.desk.specs.Called.{CallsStore}
-use Rattle.desk.specs.Calls.{txn_in}
+use Rattle.desk.specs.Request.{txn_in}
 use Rattle.desk.specs.Database.{language, replied}
 use Rattle.desk.specs.Does.{IsPastLimits, Takes}
-use Rattle.desk.specs.State.{table_of}
-use Rattle.desk.specs.Taking.{may_send}
+use Rattle.desk.specs.State.{volatile_of}
+use Rattle.desk.specs.Receive.{may_send}
 use Rattle.desk.proofs.Called.{no_call, steps_as}
 use Rattle.desk.proofs.Quiet.{among_there, may_be_memory, memory_is_not_full, loud_takes, not_strange, quiet_takes, said_is}
 use Rattle.desk.proofs.desk.Desk.take_kept.Goals as goal
@@ -40,16 +40,16 @@ returns-then-not-is_among g c = record {
 pub returns-then-may_send : goal.returns-then-may_send
 returns-then-may_send g c = record {
   takes = record {
-    store = no_call c.args.self.now.store _ c.take_on.ensures.kept;
+    store = no_call c.args.self.now.store _ c.on_reply.ensures.kept;
     ok = λ db reply of same clean sound fits says among.
         let letter = c.args.letter.now in
         let said = c.in-Reply.reply in
-        let present = c.args.self.now.present in
+        let volatile = c.args.self.now.volatile in
         let kept = g.S.DeskStore.kept c.args.self.now.store in
         let here : letter.body ≡ body.Reply said = search rules in
         let is : said ≡ reply = said_is (sym here ∙ says) in
-        subst (λ x. IfOk c.take_on.result (λ out. Takes db (table_of present) kept (table_of c.take_on.new.present) letter.txn (λ choice. on_desk_letter (txn_name letter.txn) letter.site out.kept choice (replied db x) (txn_in db (table_of present) letter.txn)) out.letters out.replies)) is
-        (loud_takes db (table_of present) kept (table_of c.take_on.new.present) letter.txn letter.site said c.take_on.result c.take_on.ensures.kept (c.take_on.ensures.ok db kept of same fits among));
+        subst (λ x. IfOk c.on_reply.result (λ out. Takes db (volatile_of volatile) kept (volatile_of c.on_reply.new.volatile) letter.txn (λ choice. on_desk_letter (txn_name letter.txn) letter.site out.kept choice (replied db x) (txn_in db (volatile_of volatile) letter.txn)) out.letters out.replies)) is
+        (loud_takes db (volatile_of volatile) kept (volatile_of c.on_reply.new.volatile) letter.txn letter.site said c.on_reply.result c.on_reply.ensures.kept (c.on_reply.ensures.ok db kept of same fits among));
     strange = λ strange.
         let letter = c.args.letter.now in
         let said = c.in-Reply.reply in
@@ -62,23 +62,23 @@ returns-then-may_send g c = record {
         let here : letter.body ≡ body.Reply said = search rules in
         let among : list_any (λ other. pointwise nat_eq other letter.site) c.args.self.now.catalog.0 ≡ true = search rules in
         absurd (not_strange c.args.self.now.catalog.0 letter said here among strange);
-    own = c.take_on.ensures.own;
+    own = c.on_reply.ensures.own;
     full = λ db reply of same fits says among full.
         let letter = c.args.letter.now in
         let said = c.in-Reply.reply in
-        let present = c.args.self.now.present in
+        let volatile = c.args.self.now.volatile in
         let here : letter.body ≡ body.Reply said = search rules in
         let is : said ≡ reply = said_is (sym here ∙ says) in
-        subst (λ x. IsPastLimits db (table_of present) letter.txn (λ choice. on_desk_letter (txn_name letter.txn) letter.site true choice (replied db x) (txn_in db (table_of present) letter.txn))) is
-        (c.take_on.ensures.full db (g.S.DeskStore.kept c.args.self.now.store) of same fits among full);
+        subst (λ x. IsPastLimits db (volatile_of volatile) letter.txn (λ choice. on_desk_letter (txn_name letter.txn) letter.site true choice (replied db x) (txn_in db (volatile_of volatile) letter.txn))) is
+        (c.on_reply.ensures.full db (g.S.DeskStore.kept c.args.self.now.store) of same fits among full);
     full_at = λ reply says full.
         let letter = c.args.letter.now in
         let said = c.in-Reply.reply in
         let here : letter.body ≡ body.Reply said = search rules in
         let is : said ≡ reply = said_is (sym here ∙ says) in
-        let sends : may_send ((table_of c.args.self.now.present).standing letter.txn) letter.site said ≡ true = search rules in
-        subst (λ x. may_send ((table_of c.args.self.now.present).standing letter.txn) letter.site x ≡ true) is sends;
-    err = c.take_on.ensures.err;
+        let sends : may_send ((volatile_of c.args.self.now.volatile).standing letter.txn) letter.site said ≡ true = search rules in
+        subst (λ x. may_send ((volatile_of c.args.self.now.volatile).standing letter.txn) letter.site x ≡ true) is sends;
+    err = c.on_reply.ensures.err;
     catalog = refl;
   };
 }
@@ -91,18 +91,18 @@ returns g c = record {
         let said = c.in-Reply.reply in
         let here : letter.body ≡ body.Reply said = search rules in
         let is : said ≡ reply = said_is (sym here ∙ says) in
-        subst (λ x. CallsStore {L = language db} letter.site (replied db x) (txn_in db (table_of c.args.self.now.present) letter.txn)) is (called db (subst AreDistinct (sym of.sites) of.formed.distinct) fits)) c.take.ensures.store;
+        subst (λ x. CallsStore {L = language db} letter.site (replied db x) (txn_in db (volatile_of c.args.self.now.volatile) letter.txn)) is (called db (subst AreDistinct (sym of.sites) of.formed.distinct) fits)) c.take.ensures.store;
     ok = λ db reply of same clean sound fits says among.
         let letter = c.args.letter.now in
         let said = c.in-Reply.reply in
-        let present = c.args.self.now.present in
+        let volatile = c.args.self.now.volatile in
         let new = g.S.DeskStore.kept c.take.new.store in
         let here : letter.body ≡ body.Reply said = search rules in
         let is : said ≡ reply = said_is (sym here ∙ says) in
-        let rests : may_send ((table_of present).standing letter.txn) letter.site said ≡ false = search rules in
+        let rests : may_send ((volatile_of volatile).standing letter.txn) letter.site said ≡ false = search rules in
         let distinct : AreDistinct db.sites = subst AreDistinct (sym of.sites) of.formed.distinct in
-        subst (λ x. IfOk c.take.result (λ out. Takes db (table_of present) new (table_of c.take.new.present) letter.txn (λ choice. on_desk_letter (txn_name letter.txn) letter.site out.kept choice (replied db x) (txn_in db (table_of present) letter.txn)) out.letters out.replies)) is
-        (quiet_takes db (table_of present) new (table_of c.take.new.present) letter.txn letter.site said rests c.take.result (λ choice. c.take.ensures.ok db choice distinct clean sound fits));
+        subst (λ x. IfOk c.take.result (λ out. Takes db (volatile_of volatile) new (volatile_of c.take.new.volatile) letter.txn (λ choice. on_desk_letter (txn_name letter.txn) letter.site out.kept choice (replied db x) (txn_in db (volatile_of volatile) letter.txn)) out.letters out.replies)) is
+        (quiet_takes db (volatile_of volatile) new (volatile_of c.take.new.volatile) letter.txn letter.site said rests c.take.result (λ choice. c.take.ensures.ok db choice distinct clean sound fits));
     strange = λ strange.
         let letter = c.args.letter.now in
         let said = c.in-Reply.reply in

@@ -1,9 +1,0 @@
--- Why `writes_step` meets its contract.
-use Rattle.std.proofs.Common.{rules, ◌∙◌, sym}
-use Rattle.std.proofs.lemmas.Fn.{filter_same}
-use Rattle.desk.specs.Sending.{waits_in}
-use Rattle.desk.proofs.Operations.{left_waiting}
-use Rattle.desk.proofs.asking.writes_step.Goals as goal
-
-pub returns-clause-left : goal.returns-clause-left
-returns-clause-left c = filter_same _ (waits_in c.args.spots.now) _ (λ x b f' k. search rules) _ _ c.retain.ensures.filtered ∙ sym (left_waiting c.args.txn c.args.unsent.now.items c.args.spots.now)

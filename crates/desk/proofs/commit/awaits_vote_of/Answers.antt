@@ -1,0 +1,13 @@
+-- Why `awaits_vote_of` meets its contract.
+use Rattle.std.proofs.Common.{sym, ap, ◌∙◌}
+use Rattle.std.specs.Option.{option_copied}
+use Rattle.desk.specs.Commit.{awaits_vote}
+use Rattle.desk.proofs.Counted.{participant_found, participant_missing}
+use Rattle.desk.proofs.commit.awaits_vote_of.Goals as goal
+
+pub returns-in-Some : goal.returns-in-Some
+returns-in-Some c =
+    c.awaits_vote.ensures ∙ ap (awaits_vote c.args.ticket.now) (sym (participant_found c.args.site.now c.args.participants.now c.in-Some.participant.now (sym c.find_participant.ensures ∙ ap option_copied c.in-Some.is)))
+
+pub returns-in-None : goal.returns-in-None
+returns-in-None c = sym (ap (awaits_vote c.args.ticket.now) (participant_missing c.args.site.now c.args.participants.now (sym c.find_participant.ensures ∙ ap option_copied c.in-None.is)))

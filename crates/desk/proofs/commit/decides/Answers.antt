@@ -1,0 +1,43 @@
+-- Why `decides` meets its contract.
+use Rattle.std.proofs.Common.{map, refl, sym, ap, ◌∙◌, subst, Ok}
+use Rattle.terms.specs.declared.memory.Memory.{Memory}
+use Rattle.store.specs.DeskContent.{AreVoters}
+use Rattle.protocol.specs.Desk.{Row}
+use Rattle.desk.specs.Database.{sent}
+use Rattle.desk.specs.Transaction.{undecided_of, voter_of}
+use Rattle.desk.specs.Transition.{voting}
+use Rattle.desk.specs.Acknowledge.{commit_letters}
+use Rattle.desk.proofs.Acknowledged.{unchanged}
+use Rattle.desk.proofs.Decisions.{commits_is, ended_keeps, keeps_row, kept_is, unkept_is}
+use Rattle.desk.proofs.commit.decides.Goals as goal
+
+pub returns-then-not-kept-clause-turn : goal.returns-then-not-kept-clause-turn
+returns-then-not-kept-clause-turn g c = λ db old are some.
+    unkept_is db c.args.txn old (undecided_of db (voting c.args.participants.now)) c.args.voters.items some {E = Memory} (Ok c.in_ok-aborts.aborts) (c.in_ok-aborts.ensures.turn db old are) c.in_ok-aborts.ensures.kept
+
+pub returns-then-not-kept-clause-keeps : goal.returns-then-not-kept-clause-keeps
+returns-then-not-kept-clause-keeps g c = λ old are clean sound none.
+    let kept = g.S.DeskStore.kept c.args.store.now in
+    ended_keeps c.args.txn old kept kept none (unchanged kept) {E = Memory} (Ok c.in_ok-aborts.aborts) c.in_ok-aborts.ensures.after
+
+pub returns-in-Ok-clause-turn : goal.returns-in-Ok-clause-turn
+returns-in-Ok-clause-turn g c = λ db old are some.
+    kept_is db c.args.txn old (undecided_of db (voting c.args.participants.now)) c.args.voters.items _ some
+    (record {
+      stands = λ i. Row (map voter_of (c.new.ensures i)) (map voter_of ((c.new-in-Ok-2.ensures ∙ c.new-in-Ok.ensures.items) i));
+      letters = ap (map (sent db)) (c.in_ok-letters.ensures ∙ ap (commit_letters c.args.txn) c.deref.ensures.value) ∙ commits_is db c.args.txn c.args.voters.items;
+      replies = refl;
+    })
+
+pub returns-in-Ok-clause-keeps : goal.returns-in-Ok-clause-keeps
+returns-in-Ok-clause-keeps g c = λ old are clean sound none.
+    keeps_row c.args.txn (g.S.DeskStore.kept c.args.store.now) (g.S.DeskStore.kept c.keep_commit.new.self) _ _ (c.deref-2.ensures.value ∙ sym c.new.ensures)
+    (c.in-Ok.ensures.ok clean sound none (subst AreVoters (sym c.deref-2.ensures.value) are))
+
+pub returns-clause-turn : goal.returns-clause-turn
+returns-clause-turn g c = λ db old are some.
+    unkept_is db c.args.txn old (undecided_of db (voting c.args.participants.now)) c.args.voters.items some {E = Memory} (Ok c.in_ok-aborts.aborts) (c.in_ok-aborts.ensures.turn db old are) c.in_ok-aborts.ensures.kept
+
+pub returns-clause-keeps : goal.returns-clause-keeps
+returns-clause-keeps g c = λ old are clean sound none.
+    ended_keeps c.args.txn old (g.S.DeskStore.kept c.args.store.now) (g.S.DeskStore.kept c.keep_commit.new.self) none (c.in-Err.ensures.fails.err clean sound) {E = Memory} (Ok c.in_ok-aborts.aborts) c.in_ok-aborts.ensures.after

@@ -1,0 +1,68 @@
+-- Why `on_vote` meets its contract.
+use Rattle.std.proofs.Common.{Some, sym, ◌∙◌, ◌≡◌, map, refl, true}
+use Rattle.protocol.specs.Desk.{Aborted, By_vote}
+use Rattle.protocol.specs.Letters.{txn_name}
+use Rattle.desk.specs.declared.transaction.TxnState.TheVariants as standing
+use Rattle.desk.specs.declared.transaction.Stage.TheVariants.{Voting}
+use Rattle.desk.specs.Commit.{counts_vote}
+use Rattle.desk.specs.Participants.{changed_at, sites_of, with_vote}
+use Rattle.desk.proofs.Acknowledged.{turn_as, unchanged}
+use Rattle.desk.proofs.Called.{steps_as, vote_calls}
+use Rattle.desk.proofs.Counted.{at_same, copied_vote, no_turn, vote_lost, vote_turn, voted_are, voted_sites}
+use Rattle.desk.proofs.Decisions.{ended_keeps}
+use Rattle.desk.proofs.commit.on_vote.Goals as goal
+
+pub returns-then-not-counts-clause-turn : goal.returns-then-not-counts-clause-turn
+returns-then-not-counts-clause-turn g c = λ db choice are.
+    let u = c.args.undecided.now in
+    turn_as db c.args.txn (Some (standing.Undecided u)) c.stays.result _ _
+    (vote_lost db (txn_name c.args.txn) u c.args.site.now c.args.voted.ticket c.args.voted.vote choice c.stays.result.kept (sym c.counts.ensures ∙ c.if-not-counts.true))
+    (c.stays.ensures.turn db c.args.txn (Some (standing.Undecided u)))
+
+pub returns-then-is_no-clause-turn : goal.returns-then-is_no-clause-turn
+returns-then-is_no-clause-turn g c = λ db choice are.
+    let u = c.args.undecided.now in
+    let here = Some (standing.Undecided u) in
+    let counts : counts_vote u c.args.site.now c.args.voted.ticket ≡ true = sym c.counts.ensures ∙ c.if-not-counts.false in
+    let same : c.deref.result.now ≡ map (changed_at c.args.site.now (with_vote (Some c.args.voted.vote))) u.participants = copied_vote c.args.site.now c.args.voted.vote c.deref.result.now c.in_ok-participants.participants.items c.as_slice.result.now u.participants c.deref.ensures.value c.in_ok-participants.ensures c.as_slice.ensures in
+    no_turn db c.args.txn u c.args.site.now c.args.voted.ticket c.args.voted.vote choice are counts c.deref.result.now same here c.ends.result (sym c.is_no.ensures ∙ c.if-is_no.true)
+    (c.ends.ensures.turn db here Voting (Aborted (txn_name c.args.txn) By_vote)
+    (voted_are db u.participants c.args.site.now c.args.voted.vote are c.deref.result.now same) refl refl)
+
+pub returns-then-is_no-clause-keeps : goal.returns-then-is_no-clause-keeps
+returns-then-is_no-clause-keeps g c = λ db are clean sound none.
+    let kept = g.S.DeskStore.kept c.args.store.now in
+    ended_keeps c.args.txn (Some (standing.Undecided c.args.undecided.now)) kept kept none (unchanged kept) c.ends.result c.ends.ensures.after
+
+pub returns-clause-turn : goal.returns-clause-turn
+returns-clause-turn g c = λ db choice are.
+    let u = c.args.undecided.now in
+    let here = Some (standing.Undecided u) in
+    let counts : counts_vote u c.args.site.now c.args.voted.ticket ≡ true = sym c.counts.ensures ∙ c.if-not-counts.false in
+    let same : c.in_ok-participants.participants.items ≡ map (changed_at c.args.site.now (with_vote (Some c.args.voted.vote))) u.participants = copied_vote c.args.site.now c.args.voted.vote c.in_ok-participants.participants.items c.in_ok-participants.participants.items c.as_slice.result.now c.args.undecided.now.participants refl c.in_ok-participants.ensures c.as_slice.ensures in
+    vote_turn db c.args.txn u c.args.site.now c.args.voted.ticket c.args.voted.vote choice are counts c.in_ok-participants.participants.items same here c.votes_go.result (sym c.is_no.ensures ∙ c.if-is_no.false)
+    (c.votes_go.ensures.turn db here (voted_are db u.participants c.args.site.now c.args.voted.vote are c.in_ok-participants.participants.items same))
+
+pub returns-clause-keeps : goal.returns-clause-keeps
+returns-clause-keeps g c = λ db are clean sound none.
+    let u = c.args.undecided.now in
+    let same : c.in_ok-participants.participants.items ≡ map (changed_at c.args.site.now (with_vote (Some c.args.voted.vote))) u.participants = copied_vote c.args.site.now c.args.voted.vote c.in_ok-participants.participants.items c.in_ok-participants.participants.items c.as_slice.result.now c.args.undecided.now.participants refl c.in_ok-participants.ensures c.as_slice.ensures in
+    c.votes_go.ensures.keeps db (Some (standing.Undecided u))
+    (voted_are db u.participants c.args.site.now c.args.voted.vote are c.in_ok-participants.participants.items same)
+    refl clean sound none
+
+pub returns-clause-sites : goal.returns-clause-sites
+returns-clause-sites g c =
+    at_same c.votes_go.result (sites_of c.in_ok-participants.participants.items) (sites_of c.args.undecided.now.participants)
+    (voted_sites c.args.site.now c.args.voted.vote c.args.undecided.now.participants c.in_ok-participants.participants.items (copied_vote c.args.site.now c.args.voted.vote c.in_ok-participants.participants.items c.in_ok-participants.participants.items c.as_slice.result.now c.args.undecided.now.participants refl c.in_ok-participants.ensures c.as_slice.ensures))
+    c.votes_go.ensures.sites
+
+pub returns-clause-store : goal.returns-clause-store
+returns-clause-store g c =
+    let u = c.args.undecided.now in
+    let counts : counts_vote u c.args.site.now c.args.voted.ticket ≡ true = sym c.counts.ensures ∙ c.if-not-counts.false in
+    let same : c.in_ok-participants.participants.items ≡ map (changed_at c.args.site.now (with_vote (Some c.args.voted.vote))) u.participants = copied_vote c.args.site.now c.args.voted.vote c.in_ok-participants.participants.items c.in_ok-participants.participants.items c.as_slice.result.now c.args.undecided.now.participants refl c.in_ok-participants.ensures c.as_slice.ensures in
+    steps_as (λ called db are.
+    vote_calls db u c.args.site.now c.args.voted.ticket c.args.voted.vote counts (sym c.is_no.ensures ∙ c.if-is_no.false) c.in_ok-participants.participants.items same
+    (called db (voted_are db u.participants c.args.site.now c.args.voted.vote are c.in_ok-participants.participants.items same)))
+    c.votes_go.ensures.store

@@ -1,0 +1,77 @@
+-- Why `rows_come` meets its contract.
+use Rattle.std.proofs.Common.{rules, ◌≡◌, refl, true, false, sym, ap, ◌∙◌, map}
+use Rattle.catalog.specs.Relation.{catalogue_of}
+use Rattle.protocol.specs.Letters.{txn_name}
+use Rattle.desk.specs.declared.transaction.Stage.TheVariants as stages
+use Rattle.desk.specs.Commit.{is_first}
+use Rattle.desk.specs.Fetches.{are_in, are_in_with, with_rows}
+use Rattle.desk.specs.Participants.{participant_in}
+use Rattle.desk.specs.Transaction.{ask_of}
+use Rattle.desk.proofs.Arriving.{in_with}
+use Rattle.desk.proofs.Doing.{planned_given_by, rows_strange, rows_unread, rows_wait_by, works_rows}
+use Rattle.desk.proofs.Full.{rows_long}
+use Rattle.desk.proofs.PastLimit.{writes_past}
+use Rattle.desk.specs.Statement.{write_sites}
+use Rattle.desk.proofs.receive.rows_come.Goals as goal
+
+pub returns-then-not-gave_first-clause-does : goal.returns-then-not-gave_first-clause-does
+returns-then-not-gave_first-clause-does c = λ db of same are known.
+    let u = c.args.undecided.now in
+    let other : is_first c.args.rows.now.ticket (participant_in c.args.site.now u.participants).ticket ≡ false = search rules in
+    rows_strange db c.args.txn u c.args.site.now c.args.rows.now u c.no_progress.result other (λ i. u) (search rules) (search rules) known
+
+pub returns-in_default : goal.returns-in_default
+returns-in_default c = record {
+  does = λ db of same are known.
+      let u = c.args.undecided.now in
+      rows_unread db c.args.txn u c.args.site.now c.args.rows.now u c.no_progress-in_default.result (search rules) (λ i. u) (search rules) (search rules) known;
+  short = λ short. short;
+  full = λ db of same are known full. cc;
+  same = tt;
+}
+
+pub returns-then-not-are_in_with-clause-does : goal.returns-then-not-are_in_with-clause-does
+returns-then-not-are_in_with-clause-does c = λ db of same are known.
+    let u = c.args.undecided.now in
+    let reading = c.in-Reading.reading in
+    let here : u.stage ≡ stages.Reading reading = search rules in
+    let first : is_first c.args.rows.now.ticket (participant_in c.args.site.now u.participants).ticket ≡ true = search rules in
+    let list = map (with_rows (catalogue_of c.args.catalog.now) c.args.site.now c.args.rows.now.op c.args.rows.now.parts) reading.asks.items in
+    let less : are_in_with (catalogue_of c.args.catalog.now) c.args.site.now c.args.rows.now.op c.args.rows.now.parts reading.asks.items ≡ false = search rules in
+    let more = sym (in_with (catalogue_of c.args.catalog.now) c.args.site.now c.args.rows.now.op c.args.rows.now.parts reading.asks.items) ∙ less in
+    rows_wait_by db c.args.txn u _ c.args.site.now c.args.rows.now of c.leaf_names_are_unique.ensures reading here first known (catalogue_of c.args.catalog.now) same list refl more (record { statement = reading.statement; plan = reading.plan; asks = c.bring.new.asks }) refl refl (search rules) (search rules) (search rules) c.no_progress-then-not-are_in_with.result (search rules) (search rules)
+
+pub returns-clause-does : goal.returns-clause-does
+returns-clause-does c = λ db of same are known.
+    let u = c.args.undecided.now in
+    let reading = c.in-Reading.reading in
+    let worked = c.in_ok-worked.worked in
+    let here : u.stage ≡ stages.Reading reading = search rules in
+    let first : is_first c.args.rows.now.ticket (participant_in c.args.site.now u.participants).ticket ≡ true = search rules in
+    let list : c.in_ok-asks.asks.items ≡ map (with_rows (catalogue_of c.args.catalog.now) c.args.site.now c.args.rows.now.op c.args.rows.now.parts) reading.asks.items = search rules in
+    let full_in : are_in_with (catalogue_of c.args.catalog.now) c.args.site.now c.args.rows.now.op c.args.rows.now.parts reading.asks.items ≡ true = search rules in
+    let all = ap are_in list ∙ sym (in_with (catalogue_of c.args.catalog.now) c.args.site.now c.args.rows.now.op c.args.rows.now.parts reading.asks.items) ∙ full_in in
+    let here_list = list ∙ ap (λ cat. map (with_rows cat c.args.site.now c.args.rows.now.op c.args.rows.now.parts) reading.asks.items) (sym same) in
+    let slice = c.as_slice-4.ensures.value ∙ here_list in
+    let home = c.in_ok-worked.ensures.home db of same in
+    let have = c.in_ok-worked.ensures.participants db u.participants of same are.sites in
+    let planned = planned_given_by db c.args.txn u c.args.site.now c.args.rows.now of c.leaf_names_are_unique.ensures reading here first known c.as_slice-4.result.now slice in
+    works_rows db c.args.txn u c.works.new.undecided c.args.site.now c.args.rows.now of c.leaf_names_are_unique.ensures reading here first known c.as_slice-4.result.now slice (ap are_in c.as_slice-4.ensures.value ∙ all) worked.answer worked.unsent.items
+    (c.in_ok-worked.ensures.explained db (txn_name c.args.txn) of same planned) c.works.result (c.works.ensures.step db reading.statement _ are have home) (c.works.ensures.within db are.sites home)
+
+pub returns-clause-full : goal.returns-clause-full
+returns-clause-full c = λ db of same are known full.
+    let u = c.args.undecided.now in
+    let reading = c.in-Reading.reading in
+    let worked = c.in_ok-worked.worked in
+    let here : u.stage ≡ stages.Reading reading = search rules in
+    let first : is_first c.args.rows.now.ticket (participant_in c.args.site.now u.participants).ticket ≡ true = search rules in
+    let list : c.in_ok-asks.asks.items ≡ map (with_rows (catalogue_of c.args.catalog.now) c.args.site.now c.args.rows.now.op c.args.rows.now.parts) reading.asks.items = search rules in
+    let full_in : are_in_with (catalogue_of c.args.catalog.now) c.args.site.now c.args.rows.now.op c.args.rows.now.parts reading.asks.items ≡ true = search rules in
+    let all = ap are_in list ∙ sym (in_with (catalogue_of c.args.catalog.now) c.args.site.now c.args.rows.now.op c.args.rows.now.parts reading.asks.items) ∙ full_in in
+    let here_list = list ∙ ap (λ cat. map (with_rows cat c.args.site.now c.args.rows.now.op c.args.rows.now.parts) reading.asks.items) (sym same) in
+    let slice = c.as_slice-4.ensures.value ∙ here_list in
+    let planned = planned_given_by db c.args.txn u c.args.site.now c.args.rows.now of c.leaf_names_are_unique.ensures reading here first known c.as_slice-4.result.now slice in
+    rows_long db c.args.txn u c.args.site.now c.args.rows.now of c.leaf_names_are_unique.ensures reading here first known c.as_slice-4.result.now slice (ap are_in c.as_slice-4.ensures.value ∙ all) worked.answer worked.unsent.items
+    (c.in_ok-worked.ensures.explained db (txn_name c.args.txn) of same planned)
+    (writes_past db c.args.txn u are.sites (write_sites worked.unsent.items) reading.statement (map (ask_of db) c.as_slice-4.result.now) worked.answer worked.unsent.items (c.in_ok-worked.ensures.home db of same) (c.works.ensures.full full))

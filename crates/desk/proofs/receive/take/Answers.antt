@@ -1,0 +1,17 @@
+-- Why `take` meets its contract.
+use Rattle.desk.specs.State.{volatile_of}
+use Rattle.desk.proofs.Called.{steps_made}
+use Rattle.desk.proofs.Making.{is_at, takes}
+use Rattle.desk.proofs.receive.take.Goals as goal
+
+pub returns-clause-ok : goal.returns-clause-ok
+returns-clause-ok g c = λ db choice distinct clean sound fits.
+    takes db (g.S.DeskStore.kept c.args.store.now) (g.S.DeskStore.kept c.step.new.store) c.args.volatile.now c.make.ensures.ordered fits distinct c.args.txn choice c.args.site.now c.args.reply.now c.in_ok-turn.turn
+    c.requires (λ at. c.in_ok-turn.ensures.turn db choice at) (λ at. c.in_ok-turn.ensures.sites db at) (λ at rows. c.in_ok-turn.ensures.keeps db at clean sound rows) c.in_ok-turn.ensures.stands
+    (volatile_of c.make.new.volatile) (record { moved = c.make.ensures.settled; still = c.make.ensures.still })
+    c.make.result.letters c.make.result.replies c.make.result.kept c.make.ensures.letters (c.make.ensures.replies c.in_ok-room.ensures.empty) c.make.ensures.kept
+
+pub returns-clause-store : goal.returns-clause-store
+returns-clause-store g c =
+    steps_made c.in_ok-turn.turn c.make.result c.make.ensures.kept
+    (λ called db distinct fits. called db (is_at db (g.S.DeskStore.kept c.args.store.now) (volatile_of c.args.volatile.now) distinct fits c.args.txn)) c.in_ok-turn.ensures.store

@@ -1,0 +1,30 @@
+-- Which votes count.
+use Rattle.std.specs.Prelude.{ℕ, Bool, true, false, ◌&&◌, List, Option, Some, None, is_none}
+use Rattle.store.specs.declared.name.Ticket.{Ticket}
+use Rattle.desk.specs.declared.participant.Participant.{Participant}
+use Rattle.desk.specs.declared.transaction.Stage.TheVariants as stage
+use Rattle.desk.specs.declared.transaction.Stage.{Stage}
+use Rattle.desk.specs.declared.transaction.Undecided.{Undecided}
+use Rattle.desk.specs.Orders.{is_voting}
+use Rattle.desk.specs.Participants.{participant_in}
+use Rattle.desk.specs.Acknowledge.{is_ticket}
+
+-- whether this is the ticket that a site gave first
+abbrev pub is_first : Ticket → Option Ticket → Bool
+is_first ticket None = false
+is_first ticket (Some first) = is_ticket first ticket
+
+-- whether a site's vote under this ticket is still to come
+abbrev pub awaits_vote : Ticket → Participant → Bool
+awaits_vote ticket participant = is_first ticket participant.ticket && is_none participant.vote
+
+-- whether a vote counts: in the first phase, the first one of its site, under the site's first ticket
+abbrev pub counts_vote : Undecided → List ℕ → Ticket → Bool
+counts_vote undecided site ticket = is_voting undecided.stage && awaits_vote ticket (participant_in site undecided.participants)
+
+-- whether the transaction stands between two statements
+abbrev pub is_idle : Stage → Bool
+is_idle stage.Idle = true
+is_idle (stage.Reading reading) = false
+is_idle (stage.Writing writing) = false
+is_idle stage.Voting = false

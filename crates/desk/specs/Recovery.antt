@@ -1,0 +1,84 @@
+-- A life of the coordinator begins: what the rows that its store keeps make of its memory, and what a restart puts out.
+use Rattle.std.specs.Prelude.{◌≡◌, ℕ, Bool, true, false, nat_le, List, [], ◌∷◌, map, Option, Some, None}
+use Rattle.std.specs.BTreeMap.{insert_entry}
+use Rattle.std.specs.List.{filter_map, flat_map, list_all}
+use Rattle.std.specs.List.Sorted.{IsStrictlySortedBy}
+use Rattle.store.specs.declared.commit.CommitRow.{CommitRow}
+use Rattle.store.specs.declared.commit.DeskKept.{DeskKept}
+use Rattle.store.specs.declared.commit.Voter.{Voter}
+use Rattle.store.specs.declared.letter.Letter.{Letter}
+use Rattle.store.specs.declared.name.Txn.{Txn}
+use Rattle.store.specs.DeskContent.{DeskContent, Lists, voters_in}
+use Rattle.store.specs.Name.{txn_cmp}
+use Rattle.protocol.specs.Desk as protocol
+use Rattle.desk.specs.declared.reply.Notice.{Notice}
+use Rattle.desk.specs.declared.reply.Reply.TheVariants as reply
+use Rattle.desk.specs.declared.reply.Why.TheVariants as why
+use Rattle.desk.specs.declared.transaction.TxnState.{TxnState}
+use Rattle.desk.specs.declared.transaction.TxnState.TheVariants as standing
+use Rattle.desk.specs.Database.{Database, sent}
+use Rattle.desk.specs.State.{Fits, VolatileState, desk_of, notice_of}
+use Rattle.desk.specs.Transition.{told}
+use Rattle.desk.specs.Acknowledge.{commit_letters}
+
+-- a decided transaction of which no acknowledgement has come
+abbrev pub row_standing : CommitRow → TxnState
+row_standing row = standing.Committed (record { voters = row.voters; acked = [] })
+
+-- what stands where the store keeps these voters, and nothing else is known
+abbrev pub resting : Option (List Voter) → Option TxnState
+resting None = None
+resting (Some voters) = Some (standing.Committed (record { voters = voters; acked = [] }))
+
+-- each row stands
+abbrev pub stood_by : List CommitRow → List (Txn × TxnState) → List (Txn × TxnState)
+stood_by [] entries = entries
+stood_by (row ∷ rows) entries = stood_by rows (insert_entry txn_cmp entries row.txn (row_standing row))
+
+-- whether the transactions of these rows were begun, in this life or before
+abbrev pub are_begun : ℕ → List CommitRow → Bool
+are_begun life rows = list_all (λ row. nat_le row.txn.life life) rows
+
+-- a Commit to each voter of each row
+abbrev pub commits_again : List CommitRow → List Letter
+commits_again rows = flat_map (λ row. commit_letters row.txn row.voters) rows
+
+-- a restart aborts who is undecided
+abbrev pub with_lost : Txn → TxnState → List Notice → List Notice
+with_lost txn (standing.Undecided undecided) notices = record { txn = txn; reply = reply.Aborted why.Restart } ∷ notices
+with_lost txn (standing.Committed committed) notices = notices
+
+-- so each of these
+abbrev pub lost_among : List (Txn × TxnState) → List Notice
+lost_among [] = []
+lost_among (entry ∷ entries) = with_lost entry.0 entry.1 (lost_among entries)
+
+-- what is kept can be no coordinator's: a row of a transaction that was not begun
+pub record IsStrange (kept : DeskContent) : Type 0 where
+  pub all : DeskKept
+  pub lists : Lists kept all
+  pub strange : are_begun all.life all.commits ≡ false
+
+-- the letters are a Commit to each voter that the store keeps, by transaction
+pub record SendsAgain (kept : DeskContent) (written : List Letter) : Type 0 where
+  pub rows : List CommitRow
+  pub voters : (txn : Txn) → voters_in txn rows ≡ kept.commits txn
+  pub ascend : IsStrictlySortedBy txn_cmp (map (λ row. row.txn) rows)
+  pub letters : written ≡ commits_again rows
+
+-- a life begins: the rows stand, by transaction, and nothing else
+pub record Rises (db : Database) (kept : DeskContent) (table : VolatileState) : Type 0 where
+  pub fits : Fits db kept table
+  pub within : protocol.is_desk_within (desk_of db table) ≡ true
+  pub stands : (txn : Txn) → table.standing txn ≡ resting (kept.commits txn)
+  pub undecided : table.undecided ≡ 0
+  pub number : table.number ≡ 0
+
+-- a restart: the state is the protocol's, and so are the letters and the replies; the letters are in the order of the transactions
+pub record Restarts (db : Database) (before : VolatileState) (kept : DeskContent) (after : VolatileState) (written : List Letter) (notices : List Notice) : Type 0 where
+  pub fits : Fits db kept after
+  pub within : protocol.is_desk_within (desk_of db after) ≡ true
+  pub state : desk_of db after ≡ protocol.desk_restarted (desk_of db before)
+  pub letters : map (sent db) written ≡ flat_map (λ t. (protocol.txn_restarted t ((desk_of db before).txn t)).letters) (desk_of db before).known
+  pub again : SendsAgain kept written
+  pub replies : map notice_of notices ≡ filter_map (told db) (flat_map (λ t. (protocol.txn_restarted t ((desk_of db before).txn t)).deeds) (desk_of db before).known)

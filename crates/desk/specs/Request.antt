@@ -1,0 +1,48 @@
+-- What clients ask for, and what is refused.
+use Rattle.std.specs.Prelude.{◌≡◌, ℕ, List, [], ◌∷◌, Option, Some, None}
+use Rattle.reader.specs.Printable.{AreDistinct}
+use Rattle.store.specs.declared.name.Txn.{Txn}
+use Rattle.protocol.specs.Desk as protocol
+use Rattle.protocol.specs.Letters.{txn_name}
+use Rattle.desk.specs.declared.refusal.Refusal as refusals
+use Rattle.desk.specs.declared.refusal.Refusal.TheVariants.{NoTransaction, Busy, Ended}
+use Rattle.desk.specs.declared.reply.Notice.{Notice}
+use Rattle.desk.specs.declared.reply.Reply.{Reply}
+use Rattle.desk.specs.declared.transaction.TxnState.{TxnState}
+use Rattle.desk.specs.declared.transaction.TxnState.TheVariants as standing
+use Rattle.desk.specs.declared.transaction.Undecided.{Undecided}
+use Rattle.desk.specs.Database.{Database, language}
+use Rattle.desk.specs.State.{VolatileState, desk_of}
+use Rattle.desk.specs.Transition.{AreParticipants}
+
+-- the database has these sites, each once
+pub record IsOver (db : Database) (those : List (List ℕ)) : Type 0 where
+  pub sites : db.sites ≡ those
+  pub distinct : AreDistinct db.sites
+
+-- an undecided transaction has to do with the sites of the database
+abbrev pub IsAt : Database → Option TxnState → Type 0
+IsAt db None = Unit
+IsAt db (Some (standing.Undecided undecided)) = AreParticipants db undecided.participants
+IsAt db (Some (standing.Committed committed)) = Unit
+
+-- a refusal as clients hear it
+abbrev pub refused_as : protocol.Refusal → refusals.Refusal
+refused_as protocol.No_transaction = NoTransaction
+refused_as protocol.Busy = Busy
+refused_as protocol.Ended = Ended
+
+-- what stands behind a transaction, as the protocol sees it
+abbrev pub txn_in : (db : Database) → VolatileState → Txn → protocol.Txn (language db)
+txn_in db table txn = (desk_of db table).txn (txn_name txn)
+
+-- a reply to a transaction's client, if there is one
+abbrev pub notices : Txn → Option Reply → List Notice
+notices txn None = []
+notices txn (Some reply) = record { txn = txn; reply = reply } ∷ []
+
+-- the undecided transaction that stands there
+abbrev pub open_in : Option TxnState → Option Undecided
+open_in None = None
+open_in (Some (standing.Undecided undecided)) = Some undecided
+open_in (Some (standing.Committed committed)) = None

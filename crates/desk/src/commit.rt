@@ -1,0 +1,272 @@
+//! The commit of a transaction: it is asked for, votes come, and it is decided.
+
+ghost use Rattle.std.specs.Prelude.{◌≡◌, None, Some, true, IfOk, ⊤, ℕ, List, ◌==◌, ◌<◌, length, map, false, Option};
+ghost use Rattle.protocol.specs.Desk.{on_commit_call, Choice, Known, on_known, By_store, decides, ends_by, votes_go};
+ghost use Rattle.protocol.specs.Letters.{txn_name, is_no};
+ghost use Rattle.desk.specs.declared.transaction.TxnState.TheVariants as standing;
+ghost use Rattle.desk.specs.declared.transaction.TxnState.{TxnState as TxnStateNow};
+ghost use Rattle.desk.specs.Commit.{is_idle, awaits_vote, counts_vote, is_first};
+ghost use Rattle.desk.specs.Database.{Database, language, replied};
+ghost use Rattle.desk.specs.Participants.{sites_of, participant_in};
+ghost use Rattle.desk.specs.Transaction.{stage_of, undecided_of, voter_of, votes_of};
+ghost use Rattle.desk.specs.Transition.{AreParticipants, AtSites, IsTransition, after_of, commits_now, voting};
+ghost use Rattle.desk.specs.Acknowledge.{kept_voters, Keeps};
+ghost use Rattle.store.specs.declared.reply.Reply.TheVariants as reply;
+ghost use Rattle.desk.specs.Called.{CallsStore, Decides};
+ghost use Rattle.desk.specs.Frame.{StepsStore};
+ghost use Rattle.protocol.specs.Desk as protocol;
+ghost use Rattle.store.specs.DeskContent.{AreVoters};
+ghost use Rattle.desk.specs.declared.transition.After.TheVariants.{Ends};
+
+use crate::abort::{ends, is_voting};
+use crate::acknowledge::{commit_letters, voters_among};
+use crate::participant::{Participant, are_all_in, find_participant, with_vote, without_votes};
+use crate::reply::{Reply, Why};
+use crate::send::{Broadcast, broadcast_letters};
+use crate::transaction::{Committed, Stage, TxnState, Undecided};
+use crate::transition::{After, Transition, becomes, stays};
+use std::alloc::Global;
+use store::commit::Voter;
+use store::desk_store::DeskStore;
+use store::fault::StoreFault;
+use store::name::{Ticket, Txn};
+use store::reply::{Vote, Voted};
+use terms::memory::Memory;
+use terms::seq::Seq;
+use terms::text::Text;
+
+/// Whether a transaction stands between two statements.
+pub(crate) fn is_idle(stage: &Stage) -> bool
+    ensures { result ≡ is_idle stage.now }
+{
+    matches!(stage, Stage::Idle)
+}
+
+/// The first phase of a transaction begins, if it stands between two statements: each visited site is asked
+/// to prepare what was sent to it. One that visited no site is committed at once.
+pub(crate) fn commit(alloc: Global, txn: Txn, undecided: &Undecided) -> Result<Transition, Memory>
+    ensures turn { (db : Database) → AreParticipants db undecided.now.participants
+        → IfOk result (λ turn. IsTransition db txn (Some (standing.Undecided undecided.now)) turn (on_commit_call (txn_name txn) (undecided_of db undecided.now) (stage_of db undecided.now.participants undecided.now.stage))) }
+    ensures sites { IfOk result (λ turn. AtSites (sites_of undecided.now.participants) turn.after) }
+    ensures keeps { IfOk result (λ turn. kept_voters (after_of (Some (standing.Undecided undecided.now)) turn.after) ≡ None) }
+    ensures kept { IfOk result (λ turn. turn.kept ≡ true) }
+{
+    if !is_idle(&undecided.stage) {
+        return Ok(stays(alloc, true));
+    }
+    let participants = without_votes(alloc, undecided.participants.as_slice())?;
+    if are_all_in(&participants) {
+        return Ok(commits_at_once(alloc));
+    }
+    let letters = broadcast_letters(
+        alloc,
+        txn,
+        Broadcast::Prepare,
+        undecided.participants.as_slice(),
+    )?;
+    Ok(Transition {
+        after: After::Becomes(TxnState::Undecided(voting(participants))),
+        letters,
+        reply: None,
+        kept: true,
+    })
+}
+
+/// Whether this is the ticket that a site gave first.
+pub(crate) fn is_first(first: Option<Ticket>, ticket: &Ticket) -> bool
+    ensures { result ≡ is_first ticket.now first }
+{
+    match first {
+        Some(first) => first.cmp(ticket).is_eq(),
+        None => false,
+    }
+}
+
+/// Whether this is the ticket that the site of this name gave first.
+pub(crate) fn gave_first(participants: &[Participant], site: &Text, ticket: &Ticket) -> bool
+    ensures { result ≡ is_first ticket.now (participant_in site.now participants.now).ticket }
+{
+    match find_participant(participants, site) {
+        Some(participant) => is_first(participant.ticket, ticket),
+        None => false,
+    }
+}
+
+/// Whether a site's vote under this ticket is still to come.
+fn awaits_vote(participant: &Participant, ticket: &Ticket) -> bool
+    ensures { result ≡ awaits_vote ticket.now participant.now }
+{
+    is_first(participant.ticket, ticket) && participant.vote.is_none()
+}
+
+/// Whether the vote of the site of this name is.
+fn awaits_vote_of(participants: &[Participant], site: &Text, ticket: &Ticket) -> bool
+    ensures { result ≡ awaits_vote ticket.now (participant_in site.now participants.now) }
+{
+    match find_participant(participants, site) {
+        Some(participant) => awaits_vote(participant, ticket),
+        None => false,
+    }
+}
+
+/// Whether a vote counts: in the first phase, the first one of its site, under the site's first ticket.
+fn counts(undecided: &Undecided, site: &Text, ticket: &Ticket) -> bool
+    ensures { result ≡ counts_vote undecided.now site.now ticket.now }
+{
+    is_voting(&undecided.stage) && awaits_vote_of(undecided.participants.as_slice(), site, ticket)
+}
+
+/// Whether a vote is NO.
+fn is_no(vote: Vote) -> bool
+    ensures { result ≡ is_no vote }
+{
+    matches!(vote, Vote::No)
+}
+
+/// A vote comes. One NO aborts at once; with the last vote the transaction is decided. Where `kept` is
+/// false, the store isn't called, and counts as having refused.
+pub(crate) fn on_vote<S: DeskStore>(
+    store: &mut S,
+    alloc: Global,
+    txn: Txn,
+    undecided: &Undecided,
+    site: &Text,
+    voted: Voted,
+    kept: bool,
+) -> Result<Transition, Memory>
+    ensures store { StepsStore S.is_clean S.is_sound S.kept S.refused store.old store.new kept result (λ turn. turn.kept) ((db : Database) → AreParticipants db undecided.now.participants → CallsStore {L = language db} site.now (replied db (reply.Voted voted)) (Known (undecided_of db undecided.now))) }
+    ensures turn { (db : Database) (choice : Choice (language db)) → AreParticipants db undecided.now.participants
+        → IfOk result (λ turn. IsTransition db txn (Some (standing.Undecided undecided.now)) turn
+        (on_known (txn_name txn) (undecided_of db undecided.now) site.now turn.kept choice (replied db (reply.Voted voted)))) }
+    ensures sites { IfOk result (λ turn. AtSites (sites_of undecided.now.participants) turn.after) }
+    ensures keeps { (db : Database) → AreParticipants db undecided.now.participants → S.is_clean store.new → S.is_sound store.old → (S.kept store.old).commits txn ≡ None
+        → IfOk result (λ turn. Keeps txn (kept_voters (after_of (Some (standing.Undecided undecided.now)) turn.after)) (S.kept store.old) (S.kept store.new)) }
+{
+    if !counts(undecided, site, &voted.ticket) {
+        return Ok(stays(alloc, true));
+    }
+    let participants = with_vote(alloc, undecided.participants.as_slice(), site, voted.vote)?;
+    if is_no(voted.vote) {
+        return ends(
+            alloc,
+            txn,
+            &participants,
+            Broadcast::AbortVoting,
+            Reply::Aborted(Why::Vote),
+            true,
+        );
+    }
+    votes_go(store, alloc, txn, participants, kept)
+}
+
+/// The first phase goes on with these votes. With all of them in, none NO, the transaction is decided:
+/// committed at once where none is YES, else where the commit row is kept. Where `kept` is false, the
+/// store isn't called, and counts as having refused.
+pub(crate) fn votes_go<S: DeskStore>(
+    store: &mut S,
+    alloc: Global,
+    txn: Txn,
+    participants: Vec<Participant>,
+    kept: bool,
+) -> Result<Transition, Memory>
+    ensures store { StepsStore S.is_clean S.is_sound S.kept S.refused store.old store.new kept result (λ turn. turn.kept) ((db : Database) → AreParticipants db participants.items → Decides (undecided_of db (voting participants.items)) (votes_of participants.items)) }
+    ensures turn { (db : Database) (old : Option TxnStateNow) → AreParticipants db participants.items
+        → IfOk result (λ turn. IsTransition db txn old turn (votes_go (txn_name txn) (undecided_of db (voting participants.items)) (votes_of participants.items) turn.kept)) }
+    ensures sites { IfOk result (λ turn. AtSites (sites_of participants.items) turn.after) }
+    ensures keeps { (db : Database) (old : Option TxnStateNow) → AreParticipants db participants.items → kept_voters old ≡ None → S.is_clean store.new → S.is_sound store.old → (S.kept store.old).commits txn ≡ None
+        → IfOk result (λ turn. Keeps txn (kept_voters (after_of old turn.after)) (S.kept store.old) (S.kept store.new)) }
+{
+    if !are_all_in(&participants) {
+        return Ok(becomes(alloc, TxnState::Undecided(voting(participants))));
+    }
+    let voters = voters_among(alloc, &participants)?;
+    if are_none(&voters) {
+        return Ok(commits_at_once(alloc));
+    }
+    decides(store, alloc, txn, &participants, voters, kept)
+}
+
+/// Whether nobody is to be told.
+fn are_none(voters: &[Voter]) -> bool
+    ensures { result ≡ (length voters.now == 0) }
+{
+    voters.is_empty()
+}
+
+/// A transaction in its first phase.
+pub(crate) fn voting(participants: Vec<Participant>) -> Undecided
+    ensures { result ≡ voting participants.items }
+{
+    Undecided {
+        participants: Seq::new(participants),
+        stage: Stage::Voting,
+    }
+}
+
+/// Committed without a row.
+pub(crate) fn commits_at_once(alloc: Global) -> Transition
+    ensures turn { (db : Database) (txn : Txn) (old : Option TxnStateNow) → IsTransition db txn old result (commits_now db (txn_name txn)) }
+    ensures after { result.after ≡ Ends }
+    ensures kept { result.kept ≡ true }
+{
+    Transition {
+        after: After::Ends,
+        letters: Vec::new(alloc),
+        reply: Some(Reply::Committed),
+        kept: true,
+    }
+}
+
+/// Keeps the commit row, and then each voter hears Commit; a transaction whose row isn't kept aborts. The
+/// letters are made before the store is called.
+fn decides<S: DeskStore>(
+    store: &mut S,
+    alloc: Global,
+    txn: Txn,
+    participants: &[Participant],
+    voters: Vec<Voter>,
+    kept: bool,
+) -> Result<Transition, Memory>
+    ensures store { StepsStore S.is_clean S.is_sound S.kept S.refused store.old store.new kept result (λ turn. turn.kept) (⊤) }
+    ensures turn { (db : Database) (old : Option TxnStateNow) → AreParticipants db participants.now → 0 < length voters.items
+        → IfOk result (λ turn. IsTransition db txn old turn (decides (txn_name txn) (undecided_of db (voting participants.now)) turn.kept (map voter_of voters.items))) }
+    ensures sites { (sites : List (List ℕ)) → IfOk result (λ turn. AtSites sites turn.after) }
+    ensures keeps { (old : Option TxnStateNow) → AreVoters voters.items → S.is_clean store.new → S.is_sound store.old → (S.kept store.old).commits txn ≡ None
+        → IfOk result (λ turn. Keeps txn (kept_voters (after_of old turn.after)) (S.kept store.old) (S.kept store.new)) }
+{
+    let aborts = unkept(alloc, txn, participants)?;
+    if !kept {
+        return Ok(aborts);
+    }
+    let letters = commit_letters(alloc, txn, &voters)?;
+    match store.keep_commit(txn, &voters) {
+        Ok(()) => Ok(Transition {
+            after: After::Becomes(TxnState::Committed(Committed {
+                voters: Seq::new(voters),
+                acked: Seq::new(Vec::new(alloc)),
+            })),
+            letters,
+            reply: Some(Reply::Committed),
+            kept: true,
+        }),
+        Err(StoreFault::Memory) => Err(Memory),
+        Err(_) => Ok(aborts),
+    }
+}
+
+/// The commit row could not be kept: the transaction aborts.
+fn unkept(alloc: Global, txn: Txn, participants: &[Participant]) -> Result<Transition, Memory>
+    ensures turn { (db : Database) (old : Option TxnStateNow) → AreParticipants db participants.now
+        → IfOk result (λ turn. IsTransition db txn old turn (ends_by (txn_name txn) (undecided_of db (voting participants.now)) (protocol.Aborted (txn_name txn) By_store))) }
+    ensures kept { IfOk result (λ turn. turn.kept ≡ false) }
+    ensures after { IfOk result (λ turn. turn.after ≡ Ends) }
+{
+    ends(
+        alloc,
+        txn,
+        participants,
+        Broadcast::AbortVoting,
+        Reply::Aborted(Why::Store),
+        false,
+    )
+}

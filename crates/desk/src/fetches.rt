@@ -1,0 +1,269 @@
+//! The fetches of a statement, and the rows that come for them.
+
+ghost use Rattle.std.specs.Prelude.{◌≡◌, IfOk, map, OnErr, OnOk};
+ghost use Rattle.std.specs.Option.{option_copied};
+ghost use Rattle.catalog.specs.Relation.{catalogue_of};
+ghost use Rattle.protocol.specs.Letters.{leaf_of};
+ghost use Rattle.desk.specs.Planned.{ask_from, home_in, site_in, unsent_from};
+ghost use Rattle.catalog.specs.FragmentLeaf.{catalogue_leaves, leaf_named};
+ghost use Rattle.desk.specs.Fetches.{are_in_with, awaits, brought, fits_leaf, has_rows_with, rows_for, with_found, with_rows};
+
+use crate::transaction::Unsent;
+use answers::table::{FetchRows, are_parts};
+use catalog::catalogue::Catalog;
+use plan::fetch::Fetch;
+use std::alloc::Global;
+use store::reply::Rows;
+use terms::cond::Conds;
+use terms::copy::TryCopy;
+use terms::leaf::Leaf;
+use terms::memory::Memory;
+use terms::part::Part;
+use terms::seq::Seq;
+use terms::text::Text;
+use terms::write::Write;
+
+/// A fetch of a statement.
+#[derive(Debug, Drop)]
+pub(crate) struct Ask {
+    pub(crate) leaf: Leaf,
+    /// The site of the leaf.
+    pub(crate) site: Text,
+    pub(crate) conds: Conds,
+    /// Its number among the operations sent to its site, once it is sent.
+    pub(crate) number: Option<u64>,
+    /// The parts that came.
+    pub(crate) rows: Option<Seq<Part>>,
+}
+
+impl TryCopy for Ask {
+    fn copy(&self) -> Result<Ask, Memory> {
+        Ok(Ask {
+            leaf: self.leaf.copy()?,
+            site: self.site.copy()?,
+            conds: self.conds.copy()?,
+            number: self.number,
+            rows: copy_rows(&self.rows)?,
+        })
+    }
+}
+
+/// Rows that may have come, once more.
+fn copy_rows(rows: &Option<Seq<Part>>) -> Result<Option<Seq<Part>>, Memory>
+    ensures { IfOk result (λ copy. copy ≡ rows.now) }
+{
+    match rows {
+        Some(rows) => Ok(Some(rows.copy()?)),
+        None => Ok(None),
+    }
+}
+
+/// The site of a leaf, if the catalogue has the leaf.
+fn site_in<'a>(catalog: &'a Catalog, leaf: &Leaf) -> Option<&'a Text>
+    ensures { option_copied result ≡ site_in (catalogue_of catalog.now) leaf.now }
+{
+    let leaf = catalog.leaf(leaf)?;
+    catalog.sites().get(leaf.site)
+}
+
+/// The name of a leaf's site; of a leaf that the catalogue doesn't have an empty one.
+fn home_in(alloc: Global, catalog: &Catalog, leaf: &Leaf) -> Result<Text, Memory>
+    ensures { IfOk result (λ site. site ≡ home_in (catalogue_of catalog.now) leaf.now) }
+{
+    match site_in(catalog, leaf) {
+        Some(site) => site.copy(),
+        None => Text::copy_of(alloc, ""),
+    }
+}
+
+/// The fetches of a plan, of which none is sent yet.
+pub(crate) fn asks_of(
+    alloc: Global,
+    catalog: &Catalog,
+    fetches: &[Fetch],
+) -> Result<Vec<Ask>, Memory>
+    ensures { IfOk result (λ asks. asks.items ≡ map (ask_from (catalogue_of catalog.now)) fetches.now) }
+{
+    let mut asks = Vec::new(alloc);
+    for fetch in fetches {
+        asks.push(Ask {
+            leaf: fetch.leaf.copy()?,
+            site: home_in(alloc, catalog, &fetch.leaf)?,
+            conds: fetch.conds.copy()?,
+            number: None,
+            rows: None,
+        })?;
+    }
+    Ok(asks)
+}
+
+/// The leaf of a write.
+fn leaf_of(write: &Write) -> &Leaf
+    ensures { result.now ≡ leaf_of write.now }
+{
+    match write {
+        Write::Put(leaf, _) => leaf,
+        Write::Del(leaf, _) => leaf,
+    }
+}
+
+/// Writes that are to be sent.
+pub(crate) fn unsent_of(
+    alloc: Global,
+    catalog: &Catalog,
+    writes: &[Write],
+) -> Result<Vec<Unsent>, Memory>
+    ensures { IfOk result (λ unsent. unsent.items ≡ map (unsent_from (catalogue_of catalog.now)) writes.now) }
+{
+    let mut unsent = Vec::new(alloc);
+    for write in writes {
+        unsent.push(Unsent {
+            write: write.copy()?,
+            site: home_in(alloc, catalog, leaf_of(write))?,
+        })?;
+    }
+    Ok(unsent)
+}
+
+/// Whether rows can be parts of a leaf.
+fn fits_leaf(catalog: &Catalog, leaf: &Leaf, parts: &[Part]) -> bool
+    ensures { result ≡ fits_leaf (leaf_named leaf.now (catalogue_leaves (catalogue_of catalog.now))) parts.now }
+{
+    match catalog.leaf(leaf) {
+        Some(leaf) => are_parts(leaf.columns.as_slice(), parts),
+        None => false,
+    }
+}
+
+/// Whether these rows of a site are those that a fetch waits for.
+fn awaits(catalog: &Catalog, site: &Text, rows: &Rows, ask: &Ask) -> bool
+    ensures { result ≡ awaits (catalogue_of catalog.now) site.now rows.now.op rows.now.parts ask.now }
+{
+    ask.site == *site
+        && ask.number == Some(rows.op)
+        && ask.rows.is_none()
+        && fits_leaf(catalog, &ask.leaf, rows.parts.as_slice())
+}
+
+/// A fetch, with these rows if it waits for them.
+fn with_rows(catalog: &Catalog, site: &Text, rows: &Rows, ask: &Ask) -> Result<Ask, Memory>
+    ensures { IfOk result (λ other. other ≡ with_rows (catalogue_of catalog.now) site.now rows.now.op rows.now.parts ask.now) }
+{
+    let mut other = ask.copy()?;
+    if awaits(catalog, site, rows, ask) {
+        other.rows = Some(rows.parts.copy()?);
+    }
+    Ok(other)
+}
+
+/// Fetches, of which those have these rows that wait for them.
+pub(crate) fn all_with_rows(
+    alloc: Global,
+    catalog: &Catalog,
+    site: &Text,
+    rows: &Rows,
+    asks: &[Ask],
+) -> Result<Vec<Ask>, Memory>
+    ensures { IfOk result (λ others. others.items ≡ map (with_rows (catalogue_of catalog.now) site.now rows.now.op rows.now.parts) asks.now) }
+{
+    let mut others = Vec::new(alloc);
+    for ask in asks {
+        others.push(with_rows(catalog, site, rows, ask)?)?;
+    }
+    Ok(others)
+}
+
+/// The rows that a fetch gets, if it waits for these.
+fn rows_for(
+    catalog: &Catalog,
+    site: &Text,
+    rows: &Rows,
+    ask: &Ask,
+) -> Result<Option<Seq<Part>>, Memory>
+    ensures { IfOk result (λ found. found ≡ rows_for (catalogue_of catalog.now) site.now rows.now.op rows.now.parts ask.now) }
+{
+    if awaits(catalog, site, rows, ask) {
+        return Ok(Some(rows.parts.copy()?));
+    }
+    Ok(None)
+}
+
+/// The rows that each fetch gets.
+fn all_rows_for(
+    alloc: Global,
+    catalog: &Catalog,
+    site: &Text,
+    rows: &Rows,
+    asks: &[Ask],
+) -> Result<Vec<Option<Seq<Part>>>, Memory>
+    ensures { IfOk result (λ found. found.items ≡ map (rows_for (catalogue_of catalog.now) site.now rows.now.op rows.now.parts) asks.now) }
+{
+    let mut found = Vec::new(alloc);
+    for ask in asks {
+        found.push(rows_for(catalog, site, rows, ask)?)?;
+    }
+    Ok(found)
+}
+
+/// Fetches get these rows.
+fn put_rows(asks: &mut [Ask], found: &mut [Option<Seq<Part>>])
+    ensures { asks.new ≡ with_found asks.old found.old }
+{
+    let Some((ask, asks)) = asks.split_first_mut() else {
+        return;
+    };
+    let Some((first, found)) = found.split_first_mut() else {
+        return;
+    };
+    if let Some(rows) = first.take() {
+        ask.rows = Some(rows);
+    }
+    put_rows(asks, found);
+}
+
+/// The fetches that wait for these rows get them. What came before stays where it is.
+pub(crate) fn bring(
+    alloc: Global,
+    catalog: &Catalog,
+    site: &Text,
+    rows: &Rows,
+    asks: &mut Vec<Ask>,
+) -> Result<(), Memory>
+    ensures ok { OnOk result (asks.new.items ≡ map (with_rows (catalogue_of catalog.now) site.now rows.now.op rows.now.parts) asks.old.items) }
+    ensures same { OnErr result (asks.new ≡ asks.old) }
+{
+    let mut found = all_rows_for(alloc, catalog, site, rows, asks.as_slice())?;
+    put_rows(asks.as_mut_slice(), found.as_mut_slice());
+    Ok(())
+}
+
+/// Whether a fetch has its rows once these have come.
+fn has_rows_with(catalog: &Catalog, site: &Text, rows: &Rows, ask: &Ask) -> bool
+    ensures { result ≡ has_rows_with (catalogue_of catalog.now) site.now rows.now.op rows.now.parts ask.now }
+{
+    ask.rows.is_some() || awaits(catalog, site, rows, ask)
+}
+
+/// Whether all rows are in once these have come.
+pub(crate) fn are_in_with(catalog: &Catalog, site: &Text, rows: &Rows, asks: &[Ask]) -> bool
+    ensures { result ≡ are_in_with (catalogue_of catalog.now) site.now rows.now.op rows.now.parts asks.now }
+{
+    asks.iter()
+        .all(|ask| has_rows_with(catalog, site, rows, ask))
+}
+
+/// What fetches brought.
+pub(crate) fn brought(alloc: Global, asks: &[Ask]) -> Result<Vec<FetchRows>, Memory>
+    ensures { IfOk result (λ fetched. fetched.items ≡ brought asks.now) }
+{
+    let mut fetched = Vec::new(alloc);
+    for ask in asks {
+        if let Some(rows) = &ask.rows {
+            fetched.push(FetchRows {
+                leaf: ask.leaf.copy()?,
+                parts: rows.copy()?,
+            })?;
+        }
+    }
+    Ok(fetched)
+}

@@ -1,0 +1,138 @@
+//! What a transaction has to do with each site.
+
+ghost use Rattle.std.specs.Prelude.{◌≡◌, IfOk, find, map, Some, None};
+ghost use Rattle.std.specs.List.{list_all};
+ghost use Rattle.std.specs.Option.{option_copied};
+ghost use Rattle.desk.specs.Participants.{changed_at, is_at, is_in, with_ticket, with_vote};
+
+use std::alloc::Global;
+use store::name::Ticket;
+use store::reply::Vote;
+use terms::copy::TryCopy;
+use terms::memory::Memory;
+use terms::text::Text;
+
+/// What a transaction has to do with one site.
+#[derive(Debug, Drop)]
+pub(crate) struct Participant {
+    pub(crate) site: Text,
+    /// Whether an Open was sent there.
+    pub(crate) visited: bool,
+    /// The first ticket that came.
+    pub(crate) ticket: Option<Ticket>,
+    /// How many operations were sent there.
+    pub(crate) sent: u64,
+    /// In the first phase: the vote that was counted.
+    pub(crate) vote: Option<Vote>,
+}
+
+impl TryCopy for Participant {
+    fn copy(&self) -> Result<Participant, Memory> {
+        Ok(Participant {
+            site: self.site.copy()?,
+            visited: self.visited,
+            ticket: self.ticket,
+            sent: self.sent,
+            vote: self.vote,
+        })
+    }
+}
+
+/// Whether it is the participant of a site.
+pub(crate) fn is_at(participant: &Participant, site: &Text) -> bool
+    ensures { result ≡ is_at site.now participant.now }
+{
+    participant.site == *site
+}
+
+/// The participant of a site, if the site is among these.
+pub(crate) fn find_participant<'a>(
+    participants: &'a [Participant],
+    site: &Text,
+) -> Option<&'a Participant>
+    ensures { option_copied result ≡ find (is_at site.now) participants.now }
+{
+    for participant in participants {
+        if is_at(participant, site) {
+            return Some(participant);
+        }
+    }
+    None
+}
+
+/// Whether each visited site has voted.
+pub(crate) fn are_all_in(participants: &[Participant]) -> bool
+    ensures { result ≡ list_all is_in participants.now }
+{
+    participants.iter().all(|participant| !participant.visited || participant.vote.is_some())
+}
+
+/// A participant, with the vote counted if it is that of the site.
+fn voted(participant: &Participant, site: &Text, vote: Vote) -> Result<Participant, Memory>
+    ensures { IfOk result (λ other. other ≡ changed_at site.now (with_vote (Some vote)) participant.now) }
+{
+    let mut other = participant.copy()?;
+    if is_at(participant, site) {
+        other.vote = Some(vote);
+    }
+    Ok(other)
+}
+
+/// Participants, with the vote of one site counted.
+pub(crate) fn with_vote(
+    alloc: Global,
+    participants: &[Participant],
+    site: &Text,
+    vote: Vote,
+) -> Result<Vec<Participant>, Memory>
+    ensures { IfOk result (λ others. others.items ≡ map (changed_at site.now (with_vote (Some vote))) participants.now) }
+{
+    let mut others = Vec::new(alloc);
+    for participant in participants {
+        others.push(voted(participant, site, vote)?)?;
+    }
+    Ok(others)
+}
+
+/// Participants without votes.
+pub(crate) fn without_votes(
+    alloc: Global,
+    participants: &[Participant],
+) -> Result<Vec<Participant>, Memory>
+    ensures { IfOk result (λ others. others.items ≡ map (with_vote None) participants.now) }
+{
+    let mut others = Vec::new(alloc);
+    for participant in participants {
+        let mut other = participant.copy()?;
+        other.vote = None;
+        others.push(other)?;
+    }
+    Ok(others)
+}
+
+/// A participant, with the ticket if it is that of the site.
+fn ticketed(participant: &Participant, site: &Text, ticket: Ticket) -> Result<Participant, Memory>
+    ensures { IfOk result (λ other. other ≡ changed_at site.now (with_ticket (Some ticket)) participant.now) }
+{
+    let mut other = participant.copy()?;
+    if is_at(participant, site) {
+        other.ticket = Some(ticket);
+    }
+    Ok(other)
+}
+
+/// Participants, with the ticket of one site.
+pub(crate) fn with_ticket(
+    alloc: Global,
+    participants: &[Participant],
+    site: &Text,
+    ticket: Ticket,
+) -> Result<Vec<Participant>, Memory>
+    ensures { IfOk result (λ others. others.items ≡ map (changed_at site.now (with_ticket (Some ticket))) participants.now) }
+{
+    let mut others = Vec::new(alloc);
+    for participant in participants {
+        others.push(ticketed(participant, site, ticket)?)?;
+    }
+    Ok(others)
+}

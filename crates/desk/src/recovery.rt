@@ -1,0 +1,165 @@
+//! An incarnation of the coordinator begins.
+
+ghost use Rattle.std.specs.Prelude.{◌≡◌, [], true, Err, IfOk, IfErr, OnOk, OnErr};
+ghost use Rattle.std.specs.BTreeMap.{IsOrdered};
+ghost use Rattle.store.specs.Fault.{HasRefused};
+ghost use Rattle.store.specs.Name.{txn_cmp};
+ghost use Rattle.store.specs.declared.fault.StoreFault.TheVariants as store_faults;
+ghost use Rattle.desk.specs.declared.refusal.Refusal.TheVariants as refusals;
+ghost use Rattle.desk.specs.Database.{Database};
+ghost use Rattle.desk.specs.Frame.{BeginsOrFails};
+ghost use Rattle.desk.specs.Recovery.{Restarts, Rises, SendsAgain, are_begun, commits_again, lost_among, row_standing, stood_by};
+ghost use Rattle.desk.specs.State.{Fits, volatile_from, volatile_of};
+
+use crate::acknowledge::add_commits;
+use crate::refusal::{Refusal, store_refusal};
+use crate::reply::{Notice, Out, Reply, Why};
+use crate::transaction::{Committed, TxnState, TxnStates};
+use crate::volatile::{LAST, Volatile, add};
+use std::alloc::Global;
+use std::collections::BTreeMap;
+use store::commit::CommitRow;
+use store::desk_store::DeskStore;
+use store::fault::StoreFault;
+use store::letter::Letter;
+use terms::copy::TryCopy;
+use terms::memory::Memory;
+use terms::seq::Seq;
+
+/// What stands as a life begins: the decided transactions of the store's rows. And a Commit to each of
+/// their voters.
+#[derive(Drop)]
+pub(crate) struct Beginning {
+    pub(crate) standings: TxnStates,
+    pub(crate) letters: Vec<Letter>,
+    pub(crate) life: u64,
+}
+
+/// A decided transaction of which no acknowledgement has come.
+fn row_standing(alloc: Global, row: &CommitRow) -> Result<TxnState, Memory>
+    ensures { IfOk result (λ standing. standing ≡ row_standing row.now) }
+{
+    Ok(TxnState::Committed(Committed {
+        voters: row.voters.copy()?,
+        acked: Seq::new(Vec::new(alloc)),
+    }))
+}
+
+/// Whether the transactions of these rows were begun, in this life or before.
+fn are_begun(life: u64, rows: &[CommitRow]) -> bool
+    ensures { result ≡ are_begun life rows.now }
+{
+    rows.iter().all(|row| row.txn.life <= life)
+}
+
+/// Each row stands.
+fn rest(alloc: Global, rows: &[CommitRow]) -> Result<TxnStates, Refusal>
+    ensures standings { IfOk result (λ standings. standings.entries ≡ stood_by rows.now []) }
+    ensures ordered { IfOk result (λ standings. IsOrdered txn_cmp standings) }
+    ensures refusal { IfErr result (λ refusal. refusal ≡ refusals.Memory) }
+{
+    let mut standings = BTreeMap::new(alloc);
+    for row in rows {
+        add(&mut standings, row.txn, row_standing(alloc, row)?)?;
+    }
+    let _count = standings.len();
+    Ok(standings)
+}
+
+/// A Commit to each voter of each row.
+fn commits_again(alloc: Global, rows: &[CommitRow]) -> Result<Vec<Letter>, Memory>
+    ensures { IfOk result (λ letters. letters.items ≡ commits_again rows.now) }
+{
+    let mut letters = Vec::new(alloc);
+    for row in rows {
+        add_commits(&mut letters, row.txn, row.voters.as_slice())?;
+    }
+    Ok(letters)
+}
+
+/// The clients of undecided transactions hear that a restart aborted them.
+pub(crate) fn lost(volatile: &Volatile) -> Result<Vec<Notice>, Memory>
+    ensures notices { IfOk result (λ notices. notices.items ≡ lost_among volatile.now.standings.entries) }
+    ensures ordered { IsOrdered txn_cmp volatile.now.standings }
+{
+    let _count = volatile.standings.len();
+    let mut notices = Vec::new(volatile.alloc);
+    for (txn, standing) in &volatile.standings {
+        if let TxnState::Undecided(_) = standing {
+            notices.push(Notice {
+                txn: *txn,
+                reply: Reply::Aborted(Why::Restart),
+            })?;
+        }
+    }
+    Ok(notices)
+}
+
+/// Loads what the store keeps, and begins the next life. On a refusal nothing has changed.
+pub(crate) fn begin<S: DeskStore>(store: &mut S, alloc: Global) -> Result<Beginning, Refusal>
+    ensures begins { BeginsOrFails S.is_clean S.is_sound S.kept S.refused store.old store.new result }
+    ensures rises { (db : Database) → S.is_clean store.new → IfOk result (λ begun. Rises db (S.kept store.new) (volatile_from begun.standings.entries 0 begun.life 0)) }
+    ensures letters { S.is_clean store.new → IfOk result (λ begun. SendsAgain (S.kept store.new) begun.letters.items) }
+    ensures ordered { IfOk result (λ begun. IsOrdered txn_cmp begun.standings) }
+    ensures refusal { result ≡ Err (refusals.Store store_faults.Refused) → HasRefused (S.refused store.old) (S.refused store.new) }
+{
+    let all = match store.load() {
+        Ok(all) => all,
+        Err(fault) => return Err(store_refusal(fault)),
+    };
+    if all.life >= LAST {
+        return Err(Refusal::Full);
+    }
+    if !are_begun(all.life, all.commits.as_slice()) {
+        return Err(Refusal::Store(StoreFault::Damaged));
+    }
+    let standings = rest(alloc, all.commits.as_slice())?;
+    let letters = commits_again(alloc, all.commits.as_slice())?;
+    match store.next_incarnation() {
+        Ok(life) => Ok(Beginning {
+            standings,
+            letters,
+            life,
+        }),
+        Err(fault) => Err(store_refusal(fault)),
+    }
+}
+
+/// The coordinator restarts: who was undecided is lost, and the next life begins. On a refusal nothing has
+/// changed.
+pub(crate) fn restart<S: DeskStore>(store: &mut S, volatile: &mut Volatile) -> Result<Out, Refusal>
+    ensures begins { BeginsOrFails S.is_clean S.is_sound S.kept S.refused store.old store.new result }
+    ensures ok { (db : Database) → S.is_clean store.new → Fits db (S.kept store.old) (volatile_of volatile.old)
+        → IfOk result (λ out. Restarts db (volatile_of volatile.old) (S.kept store.new) (volatile_of volatile.new) out.letters out.replies) }
+    ensures rises { (db : Database) → S.is_clean store.new → OnOk result (Rises db (S.kept store.new) (volatile_of volatile.new)) }
+    ensures kept { IfOk result (λ out. out.kept ≡ true) }
+    ensures err { OnErr result (volatile_of volatile.new ≡ volatile_of volatile.old) }
+    ensures refusal { result ≡ Err (refusals.Store store_faults.Refused) → HasRefused (S.refused store.old) (S.refused store.new) }
+{
+    let replies = lost(volatile)?;
+    match begin(store, volatile.alloc) {
+        Ok(begun) => Ok(rise(volatile, begun, replies)),
+        Err(refusal) => Err(refusal),
+    }
+}
+
+/// What was in memory is lost, and a life has begun.
+fn rise(volatile: &mut Volatile, begun: Beginning, replies: Vec<Notice>) -> Out
+    ensures begun { volatile_of volatile.new ≡ volatile_from begun.standings.entries 0 begun.life 0 }
+    ensures letters { result.letters ≡ begun.letters.items }
+    ensures replies { result.replies ≡ replies.items }
+    ensures kept { result.kept ≡ true }
+    ensures ordered { IsOrdered txn_cmp volatile.old.standings }
+{
+    let Beginning {
+        standings,
+        letters,
+        life,
+    } = begun;
+    volatile.restart(standings, life);
+    Out {
+        letters: Seq::new(letters),
+        replies: Seq::new(replies),
+        kept: true,
+    }
+}

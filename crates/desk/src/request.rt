@@ -1,0 +1,427 @@
+//! What clients ask: a transaction begins, states a statement, and ends.
+
+ghost use Rattle.std.specs.Prelude.{◌≡◌, ◌<◌, ◌⊎◌, [], vec_len, false, None, Some, true, is_some, IfOk, IfErr, OnOk, OnErr, ◌≢◌, Err, map};
+ghost use Rattle.std.specs.Vec.{vec_capacity};
+ghost use Rattle.std.specs.Option.{option_copied, option_map};
+ghost use Rattle.reader.specs.Printable.{AreDistinct};
+ghost use Rattle.protocol.specs.Desk.{Choice, Commit_call, Give_up, Rollback, desk_began, is_desk_within, on_request, refusal, Known, State};
+ghost use Rattle.protocol.specs.Letters.{txn_name};
+ghost use Rattle.store.specs.DeskContent.{DeskContent};
+ghost use Rattle.desk.specs.declared.refusal.Refusal.TheVariants as refusals;
+ghost use Rattle.desk.specs.declared.transition.After.TheVariants as after;
+ghost use Rattle.desk.specs.declared.reply.Reply.TheVariants as replies;
+ghost use Rattle.desk.specs.Begun.{nowhere_yet};
+ghost use Rattle.desk.specs.Request.{IsAt, IsOver, notices, open_in, refused_as, txn_in};
+ghost use Rattle.desk.specs.Database.{Database, language};
+ghost use Rattle.desk.specs.State.{Begins, Fits, Steps, desk_of, volatile_of};
+ghost use Rattle.desk.specs.Transition.{AtSites, IsTransition, after_of, AreParticipants};
+ghost use Rattle.desk.specs.Acknowledge.{kept_voters};
+ghost use Rattle.std.specs.BTreeMap.{IsOrdered};
+ghost use Rattle.meaning.specs.declared.statement.Statement.{Statement as StatementNow};
+ghost use Rattle.meaning.specs.Statement.{IsStatementOf};
+ghost use Rattle.reader.specs.declared.command.Command.TheVariants as commands;
+ghost use Rattle.reader.specs.declared.fault.Rule.TheVariants as rules;
+ghost use Rattle.reader.specs.Command.{IsTextOf};
+ghost use Rattle.catalog.specs.FragmentLeaf.{schemas_of};
+ghost use Rattle.catalog.specs.Relation.{catalogue_of};
+ghost use Rattle.store.specs.Name.{txn_cmp};
+ghost use Rattle.desk.specs.declared.transaction.TxnState.TheVariants as standings;
+ghost use Rattle.desk.specs.declared.transaction.Stage.TheVariants as stages;
+ghost use Rattle.desk.specs.declared.transaction.Undecided.{Undecided as UndecidedNow};
+ghost use Rattle.desk.specs.Does.{Does, DoesIn, GoesOn, IsLong, IsShort, IsUnread, States, StatesPastLimits};
+ghost use Rattle.desk.specs.OfCatalogue.{IsOfCatalogue};
+ghost use Rattle.desk.specs.Planned.{IsOfPlan, ask_from};
+ghost use Rattle.desk.specs.Send.{AreShort};
+ghost use Rattle.desk.specs.Transaction.{undecided_of};
+
+use crate::abort::{give_up, is_voting, roll_back};
+use crate::commit::commit;
+use crate::fetches::{Ask, asks_of};
+use crate::participant::Participant;
+use crate::refusal::Refusal;
+use crate::reply::{Notice, Out, Reply};
+use crate::statement::{Progress, Worked, evaluate, reads, works};
+use crate::transaction::{Planned, Stage, TxnState, Undecided};
+use crate::transition::{Transition, make, noticed, room, stays};
+use crate::volatile::Volatile;
+use catalog::catalogue::Catalog;
+use catalog::laws::leaf_names_are_unique;
+use meaning::statement::Statement;
+use plan::reduce::fetches;
+use reader::command::Command;
+use reader::fault::{ReadFault, Rule};
+use reader::read::read;
+use std::alloc::Global;
+use store::name::Txn;
+use terms::copy::TryCopy;
+use terms::memory::Memory;
+use terms::seq::Seq;
+use terms::text::Text;
+
+/// Participants of which none is visited.
+fn nowhere_yet(alloc: Global, sites: &[Text]) -> Result<Vec<Participant>, Memory>
+    ensures { IfOk result (λ participants. participants.items ≡ nowhere_yet sites.now) }
+{
+    let mut participants = Vec::new(alloc);
+    for site in sites {
+        participants.push(Participant {
+            site: site.copy()?,
+            visited: false,
+            ticket: None,
+            sent: 0,
+            vote: None,
+        })?;
+    }
+    Ok(participants)
+}
+
+/// A transaction begins at these sites.
+pub(crate) fn call_begin(volatile: &mut Volatile, sites: &[Text]) -> Result<Out, Refusal>
+    ensures ok { (db : Database) (kept : DeskContent) → IsOver db sites.now → Fits db kept (volatile_of volatile.old)
+        → IfOk result (λ out. Begins db (volatile_of volatile.old) kept (volatile_of volatile.new) out.letters out.replies) }
+    ensures kept { IfOk result (λ out. out.kept ≡ true) }
+    ensures err { OnErr result (volatile_of volatile.new ≡ volatile_of volatile.old) }
+    ensures own { IfErr result (λ told. (told ≡ refusals.Memory) ⊎ (told ≡ refusals.Full)) }
+    ensures full { (db : Database) (kept : DeskContent) → IsOver db sites.now → Fits db kept (volatile_of volatile.old)
+        → IfErr result (λ told. (told ≡ refusals.Memory) ⊎ ((told ≡ refusals.Full) × (is_desk_within (desk_began (desk_of db (volatile_of volatile.old))) ≡ false))) }
+{
+    let room = room(volatile.alloc)?;
+    let participants = nowhere_yet(volatile.alloc, sites)?;
+    match volatile.begin(participants) {
+        Ok(txn) => Ok(begun(volatile.alloc, room, txn)),
+        Err(refusal) => Err(refusal),
+    }
+}
+
+/// A transaction's client hears that it has begun. There is room for it.
+fn begun(alloc: Global, room: Vec<Notice>, txn: Txn) -> Out
+    requires { vec_len room < vec_capacity room }
+    ensures letters { result.letters ≡ [] }
+    ensures replies { room.items ≡ [] → result.replies ≡ notices txn (Some replies.Begun) }
+    ensures kept { result.kept ≡ true }
+{
+    Out {
+        letters: Seq::new(Vec::new(alloc)),
+        replies: Seq::new(noticed(room, txn, Some(Reply::Begun))),
+        kept: true,
+    }
+}
+
+/// An undecided transaction.
+pub(crate) fn undecided_of<'a>(volatile: &'a Volatile, txn: &Txn) -> Option<&'a Undecided>
+    ensures { option_copied result ≡ open_in ((volatile_of volatile.now).standing txn.now) }
+{
+    match volatile.standing(txn) {
+        Some(TxnState::Undecided(undecided)) => Some(undecided),
+        _ => None,
+    }
+}
+
+/// The step of a transaction whose commit is asked for.
+fn commit_step(volatile: &Volatile, txn: Txn) -> Result<Transition, Refusal>
+    ensures turn { (db : Database) (choice : Choice (language db)) → IsAt db ((volatile_of volatile.now).standing txn)
+        → IfOk result (λ turn. IsTransition db txn ((volatile_of volatile.now).standing txn) turn (on_request (txn_name txn) choice Commit_call (txn_in db (volatile_of volatile.now) txn))) }
+    ensures sites { (db : Database) → IsAt db ((volatile_of volatile.now).standing txn) → IfOk result (λ turn. AtSites db.sites turn.after) }
+    ensures keeps { IfOk result (λ turn. kept_voters (after_of ((volatile_of volatile.now).standing txn) turn.after) ≡ kept_voters ((volatile_of volatile.now).standing txn)) }
+    ensures kept { IfOk result (λ turn. turn.kept ≡ true) }
+    ensures stands { IfOk result (λ turn. (is_some ((volatile_of volatile.now).standing txn) ≡ true) ⊎ (turn.after ≡ after.Stays)) }
+    ensures accepted { (db : Database) → OnOk result (refusal Commit_call (txn_in db (volatile_of volatile.now) txn) ≡ None) }
+    ensures told { (db : Database) → IfErr result (λ told. (told ≡ refusals.Memory) ⊎ (option_map refused_as (refusal Commit_call (txn_in db (volatile_of volatile.now) txn)) ≡ Some told)) }
+{
+    let Some(undecided) = undecided_of(volatile, &txn) else {
+        return Err(Refusal::NoTransaction);
+    };
+    match &undecided.stage {
+        Stage::Idle => Ok(commit(volatile.alloc, txn, undecided)?),
+        Stage::Voting => Err(Refusal::Ended),
+        _ => Err(Refusal::Busy),
+    }
+}
+
+/// The step of a transaction that is rolled back.
+fn rollback_step(volatile: &Volatile, txn: Txn) -> Result<Transition, Refusal>
+    ensures turn { (db : Database) (choice : Choice (language db)) → IsAt db ((volatile_of volatile.now).standing txn)
+        → IfOk result (λ turn. IsTransition db txn ((volatile_of volatile.now).standing txn) turn (on_request (txn_name txn) choice Rollback (txn_in db (volatile_of volatile.now) txn))) }
+    ensures sites { (db : Database) → IsAt db ((volatile_of volatile.now).standing txn) → IfOk result (λ turn. AtSites db.sites turn.after) }
+    ensures keeps { IfOk result (λ turn. kept_voters (after_of ((volatile_of volatile.now).standing txn) turn.after) ≡ kept_voters ((volatile_of volatile.now).standing txn)) }
+    ensures kept { IfOk result (λ turn. turn.kept ≡ true) }
+    ensures stands { IfOk result (λ turn. (is_some ((volatile_of volatile.now).standing txn) ≡ true) ⊎ (turn.after ≡ after.Stays)) }
+    ensures accepted { (db : Database) → OnOk result (refusal Rollback (txn_in db (volatile_of volatile.now) txn) ≡ None) }
+    ensures told { (db : Database) → IfErr result (λ told. (told ≡ refusals.Memory) ⊎ (option_map refused_as (refusal Rollback (txn_in db (volatile_of volatile.now) txn)) ≡ Some told)) }
+{
+    let Some(undecided) = undecided_of(volatile, &txn) else {
+        return Err(Refusal::NoTransaction);
+    };
+    if is_voting(&undecided.stage) {
+        return Err(Refusal::Ended);
+    }
+    Ok(roll_back(volatile.alloc, txn, undecided)?)
+}
+
+/// The step of a transaction that is given up. One that isn't undecided stays as it is.
+fn give_up_step(volatile: &Volatile, txn: Txn) -> Result<Transition, Refusal>
+    ensures turn { (db : Database) (choice : Choice (language db)) → IsAt db ((volatile_of volatile.now).standing txn)
+        → IfOk result (λ turn. IsTransition db txn ((volatile_of volatile.now).standing txn) turn (on_request (txn_name txn) choice Give_up (txn_in db (volatile_of volatile.now) txn))) }
+    ensures sites { (db : Database) → IsAt db ((volatile_of volatile.now).standing txn) → IfOk result (λ turn. AtSites db.sites turn.after) }
+    ensures keeps { IfOk result (λ turn. kept_voters (after_of ((volatile_of volatile.now).standing txn) turn.after) ≡ kept_voters ((volatile_of volatile.now).standing txn)) }
+    ensures kept { IfOk result (λ turn. turn.kept ≡ true) }
+    ensures stands { IfOk result (λ turn. (is_some ((volatile_of volatile.now).standing txn) ≡ true) ⊎ (turn.after ≡ after.Stays)) }
+    ensures own { IfErr result (λ told. told ≡ refusals.Memory) }
+{
+    match undecided_of(volatile, &txn) {
+        Some(undecided) => Ok(give_up(volatile.alloc, txn, undecided)?),
+        None => Ok(stays(volatile.alloc, true)),
+    }
+}
+
+/// The commit of a transaction is asked for.
+pub(crate) fn call_commit(volatile: &mut Volatile, txn: Txn) -> Result<Out, Refusal>
+    ensures ok { (db : Database) (choice : Choice (language db)) (kept : DeskContent) → AreDistinct db.sites → Fits db kept (volatile_of volatile.old)
+        → IfOk result (λ out. Steps db (volatile_of volatile.old) kept (volatile_of volatile.new) txn (on_request (txn_name txn) choice Commit_call (txn_in db (volatile_of volatile.old) txn)) out.letters out.replies) }
+    ensures kept { IfOk result (λ out. out.kept ≡ true) }
+    ensures err { OnErr result (volatile_of volatile.new ≡ volatile_of volatile.old) }
+    ensures accepted { (db : Database) → OnOk result (refusal Commit_call (txn_in db (volatile_of volatile.old) txn) ≡ None) }
+    ensures told { (db : Database) → IfErr result (λ told. (told ≡ refusals.Memory) ⊎ (option_map refused_as (refusal Commit_call (txn_in db (volatile_of volatile.old) txn)) ≡ Some told)) }
+{
+    let room = room(volatile.alloc)?;
+    let turn = commit_step(volatile, txn)?;
+    Ok(make(volatile, txn, turn, room))
+}
+
+/// A transaction is to be rolled back.
+pub(crate) fn call_rollback(volatile: &mut Volatile, txn: Txn) -> Result<Out, Refusal>
+    ensures ok { (db : Database) (choice : Choice (language db)) (kept : DeskContent) → AreDistinct db.sites → Fits db kept (volatile_of volatile.old)
+        → IfOk result (λ out. Steps db (volatile_of volatile.old) kept (volatile_of volatile.new) txn (on_request (txn_name txn) choice Rollback (txn_in db (volatile_of volatile.old) txn)) out.letters out.replies) }
+    ensures kept { IfOk result (λ out. out.kept ≡ true) }
+    ensures err { OnErr result (volatile_of volatile.new ≡ volatile_of volatile.old) }
+    ensures accepted { (db : Database) → OnOk result (refusal Rollback (txn_in db (volatile_of volatile.old) txn) ≡ None) }
+    ensures told { (db : Database) → IfErr result (λ told. (told ≡ refusals.Memory) ⊎ (option_map refused_as (refusal Rollback (txn_in db (volatile_of volatile.old) txn)) ≡ Some told)) }
+{
+    let room = room(volatile.alloc)?;
+    let turn = rollback_step(volatile, txn)?;
+    Ok(make(volatile, txn, turn, room))
+}
+
+/// A transaction is to be given up.
+pub(crate) fn call_give_up(volatile: &mut Volatile, txn: Txn) -> Result<Out, Refusal>
+    ensures ok { (db : Database) (choice : Choice (language db)) (kept : DeskContent) → AreDistinct db.sites → Fits db kept (volatile_of volatile.old)
+        → IfOk result (λ out. Steps db (volatile_of volatile.old) kept (volatile_of volatile.new) txn (on_request (txn_name txn) choice Give_up (txn_in db (volatile_of volatile.old) txn)) out.letters out.replies) }
+    ensures kept { IfOk result (λ out. out.kept ≡ true) }
+    ensures err { OnErr result (volatile_of volatile.new ≡ volatile_of volatile.old) }
+    ensures own { IfErr result (λ told. told ≡ refusals.Memory) }
+{
+    let room = room(volatile.alloc)?;
+    let turn = give_up_step(volatile, txn)?;
+    Ok(make(volatile, txn, turn, room))
+}
+
+/// A statement without fetches is evaluated at once.
+fn run_at_once(
+    alloc: Global,
+    catalog: &Catalog,
+    txn: Txn,
+    undecided: &mut Undecided,
+    statement: &Statement,
+    plan: &Planned,
+    asks: &[Ask],
+) -> Result<Progress, Refusal>
+    ensures does { (db : Database) → IsOfCatalogue db → db.catalogue ≡ catalogue_of catalog.now → AreParticipants db undecided.old.participants → undecided.old.stage ≡ stages.Idle
+        → IsOfPlan db statement.now plan.now asks.now → asks.now ≡ map (ask_from db.catalogue) plan.now.fetches.items → asks.now ≡ []
+        → IfOk result (λ step. Does db txn undecided.new step (λ choice. on_request (txn_name txn) choice (State statement.now) (Known (undecided_of db undecided.old)))) }
+    ensures short { AreShort undecided.old.participants → OnOk result (AreShort undecided.new.participants) }
+    ensures full { (db : Database) → IsOfCatalogue db → db.catalogue ≡ catalogue_of catalog.now → AreParticipants db undecided.old.participants → undecided.old.stage ≡ stages.Idle
+        → IsOfPlan db statement.now plan.now asks.now → asks.now ≡ map (ask_from db.catalogue) plan.now.fetches.items → asks.now ≡ [] → result ≡ Err refusals.Full
+        → IsLong db (λ choice. on_request (txn_name txn) choice (State statement.now) (Known (undecided_of db undecided.old))) }
+    ensures same { OnErr result (undecided.new ≡ undecided.old) }
+{
+    let worked = evaluate(alloc, catalog, statement, plan, asks)?;
+    let Worked { answer, unsent } = worked;
+    works(alloc, txn, undecided, answer, unsent)
+}
+
+/// An idle transaction has a statement done.
+fn start_reading(
+    alloc: Global,
+    catalog: &Catalog,
+    txn: Txn,
+    undecided: &mut Undecided,
+    statement: Statement,
+    plan: Planned,
+    asks: Vec<Ask>,
+) -> Result<Progress, Refusal>
+    ensures does { (db : Database) → IsOfCatalogue db → db.catalogue ≡ catalogue_of catalog.now → AreParticipants db undecided.old.participants → undecided.old.stage ≡ stages.Idle
+        → IsOfPlan db statement plan asks.items → asks.items ≡ map (ask_from db.catalogue) plan.fetches.items
+        → IfOk result (λ step. Does db txn undecided.new step (λ choice. on_request (txn_name txn) choice (State statement) (Known (undecided_of db undecided.old)))) }
+    ensures short { AreShort undecided.old.participants → OnOk result (AreShort undecided.new.participants) }
+    ensures full { (db : Database) → IsOfCatalogue db → db.catalogue ≡ catalogue_of catalog.now → AreParticipants db undecided.old.participants → undecided.old.stage ≡ stages.Idle
+        → IsOfPlan db statement plan asks.items → asks.items ≡ map (ask_from db.catalogue) plan.fetches.items → result ≡ Err refusals.Full
+        → IsLong db (λ choice. on_request (txn_name txn) choice (State statement) (Known (undecided_of db undecided.old))) }
+    ensures same { OnErr result (undecided.new ≡ undecided.old) }
+{
+    leaf_names_are_unique();
+    if asks.is_empty() {
+        let none = asks.as_slice();
+        return run_at_once(alloc, catalog, txn, undecided, &statement, &plan, none);
+    }
+    reads(alloc, txn, undecided, statement, plan, asks)
+}
+
+/// What stands behind a transaction has a statement done.
+fn start_in(
+    alloc: Global,
+    catalog: &Catalog,
+    txn: Txn,
+    standing: &mut TxnState,
+    statement: Statement,
+    plan: Planned,
+    asks: Vec<Ask>,
+) -> Result<Progress, Refusal>
+    ensures does { (db : Database) (old : UndecidedNow) → IsOfCatalogue db → db.catalogue ≡ catalogue_of catalog.now → standing.old ≡ standings.Undecided old → AreParticipants db old.participants → old.stage ≡ stages.Idle
+        → IsOfPlan db statement plan asks.items → asks.items ≡ map (ask_from db.catalogue) plan.fetches.items
+        → IfOk result (λ step. DoesIn db txn standing.new step (λ choice. on_request (txn_name txn) choice (State statement) (Known (undecided_of db old)))) }
+    ensures short { IsShort standing.old → OnOk result (IsShort standing.new) }
+    ensures full { (db : Database) (old : UndecidedNow) → IsOfCatalogue db → db.catalogue ≡ catalogue_of catalog.now → standing.old ≡ standings.Undecided old → AreParticipants db old.participants → old.stage ≡ stages.Idle
+        → IsOfPlan db statement plan asks.items → asks.items ≡ map (ask_from db.catalogue) plan.fetches.items → result ≡ Err refusals.Full
+        → IsLong db (λ choice. on_request (txn_name txn) choice (State statement) (Known (undecided_of db old))) }
+    ensures same { OnErr result (standing.new ≡ standing.old) }
+{
+    match standing {
+        TxnState::Undecided(undecided) => {
+            start_reading(alloc, catalog, txn, undecided, statement, plan, asks)
+        }
+        TxnState::Committed(_) => Err(Refusal::NoTransaction),
+    }
+}
+
+/// A transaction in memory has a statement done.
+fn start(
+    volatile: &mut Volatile,
+    catalog: &Catalog,
+    txn: Txn,
+    statement: Statement,
+    plan: Planned,
+    asks: Vec<Ask>,
+) -> Result<Progress, Refusal>
+    ensures goes { (db : Database) (kept : DeskContent) (old : UndecidedNow) → IsOfCatalogue db → db.catalogue ≡ catalogue_of catalog.now → Fits db kept (volatile_of volatile.old)
+        → (volatile_of volatile.old).standing txn ≡ Some (standings.Undecided old) → old.stage ≡ stages.Idle → IsOfPlan db statement plan asks.items → asks.items ≡ map (ask_from db.catalogue) plan.fetches.items
+        → IfOk result (λ step. GoesOn db volatile.old (volatile_of volatile.new) txn step (λ choice. on_request (txn_name txn) choice (State statement) (txn_in db (volatile_of volatile.old) txn))) }
+    ensures full { (db : Database) (kept : DeskContent) (old : UndecidedNow) → IsOfCatalogue db → db.catalogue ≡ catalogue_of catalog.now → Fits db kept (volatile_of volatile.old)
+        → (volatile_of volatile.old).standing txn ≡ Some (standings.Undecided old) → old.stage ≡ stages.Idle → IsOfPlan db statement plan asks.items → asks.items ≡ map (ask_from db.catalogue) plan.fetches.items → result ≡ Err refusals.Full
+        → IsLong db (λ choice. on_request (txn_name txn) choice (State statement) (txn_in db (volatile_of volatile.old) txn)) }
+    ensures err { OnErr result (volatile_of volatile.new ≡ volatile_of volatile.old) }
+    ensures ordered { IsOrdered txn_cmp volatile.old.standings }
+{
+    let alloc = volatile.alloc;
+    let _count = volatile.standings.len();
+    match volatile.standings.get_mut(&txn) {
+        Some(standing) => start_in(alloc, catalog, txn, standing, statement, plan, asks),
+        None => Err(Refusal::NoTransaction),
+    }
+}
+
+/// Whether a transaction may state something: it is undecided, and between two statements.
+fn may_state(volatile: &Volatile, txn: &Txn) -> Result<(), Refusal>
+    ensures accepted { (db : Database) (statement : StatementNow) → OnOk result (refusal (State statement) (txn_in db (volatile_of volatile.now) txn.now) ≡ None) }
+    ensures idle { OnOk result (option_map (λ found. found.stage) (open_in ((volatile_of volatile.now).standing txn.now)) ≡ Some stages.Idle) }
+    ensures told { (db : Database) (statement : StatementNow) → IfErr result (λ told. option_map refused_as (refusal (State statement) (txn_in db (volatile_of volatile.now) txn.now)) ≡ Some told) }
+    ensures own { result ≢ Err refusals.Full }
+{
+    let Some(undecided) = undecided_of(volatile, txn) else {
+        return Err(Refusal::NoTransaction);
+    };
+    match &undecided.stage {
+        Stage::Idle => Ok(()),
+        Stage::Voting => Err(Refusal::Ended),
+        _ => Err(Refusal::Busy),
+    }
+}
+
+/// What the reader says of a text.
+fn reader_refusal(fault: ReadFault) -> Refusal
+    ensures { (result ≡ refusals.Memory) ⊎ ((fault.rule ≢ Rule.Memory) × (result ≡ refusals.Read fault)) }
+{
+    if fault.rule() == Rule::Memory {
+        Refusal::Memory
+    } else {
+        Refusal::Read(fault)
+    }
+}
+
+/// The statement that a command runs. BEGIN, COMMIT and ROLLBACK run none.
+fn run_by(command: Command) -> Result<Statement, Refusal>
+    ensures run { IfOk result (λ statement. command ≡ commands.Run statement) }
+    ensures none { IfErr result (λ told. (told ≡ refusals.Read (record { rule = rules.Syntax; offset = 0 })) × ((command ≡ commands.Begin) ⊎ ((command ≡ commands.Commit) ⊎ (command ≡ commands.Rollback)))) }
+{
+    match command {
+        Command::Run(statement) => Ok(statement),
+        Command::Begin => Err(Refusal::Read(ReadFault::new(Rule::Syntax, 0))),
+        Command::Commit => Err(Refusal::Read(ReadFault::new(Rule::Syntax, 0))),
+        Command::Rollback => Err(Refusal::Read(ReadFault::new(Rule::Syntax, 0))),
+    }
+}
+
+/// The statement of a text, under the catalogue's schema.
+fn statement_of(alloc: Global, catalog: &Catalog, text: &str) -> Result<Statement, Refusal>
+    ensures spelled { IfOk result (λ statement. IsTextOf (schemas_of (catalogue_of catalog.now)) text.now (commands.Run statement)) }
+    ensures fits { IfOk result (λ statement. IsStatementOf (schemas_of (catalogue_of catalog.now)) statement) }
+    ensures told { IfErr result (λ told. (told ≡ refusals.Memory) ⊎ IsUnread (schemas_of (catalogue_of catalog.now)) text.now told) }
+{
+    match read(alloc, text, catalog.schema()) {
+        Ok(command) => run_by(command),
+        Err(fault) => Err(reader_refusal(fault)),
+    }
+}
+
+/// Why a step of a statement could not be made: a limit is reached, or memory ran out.
+pub(crate) fn limit_or_memory(refusal: Refusal) -> Refusal
+    ensures own { (result ≡ refusals.Memory) ⊎ (result ≡ refusals.Full) }
+    ensures full { result ≡ refusals.Full → refusal ≡ refusals.Full }
+{
+    match refusal {
+        Refusal::Full => Refusal::Full,
+        _ => Refusal::Memory,
+    }
+}
+
+/// What a step of a statement puts out. There is room for its reply.
+pub(crate) fn put_out(room: Vec<Notice>, txn: Txn, step: Progress) -> Out
+    requires { vec_len room < vec_capacity room }
+    ensures letters { result.letters ≡ step.letters.items }
+    ensures replies { room.items ≡ [] → result.replies ≡ notices txn step.reply }
+    ensures kept { result.kept ≡ true }
+{
+    let Progress { letters, reply } = step;
+    Out {
+        letters: Seq::new(letters),
+        replies: Seq::new(noticed(room, txn, reply)),
+        kept: true,
+    }
+}
+
+/// A statement of a transaction, by its text.
+pub(crate) fn call_statement(
+    volatile: &mut Volatile,
+    catalog: &Catalog,
+    txn: Txn,
+    text: &str,
+) -> Result<Out, Refusal>
+    ensures ok { (db : Database) (kept : DeskContent) → IsOfCatalogue db → db.catalogue ≡ catalogue_of catalog.now → Fits db kept (volatile_of volatile.old)
+        → IfOk result (λ out. States db (volatile_of volatile.old) kept (volatile_of volatile.new) txn text.now out.letters out.replies) }
+    ensures kept { IfOk result (λ out. out.kept ≡ true) }
+    ensures err { OnErr result (volatile_of volatile.new ≡ volatile_of volatile.old) }
+    ensures accepted { (db : Database) (statement : StatementNow) → OnOk result (refusal (State statement) (txn_in db (volatile_of volatile.old) txn) ≡ None) }
+    ensures told { (db : Database) (statement : StatementNow) → IfErr result (λ told. (told ≡ refusals.Memory) ⊎ (option_map refused_as (refusal (State statement) (txn_in db (volatile_of volatile.old) txn)) ≡ Some told)
+        ⊎ ((refusal (State statement) (txn_in db (volatile_of volatile.old) txn) ≡ None) × (IsUnread (schemas_of (catalogue_of catalog.now)) text.now told ⊎ (told ≡ refusals.Full)))) }
+    ensures full { (db : Database) (kept : DeskContent) → IsOfCatalogue db → db.catalogue ≡ catalogue_of catalog.now → Fits db kept (volatile_of volatile.old) → result ≡ Err refusals.Full
+        → StatesPastLimits db (volatile_of volatile.old) txn text.now }
+{
+    let room = room(volatile.alloc)?;
+    may_state(volatile, &txn)?;
+    let statement = statement_of(volatile.alloc, catalog, text)?;
+    let plan = Planned::new(volatile.alloc, catalog, &statement)?;
+    let asks = asks_of(volatile.alloc, catalog, fetches(plan.reduced()))?;
+    match start(volatile, catalog, txn, statement, plan, asks) {
+        Ok(step) => Ok(put_out(room, txn, step)),
+        Err(refusal) => Err(limit_or_memory(refusal)),
+    }
+}

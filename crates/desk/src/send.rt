@@ -1,0 +1,417 @@
+//! Letters to sites: visits begin, operations go out as tickets come, and orders end them.
+
+ghost use Rattle.std.specs.Prelude.{◌≡◌, ◌<◌, ◌≤◌, ◌^◌, ◌∷◌, ◌++◌, [], None, Err, filter, map, IfOk, IfSome, OnOk, OnErr, nat_eq};
+ghost use Rattle.desk.specs.declared.refusal.Refusal.TheVariants as refusals;
+ghost use Rattle.desk.specs.Send.{AreShort, IsPast, asks_go, counted, next_number, waits_in, with_numbers, writes_go};
+ghost use Rattle.desk.specs.Participants.{participant_in};
+ghost use Rattle.std.specs.Cmp.Lexicographic.{pointwise};
+ghost use Rattle.std.specs.List.{list_any};
+ghost use Rattle.desk.specs.Opening.{is_new, opens, visits};
+ghost use Rattle.desk.specs.Orders.{is_for, broadcast_letters, may_hold, order_at, order_of};
+
+use crate::fetches::Ask;
+use crate::participant::{Participant, find_participant, is_at};
+use crate::refusal::Refusal;
+use crate::transaction::Unsent;
+use std::alloc::Global;
+use store::letter::{Body, Letter};
+use store::name::{Ticket, Txn};
+use store::order::{Fetch, Intention, Order, Prepare};
+use store::reply::Vote;
+use terms::copy::{TryCopy, copy_all};
+use terms::memory::Memory;
+use terms::text::Text;
+
+/// Operations of a visit have numbers below this.
+const NUMBERS: u64 = 1 << 63;
+
+/// So many operations were sent to a site.
+fn set_sent(participants: &mut [Participant], site: &Text, count: u64)
+    ensures { participants.new ≡ counted site.now count participants.old }
+{
+    let Some((participant, rest)) = participants.split_first_mut() else {
+        return;
+    };
+    if is_at(participant, site) {
+        participant.sent = count;
+    }
+    set_sent(rest, site, count);
+}
+
+/// The ticket of a site, if it has given one.
+pub(crate) fn ticket_of(participants: &[Participant], site: &Text) -> Option<Ticket>
+    ensures { result ≡ (participant_in site.now participants.now).ticket }
+{
+    match find_participant(participants, site) {
+        Some(participant) => participant.ticket,
+        None => None,
+    }
+}
+
+/// How many operations were sent to a site.
+fn sent_to(participants: &[Participant], site: &Text) -> u64
+    ensures { result ≡ (participant_in site.now participants.now).sent }
+{
+    match find_participant(participants, site) {
+        Some(participant) => participant.sent,
+        None => 0,
+    }
+}
+
+/// The number of the next operation to a site, unless it is past the limit.
+fn next_number(participants: &[Participant], site: &Text) -> Option<u64>
+    ensures some { IfSome result (λ number. number ≡ next_number site.now participants.now) }
+    ensures few { IfSome result (λ number. number < 2 ^ 63) }
+    ensures none { result ≡ None → 2 ^ 63 ≤ next_number site.now participants.now }
+{
+    let sent = sent_to(participants, site);
+    if sent < NUMBERS - 1 {
+        Some(sent + 1)
+    } else {
+        None
+    }
+}
+
+/// The number of a fetch: a new one where it goes out now.
+fn ask_out(
+    letters: &mut Vec<Letter>,
+    participants: &mut [Participant],
+    txn: Txn,
+    ask: &Ask,
+) -> Result<Option<u64>, Refusal>
+    ensures number { IfOk result (λ number. map (λ left. left.number) (asks_go txn (ask.now ∷ []) participants.old).left ≡ number ∷ []) }
+    ensures participants { IfOk result (λ _. participants.new ≡ (asks_go txn (ask.now ∷ []) participants.old).participants) }
+    ensures letters { IfOk result (λ _. letters.new.items ≡ letters.old.items ++ (asks_go txn (ask.now ∷ []) participants.old).letters) }
+    ensures short { AreShort participants.old → OnOk result (AreShort participants.new) }
+    ensures full { result ≡ Err refusals.Full → IsPast (asks_go txn (ask.now ∷ []) participants.old).participants }
+{
+    if ask.number.is_some() {
+        return Ok(ask.number);
+    }
+    let Some(ticket) = ticket_of(participants, &ask.site) else {
+        return Ok(None);
+    };
+    let Some(number) = next_number(participants, &ask.site) else {
+        return Err(Refusal::Full);
+    };
+    letters.push(Letter {
+        site: ask.site.copy()?,
+        txn,
+        body: Body::Order(Order::Fetch(Fetch {
+            ticket,
+            op: number,
+            leaf: ask.leaf.copy()?,
+            conds: ask.conds.copy()?,
+        })),
+    })?;
+    set_sent(participants, &ask.site, number);
+    Ok(Some(number))
+}
+
+/// What goes out of fetches: their numbers, and the letters.
+#[derive(Debug, Drop)]
+pub(crate) struct AsksOut {
+    pub(crate) numbers: Vec<Option<u64>>,
+    pub(crate) letters: Vec<Letter>,
+}
+
+/// Fetches go out in order. Full where an operation's number would be past the limit.
+pub(crate) fn asks_out(
+    alloc: Global,
+    txn: Txn,
+    asks: &[Ask],
+    participants: &mut [Participant],
+) -> Result<AsksOut, Refusal>
+    ensures numbers { IfOk result (λ out. out.numbers.items ≡ map (λ left. left.number) (asks_go txn asks.now participants.old).left) }
+    ensures letters { IfOk result (λ out. out.letters.items ≡ (asks_go txn asks.now participants.old).letters) }
+    ensures participants { IfOk result (λ _. participants.new ≡ (asks_go txn asks.now participants.old).participants) }
+    ensures short { AreShort participants.old → OnOk result (AreShort participants.new) }
+    ensures full { result ≡ Err refusals.Full → IsPast (asks_go txn asks.now participants.old).participants }
+{
+    let mut numbers = Vec::new(alloc);
+    let mut letters = Vec::new(alloc);
+    for ask in asks {
+        numbers.push(ask_out(&mut letters, participants, txn, ask)?)?;
+    }
+    Ok(AsksOut { numbers, letters })
+}
+
+/// Fetches get these numbers.
+pub(crate) fn set_numbers(asks: &mut [Ask], numbers: &[Option<u64>])
+    ensures { asks.new ≡ with_numbers asks.old numbers.now }
+{
+    let Some((ask, asks)) = asks.split_first_mut() else {
+        return;
+    };
+    let Some((first, numbers)) = numbers.split_first() else {
+        return;
+    };
+    ask.number = *first;
+    set_numbers(asks, numbers);
+}
+
+/// A write goes out, if its site has given a ticket.
+fn write_out(
+    letters: &mut Vec<Letter>,
+    participants: &mut [Participant],
+    txn: Txn,
+    unsent: &Unsent,
+) -> Result<(), Refusal>
+    ensures participants { IfOk result (λ _. participants.new ≡ (writes_go txn (unsent.now ∷ []) participants.old).participants) }
+    ensures letters { IfOk result (λ _. letters.new.items ≡ letters.old.items ++ (writes_go txn (unsent.now ∷ []) participants.old).letters) }
+    ensures short { AreShort participants.old → OnOk result (AreShort participants.new) }
+    ensures full { result ≡ Err refusals.Full → IsPast (writes_go txn (unsent.now ∷ []) participants.old).participants }
+{
+    let Some(ticket) = ticket_of(participants, &unsent.site) else {
+        return Ok(());
+    };
+    let Some(number) = next_number(participants, &unsent.site) else {
+        return Err(Refusal::Full);
+    };
+    letters.push(Letter {
+        site: unsent.site.copy()?,
+        txn,
+        body: Body::Order(Order::Intend(Intention {
+            ticket,
+            op: number,
+            write: unsent.write.copy()?,
+        })),
+    })?;
+    set_sent(participants, &unsent.site, number);
+    Ok(())
+}
+
+/// Writes go out in order. Full where an operation's number would be past the limit.
+pub(crate) fn writes_out(
+    alloc: Global,
+    txn: Txn,
+    writes: &[Unsent],
+    participants: &mut [Participant],
+) -> Result<Vec<Letter>, Refusal>
+    ensures letters { IfOk result (λ letters. letters.items ≡ (writes_go txn writes.now participants.old).letters) }
+    ensures participants { IfOk result (λ _. participants.new ≡ (writes_go txn writes.now participants.old).participants) }
+    ensures short { AreShort participants.old → OnOk result (AreShort participants.new) }
+    ensures full { result ≡ Err refusals.Full → IsPast (writes_go txn writes.now participants.old).participants }
+{
+    let mut letters = Vec::new(alloc);
+    for unsent in writes {
+        write_out(&mut letters, participants, txn, unsent)?;
+    }
+    Ok(letters)
+}
+
+/// Letters that go out, and the participants after it.
+#[derive(Debug, Drop)]
+pub(crate) struct SentOut {
+    pub(crate) participants: Vec<Participant>,
+    pub(crate) letters: Vec<Letter>,
+}
+
+/// The fetches whose sites have given a ticket go out.
+pub(crate) fn asks_step(
+    alloc: Global,
+    txn: Txn,
+    participants: &[Participant],
+    asks: &mut Vec<Ask>,
+) -> Result<SentOut, Refusal>
+    ensures participants { IfOk result (λ going. going.participants.items ≡ (asks_go txn asks.old.items participants.now).participants) }
+    ensures letters { IfOk result (λ going. going.letters.items ≡ (asks_go txn asks.old.items participants.now).letters) }
+    ensures left { IfOk result (λ _. asks.new.items ≡ (asks_go txn asks.old.items participants.now).left) }
+    ensures short { AreShort participants.now → IfOk result (λ going. AreShort going.participants.items) }
+    ensures full { result ≡ Err refusals.Full → IsPast (asks_go txn asks.old.items participants.now).participants }
+    ensures same { OnErr result (asks.new ≡ asks.old) }
+{
+    let mut counted = copy_all(alloc, participants)?;
+    let out = asks_out(alloc, txn, asks.as_slice(), counted.as_mut_slice())?;
+    set_numbers(asks.as_mut_slice(), out.numbers.as_slice());
+    Ok(SentOut {
+        participants: counted,
+        letters: out.letters,
+    })
+}
+
+/// The writes whose sites have given a ticket go out.
+pub(crate) fn writes_step(
+    alloc: Global,
+    txn: Txn,
+    participants: &[Participant],
+    unsent: &mut Vec<Unsent>,
+) -> Result<SentOut, Refusal>
+    ensures participants { IfOk result (λ going. going.participants.items ≡ (writes_go txn unsent.old.items participants.now).participants) }
+    ensures letters { IfOk result (λ going. going.letters.items ≡ (writes_go txn unsent.old.items participants.now).letters) }
+    ensures left { IfOk result (λ _. unsent.new.items ≡ (writes_go txn unsent.old.items participants.now).left) }
+    ensures short { AreShort participants.now → IfOk result (λ going. AreShort going.participants.items) }
+    ensures full { result ≡ Err refusals.Full → IsPast (writes_go txn unsent.old.items participants.now).participants }
+    ensures same { OnErr result (unsent.new ≡ unsent.old) }
+{
+    let mut counted = copy_all(alloc, participants)?;
+    let letters = writes_out(alloc, txn, unsent.as_slice(), counted.as_mut_slice())?;
+    unsent.retain(|write| ticket_of(participants, &write.site).is_none());
+    Ok(SentOut {
+        participants: counted,
+        letters,
+    })
+}
+
+/// The sites of fetches.
+pub(crate) fn ask_sites(alloc: Global, asks: &[Ask]) -> Result<Vec<Text>, Memory>
+    ensures { IfOk result (λ sites. sites.items ≡ map (λ ask. ask.site) asks.now) }
+{
+    let mut sites = Vec::new(alloc);
+    for ask in asks {
+        sites.push(ask.site.copy()?)?;
+    }
+    Ok(sites)
+}
+
+/// The sites of writes.
+pub(crate) fn write_sites(alloc: Global, writes: &[Unsent]) -> Result<Vec<Text>, Memory>
+    ensures { IfOk result (λ sites. sites.items ≡ map (λ unsent. unsent.site) writes.now) }
+{
+    let mut sites = Vec::new(alloc);
+    for unsent in writes {
+        sites.push(unsent.site.copy()?)?;
+    }
+    Ok(sites)
+}
+
+/// Whether a site is one of these.
+pub(crate) fn is_among(site: &Text, sites: &[Text]) -> bool
+    ensures { result ≡ list_any (λ other. pointwise nat_eq other site.now) sites.now }
+{
+    for other in sites {
+        if *other == *site {
+            return true;
+        }
+    }
+    false
+}
+
+/// Whether a site is one of these, and isn't visited yet.
+fn is_new(participant: &Participant, sites: &[Text]) -> bool
+    ensures { result ≡ is_new sites.now participant.now }
+{
+    !participant.visited && is_among(&participant.site, sites)
+}
+
+/// The Opens to those sites that aren't visited yet, in the order of the sites.
+pub(crate) fn opens(
+    alloc: Global,
+    txn: Txn,
+    participants: &[Participant],
+    sites: &[Text],
+) -> Result<Vec<Letter>, Memory>
+    ensures { IfOk result (λ letters. letters.items ≡ opens txn sites.now participants.now) }
+{
+    let mut letters = Vec::new(alloc);
+    for participant in participants {
+        if is_new(participant, sites) {
+            letters.push(Letter {
+                site: participant.site.copy()?,
+                txn,
+                body: Body::Order(Order::Open),
+            })?;
+        }
+    }
+    Ok(letters)
+}
+
+/// Participants of which those sites are visited.
+pub(crate) fn visited(
+    alloc: Global,
+    participants: &[Participant],
+    sites: &[Text],
+) -> Result<Vec<Participant>, Memory>
+    ensures { IfOk result (λ others. others.items ≡ visits sites.now participants.now) }
+{
+    let mut others = Vec::new(alloc);
+    for participant in participants {
+        let mut other = participant.copy()?;
+        other.visited = participant.visited || is_new(participant, sites);
+        others.push(other)?;
+    }
+    Ok(others)
+}
+
+/// What is said to the sites of a transaction.
+#[derive(Clone, Copy, Debug)]
+pub(crate) enum Broadcast {
+    /// The first phase begins.
+    Prepare,
+    /// It ended before its first phase.
+    Abort,
+    /// It ended in its first phase: who voted NO or READ has let go.
+    AbortVoting,
+}
+
+/// Whether a site with this vote may hold locks.
+fn may_hold(vote: Option<Vote>) -> bool
+    ensures { result ≡ may_hold vote }
+{
+    match vote {
+        None => true,
+        Some(Vote::Yes) => true,
+        Some(Vote::No) => false,
+        Some(Vote::Read) => false,
+    }
+}
+
+/// Whether a word is for a site.
+fn is_for(word: Broadcast, participant: &Participant) -> bool
+    ensures { result ≡ is_for word participant.now }
+{
+    match word {
+        Broadcast::Prepare => participant.visited,
+        Broadcast::Abort => participant.visited,
+        Broadcast::AbortVoting => participant.visited && may_hold(participant.vote),
+    }
+}
+
+/// The order of a word to a visit, to which so many operations were sent.
+fn order_of(word: Broadcast, sent: u64, ticket: Ticket) -> Order
+    ensures { result ≡ order_of word sent ticket }
+{
+    match word {
+        Broadcast::Prepare => Order::Prepare(Prepare {
+            ticket,
+            count: sent,
+        }),
+        Broadcast::Abort => Order::Abort(ticket),
+        Broadcast::AbortVoting => Order::Abort(ticket),
+    }
+}
+
+/// The order to a site, if there is one: one that has given no ticket hears nothing.
+fn order_at(word: Broadcast, participant: &Participant) -> Option<Order>
+    ensures { result ≡ order_at word participant.now }
+{
+    if !is_for(word, participant) {
+        return None;
+    }
+    match participant.ticket {
+        Some(ticket) => Some(order_of(word, participant.sent, ticket)),
+        None => None,
+    }
+}
+
+/// The letters to the sites, in their order.
+pub(crate) fn broadcast_letters(
+    alloc: Global,
+    txn: Txn,
+    word: Broadcast,
+    participants: &[Participant],
+) -> Result<Vec<Letter>, Memory>
+    ensures { IfOk result (λ letters. letters.items ≡ broadcast_letters txn word participants.now) }
+{
+    let mut letters = Vec::new(alloc);
+    for participant in participants {
+        if let Some(order) = order_at(word, participant) {
+            letters.push(Letter {
+                site: participant.site.copy()?,
+                txn,
+                body: Body::Order(order),
+            })?;
+        }
+    }
+    Ok(letters)
+}

@@ -1,0 +1,137 @@
+//! What stands behind a transaction: nothing decided yet, or a commit row.
+
+ghost use Rattle.std.specs.Prelude.{◌≡◌, IfOk};
+ghost use Rattle.std.specs.List.{Contains};
+ghost use Rattle.meaning.specs.Statement.{IsStatementOf};
+ghost use Rattle.catalog.specs.FragmentLeaf.{schemas_of};
+ghost use Rattle.catalog.specs.Relation.{catalogue_of};
+ghost use Rattle.plan.specs.Reduced.{FindsAll};
+ghost use Rattle.plan.specs.Shape.{shape};
+ghost use Rattle.plan.specs.Stated.{AreFetchesOf};
+ghost use Rattle.plan.specs.Uniform.{EachRead, IsUniform};
+
+use crate::fetches::Ask;
+use crate::participant::Participant;
+use catalog::catalogue::Catalog;
+use meaning::answer::Answer;
+use meaning::statement::Statement;
+use plan::localize::localize;
+use plan::reduce::{Reduced, reduce};
+use std::alloc::Global;
+use std::collections::BTreeMap;
+use std::marker::Model;
+use store::commit::Voter;
+use store::name::Txn;
+use terms::memory::Memory;
+use terms::seq::Seq;
+use terms::text::Text;
+use terms::write::Write;
+
+/// A statement whose fetches were sent, or wait for a ticket.
+#[derive(Debug, Drop)]
+pub(crate) struct Reading {
+    pub(crate) statement: Statement,
+    pub(crate) plan: Planned,
+    pub(crate) asks: Vec<Ask>,
+}
+
+/// A write that waits for a ticket of its leaf's site.
+#[derive(Debug, Drop)]
+pub(crate) struct Unsent {
+    pub(crate) write: Write,
+    pub(crate) site: Text,
+}
+
+/// A statement's answer, and those of its writes that wait for a ticket.
+#[derive(Debug, Drop)]
+pub(crate) struct Writing {
+    pub(crate) answer: Answer,
+    pub(crate) unsent: Vec<Unsent>,
+}
+
+/// Where a transaction stands.
+#[derive(Debug, Drop)]
+pub(crate) enum Stage {
+    /// Between statements.
+    Idle,
+    /// Rows are waited for.
+    Reading(Reading),
+    /// Writes wait for a ticket.
+    Writing(Writing),
+    /// The first phase has begun.
+    Voting,
+}
+
+/// A transaction that isn't decided: its sites in the catalogue's order, and where it stands.
+#[derive(Debug, Drop)]
+pub(crate) struct Undecided {
+    pub(crate) participants: Seq<Participant>,
+    pub(crate) stage: Stage,
+}
+
+/// A reduced plan. It reads its fetches alone, and both sides of each of its unions have the same columns.
+#[derive(Debug, Drop)]
+pub(crate) struct Planned {
+    reduced: Reduced,
+}
+
+impl Model for Planned {
+    ghost use Rattle.std.specs.List.{Contains};
+    ghost use Rattle.plan.specs.declared.reduce.Reduced.{Reduced as ReducedNow};
+    ghost use Rattle.plan.specs.Shape.{shape};
+    ghost use Rattle.plan.specs.Uniform.{EachRead, IsUniform};
+    ghost use Rattle.std.specs.Coded.{codes};
+    ghost use Rattle.plan.specs.contracts.plan.Plan as plan;
+
+    ghost Value = { ReducedNow };
+
+    ghost coded = { Prim.hlevel (codes, plan.the_row.coded) };
+
+    ghost view = { λ p. p.reduced };
+
+    ghost invariant = { λ p. EachRead (λ read. Contains p.reduced.fetches.items read) (shape p.reduced.plan) × IsUniform (shape p.reduced.plan) };
+}
+
+impl Planned {
+    /// The reduced plan of a statement of the catalogue's schema.
+    pub(crate) fn new(
+        alloc: Global,
+        catalog: &Catalog,
+        statement: &Statement,
+    ) -> Result<Planned, Memory>
+        requires { IsStatementOf (schemas_of (catalogue_of catalog.now)) statement.now }
+        ensures fetches { IfOk result (λ plan. AreFetchesOf (catalogue_of catalog.now) statement.now plan.fetches.items) }
+        ensures finds { IfOk result (λ plan. FindsAll (catalogue_of catalog.now) statement.now plan.fetches.items (shape plan.plan)) }
+    {
+        let plan = localize(alloc, catalog, statement)?;
+        let reduced = reduce(alloc, catalog, statement, plan)?;
+        Ok(Planned { reduced })
+    }
+
+    /// The plan and its fetches.
+    pub(crate) fn reduced(&self) -> &Reduced
+        ensures same { result.now ≡ self.now }
+        ensures fetched { EachRead (λ read. Contains self.now.fetches.items read) (shape self.now.plan) }
+        ensures uniform { IsUniform (shape self.now.plan) }
+    {
+        &self.reduced
+    }
+}
+
+/// A transaction with a commit row, and the acknowledgements in the order in which they came.
+#[derive(Debug, Drop)]
+pub(crate) struct Committed {
+    pub(crate) voters: Seq<Voter>,
+    pub(crate) acked: Seq<Voter>,
+}
+
+/// What stands behind a transaction that isn't unknown.
+#[derive(Debug, Drop)]
+pub(crate) enum TxnState {
+    /// It isn't decided.
+    Undecided(Undecided),
+    /// It has a commit row.
+    Committed(Committed),
+}
+
+pub(crate) type TxnStates = BTreeMap<Txn, TxnState>;

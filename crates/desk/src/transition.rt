@@ -1,0 +1,146 @@
+//! What becomes of a transaction, and how a step is made.
+
+ghost use Rattle.std.specs.Prelude.{◌≡◌, [], ◌∷◌, Option, Some, true, IfOk, ◌<◌, ◌-◌, ◌&&◌, if◌then◌else◌, vec_len};
+ghost use Rattle.protocol.specs.Desk.{stays};
+ghost use Rattle.desk.specs.declared.transition.After.TheVariants as after;
+ghost use Rattle.desk.specs.Database.{Database, sent};
+ghost use Rattle.desk.specs.Orders.{ordered};
+ghost use Rattle.desk.specs.Transaction.{txn_of};
+ghost use Rattle.desk.specs.Transition.{IsTransition};
+ghost use Rattle.std.specs.BTreeMap.{IsOrdered};
+ghost use Rattle.std.specs.Vec.{vec_capacity};
+ghost use Rattle.store.specs.Name.{txn_cmp};
+ghost use Rattle.desk.specs.declared.transaction.TxnState.{TxnState as TxnStateNow};
+ghost use Rattle.desk.specs.Request.{notices};
+ghost use Rattle.desk.specs.State.{closes, is_open, settled, volatile_from, volatile_of};
+
+use crate::reply::{Notice, Out, Reply};
+use crate::transaction::TxnState;
+use crate::volatile::Volatile;
+use std::alloc::Global;
+use store::letter::{Body, Letter};
+use store::name::Txn;
+use store::order::Order;
+use terms::copy::TryCopy;
+use terms::memory::Memory;
+use terms::seq::Seq;
+use terms::text::Text;
+
+/// What stands behind a transaction after a step.
+#[derive(Debug, Drop)]
+pub(crate) enum After {
+    /// What stood there.
+    Stays,
+    /// Nothing.
+    Ends,
+    /// This.
+    Becomes(TxnState),
+}
+
+/// What a step makes of a transaction, the letters put out, and what its client hears.
+#[derive(Debug, Drop)]
+pub(crate) struct Transition {
+    pub(crate) after: After,
+    pub(crate) letters: Vec<Letter>,
+    pub(crate) reply: Option<Reply>,
+    /// Whether the store did not refuse.
+    pub(crate) kept: bool,
+}
+
+/// Nothing happens.
+pub(crate) fn stays(alloc: Global, kept: bool) -> Transition
+    ensures turn { (db : Database) (txn : Txn) (old : Option TxnState) → IsTransition db txn old result (stays (txn_of db old)) }
+    ensures kept { result.kept ≡ kept }
+    ensures after { result.after ≡ after.Stays }
+{
+    Transition {
+        after: After::Stays,
+        letters: Vec::new(alloc),
+        reply: None,
+        kept,
+    }
+}
+
+/// Something stands behind the transaction, and nothing else happens.
+pub(crate) fn becomes(alloc: Global, standing: TxnState) -> Transition
+    ensures turn { (db : Database) (txn : Txn) (old : Option TxnState) → IsTransition db txn old result (stays (txn_of db (Some standing))) }
+    ensures after { result.after ≡ after.Becomes standing }
+    ensures kept { result.kept ≡ true }
+{
+    Transition {
+        after: After::Becomes(standing),
+        letters: Vec::new(alloc),
+        reply: None,
+        kept: true,
+    }
+}
+
+/// A visit hears an order, and nothing else happens.
+pub(crate) fn tells(
+    alloc: Global,
+    txn: Txn,
+    site: &Text,
+    order: Order,
+) -> Result<Transition, Memory>
+    ensures turn { (db : Database) (old : Option TxnState) → IfOk result (λ turn. IsTransition db txn old turn (record { txn = txn_of db old; letters = sent db (ordered txn site.now order) ∷ []; deeds = [] })) }
+    ensures after { IfOk result (λ turn. turn.after ≡ after.Stays) }
+    ensures kept { IfOk result (λ turn. turn.kept ≡ true) }
+{
+    let mut letters = Vec::new(alloc);
+    letters.push(Letter {
+        site: site.copy()?,
+        txn,
+        body: Body::Order(order),
+    })?;
+    Ok(Transition {
+        after: After::Stays,
+        letters,
+        reply: None,
+        kept: true,
+    })
+}
+
+/// Room for one reply.
+pub(crate) fn room(alloc: Global) -> Result<Vec<Notice>, Memory>
+    ensures empty { IfOk result (λ room. room.items ≡ []) }
+    ensures room { IfOk result (λ room. vec_len room < vec_capacity room) }
+{
+    Ok(Vec::with_capacity(alloc, 1)?)
+}
+
+/// A reply to a transaction's client, if there is one. There is room for it.
+pub(crate) fn noticed(room: Vec<Notice>, txn: Txn, reply: Option<Reply>) -> Vec<Notice>
+    requires { vec_len room < vec_capacity room }
+    ensures { room.items ≡ [] → result.items ≡ notices txn reply }
+{
+    let mut notices = room;
+    if let Some(reply) = reply {
+        notices.push_reserved(Notice { txn, reply });
+    }
+    notices
+}
+
+/// A transaction makes a step. There is room for its reply.
+pub(crate) fn make(volatile: &mut Volatile, txn: Txn, turn: Transition, room: Vec<Notice>) -> Out
+    requires { vec_len room < vec_capacity room }
+    ensures letters { result.letters ≡ turn.letters.items }
+    ensures replies { room.items ≡ [] → result.replies ≡ notices txn turn.reply }
+    ensures kept { result.kept ≡ turn.kept }
+    ensures settled { (now : TxnStateNow) → (volatile_of volatile.old).standing txn ≡ Some now
+        → volatile_of volatile.new ≡ volatile_from (settled txn turn.after volatile.old.standings.entries) (if is_open (Some now) && closes turn.after then volatile.old.undecided - 1 else volatile.old.undecided) volatile.old.life volatile.old.number }
+    ensures still { turn.after ≡ after.Stays → volatile_of volatile.new ≡ volatile_of volatile.old }
+    ensures ordered { IsOrdered txn_cmp volatile.old.standings }
+{
+    let Transition {
+        after,
+        letters,
+        reply,
+        kept,
+    } = turn;
+    volatile.settle(&txn, after);
+    Out {
+        letters: Seq::new(letters),
+        replies: Seq::new(noticed(room, txn, reply)),
+        kept,
+    }
+}

@@ -1,0 +1,176 @@
+//! What the coordinator has in memory, and a restart loses.
+
+ghost use Rattle.std.specs.Prelude.{◌≡◌, ◌+◌, ◌-◌, ◌^◌, ◌≤◌, ◌⊎◌, ◌&&◌, Some, IfOk, IfErr, OnOk, OnErr, if◌then◌else◌, map};
+ghost use Rattle.std.specs.BTreeMap as tree;
+ghost use Rattle.std.specs.BTreeMap.{insert_entry, is_at, IsOrdered};
+ghost use Rattle.std.specs.Map.{set_value, remove_entry};
+ghost use Rattle.std.specs.Option.{option_copied};
+ghost use Rattle.store.specs.Name.{txn_cmp};
+ghost use Rattle.desk.specs.declared.refusal.Refusal.TheVariants as refusals;
+ghost use Rattle.desk.specs.declared.transaction.TxnState.TheVariants as standing;
+ghost use Rattle.desk.specs.declared.transaction.TxnState.{TxnState as TxnStateNow};
+ghost use Rattle.desk.specs.declared.transition.After.TheVariants as afters;
+ghost use Rattle.desk.specs.State.{closes, is_open, settled, volatile_from, volatile_of};
+ghost use Rattle.desk.specs.Begun.{first_of, next_of};
+
+use crate::participant::Participant;
+use crate::refusal::Refusal;
+use crate::transaction::{Stage, TxnState, TxnStates, Undecided};
+use crate::transition::After;
+use std::alloc::Global;
+use std::collections::BTreeMap;
+use store::name::Txn;
+use terms::seq::Seq;
+
+/// How many transactions may be undecided.
+const UNDECIDED: u64 = 256;
+
+/// The greatest number of a transaction, or of an operation in a visit.
+pub(crate) const LAST: u64 = 0x7fff_ffff_ffff_ffff;
+
+/// What the coordinator has in memory.
+#[derive(Drop)]
+pub(crate) struct Volatile {
+    pub(crate) alloc: Global,
+    pub(crate) standings: TxnStates,
+    /// How many transactions are undecided.
+    pub(crate) undecided: u64,
+    pub(crate) life: u64,
+    /// The number of the last transaction that was begun in this life.
+    pub(crate) number: u64,
+}
+
+/// Whether a transaction is undecided.
+fn is_open(standing: &TxnState) -> bool
+    ensures { result ≡ is_open (Some standing.now) }
+{
+    match standing {
+        TxnState::Undecided(_) => true,
+        TxnState::Committed(_) => false,
+    }
+}
+
+/// Whether what stands after a step is undecided no longer.
+fn closes(after: &After) -> bool
+    ensures { result ≡ closes after.now }
+{
+    match after {
+        After::Stays => false,
+        After::Ends => true,
+        After::Becomes(standing) => !is_open(standing),
+    }
+}
+
+/// Something else stands behind a transaction.
+fn put(standings: &mut TxnStates, txn: &Txn, standing: TxnState)
+    ensures { (now : TxnStateNow) → tree.get txn_cmp standings.old txn.now ≡ Some now
+        → standings.new.entries ≡ set_value (is_at (txn_cmp txn.now)) standings.old.entries standing }
+{
+    if let Some(old) = standings.get_mut(txn) {
+        *old = standing;
+    }
+}
+
+/// Something stands behind a transaction, from now on.
+pub(crate) fn add(standings: &mut TxnStates, txn: Txn, standing: TxnState) -> Result<(), Refusal>
+    ensures ok { OnOk result (standings.new.entries ≡ insert_entry txn_cmp standings.old.entries txn standing) }
+    ensures err { OnErr result (standings.new.entries ≡ standings.old.entries) }
+    ensures ordered { IsOrdered txn_cmp standings.old }
+    ensures refusal { IfErr result (λ refusal. refusal ≡ refusals.Memory) }
+{
+    let _count = standings.len();
+    let _old = standings.insert(txn, standing)?;
+    Ok(())
+}
+
+/// Nothing stands behind a transaction any more.
+fn forget(standings: &mut TxnStates, txn: &Txn)
+    ensures gone { standings.new.entries ≡ remove_entry (is_at (txn_cmp txn.now)) standings.old.entries }
+    ensures ordered { IsOrdered txn_cmp standings.old }
+{
+    let _count = standings.len();
+    let _gone = standings.remove(txn);
+}
+
+impl Volatile {
+    /// What stands behind a transaction.
+    pub(crate) fn standing(&self, txn: &Txn) -> Option<&TxnState>
+        ensures { option_copied result ≡ (volatile_of self.now).standing txn.now }
+    {
+        self.standings.get(txn)
+    }
+
+    /// Whether a transaction is undecided.
+    pub(crate) fn is_open(&self, txn: &Txn) -> bool
+        ensures { result ≡ is_open ((volatile_of self.now).standing txn.now) }
+    {
+        match self.standing(txn) {
+            Some(standing) => is_open(standing),
+            None => false,
+        }
+    }
+
+    /// A transaction begins, with these participants: the next one of this life.
+    pub(crate) fn begin(&mut self, participants: Vec<Participant>) -> Result<Txn, Refusal>
+        ensures txn { IfOk result (λ txn. txn ≡ next_of (volatile_of self.old)) }
+        ensures ok { OnOk result (volatile_of self.new ≡ volatile_from (insert_entry txn_cmp self.old.standings.entries (next_of (volatile_of self.old)) (first_of participants.items)) (self.old.undecided + 1) self.old.life (self.old.number + 1)) }
+        ensures limits { OnOk result (self.old.undecided + 1 ≤ 256) }
+        ensures last { OnOk result (self.old.number + 2 ≤ 2 ^ 63) }
+        ensures err { OnErr result (volatile_of self.new ≡ volatile_of self.old) }
+        ensures ordered { IsOrdered txn_cmp self.old.standings }
+        ensures refusal { IfErr result (λ refusal. (refusal ≡ refusals.Memory) ⊎ ((refusal ≡ refusals.Full) × ((256 ≤ self.old.undecided) ⊎ (2 ^ 63 ≤ self.old.number + 1)))) }
+    {
+        let _count = self.standings.len();
+        if self.undecided >= UNDECIDED || self.number >= LAST {
+            return Err(Refusal::Full);
+        }
+        let txn = Txn {
+            life: self.life,
+            number: self.number + 1,
+        };
+        add(&mut self.standings, txn, begun(participants))?;
+        self.undecided += 1;
+        self.number += 1;
+        Ok(txn)
+    }
+
+    /// A transaction has made a step.
+    pub(crate) fn settle(&mut self, txn: &Txn, after: After)
+        ensures settled { (now : TxnStateNow) → (volatile_of self.old).standing txn.now ≡ Some now
+            → volatile_of self.new ≡ volatile_from (settled txn.now after self.old.standings.entries) (if is_open (Some now) && closes after then self.old.undecided - 1 else self.old.undecided) self.old.life self.old.number }
+        ensures still { after ≡ afters.Stays → volatile_of self.new ≡ volatile_of self.old }
+        ensures ordered { IsOrdered txn_cmp self.old.standings }
+    {
+        let _count = self.standings.len();
+        if self.is_open(txn) && closes(&after) {
+            self.undecided = self.undecided.saturating_sub(1);
+        }
+        match after {
+            After::Stays => {}
+            After::Ends => forget(&mut self.standings, txn),
+            After::Becomes(standing) => put(&mut self.standings, txn, standing),
+        }
+    }
+
+    /// What was in memory is lost, and another life has begun: what stands now are decided transactions.
+    pub(crate) fn restart(&mut self, rows: TxnStates, life: u64)
+        ensures begun { volatile_of self.new ≡ volatile_from rows.entries 0 life 0 }
+        ensures ordered { IsOrdered txn_cmp self.old.standings }
+    {
+        let _count = self.standings.len();
+        self.standings = rows;
+        self.undecided = 0;
+        self.life = life;
+        self.number = 0;
+    }
+}
+
+/// What stands behind a transaction that begins.
+fn begun(participants: Vec<Participant>) -> TxnState
+    ensures { result ≡ first_of participants.items }
+{
+    TxnState::Undecided(Undecided {
+        participants: Seq::new(participants),
+        stage: Stage::Idle,
+    })
+}
