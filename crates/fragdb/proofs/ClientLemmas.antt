@@ -21,14 +21,14 @@ use Rattle.world.specs.declared.event.Entry.{Entry}
 use Rattle.world.specs.Account.{AccountFollows, said_in_vain, said_of}
 use Rattle.world.specs.Base.{database, fits}
 use Rattle.world.specs.Deeds.{DeedsFollow, deeds_in_vain, deeds_of}
-use Rattle.world.specs.Denying.{Declines, Denies}
-use Rattle.world.specs.Held.{OfStores, held, unrefused}
+use Rattle.world.specs.Denials.{Declines, Denies}
+use Rattle.world.specs.Contents.{OfStores, held, unrefused}
 use Rattle.world.specs.Machines.{AreFit, Machines}
-use Rattle.world.specs.Obeying.{Obeys, Stands, StandsOn}
-use Rattle.world.specs.Serving.{Executes, IsServed}
+use Rattle.world.specs.Executed.{Obeys, Stands, StandsOn}
+use Rattle.world.specs.Client.{Executes, IsServed}
 use Rattle.world.specs.Settled.{AreThoseOf, parts_kept, rows_shown}
 use Rattle.world.specs.Stopping.{is_stop, stopped_by}
-use Rattle.world.specs.Telling.{Tells}
+use Rattle.world.specs.Replies.{Tells}
 use Rattle.world.proofs.Counting.{same_unrefused}
 use Rattle.world.proofs.StandingAgain.{stands_whenever}
 use Rattle.shell.specs.declared.mode.Mode.{Mode}

@@ -11,8 +11,8 @@ use Rattle.store.specs.PlainSite.{IsSound, kept_of}
 use Rattle.world.specs.declared.machines.Machines as code
 use Rattle.world.specs.declared.world.World.{World}
 use Rattle.world.specs.Base.{database}
-use Rattle.world.specs.Held.{OfStores, held}
-use Rattle.world.specs.Runs.{RunsOn}
+use Rattle.world.specs.Contents.{OfStores, held}
+use Rattle.world.specs.Runs.{StepsOn}
 use Rattle.fragdb.specs.Schedule.{HasRun, IsReached}
 
 -- lists are always clean
@@ -30,7 +30,7 @@ are_clean machines = (tt, all machines.sites.items)
 pub goes_on : (whole : Relations) (old new : World PlainDesk PlainSite) → new.machines.desk.catalog ≡ old.machines.desk.catalog →
     OfStores (λ _. Unit {0}) IsSound new.machines →
     (reached : IsReached (catalogue_of old.machines.desk.catalog) whole (held desk_kept kept_of old.machines) old.entries.items) →
-    RunsOn (database (catalogue_of old.machines.desk.catalog)) whole (held desk_kept kept_of new.machines) new.entries.items reached.0 → HasRun whole new
+    StepsOn (database (catalogue_of old.machines.desk.catalog)) whole (held desk_kept kept_of old.machines) (held desk_kept kept_of new.machines) old.entries.items new.entries.items reached.0 → HasRun whole new
 goes_on whole old new same sound reached on = record {
   sound = sound;
   reached = subst (λ (catalog : _). IsReached (catalogue_of catalog) whole (held desk_kept kept_of new.machines) new.entries.items) (sym same) (reached.0 ++ on.deeds, on.run_on);

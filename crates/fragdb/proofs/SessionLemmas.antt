@@ -15,10 +15,10 @@ use Rattle.world.specs.declared.event.Entry.{Entry}
 use Rattle.world.specs.declared.solo.Solo as code
 use Rattle.world.specs.Account.{AccountFollows}
 use Rattle.world.specs.Base.{database, fits}
-use Rattle.world.specs.Held.{OfStores, unrefused}
-use Rattle.world.specs.Obeying.{Stands}
-use Rattle.world.specs.Serving.{IsServed}
-use Rattle.world.specs.Telling.{Tells}
+use Rattle.world.specs.Contents.{OfStores, unrefused}
+use Rattle.world.specs.Executed.{Stands}
+use Rattle.world.specs.Client.{IsServed}
+use Rattle.world.specs.Replies.{Tells}
 use Rattle.fragdb.specs.declared.fault.ProgramFault.{ProgramFault}
 use Rattle.fragdb.specs.Client.{GoesOn, IsAnswered, Standing, standing_of}
 use Rattle.fragdb.specs.Reply.{text_of}

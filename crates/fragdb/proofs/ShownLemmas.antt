@@ -8,7 +8,7 @@ use Rattle.world.specs.declared.machines.Machines as code
 use Rattle.world.specs.Counted.{counts}
 use Rattle.world.specs.Fault.{FailsFor, is_memory}
 use Rattle.world.specs.Stopping.{StopsForMemory}
-use Rattle.world.specs.History.{committed_of}
+use Rattle.world.specs.Committed.{committed_of}
 use Rattle.fragdb.specs.PlayText.{Naming}
 use Rattle.fragdb.specs.Shown.{names_text}
 

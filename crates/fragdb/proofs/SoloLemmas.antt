@@ -15,10 +15,10 @@ use Rattle.meaning.specs.Schema.{kinds_of, relation_named}
 use Rattle.meaning.specs.Whole.{FitsSchema, Relations}
 use Rattle.meaning.proofs.Kept.{put_keeps}
 use Rattle.catalog.specs.Catalogue.{Catalogue}
-use Rattle.desk.proofs.Spots.{text_is}
+use Rattle.desk.proofs.Participants.{text_is}
 use Rattle.site.specs.declared.site.Site.{Site}
 use Rattle.world.specs.declared.machines.Machines as code
-use Rattle.world.specs.Held.{OfStores}
+use Rattle.world.specs.Contents.{OfStores}
 use Rattle.shell.specs.declared.mode.Mode.{Mode}
 use Rattle.fragdb.specs.Client.{AnswersTask, Standing}
 use Rattle.fragdb.specs.PlayLoad.{emptied}

@@ -21,11 +21,11 @@ use Rattle.desk.specs.Database.{language}
 use Rattle.world.specs.declared.solo.Solo as code
 use Rattle.world.specs.Base.{database, fits}
 use Rattle.world.specs.Deeds.{deeds_in_vain, deeds_of}
-use Rattle.world.specs.Denying.{Declines, Denies}
-use Rattle.world.specs.Held.{OfStores, unrefused}
+use Rattle.world.specs.Denials.{Declines, Denies}
+use Rattle.world.specs.Contents.{OfStores, unrefused}
 use Rattle.world.specs.Machines.{Machines}
-use Rattle.world.specs.Obeying.{Obeys, Stands}
-use Rattle.world.specs.Serving.{Executes, IsServed}
+use Rattle.world.specs.Executed.{Obeys, Stands}
+use Rattle.world.specs.Client.{Executes, IsServed}
 use Rattle.world.specs.Settled.{AreThoseOf, parts_kept, rows_shown}
 use Rattle.world.specs.Stopping.{is_stop}
 use Rattle.shell.specs.declared.mode.Mode.{Mode}

@@ -8,7 +8,7 @@ use Rattle.catalog.specs.FragmentLeaf.{schemas_of}
 use Rattle.world.specs.Base.{database}
 use Rattle.world.specs.Machines.{Machines}
 use Rattle.world.specs.Runs.{IsSerialRun}
-use Rattle.world.specs.Telling.{committed_in}
+use Rattle.world.specs.Replies.{committed_in}
 use Rattle.fragdb.specs.declared.catalog_file.CatalogFault.{CatalogFault}
 use Rattle.fragdb.specs.declared.catalog_file.CatalogFault.TheVariants.{Program, Refused}
 use Rattle.fragdb.specs.declared.fault.ProgramFault.{ProgramFault}

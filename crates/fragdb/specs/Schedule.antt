@@ -27,7 +27,7 @@ use Rattle.world.specs.declared.fault.Fault.TheVariants as fault
 use Rattle.world.specs.declared.world.World.{World}
 use Rattle.world.specs.Base.{database}
 use Rattle.world.specs.Events.{is_unsent}
-use Rattle.world.specs.Held.{OfStores, held}
+use Rattle.world.specs.Contents.{OfStores, held}
 use Rattle.world.specs.Machines.{Machines}
 use Rattle.world.specs.Posted.{letters_in}
 use Rattle.world.specs.Runs.{IsRun, entry_of}

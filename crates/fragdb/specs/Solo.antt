@@ -13,9 +13,9 @@ use Rattle.world.specs.Account.{said_in_vain, said_of}
 use Rattle.world.specs.Base.{database, fits}
 use Rattle.world.specs.declared.event.Entry.{Entry}
 use Rattle.world.specs.declared.solo.Solo as code
-use Rattle.world.specs.Obeying.{Stands}
+use Rattle.world.specs.Executed.{Stands}
 use Rattle.world.specs.Runs.{IsSerialRun}
-use Rattle.world.specs.Serving.{IsServed}
+use Rattle.world.specs.Client.{IsServed}
 use Rattle.shell.specs.declared.mode.Mode.{Mode}
 use Rattle.fragdb.specs.declared.catalog_file.CatalogFault.{CatalogFault}
 use Rattle.fragdb.specs.declared.catalog_file.CatalogFault.TheVariants.{Program, Refused}

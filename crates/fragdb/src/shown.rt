@@ -5,7 +5,7 @@ ghost use Rattle.std.specs.List.{flat_map};
 ghost use Rattle.meaning.specs.Whole.{Relations};
 ghost use Rattle.catalog.specs.Relation.{catalogue_of};
 ghost use Rattle.world.specs.Fault.{is_memory};
-ghost use Rattle.world.specs.Telling.{committed_in};
+ghost use Rattle.world.specs.Replies.{committed_in};
 ghost use Rattle.fragdb.specs.Cast.{name_of};
 ghost use Rattle.fragdb.specs.Schedule.{HasRun, stage_of};
 ghost use Rattle.fragdb.specs.Shown as spec;
@@ -29,8 +29,8 @@ use terms::part::Part;
 use terms::row::Row;
 use terms::seq::Seq;
 use terms::text::Text;
+use world::committed::Committed;
 use world::fault::Fault;
-use world::history::Committed;
 use world::laws::lists_stop_for_memory;
 
 /// Rows under the names of their columns.

@@ -2,8 +2,9 @@
 use Rattle.std.proofs.Common.{◌≡◌, refl, sym, ap, ap₂, ◌∙◌, subst, ℕ, Bool, true, false, List, [], ◌∷◌, ◌++◌, append_assoc, map, if◌then◌else◌, Option}
 use Rattle.std.proofs.lemmas.List.{append-nil}
 use Rattle.std.proofs.lemmas.Grind.{flat_map-append}
+use Rattle.meaning.specs.Whole.{Relations}
 use Rattle.store.specs.declared.name.Txn.{Txn}
-use Rattle.protocol.specs.Desk.{Began, Choice, Commit_call, Deed, Give_up, Rollback, State, Turn, desk_after, is_desk_within, next_txn, on_desk_letter, on_request}
+use Rattle.protocol.specs.Desk.{Began, Choice, Commit_call, Deed, Give_up, Rollback, State, Transition, desk_after, is_desk_within, next_txn, on_desk_letter, on_request}
 use Rattle.protocol.specs.Language.{Lang, Name}
 use Rattle.protocol.specs.Letter.{Letter, is_for_desk}
 use Rattle.protocol.specs.Letters.{txn_name}
@@ -13,20 +14,21 @@ use Rattle.protocol.specs.World.{World, addressed, begins, begun, comes, comes_t
 use Rattle.protocol.proofs.Basics.{either}
 use Rattle.desk.specs.declared.refusal.Refusal.{Refusal}
 use Rattle.desk.specs.declared.reply.Notice.{Notice}
-use Rattle.desk.specs.Calls.{txn_in}
+use Rattle.desk.specs.Request.{txn_in}
 use Rattle.desk.specs.Database.{Database, language}
 use Rattle.desk.specs.State.{desk_of}
 use Rattle.world.specs.declared.event.Call as calls
 use Rattle.world.specs.declared.event.Call.TheVariants as call
 use Rattle.world.specs.declared.event.Entry.{Entry}
 use Rattle.world.specs.declared.event.Event.TheVariants as event
-use Rattle.world.specs.Account.{AccountFollows, said, said_alone, said_begun, said_in_vain, said_of, said_of_decision, said_refused_alone, said_taken_back, said_undecided}
-use Rattle.world.specs.Deeds.{deeds_alone, deeds_begun, deeds_in_vain, deeds_of, deeds_of_decision, deeds_refused_alone, deeds_taken_back, deeds_undecided}
-use Rattle.world.specs.Delivering.{Ask, Coming, Passed_over, Serves, Taken, To_begin, To_do, Turned_away, all_come, asked, come, first_comes}
-use Rattle.world.specs.Denying.{CommitIsDenied, Declines, IsTakenBack, LoneIsDenied, RunIsDenied, commit_stops, declines_all, declines_begin, declines_commit, declines_inside, declines_lone, declines_outside, declines_rollback, declines_statement, declines_text, has_begun_but, has_not_begun, is_left, is_not_committed, is_not_decided, is_not_stated, is_rolled_back, run_stops}
+use Rattle.world.specs.Account.{AccountFollows, IsHeardRightly, IsRefusedRightly, said, said_alone, said_begun, said_in_vain, said_of, said_of_decision, said_refused_alone, said_taken_back, said_undecided}
+use Rattle.world.specs.Deeds.{DeedsFollow, deeds_alone, deeds_begun, deeds_in_vain, deeds_of, deeds_of_decision, deeds_refused_alone, deeds_taken_back, deeds_undecided}
+use Rattle.world.specs.Mailbox.{Ask, Coming, Passed_over, Serves, Taken, To_begin, To_do, Turned_away, all_come, asked, come, first_comes}
+use Rattle.world.specs.Denials.{CommitIsDenied, Declines, IsTakenBack, LoneIsDenied, RunIsDenied, commit_stops, declines_all, declines_begin, declines_commit, declines_inside, declines_lone, declines_outside, declines_rollback, declines_statement, declines_text, has_begun_but, has_not_begun, is_left, is_not_committed, is_not_decided, is_not_stated, is_rolled_back, run_stops}
 use Rattle.world.specs.Machines.{Machines, world_of}
-use Rattle.world.specs.Serving.{DoesAlone, DoesAsk, DoesBegin, DoesDecide, DoesState, Executes, ServedIsSerial, did_begin, did_commit, did_decide, did_roll_back, did_run, did_state, had_ended}
-use Rattle.world.specs.Telling.{AreStated, Shows, Tells, phased_by, stated_by, stated_of, text_by}
+use Rattle.world.specs.Client.{DoesAlone, DoesAsk, DoesBegin, DoesDecide, DoesState, Executes, IsServed, ServedIsSerial, did_begin, did_commit, did_decide, did_roll_back, did_run, did_state, had_ended}
+use Rattle.world.specs.Replies.{AreStated, Shows, Tells, phased_by, stated_by, stated_of, text_by}
+use Rattle.world.specs.Stopping.{is_stop}
 use Rattle.world.proofs.Heard.{serial_run}
 use Rattle.world.proofs.Shown.{IsSilent, came_silent, commit_shows, give_up_silent, rollback_silent, state_shows}
 use Rattle.world.proofs.Told.{tells_more}
@@ -47,7 +49,7 @@ module _ {L : Lang} where
   then_silently : (w v u : World L) → Silently w v → Silently v u → Silently w u
   then_silently w v u one two = record { more = one.more ++ two.more; is = two.is ∙ ap (λ past. past ++ two.more) one.is ∙ append_assoc w.past one.more two.more; silent = both_silent one.more two.more one.silent two.silent }
 
-  turns_silently : (w : World L) (t : Name) (turn : Turn L) → IsSilent turn.deeds → Silently w (turns w t turn)
+  turns_silently : (w : World L) (t : Name) (turn : Transition L) → IsSilent turn.deeds → Silently w (turns w t turn)
   turns_silently w t turn silent = either (Silently w) (is_desk_within (desk_after w.desk t turn.txn)) (turned w t turn) w (record { more = turn.deeds; is = refl; silent = silent }) (nothing w w refl)
 
   comes_silently : (w : World L) (kept : Bool) (choice : Choice L) (l : Letter L) → Silently w (comes w kept choice l)
@@ -84,7 +86,7 @@ module _ (db : Database) where
         stated = subst (AreStated db (text_by (event.Call what))) (sym (flat_map-append stated_by first later.more ∙ ap (λ rest. stated_of first ++ rest) later.silent.1 ∙ append-nil (stated_of first))) stated;
       })
 
-  turned_past : (before : Machines) (t : Name) (turn : Turn (language db)) → is_desk_within (desk_after (desk_of db before.table) t turn.txn) ≡ true → (turns (world_of db before [] []) t turn).past ≡ turn.deeds
+  turned_past : (before : Machines) (t : Name) (turn : Transition (language db)) → is_desk_within (desk_after (desk_of db before.table) t turn.txn) ≡ true → (turns (world_of db before [] []) t turn).past ≡ turn.deeds
   turned_past before t turn within = ap (λ (b : Bool). (if b then turned (world_of db before [] []) t turn else world_of db before [] []).past) within
 
   begin_shows : (before after : Machines) (txn : Txn) (heard : List Notice) (does : DoesBegin db before txn after heard) → Shows db (event.Call call.Begin) does.serves.deeds
@@ -218,3 +220,19 @@ module _ (db : Database) where
         let serial = law whole machines past served in
         serial_run db whole machines entries past so (record { answers = serial.answers; rebuilt = serial.rebuilt });
   }
+
+-- ---- what is heard of a command is right
+module _ (db : Database) (deeds : DeedsFollow db) (account : AccountFollows db) (whole : Relations) where
+  pub heard_rightly : (text : List ℕ) (current : Option Txn) (before : Machines) (later : Option Txn) (after : Machines) (entries : List Entry) (past : List (Deed (language db))) (heard : List Notice) → IsServed db whole before past → Tells db entries past →
+      Executes db text current before later after heard → IsHeardRightly db whole text current before later after entries past heard
+  heard_rightly text current before later after entries past heard served told does =
+      let on = deeds.executed whole text current later before after heard past served does in
+      let tells = account.executed text current later before after heard entries past told does in
+      record { executes = does; served = on; tells = tells; serial = account.serial whole after (entries ++ said_of db text current before later after heard does) (past ++ deeds_of db text current before later after heard does) tells on }
+
+  pub refused_rightly : (text : List ℕ) (current : Option Txn) (before after : Machines) (entries : List Entry) (past : List (Deed (language db))) (refusal : Refusal) → is_stop refusal ≡ false → IsServed db whole before past → Tells db entries past →
+      Declines db text current before after refusal → IsRefusedRightly db whole text current before after entries past refusal
+  refused_rightly text current before after entries past refusal still served told declines =
+      let on = deeds.refused whole text current before after refusal past still served declines in
+      let tells = account.refused text current before after refusal entries past told declines in
+      record { declines = declines; served = on; tells = tells; serial = account.serial whole after (entries ++ said_in_vain db text current before after refusal declines) (past ++ deeds_in_vain db text current before after refusal declines) tells on }

@@ -18,10 +18,10 @@ use Rattle.world.specs.declared.transaction.Outcome.TheVariants.{Ran, Unbegun}
 use Rattle.world.specs.declared.transaction.Transaction.{Transaction}
 use Rattle.world.specs.Account.{said}
 use Rattle.world.specs.Batch.{Does, Makes, RunsAll, RunsOne, calls_of, has_ended, said_by, said_by_all, said_in_turn}
-use Rattle.world.specs.Delivering.{IsStill, To_begin, To_do}
+use Rattle.world.specs.Mailbox.{IsStill, To_begin, To_do}
 use Rattle.world.specs.Machines.{Machines}
-use Rattle.world.specs.Serving.{IsServed}
-use Rattle.world.specs.Telling.{Tells}
+use Rattle.world.specs.Client.{IsServed}
+use Rattle.world.specs.Replies.{Tells}
 use Rattle.world.proofs.Account.{begin_told, commit_shown, rollback_told, state_told, told_more}
 use Rattle.world.proofs.Deeds.{still_served}
 use Rattle.world.proofs.Reaching.{serves_past}

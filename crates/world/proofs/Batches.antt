@@ -16,10 +16,10 @@ use Rattle.world.specs.declared.transaction.Outcome as outcomes
 use Rattle.world.specs.declared.transaction.Outcome.TheVariants.{Ran}
 use Rattle.world.specs.declared.transaction.Transaction.{Transaction}
 use Rattle.world.specs.Batch.{ComesOf, Does, Makes, MakesMore, RunsAll, RunsOne, StopsAt, calls_of, calls_of_end, has_ended}
-use Rattle.world.specs.Delivering.{IsStill}
+use Rattle.world.specs.Mailbox.{IsStill}
 use Rattle.world.specs.Machines.{AreFit, Machines}
 use Rattle.world.specs.Refused.{IsRefused}
-use Rattle.world.specs.Serving.{DoesBegin, IsServed, IsServedOn}
+use Rattle.world.specs.Client.{DoesBegin, IsServed, IsServedOn}
 use Rattle.world.specs.Stopping.{is_stop}
 
 -- ---- one call

@@ -12,10 +12,10 @@ use Rattle.desk.specs.declared.reply.Notice.{Notice}
 use Rattle.desk.specs.declared.reply.Reply.{Reply}
 use Rattle.desk.specs.Database.{Database, language}
 use Rattle.desk.specs.State.{desk_of, notice_of}
-use Rattle.desk.specs.Turn.{told}
-use Rattle.world.specs.Delivering.{Coming, IsStill, Serves, To_begin, all_come, first_comes}
+use Rattle.desk.specs.Transition.{told}
+use Rattle.world.specs.Mailbox.{Coming, IsStill, Serves, To_begin, all_come, first_comes}
 use Rattle.world.specs.Machines.{Machines, world_of}
-use Rattle.world.specs.Serving.{DoesBegin}
+use Rattle.world.specs.Client.{DoesBegin}
 
 -- where no letter waits none comes
 pub all_silent : {L : Lang} (cs : List (Coming L)) (w : World L) → w.letters ≡ [] → all_come cs w ≡ w

@@ -6,11 +6,11 @@ use Rattle.store.specs.declared.letter.Letter as letters
 use Rattle.store.specs.declared.order.Order.TheVariants as order
 use Rattle.store.specs.declared.reply.Reply.TheVariants as reply_kinds
 use Rattle.protocol.specs.Language.{Lang, Name}
-use Rattle.protocol.specs.Leaving.{EndKept}
+use Rattle.protocol.specs.AfterAbort.{EndKept}
 use Rattle.protocol.specs.Letter.{Body, Letter, Open, Fetch, Write, Prepare, Commit, Abort, Ticket, Rows, Refused, Voted, Ack, Inquire}
 use Rattle.protocol.specs.Letters.{body_of, kept_body, kept_in, letter_of, name_of}
 use Rattle.protocol.specs.Local.{local}
-use Rattle.protocol.specs.Site.{Act, Alive, Dead, Prepared, SiteState, Status, on_abort, on_commit, on_fetch, on_letter, others_exclusive, said}
+use Rattle.protocol.specs.Site.{Act, Active, Dead, Prepared, SiteState, Status, on_abort, on_commit, on_fetch, on_letter, others_exclusive, said}
 use Rattle.protocol.specs.Statements.{body_with}
 use Rattle.protocol.specs.World.{addressed}
 use Rattle.protocol.proofs.Basics.{either}
@@ -91,18 +91,18 @@ module _ (site : List ℕ) (txn : Name) (out : List letters.Letter) where
   fetched_kept : (s : SiteState local) (k : Name) (op : ℕ) (g : local.Leaf) (q : local.Query) (kept : Bool) (st : Status local) → IsKept s (on_fetch s kept k op g q st)
   fetched_kept s k op g q kept Dead = λ is. one_kept _ refl is
   fetched_kept s k op g q kept (Prepared t i) = λ is. none_kept out is
-  fetched_kept s k op g q kept (Alive v) = either (IsKept s) (op == suc v.done) _ _
+  fetched_kept s k op g q kept (Active v) = either (IsKept s) (op == suc v.done) _ _
       (either (IsKept s) (others_exclusive s k g) _ _ (λ is. one_kept _ refl is) (either (IsKept s) kept _ _ (λ is. one_kept _ refl is) (λ is. none_kept out is))) (λ is. none_kept out is)
 
   commit_kept : (s : SiteState local) (k : Name) (kept : Bool) (st : Status local) → IsKept s (on_commit kept k st)
   commit_kept s k kept Dead = λ is. one_kept _ refl is
-  commit_kept s k kept (Alive v) = λ is. one_kept _ refl is
+  commit_kept s k kept (Active v) = λ is. one_kept _ refl is
   commit_kept s k true (Prepared t i) = λ is. one_kept _ refl is
   commit_kept s k false (Prepared t i) = λ is. none_kept out is
 
   abort_kept : (s : SiteState local) (k : Name) (kept : Bool) (st : Status local) → IsKept s (on_abort kept k st)
   abort_kept s k kept Dead = λ is. none_kept out is
-  abort_kept s k kept (Alive v) = λ is. none_kept out is
+  abort_kept s k kept (Active v) = λ is. none_kept out is
   abort_kept s k true (Prepared t i) = λ is. none_kept out is
   abort_kept s k false (Prepared t i) = λ is. none_kept out is
 

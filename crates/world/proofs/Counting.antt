@@ -9,17 +9,17 @@ use Rattle.desk.specs.declared.reply.Notice.{Notice}
 use Rattle.desk.specs.Database.{Database, language}
 use Rattle.world.specs.declared.fault.Fault as faults
 use Rattle.world.specs.declared.fault.Fault.TheVariants as fault
-use Rattle.world.specs.Coming.{Coming}
+use Rattle.world.specs.Delivery.{Coming}
 use Rattle.site.specs.declared.site.Site.{Site}
 use Rattle.world.specs.declared.machines.Machines as code
 use Rattle.world.specs.Counted.{AllKept, HaveRefused, KeptUnless, NoFewer, counts_of}
-use Rattle.world.specs.Held.{held, unrefused}
+use Rattle.world.specs.Contents.{held, unrefused}
 use Rattle.world.specs.Machines.{AreFit, Leads, Machines}
 use Rattle.world.specs.Seated.{seats_in}
-use Rattle.world.specs.Seats.{Seat, is_called, seat_of}
+use Rattle.world.specs.Sites.{Seat, is_called, seat_of}
 use Rattle.world.specs.Taking.{CameUnless}
 use Rattle.protocol.proofs.Basics.{if_true, some_is}
-use Rattle.world.specs.Reasons.{IsAtLimit, Tells, desk_is_full, site_is_full}
+use Rattle.world.specs.Reasons.{Tells}
 
 -- ---- counts
 pub at_most : (n : ℕ) → n ≤ n
@@ -83,22 +83,18 @@ with_counts machines counts = record machines { refused = counts }
 
 module _ (db : Database) where
   pub fit_counted : (machines : Machines) (counts : List ℕ) → AreFit db machines → AreFit db (with_counts machines counts)
-  fit_counted machines counts fit = record { names = fit.names; desk = fit.desk; within = fit.within; sites = fit.sites }
+  fit_counted machines counts fit = record { names = fit.names; leaves = fit.leaves; desk = fit.desk; within = fit.within; sites = fit.sites }
 
   pub leads_counted : (step : World (language db) → World (language db)) (before after : Machines) (a b : List ℕ) (out : List letters.Letter) (notices : List Notice) → Leads db step before after out notices → Leads db step (with_counts before a) (with_counts after b) out notices
   leads_counted step before after a b out notices leads = record { deeds = leads.deeds; fit = fit_counted after b leads.fit; is = leads.is; explained = leads.explained; replies = leads.replies }
 
-  pub limit_counted : (machines : Machines) (counts : List ℕ) (letter : letters.Letter) → IsAtLimit db machines letter → IsAtLimit db (with_counts machines counts) letter
-  limit_counted machines counts letter (desk_is_full choice reply past) = desk_is_full choice reply past
-  limit_counted machines counts letter (site_is_full seat there asks) = site_is_full seat there asks
-
   pub tells_counted : (machines : Machines) (counts : List ℕ) (letter : letters.Letter) (told : faults.Fault) → Tells db machines letter told → Tells db (with_counts machines counts) letter told
-  tells_counted machines counts letter (fault.Desk refusal) why = ⊎_elim (λ memory. inl memory) (λ full. inr (full.0, limit_counted machines counts letter full.1)) why
+  tells_counted machines counts letter (fault.Desk refusal) why = why
   tells_counted machines counts letter (fault.Site told) why = why
   tells_counted machines counts letter fault.Unsent why = why
 
   pub fit_uncounted : (machines : Machines) (counts : List ℕ) → AreFit db (with_counts machines counts) → AreFit db machines
-  fit_uncounted machines counts fit = record { names = fit.names; desk = fit.desk; within = fit.within; sites = fit.sites }
+  fit_uncounted machines counts fit = record { names = fit.names; leaves = fit.leaves; desk = fit.desk; within = fit.within; sites = fit.sites }
 
 -- where no store is called, machines that are as they were are so with their counts, and no count falls
 pub same_counted : (before after : Machines) (a b : List ℕ) → after ≡ before → b ≡ a → with_counts after b ≡ with_counts before a

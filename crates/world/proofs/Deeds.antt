@@ -8,18 +8,18 @@ use Rattle.protocol.specs.Desk.{Commit_call, Deed, Rollback, State}
 use Rattle.protocol.specs.Language.{Lang}
 use Rattle.protocol.specs.Letter.{Letter}
 use Rattle.protocol.specs.Letters.{txn_name}
-use Rattle.protocol.specs.Vain.{AreInVain, is_of_commit}
+use Rattle.protocol.specs.NothingCommits.{AreInVain, is_of_commit}
 use Rattle.protocol.specs.World.{World}
 use Rattle.protocol.proofs.Basics.{every_append}
-use Rattle.protocol.proofs.Vain.{AreCalm, Vainly, begins_vainly, comes_vainly, committed_still, give_up_vainly, rollback_vainly, state_vainly, vainly_none, vainly_then}
+use Rattle.protocol.proofs.NothingCommits.{AreCalm, Vainly, begins_vainly, comes_vainly, committed_still, give_up_vainly, rollback_vainly, state_vainly, vainly_none, vainly_then}
 use Rattle.desk.specs.declared.refusal.Refusal.{Refusal}
 use Rattle.desk.specs.declared.reply.Notice.{Notice}
 use Rattle.desk.specs.Database.{Database, language}
 use Rattle.world.specs.Deeds.{DeedsFollow, deeds_alone, deeds_begun, deeds_in_vain, deeds_of, deeds_of_decision, deeds_refused_alone, deeds_taken_back, deeds_undecided}
-use Rattle.world.specs.Delivering.{Ask, Coming, IsStill, Passed_over, Serves, Taken, To_begin, To_do, Turned_away, all_come, asked, come, first_comes}
-use Rattle.world.specs.Denying.{CommitIsDenied, Declines, IsTakenBack, LoneIsDenied, RunIsDenied, commit_stops, declines_all, declines_begin, declines_commit, declines_inside, declines_lone, declines_outside, declines_rollback, declines_statement, declines_text, has_begun_but, has_not_begun, is_left, is_not_committed, is_not_decided, is_not_stated, is_rolled_back, run_stops}
+use Rattle.world.specs.Mailbox.{Ask, Coming, IsStill, Passed_over, Serves, Taken, To_begin, To_do, Turned_away, all_come, asked, come, first_comes}
+use Rattle.world.specs.Denials.{CommitIsDenied, Declines, IsTakenBack, LoneIsDenied, RunIsDenied, commit_stops, declines_all, declines_begin, declines_commit, declines_inside, declines_lone, declines_outside, declines_rollback, declines_statement, declines_text, has_begun_but, has_not_begun, is_left, is_not_committed, is_not_decided, is_not_stated, is_rolled_back, run_stops}
 use Rattle.world.specs.Machines.{Machines, world_of}
-use Rattle.world.specs.Serving.{DoesAlone, DoesDecide, Executes, IsServed, did_begin, did_commit, did_decide, did_roll_back, did_run, did_state, had_ended}
+use Rattle.world.specs.Client.{DoesAlone, DoesDecide, Executes, IsServed, did_begin, did_commit, did_decide, did_roll_back, did_run, did_state, had_ended}
 use Rattle.world.specs.Stopping.{is_stop}
 use Rattle.world.proofs.Reaching.{serves_past}
 

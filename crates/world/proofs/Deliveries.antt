@@ -5,12 +5,15 @@ use Rattle.std.proofs.lemmas.List.Elements.{filter_map-append}
 use Rattle.std.specs.List.{filter_map}
 use Rattle.store.specs.declared.letter.Letter as letters
 use Rattle.protocol.specs.Desk.{Choice, Deed, Give_up}
+use Rattle.protocol.specs.Home.{AreHomed, IsHomed}
 use Rattle.protocol.specs.Language.{Lang}
+use Rattle.protocol.specs.Letter.{Letter, is_for_desk}
 use Rattle.protocol.specs.Rounds.{InRound, RanksUnder}
 use Rattle.protocol.specs.Serial.{Explained}
 use Rattle.protocol.specs.Letters.{txn_name}
 use Rattle.protocol.specs.World.{World, called}
 use Rattle.protocol.proofs.Basics.{some_is}
+use Rattle.protocol.proofs.Homed.{begins_homed, called_homed, comes_homed}
 use Rattle.protocol.proofs.Rounds.{round_law}
 use Rattle.desk.specs.declared.refusal.Refusal.{Refusal}
 use Rattle.desk.specs.declared.refusal.Refusal.TheVariants as refusals
@@ -18,17 +21,17 @@ use Rattle.desk.specs.declared.reply.Notice.{Notice}
 use Rattle.desk.specs.declared.reply.Out.{Out}
 use Rattle.desk.specs.Database.{Database, language, sent}
 use Rattle.desk.specs.State.{desk_of, notice_of}
-use Rattle.desk.specs.Turn.{told}
+use Rattle.desk.specs.Transition.{told}
 use Rattle.site.specs.declared.fault.SiteFault.TheVariants as site_faults
 use Rattle.world.specs.declared.fault.Fault.{Fault}
 use Rattle.world.specs.declared.fault.Fault.TheVariants as faults
 use Rattle.world.specs.Counted.{HaveRefused, IsKept, KeptUnless, NoFewer}
-use Rattle.world.specs.Delivering.{Ask, Breaks, Coming, Fails, Goes, Passed_over, Scene, Serves, Taken, Turned_away, all_come, asked, at_rest, come, done_with, settled}
+use Rattle.world.specs.Mailbox.{Ask, To_begin, To_do, Breaks, Coming, Fails, Goes, Passed_over, Scene, Serves, Taken, Turned_away, all_come, asked, at_rest, come, done_with, settled}
 use Rattle.world.specs.Machines.{AreFit, Leads, Machines, is_of_site, world_of}
 use Rattle.world.specs.Taking.{CameUnless, IsDone, IsInRound, put_out_by, stop_of, world_at}
-use Rattle.world.specs.Reasons.{AllFounded, FirstIsFounded, HasReason, TurnsAway}
+use Rattle.world.specs.Reasons.{AllFounded, FirstIsFounded, HasReason, IsFounded, TurnsAway}
 use Rattle.world.specs.Stopping.{is_stop}
-use Rattle.world.proofs.Reasoned.{turned_ranks}
+use Rattle.world.proofs.Reasoned.{same_passes, turned_ranks}
 use Rattle.world.proofs.Counting.{fit_counted, kept_then, leads_counted, no_fewer, no_fewer_then, with_counts}
 use Rattle.world.proofs.Running.{all_both}
 
@@ -47,7 +50,8 @@ nothing_goes db here fit = record {
   deeds = [];
   fit = fit;
   is = λ past. ap (world_of db here.machines (map (sent db) here.waiting)) (sym (append-nil past));
-  founded = λ past. tt;
+  homed = λ homes. homes;
+  founded = λ homes past. tt;
   counts = no_fewer here.machines.refused;
   kept = inl tt;
   explained = tt;
@@ -77,7 +81,8 @@ module _ (db : Database) (step : World (language db) → World (language db)) (f
         ∙ ap (all_come other.comings) (one.is past)
         ∙ other.is (past ++ one.deeds)
         ∙ ap (world_of db third.machines (map (sent db) third.waiting)) (append_assoc past one.deeds other.deeds);
-    founded = λ past. founded_append db one.comings other.comings (step (world_of db first.machines (map (sent db) first.waiting) past)) (one.founded past) (subst (AllFounded db other.comings) (sym (one.is past)) (other.founded (past ++ one.deeds)));
+    homed = λ homes. other.homed (one.homed homes);
+    founded = λ homes past. founded_append db one.comings other.comings (step (world_of db first.machines (map (sent db) first.waiting) past)) (one.founded homes past) (subst (AllFounded db other.comings) (sym (one.is past)) (other.founded (one.homed homes) (past ++ one.deeds)));
     counts = no_fewer_then first.machines.refused second.machines.refused third.machines.refused one.counts other.counts;
     kept = kept_then one.comings other.comings first.machines.refused second.machines.refused third.machines.refused one.counts other.counts one.kept other.kept;
     explained = all_both Explained one.deeds other.deeds one.explained other.explained;
@@ -116,6 +121,23 @@ module _ (db : Database) (step : World (language db) → World (language db)) (f
 one_left : (rank n : ℕ) → 2 ≤ rank → rank ≤ suc n → 1 ≤ n
 one_left rank n two few = omega arith
 
+-- what becomes of a letter whose operation is for the site that keeps the leaf has its reason in the protocol's world
+founded_here : (db : Database) (machines : Machines) (letter : letters.Letter) (waiting : List (Letter (language db))) (past : List (Deed (language db))) (coming : Coming (language db)) → IsHomed (sent db letter) → HasReason db machines letter coming → IsFounded db (world_of db machines waiting past) coming (sent db letter)
+founded_here db machines letter waiting past (Taken kept choice) home reason = (same_passes db (is_for_desk (sent db letter).body) machines waiting past kept choice (sent db letter) ∙ reason.0, reason.1)
+founded_here db machines letter waiting past (Turned_away choice) home (inl limit) = record { choice = limit.choice; explained = limit.explained; past = same_passes db (is_for_desk (sent db letter).body) machines waiting past true limit.choice (sent db letter) ∙ limit.past }
+founded_here db machines letter waiting past (Turned_away choice) home (inr astray) = absurd (astray home)
+founded_here db machines letter waiting past Passed_over home reason = reason
+
+-- ---- operations go to the sites that keep their leaves
+done_homed : {L : Lang} (l : Letter L) (coming : Coming L) (w : World L) → AreHomed w.letters → AreHomed (done_with l coming w).letters
+done_homed l (Taken kept choice) w homes = comes_homed w kept choice l homes
+done_homed l (Turned_away choice) w homes = called_homed w l.txn choice Give_up homes
+done_homed l Passed_over w homes = homes
+
+asked_homed : {L : Lang} (ask : Ask L) (w : World L) → AreHomed w.letters → AreHomed (asked ask w).letters
+asked_homed To_begin w homes = begins_homed w homes
+asked_homed (To_do txn request choice) w homes = called_homed w txn choice request homes
+
 -- a letter that is in front comes
 module _ (db : Database) (letter : letters.Letter) (here : Scene) (after : Machines) (rest out : List letters.Letter) (notices : List Notice) (in_front : here.waiting ≡ letter ∷ rest) (done : IsDone db letter here.machines after out notices) where
   is_next : (past : List (Deed (language db))) → come (world_of db here.machines (map (sent db) here.waiting) past) done.coming ≡ world_of db after (map (sent db) (rest ++ out)) (past ++ done.leads.deeds)
@@ -124,15 +146,21 @@ module _ (db : Database) (letter : letters.Letter) (here : Scene) (after : Machi
       ∙ done.leads.is (map (sent db) rest) past
       ∙ ap (λ waiting. world_of db after waiting (past ++ done.leads.deeds)) (sym (map-append (sent db) rest out))
 
+  homed_in_front : AreHomed (map (sent db) here.waiting) → AreHomed (map (sent db) (letter ∷ rest))
+  homed_in_front homes = subst (λ (all : List letters.Letter). AreHomed (map (sent db) all)) in_front homes
+
   pub comes_goes : (there : Scene) → there.machines ≡ after → there.waiting ≡ rest ++ out → there.heard ≡ here.heard ++ notices → Goes db (λ w. w) here there
   comes_goes there machines waiting heard = record {
     comings = done.coming ∷ [];
     deeds = done.leads.deeds;
     fit = subst (AreFit db) (sym machines) done.leads.fit;
     is = λ past. is_next past ∙ (λ i. world_of db (sym machines i) (map (sent db) (sym waiting i)) (past ++ done.leads.deeds));
-    founded = λ past. (
+    homed = λ homes. subst (λ (all : List letters.Letter). AreHomed (map (sent db) all)) (sym waiting)
+        (subst (λ (w : World (language db)). AreHomed w.letters) (done.leads.is (map (sent db) rest) [] ∙ ap (λ all. world_of db after all ([] ++ done.leads.deeds)) (sym (map-append (sent db) rest out)))
+        (done_homed (sent db letter) done.coming (world_of db here.machines (map (sent db) rest) []) (homed_in_front homes).1));
+    founded = λ homes past. (
       subst (λ (waiting : List letters.Letter). FirstIsFounded db (world_of db here.machines (map (sent db) waiting) past) done.coming (map (sent db) waiting)) (sym in_front)
-          (record { machines = here.machines; letter = letter; desk = refl; sites = refl; is = refl; reason = done.reason }),
+          (founded_here db here.machines letter (map (sent db) (letter ∷ rest)) past done.coming (homed_in_front homes).0 done.reason),
       tt,
     );
     counts = subst (λ (m : Machines). NoFewer here.machines.refused m.refused) (sym machines) done.counts;
@@ -179,7 +207,8 @@ module _ (db : Database) (ask : Ask (language db)) (before mid : Machines) (out 
     deeds = leads.deeds;
     fit = leads.fit;
     is = λ past. leads.is [] past;
-    founded = λ past. tt;
+    homed = λ homes. subst (λ (w : World (language db)). AreHomed w.letters) (leads.is [] []) (asked_homed ask (world_of db before [] []) tt);
+    founded = λ homes past. tt;
     counts = counts;
     kept = inl tt;
     explained = leads.explained;

@@ -1,7 +1,7 @@
 -- A transaction that has ended since a call told its client so.
 use Rattle.std.proofs.Common.{◌≡◌, refl, sym, ap, ◌∙◌, subst, ◌||◌, Bool, true, false, List, [], ◌∷◌, ◌++◌, map, ◌⊎◌, inl, inr, ⊎_elim, ℕ, Option, Some, None, is_some, is_none, append-nil, append_assoc}
 use Rattle.std.specs.List.{filter_map, list_all, list_any}
-use Rattle.protocol.specs.Desk.{Aborted, Answered, Ask, Began, Choice, Committed, Deed, Give_up, Idle, Known, Phased, Reading, Rolled_back, Row, Stage, State, Stated, Turn, Txn, Undecided, Unknown, Voting, Worked, Writing, are_all_in, ask_of, counts, decides, desk_after, is_desk_within, is_named, is_undecided, on_desk_letter, on_known, on_refused, on_request, on_rows, on_state, on_ticket, on_vote, states, ticket_goes, visits, voters_of, votes_go, with_rows, works, writes_out, writing}
+use Rattle.protocol.specs.Desk.{Aborted, Answered, Ask, Began, Choice, Committed, Deed, Give_up, Idle, Known, Phased, Reading, Rolled_back, Row, Stage, State, Stated, Transition, Txn, Undecided, Unknown, Voting, Worked, Writing, are_all_in, ask_of, counts, decides, desk_after, is_desk_within, is_named, is_undecided, on_desk_letter, on_known, on_refused, on_request, on_rows, on_state, on_ticket, on_vote, states, ticket_goes, visits, voters_of, votes_go, with_rows, works, writes_out, writing}
 use Rattle.protocol.specs.Language.{Lang, Name, put, same}
 use Rattle.protocol.specs.Letter.{Body, Letter, Vote, Yes, No, Read, Open, Fetch, Write, Prepare, Commit, Abort, Ticket, Rows, Refused, Voted, Ack, Inquire, is_for_desk}
 use Rattle.protocol.specs.Site.{is_within, on_letter, said, site_after}
@@ -9,9 +9,9 @@ use Rattle.protocol.specs.World.{World, addressed, called, comes_to, turned, tur
 use Rattle.protocol.proofs.Basics.{either, put_all, same_law}
 use Rattle.desk.specs.declared.reply.Reply.{Reply}
 use Rattle.desk.specs.Database.{Database, language}
-use Rattle.desk.specs.Turn.{told}
-use Rattle.world.specs.Coming.{Coming, Passed_over, Taken, Turned_away, all_come, come, first_comes}
-use Rattle.world.specs.Serving.{is_end}
+use Rattle.desk.specs.Transition.{told}
+use Rattle.world.specs.Delivery.{Coming, Passed_over, Taken, Turned_away, all_come, come, first_comes}
+use Rattle.world.specs.Client.{is_end}
 
 module _ {L : Lang} where
   -- whether a deed is the end of a transaction
@@ -42,7 +42,7 @@ module _ {L : Lang} where
       go false e = e
 
   -- a turn leaves it undecided, or is its end
-  abbrev Says : Turn L → Type 0
+  abbrev Says : Transition L → Type 0
   Says turn = (is_undecided turn.txn ≡ true) ⊎ (list_any ends_it turn.deeds ≡ true)
 
   writing_says : (t : Name) (v : Undecided L) (answer : L.Answer) (sent : L.Site → ℕ) (left : List (L.Leaf × L.Write)) (letters : List (Letter L)) → Says (writing t v answer sent left letters)
@@ -143,7 +143,7 @@ module _ {L : Lang} where
       pub is : w.past ≡ before ++ more
       pub says : (is_undecided (w.desk.txn t) ≡ true) ⊎ (list_any ends_it more ≡ true)
 
-    turns_told : (w : World L) (j : Name) (turn : Turn L) → (is_undecided (w.desk.txn j) ≡ true → Says turn) → Told w → Told (turns w j turn)
+    turns_told : (w : World L) (j : Name) (turn : Transition L) → (is_undecided (w.desk.txn j) ≡ true → Says turn) → Told w → Told (turns w j turn)
     turns_told w j turn says so_far = either Told (is_desk_within (desk_after w.desk j turn.txn)) (turned w j turn) w (record {
       more = so_far.more ++ turn.deeds;
       is = ap (λ past. past ++ turn.deeds) so_far.is ∙ append_assoc before so_far.more turn.deeds;

@@ -33,7 +33,7 @@ use Rattle.world.specs.Counted.{HaveRefused, NoFewer}
 use Rattle.world.specs.Fault.{FailsFor, is_memory}
 use Rattle.world.specs.Machines.{AreFit, Machines}
 use Rattle.world.specs.Settled.{AreDecided, AreThoseOf, brought_of}
-use Rattle.world.proofs.BaseHoused.{housed}
+use Rattle.world.proofs.DatabaseIsHoused.{housed}
 use Rattle.world.proofs.Counting.{refused_since}
 
 -- where refusals of some counts are refusals of others

@@ -12,11 +12,11 @@ use Rattle.catalog.specs.FragmentLeaf.{is_name_of, leaf_named, unnamed}
 use Rattle.catalog.proofs.LeafNames.{AreOther, HaveOwnNames}
 use Rattle.store.specs.Content.{Content}
 use Rattle.protocol.proofs.Basics.{left_true, right_true, some_is}
-use Rattle.site.proofs.Tickets.{leaf_is, leaf_self, same_bool}
+use Rattle.site.proofs.TicketOrder.{leaf_is, leaf_self, same_bool}
 use Rattle.world.specs.Filling.{filled, is_leaf, kept_with, stored_in}
 
 -- one test of a leaf's name is the other
-same_test : (name : Leaf) (leaf : FragmentLeaf) → is_name_of name leaf ≡ is_leaf leaf name
+pub same_test : (name : Leaf) (leaf : FragmentLeaf) → is_name_of name leaf ≡ is_leaf leaf name
 same_test name leaf = same_bool _ _
     (λ e. let same : leaf.name ≡ name = λ i. record { relation = (bytes_eq-Decides leaf.name.relation name.relation).0 (left_true (pointwise nat_eq leaf.name.relation name.relation) (leaf.name.number == name.number) e) i; number = eqb-true leaf.name.number name.number (right_true (pointwise nat_eq leaf.name.relation name.relation) (leaf.name.number == name.number) e) i } in subst (λ n. is_leaf leaf n ≡ true) same (leaf_self leaf.name))
     (λ e. subst (λ n. is_name_of n leaf ≡ true) (sym (leaf_is name leaf.name e)) (ap₂ (λ a b. a && b) ((bytes_eq-Decides leaf.name.relation leaf.name.relation).1 refl) (eq-eqb leaf.name.number leaf.name.number refl)))

@@ -12,12 +12,14 @@ use Rattle.protocol.specs.Serial.{IsSerial, answers_of, committed, is_committed,
 use Rattle.desk.specs.declared.reply.Reply as replies
 use Rattle.desk.specs.Database.{Database, language, sent}
 use Rattle.desk.specs.State.{notice_of}
-use Rattle.desk.specs.Turn.{told}
+use Rattle.desk.specs.Transition.{told}
+use Rattle.world.specs.declared.committed.Committed as told_of
 use Rattle.world.specs.declared.event.Entry.{Entry}
+use Rattle.world.specs.Committed.{committed_of}
 use Rattle.world.specs.Machines.{Machines, world_of}
 use Rattle.world.specs.Posted.{letters_in}
 use Rattle.world.specs.Runs.{AreTexts, IsSerialRun}
-use Rattle.world.specs.Telling.{AreStated, Tells, answer_of, answers_to, committed_in, is_told_committed, is_txn, notices_in, phased_in, says_committed, stated_of, texts_in, texts_of}
+use Rattle.world.specs.Replies.{AreStated, Tells, answer_of, answers_to, committed_in, is_told_committed, is_txn, notices_in, phased_in, says_committed, stated_of, texts_in, texts_of}
 
 -- ---- small lemmas
 and_true : (b : Bool) → (b && true) ≡ b
@@ -131,6 +133,14 @@ module _ (db : Database) where
 
     pub what_stated : (txn : Txn) → AreTexts db (texts_of entries txn) (statements_of past (txn_name txn))
     what_stated txn = subst (AreTexts db (texts_of entries txn)) (of_statements (txn_name txn) past) (spelled_by txn (texts_in entries) (stated_of past) so.stated)
+
+  -- ---- whom the entries tell committed the coordinator decided to commit
+  same_names : (entries : List Entry) (txns : List Txn) → map (λ (one : told_of.Committed). txn_name one.txn) (map (committed_of entries) txns) ≡ map txn_name txns
+  same_names entries [] = refl
+  same_names entries (txn ∷ txns) = ap (λ names. txn_name txn ∷ names) (same_names entries txns)
+
+  pub were_decided : (entries : List Entry) (past : List (Deed (language db))) → Tells db entries past → (all : List told_of.Committed) → all ≡ map (committed_of entries) (committed_in entries) → map (λ (one : told_of.Committed). txn_name one.txn) all ≡ committed past
+  were_decided entries past so all is = ap (map (λ (one : told_of.Committed). txn_name one.txn)) is ∙ same_names entries (committed_in entries) ∙ who_committed entries past so
 
   -- ---- so the serial law of what happened is one of what is told
   pub serial_run : (whole : Relations) (machines : Machines) (entries : List Entry) (past : List (Deed (language db))) → Tells db entries past → IsSerial whole (world_of db machines (map (sent db) (letters_in entries)) past) → IsSerialRun db whole machines entries

@@ -16,7 +16,7 @@ use Rattle.world.specs.declared.event.Entry.{Entry}
 use Rattle.world.specs.Machines.{Machines}
 use Rattle.world.specs.Runs.{AreTexts, IsRun, RunsAreSerial}
 use Rattle.world.specs.Settled.{AreThoseOf, ShowsSerial, rows_shown}
-use Rattle.world.specs.Telling.{committed_in, texts_of}
+use Rattle.world.specs.Replies.{committed_in, texts_of}
 
 module _ (db : Database) (lawful : IsLawful (language db)) where
   -- what texts say are statements of the schema

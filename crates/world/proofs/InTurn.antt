@@ -5,11 +5,11 @@ use Rattle.meaning.specs.Whole.{Relations}
 use Rattle.store.specs.declared.name.Txn.{Txn}
 use Rattle.desk.specs.Database.{Database}
 use Rattle.world.specs.declared.event.Entry.{Entry}
-use Rattle.world.specs.declared.history.Committed.{Committed}
-use Rattle.world.specs.History.{AnswerInTurn, AreStatedBy, committed_of}
+use Rattle.world.specs.declared.committed.Committed.{Committed}
+use Rattle.world.specs.Committed.{AnswerInTurn, AreStatedBy, committed_of}
 use Rattle.world.specs.Machines.{Machines}
 use Rattle.world.specs.Runs.{AreTexts, IsSerialRun}
-use Rattle.world.specs.Telling.{committed_in, texts_of}
+use Rattle.world.specs.Replies.{committed_in, texts_of}
 use Rattle.world.proofs.Heard.{map_twice}
 
 stated_by_all : (db : Database) (entries : List Entry) (statements : Txn → List Statement) → ((txn : Txn) → AreTexts db (texts_of entries txn) (statements txn)) → (txns : List Txn) → AreStatedBy db (map (committed_of entries) txns) (map statements txns)

@@ -1,6 +1,7 @@
 -- What proves the contracts of the crate.
 pub mod Seating
-pub mod Moving
+pub mod SiteSteps
+pub mod Reasoned
 pub mod SettledSites
 pub mod Machinery
 pub mod Ends
@@ -8,11 +9,11 @@ pub mod Filled
 pub mod Opened
 pub mod FilledLeaves
 pub mod Openings
-pub mod BaseStored
-pub mod BaseWritten
-pub mod BaseLawful
+pub mod DatabaseIsStored
+pub mod DatabaseIsWritten
+pub mod DatabaseIsLawful
 pub mod Rebuilt
-pub mod BaseSites
+pub mod DatabaseSites
 pub mod Shown
 pub mod Told
 pub mod Unstarted
@@ -20,12 +21,11 @@ pub mod Numbered
 pub mod Refusing
 pub mod Running
 pub mod Heard
-pub mod BaseOpened
+pub mod DatabaseIsOpened
 pub mod InTurn
 pub mod InSerial
 pub mod Refusals
-pub mod Follow
-pub mod Reasoned
+pub mod RunGoesOn
 pub mod Counting
 pub mod Leaves
 pub mod Stops
@@ -35,10 +35,10 @@ pub mod Deliveries
 pub mod Reaching
 pub mod Beginning
 pub mod Smoothly
-pub mod BaseHoused
-pub mod Obeying
+pub mod DatabaseIsHoused
+pub mod Executed
 pub mod RoomToBegin
-pub mod Denying
+pub mod Denials
 pub mod Deeds
 pub mod Account
 pub mod CallsKept
@@ -50,4 +50,4 @@ pub mod StatementEnds
 pub mod StandingAgain
 pub mod Batches
 pub mod BatchTold
-pub mod Faring
+pub mod BatchRuns

@@ -10,12 +10,12 @@ use Rattle.store.specs.declared.reply.Reply.TheVariants as reply_kinds
 use Rattle.store.specs.declared.letter.Letter as letters
 use Rattle.store.specs.declared.name.Txn as names
 use Rattle.store.specs.DeskContent.{DeskContent}
-use Rattle.desk.specs.Calls.{txn_in}
+use Rattle.desk.specs.Request.{txn_in}
 use Rattle.desk.specs.Does.{Takes}
-use Rattle.desk.specs.Starting.{Restarts}
+use Rattle.desk.specs.Recovery.{Restarts}
 use Rattle.protocol.specs.Language.{Name}
-use Rattle.protocol.specs.Course.{passes, passes_to}
-use Rattle.protocol.specs.Desk.{Began, Choice, Desk, Known, Row, Txn, Unknown, desk_restarted, next_txn, txn_restarted, Deed, Request, Turn, desk_after, desk_began, is_desk_within, on_desk_letter, on_request, refusal}
+use Rattle.protocol.specs.StatementCourse.{passes, passes_to}
+use Rattle.protocol.specs.Desk.{Began, Choice, Desk, Known, Row, Txn, Unknown, desk_restarted, next_txn, txn_restarted, Deed, Request, Transition, desk_after, desk_began, is_desk_within, on_desk_letter, on_request, refusal}
 use Rattle.protocol.specs.Letter.{Letter, is_for_desk}
 use Rattle.protocol.specs.Letters.{body_of, kept_in, letter_of, name_of, txn_name}
 use Rattle.protocol.specs.Serial.{AllExplained}
@@ -25,24 +25,24 @@ use Rattle.protocol.specs.World.{World, addressed, called, desk_lives, desk_rest
 use Rattle.protocol.proofs.Basics.{if_true}
 use Rattle.desk.specs.declared.reply.Notice.{Notice}
 use Rattle.desk.specs.Database.{Database, language, replied, sent, statements}
-use Rattle.desk.specs.State.{Begins, Steps, Table, desk_of}
+use Rattle.desk.specs.State.{Begins, Steps, VolatileState, desk_of}
 use Rattle.site.specs.State.{state_of}
 use Rattle.site.proofs.Limited.{fits_within}
 use Rattle.world.specs.Machines.{AreFit, Asked, Came, Leads, Machines, happens_at, is_for_site, is_order, world_of}
 use Rattle.world.specs.Seated.{SomeSeatDoes}
-use Rattle.world.specs.declared.doing.Doing as doing
-use Rattle.world.specs.declared.doing.Doing.TheVariants.{GiveUp, Inquire, Restart, Take}
-use Rattle.world.specs.Seats.{Moves, Seat, state_at, states_of}
-use Rattle.world.proofs.Reasoned.{passes_is}
-use Rattle.world.proofs.Seating.{letter_said, letter_state, names_after, reseated_same, seat_named, seated_after, state_there, states_after}
+use Rattle.world.specs.declared.sites.SiteAction as doing
+use Rattle.world.specs.declared.sites.SiteAction.TheVariants.{GiveUp, Inquire, Restart, Take}
+use Rattle.world.specs.Sites.{Moves, Seat, state_at, states_of}
+use Rattle.world.proofs.Reasoned.{order_is, passes_is}
+use Rattle.world.proofs.Seating.{leaves_after, letter_said, letter_state, names_after, reseated_same, seat_named, seated_after, state_there, states_after}
 use Rattle.protocol.proofs.OtherStatements.{after_same, give_up_same, inquiries_same, restart_same, within_same}
 
 -- the coordinator is another one
-abbrev pub with_desk : Machines → DeskContent → Table → Machines
+abbrev pub with_desk : Machines → DeskContent → VolatileState → Machines
 with_desk machines desk table = record { desk = desk; table = table; seats = machines.seats; refused = machines.refused }
 
 -- a turn of the coordinator
-module _ (db : Database) (before : Machines) (kept : DeskContent) (after : Table) (txn : names.Txn) (wanted : Turn (language db)) (out : List letters.Letter) (notices : List Notice) (fit : AreFit db before) (steps : Steps db before.table kept after txn wanted out notices) where
+module _ (db : Database) (before : Machines) (kept : DeskContent) (after : VolatileState) (txn : names.Txn) (wanted : Transition (language db)) (out : List letters.Letter) (notices : List Notice) (fit : AreFit db before) (steps : Steps db before.table kept after txn wanted out notices) where
   turn_is : (waiting : List (Letter (language db))) (past : List (Deed (language db))) → turns (world_of db before waiting past) (txn_name txn) wanted ≡ world_of db (with_desk before kept after) (waiting ++ map (sent db) out) (past ++ wanted.deeds)
   turn_is waiting past =
       let w = world_of db before waiting past in
@@ -50,7 +50,7 @@ module _ (db : Database) (before : Machines) (kept : DeskContent) (after : Table
       (λ i. record { desk = sym steps.state i; sites = (world_of db before waiting past).sites; letters = waiting ++ sym steps.letters i; past = past ++ wanted.deeds })
 
   still_fit : AreFit db (with_desk before kept after)
-  still_fit = record { names = fit.names; desk = steps.fits; within = steps.within; sites = fit.sites }
+  still_fit = record { names = fit.names; leaves = fit.leaves; desk = steps.fits; within = steps.within; sites = fit.sites }
 
   pub turn_leads : (step : World (language db) → World (language db)) → ((waiting : List (Letter (language db))) (past : List (Deed (language db))) → step (world_of db before waiting past) ≡ turns (world_of db before waiting past) (txn_name txn) wanted) → AllExplained wanted.deeds →
       Leads db step before (with_desk before kept after) out notices
@@ -63,7 +63,7 @@ module _ (db : Database) (before : Machines) (kept : DeskContent) (after : Table
   }
 
 -- what a client asks for, as the coordinator's turn
-pub asked_leads : (db : Database) (before : Machines) (kept : DeskContent) (after : Table) (txn : names.Txn) (choice : Choice (language db)) (request : Request (language db)) (out : List letters.Letter) (notices : List Notice) → AreFit db before →
+pub asked_leads : (db : Database) (before : Machines) (kept : DeskContent) (after : VolatileState) (txn : names.Txn) (choice : Choice (language db)) (request : Request (language db)) (out : List letters.Letter) (notices : List Notice) → AreFit db before →
     Steps db before.table kept after txn (on_request (txn_name txn) choice request (txn_in db before.table txn)) out notices → AllExplained (on_request (txn_name txn) choice request (txn_in db before.table txn)).deeds → refusal request (txn_in db before.table txn) ≡ None →
     Asked db txn choice request before (with_desk before kept after) out notices
 unfolding turn_leads
@@ -75,11 +75,11 @@ asked_leads db before kept after txn choice request out notices fit steps explai
 }
 
 -- a transaction begins
-module _ (db : Database) (before : Machines) (kept : DeskContent) (after : Table) (out : List letters.Letter) (notices : List Notice) (fit : AreFit db before) (begun_so : Begins db before.table kept after out notices) where
+module _ (db : Database) (before : Machines) (kept : DeskContent) (after : VolatileState) (out : List letters.Letter) (notices : List Notice) (fit : AreFit db before) (begun_so : Begins db before.table kept after out notices) where
   pub begin_leads : Leads db begins before (with_desk before kept after) out notices
   begin_leads = record {
     deeds = Began (next_txn (desk_of db before.table)) ∷ [];
-    fit = record { names = fit.names; desk = begun_so.fits; within = begun_so.within; sites = fit.sites };
+    fit = record { names = fit.names; leaves = fit.leaves; desk = begun_so.fits; within = begun_so.within; sites = fit.sites };
     is = λ waiting past.
         let w = world_of db before waiting past in
         if_true (is_desk_within (desk_began w.desk)) (begun w) w (ap is_desk_within (sym begun_so.state) ∙ begun_so.within) ∙
@@ -98,13 +98,13 @@ restarted_explained db d (t ∷ names) = go (d.txn t) (restarted_explained db d 
     go (Known u) later = (tt, later)
     go (Row voters acked) later = later
 
-module _ (db : Database) (before : Machines) (kept : DeskContent) (after : Table) (out : List letters.Letter) (notices : List Notice) (fit : AreFit db before) (restarted : Restarts db before.table kept after out notices) where
+module _ (db : Database) (before : Machines) (kept : DeskContent) (after : VolatileState) (out : List letters.Letter) (notices : List Notice) (fit : AreFit db before) (restarted : Restarts db before.table kept after out notices) where
   pub restart_leads : Leads db desk_restarts before (with_desk before kept after) out notices
   restart_leads =
       let d = desk_of db before.table in
       record {
         deeds = flat_map (λ t. (txn_restarted t (d.txn t)).deeds) d.known;
-        fit = record { names = fit.names; desk = restarted.fits; within = restarted.within; sites = fit.sites };
+        fit = record { names = fit.names; leaves = fit.leaves; desk = restarted.fits; within = restarted.within; sites = fit.sites };
         is = λ waiting past.
             let w = world_of db before waiting past in
             if_true (is_desk_within (desk_restarted w.desk)) (desk_lives w) w (ap is_desk_within (sym restarted.state) ∙ restarted.within) ∙
@@ -133,7 +133,7 @@ comes_is db letter reply is kept choice w = ap (λ said. comes w kept choice (as
     go (reply_kinds.Ack ticket) = refl
     go (reply_kinds.Inquire ticket) = refl
 
-pub reply_leads : (db : Database) (before : Machines) (kept : DeskContent) (after : Table) (letter : letters.Letter) (reply : replies.Reply) → letter.body ≡ body.Reply reply → (keeps : Bool) (out : List letters.Letter) (notices : List Notice) → AreFit db before →
+pub reply_leads : (db : Database) (before : Machines) (kept : DeskContent) (after : VolatileState) (letter : letters.Letter) (reply : replies.Reply) → letter.body ≡ body.Reply reply → (keeps : Bool) (out : List letters.Letter) (notices : List Notice) → AreFit db before →
     Takes db before.table kept after letter.txn (λ choice. on_desk_letter (txn_name letter.txn) letter.site keeps choice (replied db reply) (txn_in db before.table letter.txn)) out notices → Came db letter keeps before (with_desk before kept after) out notices
 reply_leads db before kept after letter reply is keeps out notices fit takes = record {
   choice = takes.choice;
@@ -145,16 +145,6 @@ reply_leads db before kept after letter reply is keeps out notices fit takes = r
 -- the sites are others
 abbrev pub with_seats : Machines → List Seat → Machines
 with_seats machines seats = record { desk = machines.desk; table = machines.table; seats = seats; refused = machines.refused }
-
--- an order is for no coordinator
-pub order_is : (db : Database) (body : bodies.Body) → is_order body ≡ true → is_for_desk (body_with (statements db) (body_of body)) ≡ false
-order_is db (body.Order order.Open) is = refl
-order_is db (body.Order (order.Fetch fetch)) is = refl
-order_is db (body.Order (order.Intend intention)) is = refl
-order_is db (body.Order (order.Prepare prepare)) is = refl
-order_is db (body.Order (order.Commit ticket)) is = refl
-order_is db (body.Order (order.Abort ticket)) is = refl
-order_is db (body.Reply reply) is = absurd cc
 
 -- ---- something is done at a site
 module _ (db : Database) (before : Machines) (seat : Seat) (after : List Seat) (out : List letters.Letter) (fit : AreFit db before) where
@@ -171,7 +161,7 @@ module _ (db : Database) (before : Machines) (seat : Seat) (after : List Seat) (
         (λ i. record { desk = w.desk; sites = sym (states_after S name seat new before.seats after moves) i; letters = waiting ++ put; past = sym (append-nil past) i })
 
     now_fit : AreFit db (with_seats before after)
-    now_fit = record { names = names_after name seat new before.seats after moves ∙ fit.names; desk = fit.desk; within = fit.within; sites = seated_after name seat new before.seats after moves fit.sites }
+    now_fit = record { names = names_after name seat new before.seats after moves ∙ fit.names; leaves = leaves_after db name seat new before.seats after moves fit.leaves; desk = fit.desk; within = fit.within; sites = seated_after name seat new before.seats after moves fit.sites }
 
     -- so where the step is such a one
     pub site_leads : (step : World (language db) → World (language db)) (of : SiteState (language db) → SiteState (language db)) (said_by : SiteState (language db) → List (Letter (language db))) →
@@ -191,7 +181,7 @@ module _ (db : Database) (before : Machines) (seat : Seat) (after : List Seat) (
   put_out [] = refl
   put_out (l ∷ ls) = ap (λ rest. sent db l ∷ rest) (put_out ls)
 
-  pub done_leads : (what : doing.Doing) (choice : Choice (language db)) → is_for_site what ≡ true → SomeSeatDoes what seat before.seats after out → Leads db (happens_at db what (kept_in out) choice) before (with_seats before after) out []
+  pub done_leads : (what : doing.SiteAction) (choice : Choice (language db)) → is_for_site what ≡ true → SomeSeatDoes what seat before.seats after out → Leads db (happens_at db what (kept_in out) choice) before (with_seats before after) out []
   done_leads (Take letter) choice order did =
       let S = statements db in
       let act : SiteState (language db) → Act (language db) = λ s. on_letter s (txn_name letter.txn) (kept_in out) (body_with S (body_of letter.body)) in
@@ -240,7 +230,7 @@ module _ (db : Database) (before : Machines) (seat : Seat) (after : List Seat) (
       ∙ (within_same S (state_of did.new.kept did.new.table) ∙ fits_within did.new.kept did.new.table did.moves.seated)
 
   -- as the code puts it out
-  pub put_out_leads : (what : doing.Doing) (choice : Choice (language db)) → is_for_site what ≡ true → SomeSeatDoes what seat before.seats after out → (kept : Bool) (put : List letters.Letter) (notices : List Notice) → kept ≡ kept_in out → put ≡ out → notices ≡ [] →
+  pub put_out_leads : (what : doing.SiteAction) (choice : Choice (language db)) → is_for_site what ≡ true → SomeSeatDoes what seat before.seats after out → (kept : Bool) (put : List letters.Letter) (notices : List Notice) → kept ≡ kept_in out → put ≡ out → notices ≡ [] →
       Leads db (happens_at db what kept choice) before (with_seats before after) put notices
   put_out_leads what choice for_site did kept put notices same_kept same_put none =
       subst (λ (k : Bool). Leads db (happens_at db what k choice) before (with_seats before after) put notices) (sym same_kept)

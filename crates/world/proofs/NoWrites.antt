@@ -2,11 +2,11 @@
 use Rattle.std.proofs.Common.{◌≡◌, refl, sym, ap, ◌∙◌, subst, ℕ, suc, ◌==◌, Bool, true, false, List, [], ◌∷◌, map, if◌then◌else◌, Option, Some, None, is_some, is_none}
 use Rattle.std.specs.List.{list_all}
 use Rattle.protocol.specs.Client.{first, next}
-use Rattle.protocol.specs.Desk.{Ask, Choice, Idle, Known, Reading, Row, Stage, State, Turn, Txn, Undecided, Unknown, Voting, Writing, are_all_in, asks_go, counts, decides, desk_after, is_desk_within, is_named, is_new, on_desk_letter, on_known, on_refused, on_request, on_rows, on_ticket, on_vote, opens, states, stays, ticket_goes, visits, voters_of, votes_go, with_rows, works, writing, on_state, writes_out}
+use Rattle.protocol.specs.Desk.{Ask, Choice, Idle, Known, Reading, Row, Stage, State, Transition, Txn, Undecided, Unknown, Voting, Writing, are_all_in, asks_go, counts, decides, desk_after, is_desk_within, is_named, is_new, on_desk_letter, on_known, on_refused, on_request, on_rows, on_ticket, on_vote, opens, states, stays, ticket_goes, visits, voters_of, votes_go, with_rows, works, writing, on_state, writes_out}
 use Rattle.protocol.specs.Language.{Lang, Name, put, same}
 use Rattle.protocol.specs.Letter.{Body, Letter, Vote, Yes, No, Read, Open, Fetch, Write, Prepare, Commit, Abort, Ticket, Rows, Refused, Voted, Ack, Inquire, is_for_desk}
 use Rattle.protocol.specs.Rounds.{is_reading, is_stage_reading}
-use Rattle.protocol.specs.Site.{Act, Alive, Dead, Prepared, SiteState, Status, is_within, on_abort, on_commit, on_fetch, on_letter, on_prepare, on_write, others_exclusive, said, site_after}
+use Rattle.protocol.specs.Site.{Act, Active, Dead, Prepared, SiteState, Status, is_within, on_abort, on_commit, on_fetch, on_letter, on_prepare, on_write, others_exclusive, said, site_after}
 use Rattle.protocol.specs.World.{World, addressed, called, comes_to, turned, turns, with_site}
 use Rattle.protocol.proofs.Basics.{Every, either, every_append, put_here, same_law}
 use Rattle.protocol.proofs.DeskRanks.{desk_low}
@@ -34,26 +34,26 @@ module _ {L : Lang} where
     fetch_answers : (k : Name) (op : ℕ) (g : L.Leaf) (q : L.Query) (st : Status L) → Answers (on_fetch s kept k op g q st)
     fetch_answers k op g q Dead = (refl, tt)
     fetch_answers k op g q (Prepared u i) = tt
-    fetch_answers k op g q (Alive v) = either Answers (op == suc v.done) _ _ (either Answers (others_exclusive s k g) _ _ (refl, tt) (either Answers kept _ _ (refl, tt) tt)) tt
+    fetch_answers k op g q (Active v) = either Answers (op == suc v.done) _ _ (either Answers (others_exclusive s k g) _ _ (refl, tt) (either Answers kept _ _ (refl, tt) tt)) tt
 
     write_answers : (k : Name) (op : ℕ) (g : L.Leaf) (x : L.Write) (st : Status L) → Answers (on_write k op g x st)
     write_answers k op g x Dead = tt
     write_answers k op g x (Prepared u i) = tt
-    write_answers k op g x (Alive v) = either Answers (op == suc v.done) _ _ (either Answers (v.foreign g) _ _ (refl, tt) (either Answers (L.is_full g x v.changes) _ _ (refl, tt) tt)) tt
+    write_answers k op g x (Active v) = either Answers (op == suc v.done) _ _ (either Answers (v.foreign g) _ _ (refl, tt) (either Answers (L.is_full g x v.changes) _ _ (refl, tt) tt)) tt
 
     prepare_answers : (k : Name) (n : ℕ) (st : Status L) → Answers (on_prepare kept t k n st)
     prepare_answers k n Dead = (refl, tt)
     prepare_answers k n (Prepared u i) = (refl, tt)
-    prepare_answers k n (Alive v) = either Answers (v.done == n) _ _ (either Answers (L.is_empty v.changes) _ _ (refl, tt) (either Answers kept _ _ (refl, tt) (refl, tt))) (refl, tt)
+    prepare_answers k n (Active v) = either Answers (v.done == n) _ _ (either Answers (L.is_empty v.changes) _ _ (refl, tt) (either Answers kept _ _ (refl, tt) (refl, tt))) (refl, tt)
 
     commit_answers : (k : Name) (st : Status L) → Answers (on_commit kept k st)
     commit_answers k Dead = (refl, tt)
-    commit_answers k (Alive v) = (refl, tt)
+    commit_answers k (Active v) = (refl, tt)
     commit_answers k (Prepared u i) = either Answers kept _ _ (refl, tt) tt
 
     abort_answers : (k : Name) (st : Status L) → Answers (on_abort kept k st)
     abort_answers k Dead = tt
-    abort_answers k (Alive v) = tt
+    abort_answers k (Active v) = tt
     abort_answers k (Prepared u i) = either Answers kept _ _ tt tt
 
     site_answers : (b : Body L) → Answers (on_letter s t kept b)
@@ -75,7 +75,7 @@ module _ {L : Lang} where
   all_addressed a t (b ∷ bs) all = (all.0, all_addressed a t bs all.1)
 
   -- ---- turns after which a statement reads
-  abbrev Reads : Turn L → Type 0
+  abbrev Reads : Transition L → Type 0
   Reads turn = is_reading turn.txn ≡ true → NoWrites turn.letters
 
   no_letters : (x : Txn L) → Reads (stays x)
@@ -186,7 +186,7 @@ module _ {L : Lang} where
     pub reads_on : Reading_on (next w kept c)
     reads_on = subst (λ (letters : List (Letter L)). Reading_on (first w kept c letters)) (sym e) (go (is_for_desk l.body))
       where
-        turn : Turn L
+        turn : Transition L
         turn = on_desk_letter l.txn l.site kept c l.body (w.desk.txn l.txn)
 
         now : (turned behind l.txn turn).desk.txn l.txn ≡ turn.txn
@@ -226,7 +226,7 @@ module _ {L : Lang} where
 
     known_bare : (u : Undecided L) (b : Body L) → is_stage_reading u.stage ≡ false → on_known t u a kept c b ≡ on_known t u a kept (bare L c) b
     known_bare u (Ticket k) none = ticket_bare u k (u.ticket a)
-    known_bare u (Rows k n rows) none = ap (λ (turn : Turn L). if is_named (u.ticket a) k then turn else stays (Known u)) (rows_bare u n rows u.stage none)
+    known_bare u (Rows k n rows) none = ap (λ (turn : Transition L). if is_named (u.ticket a) k then turn else stays (Known u)) (rows_bare u n rows u.stage none)
     known_bare u (Refused k reason) none = refl
     known_bare u (Voted k x) none = refl
     known_bare u Open none = refl
@@ -257,7 +257,7 @@ module _ {L : Lang} where
       Fine : World L → Type 0
       Fine v = is_reading (v.desk.txn t) ≡ true → NoWrites v.letters
 
-      of_turn : (turn : Turn L) → Reads turn → Fine (turns w t turn)
+      of_turn : (turn : Transition L) → Reads turn → Fine (turns w t turn)
       of_turn turn reads = either Fine (is_desk_within (desk_after w.desk t turn.txn)) (turned w t turn) w
           (λ is. every_append (λ (x : Letter L). is_write x.body ≡ false) w.letters turn.letters none (reads (sym (ap is_reading (put_here same same_law t turn.txn w.desk.txn)) ∙ is))) (λ is. none)
 

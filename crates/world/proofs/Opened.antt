@@ -5,8 +5,8 @@ use Rattle.std.proofs.lemmas.List.{length-take-le, map-append}
 use Rattle.std.specs.List.{AllByRecursion}
 use Rattle.meaning.specs.Whole.{Relations}
 use Rattle.catalog.specs.Catalogue.{Catalogue}
-use Rattle.world.specs.Opening.{AllStarted, IsStarted}
-use Rattle.world.specs.Seats.{Seat}
+use Rattle.world.specs.Start.{AllStarted, IsStarted}
+use Rattle.world.specs.Sites.{Seat}
 
 -- one more has started
 started_more : (catalogue : Catalogue) (whole : Relations) (place : ℕ) (names : List (List ℕ)) (seats : List Seat) (name : List ℕ) (seat : Seat) → AllStarted catalogue whole place names seats → IsStarted catalogue whole (place + length names) name seat →

@@ -1,14 +1,18 @@
 -- The world of machines that have just started is an opening of the protocol.
-use Rattle.std.proofs.Common.{◌≡◌, ◌≢◌, refl, sym, ap, ◌∙◌, subst, ℕ, zero, suc, ◌+◌, Bool, true, false, List, [], ◌∷◌, map, Option, Some, None, is_some, slice_get, if◌then◌else◌, inl, arith}
+use Rattle.std.proofs.Common.{◌≡◌, ◌≢◌, refl, sym, ap, ◌∙◌, subst, ℕ, zero, suc, ◌+◌, ◌==◌, ◌||◌, nat_eq, Bool, true, false, List, [], ◌∷◌, map, Option, Some, None, is_some, slice_get, if◌then◌else◌, inl, arith}
 use Rattle.std.specs.FinMap as fin
-use Rattle.std.specs.List.{AllByRecursion}
+use Rattle.std.specs.Cmp.Lexicographic.{pointwise}
+use Rattle.std.specs.List.{AllByRecursion, filter, list_any}
+use Rattle.std.specs.Ordering.{is_eq}
+use Rattle.std.proofs.lemmas.Bool.{eq-eqb}
 use Rattle.terms.specs.declared.leaf.Leaf.{Leaf}
+use Rattle.terms.specs.Leaf.{leaf_cmp}
 use Rattle.meaning.specs.Whole.{Relations}
 use Rattle.reader.specs.Printable.{AreDistinct}
 use Rattle.catalog.specs.declared.fragment_leaf.FragmentLeaf.{FragmentLeaf}
 use Rattle.catalog.specs.Catalogue.{Catalogue}
 use Rattle.catalog.specs.Formed.{IsFormed}
-use Rattle.catalog.specs.FragmentLeaf.{catalogue_leaves, leaf_named}
+use Rattle.catalog.specs.FragmentLeaf.{catalogue_leaves, is_name_of, leaf_named, names_at}
 use Rattle.catalog.proofs.LeafNames.{HaveOwnNames, own_names}
 use Rattle.store.specs.declared.name.Ticket.{Ticket}
 use Rattle.store.specs.declared.name.Txn as txns
@@ -19,20 +23,20 @@ use Rattle.protocol.specs.Parts.{In}
 use Rattle.protocol.specs.Serial.{IsOpening}
 use Rattle.protocol.specs.Site.{Dead, SiteState}
 use Rattle.protocol.specs.Statements.{Statements, status_with, with_statements}
-use Rattle.protocol.proofs.Basics.{some_is}
+use Rattle.protocol.proofs.Basics.{clash, some_is}
 use Rattle.desk.specs.Database.{Database, language, statements}
-use Rattle.desk.specs.Standing.{txn_of}
-use Rattle.desk.specs.Starting as desk_starting
+use Rattle.desk.specs.Transaction.{txn_of}
+use Rattle.desk.specs.Recovery as desk_starting
 use Rattle.desk.specs.State.{txn_at}
-use Rattle.site.specs.declared.standing.Standing as standings
-use Rattle.site.specs.declared.standing.Standing.TheVariants as standing
-use Rattle.site.specs.Starting.{resting}
+use Rattle.site.specs.declared.tickets.TicketState as standings
+use Rattle.site.specs.declared.tickets.TicketState.TheVariants as standing
+use Rattle.site.specs.Recovery.{resting}
 use Rattle.site.specs.State.{stands, state_of, txn_in, visiting}
-use Rattle.world.specs.Machines.{AreFit, Machines, world_of}
+use Rattle.world.specs.Machines.{AreFit, HasItsLeaves, Machines, world_of}
 use Rattle.world.specs.Placed.{IsPlaced, Opens}
-use Rattle.world.specs.Opening.{AllStarted, IsStarted}
-use Rattle.world.specs.Seats.{Seat, is_called, nobody, seat_of, state_at, states_of}
-use Rattle.world.proofs.FilledLeaves.{leaf_filled, none_filled}
+use Rattle.world.specs.Start.{AllStarted, IsStarted}
+use Rattle.world.specs.Sites.{Seat, is_called, nobody, seat_of, state_at, states_of}
+use Rattle.world.proofs.FilledLeaves.{leaf_filled, none_filled, same_test}
 use Rattle.world.proofs.Seating.{name_is, name_self, state_there}
 
 -- what holds of each started site holds of each
@@ -53,6 +57,10 @@ apart_at first [] zero name apart got = cc
 apart_at first [] (suc i) name apart got = cc
 apart_at first (n ∷ names) zero name apart got = subst (λ m. first ≢ m) (some_is got) apart.0
 apart_at first (n ∷ names) (suc i) name apart got = apart_at first names i name apart.1 got
+
+or_true : (b : Bool) → (b || true) ≡ true
+or_true true = refl
+or_true false = refl
 
 -- a started site, by its name
 record Found (c : Catalogue) (whole : Relations) (at : ℕ) (name : List ℕ) (seats : List Seat) : Type 0 where
@@ -84,6 +92,55 @@ found_at c whole place (n ∷ names) (s ∷ seats) (suc i) name all distinct got
     no_match false e = refl
     no_match true e = absurd (apart_at n names i name distinct.0 got (sym all.0.called ∙ sym (name_is name s.name e)))
 
+one_place : (names : List (List ℕ)) (i j : ℕ) (name : List ℕ) → AreDistinct names → slice_get names i ≡ Some name → slice_get names j ≡ Some name → i ≡ j
+one_place [] zero j name distinct one other = cc
+one_place [] (suc i) j name distinct one other = cc
+one_place (n ∷ names) zero zero name distinct one other = refl
+one_place (n ∷ names) zero (suc j) name distinct one other = absurd (apart_at n names j name distinct.0 other (some_is one))
+one_place (n ∷ names) (suc i) zero name distinct one other = absurd (apart_at n names i name distinct.0 one (some_is other))
+one_place (n ∷ names) (suc i) (suc j) name distinct one other = ap suc (one_place names i j name distinct.1 one other)
+
+-- ---- a started site has the leaves that are at home there
+found_among : (names : List (List ℕ)) (i : ℕ) (name : List ℕ) → slice_get names i ≡ Some name → list_any (pointwise nat_eq name) names ≡ true
+found_among [] zero name got = cc
+found_among [] (suc i) name got = cc
+found_among (n ∷ names) zero name got = ap (λ (b : Bool). b || list_any (pointwise nat_eq name) names) (subst (λ m. pointwise nat_eq name m ≡ true) (sym (some_is got)) (name_self name))
+found_among (n ∷ names) (suc i) name got = ap (λ (b : Bool). pointwise nat_eq name n || b) (found_among names i name got) ∙ or_true (pointwise nat_eq name n)
+
+named_at : (at : ℕ) (name : Leaf) (leaf : FragmentLeaf) (leaves : List FragmentLeaf) → leaf_named name leaves ≡ Some leaf → leaf.site ≡ at → list_any (λ other. is_eq (leaf_cmp name other)) (names_at at leaves) ≡ true
+named_at at name leaf [] found here = cc
+named_at at name leaf (first ∷ leaves) found here = go (is_name_of name first) refl found (λ later. named_at at name leaf leaves later here)
+  where
+    behind : (b : Bool) → list_any (λ other. is_eq (leaf_cmp name other)) (names_at at leaves) ≡ true → list_any (λ other. is_eq (leaf_cmp name other)) (map (λ (l : FragmentLeaf). l.name) (if b then first ∷ filter (λ (l : FragmentLeaf). l.site == at) leaves else filter (λ (l : FragmentLeaf). l.site == at) leaves)) ≡ true
+    behind true e = ap (λ (b : Bool). is_eq (leaf_cmp name first.name) || b) e ∙ or_true (is_eq (leaf_cmp name first.name))
+    behind false e = e
+
+    go : (b : Bool) → is_name_of name first ≡ b → (if b then Some first else leaf_named name leaves) ≡ Some leaf → (leaf_named name leaves ≡ Some leaf → list_any (λ other. is_eq (leaf_cmp name other)) (names_at at leaves) ≡ true) → list_any (λ other. is_eq (leaf_cmp name other)) (names_at at (first ∷ leaves)) ≡ true
+    go false e is later = behind (first.site == at) (later is)
+    go true e is later =
+        let at_site : (first.site == at) ≡ true = eq-eqb first.site at (ap (λ (l : FragmentLeaf). l.site) (some_is is) ∙ here) in
+        ap (λ (b : Bool). list_any (λ other. is_eq (leaf_cmp name other)) (map (λ (l : FragmentLeaf). l.name) (if b then first ∷ filter (λ (l : FragmentLeaf). l.site == at) leaves else filter (λ (l : FragmentLeaf). l.site == at) leaves))) at_site
+        ∙ ap (λ (b : Bool). b || list_any (λ other. is_eq (leaf_cmp name other)) (names_at at leaves)) (sym (same_test name first) ∙ e)
+
+module _ (db : Database) (c : Catalogue) (whole : Relations) (distinct : AreDistinct db.sites) (places : IsPlaced db c whole) where
+  has_its : (at : ℕ) (name : List ℕ) (seat : Seat) → IsStarted c whole at name seat → slice_get db.sites at ≡ Some name → HasItsLeaves db seat
+  has_its at name seat started there = λ leaf home. go leaf home (leaf_named leaf (catalogue_leaves c)) refl
+    where
+      go : (leaf : Leaf) → db.home leaf ≡ seat.name → (found : Option FragmentLeaf) → leaf_named leaf (catalogue_leaves c) ≡ found → list_any (λ other. is_eq (leaf_cmp leaf other)) seat.leaves ≡ true
+      go leaf home None none = clash (found_among db.sites at (db.home leaf) (there ∙ ap Some (sym (home ∙ started.called)))) (places.homeless leaf none)
+      go leaf home (Some of) found =
+          let here : of.site ≡ at = one_place db.sites of.site at (db.home leaf) distinct (places.home leaf of found) (there ∙ ap Some (sym (home ∙ started.called))) in
+          subst (λ (leaves : List Leaf). list_any (λ other. is_eq (leaf_cmp leaf other)) leaves ≡ true) (sym started.leaves) (named_at at leaf of (catalogue_leaves c) found here)
+
+  all_have_theirs : (place : ℕ) (names : List (List ℕ)) (seats : List Seat) → AllStarted c whole place names seats → ((i : ℕ) (name : List ℕ) → slice_get names i ≡ Some name → slice_get db.sites (place + i) ≡ Some name) → AllByRecursion (HasItsLeaves db) seats
+  all_have_theirs place [] [] all there = tt
+  all_have_theirs place [] (s ∷ seats) all there = absurd all
+  all_have_theirs place (n ∷ names) [] all there = absurd all
+  all_have_theirs place (n ∷ names) (s ∷ seats) all there = (
+    has_its place n s all.0 (subst (λ p. slice_get db.sites p ≡ Some n) (let e : place + 0 ≡ place = omega arith in e) (there 0 n refl)),
+    all_have_theirs (suc place) names seats all.1 (λ i name got. subst (λ p. slice_get db.sites p ≡ Some name) (let e : place + suc i ≡ suc place + i = omega arith in e) (there (suc i) name got)),
+  )
+
 -- ---- a site that has started is at rest
 module _ (S : Statements local) (c : Catalogue) (whole : Relations) (at : ℕ) (name : List ℕ) (seat : Seat) (started : IsStarted c whole at name seat) where
   stands_dead : (ticket : Ticket) → stands seat.table ticket (seat.kept.prepared ticket) ≡ Dead
@@ -95,11 +152,11 @@ module _ (S : Statements local) (c : Catalogue) (whole : Relations) (at : ℕ) (
   nobody_listed : (ticket : Ticket) → In ticket seat.table.tickets → ⊥
   nobody_listed ticket here = go (seat.table.standing ticket) refl (started.begins.fits.lives ticket here)
     where
-      go : (o : Option standings.Standing) → seat.table.standing ticket ≡ o → is_some (seat.table.standing ticket) ≡ true → ⊥
+      go : (o : Option standings.TicketState) → seat.table.standing ticket ≡ o → is_some (seat.table.standing ticket) ≡ true → ⊥
       go None e some = let no : is_some (seat.table.standing ticket) ≡ false = ap is_some e in absurd cc
       go (Some (standing.Prepared t)) e some = let has : txn_in (seat.table.standing ticket) ≡ Some t = ap txn_in e in let none : txn_in (seat.table.standing ticket) ≡ None = started.begins.fits.prepared ticket ∙ ap (λ r. Rattle.std.specs.Option.option_map (λ row. row.txn) r) (started.prepared ticket) in absurd cc
-      go (Some (standing.Alive v)) e some =
-          let is : visiting seat.table.locks ticket (Some (standing.Alive v)) ≡ Dead = ap (visiting seat.table.locks ticket) (sym e) ∙ ap (stands seat.table ticket) (sym (started.prepared ticket)) ∙ stands_dead ticket in absurd cc
+      go (Some (standing.Active v)) e some =
+          let is : visiting seat.table.locks ticket (Some (standing.Active v)) ≡ Dead = ap (visiting seat.table.locks ticket) (sym e) ∙ ap (stands seat.table ticket) (sym (started.prepared ticket)) ∙ stands_dead ticket in absurd cc
 
   none_known : (state_at S seat).known ≡ []
   none_known = go seat.table.tickets nobody_listed
@@ -126,6 +183,7 @@ module _ (db : Database) (c : Catalogue) (whole : Relations) (machines : Machine
   opened_fit : AreFit db machines
   opened_fit = record {
     names = started_names c whole 0 db.sites machines.seats started;
+    leaves = all_have_theirs db c whole distinct places 0 db.sites machines.seats started (λ i name got. subst (λ p. slice_get db.sites p ≡ Some name) (let e : i ≡ 0 + i = omega arith in e) got);
     desk = rises.fits;
     within = rises.within;
     sites = started_all (λ seat. Rattle.site.specs.State.Fits seat.kept seat.table) c whole 0 db.sites machines.seats (λ at name seat is. is.begins.fits) started;

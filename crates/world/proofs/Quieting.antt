@@ -2,44 +2,39 @@
 use Rattle.std.proofs.Common.{◌≡◌, refl, sym, ap, ◌∙◌, subst, Bool, true, false, List, [], ◌∷◌, ◌++◌, inr, append-nil, ℕ, Option, is_none}
 use Rattle.terms.specs.declared.leaf.Leaf.{Leaf}
 use Rattle.store.specs.Content.{Content}
-use Rattle.store.specs.declared.letter.Body as bodies
-use Rattle.store.specs.declared.letter.Body.TheVariants as body
-use Rattle.store.specs.declared.order.Order.TheVariants as order
-use Rattle.store.specs.declared.reply.Reply.TheVariants as reply_kinds
 use Rattle.protocol.specs.Client.{IsQuiet, first}
 use Rattle.protocol.specs.Committing.{Ballot, CommitKept, Committing, InVote, has_voted, in_vote, is_aside, is_asked, is_counted, is_done, is_undone}
-use Rattle.protocol.specs.Course.{passes, passes_to}
-use Rattle.protocol.specs.Desk.{Choice, Deed, Give_up, Idle, Known, Reading, Row, Rolled_back, Stage, Turn, Txn, Undecided, Unknown, Voting, Writing, are_all_in, counts, decides, desk_after, is_desk_within, is_named, is_short_txn, is_undecided, on_desk_letter, on_known, on_request, on_vote, stays, voters_of, votes_go}
+use Rattle.protocol.specs.StatementCourse.{passes, passes_to}
+use Rattle.protocol.specs.Desk.{Choice, Deed, Give_up, Idle, Known, Reading, Row, Rolled_back, Stage, Transition, Txn, Undecided, Unknown, Voting, Writing, are_all_in, counts, decides, desk_after, is_desk_within, is_named, is_short_txn, is_undecided, on_desk_letter, on_known, on_request, on_vote, stays, voters_of, votes_go}
 use Rattle.protocol.specs.Language.{IsLawful, Lang, Name, same}
-use Rattle.protocol.specs.Leaving.{EndKept, Ending, LeavingAt, Within}
+use Rattle.protocol.specs.AfterAbort.{EndKept, Ending, LeavingAt, Within}
 use Rattle.protocol.specs.Letter.{Body, Letter, Vote, Yes, No, Read, Open, Fetch, Write, Prepare, Commit, Abort, Ticket, Rows, Refused, Voted, Ack, Inquire, is_for_desk}
 use Rattle.protocol.specs.Letters.{body_of}
-use Rattle.protocol.specs.Spots.{at}
+use Rattle.protocol.specs.VisitPlaces.{at}
 use Rattle.protocol.specs.Statements.{body_with}
 use Rattle.protocol.specs.World.{World, called, turned, turns}
 use Rattle.protocol.proofs.AtSite.{head_is}
 use Rattle.protocol.proofs.Basics.{Every, clash, either, put_all, same_law}
 use Rattle.protocol.proofs.Committing.{commit_ends, commit_goes_on, commit_starts}
 use Rattle.protocol.proofs.Ended.{by_site, desk_no_end, ending_goes_on, ending_quiet, in_front}
-use Rattle.protocol.proofs.Leaving.{NoEnd, leaving_lost}
-use Rattle.protocol.proofs.Limits.{called_within, next_within, turn_within}
+use Rattle.protocol.proofs.AfterAbort.{NoEnd, leaving_lost}
+use Rattle.protocol.proofs.Limits.{OfTheEnd, called_within, next_within, turn_within}
 use Rattle.protocol.proofs.Locks.{Once}
 use Rattle.desk.specs.Database.{Database, language, sent, statements}
-use Rattle.world.specs.Coming.{Coming, Passed_over, Taken, Turned_away, all_come, come, first_comes}
-use Rattle.site.specs.Refusals.{AsksBeyond}
-use Rattle.site.specs.State.{Table}
+use Rattle.world.specs.Delivery.{Coming, Passed_over, Taken, Turned_away, all_come, come, first_comes}
 use Rattle.meaning.specs.Whole.{Relations}
 use Rattle.protocol.specs.Desk.{Aborted, Commit_call, Committed, Phased, Rollback}
-use Rattle.protocol.specs.Smooth.{Ready}
+use Rattle.protocol.specs.WithoutRefusal.{Ready}
 use Rattle.protocol.proofs.Loose.{rollback_ends, steady_loose}
 use Rattle.desk.specs.declared.reply.Notice.{Notice}
-use Rattle.world.specs.Delivering.{Serves, To_do}
-use Rattle.world.specs.Serving.{IsServed}
+use Rattle.world.specs.Mailbox.{Serves, To_do}
+use Rattle.world.specs.Client.{IsServed}
 use Rattle.world.specs.Smoothly.{rests}
 use Rattle.world.proofs.Smoothly.{fit_within}
 use Rattle.world.specs.Machines.{Machines, is_order, world_of}
-use Rattle.world.specs.Reasons.{AllFounded, AsksElsewhere, FirstIsFounded, IsAtLimit, IsFounded, TurnsAway, desk_is_full, has_no_leaf, is_at_limit, site_is_full}
+use Rattle.world.specs.Reasons.{AllFounded, FirstIsFounded, IsFounded}
 use Rattle.world.proofs.CallsKept.{end_kept}
+use Rattle.world.proofs.Reasoned.{end_passes}
 use Rattle.world.proofs.Sited.{Sited, called_sited, come_sited, first_is_sited, not_passed, steady_sited}
 
 module _ {L : Lang} where
@@ -52,7 +47,7 @@ module _ {L : Lang} where
   pub ended_gives_up : (t : Name) (w : World L) (choice : Choice L) (deeds : List (Deed L)) → Ending deeds w → Ending deeds (called w t choice Give_up)
   ended_gives_up t w choice deeds ending =
       let x = w.desk.txn t in
-      subst (λ (turn : Turn L). Ending deeds (turns w t turn)) (sym (gives_up_none t choice x (ending.decided t)))
+      subst (λ (turn : Transition L). Ending deeds (turns w t turn)) (sym (gives_up_none t choice x (ending.decided t)))
       (either (Ending deeds) (is_desk_within (desk_after w.desk t x)) (turned w t (stays x)) w (record {
         decided = put_all same same_law t x w.desk.txn (λ j y. is_undecided y ≡ false) (ending.decided t) (λ j other. ending.decided j);
         leaving = λ a. subst (λ z. LeavingAt (λ k. ⊥) (w.sites a).status (at a z)) (sym (append-nil w.letters)) (ending.leaving a);
@@ -64,7 +59,7 @@ module _ {L : Lang} where
   Calms x y = (is_short_txn x ≡ true → is_short_txn y ≡ true) × (is_undecided y ≡ true → is_undecided x ≡ true)
 
   module _ (t : Name) (u : Undecided L) (a : L.Site) (kept : Bool) where
-    abbrev Calm : Turn L → Type 0
+    abbrev Calm : Transition L → Type 0
     Calm turn = Calms (Known u) turn.txn
 
     stays_calm : Calm (stays (Known u))
@@ -112,86 +107,40 @@ module _ (db : Database) where
   IsBallot (Voted k x) = Unit {0}
   IsBallot said = ⊥
 
-  asks_little : (said : bodies.Body) (table : Table) → IsBallot (body_with (statements db) (body_of said)) → AsksBeyond table said → ⊥
-  asks_little (body.Order order.Open) table is much = is
-  asks_little (body.Order (order.Fetch fetch)) table is much = is
-  asks_little (body.Order (order.Intend intention)) table is much = is
-  asks_little (body.Order (order.Prepare prepare)) table is much = much
-  asks_little (body.Order (order.Commit ticket)) table is much = is
-  asks_little (body.Order (order.Abort ticket)) table is much = is
-  asks_little (body.Reply reply) table is much = much
-
-  asks_here : (said : bodies.Body) (leaves : List Leaf) → IsBallot (body_with (statements db) (body_of said)) → AsksElsewhere leaves said → ⊥
-  asks_here (body.Order order.Open) leaves is elsewhere = is
-  asks_here (body.Order (order.Fetch fetch)) leaves is elsewhere = is
-  asks_here (body.Order (order.Intend intention)) leaves is elsewhere = is
-  asks_here (body.Order (order.Prepare prepare)) leaves is elsewhere = elsewhere
-  asks_here (body.Order (order.Commit ticket)) leaves is elsewhere = is
-  asks_here (body.Order (order.Abort ticket)) leaves is elsewhere = is
-  asks_here (body.Reply reply) leaves is elsewhere = elsewhere
-
-  is_for_site : (said : bodies.Body) → is_order said ≡ false → is_for_desk (body_with (statements db) (body_of said)) ≡ true
-  is_for_site (body.Order order) none = cc
-  is_for_site (body.Reply (reply_kinds.Ticket ticket)) none = refl
-  is_for_site (body.Reply (reply_kinds.Rows rows)) none = refl
-  is_for_site (body.Reply (reply_kinds.Refused refusal)) none = refl
-  is_for_site (body.Reply (reply_kinds.Voted voted)) none = refl
-  is_for_site (body.Reply (reply_kinds.Ack ticket)) none = refl
-  is_for_site (body.Reply (reply_kinds.Inquire ticket)) none = refl
-
-  ballot_taken : (w : World L) (l : Letter L) (choice : Choice L) (founded : IsFounded db w (Turned_away choice) l) → IsBallot l.body →
-      (is_for_desk l.body ≡ true → (other : Choice L) → passes w true other l ≡ true) → ⊥
-  ballot_taken w l choice founded is goes = by_reason founded.reason
+  ballot_taken : (w : World L) (l : Letter L) (choice : Choice L) → Within w → IsFounded db w (Turned_away choice) l → IsBallot l.body → (is_for_desk l.body ≡ true → (other : Choice L) → passes w true other l ≡ true) → ⊥
+  ballot_taken w l choice within limit is goes = go l.body refl is
     where
-      own : IsBallot (sent db founded.letter).body
-      own = subst (λ (x : Letter L). IsBallot x.body) founded.is is
+      go : (c : Body L) → l.body ≡ c → IsBallot c → ⊥
+      go (Prepare k n) e ballot = clash (end_passes w true limit.choice l (within.sites l.site) (subst OfTheEnd (sym e) tt)) limit.past
+      go (Voted k x) e ballot = clash (goes (ap is_for_desk e) limit.choice) limit.past
+      go Open e ballot = ballot
+      go (Fetch k op g q) e ballot = ballot
+      go (Write k op g x) e ballot = ballot
+      go (Commit k) e ballot = ballot
+      go (Abort k) e ballot = ballot
+      go (Ticket k) e ballot = ballot
+      go (Rows k n rows) e ballot = ballot
+      go (Refused k reason) e ballot = ballot
+      go (Ack k) e ballot = ballot
+      go (Inquire k) e ballot = ballot
 
-      there : (other : Choice L) → passes (record { desk = w.desk; sites = w.sites; letters = []; past = [] }) true other l ≡ passes (world_of db founded.machines [] []) true other (sent db founded.letter)
-      there other i = passes (record { desk = founded.desk i; sites = founded.sites i; letters = []; past = [] }) true other (founded.is i)
-
-      same_passes : (b : Bool) (other : Choice L) → passes_to b w true other l ≡ passes_to b (record { desk = w.desk; sites = w.sites; letters = []; past = [] }) true other l
-      same_passes true other = refl
-      same_passes false other = refl
-
-      go : IsAtLimit db founded.machines founded.letter → ⊥
-      go (site_is_full seat found much) = asks_little founded.letter.body seat.table own much
-      go (desk_is_full other for_desk past) =
-          let to_desk : is_for_desk l.body ≡ true = ap (λ (x : Letter L). is_for_desk x.body) founded.is ∙ is_for_site founded.letter.body for_desk in
-          clash (sym (there other) ∙ sym (same_passes (is_for_desk l.body) other) ∙ goes to_desk other) past
-
-      by_reason : TurnsAway db founded.machines founded.letter → ⊥
-      by_reason (is_at_limit limit) = go limit
-      by_reason (has_no_leaf seat found elsewhere) = asks_here founded.letter.body seat.leaves own elsewhere
-
-  -- no Commit and no Abort is
-  little_end : (said : bodies.Body) (table : Table) → AsksBeyond table said → NoEnd (body_with (statements db) (body_of said))
-  little_end (body.Order order.Open) table much = tt
-  little_end (body.Order (order.Fetch fetch)) table much = tt
-  little_end (body.Order (order.Intend intention)) table much = tt
-  little_end (body.Order (order.Prepare prepare)) table much = tt
-  little_end (body.Order (order.Commit ticket)) table much = much
-  little_end (body.Order (order.Abort ticket)) table much = much
-  little_end (body.Reply reply) table much = absurd much
-
-  elsewhere_end : (said : bodies.Body) (leaves : List Leaf) → AsksElsewhere leaves said → NoEnd (body_with (statements db) (body_of said))
-  elsewhere_end (body.Order order.Open) leaves elsewhere = tt
-  elsewhere_end (body.Order (order.Fetch fetch)) leaves elsewhere = tt
-  elsewhere_end (body.Order (order.Intend intention)) leaves elsewhere = tt
-  elsewhere_end (body.Order (order.Prepare prepare)) leaves elsewhere = tt
-  elsewhere_end (body.Order (order.Commit ticket)) leaves elsewhere = elsewhere
-  elsewhere_end (body.Order (order.Abort ticket)) leaves elsewhere = elsewhere
-  elsewhere_end (body.Reply reply) leaves elsewhere = absurd elsewhere
-
-  pub turned_no_end : (w : World L) (l : Letter L) (choice : Choice L) → IsFounded db w (Turned_away choice) l → NoEnd l.body
-  turned_no_end w l choice founded = by_reason founded.reason
+  -- no Commit and no Abort is turned away
+  pub turned_no_end : (w : World L) (l : Letter L) (choice : Choice L) → Within w → IsFounded db w (Turned_away choice) l → NoEnd l.body
+  turned_no_end w l choice within limit = go l.body refl
     where
-      go : IsAtLimit db founded.machines founded.letter → NoEnd l.body
-      go (site_is_full seat found much) = subst (λ (x : Letter L). NoEnd x.body) (sym founded.is) (little_end founded.letter.body seat.table much)
-      go (desk_is_full other for_desk past) = desk_no_end l.body (ap (λ (x : Letter L). is_for_desk x.body) founded.is ∙ is_for_site founded.letter.body for_desk)
-
-      by_reason : TurnsAway db founded.machines founded.letter → NoEnd l.body
-      by_reason (is_at_limit limit) = go limit
-      by_reason (has_no_leaf seat found elsewhere) = subst (λ (x : Letter L). NoEnd x.body) (sym founded.is) (elsewhere_end founded.letter.body seat.leaves elsewhere)
+      go : (c : Body L) → l.body ≡ c → NoEnd c
+      go (Commit k) e = clash (end_passes w true limit.choice l (within.sites l.site) (subst OfTheEnd (sym e) tt)) limit.past
+      go (Abort k) e = clash (end_passes w true limit.choice l (within.sites l.site) (subst OfTheEnd (sym e) tt)) limit.past
+      go Open e = tt
+      go (Fetch k op g q) e = tt
+      go (Write k op g x) e = tt
+      go (Prepare k n) e = tt
+      go (Ticket k) e = tt
+      go (Rows k n rows) e = tt
+      go (Refused k reason) e = tt
+      go (Voted k x) e = tt
+      go (Ack k) e = tt
+      go (Inquire k) e = tt
 
   module _ (law : IsLawful L) (once : Once L.sites) where
     -- ---- the letters of what has ended
@@ -206,7 +155,7 @@ module _ (db : Database) where
     lost_within w q within = record { desk = within.desk; sites = within.sites }
 
     pub kept_end_of : (w : World L) (kept : Bool) (choice : Choice L) (l : Letter L) → IsFounded db w (Taken kept choice) l → EndKept kept l.body
-    kept_end_of w kept choice l founded = subst (λ (x : Letter L). EndKept kept x.body) (sym founded.is) (end_kept kept (sent db founded.letter).body founded.reason.1)
+    kept_end_of w kept choice l founded = end_kept kept l.body founded.1
 
     module _ (deeds : List (Deed L)) where
       one_ended : (w : World L) (c : Coming L) (letters : List (Letter L)) → w.letters ≡ letters → Within w → Sited w → FirstIsFounded db w c letters → Ending deeds w → Within (first_comes w c letters) × Ending deeds (first_comes w c letters)
@@ -217,7 +166,7 @@ module _ (db : Database) where
       )
       one_ended w (Turned_away choice) (l ∷ q) e within sited founded here = (
         called_within (record w { letters = q }) l.txn choice Give_up (lost_within w q within),
-        ended_gives_up l.txn (record w { letters = q }) choice deeds (ending_lost deeds w l q e (turned_no_end w l choice founded) here),
+        ended_gives_up l.txn (record w { letters = q }) choice deeds (ending_lost deeds w l q e (turned_no_end w l choice within founded) here),
       )
       one_ended w Passed_over (l ∷ q) e within sited founded here = absurd (not_passed db law w l (first_is_sited w l q e sited) founded)
 
@@ -256,17 +205,17 @@ module _ (db : Database) where
           by_ballot : Ballot (Unit {0}) (w.sites l.site).status (vote.u.visited l.site) (vote.u.ticket l.site) (vote.votes l.site) (l.body ∷ at l.site q) → ⊥
           by_ballot (is_aside unvisited none silent free) = let f : l.body ∷ at l.site q ≡ [] = silent in cc
           by_ballot (is_counted k x visited mine is silent by) = let f : l.body ∷ at l.site q ≡ [] = silent in cc
-          by_ballot (is_asked k visit visited mine none waits alive free) =
+          by_ballot (is_asked k visit visited mine none waits active free) =
               let is : l.body ≡ Prepare k visit.done = head_is l.body (Prepare k visit.done) (at l.site q) [] waits in
-              ballot_taken w l choice founded (subst IsBallot (sym is) tt) (λ to_desk other. (let f : false ≡ true = sym (ap is_for_desk is) ∙ to_desk in cc))
+              ballot_taken w l choice within founded (subst IsBallot (sym is) tt) (λ to_desk other. (let f : false ≡ true = sym (ap is_for_desk is) ∙ to_desk in cc))
           by_ballot (has_voted k x visited mine none waits by) =
               let is : l.body ≡ Voted k x = head_is l.body (Voted k x) (at l.site q) [] waits in
-              ballot_taken w l choice founded (subst IsBallot (sym is) tt) (λ to_desk other. vote_taken w true other l k x vote.u is (ap w.desk.txn own ∙ vote.known) within.desk)
+              ballot_taken w l choice within founded (subst IsBallot (sym is) tt) (λ to_desk other. vote_taken w true other l k x vote.u is (ap w.desk.txn own ∙ vote.known) within.desk)
 
       given_up : (w : World L) (l : Letter L) (q : List (Letter L)) → w.letters ≡ l ∷ q → Within w → (choice : Choice L) → IsFounded db w (Turned_away choice) l → Commits w → Commits (called (record w { letters = q }) l.txn choice Give_up)
       given_up w l q e within choice founded (in_vote vote) = absurd (not_turned w l q e within choice founded vote)
-      given_up w l q e within choice founded (is_done ending) = is_done (ended_gives_up l.txn (record w { letters = q }) choice (before ++ Phased txn ∷ Committed txn ∷ []) (ending_lost (before ++ Phased txn ∷ Committed txn ∷ []) w l q e (turned_no_end w l choice founded) ending))
-      given_up w l q e within choice founded (is_undone excuse why ending) = is_undone excuse why (ended_gives_up l.txn (record w { letters = q }) choice (before ++ Phased txn ∷ Aborted txn why ∷ []) (ending_lost (before ++ Phased txn ∷ Aborted txn why ∷ []) w l q e (turned_no_end w l choice founded) ending))
+      given_up w l q e within choice founded (is_done ending) = is_done (ended_gives_up l.txn (record w { letters = q }) choice (before ++ Phased txn ∷ Committed txn ∷ []) (ending_lost (before ++ Phased txn ∷ Committed txn ∷ []) w l q e (turned_no_end w l choice within founded) ending))
+      given_up w l q e within choice founded (is_undone excuse why ending) = is_undone excuse why (ended_gives_up l.txn (record w { letters = q }) choice (before ++ Phased txn ∷ Aborted txn why ∷ []) (ending_lost (before ++ Phased txn ∷ Aborted txn why ∷ []) w l q e (turned_no_end w l choice within founded) ending))
 
       one_voted : (w : World L) (c : Coming L) (letters : List (Letter L)) → w.letters ≡ letters → Within w → Sited w → FirstIsFounded db w c letters → Commits w → Within (first_comes w c letters) × Commits (first_comes w c letters)
       one_voted w c [] e within sited founded here = (within, here)
@@ -292,13 +241,13 @@ module _ (db : Database) where
       quiet_after_rollback served serves =
           let within = fit_within db before [] past served.fit in
           let deeds = past ++ Rolled_back txn ∷ [] in
-          let ended = all_ended deeds serves.comings (called here txn choice Rollback) (called_within here txn choice Rollback within) (called_sited here txn choice Rollback (steady_sited txn here ready.steady)) (serves.founded past)
+          let ended = all_ended deeds serves.comings (called here txn choice Rollback) (called_within here txn choice Rollback within) (called_sited here txn choice Rollback (steady_sited txn here ready.steady)) (serves.founded tt past)
           (rollback_ends law once txn past here choice (steady_loose txn here ready.steady) within) in
           ending_quiet law deeds (rests db after (past ++ serves.deeds)) (subst (Ending deeds) (serves.is past) ended) refl
 
       pub quiet_after_commit : (served : IsServed db whole before past) (serves : Serves db (To_do txn Commit_call choice) before after heard) → IsQuiet (rests db after (past ++ serves.deeds))
       quiet_after_commit served serves =
           let within = fit_within db before [] past served.fit in
-          let committing = all_voted txn past serves.comings (called here txn choice Commit_call) (called_within here txn choice Commit_call within) (called_sited here txn choice Commit_call (steady_sited txn here ready.steady)) (serves.founded past)
+          let committing = all_voted txn past serves.comings (called here txn choice Commit_call) (called_within here txn choice Commit_call within) (called_sited here txn choice Commit_call (steady_sited txn here ready.steady)) (serves.founded tt past)
           (commit_starts law once (Unit {0}) txn past here ready.steady choice within refl) in
           (commit_ends law once (Unit {0}) txn past (rests db after (past ++ serves.deeds)) (subst (Committing (Unit {0}) txn past) (serves.is past) committing) refl).0

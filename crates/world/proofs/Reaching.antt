@@ -3,7 +3,7 @@ use Rattle.std.proofs.Common.{◌≡◌, refl, sym, subst, Bool, true, false, Li
 use Rattle.std.proofs.lemmas.List.{append-nil}
 use Rattle.meaning.specs.Whole.{Relations}
 use Rattle.protocol.specs.Client.{first, rest_of, IsReached, ReachedLaw}
-use Rattle.protocol.specs.Desk.{Choice, Deed, Give_up, Turn, desk_after, is_desk_within}
+use Rattle.protocol.specs.Desk.{Choice, Deed, Give_up, Transition, desk_after, is_desk_within}
 use Rattle.protocol.specs.Language.{Lang, Name}
 use Rattle.protocol.specs.Letter.{Letter, is_for_desk}
 use Rattle.protocol.specs.Serial.{AllExplained, Explained}
@@ -13,9 +13,9 @@ use Rattle.desk.specs.declared.reply.Notice.{Notice}
 use Rattle.desk.specs.declared.reply.Out.{Out}
 use Rattle.desk.specs.Database.{Database, language}
 use Rattle.world.specs.Counted.{NoFewer}
-use Rattle.world.specs.Delivering.{Ask, Breaks, Coming, Fails, Goes, Passed_over, Serves, Taken, To_begin, To_do, Turned_away, all_come, asked, come, first_comes, settled}
+use Rattle.world.specs.Mailbox.{Ask, Breaks, Coming, Fails, Goes, Passed_over, Serves, Taken, To_begin, To_do, Turned_away, all_come, asked, come, first_comes, settled}
 use Rattle.world.specs.Machines.{AreFit, Leads, Machines, world_of}
-use Rattle.world.specs.Serving.{IsServed, IsServedOn}
+use Rattle.world.specs.Client.{IsServed, IsServedOn}
 use Rattle.world.specs.Taking.{put_out_by}
 use Rattle.world.proofs.Deliveries.{call_fails, call_serves}
 use Rattle.world.proofs.Running.{all_both}
@@ -26,7 +26,7 @@ module _ {L : Lang} where
   explained_front [] deeds all = tt
   explained_front (d ∷ past) deeds all = (all.0, explained_front past deeds all.1)
 
-  turns_explained : (w : World L) (t : Name) (turn : Turn L) → AllExplained (turns w t turn).past → AllExplained w.past
+  turns_explained : (w : World L) (t : Name) (turn : Transition L) → AllExplained (turns w t turn).past → AllExplained w.past
   turns_explained w t turn = go (is_desk_within (desk_after w.desk t turn.txn))
     where
       go : (b : Bool) → AllExplained (if b then turned w t turn else w).past → AllExplained w.past

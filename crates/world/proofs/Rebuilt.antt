@@ -43,19 +43,19 @@ use Rattle.store.specs.declared.name.Txn.{Txn}
 use Rattle.store.specs.Content.{Content, parts}
 use Rattle.protocol.specs.Serial.{Gives}
 use Rattle.protocol.proofs.Basics.{some_is}
-use Rattle.desk.specs.declared.ask.Ask.{Ask}
-use Rattle.desk.specs.Brought.{brought}
+use Rattle.desk.specs.declared.fetches.Ask.{Ask}
+use Rattle.desk.specs.Fetches.{brought}
 use Rattle.desk.specs.Database.{Database, language, statements}
 use Rattle.desk.specs.Planned.{IsOfPlan, asked, fetched, site_in}
-use Rattle.desk.specs.Standing.{ask_of}
+use Rattle.desk.specs.Transaction.{ask_of}
 use Rattle.desk.proofs.AtHomes.{found_so}
 use Rattle.desk.proofs.Explaining.{are_brought}
 use Rattle.world.specs.Base.{IsBase, content_of, database, found, site_of}
 use Rattle.world.specs.Machines.{AreFit, Machines}
-use Rattle.world.specs.Seats.{Seat, seat_of, states_of}
+use Rattle.world.specs.Sites.{Seat, seat_of, states_of}
 use Rattle.world.specs.Settled.{AreDecided, AreThoseOf, brought_of, everything, parts_kept, settled_at, settled_in}
-use Rattle.world.proofs.BaseLawful.{site_there}
-use Rattle.world.proofs.BaseStored.{values_stored}
+use Rattle.world.proofs.DatabaseIsLawful.{site_there}
+use Rattle.world.proofs.DatabaseIsStored.{values_stored}
 use Rattle.world.proofs.Seating.{name_is, name_self, seat_there}
 use Rattle.world.proofs.SettledSites.{kept_there, settled_there}
 

@@ -7,14 +7,14 @@ use Rattle.store.specs.DeskContent as of_desk
 use Rattle.store.specs.SiteContent as of_site
 use Rattle.site.specs.declared.fault.SiteFault as site_faults
 use Rattle.site.specs.declared.fault.SiteFault.TheVariants as site_fault
-use Rattle.site.specs.Starting as site
+use Rattle.site.specs.Recovery as site
 use Rattle.desk.specs.declared.refusal.Refusal.{Refusal}
 use Rattle.desk.specs.declared.refusal.Refusal.TheVariants as refusals
 use Rattle.desk.specs.declared.reply.Out.{Out}
 use Rattle.desk.specs.Database.{Database}
-use Rattle.desk.specs.Starting as desk
-use Rattle.world.specs.declared.doing.Doing as doing
-use Rattle.world.specs.declared.doing.Doing.TheVariants as things
+use Rattle.desk.specs.Recovery as desk
+use Rattle.world.specs.declared.sites.SiteAction as doing
+use Rattle.world.specs.declared.sites.SiteAction.TheVariants as things
 use Rattle.world.specs.declared.event.Call.{Call}
 use Rattle.world.specs.declared.event.Entry.{Entry}
 use Rattle.world.specs.declared.event.Event as events
@@ -23,16 +23,16 @@ use Rattle.world.specs.declared.fault.Fault.{Fault}
 use Rattle.world.specs.declared.fault.Fault.TheVariants as fault
 use Rattle.world.specs.Counted.{HaveRefused}
 use Rattle.world.specs.Events.{is_nowhere, is_unsent}
-use Rattle.world.specs.Happening.{IsAtSite, told_by_desk}
+use Rattle.world.specs.EventApplied.{IsAtSite, told_by_desk}
 use Rattle.world.specs.Machines.{Machines}
 use Rattle.world.specs.Posted.{letters_in}
 use Rattle.world.specs.Reasons.{Tells}
 use Rattle.world.specs.Refused.{DeskRestartTells, HasOwnReason, IsRefused, IsRefusedFor, PlaceTells, SiteRestartTells}
 use Rattle.world.specs.Seated.{place_of}
-use Rattle.world.specs.Seats.{Seat, seat_of}
+use Rattle.world.specs.Sites.{Seat, seat_of}
 use Rattle.world.specs.Stopping.{StopsFor}
 use Rattle.world.specs.Taking.{stop_of}
-use Rattle.world.proofs.Moving.{unchanged}
+use Rattle.world.proofs.SiteSteps.{unchanged}
 
 -- ---- what is said of a store holds of the stores that it is among
 restarts_so : (S R Sounds Refuses : Type 0) → (Sounds → S) → (R → Refuses) → (kept : Bool) (seat : Seat) (told : site_faults.SiteFault) → SiteRestartTells S R kept seat told → SiteRestartTells Sounds Refuses kept seat told
@@ -43,7 +43,7 @@ restarts_so S R Sounds Refuses back on kept seat (site_fault.Store store_faults.
 restarts_so S R Sounds Refuses back on kept seat site_fault.Full why = λ so. why (back so)
 restarts_so S R Sounds Refuses back on kept seat site_fault.Stranger why = absurd why
 
-pub places_so : {T : Type 0} (result : Result T site_faults.SiteFault) (S R Sounds Refuses : Type 0) → (Sounds → S) → (R → Refuses) → (what : doing.Doing) (kept : Bool) (seat : Seat) → IfErr result (PlaceTells S R what kept seat) → IfErr result (PlaceTells Sounds Refuses what kept seat)
+pub places_so : {T : Type 0} (result : Result T site_faults.SiteFault) (S R Sounds Refuses : Type 0) → (Sounds → S) → (R → Refuses) → (what : doing.SiteAction) (kept : Bool) (seat : Seat) → IfErr result (PlaceTells S R what kept seat) → IfErr result (PlaceTells Sounds Refuses what kept seat)
 places_so (Ok done) S R Sounds Refuses back on what kept seat why = tt
 places_so (Err told) S R Sounds Refuses back on (things.Take letter) kept seat why = tt
 places_so (Err told) S R Sounds Refuses back on (things.GiveUp place ticket) kept seat why = absurd why
@@ -51,8 +51,8 @@ places_so (Err told) S R Sounds Refuses back on (things.Inquire place) kept seat
 places_so (Err told) S R Sounds Refuses back on (things.Restart place) kept seat why = restarts_so S R Sounds Refuses back on kept seat told why
 
 -- ---- one site
-pub letter_fails : {T : Type 0} (result : Result T site_faults.SiteFault) (S R : Type 0) (what : doing.Doing) (letter : Letter) (kept : Bool) (seat : Seat) → what ≡ things.Take letter → IfErr result (PlaceTells S R what kept seat)
-letter_fails result S R what letter kept seat is = subst (λ (w : doing.Doing). IfErr result (PlaceTells S R w kept seat)) (sym is) (any result)
+pub letter_fails : {T : Type 0} (result : Result T site_faults.SiteFault) (S R : Type 0) (what : doing.SiteAction) (letter : Letter) (kept : Bool) (seat : Seat) → what ≡ things.Take letter → IfErr result (PlaceTells S R what kept seat)
+letter_fails result S R what letter kept seat is = subst (λ (w : doing.SiteAction). IfErr result (PlaceTells S R w kept seat)) (sym is) (any result)
   where
     any : {T : Type 0} (result : Result T site_faults.SiteFault) → IfErr result (λ told. ⊤)
     any (Ok done) = tt
@@ -69,13 +69,13 @@ site_fails (Err (site_fault.Store store_faults.Damaged)) S R kept seat after ref
 site_fails (Err site_fault.Full) S R kept seat after refusal damaged full own same = λ so. subst (λ (n : ℕ). 2 ^ 63 ≤ n + 1) (same so).life (full so refl)
 site_fails (Err site_fault.Stranger) S R kept seat after refusal damaged full own same = absurd (own refl)
 
-pub restart_fails : {T : Type 0} (result : Result T site_faults.SiteFault) (S R : Type 0) (what : doing.Doing) (place : List ℕ) (kept : Bool) (seat : Seat) (after : of_site.SiteContent) → what ≡ things.Restart place →
+pub restart_fails : {T : Type 0} (result : Result T site_faults.SiteFault) (S R : Type 0) (what : doing.SiteAction) (place : List ℕ) (kept : Bool) (seat : Seat) (after : of_site.SiteContent) → what ≡ things.Restart place →
     (result ≡ Err (site_fault.Store store_faults.Refused) → (kept ≡ false) ⊎ R) → (S → result ≡ Err (site_fault.Store store_faults.Damaged) → site.IsStrange seat.leaves after) → (S → result ≡ Err site_fault.Full → 2 ^ 63 ≤ after.life + 1) →
     result ≢ Err site_fault.Stranger → (S → OnErr result (of_site.IsUnchanged seat.kept after)) → IfErr result (PlaceTells S R what kept seat)
-restart_fails result S R what place kept seat after is refusal damaged full own same = subst (λ (w : doing.Doing). IfErr result (PlaceTells S R w kept seat)) (sym is) (site_fails result S R kept seat after refusal damaged full own same)
+restart_fails result S R what place kept seat after is refusal damaged full own same = subst (λ (w : doing.SiteAction). IfErr result (PlaceTells S R w kept seat)) (sym is) (site_fails result S R kept seat after refusal damaged full own same)
 
 -- the first site of a name fails so
-pub first_fails : {T : Type 0} (result : Result T site_faults.SiteFault) (S R : Type 0) (what : doing.Doing) (kept : Bool) (first seat : Seat) → first ≡ seat → IfErr result (PlaceTells S R what kept first) → IfErr result (PlaceTells S R what kept seat)
+pub first_fails : {T : Type 0} (result : Result T site_faults.SiteFault) (S R : Type 0) (what : doing.SiteAction) (kept : Bool) (first seat : Seat) → first ≡ seat → IfErr result (PlaceTells S R what kept first) → IfErr result (PlaceTells S R what kept seat)
 first_fails result S R what kept first seat same why = subst (λ (s : Seat). IfErr result (PlaceTells S R what kept s)) same why
 
 -- ---- the coordinator
@@ -114,7 +114,7 @@ module _ (Sound : Type 0) (db : Database) (before after : Machines) (entries : L
   desk_refused (Err told) kept why = inr (inr (told, (refl, why)))
 
   -- what is done at a site
-  pub place_refused : (what : doing.Doing) (kept : Bool) (at : events.Event) (seat : Seat) (told : site_faults.SiteFault) → IsAtSite what kept at → seat_of (place_of what) before.seats ≡ Some seat →
+  pub place_refused : (what : doing.SiteAction) (kept : Bool) (at : events.Event) (seat : Seat) (told : site_faults.SiteFault) → IsAtSite what kept at → seat_of (place_of what) before.seats ≡ Some seat →
       PlaceTells Sound (HaveRefused before.refused after.refused) what kept seat told → IsRefusedFor Sound db before after entries at (fault.Site told)
   place_refused (things.Take letter) kept at seat told is there why = absurd is
   place_refused (things.GiveUp place ticket) kept at seat told is there why = absurd why
@@ -125,7 +125,7 @@ module _ (Sound : Type 0) (db : Database) (before after : Machines) (entries : L
   pub unsent_refused : (sites : List (List ℕ)) (what : events.Event) → db.sites ≡ sites → is_unsent sites entries what ≡ true → IsRefusedFor Sound db before after entries what fault.Unsent
   unsent_refused sites what is none = inr (inl (refl, subst (λ (s : List (List ℕ)). is_unsent s entries what ≡ true) (sym is) none))
 
-  pub nowhere_refused : (sites : List (List ℕ)) (what : doing.Doing) (kept : Bool) (at : events.Event) → db.sites ≡ sites → IsAtSite what kept at → is_nowhere sites (place_of what) ≡ true → IsRefusedFor Sound db before after entries at fault.Unsent
+  pub nowhere_refused : (sites : List (List ℕ)) (what : doing.SiteAction) (kept : Bool) (at : events.Event) → db.sites ≡ sites → IsAtSite what kept at → is_nowhere sites (place_of what) ≡ true → IsRefusedFor Sound db before after entries at fault.Unsent
   nowhere_refused sites (things.Take letter) kept at is here none = absurd here
   nowhere_refused sites (things.GiveUp place ticket) kept at is here none = unsent_refused sites at is (subst (λ (e : events.Event). is_unsent sites entries e ≡ true) (sym here) none)
   nowhere_refused sites (things.Inquire place) kept at is here none = unsent_refused sites at is (subst (λ (e : events.Event). is_unsent sites entries e ≡ true) (sym here) none)

@@ -12,10 +12,10 @@ use Rattle.protocol.specs.Desk.{Idle, Known, Reading, Row, Stage, State, Txn, Un
 use Rattle.protocol.specs.Language.{Lang}
 use Rattle.desk.specs.declared.refusal.Refusal.{Refusal}
 use Rattle.desk.specs.declared.refusal.Refusal.TheVariants.{Full, Memory}
-use Rattle.desk.specs.Calls.{refused_as, txn_in}
+use Rattle.desk.specs.Request.{refused_as, txn_in}
 use Rattle.desk.specs.Database.{Database}
 use Rattle.desk.specs.Does.{IsUnread, StatesPastLimits}
-use Rattle.desk.specs.State.{Table}
+use Rattle.desk.specs.State.{VolatileState}
 use Rattle.world.specs.declared.event.Call.TheVariants as call
 use Rattle.world.specs.Refused.{IsRefused}
 
@@ -39,11 +39,11 @@ pub some : Statement
 some = statements.Insert (record { into = []; row = [] })
 
 -- why a statement is refused, as the coordinator's contract says it
-abbrev Told : (db : Database) → Table → names.Txn → List ℕ → List (List ℕ) × List SplitRelation → Statement → Refusal → Type 0
+abbrev Told : (db : Database) → VolatileState → names.Txn → List ℕ → List (List ℕ) × List SplitRelation → Statement → Refusal → Type 0
 Told db table txn text catalog s told = (told ≡ Memory) ⊎ (option_map refused_as (refusal (State s) (txn_in db table txn)) ≡ Some told)
     ⊎ ((refusal (State s) (txn_in db table txn) ≡ None) × (IsUnread (schemas_of (catalogue_of catalog)) text told ⊎ (told ≡ Full)))
 
-pub statement_refused : {T : Type 0} (db : Database) (table : Table) (txn : names.Txn) (text : List ℕ) (catalog : List (List ℕ) × List SplitRelation) → db.catalogue ≡ catalogue_of catalog → (result : Result T Refusal) →
+pub statement_refused : {T : Type 0} (db : Database) (table : VolatileState) (txn : names.Txn) (text : List ℕ) (catalog : List (List ℕ) × List SplitRelation) → db.catalogue ≡ catalogue_of catalog → (result : Result T Refusal) →
     ((s : Statement) → IfErr result (Told db table txn text catalog s)) → (result ≡ Err Full → StatesPastLimits db table txn text) → IfErr result (λ told. (told ≡ Memory) ⊎ IsRefused db table (call.State txn text) told)
 statement_refused db table txn text catalog is (Ok out) all past = tt
 statement_refused {T} db table txn text catalog is (Err told) all past = go (all some)

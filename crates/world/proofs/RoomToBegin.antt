@@ -10,7 +10,7 @@ use Rattle.protocol.specs.Letters.{txn_name}
 use Rattle.protocol.specs.Parts.{In}
 use Rattle.protocol.proofs.Basics.{Every, both_true, by_test, clash, either, put_all, same_law}
 use Rattle.desk.specs.Database.{Database, language}
-use Rattle.desk.specs.State.{IsBegun, Table, desk_of, txn_at}
+use Rattle.desk.specs.State.{IsBegun, VolatileState, desk_of, txn_at}
 use Rattle.world.specs.Machines.{AreFit, Machines}
 use Rattle.world.specs.Smoothly.{rests}
 
@@ -43,7 +43,7 @@ every_name P [] each = tt
 every_name P (txn ∷ txns) each = (each txn (inl refl), every_name P txns (λ other here. each other (inr here)))
 
 module _ (db : Database) (machines : Machines) (past : List (Deed (language db))) (fit : AreFit db machines) (quiet : IsQuiet (rests db machines past)) where
-  abbrev table : Table
+  abbrev table : VolatileState
   table = machines.table
 
   abbrev d : protocol.Desk (language db)

@@ -1,5 +1,5 @@
 -- A step of the machines is one event more of a run.
-use Rattle.std.proofs.Common.{◌≡◌, refl, sym, ap, ◌∙◌, subst, ℕ, zero, suc, nat_eq, Bool, true, List, [], ◌∷◌, ◌++◌, map, Some, slice_get, Result, Ok, Err, IfOk}
+use Rattle.std.proofs.Common.{◌≡◌, refl, sym, ap, ◌∙◌, subst, ℕ, zero, suc, nat_eq, Bool, true, List, [], ◌∷◌, ◌++◌, map, Some, slice_get, Result, Ok, Err, IfOk, false, ◌⊎◌}
 use Rattle.std.proofs.lemmas.List.{map-append}
 use Rattle.std.specs.Cmp.Lexicographic.{pointwise}
 use Rattle.std.specs.List.{AllByRecursion, list_any}
@@ -13,31 +13,33 @@ use Rattle.catalog.specs.Catalogue.{Catalogue}
 use Rattle.catalog.specs.Relation.{catalogue_of}
 use Rattle.protocol.specs.Desk.{Choice, Deed, Request}
 use Rattle.protocol.specs.Language.{Lang}
-use Rattle.protocol.specs.Letter.{Letter}
+use Rattle.protocol.specs.Letter.{Letter, is_for_desk}
 use Rattle.protocol.specs.Letters.{name_of, txn_name}
 use Rattle.protocol.specs.Serial.{Explained}
 use Rattle.protocol.specs.Site.{on_give_up, site_after, site_restarted}
 use Rattle.protocol.specs.World as world
 use Rattle.protocol.specs.World.{World, called, comes, delivered, gives_up, happens, inquires, restarts, run}
-use Rattle.desk.specs.Calls.{IsOver}
+use Rattle.desk.specs.Request.{IsOver}
 use Rattle.desk.specs.Database.{Database, language, sent}
 use Rattle.desk.specs.OfCatalogue.{IsOfCatalogue}
 use Rattle.desk.specs.declared.refusal.Refusal.{Refusal}
 use Rattle.desk.specs.declared.reply.Out.{Out}
 use Rattle.protocol.proofs.Basics.{if_true, some_is}
-use Rattle.world.specs.declared.doing.Doing as doing
-use Rattle.world.specs.declared.doing.Doing.TheVariants.{GiveUp, Inquire, Restart, Take}
+use Rattle.world.specs.declared.sites.SiteAction as doing
+use Rattle.world.specs.declared.sites.SiteAction.TheVariants.{GiveUp, Inquire, Restart, Take}
 use Rattle.world.specs.declared.event.Entry.{Entry}
 use Rattle.world.specs.declared.event.Event as events
 use Rattle.world.specs.declared.event.Event.TheVariants as event
 use Rattle.world.specs.declared.fault.Fault.{Fault}
 use Rattle.world.specs.Events.{IsEvent}
-use Rattle.world.specs.Happening.{IsAtSite, told_by_desk}
+use Rattle.world.specs.EventApplied.{IsAtSite, told_by_desk}
 use Rattle.world.specs.Machines.{Asked, Came, Leads, Machines, happens_at, world_of}
 use Rattle.world.specs.Posted.{letters_in}
-use Rattle.world.specs.Runs.{IsRun, RunsOn, entry_of}
+use Rattle.world.specs.Runs.{IsAccepted, IsRun, IsSpared, Spares, StepsOn, entry_of}
+use Rattle.world.specs.Taking.{CameUnless}
+use Rattle.world.proofs.Reasoned.{same_passes}
 use Rattle.world.specs.Seated.{place_of}
-use Rattle.world.specs.Telling.{Shows}
+use Rattle.world.specs.Replies.{Shows}
 use Rattle.world.proofs.Told.{at_site_silent, comes_silent, events_both, one_more, silent_step, tells_more}
 
 one_event_more : {L : Lang} (es : List (world.Event L)) (e : world.Event L) (w : World L) → run (es ++ e ∷ []) w ≡ happens (run es w) e
@@ -50,21 +52,30 @@ all_both P (x ∷ xs) ys one other = (one.0, all_both P xs ys one.1 other)
 
 pub runs_on : (db : Database) (whole : Relations) (before after : Machines) (entries : List Entry) (past : List (Deed (language db))) (what : events.Event) (out : Out) (step : World (language db) → World (language db)) (e : world.Event (language db)) →
     IsRun db whole before entries past → (leads : Leads db step before after out.letters out.replies) → happens (world_of db before (map (sent db) (letters_in entries)) past) e ≡ step (world_of db before (map (sent db) (letters_in entries)) past) →
-    IsEvent db what out.kept e → Shows db what leads.deeds → RunsOn db whole after (entries ++ entry_of what out ∷ []) past
-runs_on db whole before after entries past what out step e so leads event is_event shows = record {
-  deeds = leads.deeds;
-  run_on = record {
-    opening = so.opening;
-    opens = so.opens;
-    events = so.events ++ e ∷ [];
-    are = events_both db entries (entry_of what out ∷ []) so.events (e ∷ []) so.are (is_event, tt);
-    is = one_event_more so.events e so.opening ∙ ap (λ w. happens w e) so.is ∙ event ∙ leads.is (map (sent db) (letters_in entries)) past ∙
-        ap (λ (all : List (Letter (language db))). world_of db after all (past ++ leads.deeds)) (sym (map-append (sent db) (letters_in entries) out.letters) ∙ ap (map (sent db)) (sym (one_more (λ (entry : Entry). entry.out.letters) entries (entry_of what out))));
-    explained = all_both Explained past leads.deeds so.explained leads.explained;
-    tells = tells_more db entries (entry_of what out) past leads.deeds so.tells shows leads.replies;
-    fit = leads.fit;
-  };
-}
+    IsEvent db what out.kept e → IsAccepted (world_of db before (map (sent db) (letters_in entries)) past) e → Shows db what leads.deeds → StepsOn db whole before after entries (entries ++ entry_of what out ∷ []) past
+runs_on db whole before after entries past what out step e so leads event is_event accepted shows =
+    let goes : happens (world_of db before (map (sent db) (letters_in entries)) past) e ≡ world_of db after (map (sent db) (letters_in (entries ++ entry_of what out ∷ []))) (past ++ leads.deeds) =
+    event ∙ leads.is (map (sent db) (letters_in entries)) past ∙
+    ap (λ (all : List (Letter (language db))). world_of db after all (past ++ leads.deeds)) (sym (map-append (sent db) (letters_in entries) out.letters) ∙ ap (map (sent db)) (sym (one_more (λ (entry : Entry). entry.out.letters) entries (entry_of what out)))) in
+    record {
+      entry = entry_of what out;
+      added = refl;
+      step = e;
+      is_event = is_event;
+      accepted = accepted;
+      deeds = leads.deeds;
+      is = goes;
+      run_on = record {
+        opening = so.opening;
+        opens = so.opens;
+        events = so.events ++ e ∷ [];
+        are = events_both db entries (entry_of what out ∷ []) so.events (e ∷ []) so.are (is_event, tt);
+        is = one_event_more so.events e so.opening ∙ ap (λ w. happens w e) so.is ∙ goes;
+        explained = all_both Explained past leads.deeds so.explained leads.explained;
+        tells = tells_more db entries (entry_of what out) past leads.deeds so.tells shows leads.replies;
+        fit = leads.fit;
+      };
+    }
 
 -- ---- the events
 sent_at : (db : Database) (posted : List letters.Letter) (n : ℕ) (letter : letters.Letter) → slice_get posted n ≡ Some letter → slice_get (map (sent db) posted) n ≡ Some (sent db letter)
@@ -74,12 +85,32 @@ sent_at db (l ∷ posted) zero letter e = ap (λ x. Some (sent db x)) (some_is e
 sent_at db (l ∷ posted) (suc n) letter e = sent_at db posted n letter e
 
 pub comes_on : (db : Database) (whole : Relations) (before after : Machines) (entries : List Entry) (past : List (Deed (language db))) (out : Out) (n : ℕ) (letter : letters.Letter) (kept : Bool) →
-    IsRun db whole before entries past → slice_get (letters_in entries) n ≡ Some letter → Came db letter out.kept before after out.letters out.replies → RunsOn db whole after (entries ++ entry_of (event.Deliver n kept) out ∷ []) past
+    IsRun db whole before entries past → slice_get (letters_in entries) n ≡ Some letter → Came db letter out.kept before after out.letters out.replies → StepsOn db whole before after entries (entries ++ entry_of (event.Deliver n kept) out ∷ []) past
 comes_on db whole before after entries past out n letter kept so there came =
     let step : World (language db) → World (language db) = λ w. comes w out.kept came.choice (sent db letter) in
     runs_on db whole before after entries past (event.Deliver n kept) out step (world.Deliver n out.kept came.choice) so came.leads
     (ap (delivered (world_of db before (map (sent db) (letters_in entries)) past) out.kept came.choice) (sent_at db (letters_in entries) n letter there)) (came.choice, refl)
+    (sent db letter, (sent_at db (letters_in entries) n letter there, same_passes db (is_for_desk (sent db letter).body) before (map (sent db) (letters_in entries)) past out.kept came.choice (sent db letter) ∙ came.within))
     (silent_step db before after out.letters out.replies (event.Deliver n kept) step came.leads refl refl (comes_silent (world_of db before [] []) out.kept came.choice (sent db letter) refl))
+
+-- the flag of a delivery is honoured
+pub spared_on : (Refused : Type 0) (db : Database) (before after : Machines) (entries : List Entry) (past : List (Deed (language db))) (out : Out) (n : ℕ) (letter : letters.Letter) (kept : Bool) → slice_get (letters_in entries) n ≡ Some letter →
+    CameUnless ((kept ≡ false) ⊎ Refused) db letter before after out.letters out.replies → IsSpared Refused db before after entries (entries ++ entry_of (event.Deliver n kept) out ∷ []) past n kept
+spared_on Refused db before after entries past out n letter kept there taken = record {
+  kept = taken.kept;
+  choice = taken.came.choice;
+  deeds = taken.came.leads.deeds;
+  is = ap (delivered (world_of db before (map (sent db) (letters_in entries)) past) taken.kept taken.came.choice) (sent_at db (letters_in entries) n letter there) ∙ taken.came.leads.is (map (sent db) (letters_in entries)) past ∙
+      ap (λ (all : List (Letter (language db))). world_of db after all (past ++ taken.came.leads.deeds)) (sym (map-append (sent db) (letters_in entries) out.letters) ∙ ap (map (sent db)) (sym (one_more (λ (entry : Entry). entry.out.letters) entries (entry_of (event.Deliver n kept) out))));
+  spared = taken.spared;
+}
+
+-- entries of a log with room are those that it had, and one is put behind them
+pub step_pushed : (db : Database) (whole : Relations) (before after : Machines) (entries roomy more : List Entry) (past : List (Deed (language db))) (entry : Entry) → roomy ≡ entries → more ≡ roomy ++ entry ∷ [] → StepsOn db whole before after roomy (roomy ++ entry ∷ []) past → StepsOn db whole before after entries more past
+step_pushed db whole before after entries roomy more past entry same pushed on = subst (λ es. StepsOn db whole before after es more past) same (subst (λ es. StepsOn db whole before after roomy es past) (sym pushed) on)
+
+pub spares_pushed : (Refused : Type 0) (db : Database) (before after : Machines) (entries roomy more : List Entry) (past : List (Deed (language db))) (entry : Entry) (what : events.Event) → roomy ≡ entries → more ≡ roomy ++ entry ∷ [] → Spares Refused db before after roomy (roomy ++ entry ∷ []) past what → Spares Refused db before after entries more past what
+spares_pushed Refused db before after entries roomy more past entry what same pushed on = subst (λ es. Spares Refused db before after es more past what) same (subst (λ es. Spares Refused db before after roomy es past what) (sym pushed) on)
 
 -- ---- what clients ask for
 pub over_of : (db : Database) (catalog : List (List ℕ) × List SplitRelation) → IsOfCatalogue db → db.catalogue ≡ catalogue_of catalog → IsOver db catalog.0
@@ -87,40 +118,36 @@ over_of db catalog of is =
     let sites : db.sites ≡ catalog.0 = of.sites ∙ ap (λ (x : Catalogue). x.sites) is in
     record { sites = sites; distinct = subst AreDistinct (sym of.sites) of.formed.distinct }
 
--- any answer will do where nothing is evaluated
-abbrev pub no_choice : (db : Database) → Choice (language db)
-no_choice db = (Exists, [])
-
 pub called_on : (db : Database) (whole : Relations) (before after : Machines) (entries : List Entry) (past : List (Deed (language db))) (what : events.Event) (out : Out) (txn : names.Txn) (choice : Choice (language db)) (request : Request (language db)) →
-    IsRun db whole before entries past → (asked : Asked db txn choice request before after out.letters out.replies) → IsEvent db what out.kept (world.Call (txn_name txn) request choice) → Shows db what asked.leads.deeds → RunsOn db whole after (entries ++ entry_of what out ∷ []) past
+    IsRun db whole before entries past → (asked : Asked db txn choice request before after out.letters out.replies) → IsEvent db what out.kept (world.Call (txn_name txn) request choice) → Shows db what asked.leads.deeds → StepsOn db whole before after entries (entries ++ entry_of what out ∷ []) past
 called_on db whole before after entries past what out txn choice request so asked is shows =
-    runs_on db whole before after entries past what out (λ w. called w (txn_name txn) choice request) (world.Call (txn_name txn) request choice) so asked.leads refl is shows
+    runs_on db whole before after entries past what out (λ w. called w (txn_name txn) choice request) (world.Call (txn_name txn) request choice) so asked.leads refl is (asked.accepted, asked.within) shows
 
 -- ---- what happens at a site
-pub done_on : (db : Database) (whole : Relations) (before after : Machines) (entries : List Entry) (past : List (Deed (language db))) (what : doing.Doing) (at : events.Event) (kept : Bool) (out : Out) (choice : Choice (language db)) →
+pub done_on : (db : Database) (whole : Relations) (before after : Machines) (entries : List Entry) (past : List (Deed (language db))) (what : doing.SiteAction) (at : events.Event) (kept : Bool) (out : Out) (choice : Choice (language db)) →
     IsAtSite what kept at → ((site : List ℕ) → what ≡ Restart site → kept ≡ true) → list_any (λ site. pointwise nat_eq site (place_of what)) db.sites ≡ true → IsRun db whole before entries past → Leads db (happens_at db what out.kept choice) before after out.letters out.replies →
-    RunsOn db whole after (entries ++ entry_of at out ∷ []) past
+    StepsOn db whole before after entries (entries ++ entry_of at out ∷ []) past
 done_on db whole before after entries past (Take letter) at kept out choice is called there so leads = absurd is
 done_on db whole before after entries past (GiveUp site ticket) at kept out choice is called there so leads =
     let w = world_of db before (map (sent db) (letters_in entries)) past in
     let bare = world_of db before [] [] in
     let step : World (language db) → World (language db) = λ w. gives_up w site (name_of ticket) in
-    subst (λ e. RunsOn db whole after (entries ++ entry_of e out ∷ []) past) (sym is)
-    (runs_on db whole before after entries past (event.SiteGivesUp site ticket) out step (world.Site_gives_up site (name_of ticket)) so leads (if_true (list_any (λ b. pointwise nat_eq b site) db.sites) (step w) w there) refl
+    subst (λ e. StepsOn db whole before after entries (entries ++ entry_of e out ∷ []) past) (sym is)
+    (runs_on db whole before after entries past (event.SiteGivesUp site ticket) out step (world.Site_gives_up site (name_of ticket)) so leads (if_true (list_any (λ b. pointwise nat_eq b site) db.sites) (step w) w there) refl there
     (silent_step db before after out.letters out.replies (event.SiteGivesUp site ticket) step leads refl refl (at_site_silent bare site (site_after (bare.sites site) (on_give_up (name_of ticket) ((bare.sites site).status (name_of ticket)))) [] refl)))
 done_on db whole before after entries past (Inquire site) at kept out choice is called there so leads =
     let w = world_of db before (map (sent db) (letters_in entries)) past in
     let step : World (language db) → World (language db) = λ w. inquires w site in
-    subst (λ e. RunsOn db whole after (entries ++ entry_of e out ∷ []) past) (sym is)
-    (runs_on db whole before after entries past (event.SiteInquires site) out step (world.Site_inquires site) so leads (if_true (list_any (λ b. pointwise nat_eq b site) db.sites) (step w) w there) refl
+    subst (λ e. StepsOn db whole before after entries (entries ++ entry_of e out ∷ []) past) (sym is)
+    (runs_on db whole before after entries past (event.SiteInquires site) out step (world.Site_inquires site) so leads (if_true (list_any (λ b. pointwise nat_eq b site) db.sites) (step w) w there) refl there
     (silent_step db before after out.letters out.replies (event.SiteInquires site) step leads refl refl (refl, refl)))
 done_on db whole before after entries past (Restart site) at kept out choice is called there so leads =
     let w = world_of db before (map (sent db) (letters_in entries)) past in
     let bare = world_of db before [] [] in
     let step : World (language db) → World (language db) = λ w. restarts w site in
     let restarted : at ≡ event.SiteRestarts site true = is ∙ ap (event.SiteRestarts site) (called site refl) in
-    subst (λ e. RunsOn db whole after (entries ++ entry_of e out ∷ []) past) (sym restarted)
-    (runs_on db whole before after entries past (event.SiteRestarts site true) out step (world.Site_restarts site true) so leads (if_true (list_any (λ b. pointwise nat_eq b site) db.sites) (step w) w there) refl
+    subst (λ e. StepsOn db whole before after entries (entries ++ entry_of e out ∷ []) past) (sym restarted)
+    (runs_on db whole before after entries past (event.SiteRestarts site true) out step (world.Site_restarts site true) so leads (if_true (list_any (λ b. pointwise nat_eq b site) db.sites) (step w) w there) refl (there, refl)
     (silent_step db before after out.letters out.replies (event.SiteRestarts site true) step leads refl refl (at_site_silent bare site (site_restarted (bare.sites site)) [] refl)))
 
 -- what the coordinator answers is answered on

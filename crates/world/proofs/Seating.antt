@@ -2,6 +2,7 @@
 use Rattle.std.proofs.Common.{◌≡◌, refl, sym, ap, ◌∙◌, subst, ℕ, nat_eq, Bool, true, false, ◌||◌, List, [], ◌∷◌, map, Some, if◌then◌else◌}
 use Rattle.std.specs.Cmp.Lexicographic.{pointwise}
 use Rattle.std.specs.List.{AllByRecursion, list_any}
+use Rattle.std.specs.Ordering.{is_eq}
 use Rattle.std.proofs.lemmas.Slice.Eq.{bytes_eq-Decides}
 use Rattle.store.specs.declared.letter.Letter.{Letter}
 use Rattle.protocol.specs.Language.{put}
@@ -14,8 +15,11 @@ use Rattle.protocol.specs.World.{addressed}
 use Rattle.protocol.proofs.Basics.{some_is}
 use Rattle.protocol.proofs.OtherStatements.{act_same, after_same, said_same}
 use Rattle.site.specs.State.{Takes, state_of}
-use Rattle.site.proofs.Tickets.{same_bool}
-use Rattle.world.specs.Seats.{AreSeated, IsSeated, Moves, Seat, is_called, reseated, seat_of, state_at, states_of}
+use Rattle.site.proofs.TicketOrder.{same_bool}
+use Rattle.terms.specs.Leaf.{leaf_cmp}
+use Rattle.desk.specs.Database.{Database}
+use Rattle.world.specs.Machines.{HasItsLeaves}
+use Rattle.world.specs.Sites.{AreSeated, IsSeated, Moves, Seat, is_called, reseated, seat_of, state_at, states_of}
 
 pub name_is : (a b : List ℕ) → pointwise nat_eq a b ≡ true → a ≡ b
 name_is a b e = (bytes_eq-Decides a b).0 e
@@ -122,6 +126,13 @@ module _ (S : Statements local) where
 -- a step keeps each site fit
 pub seated_after : (name : List ℕ) (seat new : Seat) (before after : List Seat) → Moves name seat new before after → AreSeated before → AreSeated after
 seated_after name seat new before after moves all = subst AreSeated (sym moves.is) (all_kept IsSeated name new before moves.seated all)
+
+-- and the leaves that are at home there
+pub leaves_after : (db : Database) (name : List ℕ) (seat new : Seat) (before after : List Seat) → Moves name seat new before after → AllByRecursion (HasItsLeaves db) before → AllByRecursion (HasItsLeaves db) after
+leaves_after db name seat new before after moves all =
+    let has = seat_has (HasItsLeaves db) name before seat moves.there all in
+    let here : HasItsLeaves db new = λ leaf home. ap (list_any (λ other. is_eq (leaf_cmp leaf other))) moves.leaves ∙ has leaf (home ∙ moves.named ∙ sym (seat_named name before seat moves.there)) in
+    subst (AllByRecursion (HasItsLeaves db)) (sym moves.is) (all_kept (HasItsLeaves db) name new before here all)
 
 -- and the names
 pub names_after : (name : List ℕ) (seat new : Seat) (before after : List Seat) → Moves name seat new before after → map (λ s. s.name) after ≡ map (λ s. s.name) before

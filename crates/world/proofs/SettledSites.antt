@@ -15,27 +15,27 @@ use Rattle.protocol.specs.Site as protocol_site
 use Rattle.protocol.specs.Statements.{status_with}
 use Rattle.protocol.proofs.Basics.{some_is}
 use Rattle.site.specs.declared.site.Site.{Site}
-use Rattle.site.specs.declared.standing.Standing as site_standings
-use Rattle.site.specs.declared.standing.Standing.TheVariants as at_site
+use Rattle.site.specs.declared.tickets.TicketState as site_standings
+use Rattle.site.specs.declared.tickets.TicketState.TheVariants as at_site
 use Rattle.site.specs.Settled.{is_among, with_all, with_some}
-use Rattle.site.specs.Starting.{leaves_in}
+use Rattle.site.specs.Recovery.{leaves_in}
 use Rattle.site.specs.State as site_state
-use Rattle.desk.specs.declared.standing.Standing as desk_standings
-use Rattle.desk.specs.declared.standing.Standing.TheVariants as at_desk
+use Rattle.desk.specs.declared.transaction.TxnState as desk_standings
+use Rattle.desk.specs.declared.transaction.TxnState.TheVariants as at_desk
 use Rattle.desk.specs.Database.{Database, language, statements}
-use Rattle.desk.specs.Standing.{txn_of}
+use Rattle.desk.specs.Transaction.{txn_of}
 use Rattle.desk.specs.State as desk_state
-use Rattle.desk.specs.Voters.{kept_voters}
+use Rattle.desk.specs.Acknowledge.{kept_voters}
 use Rattle.desk.proofs.Txns.{same_txn, txn_sym}
 use Rattle.world.specs.Machines.{Machines, world_of}
 use Rattle.world.specs.Seated.{seat_from}
-use Rattle.world.specs.Seats.{Seat, is_called, seat_of, state_at, states_of}
+use Rattle.world.specs.Sites.{Seat, is_called, seat_of, state_at, states_of}
 use Rattle.world.specs.Settled.{AreDecided, settled_at, settled_in}
-use Rattle.world.proofs.Moving.{seat_same, unchanged}
+use Rattle.world.proofs.SiteSteps.{seat_same, unchanged}
 
 -- a site whose memory and whose store have not changed
-pub seat_stays : {S : Type 0} (content : S → of_site.SiteContent) (old new : Site S) → new.present ≡ old.present → of_site.IsUnchanged (content old.store) (content new.store) → seat_from content new ≡ seat_from content old
-seat_stays content old new memory same = seat_same (seat_from content old) (seat_from content new) (ap (λ p. p.name) memory) (ap (λ p. leaves_in p.locks.items) memory) (ap site_state.table_of memory) (unchanged (content old.store) (content new.store) same)
+pub seat_stays : {S : Type 0} (content : S → of_site.SiteContent) (old new : Site S) → new.volatile ≡ old.volatile → of_site.IsUnchanged (content old.store) (content new.store) → seat_from content new ≡ seat_from content old
+seat_stays content old new memory same = seat_same (seat_from content old) (seat_from content new) (ap (λ p. p.name) memory) (ap (λ p. leaves_in p.locks.items) memory) (ap site_state.volatile_of memory) (unchanged (content old.store) (content new.store) same)
 
 -- ---- the transactions that have a commit row
 txns_of : List CommitRow → List Txn
@@ -51,28 +51,28 @@ listed_among (row ∷ rows) txn =
     go true later = refl
     go false later = later
 
-pub decided_are : (db : Database) (kept after : of_desk.DeskContent) (table : desk_state.Table) (all : DeskKept) → desk_state.Fits db kept table → of_desk.IsUnchanged kept after → of_desk.Lists after all → AreDecided table (map (λ row. row.txn) all.commits)
+pub decided_are : (db : Database) (kept after : of_desk.DeskContent) (table : desk_state.VolatileState) (all : DeskKept) → desk_state.Fits db kept table → of_desk.IsUnchanged kept after → of_desk.Lists after all → AreDecided table (map (λ row. row.txn) all.commits)
 decided_are db kept after table all fits same lists = λ txn. listed_among all.commits txn ∙ ap is_some (lists.rows txn ∙ same.commits txn ∙ sym (fits.rows txn))
 
 -- ---- the settled fragments of a site
-module _ (db : Database) (table : desk_state.Table) (decided : List Txn) (are : AreDecided table decided) (leaf : Leaf) where
-  row_settled : (txn : Txn) (row : Prepared) (content : Content) (standing : Option desk_standings.Standing) (b : Bool) → b ≡ is_some (kept_voters standing) →
+module _ (db : Database) (table : desk_state.VolatileState) (decided : List Txn) (are : AreDecided table decided) (leaf : Leaf) where
+  row_settled : (txn : Txn) (row : Prepared) (content : Content) (standing : Option desk_standings.TxnState) (b : Bool) → b ≡ is_some (kept_voters standing) →
       serial.with_row {L = language db} leaf row.changes (txn_of db standing) content ≡ (if b then changed leaf row.changes content else content)
   row_settled txn row content None b is = sym (ap (λ c. if c then changed leaf row.changes content else content) is)
   row_settled txn row content (Some (at_desk.Undecided undecided)) b is = sym (ap (λ c. if c then changed leaf row.changes content else content) is)
   row_settled txn row content (Some (at_desk.Committed committed)) b is = sym (ap (λ c. if c then changed leaf row.changes content else content) is)
 
-  some_settled : (memory : site_state.Table) (ticket : Ticket) (row : Option Prepared) (content : Content) →
+  some_settled : (memory : site_state.VolatileState) (ticket : Ticket) (row : Option Prepared) (content : Content) →
       serial.with_decided {L = language db} (desk_state.desk_of db table) leaf (status_with (statements db) (site_state.stands memory ticket row)) content ≡ with_some decided leaf row content
   some_settled memory ticket (Some row) content = row_settled row.txn row content (table.standing row.txn) (is_among decided row.txn) (are row.txn)
   some_settled memory ticket None content = go (memory.standing ticket)
     where
-      go : (standing : Option site_standings.Standing) → serial.with_decided {L = language db} (desk_state.desk_of db table) leaf (status_with (statements db) (site_state.visiting memory.locks ticket standing)) content ≡ content
+      go : (standing : Option site_standings.TicketState) → serial.with_decided {L = language db} (desk_state.desk_of db table) leaf (status_with (statements db) (site_state.visiting memory.locks ticket standing)) content ≡ content
       go None = refl
-      go (Some (at_site.Alive visit)) = refl
+      go (Some (at_site.Active visit)) = refl
       go (Some (at_site.Prepared txn)) = refl
 
-  all_settled : (kept : of_site.SiteContent) (memory : site_state.Table) (tickets : List Ticket) (content : Content) →
+  all_settled : (kept : of_site.SiteContent) (memory : site_state.VolatileState) (tickets : List Ticket) (content : Content) →
       serial.with_all_decided {L = language db} (desk_state.desk_of db table) leaf (λ name. status_with (statements db) ((site_state.state_of kept memory).status name)) (map name_of tickets) content ≡ with_all decided leaf kept.prepared tickets content
   all_settled kept memory [] content = refl
   all_settled kept memory (ticket ∷ tickets) content =

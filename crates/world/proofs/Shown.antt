@@ -2,11 +2,11 @@
 use Rattle.std.proofs.Common.{◌≡◌, refl, ap, ℕ, Bool, true, false, List, [], ◌∷◌, ◌++◌, Option, Some, None, is_some, is_none, if◌then◌else◌, map, not, ◌&&◌}
 use Rattle.std.specs.List.{flat_map, list_any, list_all}
 use Rattle.protocol.specs.Language.{Lang, Name, put, same}
-use Rattle.protocol.specs.Desk.{Ask, Choice, Deed, Stated, Worked, Answered, Began, Phased, Committed, Aborted, Rolled_back, Desk, State, Commit_call, Give_up, Rollback, Idle, Known, Reading, Row, Stage, Turn, Txn, Undecided, Unknown, Voting, Writing, are_acked, are_all_in, ask_of, counts, decides, is_named, is_pair, on_ack, on_commit_call, on_desk_letter, on_known, on_refused, on_request, on_rollback, on_row, on_rows, on_state, on_ticket, on_unknown, on_vote, refusal, refusal_at, states, stays, ticket_goes, txn_restarted, visits, voters_of, votes_go, with_rows, works, writes_go, writes_out, writing}
+use Rattle.protocol.specs.Desk.{Ask, Choice, Deed, Stated, Worked, Answered, Began, Phased, Committed, Aborted, Rolled_back, Desk, State, Commit_call, Give_up, Rollback, Idle, Known, Reading, Row, Stage, Transition, Txn, Undecided, Unknown, Voting, Writing, are_acked, are_all_in, ask_of, counts, decides, is_named, is_pair, on_ack, on_commit_call, on_desk_letter, on_known, on_refused, on_request, on_rollback, on_row, on_rows, on_state, on_ticket, on_unknown, on_vote, refusal, refusal_at, states, stays, ticket_goes, txn_restarted, visits, voters_of, votes_go, with_rows, works, writes_go, writes_out, writing}
 use Rattle.protocol.specs.Letter.{Vote, Yes, No, Read, Body, Open, Fetch, Write, Prepare, Commit, Abort, Ticket, Rows, Refused, Voted, Ack, Inquire, Letter}
 use Rattle.protocol.specs.Serial.{phases_of}
 use Rattle.protocol.proofs.Basics.{either}
-use Rattle.world.specs.Telling.{stated_of}
+use Rattle.world.specs.Replies.{stated_of}
 
 -- neither a first phase nor a statement is shown
 abbrev pub IsSilent : {L : Lang} → List (Deed L) → Type 0
@@ -14,11 +14,11 @@ IsSilent deeds = (phases_of deeds ≡ []) × (stated_of deeds ≡ [])
 
 came_ack : (L : Lang) (voters acked : List (L.Site × Name)) (v : L.Site × Name) (kept : Bool) → IsSilent (on_ack {L = L} voters acked v kept).deeds
 came_ack L voters acked v kept =
-    let still : Turn L = stays (Row voters acked) in
-    let last : Turn L = if kept then stays Unknown else still in
-    let more : Turn L = stays (Row voters (acked ++ v ∷ [])) in
-    either (λ (turn : Turn L). IsSilent turn.deeds) (list_any (is_pair L v.0 v.1) voters && not (list_any (is_pair L v.0 v.1) acked)) (if are_acked L voters (acked ++ v ∷ []) then last else more) still
-    (either (λ (turn : Turn L). IsSilent turn.deeds) (are_acked L voters (acked ++ v ∷ [])) last more (either (λ (turn : Turn L). IsSilent turn.deeds) kept (stays Unknown) still (refl, refl) (refl, refl)) (refl, refl)) (refl, refl)
+    let still : Transition L = stays (Row voters acked) in
+    let last : Transition L = if kept then stays Unknown else still in
+    let more : Transition L = stays (Row voters (acked ++ v ∷ [])) in
+    either (λ (turn : Transition L). IsSilent turn.deeds) (list_any (is_pair L v.0 v.1) voters && not (list_any (is_pair L v.0 v.1) acked)) (if are_acked L voters (acked ++ v ∷ []) then last else more) still
+    (either (λ (turn : Transition L). IsSilent turn.deeds) (are_acked L voters (acked ++ v ∷ [])) last more (either (λ (turn : Transition L). IsSilent turn.deeds) kept (stays Unknown) still (refl, refl) (refl, refl)) (refl, refl)) (refl, refl)
 
 module _ {L : Lang} (t : Name) where
   written : (u : Undecided L) (answer : L.Answer) (sent : L.Site → ℕ) (ws : List (L.Leaf × L.Write)) (letters : List (Letter L)) → IsSilent (writing t u answer sent ws letters).deeds
@@ -39,7 +39,7 @@ module _ {L : Lang} (t : Name) where
   decided u false (v ∷ vs) = (refl, refl)
 
   voted : (u : Undecided L) (votes : L.Site → Option Vote) (kept : Bool) → IsSilent (votes_go t u votes kept).deeds
-  voted u votes kept = either (λ (turn : Turn L). IsSilent turn.deeds) (are_all_in u votes) (decides t (record u { stage = Voting votes }) kept (voters_of u votes)) (stays (Known (record u { stage = Voting votes }))) (decided (record u { stage = Voting votes }) kept (voters_of u votes)) (refl, refl)
+  voted u votes kept = either (λ (turn : Transition L). IsSilent turn.deeds) (are_all_in u votes) (decides t (record u { stage = Voting votes }) kept (voters_of u votes)) (stays (Known (record u { stage = Voting votes }))) (decided (record u { stage = Voting votes }) kept (voters_of u votes)) (refl, refl)
 
   ticketed : (u : Undecided L) (choice : Choice L) (stage : Stage L) → IsSilent (ticket_goes t u choice stage).deeds
   ticketed u choice Idle = (refl, refl)
@@ -49,7 +49,7 @@ module _ {L : Lang} (t : Name) where
 
   came_ticket : (u : Undecided L) (a : L.Site) (k : Name) (choice : Choice L) (ticket : Option Name) → IsSilent (on_ticket t u a k choice ticket).deeds
   came_ticket u a k choice None = ticketed (record u { ticket = put L.same_site a (Some k) u.ticket }) choice u.stage
-  came_ticket u a k choice (Some j) = either (λ (turn : Turn L). IsSilent turn.deeds) (same j k) (stays (Known u)) (record { txn = Known u; letters = record { site = a; txn = t; body = Abort k } ∷ []; deeds = [] }) (refl, refl) (refl, refl)
+  came_ticket u a k choice (Some j) = either (λ (turn : Transition L). IsSilent turn.deeds) (same j k) (stays (Known u)) (record { txn = Known u; letters = record { site = a; txn = t; body = Abort k } ∷ []; deeds = [] }) (refl, refl) (refl, refl)
 
   came_rows : (u : Undecided L) (a : L.Site) (n : ℕ) (rows : L.Rows) (choice : Choice L) (stage : Stage L) → IsSilent (on_rows t u a n rows choice stage).deeds
   came_rows u a n rows choice Idle = (refl, refl)
@@ -57,7 +57,7 @@ module _ {L : Lang} (t : Name) where
   came_rows u a n rows choice (Voting votes) = (refl, refl)
   came_rows u a n rows choice (Reading s asks) =
       let now = map (with_rows a n rows) asks in
-      either (λ (turn : Turn L). IsSilent turn.deeds) (list_all (λ q. is_some q.rows) now) (works t u s now choice) (stays (Known (record u { stage = Reading s now }))) (worked u s now choice) (refl, refl)
+      either (λ (turn : Transition L). IsSilent turn.deeds) (list_all (λ q. is_some q.rows) now) (works t u s now choice) (stays (Known (record u { stage = Reading s now }))) (worked u s now choice) (refl, refl)
 
   came_refused : (u : Undecided L) (stage : Stage L) → IsSilent (on_refused t u stage).deeds
   came_refused u Idle = (refl, refl)
@@ -74,7 +74,7 @@ module _ {L : Lang} (t : Name) where
   came_vote u a kept vote Idle = (refl, refl)
   came_vote u a kept vote (Reading s asks) = (refl, refl)
   came_vote u a kept vote (Writing answer ws) = (refl, refl)
-  came_vote u a kept vote (Voting votes) = either (λ (turn : Turn L). IsSilent turn.deeds) (is_none (votes a)) (counts t u a votes kept vote) (stays (Known u)) (counted u a votes kept vote) (refl, refl)
+  came_vote u a kept vote (Voting votes) = either (λ (turn : Transition L). IsSilent turn.deeds) (is_none (votes a)) (counts t u a votes kept vote) (stays (Known u)) (counted u a votes kept vote) (refl, refl)
 
   came_known : (u : Undecided L) (a : L.Site) (kept : Bool) (choice : Choice L) (body : Body L) → IsSilent (on_known t u a kept choice body).deeds
   came_known u a kept choice Open = (refl, refl)
@@ -84,9 +84,9 @@ module _ {L : Lang} (t : Name) where
   came_known u a kept choice (Commit k) = (refl, refl)
   came_known u a kept choice (Abort k) = (refl, refl)
   came_known u a kept choice (Ticket k) = came_ticket u a k choice (u.ticket a)
-  came_known u a kept choice (Rows k n rows) = either (λ (turn : Turn L). IsSilent turn.deeds) (is_named (u.ticket a) k) (on_rows t u a n rows choice u.stage) (stays (Known u)) (came_rows u a n rows choice u.stage) (refl, refl)
-  came_known u a kept choice (Refused k reason) = either (λ (turn : Turn L). IsSilent turn.deeds) (is_named (u.ticket a) k) (on_refused t u u.stage) (stays (Known u)) (came_refused u u.stage) (refl, refl)
-  came_known u a kept choice (Voted k vote) = either (λ (turn : Turn L). IsSilent turn.deeds) (is_named (u.ticket a) k) (on_vote t u a kept vote u.stage) (stays (Known u)) (came_vote u a kept vote u.stage) (refl, refl)
+  came_known u a kept choice (Rows k n rows) = either (λ (turn : Transition L). IsSilent turn.deeds) (is_named (u.ticket a) k) (on_rows t u a n rows choice u.stage) (stays (Known u)) (came_rows u a n rows choice u.stage) (refl, refl)
+  came_known u a kept choice (Refused k reason) = either (λ (turn : Transition L). IsSilent turn.deeds) (is_named (u.ticket a) k) (on_refused t u u.stage) (stays (Known u)) (came_refused u u.stage) (refl, refl)
+  came_known u a kept choice (Voted k vote) = either (λ (turn : Transition L). IsSilent turn.deeds) (is_named (u.ticket a) k) (on_vote t u a kept vote u.stage) (stays (Known u)) (came_vote u a kept vote u.stage) (refl, refl)
   came_known u a kept choice (Ack k) = (refl, refl)
   came_known u a kept choice (Inquire k) = (refl, refl)
 

@@ -1,18 +1,18 @@
 -- Each letter that waits is to or from one of the sites, so that none is passed over.
 use Rattle.std.proofs.Common.{◌≡◌, refl, sym, ◌∙◌, subst, ℕ, ◌&&◌, not, Bool, true, false, List, [], ◌∷◌, ◌++◌, map, flat_map, Option, Some, None, is_some, is_none, inl, inr, ⊎_elim}
 use Rattle.std.specs.List.{list_all, list_any}
-use Rattle.protocol.specs.Course.{Steady}
-use Rattle.protocol.specs.Desk.{Aborted, Ask, By_refusal, By_store, By_vote, Choice, Commit_call, Deed, Give_up, Given_up, Idle, Known, Reading, Request, Rollback, Rolled_back, Row, Stage, State, Turn, Txn, Undecided, Unknown, Voting, Writing, after_letters, are_acked, are_all_in, asks_go, commits, counts, decides, desk_after, ends_by, is_desk_within, is_named, is_pair, is_undecided, on_commit_call, on_desk_letter, on_known, on_refused, on_request, on_rollback, on_row, on_rows, on_state, on_ticket, on_unknown, on_vote, opens, phases, states, ticket_goes, visits, voter_at, voters_of, votes_go, with_rows, works, writes_go, writes_out, writing}
+use Rattle.protocol.specs.StatementCourse.{Steady}
+use Rattle.protocol.specs.Desk.{Aborted, Ask, By_refusal, By_store, By_vote, Choice, Commit_call, Deed, Give_up, Given_up, Idle, Known, Reading, Request, Rollback, Rolled_back, Row, Stage, State, Transition, Txn, Undecided, Unknown, Voting, Writing, after_letters, are_acked, are_all_in, asks_go, commits, counts, decides, desk_after, ends_by, is_desk_within, is_named, is_pair, is_undecided, on_commit_call, on_desk_letter, on_known, on_refused, on_request, on_rollback, on_row, on_rows, on_state, on_ticket, on_unknown, on_vote, opens, phases, states, ticket_goes, visits, voter_at, voters_of, votes_go, with_rows, works, writes_go, writes_out, writing}
 use Rattle.protocol.specs.Language.{IsLawful, Lang, Name, put, same}
 use Rattle.protocol.specs.Letter.{Body, Letter, Vote, Yes, No, Read, Open, Fetch, Write, Prepare, Commit, Abort, Ticket, Rows, Refused, Voted, Ack, Inquire, is_for_desk}
 use Rattle.protocol.specs.Site.{Status, is_within, on_letter, said, site_after}
-use Rattle.protocol.specs.Spots.{Spot, asked, at, away, offered, works as is_working}
+use Rattle.protocol.specs.VisitPlaces.{VisitPlace, asked, at, away, offered, works as is_working}
 use Rattle.protocol.specs.World.{World, addressed, called, comes_to, turned, turns, with_site}
 use Rattle.protocol.proofs.Basics.{Every, In, any_in, by_test, clash, either, every_append, put_all, same_law}
 use Rattle.protocol.proofs.Going.{asks_each, writes_each}
 use Rattle.protocol.proofs.Turns.{every_letter}
 use Rattle.desk.specs.Database.{Database, language}
-use Rattle.world.specs.Coming.{Coming, Passed_over, Taken, Turned_away, first_comes}
+use Rattle.world.specs.Delivery.{Coming, Passed_over, Taken, Turned_away, first_comes}
 use Rattle.world.specs.Reasons.{IsFounded}
 
 every_found : {A B : Type 0} (P : B → Type 0) (f : A → List B) (xs : List A) → ((x : A) → In x xs → Every P (f x)) → Every P (flat_map f xs)
@@ -34,7 +34,7 @@ module _ {L : Lang} where
   HasSited (Row voters acked) = Unit {0}
 
   -- so after a turn, whose letters are for these sites
-  abbrev pub TurnSited : Turn L → Type 0
+  abbrev pub TurnSited : Transition L → Type 0
   TurnSited turn = HasSited turn.txn × AreSited turn.letters
 
   -- so everywhere
@@ -83,7 +83,7 @@ module _ {L : Lang} where
     opens_sited : (u : Undecided L) (leaves : List L.Leaf) → AreSited (opens t u leaves)
     opens_sited u leaves = every_letter IsSited t _ L.sites (λ a b here e. here)
 
-    behind : (letters : List (Letter L)) (turn : Turn L) → AreSited letters → TurnSited turn → TurnSited (after_letters letters turn)
+    behind : (letters : List (Letter L)) (turn : Transition L) → AreSited letters → TurnSited turn → TurnSited (after_letters letters turn)
     behind letters turn all s = (s.0, every_append IsSited letters turn.letters all s.1)
 
     works_sited : (u : Undecided L) (s : L.Statement) (asks : List (Ask L)) (c : Choice L) → HasSited (Known u) → TurnSited (works t u s asks c)
@@ -229,7 +229,7 @@ module _ {L : Lang} where
     desk_sited b (Row voters acked) have = row_sited voters acked b
 
   -- ---- worlds
-  turns_sited : (w : World L) (t : Name) (turn : Turn L) → TurnSited turn → Sited w → Sited (turns w t turn)
+  turns_sited : (w : World L) (t : Name) (turn : Transition L) → TurnSited turn → Sited w → Sited (turns w t turn)
   turns_sited w t turn s so_far = either Sited (is_desk_within (desk_after w.desk t turn.txn)) (turned w t turn) w (record {
     letters = every_append IsSited w.letters turn.letters so_far.letters s.1;
     txns = put_all same same_law t turn.txn w.desk.txn (λ i x. HasSited x) s.0 (λ i other. so_far.txns i);
@@ -258,7 +258,7 @@ module _ {L : Lang} where
   come_sited law w Passed_over (l ∷ q) e so_far = record { letters = (subst AreSited e so_far.letters).1; txns = so_far.txns }
 
   -- ---- where a transaction is steady
-  spot_visited : (f : Name → Status L) (b : Bool) (tk : Option Name) (n : ℕ) (bs : List (Body L)) (k : Name) → Spot f b tk n bs → tk ≡ Some k → b ≡ true
+  spot_visited : (f : Name → Status L) (b : Bool) (tk : Option Name) (n : ℕ) (bs : List (Body L)) (k : Name) → VisitPlace f b tk n bs → tk ≡ Some k → b ≡ true
   spot_visited f b tk n bs k (away x) is = let none = sym x.no_ticket ∙ is in cc
   spot_visited f b tk n bs k (asked x) is = x.visited
   spot_visited f b tk n bs k (offered j x) is = x.visited
@@ -283,10 +283,7 @@ module _ {L : Lang} where
 
 -- no letter of a site is passed over
 pub not_passed : (db : Database) (law : IsLawful (language db)) (w : World (language db)) (l : Letter (language db)) → IsSited l → IsFounded db w Passed_over l → ⊥
-not_passed db law w l sited founded =
-    let site = founded.letter.site in
-    let here : In site db.sites = subst (λ (x : Letter (language db)). In x.site db.sites) founded.is sited in
-    clash (any_in (λ a. (language db).same_site a site) site db.sites here ((law.sites site site).1 refl)) founded.reason
+not_passed db law w l sited none = clash (any_in (λ a. (language db).same_site a l.site) l.site db.sites sited ((law.sites l.site l.site).1 refl)) none
 
 -- the oldest letter is of a site
 pub first_is_sited : {L : Lang} (w : World L) (l : Letter L) (q : List (Letter L)) → w.letters ≡ l ∷ q → Sited w → IsSited l

@@ -8,12 +8,12 @@ use Rattle.protocol.specs.Client.{IsQuiet, IsReached, first}
 use Rattle.protocol.specs.Committing.{Committing}
 use Rattle.protocol.specs.Desk.{Began, Choice, Commit_call, Committed, Deed, Phased, Rollback, Rolled_back, State, desk_began, is_desk_within, next_txn}
 use Rattle.protocol.specs.Language.{IsLawful, Name}
-use Rattle.protocol.specs.Leaving.{Ending, Within}
-use Rattle.protocol.specs.Course.{Room, passes, passes_to}
+use Rattle.protocol.specs.AfterAbort.{Ending, Within}
+use Rattle.protocol.specs.StatementCourse.{Room, passes, passes_to}
 use Rattle.protocol.specs.Letter.{Body, Letter, Open, Fetch, Write, Prepare, Commit, Abort, Ticket, Rows, Refused, Voted, Ack, Inquire, is_for_desk}
-use Rattle.protocol.specs.Site.{Alive, Dead, Prepared, SiteState, Status, Visit}
+use Rattle.protocol.specs.Site.{Active, Dead, Prepared, SiteState, Status, Visit}
 use Rattle.protocol.specs.Serial.{AllExplained, Explained}
-use Rattle.protocol.specs.Smooth.{InCourse, IsHoused, Ready, SmoothLaw}
+use Rattle.protocol.specs.WithoutRefusal.{InCourse, IsHoused, Ready, SmoothLaw}
 use Rattle.protocol.specs.World.{World, begins, begun, called}
 use Rattle.protocol.proofs.Basics.{by_test, if_true}
 use Rattle.protocol.proofs.Data.{visit_is}
@@ -21,21 +21,21 @@ use Rattle.protocol.proofs.Ended.{ending_goes_on, ending_quiet, kept_end}
 use Rattle.protocol.proofs.Loose.{rollback_ends, steady_loose}
 use Rattle.protocol.proofs.Limits.{called_within, next_within}
 use Rattle.protocol.proofs.Locks.{Once}
-use Rattle.protocol.proofs.Reached.{reached_law}
-use Rattle.protocol.proofs.Smooth.{smooth_law}
+use Rattle.protocol.proofs.ForgottenLetters.{reached_law}
+use Rattle.protocol.proofs.WithoutRefusal.{smooth_law}
 use Rattle.protocol.proofs.OtherStatements.{within_same}
 use Rattle.site.specs.State.{state_of}
-use Rattle.site.proofs.Limited.{fits_within}
+use Rattle.world.proofs.Reasoned.{seats_within}
 use Rattle.desk.specs.declared.reply.Notice.{Notice}
 use Rattle.desk.specs.declared.reply.Reply.TheVariants.{Begun}
 use Rattle.desk.specs.Database.{Database, language, sent, statements}
 use Rattle.desk.specs.State.{desk_of, notice_of}
-use Rattle.desk.specs.Turn.{told}
+use Rattle.desk.specs.Transition.{told}
 use Rattle.world.specs.Counted.{AllKept, IsKept}
-use Rattle.world.specs.Delivering.{Ask, Coming, Passed_over, Serves, Taken, To_begin, To_do, Turned_away, all_come, asked, come, first_comes}
+use Rattle.world.specs.Mailbox.{Ask, Coming, Passed_over, Serves, Taken, To_begin, To_do, Turned_away, all_come, asked, come, first_comes}
 use Rattle.world.specs.Machines.{AreFit, Machines, world_of}
-use Rattle.world.specs.Seats.{AreSeated, Seat, is_called, state_at, states_of}
-use Rattle.world.specs.Serving.{IsServed}
+use Rattle.world.specs.Sites.{AreSeated, Seat, is_called, state_at, states_of}
+use Rattle.world.specs.Client.{IsServed}
 use Rattle.world.specs.Reasons.{AllFounded, FirstIsFounded, IsFounded}
 use Rattle.world.specs.Smoothly.{FindsNoRoom, FirstIsRefused, IsRefused, IsSmooth, ServesUnlessRefused, SomeRefused, AllSmooth, FirstIsSmooth, ServesSmoothly, rests}
 use Rattle.world.proofs.Beginning.{all_silent}
@@ -44,15 +44,6 @@ use Rattle.world.proofs.Running.{all_both}
 use Rattle.world.proofs.Sited.{AreSited, IsSited, Sited, called_sited, come_sited, not_passed, steady_sited}
 
 -- fit machines are within their limits
-seats_within : (db : Database) (seats : List Seat) (name : List ℕ) → AreSeated seats → Rattle.protocol.specs.Site.is_within (states_of (statements db) seats name) ≡ true
-seats_within db [] name seated = refl
-seats_within db (seat ∷ seats) name seated = go (is_called name seat) (within_same (statements db) (state_of seat.kept seat.table) ∙ fits_within seat.kept seat.table seated.0) (seats_within db seats name seated.1)
-  where
-    go : (b : Bool) → Rattle.protocol.specs.Site.is_within (state_at (statements db) seat) ≡ true → Rattle.protocol.specs.Site.is_within (states_of (statements db) seats name) ≡ true →
-        Rattle.protocol.specs.Site.is_within (if b then state_at (statements db) seat else states_of (statements db) seats name) ≡ true
-    go true here later = here
-    go false here later = later
-
 pub fit_within : (db : Database) (machines : Machines) (letters : List (Letter (language db))) (past : List (Deed (language db))) → AreFit db machines → Within (world_of db machines letters past)
 fit_within db machines letters past fit = record { desk = fit.within; sites = λ name. seats_within db machines.seats name fit.sites }
 
@@ -186,10 +177,10 @@ module _ (db : Database) where
   pub room_or_full : (s : SiteState (language db)) (body : Body (language db)) → Room s body ⊎ FindsNoRoom db s body
   room_or_full s (Write ticket op leaf write) = go (s.status ticket) refl
     where
-      go : (status : Status (language db)) → s.status ticket ≡ status → ((v : Visit (language db)) → s.status ticket ≡ Alive v → (language db).is_full leaf write v.changes ≡ false) ⊎ ((v : Visit (language db)) × ((s.status ticket ≡ Alive v) × ((language db).is_full leaf write v.changes ≡ true)))
-      go Dead is = inl (λ v alive. let e = sym is ∙ alive in cc)
-      go (Prepared t i) is = inl (λ v alive. let e = sym is ∙ alive in cc)
-      go (Alive x) is = ⊎_elim (λ full. inr (x, (is, full))) (λ room. inl (λ v alive. ap (λ (y : Visit (language db)). (language db).is_full leaf write y.changes) (visit_is v x (sym alive ∙ is)) ∙ room)) (by_test ((language db).is_full leaf write x.changes))
+      go : (status : Status (language db)) → s.status ticket ≡ status → ((v : Visit (language db)) → s.status ticket ≡ Active v → (language db).is_full leaf write v.changes ≡ false) ⊎ ((v : Visit (language db)) × ((s.status ticket ≡ Active v) × ((language db).is_full leaf write v.changes ≡ true)))
+      go Dead is = inl (λ v active. let e = sym is ∙ active in cc)
+      go (Prepared t i) is = inl (λ v active. let e = sym is ∙ active in cc)
+      go (Active x) is = ⊎_elim (λ full. inr (x, (is, full))) (λ room. inl (λ v active. ap (λ (y : Visit (language db)). (language db).is_full leaf write y.changes) (visit_is v x (sym active ∙ is)) ∙ room)) (by_test ((language db).is_full leaf write x.changes))
   room_or_full s Open = inl tt
   room_or_full s (Fetch k op g q) = inl tt
   room_or_full s (Prepare k n) = inl tt
@@ -202,20 +193,10 @@ module _ (db : Database) where
   room_or_full s (Ack k) = inl tt
   room_or_full s (Inquire k) = inl tt
 
-  -- a step within the limits, as the world has it: what waits and what happened doesn't matter
-  same_passes : (b : Bool) (w : World (language db)) (choice : Choice (language db)) (l : Letter (language db)) → passes_to b w true choice l ≡ passes_to b (record w { letters = []; past = [] }) true choice l
-  same_passes true w choice l = refl
-  same_passes false w choice l = refl
-
-  passes_there : (w : World (language db)) (choice : Choice (language db)) (l : Letter (language db)) → IsFounded db w (Taken true choice) l → passes w true choice l ≡ true
-  passes_there w choice l founded =
-      let there : passes (record w { letters = []; past = [] }) true choice l ≡ passes (world_of db founded.machines [] []) true choice (sent db founded.letter) = λ i. passes (record { desk = founded.desk i; sites = founded.sites i; letters = []; past = [] }) true choice (founded.is i) in
-      same_passes (is_for_desk l.body) w choice l ∙ there ∙ founded.reason.0
-
 -- Unkept: what is the case where a store call isn't kept
 module _ (db : Database) (law : IsLawful (language db)) (Unkept : Type 0) where
   one_smooth : (w : World (language db)) (c : Coming (language db)) (l : Letter (language db)) → IsSited l → IsFounded db w c l → IsKept c ⊎ Unkept → IsSmooth db w c l ⊎ IsRefused db Unkept w c l
-  one_smooth w (Taken true choice) l sited founded kept = ⊎_elim (λ room. inl (record { is_kept = refl; within = passes_there db w choice l founded; room = room })) (λ full. inr full) (room_or_full db (w.sites l.site) l.body)
+  one_smooth w (Taken true choice) l sited founded kept = ⊎_elim (λ room. inl (record { is_kept = refl; within = founded.0; room = room })) (λ full. inr full) (room_or_full db (w.sites l.site) l.body)
   one_smooth w (Taken false choice) l sited founded kept = ⊎_elim (λ wrong. absurd wrong) (λ unkept. inr (unkept, founded)) kept
   one_smooth w (Turned_away choice) l sited founded kept = inr founded
   one_smooth w Passed_over l sited founded kept = absurd (not_passed db law w l sited founded)
@@ -234,11 +215,11 @@ pub serves_unless_refused : (db : Database) (fits : Leaf → Content → Bool) �
 serves_unless_refused db fits lawful law = record {
   answers = λ whole before after past txn statement choice heard served ready is room serves. ⊎_elim
       (λ smooth. inl (law.answers whole before after past txn statement choice heard served ready is room serves smooth)) (λ refused. inr refused)
-      (all_smooth db lawful _ serves.comings (called (rests db before past) txn choice (State statement)) (called_sited (rests db before past) txn choice (State statement) (steady_sited txn (rests db before past) ready.steady)) (serves.founded past) serves.kept);
+      (all_smooth db lawful _ serves.comings (called (rests db before past) txn choice (State statement)) (called_sited (rests db before past) txn choice (State statement) (steady_sited txn (rests db before past) ready.steady)) (serves.founded tt past) serves.kept);
   commits = λ whole before after past txn choice heard served ready serves. ⊎_elim
       (λ smooth. inl (law.commits whole before after past txn choice heard served ready serves smooth)) (λ refused. inr refused)
-      (all_smooth db lawful _ serves.comings (called (rests db before past) txn choice Commit_call) (called_sited (rests db before past) txn choice Commit_call (steady_sited txn (rests db before past) ready.steady)) (serves.founded past) serves.kept);
+      (all_smooth db lawful _ serves.comings (called (rests db before past) txn choice Commit_call) (called_sited (rests db before past) txn choice Commit_call (steady_sited txn (rests db before past) ready.steady)) (serves.founded tt past) serves.kept);
   rolls_back = λ whole before after past txn choice heard served ready serves. ⊎_elim
       (λ smooth. inl (law.rolls_back whole before after past txn choice heard served ready serves smooth)) (λ refused. inr refused)
-      (all_smooth db lawful _ serves.comings (called (rests db before past) txn choice Rollback) (called_sited (rests db before past) txn choice Rollback (steady_sited txn (rests db before past) ready.steady)) (serves.founded past) serves.kept);
+      (all_smooth db lawful _ serves.comings (called (rests db before past) txn choice Rollback) (called_sited (rests db before past) txn choice Rollback (steady_sited txn (rests db before past) ready.steady)) (serves.founded tt past) serves.kept);
 }

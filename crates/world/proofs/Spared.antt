@@ -13,22 +13,22 @@ use Rattle.protocol.specs.Letters.{body_of, name_of, txn_name}
 use Rattle.protocol.specs.Site.{SiteState, is_within, on_letter, on_prepare, said, site_after}
 use Rattle.protocol.specs.Statements.{body_with, status_with}
 use Rattle.protocol.specs.World.{World, addressed, comes_to, site_steps}
-use Rattle.protocol.specs.Course.{passes_to}
+use Rattle.protocol.specs.StatementCourse.{passes_to}
 use Rattle.desk.specs.declared.reply.Notice.{Notice}
 use Rattle.desk.specs.Database.{Database, language, sent, statements}
-use Rattle.site.specs.declared.standing.Standing as standings
-use Rattle.site.specs.declared.standing.Standing.TheVariants as standing
+use Rattle.site.specs.declared.tickets.TicketState as standings
+use Rattle.site.specs.declared.tickets.TicketState.TheVariants as standing
 use Rattle.site.specs.Refusals.{AsksToKeep}
-use Rattle.site.specs.State.{Table, stands, visiting}
+use Rattle.site.specs.State.{VolatileState, stands, visiting}
 use Rattle.world.specs.Machines.{Came, Machines, is_order, world_of}
 use Rattle.world.specs.Reasons.{CallKept}
-use Rattle.world.specs.Seats.{Seat, seat_of, state_at, states_of}
+use Rattle.world.specs.Sites.{Seat, seat_of, state_at, states_of}
 use Rattle.world.specs.Taking.{CameUnless}
-use Rattle.world.proofs.Machinery.{order_is}
+use Rattle.world.proofs.Reasoned.{order_is}
 use Rattle.world.proofs.Seating.{state_there}
 
 -- whether a Prepare of what stands there asks for a store call
-abbrev Asks : Table → ToPrepare → Option standings.Standing → Type 0
+abbrev Asks : VolatileState → ToPrepare → Option standings.TicketState → Type 0
 Asks table prepare o = AsksToKeep (record table { standing = λ ticket. o }) (body.Order (order.Prepare prepare))
 
 one_or_not : {B : Type 0} (b c : Bool) (read keeps none : B) → (read ≡ keeps → ⊥) → (none ≡ keeps → ⊥) → ((if b then (if c then read else keeps) else none) ≡ keeps) ⊎ (((if b then (if c then read else keeps) else none) ≡ keeps) → ⊥)
@@ -36,13 +36,13 @@ one_or_not true true read keeps none apart other = inr apart
 one_or_not true false read keeps none apart other = inl refl
 one_or_not false c read keeps none apart other = inr other
 
-prepare_or_not : (table : Table) (prepare : ToPrepare) (o : Option standings.Standing) → Asks table prepare o ⊎ (Asks table prepare o → ⊥)
+prepare_or_not : (table : VolatileState) (prepare : ToPrepare) (o : Option standings.TicketState) → Asks table prepare o ⊎ (Asks table prepare o → ⊥)
 prepare_or_not table prepare None = inr (λ e. cc)
 prepare_or_not table prepare (Some (standing.Prepared txn)) = inr (λ e. cc)
-prepare_or_not table prepare (Some (standing.Alive visit)) = one_or_not (visit.done == prepare.count) (nat_eq (fin.len visit.changes) 0) _ _ _ (λ e. cc) (λ e. cc)
+prepare_or_not table prepare (Some (standing.Active visit)) = one_or_not (visit.done == prepare.count) (nat_eq (fin.len visit.changes) 0) _ _ _ (λ e. cc) (λ e. cc)
 
 -- whether a letter does
-pub asks_or_not : (table : Table) (told : bodies.Body) → AsksToKeep table told ⊎ (AsksToKeep table told → ⊥)
+pub asks_or_not : (table : VolatileState) (told : bodies.Body) → AsksToKeep table told ⊎ (AsksToKeep table told → ⊥)
 asks_or_not table (body.Order order.Open) = inr (λ no_call. no_call)
 asks_or_not table (body.Order (order.Fetch fetch)) = inr (λ no_call. no_call)
 asks_or_not table (body.Order (order.Intend intention)) = inr (λ no_call. no_call)
@@ -59,18 +59,18 @@ same_choice false c read keeps none x y z n not_so = refl
 
 module _ (db : Database) where
   -- a Prepare of what stands there
-  same_prepare : (table : Table) (prepare : ToPrepare) (t k : Name) (row : Option Row) (o : Option standings.Standing) → table.standing prepare.ticket ≡ o → (Asks table prepare o → ⊥) →
+  same_prepare : (table : VolatileState) (prepare : ToPrepare) (t k : Name) (row : Option Row) (o : Option standings.TicketState) → table.standing prepare.ticket ≡ o → (Asks table prepare o → ⊥) →
       on_prepare false t k prepare.count (status_with (statements db) (stands table prepare.ticket row)) ≡ on_prepare true t k prepare.count (status_with (statements db) (stands table prepare.ticket row))
   same_prepare table prepare t k (Some row) o is keeps_nothing = refl
   same_prepare table prepare t k None o is keeps_nothing =
       ap (λ x. on_prepare false t k prepare.count (status_with (statements db) (visiting table.locks prepare.ticket x))) is ∙ of_standing o keeps_nothing
       ∙ sym (ap (λ x. on_prepare true t k prepare.count (status_with (statements db) (visiting table.locks prepare.ticket x))) is)
     where
-      of_standing : (o : Option standings.Standing) → (Asks table prepare o → ⊥) →
+      of_standing : (o : Option standings.TicketState) → (Asks table prepare o → ⊥) →
           on_prepare false t k prepare.count (status_with (statements db) (visiting table.locks prepare.ticket o)) ≡ on_prepare true t k prepare.count (status_with (statements db) (visiting table.locks prepare.ticket o))
       of_standing None not_so = refl
       of_standing (Some (standing.Prepared txn)) not_so = refl
-      of_standing (Some (standing.Alive visit)) not_so = same_choice (visit.done == prepare.count) (nat_eq (fin.len visit.changes) 0) _ _ _ _ _ _ _ not_so
+      of_standing (Some (standing.Active visit)) not_so = same_choice (visit.done == prepare.count) (nat_eq (fin.len visit.changes) 0) _ _ _ _ _ _ _ not_so
 
   -- a letter at a site
   same_act : (seat : Seat) (t : Name) (told : bodies.Body) → is_order told ≡ true → CallKept false (body_with (statements db) (body_of told)) → (AsksToKeep seat.table told → ⊥) →

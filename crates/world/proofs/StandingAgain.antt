@@ -10,7 +10,7 @@ use Rattle.protocol.specs.Client.{IsQuiet, ReachedLaw}
 use Rattle.protocol.specs.Desk.{Commit_call, Deed, Rollback, State}
 use Rattle.protocol.specs.Language.{Name}
 use Rattle.protocol.specs.Letters.{txn_name}
-use Rattle.protocol.specs.Smooth.{Ready}
+use Rattle.protocol.specs.WithoutRefusal.{Ready}
 use Rattle.protocol.specs.World.{World}
 use Rattle.protocol.proofs.Basics.{clash}
 use Rattle.desk.specs.declared.refusal.Refusal as refusals
@@ -21,18 +21,18 @@ use Rattle.desk.specs.Database.{Database, language}
 use Rattle.desk.specs.State.{notice_of}
 use Rattle.world.specs.declared.event.Call as calls
 use Rattle.world.specs.declared.event.Call.TheVariants as call
-use Rattle.world.specs.Delivering.{Ask, IsStill, Serves, To_begin, To_do}
-use Rattle.world.specs.Denying.{Declines, IsTakenBack, IsUndone, LoneIsDenied, RunIsDenied, commit_stops, declines_all, declines_begin, declines_commit, declines_inside, declines_lone, declines_outside, declines_rollback, declines_statement, declines_text, has_begun_but, has_not_begun, is_left, is_not_committed, is_not_decided, is_not_stated, is_rolled_back, run_stops}
+use Rattle.world.specs.Mailbox.{Ask, IsStill, Serves, To_begin, To_do}
+use Rattle.world.specs.Denials.{Declines, IsTakenBack, IsUndone, LoneIsDenied, RunIsDenied, commit_stops, declines_all, declines_begin, declines_commit, declines_inside, declines_lone, declines_outside, declines_rollback, declines_statement, declines_text, has_begun_but, has_not_begun, is_left, is_not_committed, is_not_decided, is_not_stated, is_rolled_back, run_stops}
 use Rattle.world.specs.Machines.{Machines}
-use Rattle.world.specs.Obeying.{Stands, StandsOn}
-use Rattle.world.specs.Serving.{DoesAlone, DoesBegin, DoesDecide, Executes, IsServed, did_begin, did_commit, did_decide, did_roll_back, did_run, did_state, had_ended, is_end, still_open, tells}
+use Rattle.world.specs.Executed.{Stands, StandsOn}
+use Rattle.world.specs.Client.{DoesAlone, DoesBegin, DoesDecide, Executes, IsServed, did_begin, did_commit, did_decide, did_roll_back, did_run, did_state, had_ended, is_end, still_open, tells}
 use Rattle.world.specs.Settling.{GrowsQuiet}
 use Rattle.world.specs.Smoothly.{ServesSmoothly, rests}
 use Rattle.world.specs.StandingAgain.{StandsAgain}
 use Rattle.world.specs.Stopping.{is_stop, stopped_by}
 use Rattle.world.proofs.Deeds.{still_served}
-use Rattle.world.proofs.Denying.{no_commit, no_rollback}
-use Rattle.world.proofs.Obeying.{still_there, tells_by, tells_more}
+use Rattle.world.proofs.Denials.{no_commit, no_rollback}
+use Rattle.world.proofs.Executed.{still_there, tells_by, tells_more}
 use Rattle.world.proofs.Reaching.{serves_past}
 
 -- where a database stands doesn't hang on what happened before

@@ -6,20 +6,20 @@ use Rattle.meaning.specs.Statement.{IsStatementOf}
 use Rattle.meaning.specs.Whole.{Relations}
 use Rattle.store.specs.Content.{Content}
 use Rattle.protocol.specs.Client.{IsQuiet, IsReached, first, next}
-use Rattle.protocol.specs.Course.{InStatement, RoomOr, passes, passes_to}
+use Rattle.protocol.specs.StatementCourse.{InStatement, RoomOr, passes, passes_to}
 use Rattle.std.specs.List.{list_any}
 use Rattle.meaning.specs.declared.answer.Answer.{Answer as AnswerNow}
 use Rattle.desk.specs.declared.reply.Reply.{Reply}
 use Rattle.desk.specs.declared.reply.Reply.TheVariants.{Answer}
 use Rattle.protocol.specs.Desk.{Aborted, Answered, Ask, Stated, Worked, Choice, Deed, Give_up, Given_up, Known, Row, State, Txn, Unknown, desk_after, is_desk_within, on_desk_letter, on_request}
 use Rattle.protocol.specs.Language.{IsLawful, Lang, Name}
-use Rattle.protocol.specs.Leaving.{Doomed, EndKept, Ending, Failing, Loose, Within, doomed, has_ended}
+use Rattle.protocol.specs.AfterAbort.{Doomed, EndKept, Ending, Failing, Loose, Within, doomed, has_ended}
 use Rattle.protocol.specs.Letter.{Body, Letter, Open, Fetch, Write, Prepare, Commit, Abort, Ticket, Rows, Refused, Voted, Ack, Inquire, is_for_desk}
 use Rattle.protocol.specs.Rounds.{is_reading}
 use Rattle.protocol.specs.Serial.{AllExplained}
 use Rattle.protocol.specs.Site.{SiteState, Status, is_within, on_letter, said, site_after}
-use Rattle.protocol.specs.Smooth.{InCourse, IsHoused, Ready, SmoothLaw}
-use Rattle.protocol.specs.Spots.{Flow, Spot, asked, at, away, offered, works}
+use Rattle.protocol.specs.WithoutRefusal.{InCourse, IsHoused, Ready, SmoothLaw}
+use Rattle.protocol.specs.VisitPlaces.{Flow, VisitPlace, asked, at, away, offered, works}
 use Rattle.protocol.specs.World.{World, addressed, called, comes_to, site_steps, turns}
 use Rattle.protocol.proofs.Basics.{Every, by_test, clash}
 use Rattle.protocol.proofs.Ended.{ending_goes_on, ending_quiet, in_front}
@@ -29,16 +29,16 @@ use Rattle.protocol.proofs.Limits.{called_within, next_within}
 use Rattle.protocol.proofs.Locks.{Once}
 use Rattle.protocol.proofs.Loose.{give_up_ends, loose_lost, statement_loose}
 use Rattle.protocol.proofs.Overflow.{went_on}
-use Rattle.protocol.proofs.Reached.{reached_law}
-use Rattle.protocol.proofs.Smooth.{smooth_law}
+use Rattle.protocol.proofs.ForgottenLetters.{reached_law}
+use Rattle.protocol.proofs.WithoutRefusal.{smooth_law}
 use Rattle.desk.specs.declared.reply.Notice.{Notice}
 use Rattle.desk.specs.Database.{Database, language, sent}
 use Rattle.desk.specs.State.{desk_of, notice_of}
-use Rattle.world.specs.Coming.{Coming, Passed_over, Taken, Turned_away, all_come, come, first_comes}
-use Rattle.world.specs.Delivering.{Serves, To_do}
+use Rattle.world.specs.Delivery.{Coming, Passed_over, Taken, Turned_away, all_come, come, first_comes}
+use Rattle.world.specs.Mailbox.{Serves, To_do}
 use Rattle.world.specs.Machines.{Machines, world_of}
 use Rattle.world.specs.Reasons.{AllFounded, FirstIsFounded, IsFounded}
-use Rattle.world.specs.Serving.{IsServed, is_end, tells}
+use Rattle.world.specs.Client.{IsServed, is_end, tells}
 use Rattle.world.specs.Smoothly.{FindsNoRoom, rests}
 use Rattle.world.proofs.CallsKept.{FetchKept, fetch_kept}
 use Rattle.world.proofs.Sited.{Sited, called_sited, come_sited, first_is_sited, not_passed, steady_sited}
@@ -46,7 +46,7 @@ use Rattle.world.proofs.NoWrites.{NoWrites, bare, comes_bare, is_write, reads_on
 use Rattle.world.proofs.Quieting.{ended_gives_up, ending_lost, kept_end_of, lost_within, turned_no_end}
 use Rattle.world.proofs.Reaching.{all_explained, all_reached}
 use Rattle.world.proofs.EndsTold.{Told, all_told, end_heard, ends_it, state_told}
-use Rattle.world.proofs.Obeying.{tells_by}
+use Rattle.world.proofs.Executed.{tells_by}
 use Rattle.world.proofs.Smoothly.{all_here, asked_here, fit_within, heard_of, room_or_full, same_behind}
 
 module _ {L : Lang} where
@@ -77,7 +77,7 @@ module _ {L : Lang} where
   head_or c [] = c
   head_or c (b ∷ bs) = b
 
-  spot_front : (f : Name → Status L) (b : Bool) (tk : Option Name) (n : ℕ) (c : Body L) (bs : List (Body L)) → Spot f b tk n (c ∷ bs) → OfStatement c
+  spot_front : (f : Name → Status L) (b : Bool) (tk : Option Name) (n : ℕ) (c : Body L) (bs : List (Body L)) → VisitPlace f b tk n (c ∷ bs) → OfStatement c
   spot_front f b tk n c bs (away s) = let e : c ∷ bs ≡ [] = s.silent in cc
   spot_front f b tk n c bs (asked s) = subst OfStatement (sym (ap (head_or c) s.waits)) tt
   spot_front f b tk n c bs (offered k s) = subst OfStatement (sym (ap (head_or c) s.waits)) tt
@@ -135,7 +135,7 @@ module _ {L : Lang} where
 
   -- a write for which there is no excuse to ask
   room_anyhow : (s : SiteState L) (b : Body L) → RoomOr (Unit {0}) s b
-  room_anyhow s (Write k n g x) = λ v alive. inr tt
+  room_anyhow s (Write k n g x) = λ v active. inr tt
   room_anyhow s Open = tt
   room_anyhow s (Fetch k n g q) = tt
   room_anyhow s (Prepare k n) = tt
@@ -199,7 +199,7 @@ module _ (db : Database) where
       -- the transaction is given up
       gives_up : Loose t before w → (choice : Choice D) → IsFounded db w (Turned_away choice) l → Stand (called (record w { letters = q }) l.txn choice Give_up)
       gives_up loose choice founded =
-          let lost = loose_lost law t before w l q e (turned_no_end db w l choice founded) loose in
+          let lost = loose_lost law t before w l q e (turned_no_end db w l choice within founded) loose in
           has_left (w.past ++ Aborted t Given_up ∷ []) (subst (λ (j : Name). Ending (w.past ++ Aborted t Given_up ∷ []) (called (record w { letters = q }) j choice Give_up)) (sym (subst (Every (λ (x : Letter D). x.txn ≡ t)) e loose.alone).0)
           (give_up_ends law once t before (record w { letters = q }) choice lost (lost_within db law once w q within)))
 
@@ -212,7 +212,7 @@ module _ (db : Database) where
       -- a letter comes in the course of a statement
       module _ (here : InCourse D fits t s before w) (none : is_reading (w.desk.txn t) ≡ true → NoWrites w.letters) (kept : Bool) (choice : Choice D) (keeps : FetchKept kept l.body) (goes : passes w kept choice l ≡ true) (reached : IsReached whole (next w kept choice)) where
         of : OfStatement l.body
-        of = spot_front _ _ _ _ l.body (at l.site q) (subst (Spot (w.sites l.site).status (here.course.u.visited l.site) (here.course.u.ticket l.site) (here.course.u.sent l.site)) (ap (at l.site) e ∙ in_front law l q) (here.course.stands.spots l.site))
+        of = spot_front _ _ _ _ l.body (at l.site q) (subst (VisitPlace (w.sites l.site).status (here.course.u.visited l.site) (here.course.u.ticket l.site) (here.course.u.sent l.site)) (ap (at l.site) e ∙ in_front law l q) (here.course.stands.spots l.site))
 
         own : l.txn ≡ t
         own = (subst (Every (λ (x : Letter D). x.txn ≡ t)) e here.course.stands.alone).0
@@ -260,29 +260,19 @@ module _ (db : Database) where
           let same_bare : next w kept choice ≡ next w kept (bare D choice) = ap (first w kept choice) e ∙ comes_bare (is_for_desk l.body) (record w { letters = q }) kept choice l (ap (λ (j : Name). is_reading (w.desk.txn j)) own ∙ idle) ∙ sym (ap (first w kept (bare D choice)) e) in
           subst Stand (sym same_bare) (of_failing (next w kept (bare D choice)) (idle_on kept (bare D choice) own idle) (failing_goes_on law once t before w l q e within kept (bare D choice) end (λ g there. absurd there) (doomed d)))
 
-    -- passes, as the world has it: what waits and what happened doesn't matter
-    same_passes : (b : Bool) (w : World D) (kept : Bool) (choice : Choice D) (l : Letter D) → passes_to b w kept choice l ≡ passes_to b (record w { letters = []; past = [] }) kept choice l
-    same_passes true w kept choice l = refl
-    same_passes false w kept choice l = refl
-
-    passes_here : (w : World D) (kept : Bool) (choice : Choice D) (l : Letter D) → IsFounded db w (Taken kept choice) l → passes w kept choice l ≡ true
-    passes_here w kept choice l founded =
-        let there : passes (record w { letters = []; past = [] }) kept choice l ≡ passes (world_of db founded.machines [] []) kept choice (sent db founded.letter) = λ i. passes (record { desk = founded.desk i; sites = founded.sites i; letters = []; past = [] }) kept choice (founded.is i) in
-        same_passes (is_for_desk l.body) w kept choice l ∙ there ∙ founded.reason.0
-
     fetch_kept_of : (w : World D) (kept : Bool) (choice : Choice D) (l : Letter D) → IsFounded db w (Taken kept choice) l → FetchKept kept l.body
-    fetch_kept_of w kept choice l founded = subst (λ (x : Letter D). FetchKept kept x.body) (sym founded.is) (fetch_kept kept (sent db founded.letter).body founded.reason.1)
+    fetch_kept_of w kept choice l founded = fetch_kept kept l.body founded.1
 
     -- whatever becomes of a letter
     taken_on : (w : World D) (l : Letter D) (q : List (Letter D)) (e : w.letters ≡ l ∷ q) (within : Within w) (kept : Bool) (choice : Choice D) → IsFounded db w (Taken kept choice) l → IsReached whole (next w kept choice) → Stand w → Stand (next w kept choice)
-    taken_on w l q e within kept choice founded reached (in_course here none) = came_on w l q e within here none kept choice (fetch_kept_of w kept choice l founded) (passes_here w kept choice l founded) reached
+    taken_on w l q e within kept choice founded reached (in_course here none) = came_on w l q e within here none kept choice (fetch_kept_of w kept choice l founded) founded.0 reached
     taken_on w l q e within kept choice founded reached (is_doomed d idle) = doomed_on w l q e within d idle kept choice (kept_end_of db law once w kept choice l founded)
     taken_on w l q e within kept choice founded reached (has_left deeds ending) = has_left deeds (ending_goes_on law deeds w l q e ending law.touches_none within kept choice (kept_end_of db law once w kept choice l founded))
 
     turned_on : (w : World D) (l : Letter D) (q : List (Letter D)) (e : w.letters ≡ l ∷ q) (within : Within w) (choice : Choice D) → IsFounded db w (Turned_away choice) l → Stand w → Stand (called (record w { letters = q }) l.txn choice Give_up)
     turned_on w l q e within choice founded (in_course here none) = gives_up w l q e within (statement_loose t s before w here.course) choice founded
     turned_on w l q e within choice founded (is_doomed d idle) = gives_up w l q e within d.loose choice founded
-    turned_on w l q e within choice founded (has_left deeds ending) = has_left deeds (ended_gives_up l.txn (record w { letters = q }) choice deeds (ending_lost db law once deeds w l q e (turned_no_end db w l choice founded) ending))
+    turned_on w l q e within choice founded (has_left deeds ending) = has_left deeds (ended_gives_up l.txn (record w { letters = q }) choice deeds (ending_lost db law once deeds w l q e (turned_no_end db w l choice within founded) ending))
 
     one_stands : (w : World D) (c : Coming D) (letters : List (Letter D)) → w.letters ≡ letters → Within w → Sited w → FirstIsFounded db w c letters → IsReached whole (first_comes w c letters) → Stand w → Within (first_comes w c letters) × Stand (first_comes w c letters)
     one_stands w c [] e within sited founded reached here = (within, here)
@@ -323,7 +313,7 @@ module _ (db : Database) where
       let tells_end : IsQuiet (rests db after (past ++ serves.deeds)) → tells is_end heard ≡ true = λ quiet. ⊎_elim (λ undecided. clash undecided (quiet.decided txn))
       (λ ended. tells_by is_end heard ∙ ap (list_any (λ (x : Name × Reply). is_end x.1)) serves.replies ∙ end_heard db serves.deeds (subst (λ (deeds : List (Deed D)). list_any ends_it deeds ≡ true) (sym (same_behind past serves.deeds ends.more ends.is)) ended)) ends.says in
       let sited = called_sited here txn choice (State statement) (steady_sited txn here ready.steady) in
-      let stand = all_stand fits law once housed whole txn statement past serves.comings start within sited (serves.founded past) reached explained begins in
+      let stand = all_stand fits law once housed whole txn statement past serves.comings start within sited (serves.founded tt past) reached explained begins in
       ⊎_elim
       (λ answered. inl (answered.0, (answered.1.1.0, heard_of db fits law once housed whole before after past heard served ask serves _ answered.1.2)))
       (λ quiet. inr (quiet, tells_end quiet))

@@ -11,14 +11,14 @@ use Rattle.site.specs.declared.fault.SiteFault as site_faults
 use Rattle.site.specs.declared.fault.SiteFault.TheVariants as site_fault
 use Rattle.desk.specs.declared.refusal.Refusal.{Refusal}
 use Rattle.desk.specs.declared.refusal.Refusal.TheVariants.{Aborted, Busy, Ended, Full, Memory, NoTransaction, Read, Store}
-use Rattle.desk.specs.Calls.{refused_as}
+use Rattle.desk.specs.Request.{refused_as}
 use Rattle.desk.specs.Does.{IsUnread}
 use Rattle.desk.specs.declared.reply.Notice.{Notice}
 use Rattle.world.specs.declared.fault.Fault.TheVariants as fault
 use Rattle.world.specs.declared.transaction.Came.{Came}
 use Rattle.world.specs.declared.transaction.Came.TheVariants.{Heard, Refused}
 use Rattle.world.specs.Counted.{HaveRefused, NoFewer}
-use Rattle.world.specs.Denying.{IsUnreadable}
+use Rattle.world.specs.Denials.{IsUnreadable}
 use Rattle.world.specs.Stopping.{StopsFor, is_stop}
 use Rattle.world.specs.Taking.{stop_of}
 use Rattle.world.proofs.Counting.{refused_before, refused_since}

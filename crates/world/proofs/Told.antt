@@ -8,7 +8,7 @@ use Rattle.reader.specs.declared.command.Command.TheVariants as command
 use Rattle.reader.specs.Command.{IsTextOf}
 use Rattle.store.specs.declared.letter.Letter as letters
 use Rattle.store.specs.declared.name.Txn as names
-use Rattle.protocol.specs.Desk.{Choice, Commit_call, Deed, Give_up, Rollback, State, Turn, desk_after, desk_began, desk_restarted, is_desk_within, next_txn, on_desk_letter, Began}
+use Rattle.protocol.specs.Desk.{Choice, Commit_call, Deed, Give_up, Rollback, State, Transition, desk_after, desk_began, desk_restarted, is_desk_within, next_txn, on_desk_letter, Began}
 use Rattle.protocol.specs.Language.{Lang, Name}
 use Rattle.protocol.specs.Letter.{Letter, is_for_desk}
 use Rattle.protocol.specs.Letters.{txn_name}
@@ -18,15 +18,15 @@ use Rattle.protocol.specs.World as world
 use Rattle.protocol.specs.World.{World, addressed, begins, begun, called, comes, comes_to, desk_lives, desk_restarts, gives_up, inquires, restarts, site_steps, turned, turns, with_site}
 use Rattle.protocol.proofs.Basics.{either}
 use Rattle.desk.specs.declared.reply.Notice.{Notice}
-use Rattle.desk.specs.Calls.{txn_in}
+use Rattle.desk.specs.Request.{txn_in}
 use Rattle.desk.specs.Database.{Database, language}
 use Rattle.desk.specs.State.{notice_of}
-use Rattle.desk.specs.Turn.{told}
+use Rattle.desk.specs.Transition.{told}
 use Rattle.world.specs.declared.event.Entry.{Entry}
 use Rattle.world.specs.declared.event.Event as events
 use Rattle.world.specs.Events.{AreEvents}
 use Rattle.world.specs.Machines.{Asked, Leads, Machines, world_of}
-use Rattle.world.specs.Telling.{AreStated, Shows, Tells, notices_in, phased_by, phased_in, stated_by, stated_of, text_by, texts_in}
+use Rattle.world.specs.Replies.{AreStated, Shows, Tells, notices_in, phased_by, phased_in, stated_by, stated_of, text_by, texts_in}
 use Rattle.world.proofs.Shown.{IsSilent, came_silent, commit_shows, give_up_silent, restarted_silent, rollback_silent, state_shows}
 
 -- ---- an entry more
@@ -60,7 +60,7 @@ tells_more db entries entry past deeds so shows heard = record {
 
 -- ---- which steps of the world show nothing
 module _ {L : Lang} where
-  turn_silent : (w : World L) (t : Name) (turn : Turn L) → w.past ≡ [] → IsSilent turn.deeds → IsSilent (turns w t turn).past
+  turn_silent : (w : World L) (t : Name) (turn : Transition L) → w.past ≡ [] → IsSilent turn.deeds → IsSilent (turns w t turn).past
   turn_silent w t turn none silent = either (λ (v : World L). IsSilent v.past) (is_desk_within (desk_after w.desk t turn.txn)) (turned w t turn) w (subst (λ past. IsSilent (past ++ turn.deeds)) (sym none) silent) (subst IsSilent (sym none) (refl, refl))
 
   site_silent : (w : World L) (a : L.Site) (s : SiteState L) (out : List (Letter L)) → w.past ≡ [] → IsSilent (site_steps w a s out).past

@@ -16,11 +16,11 @@ use Rattle.store.specs.SiteContent.{IsUnchanged, SiteContent, is_ticket, row_of}
 use Rattle.site.specs.declared.fault.SiteFault.{SiteFault}
 use Rattle.site.specs.declared.fault.SiteFault.TheVariants as site_faults
 use Rattle.site.specs.Locks.{free}
-use Rattle.site.specs.Starting.{IsStrange, all_may_stand}
+use Rattle.site.specs.Recovery.{IsStrange, all_may_stand}
 use Rattle.desk.specs.declared.refusal.Refusal.{Refusal}
 use Rattle.desk.specs.declared.refusal.Refusal.TheVariants as refusals
-use Rattle.desk.specs.Starting as desk_starting
-use Rattle.desk.specs.Starting.{are_begun}
+use Rattle.desk.specs.Recovery as desk_starting
+use Rattle.desk.specs.Recovery.{are_begun}
 
 -- nothing was refused, so a count that stays at 0 counts no refusal
 never_refused : HasRefused 0 0 → ⊥

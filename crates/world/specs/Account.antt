@@ -11,11 +11,11 @@ use Rattle.world.specs.declared.event.Call.TheVariants as call
 use Rattle.world.specs.declared.event.Entry.{Entry}
 use Rattle.world.specs.declared.event.Event.TheVariants as event
 use Rattle.world.specs.Deeds.{deeds_in_vain, deeds_of}
-use Rattle.world.specs.Denying.{CommitIsDenied, Declines, LoneIsDenied, IsTakenBack, RunIsDenied, commit_stops, declines_all, declines_begin, declines_commit, declines_inside, declines_lone, declines_outside, declines_rollback, declines_statement, declines_text, has_begun_but, has_not_begun, is_left, is_not_committed, is_not_decided, is_not_stated, is_rolled_back, run_stops}
+use Rattle.world.specs.Denials.{CommitIsDenied, Declines, LoneIsDenied, IsTakenBack, RunIsDenied, commit_stops, declines_all, declines_begin, declines_commit, declines_inside, declines_lone, declines_outside, declines_rollback, declines_statement, declines_text, has_begun_but, has_not_begun, is_left, is_not_committed, is_not_decided, is_not_stated, is_rolled_back, run_stops}
 use Rattle.world.specs.Machines.{Machines}
 use Rattle.world.specs.Runs.{IsSerialRun}
-use Rattle.world.specs.Serving.{DoesAlone, DoesDecide, Executes, IsServed, did_begin, did_commit, did_decide, did_roll_back, did_run, did_state, had_ended}
-use Rattle.world.specs.Telling.{Tells}
+use Rattle.world.specs.Client.{DoesAlone, DoesDecide, Executes, IsServed, did_begin, did_commit, did_decide, did_roll_back, did_run, did_state, had_ended}
+use Rattle.world.specs.Replies.{Tells}
 
 -- a call of a client, and all that it heard once the letters had come that it brought about
 abbrev pub said : calls.Call → List Notice → Entry
@@ -78,3 +78,17 @@ pub record AccountFollows (db : Database) : Type 0 where
   pub refused : (text : List ℕ) (current : Option Txn) (before after : Machines) (told : Refusal) (entries : List Entry) (past : List (Deed (language db))) → Tells db entries past →
       (declines : Declines db text current before after told) → Tells db (entries ++ said_in_vain db text current before after told declines) (past ++ deeds_in_vain db text current before after told declines)
   pub serial : (whole : Relations) (machines : Machines) (entries : List Entry) (past : List (Deed (language db))) → Tells db entries past → IsServed db whole machines past → IsSerialRun db whole machines entries
+
+-- A command was executed, and what was heard is right: with all that was asked for and heard before, the committed transactions, one after another over the whole relations, give the answers that were heard and what the settled fragments rebuild. entries, past: what was asked for and heard, and what had happened, before it
+pub record IsHeardRightly (db : Database) (whole : Relations) (text : List ℕ) (current : Option Txn) (before : Machines) (later : Option Txn) (after : Machines) (entries : List Entry) (past : List (Deed (language db))) (heard : List Notice) : Type 0 where
+  pub executes : Executes db text current before later after heard
+  pub served : IsServed db whole after (past ++ deeds_of db text current before later after heard executes)
+  pub tells : Tells db (entries ++ said_of db text current before later after heard executes) (past ++ deeds_of db text current before later after heard executes)
+  pub serial : IsSerialRun db whole after (entries ++ said_of db text current before later after heard executes)
+
+-- so where a command was refused that stopped nothing
+pub record IsRefusedRightly (db : Database) (whole : Relations) (text : List ℕ) (current : Option Txn) (before after : Machines) (entries : List Entry) (past : List (Deed (language db))) (told : Refusal) : Type 0 where
+  pub declines : Declines db text current before after told
+  pub served : IsServed db whole after (past ++ deeds_in_vain db text current before after told declines)
+  pub tells : Tells db (entries ++ said_in_vain db text current before after told declines) (past ++ deeds_in_vain db text current before after told declines)
+  pub serial : IsSerialRun db whole after (entries ++ said_in_vain db text current before after told declines)

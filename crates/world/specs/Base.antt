@@ -17,7 +17,7 @@ use Rattle.answers.specs.Writes.{writes_between}
 use Rattle.store.specs.Content.{Content}
 use Rattle.desk.specs.Database.{Database}
 use Rattle.desk.specs.OfCatalogue.{IsOfCatalogue}
-use Rattle.desk.specs.Standing.{at_leaf}
+use Rattle.desk.specs.Transaction.{at_leaf}
 use Rattle.world.specs.Filling.{stored_in}
 
 -- the leaf of a name

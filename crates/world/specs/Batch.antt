@@ -17,10 +17,10 @@ use Rattle.world.specs.declared.transaction.Outcome as outcomes
 use Rattle.world.specs.declared.transaction.Outcome.TheVariants.{Ran, Unbegun}
 use Rattle.world.specs.declared.transaction.Transaction.{Transaction}
 use Rattle.world.specs.Account.{said}
-use Rattle.world.specs.Delivering.{IsStill}
+use Rattle.world.specs.Mailbox.{IsStill}
 use Rattle.world.specs.Machines.{Machines}
 use Rattle.world.specs.Refused.{IsRefused}
-use Rattle.world.specs.Serving.{DoesAsk, DoesBegin, DoesState, IsServed, IsServedOn, is_commit, is_end, tells}
+use Rattle.world.specs.Client.{DoesAsk, DoesBegin, DoesState, IsServed, IsServedOn, is_commit, is_end, tells}
 use Rattle.world.specs.Stopping.{is_stop}
 
 -- the calls that ask for the end of a transaction: where a commit is refused it is rolled back

@@ -4,7 +4,7 @@ use Rattle.store.specs.Fault.{HasRefused}
 use Rattle.protocol.specs.Language.{Lang}
 use Rattle.site.specs.declared.site.Site.{Site}
 use Rattle.world.specs.declared.machines.Machines as code
-use Rattle.world.specs.Coming.{Coming, Passed_over, Taken, Turned_away}
+use Rattle.world.specs.Delivery.{Coming, Passed_over, Taken, Turned_away}
 
 -- how often the medium of each site's store has refused
 abbrev pub counts_of : {S : Type 0} → (S → ℕ) → List (Site S) → List ℕ

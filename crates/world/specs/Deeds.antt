@@ -7,9 +7,9 @@ use Rattle.protocol.specs.Serial.{committed}
 use Rattle.desk.specs.declared.refusal.Refusal.{Refusal}
 use Rattle.desk.specs.declared.reply.Notice.{Notice}
 use Rattle.desk.specs.Database.{Database, language}
-use Rattle.world.specs.Denying.{CommitIsDenied, Declines, LoneIsDenied, IsTakenBack, RunIsDenied, commit_stops, declines_all, declines_begin, declines_commit, declines_inside, declines_lone, declines_outside, declines_rollback, declines_statement, declines_text, has_begun_but, has_not_begun, is_left, is_not_committed, is_not_decided, is_not_stated, is_rolled_back, run_stops}
+use Rattle.world.specs.Denials.{CommitIsDenied, Declines, LoneIsDenied, IsTakenBack, RunIsDenied, commit_stops, declines_all, declines_begin, declines_commit, declines_inside, declines_lone, declines_outside, declines_rollback, declines_statement, declines_text, has_begun_but, has_not_begun, is_left, is_not_committed, is_not_decided, is_not_stated, is_rolled_back, run_stops}
 use Rattle.world.specs.Machines.{Machines}
-use Rattle.world.specs.Serving.{DoesAlone, DoesDecide, Executes, IsServed, did_begin, did_commit, did_decide, did_roll_back, did_run, did_state, had_ended}
+use Rattle.world.specs.Client.{DoesAlone, DoesDecide, Executes, IsServed, did_begin, did_commit, did_decide, did_roll_back, did_run, did_state, had_ended}
 use Rattle.world.specs.Stopping.{is_stop}
 
 module _ (db : Database) where

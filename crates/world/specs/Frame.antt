@@ -13,9 +13,9 @@ use Rattle.world.specs.declared.machines.Machines as code
 use Rattle.site.specs.declared.site.Site.{Site}
 use Rattle.desk.specs.declared.refusal.Refusal.{Refusal}
 use Rattle.world.specs.Counted.{NoFewer, counts, counts_of}
-use Rattle.world.specs.Held.{OfStores, counted}
+use Rattle.world.specs.Contents.{OfStores, counted}
 use Rattle.world.specs.Machines.{AreFit, Machines}
-use Rattle.world.specs.Serving.{IsServed, IsServedOn}
+use Rattle.world.specs.Client.{IsServed, IsServedOn}
 use Rattle.world.specs.Stopping.{StopsFor}
 
 -- what a call leaves of the machines, whatever it answers: stores that are clean now were clean, sound ones stay sound, no refusal is

@@ -1,7 +1,10 @@
 -- The machines of a database together, as the protocol's world.
 use Rattle.std.specs.Prelude.{◌≡◌, ℕ, nat_eq, Bool, true, false, List, [], ◌++◌, map, None}
 use Rattle.std.specs.Cmp.Lexicographic.{pointwise}
-use Rattle.std.specs.List.{filter_map, list_any}
+use Rattle.std.specs.List.{AllByRecursion, filter_map, list_any}
+use Rattle.std.specs.Ordering.{is_eq}
+use Rattle.terms.specs.declared.leaf.Leaf.{Leaf}
+use Rattle.terms.specs.Leaf.{leaf_cmp}
 use Rattle.meaning.specs.declared.statement.Statement.{Statement}
 use Rattle.meaning.specs.Statement.{IsStatementOf}
 use Rattle.reader.specs.declared.command.Command.TheVariants as command
@@ -11,26 +14,26 @@ use Rattle.store.specs.declared.letter.Body.TheVariants as body
 use Rattle.store.specs.declared.letter.Letter as letters
 use Rattle.store.specs.declared.name.Txn.{Txn}
 use Rattle.store.specs.DeskContent.{DeskContent}
-use Rattle.protocol.specs.Course.{passes}
+use Rattle.protocol.specs.StatementCourse.{passes}
 use Rattle.protocol.specs.Desk.{Choice, Deed, Request, State, desk_after, is_desk_within, on_request, refusal}
 use Rattle.protocol.specs.Letter.{Letter}
 use Rattle.protocol.specs.Serial.{AllExplained}
 use Rattle.protocol.specs.Letters.{name_of, txn_name}
 use Rattle.protocol.specs.World.{World, called, comes, gives_up, inquires, restarts}
 use Rattle.desk.specs.declared.reply.Notice.{Notice}
-use Rattle.desk.specs.Calls.{txn_in}
+use Rattle.desk.specs.Request.{txn_in}
 use Rattle.desk.specs.Database.{Database, language, sent, statements}
-use Rattle.desk.specs.State.{Fits, Table, desk_of, notice_of}
-use Rattle.desk.specs.Turn.{told}
-use Rattle.world.specs.declared.doing.Doing as doing
-use Rattle.world.specs.declared.doing.Doing.TheVariants.{GiveUp, Inquire, Restart, Take}
-use Rattle.world.specs.Seats.{AreSeated, Seat, states_of}
+use Rattle.desk.specs.State.{Fits, VolatileState, desk_of, notice_of}
+use Rattle.desk.specs.Transition.{told}
+use Rattle.world.specs.declared.sites.SiteAction as doing
+use Rattle.world.specs.declared.sites.SiteAction.TheVariants.{GiveUp, Inquire, Restart, Take}
+use Rattle.world.specs.Sites.{AreSeated, Seat, states_of}
 
 -- the coordinator, by what its store keeps and what it has in memory, and the sites. refused: how often the medium of each store has
 -- refused, the coordinator's first; none where that isn't counted
 pub record Machines : Type 0 where
   pub desk : DeskContent
-  pub table : Table
+  pub table : VolatileState
   pub seats : List Seat
   pub refused : List ℕ
 
@@ -38,9 +41,14 @@ pub record Machines : Type 0 where
 abbrev pub world_of : (db : Database) → Machines → List (Letter (language db)) → List (Deed (language db)) → World (language db)
 world_of db machines letters past = record { desk = desk_of db machines.table; sites = states_of (statements db) machines.seats; letters = letters; past = past }
 
--- what is in memory fits what the stores keep, and the sites are those of the database
+-- a site has each leaf that is at home there
+abbrev pub HasItsLeaves : Database → Seat → Type 0
+HasItsLeaves db seat = (leaf : Leaf) → db.home leaf ≡ seat.name → list_any (λ other. is_eq (leaf_cmp leaf other)) seat.leaves ≡ true
+
+-- what is in memory fits what the stores keep, and the sites are those of the database, each with its leaves
 pub record AreFit (db : Database) (machines : Machines) : Type 0 where
   pub names : map (λ seat. seat.name) machines.seats ≡ db.sites
+  pub leaves : AllByRecursion (HasItsLeaves db) machines.seats
   pub desk : Fits db machines.desk machines.table
   pub within : is_desk_within (desk_of db machines.table) ≡ true
   pub sites : AreSeated machines.seats
@@ -51,21 +59,21 @@ is_order (body.Order order) = true
 is_order (body.Reply reply) = false
 
 -- whether it can be done at a site: a letter that comes there is an order
-abbrev pub is_for_site : doing.Doing → Bool
+abbrev pub is_for_site : doing.SiteAction → Bool
 is_for_site (Take letter) = is_order letter.body
 is_for_site (GiveUp site ticket) = true
 is_for_site (Inquire site) = true
 is_for_site (Restart site) = true
 
 -- whether a letter comes
-abbrev pub is_letter : doing.Doing → Bool
+abbrev pub is_letter : doing.SiteAction → Bool
 is_letter (Take letter) = true
 is_letter (GiveUp site ticket) = false
 is_letter (Inquire site) = false
 is_letter (Restart site) = false
 
 -- what is done at a site, as a step of the world; kept: whether the store call that it makes is kept
-abbrev pub happens_at : (db : Database) → doing.Doing → Bool → Choice (language db) → World (language db) → World (language db)
+abbrev pub happens_at : (db : Database) → doing.SiteAction → Bool → Choice (language db) → World (language db) → World (language db)
 happens_at db (Take letter) kept choice w = comes w kept choice (sent db letter)
 happens_at db (GiveUp site ticket) kept choice w = gives_up w site (name_of ticket)
 happens_at db (Inquire site) kept choice w = inquires w site

@@ -6,20 +6,20 @@ use Rattle.store.specs.declared.letter.Letter.{Letter}
 use Rattle.store.specs.DeskContent.{DeskContent}
 use Rattle.site.specs.declared.fault.SiteFault as site_faults
 use Rattle.site.specs.declared.fault.SiteFault.TheVariants as site_fault
-use Rattle.site.specs.Starting as site
+use Rattle.site.specs.Recovery as site
 use Rattle.meaning.specs.declared.statement.Statement.{Statement}
 use Rattle.catalog.specs.FragmentLeaf.{schemas_of}
 use Rattle.protocol.specs.Desk.{Commit_call, Rollback, State, desk_began, is_desk_within, refusal}
 use Rattle.desk.specs.declared.refusal.Refusal as refusals
 use Rattle.desk.specs.declared.refusal.Refusal.TheVariants as refusal_of
 use Rattle.desk.specs.declared.refusal.Refusal.TheVariants.{Full}
-use Rattle.desk.specs.Calls.{refused_as, txn_in}
+use Rattle.desk.specs.Request.{refused_as, txn_in}
 use Rattle.desk.specs.Database.{Database}
 use Rattle.desk.specs.Does.{IsUnread, StatesPastLimits}
-use Rattle.desk.specs.Starting as desk
-use Rattle.desk.specs.State.{Table, desk_of}
-use Rattle.world.specs.declared.doing.Doing as doing
-use Rattle.world.specs.declared.doing.Doing.TheVariants as things
+use Rattle.desk.specs.Recovery as desk
+use Rattle.desk.specs.State.{VolatileState, desk_of}
+use Rattle.world.specs.declared.sites.SiteAction as doing
+use Rattle.world.specs.declared.sites.SiteAction.TheVariants as things
 use Rattle.world.specs.declared.event.Call as calls
 use Rattle.world.specs.declared.event.Call.TheVariants as call
 use Rattle.world.specs.declared.event.Entry.{Entry}
@@ -32,12 +32,12 @@ use Rattle.world.specs.Events.{is_unsent}
 use Rattle.world.specs.Machines.{Machines}
 use Rattle.world.specs.Posted.{letters_in}
 use Rattle.world.specs.Reasons.{Tells}
-use Rattle.world.specs.Seats.{Seat, seat_of}
+use Rattle.world.specs.Sites.{Seat, seat_of}
 use Rattle.world.specs.Stopping.{StopsFor}
 use Rattle.world.specs.Taking.{stop_of}
 
 -- want of memory aside: as the protocol refuses it of this coordinator, the limits on beginnings among that, or a statement's text is read as no statement's, or leads past a limit
-abbrev pub IsRefused : (db : Database) → Table → calls.Call → refusals.Refusal → Type 0
+abbrev pub IsRefused : (db : Database) → VolatileState → calls.Call → refusals.Refusal → Type 0
 IsRefused db table call.Begin told = (told ≡ Full) × (is_desk_within (desk_began (desk_of db table)) ≡ false)
 IsRefused db table (call.State txn text) told = (statement : Statement) → (option_map refused_as (refusal (State statement) (txn_in db table txn)) ≡ Some told) ⊎
     ((refusal (State statement) (txn_in db table txn) ≡ None) × (IsUnread (schemas_of db.catalogue) text told ⊎ ((told ≡ Full) × StatesPastLimits db table txn text)))
@@ -46,7 +46,7 @@ IsRefused db table (call.Rollback txn) told = option_map refused_as (refusal Rol
 IsRefused db table (call.GiveUp txn) told = ⊥
 
 -- so, as a world tells it
-abbrev pub IsToldOf : (db : Database) → Table → calls.Call → faults.Fault → Type 0
+abbrev pub IsToldOf : (db : Database) → VolatileState → calls.Call → faults.Fault → Type 0
 IsToldOf db table asked told = (refused : refusals.Refusal) × ((told ≡ fault.Desk refused) × IsRefused db table asked refused)
 
 -- Why a site doesn't restart: memory ran out, its store refused or wasn't to be called (kept is false), its last life has begun, or the rows that
@@ -60,7 +60,7 @@ SiteRestartTells Sound Refused kept seat site_fault.Full = Sound → 2 ^ 63 ≤ 
 SiteRestartTells Sound Refused kept seat site_fault.Stranger = ⊥
 
 -- why something isn't done at a site: giving up a visit never fails, and inquiries need memory alone; of letters nothing is said here
-abbrev pub PlaceTells : (Sound Refused : Type 0) → doing.Doing → Bool → Seat → site_faults.SiteFault → Type 0
+abbrev pub PlaceTells : (Sound Refused : Type 0) → doing.SiteAction → Bool → Seat → site_faults.SiteFault → Type 0
 PlaceTells Sound Refused (things.Take letter) kept seat told = ⊤
 PlaceTells Sound Refused (things.GiveUp place ticket) kept seat told = ⊥
 PlaceTells Sound Refused (things.Inquire place) kept seat told = told ≡ site_fault.Memory

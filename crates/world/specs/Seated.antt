@@ -6,15 +6,15 @@ use Rattle.store.specs.SiteContent.{SiteContent}
 use Rattle.protocol.specs.Letters.{letter_of, name_of}
 use Rattle.protocol.specs.Site.{inquiries, on_give_up}
 use Rattle.site.specs.declared.site.Site.{Site}
-use Rattle.site.specs.Starting.{Restarts, leaves_in}
-use Rattle.site.specs.State.{Steps, Takes, state_of, table_of}
-use Rattle.world.specs.declared.doing.Doing as doing
-use Rattle.world.specs.declared.doing.Doing.TheVariants.{GiveUp, Inquire, Restart, Take}
-use Rattle.world.specs.Seats.{IsSeated, Moves, Seat}
+use Rattle.site.specs.Recovery.{Restarts, leaves_in}
+use Rattle.site.specs.State.{Steps, Takes, state_of, volatile_of}
+use Rattle.world.specs.declared.sites.SiteAction as doing
+use Rattle.world.specs.declared.sites.SiteAction.TheVariants.{GiveUp, Inquire, Restart, Take}
+use Rattle.world.specs.Sites.{IsSeated, Moves, Seat}
 
 -- a site of the code; content: what its store keeps
 abbrev pub seat_from : {S : Type 0} → (S → SiteContent) → Site S → Seat
-seat_from content site = record { name = site.present.name; leaves = leaves_in site.present.locks.items; kept = content site.store; table = table_of site.present }
+seat_from content site = record { name = site.volatile.name; leaves = leaves_in site.volatile.locks.items; kept = content site.store; table = volatile_of site.volatile }
 
 -- a visit is given up
 abbrev pub GivesUp : Ticket → Seat → Seat → Type 0
@@ -24,28 +24,28 @@ abbrev pub seats_in : {S : Type 0} → (S → SiteContent) → List (Site S) →
 seats_in content sites = map (seat_from content) sites
 
 -- the site at which something is done
-abbrev pub place_of : doing.Doing → List ℕ
+abbrev pub place_of : doing.SiteAction → List ℕ
 place_of (Take letter) = letter.site
 place_of (GiveUp site ticket) = site
 place_of (Inquire site) = site
 place_of (Restart site) = site
 
 -- what a site makes of it: a letter is taken, a visit given up, inquiries are put out, a life begins
-abbrev pub Does : doing.Doing → Seat → Seat → List Letter → Type 0
+abbrev pub Does : doing.SiteAction → Seat → Seat → List Letter → Type 0
 Does (Take letter) before after letters = Takes before.kept before.table after.kept after.table letter letters
 Does (GiveUp site ticket) before after letters = GivesUp ticket before after × (letters ≡ [])
 Does (Inquire site) before after letters = (after ≡ before) × (map letter_of letters ≡ inquiries before.name (state_of before.kept before.table))
 Does (Restart site) before after letters = Restarts before.kept before.table after.kept after.table × (letters ≡ [])
 
 -- something is done at a site
-pub record SeatDoes (what : doing.Doing) (before after : Seat) (letters : List Letter) : Type 0 where
+pub record SeatDoes (what : doing.SiteAction) (before after : Seat) (letters : List Letter) : Type 0 where
   pub name : after.name ≡ before.name
   pub leaves : after.leaves ≡ before.leaves
   pub fits : IsSeated after
   pub does : Does what before after letters
 
 -- something is done at one of the sites
-pub record SomeSeatDoes (what : doing.Doing) (seat : Seat) (before after : List Seat) (letters : List Letter) : Type 0 where
+pub record SomeSeatDoes (what : doing.SiteAction) (seat : Seat) (before after : List Seat) (letters : List Letter) : Type 0 where
   pub new : Seat
   pub moves : Moves (place_of what) seat new before after
   pub does : Does what seat new letters

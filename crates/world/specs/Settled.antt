@@ -19,13 +19,13 @@ use Rattle.protocol.specs.Serial.{committed, serial_whole, settled, statements_o
 use Rattle.site.specs.Settled.{is_among, with_all}
 use Rattle.desk.specs.Database.{Database, language, statements}
 use Rattle.desk.specs.Planned.{site_in}
-use Rattle.desk.specs.State.{Table}
-use Rattle.desk.specs.Voters.{kept_voters}
+use Rattle.desk.specs.State.{VolatileState}
+use Rattle.desk.specs.Acknowledge.{kept_voters}
 use Rattle.world.specs.declared.event.Entry.{Entry}
 use Rattle.world.specs.Machines.{Machines, world_of}
 use Rattle.world.specs.Runs.{AreTexts}
-use Rattle.world.specs.Seats.{Seat, seat_of, states_of}
-use Rattle.world.specs.Telling.{committed_in, texts_of}
+use Rattle.world.specs.Sites.{Seat, seat_of, states_of}
+use Rattle.world.specs.Replies.{committed_in, texts_of}
 
 -- what a site has of a leaf, with the intentions of those prepared rows whose transactions are these
 abbrev pub settled_in : List Txn → Leaf → Seat → Content
@@ -36,7 +36,7 @@ abbrev pub settled_at : List Txn → Leaf → List Seat → List ℕ → Option 
 settled_at decided leaf seats place = option_map (settled_in decided leaf) (seat_of place seats)
 
 -- these are the transactions that have a commit row
-abbrev pub AreDecided : Table → List Txn → Type 0
+abbrev pub AreDecided : VolatileState → List Txn → Type 0
 AreDecided table decided = (txn : Txn) → is_among decided txn ≡ is_some (kept_voters (table.standing txn))
 
 -- the parts that are kept of a leaf at its site, by key; none of a leaf that the catalogue doesn't have

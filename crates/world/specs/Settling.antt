@@ -9,14 +9,14 @@ use Rattle.store.specs.Content.{Content}
 use Rattle.protocol.specs.Client.{IsQuiet}
 use Rattle.protocol.specs.Desk.{Choice, Commit_call, Deed, Rollback, State, desk_after, is_desk_within, on_request}
 use Rattle.protocol.specs.Language.{Name}
-use Rattle.protocol.specs.Smooth.{Ready}
+use Rattle.protocol.specs.WithoutRefusal.{Ready}
 use Rattle.desk.specs.declared.reply.Notice.{Notice}
 use Rattle.desk.specs.declared.reply.Reply.TheVariants.{Answer}
 use Rattle.desk.specs.Database.{Database, language}
 use Rattle.desk.specs.State.{desk_of, notice_of}
-use Rattle.world.specs.Delivering.{Serves, To_do}
+use Rattle.world.specs.Mailbox.{Serves, To_do}
 use Rattle.world.specs.Machines.{Machines}
-use Rattle.world.specs.Serving.{IsServed, is_end, tells}
+use Rattle.world.specs.Client.{IsServed, is_end, tells}
 use Rattle.world.specs.Smoothly.{rests}
 
 -- served machines, call by call, whatever is refused on the way: a statement is answered and its transaction ready for more,

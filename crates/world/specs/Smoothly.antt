@@ -10,18 +10,18 @@ use Rattle.protocol.specs.Client.{IsQuiet}
 use Rattle.protocol.specs.Desk.{Choice, Commit_call, Deed, Rollback, State, desk_after, desk_began, is_desk_within, next_txn, on_request}
 use Rattle.protocol.specs.Language.{Name}
 use Rattle.protocol.specs.Letter.{Body, Letter, Write}
-use Rattle.protocol.specs.Site.{Alive, SiteState, Visit}
-use Rattle.protocol.specs.Smooth.{Ready, Smooth}
+use Rattle.protocol.specs.Site.{Active, SiteState, Visit}
+use Rattle.protocol.specs.WithoutRefusal.{Ready, Smooth}
 use Rattle.protocol.specs.World.{World}
 use Rattle.desk.specs.declared.reply.Notice.{Notice}
 use Rattle.desk.specs.declared.reply.Reply.TheVariants.{Answer, Begun, Committed, RolledBack}
 use Rattle.desk.specs.Database.{Database, language}
 use Rattle.desk.specs.State.{desk_of, notice_of}
 use Rattle.world.specs.Counted.{HaveRefused}
-use Rattle.world.specs.Delivering.{Ask, Coming, Passed_over, Serves, Taken, To_begin, To_do, Turned_away, asked, come}
+use Rattle.world.specs.Mailbox.{Ask, Coming, Passed_over, Serves, Taken, To_begin, To_do, Turned_away, asked, come}
 use Rattle.world.specs.Machines.{Machines, world_of}
 use Rattle.world.specs.Reasons.{IsFounded}
-use Rattle.world.specs.Serving.{IsServed}
+use Rattle.world.specs.Client.{IsServed}
 
 module _ (db : Database) where
   -- a letter is taken smoothly: it isn't let go, its store call is kept, no limit is met, and a write finds room
@@ -51,7 +51,7 @@ module _ (db : Database) where
 module _ (db : Database) where
   -- a write finds no room among the intentions of its visit
   abbrev pub FindsNoRoom : SiteState (language db) → Body (language db) → Type 0
-  FindsNoRoom s (Write ticket op leaf write) = (visit : Visit (language db)) × ((s.status ticket ≡ Alive visit) × ((language db).is_full leaf write visit.changes ≡ true))
+  FindsNoRoom s (Write ticket op leaf write) = (visit : Visit (language db)) × ((s.status ticket ≡ Active visit) × ((language db).is_full leaf write visit.changes ≡ true))
   FindsNoRoom s body = ⊥
 
   -- something is refused: a visit is full, a store call isn't kept, or the letter is turned away, for its reason. None is passed over.

@@ -8,10 +8,10 @@ use Rattle.protocol.specs.Desk.{Deed}
 use Rattle.desk.specs.declared.refusal.Refusal.{Refusal}
 use Rattle.desk.specs.declared.reply.Notice.{Notice}
 use Rattle.desk.specs.Database.{Database, language}
-use Rattle.world.specs.Denying.{Declines}
+use Rattle.world.specs.Denials.{Declines}
 use Rattle.world.specs.Machines.{Machines}
-use Rattle.world.specs.Obeying.{Stands, StandsOn}
-use Rattle.world.specs.Serving.{Executes, IsServed}
+use Rattle.world.specs.Executed.{Stands, StandsOn}
+use Rattle.world.specs.Client.{Executes, IsServed}
 use Rattle.world.specs.Stopping.{is_stop}
 
 -- a database that stands does so again after a command that is executed, whatever was refused on the way, and after one that

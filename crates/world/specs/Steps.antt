@@ -13,10 +13,11 @@ use Rattle.world.specs.declared.fault.Fault.TheVariants as fault
 use Rattle.world.specs.declared.machines.Machines as code
 use Rattle.world.specs.declared.world.World as code_world
 use Rattle.world.specs.Base.{database}
+use Rattle.world.specs.Counted.{HaveRefused}
 use Rattle.world.specs.Events.{is_unsent}
 use Rattle.world.specs.Machines.{Machines}
 use Rattle.world.specs.Refused.{IsRefusedFor}
-use Rattle.world.specs.Runs.{GoesOn, IsRun}
+use Rattle.world.specs.Runs.{GoesOn, IsRun, Spares}
 
 -- the entry or the fault that is answered
 abbrev pub answer_of : Result (Bor Entry) (Bor faults.Fault) → Result Entry faults.Fault
@@ -29,7 +30,8 @@ based world = database (catalogue_of world.machines.desk.catalog)
 
 -- IsClean, IsSound: that no store of the machines failed on its own, and that each is sound; hold: what the machines hold; count: so, with how often the
 -- media have refused. An event that
--- happens has an entry, the last one, which is answered; the run goes on, and the protocol's invariant holds in the world that it leads to. One
+-- happens has an entry, the last one, which is answered; it is accepted, the run goes on by just this event, the caller's flag is honoured, and the
+-- protocol's invariant holds in the world that it leads to. One
 -- that is refused changes nothing: no letter has the number or no site the name, exactly where that is told, or memory ran out, or the coordinator refuses the
 -- call as the protocol does, or the letter's machine is at a limit with it, or a restart is of the last life, or a store refused.
 pub record Steps {D S : Type 0} (IsClean IsSound : code.Machines D S → Type 0) (hold count : code.Machines D S → Machines) (what : events.Event) (answer : Result Entry faults.Fault) (old new : code_world.World D S) : Type 0 where
@@ -38,7 +40,9 @@ pub record Steps {D S : Type 0} (IsClean IsSound : code.Machines D S → Type 0)
   pub catalog : new.machines.desk.catalog ≡ old.machines.desk.catalog
   pub entry : IfOk answer (λ entry. (entry.event ≡ what) × (new.entries.items ≡ old.entries.items ++ entry ∷ []))
   pub goes_on : (whole : Relations) (past : List (Deed (language (based old)))) → IsClean new.machines → IsSound old.machines
-      → IsRun (based old) whole (hold old.machines) old.entries.items past → OnOk answer (GoesOn (based old) whole (hold new.machines) new.entries.items past)
+      → IsRun (based old) whole (hold old.machines) old.entries.items past → OnOk answer (GoesOn (based old) whole (hold old.machines) (hold new.machines) old.entries.items new.entries.items past)
+  pub spared : (whole : Relations) (past : List (Deed (language (based old)))) → IsClean new.machines → IsSound old.machines
+      → IsRun (based old) whole (hold old.machines) old.entries.items past → OnOk answer (Spares (HaveRefused (count old.machines).refused (count new.machines).refused) (based old) (hold old.machines) (hold new.machines) old.entries.items new.entries.items past what)
   pub unsent : answer ≡ Err fault.Unsent → is_unsent old.machines.desk.catalog.0 old.entries.items what ≡ true
   pub nowhere : is_unsent old.machines.desk.catalog.0 old.entries.items what ≡ true → (answer ≡ Err fault.Unsent) ⊎ (answer ≡ Err (fault.Desk refusals.Memory))
   pub refused : (whole : Relations) (past : List (Deed (language (based old)))) → IsRun (based old) whole (hold old.machines) old.entries.items past

@@ -9,10 +9,10 @@ use Rattle.desk.specs.declared.refusal.Refusal.TheVariants as refusals
 use Rattle.desk.specs.declared.reply.Notice.{Notice}
 use Rattle.desk.specs.declared.reply.Out.{Out}
 use Rattle.desk.specs.Database.{Database, language, sent}
-use Rattle.world.specs.declared.delivering.Post.{Post}
+use Rattle.world.specs.declared.mailbox.Post.{Post}
 use Rattle.world.specs.declared.fault.Fault.{Fault}
 use Rattle.world.specs.declared.fault.Fault.TheVariants.{Desk, Site, Unsent}
-use Rattle.world.specs.Delivering.{Coming, Scene, done_with}
+use Rattle.world.specs.Mailbox.{Coming, Scene, done_with}
 use Rattle.world.specs.Counted.{HaveRefused, IsKept, NoFewer}
 use Rattle.world.specs.Machines.{Came, Leads, Machines, world_of}
 use Rattle.world.specs.Reasons.{CallKept, HasReason}

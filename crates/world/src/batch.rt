@@ -15,14 +15,14 @@ ghost use Rattle.world.specs.declared.transaction.Came.TheVariants.{Heard, Refus
 ghost use Rattle.world.specs.Batch.{Makes, MakesMore, RunsAll, RunsOne, StopsAt, calls_of, calls_of_end, has_ended};
 ghost use Rattle.world.specs.Counted.{NoFewer, counts};
 ghost use Rattle.world.specs.Frame.{Blames, LeavesMachines, OverDatabase, StaysServed};
-ghost use Rattle.world.specs.Held.{OfStores, counted};
+ghost use Rattle.world.specs.Contents.{OfStores, counted};
 ghost use Rattle.world.specs.Machines.{AreFit};
-ghost use Rattle.world.specs.Serving.{IsServed, IsServedOn};
+ghost use Rattle.world.specs.Client.{IsServed, IsServedOn};
 ghost use Rattle.world.specs.Stopping.{StopsFor, is_stop};
 
-use crate::alone::{is_stop, tells_end};
+use crate::autocommit::{is_stop, tells_end};
+use crate::client::{Begun, begin, commit, roll_back, state};
 use crate::machines::Machines;
-use crate::serving::{Begun, begin, commit, roll_back, state};
 use crate::transaction::{Came, Course, End, Outcome, Stop, Transaction};
 use desk::refusal::Refusal;
 use desk::reply::Notice;

@@ -3,27 +3,23 @@
 //! It stands on all crates below it. Public are a `world` that is opened over whole relations and takes one
 //! `event` after another, as a run of the protocol; the laws of the protocol of each catalogue's database
 //! (`laws`), the serial law among them; `fault`; and `solo`, a database for one client at a time. Inside,
-//! `opening::start` makes the machines over lists, each call of `machines::Machines` is a step of the protocol's
-//! world of them, `happening::happen` is one event, and `delivering::settle` has all letters of a call come.
+//! `start::start` makes the machines over lists, each call of `machines::Machines` is a step of the protocol's
+//! world of them, `machines::apply_event` is one event, and `mailbox::deliver_all` has all letters of a call come.
 #![tactic(auto)]
 
-mod alone;
+mod autocommit;
 mod batch;
-mod delivering;
-mod doing;
+mod client;
+pub mod committed;
 pub mod event;
 pub mod fault;
-mod filling;
-mod happening;
-pub mod history;
 pub mod laws;
 mod log;
 mod machines;
-mod opening;
-mod rebuilding;
-mod seats;
-mod serving;
-mod settled;
+mod mailbox;
+mod rebuild;
+mod sites;
 pub mod solo;
+mod start;
 pub mod transaction;
 pub mod world;

@@ -1,12 +1,35 @@
-//! The machines of a database: its coordinator and its sites.
+//! The machines of a database, its coordinator and its sites, and what an event does to them.
 
-ghost use Rattle.std.specs.Prelude.{◌≡◌, [], not};
+ghost use Rattle.std.specs.Prelude.{◌≡◌, [], not, ◌≢◌, ◌⊎◌, ◌++◌, ◌∷◌, false, true, List, Err, IfOk, IfErr, OnErr, nat_eq};
 ghost use Rattle.protocol.specs.Letters.{kept_in};
-ghost use Rattle.world.specs.Machines.{is_order};
+ghost use Rattle.world.specs.Machines.{is_order, AreFit, is_letter};
+ghost use Rattle.std.specs.Cmp.Lexicographic.{pointwise};
+ghost use Rattle.std.specs.List.{list_any};
+ghost use Rattle.meaning.specs.Whole.{Relations};
+ghost use Rattle.catalog.specs.Relation.{catalogue_of};
+ghost use Rattle.protocol.specs.Desk.{Deed};
+ghost use Rattle.desk.specs.Database.{Database, language};
+ghost use Rattle.desk.specs.OfCatalogue.{IsOfCatalogue};
+ghost use Rattle.world.specs.Frame.{LeavesMachines, StaysOnErr};
+ghost use Rattle.world.specs.Contents.{OfStores, counted, held};
+ghost use Rattle.desk.specs.State.{volatile_of};
+ghost use Rattle.world.specs.Counted.{HaveRefused, counts};
+ghost use Rattle.desk.specs.declared.refusal.Refusal.TheVariants as refusals;
+ghost use Rattle.world.specs.declared.event.Entry.{Entry as EntryNow};
+ghost use Rattle.world.specs.declared.event.Event.TheVariants as events;
+ghost use Rattle.world.specs.declared.event.Event.{Event as EventNow};
+ghost use Rattle.world.specs.declared.fault.Fault.TheVariants as faults;
+ghost use Rattle.world.specs.Events.{is_nowhere, is_unsent};
+ghost use Rattle.world.specs.EventApplied.{IsAtSite, told_by_desk};
+ghost use Rattle.world.specs.Refused.{IsRefused, IsRefusedFor};
+ghost use Rattle.world.specs.Runs.{IsRun, IsSpared, Spares, StepsOn, entry_of};
+ghost use Rattle.world.specs.Seated.{place_of};
 
-use crate::doing::Doing;
+use crate::event::{Call, Entry, Event};
 use crate::fault::Fault;
-use crate::seats::do_among;
+use crate::log::Log;
+use crate::sites::{SiteAction, act_among};
+use catalog::catalogue::Catalog;
 use desk::desk::Desk;
 use desk::refusal::Refusal;
 use desk::reply::Out;
@@ -18,7 +41,9 @@ use store::letter::{Body, Letter};
 use store::name::Txn;
 use store::reply::{Reply, Vote, Voted};
 use store::site_store::SiteStore;
+use terms::copy::TryCopy;
 use terms::seq::Seq;
+use terms::text::Text;
 
 /// The coordinator, and the sites in the catalogue's order.
 #[derive(Drop)]
@@ -30,39 +55,41 @@ pub(crate) struct Machines<D: DeskStore, S: SiteStore> {
 
 impl<D: DeskStore, S: SiteStore> Machines<D, S> {
     ghost use Rattle.std.specs.Prelude.{◌≡◌, ◌≢◌, ◌⊎◌, ℕ, List, false, true, Some, Err, IfOk, IfErr, IfSome, OnOk, OnErr};
-    ghost use Rattle.protocol.specs.Desk.{Choice, Commit_call, Give_up, Rollback};
-    ghost use Rattle.desk.specs.State.{table_of};
+    ghost use Rattle.protocol.specs.Desk.{Choice, Commit_call, Give_up, Rollback, desk_began, is_desk_within};
+    ghost use Rattle.desk.specs.State.{desk_of, volatile_of};
     ghost use Rattle.desk.specs.declared.refusal.Refusal.TheVariants as refusals;
-    ghost use Rattle.world.specs.declared.doing.Doing.TheVariants as things;
+    ghost use Rattle.world.specs.declared.sites.SiteAction.TheVariants as things;
     ghost use Rattle.world.specs.declared.event.Call.TheVariants as calls;
     ghost use Rattle.world.specs.declared.fault.Fault.TheVariants as faults;
     ghost use Rattle.store.specs.declared.letter.Letter.{Letter as LetterNow};
-    ghost use Rattle.protocol.specs.Course.{passes};
+    ghost use Rattle.protocol.specs.StatementCourse.{passes};
     ghost use Rattle.desk.specs.Database.{sent};
     ghost use Rattle.world.specs.Reasons.{CallKept, DeskTells, SiteTells, Tells};
     ghost use Rattle.world.specs.Refused.{DeskRestartTells, IsRefused, PlaceTells};
     ghost use Rattle.protocol.specs.World.{begins, desk_restarts};
-    ghost use Rattle.desk.specs.Calls.{IsOver};
+    ghost use Rattle.desk.specs.Request.{IsOver};
     ghost use Rattle.desk.specs.Database.{Database, language};
     ghost use Rattle.world.specs.Counted.{HaveRefused, NoFewer, counts};
     ghost use Rattle.world.specs.Stopping.{StopsFor};
     ghost use Rattle.world.specs.Taking.{CameUnless, stop_of};
     ghost use Rattle.site.specs.Refusals.{AsksToKeep};
     ghost use Rattle.world.specs.Frame.{LeavesMachines, StaysOnErr};
-    ghost use Rattle.world.specs.Held.{OfStores, held};
+    ghost use Rattle.world.specs.Contents.{OfStores, held};
     ghost use Rattle.world.specs.Machines.{AreFit, Asked, Came, Leads, Stated, happens_at, is_for_site, is_of_site, is_order, world_of};
     ghost use Rattle.catalog.specs.Relation.{catalogue_of};
     ghost use Rattle.desk.specs.OfCatalogue.{IsOfCatalogue};
     ghost use Rattle.world.specs.Seated.{place_of};
-    ghost use Rattle.world.specs.Seats.{Seat, seat_of};
+    ghost use Rattle.world.specs.Sites.{Seat, seat_of};
 
     /// A transaction begins.
     pub(crate) fn begin(&mut self) -> Result<Out, Refusal>
         ensures leaves { LeavesMachines D.is_clean S.is_clean D.is_sound S.is_sound D.refused S.refused self.old self.new }
         ensures ok { (db : Database) → IsOver db self.old.desk.catalog.0 → AreFit db (held D.kept S.kept self.old)
             → IfOk result (λ out. Leads db begins (held D.kept S.kept self.old) (held D.kept S.kept self.new) out.letters out.replies) }
+        ensures within { (db : Database) → IsOver db self.old.desk.catalog.0 → AreFit db (held D.kept S.kept self.old)
+            → IfOk result (λ out. is_desk_within (desk_began (desk_of db (held D.kept S.kept self.old).table)) ≡ true) }
         ensures full { (db : Database) → IsOver db self.old.desk.catalog.0 → AreFit db (held D.kept S.kept self.old)
-            → IfErr result (λ told. (told ≡ refusals.Memory) ⊎ IsRefused db (table_of self.old.desk.present) calls.Begin told) }
+            → IfErr result (λ told. (told ≡ refusals.Memory) ⊎ IsRefused db (volatile_of self.old.desk.volatile) calls.Begin told) }
         ensures uncalled { counts D.refused S.refused self.new ≡ counts D.refused S.refused self.old }
         ensures blames { IfErr result (StopsFor (counts D.refused S.refused self.old) (counts D.refused S.refused self.new)) }
         ensures err { OnErr result (held D.kept S.kept self.new ≡ held D.kept S.kept self.old) }
@@ -75,7 +102,7 @@ impl<D: DeskStore, S: SiteStore> Machines<D, S> {
         ensures leaves { LeavesMachines D.is_clean S.is_clean D.is_sound S.is_sound D.refused S.refused self.old self.new }
         ensures ok { (db : Database) (choice : Choice (language db)) → IsOver db self.old.desk.catalog.0 → AreFit db (held D.kept S.kept self.old)
             → IfOk result (λ out. Asked db txn choice Commit_call (held D.kept S.kept self.old) (held D.kept S.kept self.new) out.letters out.replies) }
-        ensures told { (db : Database) → IfErr result (λ told. (told ≡ refusals.Memory) ⊎ IsRefused db (table_of self.old.desk.present) (calls.Commit txn) told) }
+        ensures told { (db : Database) → IfErr result (λ told. (told ≡ refusals.Memory) ⊎ IsRefused db (volatile_of self.old.desk.volatile) (calls.Commit txn) told) }
         ensures uncalled { counts D.refused S.refused self.new ≡ counts D.refused S.refused self.old }
         ensures blames { IfErr result (StopsFor (counts D.refused S.refused self.old) (counts D.refused S.refused self.new)) }
         ensures err { OnErr result (held D.kept S.kept self.new ≡ held D.kept S.kept self.old) }
@@ -88,7 +115,7 @@ impl<D: DeskStore, S: SiteStore> Machines<D, S> {
         ensures leaves { LeavesMachines D.is_clean S.is_clean D.is_sound S.is_sound D.refused S.refused self.old self.new }
         ensures ok { (db : Database) (choice : Choice (language db)) → IsOver db self.old.desk.catalog.0 → AreFit db (held D.kept S.kept self.old)
             → IfOk result (λ out. Asked db txn choice Rollback (held D.kept S.kept self.old) (held D.kept S.kept self.new) out.letters out.replies) }
-        ensures told { (db : Database) → IfErr result (λ told. (told ≡ refusals.Memory) ⊎ IsRefused db (table_of self.old.desk.present) (calls.Rollback txn) told) }
+        ensures told { (db : Database) → IfErr result (λ told. (told ≡ refusals.Memory) ⊎ IsRefused db (volatile_of self.old.desk.volatile) (calls.Rollback txn) told) }
         ensures uncalled { counts D.refused S.refused self.new ≡ counts D.refused S.refused self.old }
         ensures blames { IfErr result (StopsFor (counts D.refused S.refused self.old) (counts D.refused S.refused self.new)) }
         ensures err { OnErr result (held D.kept S.kept self.new ≡ held D.kept S.kept self.old) }
@@ -126,7 +153,7 @@ impl<D: DeskStore, S: SiteStore> Machines<D, S> {
         ensures ok { (db : Database) → IsOfCatalogue db → db.catalogue ≡ catalogue_of self.old.desk.catalog → AreFit db (held D.kept S.kept self.old)
             → IfOk result (λ out. Stated db txn text.now (held D.kept S.kept self.old) (held D.kept S.kept self.new) out.letters out.replies) }
         ensures told { (db : Database) → IsOfCatalogue db → db.catalogue ≡ catalogue_of self.old.desk.catalog → AreFit db (held D.kept S.kept self.old)
-            → IfErr result (λ told. (told ≡ refusals.Memory) ⊎ IsRefused db (table_of self.old.desk.present) (calls.State txn text.now) told) }
+            → IfErr result (λ told. (told ≡ refusals.Memory) ⊎ IsRefused db (volatile_of self.old.desk.volatile) (calls.State txn text.now) told) }
         ensures uncalled { counts D.refused S.refused self.new ≡ counts D.refused S.refused self.old }
         ensures blames { IfErr result (StopsFor (counts D.refused S.refused self.old) (counts D.refused S.refused self.new)) }
         ensures err { OnErr result (held D.kept S.kept self.new ≡ held D.kept S.kept self.old) }
@@ -170,14 +197,14 @@ impl<D: DeskStore, S: SiteStore> Machines<D, S> {
                 Err(refusal) => Err(Fault::Desk(refusal)),
             };
         }
-        match self.at_site(Doing::Take(letter), kept) {
+        match self.at_site(SiteAction::Take(letter), kept) {
             Ok(out) => Ok(out),
             Err(fault) => Err(Fault::Site(fault)),
         }
     }
 
     /// Something is done at its site. A letter that comes there is an order.
-    pub(crate) fn at_site(&mut self, what: Doing, kept: bool) -> Result<Out, SiteFault>
+    pub(crate) fn at_site(&mut self, what: SiteAction, kept: bool) -> Result<Out, SiteFault>
         requires { is_for_site what ≡ true }
         ensures leaves { LeavesMachines D.is_clean S.is_clean D.is_sound S.is_sound D.refused S.refused self.old self.new }
         ensures ok { (db : Database) (choice : Choice (language db)) (seat : Seat) → OfStores D.is_clean S.is_clean self.new → OfStores D.is_sound S.is_sound self.old → AreFit db (held D.kept S.kept self.old) → seat_of (place_of what) (held D.kept S.kept self.old).seats ≡ Some seat
@@ -186,7 +213,7 @@ impl<D: DeskStore, S: SiteStore> Machines<D, S> {
             → seat_of letter.site (held D.kept S.kept self.old).seats ≡ Some seat → IfOk result (λ out. passes (world_of db (held D.kept S.kept self.old) [] []) out.kept choice (sent db letter) ≡ true) }
         ensures keeps { (db : Database) (seat : Seat) (letter : LetterNow) → OfStores D.is_clean S.is_clean self.new → OfStores D.is_sound S.is_sound self.old → AreFit db (held D.kept S.kept self.old) → what ≡ things.Take letter
             → seat_of letter.site (held D.kept S.kept self.old).seats ≡ Some seat → IfOk result (λ out. CallKept out.kept (sent db letter).body) }
-        ensures told { (letter : LetterNow) (seat : Seat) → what ≡ things.Take letter → seat_of letter.site (held D.kept S.kept self.old).seats ≡ Some seat → IfErr result (SiteTells seat letter.body) }
+        ensures told { (letter : LetterNow) (seat : Seat) → what ≡ things.Take letter → seat_of letter.site (held D.kept S.kept self.old).seats ≡ Some seat → IfErr result (SiteTells seat letter) }
         ensures vote { (letter : LetterNow) (seat : Seat) → what ≡ things.Take letter → seat_of letter.site (held D.kept S.kept self.old).seats ≡ Some seat → AsksToKeep seat.table letter.body
             → IfOk result (λ out. out.kept ≡ false → (kept ≡ false) ⊎ HaveRefused (counts D.refused S.refused self.old) (counts D.refused S.refused self.new)) }
         ensures called { (site : List ℕ) → what ≡ things.Restart site → OnOk result (kept ≡ true) }
@@ -196,7 +223,7 @@ impl<D: DeskStore, S: SiteStore> Machines<D, S> {
             → IfErr result (λ fault. IfSome (stop_of (faults.Site fault)) (StopsFor (counts D.refused S.refused self.old) (counts D.refused S.refused self.new))) }
         ensures err { StaysOnErr (OfStores D.is_clean S.is_clean) (OfStores D.is_sound S.is_sound) (held D.kept S.kept) self.old self.new result }
     {
-        match do_among(self.alloc, &mut self.sites, what, kept) {
+        match act_among(self.alloc, &mut self.sites, what, kept) {
             Ok(letters) => Ok(put_out(self.alloc, letters)),
             Err(fault) => Err(fault),
         }
@@ -235,4 +262,143 @@ fn is_order(body: &Body) -> bool
     ensures { result ≡ is_order body.now }
 {
     matches!(body, Body::Order(_))
+}
+
+/// Whether one of the sites has this name.
+fn is_among(sites: &[Text], name: &Text) -> bool
+    ensures { result ≡ list_any (λ site. pointwise nat_eq site name.now) sites.now }
+{
+    for site in sites {
+        if *site == *name {
+            return true;
+        }
+    }
+    false
+}
+
+/// Whether a catalogue has a site of this name.
+pub(crate) fn has_site(catalog: &Catalog, name: &Text) -> bool
+    ensures { result ≡ list_any (λ site. pointwise nat_eq site name.now) catalog.now.0 }
+{
+    is_among(catalog.sites(), name)
+}
+
+/// A letter that was sent comes again, or for the first time.
+fn deliver<D: DeskStore, S: SiteStore>(
+    machines: &mut Machines<D, S>,
+    log: &Log,
+    number: usize,
+    kept: bool,
+) -> Result<Out, Fault>
+    ensures leaves { LeavesMachines D.is_clean S.is_clean D.is_sound S.is_sound D.refused S.refused machines.old machines.new }
+    ensures ok { (db : Database) (whole : Relations) (past : List (Deed (language db))) → IsOfCatalogue db → db.catalogue ≡ catalogue_of machines.old.desk.catalog → OfStores D.is_clean S.is_clean machines.new → OfStores D.is_sound S.is_sound machines.old
+        → IsRun db whole (held D.kept S.kept machines.old) log.now.items past → IfOk result (λ out. StepsOn db whole (held D.kept S.kept machines.old) (held D.kept S.kept machines.new) log.now.items (log.now.items ++ entry_of (events.Deliver number kept) out ∷ []) past) }
+    ensures spared { (db : Database) (whole : Relations) (past : List (Deed (language db))) → IsOfCatalogue db → db.catalogue ≡ catalogue_of machines.old.desk.catalog → OfStores D.is_clean S.is_clean machines.new → OfStores D.is_sound S.is_sound machines.old
+        → IsRun db whole (held D.kept S.kept machines.old) log.now.items past → IfOk result (λ out. IsSpared (HaveRefused (counts D.refused S.refused machines.old) (counts D.refused S.refused machines.new)) db (held D.kept S.kept machines.old) (held D.kept S.kept machines.new) log.now.items (log.now.items ++ entry_of (events.Deliver number kept) out ∷ []) past number kept) }
+    ensures unsent { result ≡ Err faults.Unsent → is_unsent machines.old.desk.catalog.0 log.now.items (events.Deliver number kept) ≡ true }
+    ensures nowhere { is_unsent machines.old.desk.catalog.0 log.now.items (events.Deliver number kept) ≡ true → result ≡ Err faults.Unsent }
+    ensures refused { (db : Database) → IsOfCatalogue db → db.catalogue ≡ catalogue_of machines.old.desk.catalog → AreFit db (held D.kept S.kept machines.old)
+        → IfErr result (IsRefusedFor (OfStores D.is_clean S.is_clean machines.new × OfStores D.is_sound S.is_sound machines.old) db (counted D.kept S.kept D.refused S.refused machines.old) (counted D.kept S.kept D.refused S.refused machines.new) log.now.items (events.Deliver number kept)) }
+    ensures err { StaysOnErr (OfStores D.is_clean S.is_clean) (OfStores D.is_sound S.is_sound) (held D.kept S.kept) machines.old machines.new result }
+{
+    let Some(letter) = log.letter(number) else {
+        return Err(Fault::Unsent);
+    };
+    if !has_site(machines.desk.catalog(), &letter.site) {
+        return Err(Fault::Unsent);
+    }
+    let again = letter.copy()?;
+    machines.deliver(again, kept)
+}
+
+/// A client's call is made.
+fn call<D: DeskStore, S: SiteStore>(
+    machines: &mut Machines<D, S>,
+    call: &Call,
+) -> Result<Out, Refusal>
+    ensures leaves { LeavesMachines D.is_clean S.is_clean D.is_sound S.is_sound D.refused S.refused machines.old machines.new }
+    ensures ok { (db : Database) (whole : Relations) (entries : List EntryNow) (past : List (Deed (language db))) → IsOfCatalogue db → db.catalogue ≡ catalogue_of machines.old.desk.catalog
+        → IsRun db whole (held D.kept S.kept machines.old) entries past → IfOk result (λ out. StepsOn db whole (held D.kept S.kept machines.old) (held D.kept S.kept machines.new) entries (entries ++ entry_of (events.Call call.now) out ∷ []) past) }
+    ensures refused { (db : Database) → IsOfCatalogue db → db.catalogue ≡ catalogue_of machines.old.desk.catalog → AreFit db (held D.kept S.kept machines.old)
+        → IfErr result (λ told. (told ≡ refusals.Memory) ⊎ IsRefused db (volatile_of machines.old.desk.volatile) call.now told) }
+    ensures err { OnErr result (held D.kept S.kept machines.new ≡ held D.kept S.kept machines.old) }
+{
+    match call {
+        Call::Begin => machines.begin(),
+        Call::State(txn, text) => machines.statement(*txn, text.as_str()),
+        Call::Commit(txn) => machines.commit(*txn),
+        Call::Rollback(txn) => machines.rollback(*txn),
+        Call::GiveUp(txn) => machines.give_up(*txn),
+    }
+}
+
+/// Something happens at a site but for letters, if the catalogue has it.
+fn apply_event_at<D: DeskStore, S: SiteStore>(
+    machines: &mut Machines<D, S>,
+    what: SiteAction,
+    kept: bool,
+) -> Result<Out, Fault>
+    requires { is_letter what ≡ false }
+    ensures leaves { LeavesMachines D.is_clean S.is_clean D.is_sound S.is_sound D.refused S.refused machines.old machines.new }
+    ensures ok { (db : Database) (whole : Relations) (entries : List EntryNow) (at : EventNow) (past : List (Deed (language db))) → IsOfCatalogue db → db.catalogue ≡ catalogue_of machines.old.desk.catalog → OfStores D.is_clean S.is_clean machines.new → OfStores D.is_sound S.is_sound machines.old
+        → IsAtSite what kept at → IsRun db whole (held D.kept S.kept machines.old) entries past → IfOk result (λ out. StepsOn db whole (held D.kept S.kept machines.old) (held D.kept S.kept machines.new) entries (entries ++ entry_of at out ∷ []) past) }
+    ensures unsent { result ≡ Err faults.Unsent → is_nowhere machines.old.desk.catalog.0 (place_of what) ≡ true }
+    ensures nowhere { is_nowhere machines.old.desk.catalog.0 (place_of what) ≡ true → result ≡ Err faults.Unsent }
+    ensures refused { (db : Database) (entries : List EntryNow) (at : EventNow) → IsOfCatalogue db → db.catalogue ≡ catalogue_of machines.old.desk.catalog → AreFit db (held D.kept S.kept machines.old) → IsAtSite what kept at
+        → IfErr result (IsRefusedFor (OfStores D.is_clean S.is_clean machines.new × OfStores D.is_sound S.is_sound machines.old) db (counted D.kept S.kept D.refused S.refused machines.old) (counted D.kept S.kept D.refused S.refused machines.new) entries at) }
+    ensures err { StaysOnErr (OfStores D.is_clean S.is_clean) (OfStores D.is_sound S.is_sound) (held D.kept S.kept) machines.old machines.new result }
+{
+    if !has_site(machines.desk.catalog(), what.site()) {
+        return Err(Fault::Unsent);
+    }
+    match machines.at_site(what, kept) {
+        Ok(out) => Ok(out),
+        Err(fault) => Err(Fault::Site(fault)),
+    }
+}
+
+/// An event happens. Where it is refused nothing has changed.
+pub(crate) fn apply_event<D: DeskStore, S: SiteStore>(
+    machines: &mut Machines<D, S>,
+    log: &Log,
+    event: &Event,
+) -> Result<Out, Fault>
+    ensures leaves { LeavesMachines D.is_clean S.is_clean D.is_sound S.is_sound D.refused S.refused machines.old machines.new }
+    ensures ok { (db : Database) (whole : Relations) (past : List (Deed (language db))) → IsOfCatalogue db → db.catalogue ≡ catalogue_of machines.old.desk.catalog → OfStores D.is_clean S.is_clean machines.new → OfStores D.is_sound S.is_sound machines.old
+        → IsRun db whole (held D.kept S.kept machines.old) log.now.items past → IfOk result (λ out. StepsOn db whole (held D.kept S.kept machines.old) (held D.kept S.kept machines.new) log.now.items (log.now.items ++ entry_of event.now out ∷ []) past) }
+    ensures spared { (db : Database) (whole : Relations) (past : List (Deed (language db))) → IsOfCatalogue db → db.catalogue ≡ catalogue_of machines.old.desk.catalog → OfStores D.is_clean S.is_clean machines.new → OfStores D.is_sound S.is_sound machines.old
+        → IsRun db whole (held D.kept S.kept machines.old) log.now.items past → IfOk result (λ out. Spares (HaveRefused (counts D.refused S.refused machines.old) (counts D.refused S.refused machines.new)) db (held D.kept S.kept machines.old) (held D.kept S.kept machines.new) log.now.items (log.now.items ++ entry_of event.now out ∷ []) past event.now) }
+    ensures unsent { result ≡ Err faults.Unsent → is_unsent machines.old.desk.catalog.0 log.now.items event.now ≡ true }
+    ensures nowhere { is_unsent machines.old.desk.catalog.0 log.now.items event.now ≡ true → (result ≡ Err faults.Unsent) ⊎ (result ≡ Err (faults.Desk refusals.Memory)) }
+    ensures refused { (db : Database) → IsOfCatalogue db → db.catalogue ≡ catalogue_of machines.old.desk.catalog → AreFit db (held D.kept S.kept machines.old)
+        → IfErr result (IsRefusedFor (OfStores D.is_clean S.is_clean machines.new × OfStores D.is_sound S.is_sound machines.old) db (counted D.kept S.kept D.refused S.refused machines.old) (counted D.kept S.kept D.refused S.refused machines.new) log.now.items event.now) }
+    ensures err { StaysOnErr (OfStores D.is_clean S.is_clean) (OfStores D.is_sound S.is_sound) (held D.kept S.kept) machines.old machines.new result }
+{
+    match event {
+        Event::Call(asked) => by_desk(call(machines, asked)),
+        Event::Deliver(number, kept) => deliver(machines, log, *number, *kept),
+        Event::SiteGivesUp(site, ticket) => {
+            let what = SiteAction::GiveUp(site.copy()?, *ticket);
+            apply_event_at(machines, what, true)
+        }
+        Event::SiteInquires(site) => {
+            let what = SiteAction::Inquire(site.copy()?);
+            apply_event_at(machines, what, true)
+        }
+        Event::SiteRestarts(site, kept) => {
+            let what = SiteAction::Restart(site.copy()?);
+            apply_event_at(machines, what, *kept)
+        }
+        Event::DeskRestarts(kept) => by_desk(machines.restart(*kept)),
+    }
+}
+
+/// A refusal of the coordinator as a fault.
+fn by_desk(done: Result<Out, Refusal>) -> Result<Out, Fault>
+    ensures { result ≡ told_by_desk done }
+{
+    match done {
+        Ok(out) => Ok(out),
+        Err(refusal) => Err(Fault::Desk(refusal)),
+    }
 }

@@ -1,6 +1,6 @@
 //! A database for one client at a time.
 
-ghost use Rattle.std.specs.Prelude.{◌≡◌, ◌≢◌, ◌⊎◌, ℕ, true, List, [], None, Some, Err, IfErr, IfOk, OnErr, OnOk, is_some};
+ghost use Rattle.std.specs.Prelude.{◌≡◌, ◌≢◌, ◌⊎◌, ℕ, true, false, List, [], None, Some, Err, IfErr, IfOk, OnErr, OnOk, is_some};
 ghost use Rattle.std.specs.Option.{option_map};
 ghost use Rattle.meaning.specs.Whole.{FitsSchema, Relations};
 ghost use Rattle.catalog.specs.FragmentLeaf.{schemas_of};
@@ -9,7 +9,7 @@ ghost use Rattle.reader.specs.declared.command.Command.TheVariants.{Begin, Commi
 ghost use Rattle.reader.specs.declared.command.Command.{Command as CommandNow};
 ghost use Rattle.meaning.specs.declared.statement.Statement.{Statement};
 ghost use Rattle.store.specs.declared.name.Txn.{Txn as TxnNow};
-ghost use Rattle.world.specs.Denying.{Declines, Denies, IsUnreadable};
+ghost use Rattle.world.specs.Denials.{Declines, Denies, IsUnreadable};
 ghost use Rattle.reader.specs.Command.{IsTextOf};
 ghost use Rattle.protocol.specs.Client.{ReachedLaw};
 ghost use Rattle.protocol.specs.Desk.{Deed};
@@ -20,34 +20,34 @@ ghost use Rattle.desk.specs.OfCatalogue.{IsOfCatalogue};
 ghost use Rattle.desk.specs.declared.refusal.Refusal.{Refusal as RefusalNow};
 ghost use Rattle.desk.specs.declared.refusal.Refusal.TheVariants as refusals;
 ghost use Rattle.world.specs.declared.fault.Fault.TheVariants as faults;
+ghost use Rattle.world.specs.Account.{IsHeardRightly, IsRefusedRightly};
 ghost use Rattle.world.specs.Base.{database, fits};
 ghost use Rattle.world.specs.Counted.{NoFewer, counts};
-ghost use Rattle.world.specs.Faring.{HasRun, WasStopped};
+ghost use Rattle.world.specs.BatchRuns.{HasRun, WasStopped};
 ghost use Rattle.world.specs.Fault.{FailsFor, is_memory};
 ghost use Rattle.world.specs.Frame.{Blames, LeavesMachines, OverDatabase, StaysAsItIs, StaysServed};
-ghost use Rattle.world.specs.Held.{OfStores, counted, held, unrefused};
+ghost use Rattle.world.specs.Contents.{OfStores, counted, held, unrefused};
 ghost use Rattle.world.specs.Machines.{AreFit};
-ghost use Rattle.world.specs.Obeying.{Obeys, Stands, StandsOn};
-ghost use Rattle.world.specs.Serving.{Executes, IsServed, IsServedOn, still_open};
+ghost use Rattle.world.specs.Executed.{Obeys, Stands, StandsOn};
+ghost use Rattle.world.specs.Client.{Executes, IsServed, IsServedOn, still_open};
 ghost use Rattle.world.specs.Settled.{AreThoseOf, after_committed, parts_kept, rows_shown};
 ghost use Rattle.world.specs.Stopping.{StopsFor, is_stop, stopped_by};
-ghost use Rattle.world.specs.Telling.{Tells};
+ghost use Rattle.world.specs.Replies.{Tells};
 ghost use Rattle.world.specs.declared.event.Entry.{Entry as EntryNow};
 ghost use Rattle.world.specs.declared.transaction.Stop.{Stop as StopNow};
 ghost use Rattle.world.specs.declared.transaction.Unfinished.TheVariants.{Stopped, Unstarted};
 
-use crate::alone::{is_stop, run_alone, tells_end};
+use crate::autocommit::{is_stop, run_autocommit, tells_end};
 use crate::batch::run_all;
+use crate::client::{begin, commit, roll_back, state};
 use crate::fault::Fault;
 use crate::laws::{
-    account_follows, database_is_of_catalogue, denied_for_a_reason, grows_quiet,
+    account_follows, database_is_of_catalogue, deeds_follow, denied_for_a_reason, grows_quiet,
     obeyed_unless_refused, one_client_is_a_run, served_is_serial, stands_again,
 };
 use crate::machines::Machines;
-use crate::opening::start;
-use crate::rebuilding::rebuilt;
-use crate::serving::{begin, commit, roll_back, state};
-use crate::settled::kept_parts;
+use crate::rebuild::{kept_parts, rebuilt};
+use crate::start::start;
 use crate::transaction::{Outcome, Transaction, Unfinished};
 use catalog::catalogue::Catalog;
 use desk::refusal::Refusal;
@@ -105,7 +105,7 @@ pub fn open(
 }
 
 /// What the reader says of a text.
-fn unread(fault: ReadFault) -> Refusal
+fn reader_refusal(fault: ReadFault) -> Refusal
     ensures { ((fault.rule ≡ Rule.Memory) × (result ≡ refusals.Memory)) ⊎ ((fault.rule ≢ Rule.Memory) × (result ≡ refusals.Read fault)) }
 {
     if fault.rule() == Rule::Memory {
@@ -118,11 +118,11 @@ fn unread(fault: ReadFault) -> Refusal
 /// The command of a text, under the catalogue's schema.
 fn command_of(alloc: Global, catalog: &Catalog, text: &str) -> Result<Command, Refusal>
     ensures read { IfOk result (λ command. IsTextOf (schemas_of (catalogue_of catalog.now)) text.now command) }
-    ensures unread { IfErr result (IsUnreadable (schemas_of (catalogue_of catalog.now)) text.now) }
+    ensures reader_refusal { IfErr result (IsUnreadable (schemas_of (catalogue_of catalog.now)) text.now) }
 {
     match read(alloc, text, catalog.schema()) {
         Ok(command) => Ok(command),
-        Err(fault) => Err(unread(fault)),
+        Err(fault) => Err(reader_refusal(fault)),
     }
 }
 
@@ -234,7 +234,7 @@ impl<D: DeskStore, S: SiteStore> Solo<D, S> {
         ensures still { OnErr result (self.new.current ≡ self.old.current) }
     {
         match self.current {
-            None => run_alone(&mut self.machines, text),
+            None => run_autocommit(&mut self.machines, text),
             Some(txn) => match state(&mut self.machines, txn, text) {
                 Ok(heard) => {
                     self.current = still_open(txn, heard.as_slice());
@@ -276,7 +276,7 @@ impl<D: DeskStore, S: SiteStore> Solo<D, S> {
             (λ db before after. IfErr result (Declines db text.now self.old.current before after)) }
         ensures inside { (txn : TxnNow) → self.old.current ≡ Some txn → IsTextOf (schemas_of (catalogue_of self.old.machines.desk.catalog)) text.now Begin → (result ≡ Err refusals.Busy) ⊎ (result ≡ Err refusals.Memory) }
         ensures outside { self.old.current ≡ None → IsTextOf (schemas_of (catalogue_of self.old.machines.desk.catalog)) text.now Commit ⊎ IsTextOf (schemas_of (catalogue_of self.old.machines.desk.catalog)) text.now Rollback → (result ≡ Err refusals.NoTransaction) ⊎ (result ≡ Err refusals.Memory) }
-        ensures unread { ((given : CommandNow) → IsTextOf (schemas_of (catalogue_of self.old.machines.desk.catalog)) text.now given → ⊥) → OnOk result ⊥ × IfErr result (IsUnreadable (schemas_of (catalogue_of self.old.machines.desk.catalog)) text.now) }
+        ensures reader_refusal { ((given : CommandNow) → IsTextOf (schemas_of (catalogue_of self.old.machines.desk.catalog)) text.now given → ⊥) → OnOk result ⊥ × IfErr result (IsUnreadable (schemas_of (catalogue_of self.old.machines.desk.catalog)) text.now) }
         ensures served { StaysServed (OfStores D.is_clean S.is_clean) (OfStores D.is_sound S.is_sound) (counted D.kept S.kept D.refused S.refused) self.old.machines self.new.machines }
         ensures still { OnErr result (self.new.current ≡ self.old.current) }
     {
@@ -289,9 +289,9 @@ impl<D: DeskStore, S: SiteStore> Solo<D, S> {
 
     /// A command is executed: BEGIN, COMMIT, ROLLBACK or a statement, which outside BEGIN is a transaction of its own. All letters that it
     /// brings about come, each once, the oldest first. Says what the client hears: unless something is refused on the way, the answer of a
-    /// statement, or that its transaction has begun, was committed, or was rolled back. What is refused is a letter, by a machine at a limit
-    /// or for a leaf that its site doesn't have, a write, by a full visit, or a store call, and that only where the medium of a store has
-    /// refused meanwhile. Whatever was refused, the command itself too, the next one finds all quiet or the open transaction ready. A refusal
+    /// statement, or that its transaction has begun, was committed, or was rolled back. What was heard so far is what the committed
+    /// transactions answer, one after another over whole relations. What is refused is a letter, whose step leads past a limit, a write,
+    /// by a full visit, or a store call, and that only where the medium of a store has refused meanwhile. Whatever was refused, the command itself too, the next one finds all quiet or the open transaction ready. A refusal
     /// that stops the database, since memory ran out or the medium of a store has refused meanwhile, is the answer of every later command.
     pub fn execute(&mut self, text: &str) -> Result<Vec<Notice>, Refusal>
         ensures leaves { LeavesMachines D.is_clean S.is_clean D.is_sound S.is_sound D.refused S.refused self.old.machines self.new.machines }
@@ -303,6 +303,12 @@ impl<D: DeskStore, S: SiteStore> Solo<D, S> {
             → IsServed (database (catalogue_of self.old.machines.desk.catalog)) whole (counted D.kept S.kept D.refused S.refused self.old.machines) past
             → Stands (database (catalogue_of self.old.machines.desk.catalog)) (fits (catalogue_of self.old.machines.desk.catalog)) self.old.current (counted D.kept S.kept D.refused S.refused self.old.machines) past
             → IfOk result (λ heard. Obeys (database (catalogue_of self.old.machines.desk.catalog)) (fits (catalogue_of self.old.machines.desk.catalog)) whole text.now self.old.current (counted D.kept S.kept D.refused S.refused self.old.machines) self.new.current (counted D.kept S.kept D.refused S.refused self.new.machines) past heard.items) }
+        ensures right { (whole : Relations) (entries : List EntryNow) (past : List (Deed (language (database (catalogue_of self.old.machines.desk.catalog))))) → self.old.stopped ≡ None → OfStores D.is_clean S.is_clean self.new.machines → OfStores D.is_sound S.is_sound self.old.machines
+            → IsServed (database (catalogue_of self.old.machines.desk.catalog)) whole (counted D.kept S.kept D.refused S.refused self.old.machines) past → Tells (database (catalogue_of self.old.machines.desk.catalog)) entries past
+            → IfOk result (λ heard. IsHeardRightly (database (catalogue_of self.old.machines.desk.catalog)) whole text.now self.old.current (counted D.kept S.kept D.refused S.refused self.old.machines) self.new.current (counted D.kept S.kept D.refused S.refused self.new.machines) entries past heard.items) }
+        ensures refused_right { (whole : Relations) (entries : List EntryNow) (past : List (Deed (language (database (catalogue_of self.old.machines.desk.catalog))))) → self.old.stopped ≡ None → OfStores D.is_clean S.is_clean self.new.machines → OfStores D.is_sound S.is_sound self.old.machines
+            → IsServed (database (catalogue_of self.old.machines.desk.catalog)) whole (counted D.kept S.kept D.refused S.refused self.old.machines) past → Tells (database (catalogue_of self.old.machines.desk.catalog)) entries past
+            → IfErr result (λ told. is_stop told ≡ false → IsRefusedRightly (database (catalogue_of self.old.machines.desk.catalog)) whole text.now self.old.current (counted D.kept S.kept D.refused S.refused self.old.machines) (counted D.kept S.kept D.refused S.refused self.new.machines) entries past told) }
         ensures stands { (whole : Relations) (past : List (Deed (language (database (catalogue_of self.old.machines.desk.catalog))))) → self.old.stopped ≡ None → OfStores D.is_clean S.is_clean self.new.machines → OfStores D.is_sound S.is_sound self.old.machines
             → IsServed (database (catalogue_of self.old.machines.desk.catalog)) whole (counted D.kept S.kept D.refused S.refused self.old.machines) past
             → Stands (database (catalogue_of self.old.machines.desk.catalog)) (fits (catalogue_of self.old.machines.desk.catalog)) self.old.current (counted D.kept S.kept D.refused S.refused self.old.machines) past
@@ -315,7 +321,7 @@ impl<D: DeskStore, S: SiteStore> Solo<D, S> {
         ensures blames { self.old.stopped ≡ None → OfStores D.is_clean S.is_clean self.new.machines → OfStores D.is_sound S.is_sound self.old.machines → IfErr result (StopsFor (counts D.refused S.refused self.old.machines) (counts D.refused S.refused self.new.machines)) }
         ensures inside { (txn : TxnNow) → self.old.stopped ≡ None → self.old.current ≡ Some txn → IsTextOf (schemas_of (catalogue_of self.old.machines.desk.catalog)) text.now Begin → (result ≡ Err refusals.Busy) ⊎ (result ≡ Err refusals.Memory) }
         ensures outside { self.old.stopped ≡ None → self.old.current ≡ None → IsTextOf (schemas_of (catalogue_of self.old.machines.desk.catalog)) text.now Commit ⊎ IsTextOf (schemas_of (catalogue_of self.old.machines.desk.catalog)) text.now Rollback → (result ≡ Err refusals.NoTransaction) ⊎ (result ≡ Err refusals.Memory) }
-        ensures unread { self.old.stopped ≡ None → ((given : CommandNow) → IsTextOf (schemas_of (catalogue_of self.old.machines.desk.catalog)) text.now given → ⊥) → OnOk result ⊥ × IfErr result (IsUnreadable (schemas_of (catalogue_of self.old.machines.desk.catalog)) text.now) }
+        ensures reader_refusal { self.old.stopped ≡ None → ((given : CommandNow) → IsTextOf (schemas_of (catalogue_of self.old.machines.desk.catalog)) text.now given → ⊥) → OnOk result ⊥ × IfErr result (IsUnreadable (schemas_of (catalogue_of self.old.machines.desk.catalog)) text.now) }
         ensures still { OnErr result (self.new.current ≡ self.old.current) }
         ensures stops { self.old.stopped ≡ None → self.new.stopped ≡ stopped_by result }
         ensures stopped { (refusal : RefusalNow) → self.old.stopped ≡ Some refusal → (result ≡ Err refusal) × (self.new ≡ self.old) }
@@ -328,6 +334,8 @@ impl<D: DeskStore, S: SiteStore> Solo<D, S> {
         obeyed_unless_refused(self.machines.desk.catalog());
         denied_for_a_reason(self.machines.desk.catalog());
         stands_again(self.machines.desk.catalog());
+        deeds_follow(self.machines.desk.catalog());
+        account_follows(self.machines.desk.catalog());
         let done = self.command(text);
         self.stopped = stopped_by(&done);
         done

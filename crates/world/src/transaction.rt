@@ -4,7 +4,7 @@ ghost use Rattle.std.specs.Prelude.{◌≡◌};
 ghost use Rattle.std.specs.List.{list_any};
 ghost use Rattle.world.specs.Batch.{is_committed, tells_commit};
 
-use crate::alone::tells_commit;
+use crate::autocommit::tells_commit;
 use desk::refusal::Refusal;
 use desk::reply::Notice;
 use store::name::Txn;

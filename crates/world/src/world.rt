@@ -8,6 +8,8 @@ ghost use Rattle.meaning.specs.Whole.{FitsSchema, Relations};
 ghost use Rattle.catalog.specs.FragmentLeaf.{schemas_of};
 ghost use Rattle.catalog.specs.Relation.{catalogue_of};
 ghost use Rattle.protocol.specs.Desk.{Deed};
+ghost use Rattle.protocol.specs.Letters.{txn_name};
+ghost use Rattle.protocol.specs.Serial.{committed};
 ghost use Rattle.store.specs.PlainDesk.{kept_of as desk_kept};
 ghost use Rattle.store.specs.PlainSite.{IsSound, kept_of};
 ghost use Rattle.desk.specs.Database.{language};
@@ -16,31 +18,29 @@ ghost use Rattle.desk.specs.declared.refusal.Refusal.TheVariants as refusals;
 ghost use Rattle.world.specs.declared.event.Entry.{Entry as EntryNow};
 ghost use Rattle.world.specs.declared.fault.Fault.TheVariants as faults;
 ghost use Rattle.world.specs.Events.{is_unsent};
-ghost use Rattle.world.specs.Counted.{NoFewer, counts};
+ghost use Rattle.world.specs.Counted.{HaveRefused, NoFewer, counts};
 ghost use Rattle.world.specs.Fault.{FailsFor, is_memory};
 ghost use Rattle.world.specs.Following.{Follows, FollowsAtLeast, Happens};
 ghost use Rattle.world.specs.Frame.{LeavesMachines, StaysAsItIs, StaysOnErr};
-ghost use Rattle.world.specs.Held.{OfStores, counted, held};
-ghost use Rattle.world.specs.History.{AnswerInTurn, committed_of};
+ghost use Rattle.world.specs.Contents.{OfStores, counted, held};
+ghost use Rattle.world.specs.Committed.{AnswerInTurn, committed_of};
 ghost use Rattle.world.specs.Machines.{AreFit};
 ghost use Rattle.world.specs.Posted.{letters_in};
 ghost use Rattle.world.specs.Refused.{IsRefusedFor};
-ghost use Rattle.world.specs.Runs.{GoesOn, IsRun, RunsOn};
+ghost use Rattle.world.specs.Runs.{GoesOn, IsRun, RunsOn, Spares};
 ghost use Rattle.world.specs.Steps.{Steps, answer_of};
 ghost use Rattle.world.specs.contracts.world.World.{the_row};
 ghost use Rattle.world.specs.Settled.{AreThoseOf, ShowsSerial, parts_kept, rows_shown};
-ghost use Rattle.world.specs.Telling.{committed_in};
+ghost use Rattle.world.specs.Replies.{committed_in};
 
+use crate::committed::{Committed, committed_in};
 use crate::event::{Entry, Event};
 use crate::fault::Fault;
-use crate::happening::happen;
-use crate::history::{Committed, committed_in};
 use crate::laws::{database_is_of_catalogue, language_is_lawful, runs_are_serial, runs_hold};
 use crate::log::Log;
-use crate::machines::Machines;
-use crate::opening::start;
-use crate::rebuilding::rebuilt;
-use crate::settled::kept_parts;
+use crate::machines::{Machines, apply_event};
+use crate::rebuild::{kept_parts, rebuilt};
+use crate::start::start;
 use catalog::catalogue::Catalog;
 use desk::refusal::Refusal;
 use meaning::whole::Whole;
@@ -92,9 +92,10 @@ pub fn open(
 }
 
 impl<D: DeskStore, S: SiteStore> World<D, S> {
-    /// An event happens. Answers its entry, the last one from now on, with the letters that were put out and what
-    /// clients heard. A committed transaction stays applied whole and once. On a fault nothing has changed: `Unsent`
-    /// where no letter has the number, or no site the name; else why the machine refused, or want of memory.
+    /// An event happens, where it is accepted. Answers its entry, the last one from now on, with the letters that were
+    /// put out and what clients heard. A committed transaction stays applied whole and once. On a fault nothing has
+    /// changed: `Unsent` where no letter has the number, or no site the name; else why the machine refused, or want of
+    /// memory.
     pub fn step(&mut self, event: Event) -> Result<&Entry, &Fault>
         ensures* steps { sem 𝓛 (follows_so (the_row D.row S.row) (the_row D.row S.row) self.entry.ghost_name none (λ _ _. ⊤)
             (λ new. Steps (OfStores D.is_clean S.is_clean) (OfStores D.is_sound S.is_sound) (held D.kept S.kept) (counted D.kept S.kept D.refused S.refused) event (answer_of result) self.old new)) }
@@ -119,7 +120,11 @@ impl<D: DeskStore, S: SiteStore> World<D, S> {
         ensures goes_on { (whole : Relations) (past : List (Deed (language (database (catalogue_of self.old.machines.desk.catalog)))))
             → OfStores D.is_clean S.is_clean self.new.machines → OfStores D.is_sound S.is_sound self.old.machines
             → IsRun (database (catalogue_of self.old.machines.desk.catalog)) whole (held D.kept S.kept self.old.machines) self.old.entries.items past
-            → OnOk result (GoesOn (database (catalogue_of self.old.machines.desk.catalog)) whole (held D.kept S.kept self.new.machines) self.new.entries.items past) }
+            → OnOk result (GoesOn (database (catalogue_of self.old.machines.desk.catalog)) whole (held D.kept S.kept self.old.machines) (held D.kept S.kept self.new.machines) self.old.entries.items self.new.entries.items past) }
+        ensures spared { (whole : Relations) (past : List (Deed (language (database (catalogue_of self.old.machines.desk.catalog)))))
+            → OfStores D.is_clean S.is_clean self.new.machines → OfStores D.is_sound S.is_sound self.old.machines
+            → IsRun (database (catalogue_of self.old.machines.desk.catalog)) whole (held D.kept S.kept self.old.machines) self.old.entries.items past
+            → OnOk result (Spares (HaveRefused (counts D.refused S.refused self.old.machines) (counts D.refused S.refused self.new.machines)) (database (catalogue_of self.old.machines.desk.catalog)) (held D.kept S.kept self.old.machines) (held D.kept S.kept self.new.machines) self.old.entries.items self.new.entries.items past event) }
         ensures entry { OnOk result ((entry : EntryNow) × ((entry.event ≡ event) × (self.new.entries.items ≡ self.old.entries.items ++ entry ∷ []))) }
         ensures unsent { result ≡ Err faults.Unsent → is_unsent self.old.machines.desk.catalog.0 self.old.entries.items event ≡ true }
         ensures nowhere { is_unsent self.old.machines.desk.catalog.0 self.old.entries.items event ≡ true → (result ≡ Err faults.Unsent) ⊎ (result ≡ Err (faults.Desk refusals.Memory)) }
@@ -132,7 +137,7 @@ impl<D: DeskStore, S: SiteStore> World<D, S> {
         database_is_of_catalogue(self.machines.desk.catalog());
         runs_hold(self.machines.desk.catalog());
         self.entries.make_room()?;
-        match happen(&mut self.machines, &self.entries, &event) {
+        match apply_event(&mut self.machines, &self.entries, &event) {
             Ok(out) => {
                 self.entries.push(Entry { event, out });
                 Ok(())
@@ -141,7 +146,7 @@ impl<D: DeskStore, S: SiteStore> World<D, S> {
         }
     }
 
-    /// Events happen one after another; one that is refused is passed over. Want of memory ends it: the answer is
+    /// Events apply_event one after another; one that is refused is passed over. Want of memory ends it: the answer is
     /// then how many events came before.
     pub fn run(&mut self, events: &[Event]) -> Result<(), usize>
         ensures leaves { LeavesMachines D.is_clean S.is_clean D.is_sound S.is_sound D.refused S.refused self.old.machines self.new.machines }
@@ -196,9 +201,12 @@ impl<D: DeskStore, S: SiteStore> World<D, S> {
     }
 
     /// The committed transactions, in the order in which their commits were asked for, each with the texts of its
-    /// statements and what they answered.
+    /// statements and what they answered. They are those that the coordinator decided to commit.
     pub fn committed(&self) -> Result<Vec<Committed>, Memory>
         ensures all { IfOk result (λ all. all.items ≡ map (committed_of self.now.entries.items) (committed_in self.now.entries.items)) }
+        ensures decided { (whole : Relations) (past : List (Deed (language (database (catalogue_of self.now.machines.desk.catalog)))))
+            → IsRun (database (catalogue_of self.now.machines.desk.catalog)) whole (held D.kept S.kept self.now.machines) self.now.entries.items past
+            → IfOk result (λ all. map (λ one. txn_name one.txn) all.items ≡ committed past) }
         ensures serial { (whole : Relations) (past : List (Deed (language (database (catalogue_of self.now.machines.desk.catalog)))))
             → IsRun (database (catalogue_of self.now.machines.desk.catalog)) whole (held D.kept S.kept self.now.machines) self.now.entries.items past
             → IfOk result (λ all. AnswerInTurn (database (catalogue_of self.now.machines.desk.catalog)) whole all.items) }

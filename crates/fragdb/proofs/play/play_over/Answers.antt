@@ -5,7 +5,7 @@ use Rattle.fragdb.specs.Play.{PlaysAll}
 use Rattle.store.specs.PlainDesk.{kept_of as desk_kept}
 use Rattle.store.specs.PlainSite.{kept_of}
 use Rattle.world.specs.declared.event.Entry.{Entry}
-use Rattle.world.specs.Held.{held}
+use Rattle.world.specs.Contents.{held}
 use Rattle.fragdb.specs.Schedule.{HasRun, IsReached, stage_of}
 use Rattle.fragdb.proofs.SoloLemmas.{Appends-kept}
 use Rattle.fragdb.proofs.play.play_over.Goals as goal

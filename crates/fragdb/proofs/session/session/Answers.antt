@@ -6,8 +6,8 @@ use Rattle.catalog.specs.Relation.{catalogue_of}
 use Rattle.store.specs.PlainDesk.{kept_of as desk_kept}
 use Rattle.store.specs.PlainSite.{kept_of}
 use Rattle.world.specs.Base.{database}
-use Rattle.world.specs.Held.{unrefused}
-use Rattle.world.specs.Serving.{IsServed}
+use Rattle.world.specs.Contents.{unrefused}
+use Rattle.world.specs.Client.{IsServed}
 use Rattle.fragdb.specs.PlayLoad.{emptied}
 use Rattle.fragdb.proofs.SessionLemmas.{held_from}
 use Rattle.fragdb.proofs.SoloLemmas.{emptied-fits}

@@ -2,10 +2,10 @@
 use Rattle.std.proofs.Common.{rules, ◌∙◌, ◌++◌, ◌∷◌, [], List, refl, sym, ap}
 use Rattle.world.specs.declared.transaction.Came as cames
 use Rattle.catalog.specs.Relation.{catalogue_of}
-use Rattle.world.specs.Held.{counted}
+use Rattle.world.specs.Contents.{counted}
 use Rattle.world.specs.declared.event.Call.TheVariants as call
 use Rattle.world.proofs.Batches.{came_of, comes_fit, commit_done, commit_refused}
-use Rattle.world.proofs.Moving.{if_ok}
+use Rattle.world.proofs.SiteSteps.{if_ok}
 use Rattle.world.proofs.Reaching.{same_on, then_on}
 use Rattle.world.proofs.Counting.{no_fewer, no_fewer_then}
 use Rattle.world.proofs.Stops.{memory_stops, told_on, told_stops, call_since}

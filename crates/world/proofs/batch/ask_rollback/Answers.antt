@@ -2,7 +2,7 @@
 use Rattle.std.proofs.Common.{rules, ◌∙◌, ◌++◌, ◌∷◌, [], List, refl, ap}
 use Rattle.world.specs.declared.transaction.Came as cames
 use Rattle.world.specs.declared.event.Call.TheVariants as call
-use Rattle.world.specs.Held.{counted}
+use Rattle.world.specs.Contents.{counted}
 use Rattle.world.proofs.Batches.{came_of, one_more}
 use Rattle.world.proofs.Reaching.{same_on}
 use Rattle.world.proofs.Counting.{no_fewer}

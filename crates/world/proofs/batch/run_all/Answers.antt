@@ -5,7 +5,7 @@ use Rattle.catalog.specs.Relation.{catalogue_of}
 use Rattle.world.specs.declared.transaction.Outcome as outcomes
 use Rattle.world.specs.declared.transaction.Transaction.{Transaction}
 use Rattle.world.specs.Batch.{RunsAll}
-use Rattle.world.specs.Held.{counted}
+use Rattle.world.specs.Contents.{counted}
 use Rattle.world.proofs.Batches.{all_fit, runs_next, stops_here}
 use Rattle.world.proofs.Reaching.{same_on, then_on}
 use Rattle.world.proofs.Counting.{no_fewer, no_fewer_then}

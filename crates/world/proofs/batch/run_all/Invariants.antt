@@ -8,9 +8,9 @@ use Rattle.desk.specs.Database.{Database, language}
 use Rattle.desk.specs.OfCatalogue.{IsOfCatalogue}
 use Rattle.world.specs.Counted.{NoFewer, counts}
 use Rattle.world.specs.Batch.{RunsAll}
-use Rattle.world.specs.Held.{OfStores, counted}
+use Rattle.world.specs.Contents.{OfStores, counted}
 use Rattle.world.specs.Machines.{AreFit}
-use Rattle.world.specs.Serving.{IsServed, IsServedOn}
+use Rattle.world.specs.Client.{IsServed, IsServedOn}
 use Rattle.world.proofs.batch.run_all.Given as goal
 
 abbrev pub invariant-loop-transaction : goal.invariant-loop-transaction

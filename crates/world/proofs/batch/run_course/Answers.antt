@@ -1,7 +1,7 @@
 -- Why `run_course` meets its contract.
 use Rattle.std.proofs.Common.{rules, ◌∙◌, Bool, List, refl, sym, ap, subst}
 use Rattle.catalog.specs.Relation.{catalogue_of}
-use Rattle.world.specs.Held.{counted}
+use Rattle.world.specs.Contents.{counted}
 use Rattle.world.specs.declared.transaction.Came as cames
 use Rattle.world.specs.Batch.{Makes, calls_of}
 use Rattle.world.proofs.Batches.{course_made, makes_fit}

@@ -1,7 +1,7 @@
 -- Why `run_one` meets its contract.
 use Rattle.std.proofs.Common.{rules, ◌∙◌, sym, ap}
 use Rattle.catalog.specs.Relation.{catalogue_of}
-use Rattle.world.specs.Held.{counted}
+use Rattle.world.specs.Contents.{counted}
 use Rattle.world.proofs.Batches.{runs_begun}
 use Rattle.world.proofs.Reaching.{then_on}
 use Rattle.world.proofs.Counting.{no_fewer_then}

@@ -5,7 +5,7 @@ use Rattle.catalog.specs.Relation.{catalogue_of}
 use Rattle.world.specs.declared.event.Call.TheVariants as call
 use Rattle.world.specs.declared.transaction.Came as cames
 use Rattle.world.specs.Batch.{Makes}
-use Rattle.world.specs.Held.{counted}
+use Rattle.world.specs.Contents.{counted}
 use Rattle.world.proofs.Batches.{came_of, makes_fit, next_last, next_open}
 use Rattle.world.proofs.Reaching.{same_on, then_on}
 use Rattle.world.proofs.Counting.{no_fewer, no_fewer_then}

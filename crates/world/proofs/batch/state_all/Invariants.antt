@@ -9,9 +9,9 @@ use Rattle.desk.specs.OfCatalogue.{IsOfCatalogue}
 use Rattle.world.specs.declared.event.Call.TheVariants as call
 use Rattle.world.specs.Counted.{NoFewer, counts}
 use Rattle.world.specs.Batch.{Makes}
-use Rattle.world.specs.Held.{OfStores, counted}
+use Rattle.world.specs.Contents.{OfStores, counted}
 use Rattle.world.specs.Machines.{AreFit}
-use Rattle.world.specs.Serving.{IsServed, IsServedOn}
+use Rattle.world.specs.Client.{IsServed, IsServedOn}
 use Rattle.world.proofs.batch.state_all.Given as goal
 
 abbrev pub invariant-loop-text : goal.invariant-loop-text

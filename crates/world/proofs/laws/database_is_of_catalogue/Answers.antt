@@ -1,6 +1,6 @@
 -- Why `laws::database_is_of_catalogue` meets its contract.
 use Rattle.catalog.specs.Relation.{catalogue_of}
-use Rattle.world.proofs.BaseLawful.{is_base}
+use Rattle.world.proofs.DatabaseIsLawful.{is_base}
 use Rattle.world.proofs.laws.database_is_of_catalogue.Goals as goal
 
 pub returns : goal.returns

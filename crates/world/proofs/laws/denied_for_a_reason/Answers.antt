@@ -1,7 +1,7 @@
 -- Why the law of refused commands holds.
 use Rattle.catalog.specs.Relation.{catalogue_of}
 use Rattle.world.specs.Base.{database, fits}
-use Rattle.world.proofs.Denying.{denies}
+use Rattle.world.proofs.Denials.{denies}
 use Rattle.world.proofs.laws.denied_for_a_reason.Goals as goal
 
 pub returns : goal.returns

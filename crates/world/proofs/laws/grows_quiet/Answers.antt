@@ -1,8 +1,8 @@
 -- Why a client's database grows quiet.
 use Rattle.catalog.specs.Relation.{catalogue_of}
 use Rattle.world.specs.Base.{database, fits}
-use Rattle.world.proofs.BaseHoused.{housed}
-use Rattle.world.proofs.BaseSites.{sites_once}
+use Rattle.world.proofs.DatabaseIsHoused.{housed}
+use Rattle.world.proofs.DatabaseSites.{sites_once}
 use Rattle.world.proofs.Quieting.{quiet_after_commit, quiet_after_rollback}
 use Rattle.world.proofs.StatementEnds.{quiet_or_ready}
 use Rattle.world.proofs.laws.grows_quiet.Goals as goal

@@ -1,6 +1,6 @@
 -- Why `laws::language_is_lawful` meets its contract.
 use Rattle.catalog.specs.Relation.{catalogue_of}
-use Rattle.world.proofs.BaseLawful.{lawful_base}
+use Rattle.world.proofs.DatabaseIsLawful.{lawful_base}
 use Rattle.world.proofs.laws.language_is_lawful.Goals as goal
 
 pub returns : goal.returns

@@ -1,5 +1,5 @@
 -- Why `laws::part_three` meets its contract.
-use Rattle.protocol.proofs.PartsOneToThree.{part_three}
+use Rattle.protocol.proofs.LineOfCommits.{part_three}
 use Rattle.world.proofs.laws.part_three.Goals as goal
 
 pub returns : goal.returns

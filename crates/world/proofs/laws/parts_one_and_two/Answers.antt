@@ -1,5 +1,5 @@
 -- Why `laws::parts_one_and_two` meets its contract.
-use Rattle.protocol.proofs.PartsOneToThree.{parts_one_and_two}
+use Rattle.protocol.proofs.LineOfCommits.{parts_one_and_two}
 use Rattle.world.proofs.laws.parts_one_and_two.Goals as goal
 
 pub returns : goal.returns

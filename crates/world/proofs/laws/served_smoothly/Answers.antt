@@ -1,8 +1,8 @@
 -- Why the law of letters that come smoothly holds of each catalogue.
 use Rattle.catalog.specs.Relation.{catalogue_of}
 use Rattle.world.specs.Base.{database, fits}
-use Rattle.world.proofs.BaseHoused.{housed}
-use Rattle.world.proofs.BaseSites.{sites_once}
+use Rattle.world.proofs.DatabaseIsHoused.{housed}
+use Rattle.world.proofs.DatabaseSites.{sites_once}
 use Rattle.world.proofs.Smoothly.{serves_smoothly}
 use Rattle.world.proofs.laws.served_smoothly.Goals as goal
 

@@ -5,8 +5,8 @@ use Rattle.store.specs.PlainDesk.{kept_of as desk_kept}
 use Rattle.store.specs.PlainSite.{kept_of}
 use Rattle.world.specs.Base.{database}
 use Rattle.world.specs.Counted.{counts}
-use Rattle.world.specs.Held.{held}
-use Rattle.world.proofs.BaseOpened.{opens_quiet, opens_run}
+use Rattle.world.specs.Contents.{held}
+use Rattle.world.proofs.DatabaseIsOpened.{opens_quiet, opens_run}
 use Rattle.world.proofs.Counting.{fit_counted}
 use Rattle.world.proofs.solo.open.Goals as goal
 

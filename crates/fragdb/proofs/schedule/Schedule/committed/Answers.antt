@@ -1,7 +1,7 @@
 use Rattle.std.proofs.Common.{◌≡◌, ◌++◌, ◌∷◌, [], List, ℕ, ap, rules, string_bytes, ◌∙◌}
 use Rattle.std.specs.List.{flat_map}
-use Rattle.world.specs.declared.history.Committed.{Committed}
-use Rattle.world.specs.Telling.{committed_in}
+use Rattle.world.specs.declared.committed.Committed.{Committed}
+use Rattle.world.specs.Replies.{committed_in}
 use Rattle.fragdb.specs.Cast.{name_of}
 use Rattle.fragdb.proofs.ShownLemmas.{names_of_committed}
 use Rattle.fragdb.proofs.schedule.Schedule.committed.Goals as goal

@@ -6,7 +6,7 @@ use Rattle.catalog.specs.Relation.{catalogue_of}
 use Rattle.store.specs.PlainDesk.{kept_of as desk_kept}
 use Rattle.store.specs.PlainSite.{kept_of}
 use Rattle.world.specs.Base.{database}
-use Rattle.world.specs.Held.{held}
+use Rattle.world.specs.Contents.{held}
 use Rattle.world.specs.Settled.{parts_kept}
 use Rattle.shell.specs.declared.mode.Mode.TheVariants.{Tabs}
 use Rattle.fragdb.specs.Shown.{parts_text}

@@ -1,11 +1,12 @@
 -- Why `begin` meets its contract.
 use Rattle.world.proofs.Counting.{none_fewer}
-use Rattle.desk.specs.State.{table_of}
-use Rattle.world.specs.Held.{held}
+use Rattle.desk.specs.State.{volatile_of}
+use Rattle.world.specs.Contents.{held}
 use Rattle.world.proofs.Machinery.{begin_leads}
-use Rattle.world.proofs.Moving.{if_ok}
+use Rattle.world.proofs.SiteSteps.{if_ok}
 use Rattle.world.specs.Counted.{counts, counts_of}
-use Rattle.std.proofs.Common.{◌∷◌, rules, ap}
+use Rattle.std.proofs.Common.{◌∷◌, ◌∙◌, rules, ap, sym}
+use Rattle.protocol.specs.Desk.{is_desk_within}
 use Rattle.world.proofs.Refusing.{if_err}
 use Rattle.world.proofs.Stops.{limit_stops}
 use Rattle.world.proofs.machines.Machines.begin.Goals as goal
@@ -14,7 +15,10 @@ pub returns-clause-ok : goal.returns-clause-ok
 returns-clause-ok g c = λ db over fit.
     let before = held g.D.DeskStore.kept g.S.SiteStore.kept c.args.self.now in
     let new = c.begin.new.self in
-    if_ok c.begin.result (λ out begun. begin_leads db before (g.D.DeskStore.kept new.store) (table_of new.present) out.letters out.replies fit begun) (c.begin.ensures.ok db over fit.desk)
+    if_ok c.begin.result (λ out begun. begin_leads db before (g.D.DeskStore.kept new.store) (volatile_of new.volatile) out.letters out.replies fit begun) (c.begin.ensures.ok db over fit.desk)
+
+pub returns-clause-within : goal.returns-clause-within
+returns-clause-within g c = λ db over fit. if_ok c.begin.result (λ out begun. ap is_desk_within (sym begun.state) ∙ begun.within) (c.begin.ensures.ok db over fit.desk)
 
 pub returns-clause-full : goal.returns-clause-full
 returns-clause-full g c = λ db over fit. c.begin.ensures.full db over fit.desk

@@ -4,7 +4,7 @@ use Rattle.std.specs.Cmp.Lexicographic.{pointwise}
 use Rattle.std.specs.List.{list_any}
 use Rattle.meaning.specs.declared.answer.Answer.TheVariants.{Exists}
 use Rattle.world.specs.Counted.{HaveRefused, counts}
-use Rattle.world.specs.Held.{held}
+use Rattle.world.specs.Contents.{held}
 use Rattle.world.specs.Reasons.{Tells}
 use Rattle.world.specs.Taking.{CameUnless, stop_of}
 use Rattle.world.proofs.machines.Machines.deliver.Goals.{in-Ok, in-Err}

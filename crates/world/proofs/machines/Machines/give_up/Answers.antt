@@ -4,12 +4,12 @@ use Rattle.world.specs.Counted.{counts, counts_of}
 use Rattle.std.proofs.Common.{rules, ap, ◌∷◌}
 use Rattle.protocol.specs.Desk.{Give_up}
 use Rattle.protocol.specs.Letters.{txn_name}
-use Rattle.desk.specs.Calls.{txn_in}
-use Rattle.desk.specs.State.{table_of}
-use Rattle.world.specs.Held.{held}
+use Rattle.desk.specs.Request.{txn_in}
+use Rattle.desk.specs.State.{volatile_of}
+use Rattle.world.specs.Contents.{held}
 use Rattle.world.proofs.Ends.{give_up_accepted, give_up_explained}
 use Rattle.world.proofs.Machinery.{asked_leads}
-use Rattle.world.proofs.Moving.{if_ok}
+use Rattle.world.proofs.SiteSteps.{if_ok}
 use Rattle.world.proofs.machines.Machines.give_up.Goals as goal
 
 pub returns-clause-ok : goal.returns-clause-ok
@@ -17,7 +17,7 @@ returns-clause-ok g c = λ db choice over fit.
     let before = held g.D.DeskStore.kept g.S.SiteStore.kept c.args.self.now in
     let new = c.give_up.new.self in
     let txn = txn_in db before.table c.args.txn in
-    if_ok c.give_up.result (λ out steps. asked_leads db before (g.D.DeskStore.kept new.store) (table_of new.present) c.args.txn choice Give_up out.letters out.replies fit steps (give_up_explained (txn_name c.args.txn) choice txn) (give_up_accepted txn))
+    if_ok c.give_up.result (λ out steps. asked_leads db before (g.D.DeskStore.kept new.store) (volatile_of new.volatile) c.args.txn choice Give_up out.letters out.replies fit steps (give_up_explained (txn_name c.args.txn) choice txn) (give_up_accepted txn))
     (c.give_up.ensures.ok db choice over fit.desk)
 
 pub returns-clause-leaves : goal.returns-clause-leaves

@@ -1,11 +1,11 @@
 -- Why `reply` meets its contract.
 use Rattle.std.proofs.Common.{rules, inl, inr, ⊎_elim}
-use Rattle.desk.specs.State.{table_of}
+use Rattle.desk.specs.State.{volatile_of}
 use Rattle.world.specs.Counted.{counts_of}
-use Rattle.world.specs.Held.{held}
+use Rattle.world.specs.Contents.{held}
 use Rattle.world.proofs.Counting.{no_fewer}
 use Rattle.world.proofs.Machinery.{reply_leads, reply_of}
-use Rattle.world.proofs.Moving.{if_ok}
+use Rattle.world.proofs.SiteSteps.{if_ok}
 use Rattle.world.proofs.Reasoned.{desk_tells}
 use Rattle.world.proofs.machines.Machines.reply.Goals as goal
 
@@ -14,7 +14,7 @@ returns-clause-ok g c = λ db of is clean sound fit no_order of_site.
     let before = held g.D.DeskStore.kept g.S.SiteStore.kept c.args.self.now in
     let new = c.take_kept.new.self in
     let said = reply_of c.args.letter.now.body no_order in
-    if_ok c.take_kept.result (λ out takes. reply_leads db before (g.D.DeskStore.kept new.store) (table_of new.present) c.args.letter.now said.0 said.1 out.kept out.letters out.replies fit takes)
+    if_ok c.take_kept.result (λ out takes. reply_leads db before (g.D.DeskStore.kept new.store) (volatile_of new.volatile) c.args.letter.now said.0 said.1 out.kept out.letters out.replies fit takes)
     (c.take_kept.ensures.takes.ok db said.0 of is clean.0 sound.0 fit.desk said.1 of_site)
 
 pub returns-clause-told : goal.returns-clause-told

@@ -2,20 +2,20 @@
 use Rattle.world.proofs.Counting.{no_fewer}
 use Rattle.world.specs.Counted.{counts_of}
 use Rattle.std.proofs.Common.{rules, inl, inr, ⊎_elim}
-use Rattle.desk.specs.State.{table_of}
-use Rattle.world.specs.Held.{held}
+use Rattle.desk.specs.State.{volatile_of}
+use Rattle.world.specs.Contents.{held}
 use Rattle.world.proofs.Machinery.{restart_leads}
-use Rattle.world.proofs.Moving.{if_ok}
+use Rattle.world.proofs.SiteSteps.{if_ok}
 use Rattle.world.proofs.Refusals.{desk_fails}
 use Rattle.world.specs.Counted.{HaveRefused, counts}
-use Rattle.world.specs.Held.{OfStores}
+use Rattle.world.specs.Contents.{OfStores}
 use Rattle.world.proofs.machines.Machines.restart.Goals as goal
 
 pub returns-clause-ok : goal.returns-clause-ok
 returns-clause-ok g c = λ db clean sound fit.
     let before = held g.D.DeskStore.kept g.S.SiteStore.kept c.args.self.now in
     let new = c.restart_kept.new.self in
-    if_ok c.restart_kept.result (λ out restarts. restart_leads db before (g.D.DeskStore.kept new.store) (table_of new.present) out.letters out.replies fit restarts) (c.restart_kept.ensures.restarts.ok db clean.0 fit.desk)
+    if_ok c.restart_kept.result (λ out restarts. restart_leads db before (g.D.DeskStore.kept new.store) (volatile_of new.volatile) out.letters out.replies fit restarts) (c.restart_kept.ensures.restarts.ok db clean.0 fit.desk)
 
 pub returns-clause-leaves : goal.returns-clause-leaves
 returns-clause-leaves g c = record {

@@ -2,12 +2,12 @@
 use Rattle.world.proofs.Counting.{none_fewer}
 use Rattle.protocol.specs.Desk.{Rollback}
 use Rattle.protocol.specs.Letters.{txn_name}
-use Rattle.desk.specs.Calls.{txn_in}
-use Rattle.desk.specs.State.{table_of}
-use Rattle.world.specs.Held.{held}
+use Rattle.desk.specs.Request.{txn_in}
+use Rattle.desk.specs.State.{volatile_of}
+use Rattle.world.specs.Contents.{held}
 use Rattle.world.proofs.Ends.{rollback_explained}
 use Rattle.world.proofs.Machinery.{asked_leads}
-use Rattle.world.proofs.Moving.{if_ok_too}
+use Rattle.world.proofs.SiteSteps.{if_ok_too}
 use Rattle.world.specs.Counted.{counts, counts_of}
 use Rattle.std.proofs.Common.{◌∷◌, rules, ap}
 use Rattle.catalog.specs.Relation.{catalogue_of}
@@ -21,7 +21,7 @@ returns-clause-ok g c = λ db choice over fit.
     let before = held g.D.DeskStore.kept g.S.SiteStore.kept c.args.self.now in
     let new = c.rollback.new.self in
     let txn = txn_in db before.table c.args.txn in
-    if_ok_too c.rollback.result (λ out accepted steps. asked_leads db before (g.D.DeskStore.kept new.store) (table_of new.present) c.args.txn choice Rollback out.letters out.replies fit steps (rollback_explained (txn_name c.args.txn) choice txn) accepted)
+    if_ok_too c.rollback.result (λ out accepted steps. asked_leads db before (g.D.DeskStore.kept new.store) (volatile_of new.volatile) c.args.txn choice Rollback out.letters out.replies fit steps (rollback_explained (txn_name c.args.txn) choice txn) accepted)
     (c.rollback.ensures.accepted db) (c.rollback.ensures.ok db choice over fit.desk)
 
 pub returns-clause-blames : goal.returns-clause-blames

@@ -3,11 +3,11 @@ use Rattle.world.proofs.Counting.{none_fewer}
 use Rattle.std.proofs.Common.{◌≡◌, None, ◌∷◌, rules, ap}
 use Rattle.protocol.specs.Desk.{State, refusal}
 use Rattle.meaning.specs.declared.statement.Statement.{Statement}
-use Rattle.desk.specs.Calls.{txn_in}
-use Rattle.desk.specs.State.{table_of}
-use Rattle.world.specs.Held.{held}
+use Rattle.desk.specs.Request.{txn_in}
+use Rattle.desk.specs.State.{volatile_of}
+use Rattle.world.specs.Contents.{held}
 use Rattle.world.proofs.Machinery.{asked_leads}
-use Rattle.world.proofs.Moving.{if_ok_all}
+use Rattle.world.proofs.SiteSteps.{if_ok_all}
 use Rattle.world.proofs.Refusing.{statement_refused, some, if_err}
 use Rattle.world.specs.Counted.{counts, counts_of}
 use Rattle.catalog.specs.Relation.{catalogue_of}
@@ -25,11 +25,11 @@ returns-clause-ok g c = λ db of is fit.
       choice = states.choice;
       spelled = states.spelled;
       fits = states.fits;
-      asked = asked_leads db before (g.D.DeskStore.kept new.store) (table_of new.present) c.args.txn states.choice (State states.statement) out.letters out.replies fit states.steps states.explained (accepted states.statement);
+      asked = asked_leads db before (g.D.DeskStore.kept new.store) (volatile_of new.volatile) c.args.txn states.choice (State states.statement) out.letters out.replies fit states.steps states.explained (accepted states.statement);
     }) (λ s. c.statement.ensures.accepted db s) (c.statement.ensures.ok db of is fit.desk)
 
 pub returns-clause-told : goal.returns-clause-told
-returns-clause-told g c = λ db of is fit. statement_refused db (table_of c.args.self.now.desk.present) c.args.txn c.args.text.now c.args.self.now.desk.catalog is c.statement.result (c.statement.ensures.told db) (c.statement.ensures.full db of is fit.desk)
+returns-clause-told g c = λ db of is fit. statement_refused db (volatile_of c.args.self.now.desk.volatile) c.args.txn c.args.text.now c.args.self.now.desk.catalog is c.statement.result (c.statement.ensures.told db) (c.statement.ensures.full db of is fit.desk)
 
 pub returns-clause-blames : goal.returns-clause-blames
 returns-clause-blames g c = if_err c.statement.result (λ told why. statement_stops (counts g.D.DeskStore.refused g.S.SiteStore.refused c.args.self.now) (g.D.DeskStore.refused c.statement.new.self.store ∷ counts_of g.S.SiteStore.refused c.args.self.now.sites.items) told _ _ _ why) (c.statement.ensures.told (database (catalogue_of c.args.self.now.desk.catalog)) some)

@@ -1,10 +1,10 @@
 -- Why `begins` meets its contract.
 use Rattle.world.proofs.Leaves.{leaves_still}
 use Rattle.std.proofs.Common.{refl}
-use Rattle.world.specs.Serving.{did_begin}
-use Rattle.world.specs.Held.{counted}
-use Rattle.world.specs.Denying.{declines_inside}
-use Rattle.world.proofs.Denying.{as_before, begin_declines}
+use Rattle.world.specs.Client.{did_begin}
+use Rattle.world.specs.Contents.{counted}
+use Rattle.world.specs.Denials.{declines_inside}
+use Rattle.world.proofs.Denials.{as_before, begin_declines}
 use Rattle.world.proofs.solo.Solo.begins.Goals as goal
 
 pub returns-in-Ok-clause-ok : goal.returns-in-Ok-clause-ok

@@ -2,9 +2,9 @@
 use Rattle.world.proofs.Leaves.{leaves_still}
 use Rattle.std.proofs.Common.{◌∙◌, List, ap, refl, subst, sym, ℕ, inl, inr, ⊎_elim, Err}
 use Rattle.reader.specs.declared.command.Command.TheVariants.{Begin, Commit, Rollback}
-use Rattle.world.specs.Denying.{IsUnreadable}
-use Rattle.world.specs.Held.{counted}
-use Rattle.world.proofs.Denying.{as_before, only_memory, text_declines}
+use Rattle.world.specs.Denials.{IsUnreadable}
+use Rattle.world.specs.Contents.{counted}
+use Rattle.world.proofs.Denials.{as_before, only_memory, text_declines}
 use Rattle.meaning.specs.declared.schema.RelationSchema.{RelationSchema}
 use Rattle.reader.specs.Command.{IsTextOf}
 use Rattle.catalog.specs.declared.relation.SplitRelation.{SplitRelation}
@@ -27,7 +27,7 @@ returns-in-Ok-clause-denied g c = λ db of is clean sound fit.
 pub returns-in-Err-clause-denied : goal.returns-in-Err-clause-denied
 returns-in-Err-clause-denied g c = λ db of is clean sound fit.
     text_declines db c.args.text.now c.args.self.now.current (counted g.D.DeskStore.kept g.S.SiteStore.kept g.D.DeskStore.refused g.S.SiteStore.refused c.args.self.now.machines) (counted g.D.DeskStore.kept g.S.SiteStore.kept g.D.DeskStore.refused g.S.SiteStore.refused c.args.self.now.machines) c.in-Err.refusal (as_before db (counted g.D.DeskStore.kept g.S.SiteStore.kept g.D.DeskStore.refused g.S.SiteStore.refused c.args.self.now.machines) (counted g.D.DeskStore.kept g.S.SiteStore.kept g.D.DeskStore.refused g.S.SiteStore.refused c.args.self.now.machines) fit refl)
-    (subst (λ (schemas : List RelationSchema). IsUnreadable schemas c.args.text.now c.in-Err.refusal) (ap (λ (x : List (List ℕ) × List SplitRelation). schemas_of (catalogue_of x)) c.catalog.ensures ∙ ap schemas_of (sym is) ∙ sym of.schemas) c.in-Err.ensures.unread)
+    (subst (λ (schemas : List RelationSchema). IsUnreadable schemas c.args.text.now c.in-Err.refusal) (ap (λ (x : List (List ℕ) × List SplitRelation). schemas_of (catalogue_of x)) c.catalog.ensures ∙ ap schemas_of (sym is) ∙ sym of.schemas) c.in-Err.ensures.reader_refusal)
 
 pub returns-in-Ok-clause-inside : goal.returns-in-Ok-clause-inside
 returns-in-Ok-clause-inside g c = λ txn some spelled.
@@ -37,7 +37,7 @@ returns-in-Ok-clause-inside g c = λ txn some spelled.
 pub returns-in-Err-clause-inside : goal.returns-in-Err-clause-inside
 returns-in-Err-clause-inside g c = λ txn some spelled.
     let schemas = schemas_of (catalogue_of c.args.self.now.machines.desk.catalog) in
-    inr (ap Err (only_memory schemas c.args.text.now c.in-Err.refusal (subst (λ (schemas : List RelationSchema). IsUnreadable schemas c.args.text.now c.in-Err.refusal) (ap (λ (x : List (List ℕ) × List SplitRelation). schemas_of (catalogue_of x)) c.catalog.ensures) c.in-Err.ensures.unread) Begin spelled))
+    inr (ap Err (only_memory schemas c.args.text.now c.in-Err.refusal (subst (λ (schemas : List RelationSchema). IsUnreadable schemas c.args.text.now c.in-Err.refusal) (ap (λ (x : List (List ℕ) × List SplitRelation). schemas_of (catalogue_of x)) c.catalog.ensures) c.in-Err.ensures.reader_refusal) Begin spelled))
 
 pub returns-in-Ok-clause-outside : goal.returns-in-Ok-clause-outside
 returns-in-Ok-clause-outside g c = λ none spelled.
@@ -50,18 +50,18 @@ returns-in-Ok-clause-outside g c = λ none spelled.
 pub returns-in-Err-clause-outside : goal.returns-in-Err-clause-outside
 returns-in-Err-clause-outside g c = λ none spelled.
     let schemas = schemas_of (catalogue_of c.args.self.now.machines.desk.catalog) in
-    let unread = subst (λ (schemas : List RelationSchema). IsUnreadable schemas c.args.text.now c.in-Err.refusal) (ap (λ (x : List (List ℕ) × List SplitRelation). schemas_of (catalogue_of x)) c.catalog.ensures) c.in-Err.ensures.unread in
-    inr (ap Err (⊎_elim (λ commits. only_memory schemas c.args.text.now c.in-Err.refusal unread Commit commits) (λ rolls_back. only_memory schemas c.args.text.now c.in-Err.refusal unread Rollback rolls_back) spelled))
+    let reader_refusal = subst (λ (schemas : List RelationSchema). IsUnreadable schemas c.args.text.now c.in-Err.refusal) (ap (λ (x : List (List ℕ) × List SplitRelation). schemas_of (catalogue_of x)) c.catalog.ensures) c.in-Err.ensures.reader_refusal in
+    inr (ap Err (⊎_elim (λ commits. only_memory schemas c.args.text.now c.in-Err.refusal reader_refusal Commit commits) (λ rolls_back. only_memory schemas c.args.text.now c.in-Err.refusal reader_refusal Rollback rolls_back) spelled))
 
-pub returns-in-Ok-clause-unread : goal.returns-in-Ok-clause-unread
-returns-in-Ok-clause-unread g c = λ none.
+pub returns-in-Ok-clause-reader_refusal : goal.returns-in-Ok-clause-reader_refusal
+returns-in-Ok-clause-reader_refusal g c = λ none.
     absurd (none c.in-Ok.command (subst (λ (schemas : List RelationSchema). IsTextOf schemas c.args.text.now c.in-Ok.command) (ap (λ (x : List (List ℕ) × List SplitRelation). schemas_of (catalogue_of x)) c.catalog.ensures) c.in-Ok.ensures.read))
 
-pub returns-in-Err-clause-unread : goal.returns-in-Err-clause-unread
-returns-in-Err-clause-unread g c = λ none. (tt, subst (λ (schemas : List RelationSchema). IsUnreadable schemas c.args.text.now c.in-Err.refusal) (ap (λ (x : List (List ℕ) × List SplitRelation). schemas_of (catalogue_of x)) c.catalog.ensures) c.in-Err.ensures.unread)
+pub returns-in-Err-clause-reader_refusal : goal.returns-in-Err-clause-reader_refusal
+returns-in-Err-clause-reader_refusal g c = λ none. (tt, subst (λ (schemas : List RelationSchema). IsUnreadable schemas c.args.text.now c.in-Err.refusal) (ap (λ (x : List (List ℕ) × List SplitRelation). schemas_of (catalogue_of x)) c.catalog.ensures) c.in-Err.ensures.reader_refusal)
 
 pub returns-in-Err-clause-blames : goal.returns-in-Err-clause-blames
-returns-in-Err-clause-blames g c = λ clean sound. unreadable_stops (counts g.D.DeskStore.refused g.S.SiteStore.refused c.args.self.now.machines) (counts g.D.DeskStore.refused g.S.SiteStore.refused c.args.self.now.machines) c.in-Err.refusal _ c.args.text.now c.in-Err.ensures.unread
+returns-in-Err-clause-blames g c = λ clean sound. unreadable_stops (counts g.D.DeskStore.refused g.S.SiteStore.refused c.args.self.now.machines) (counts g.D.DeskStore.refused g.S.SiteStore.refused c.args.self.now.machines) c.in-Err.refusal _ c.args.text.now c.in-Err.ensures.reader_refusal
 
 pub returns-in-Err-clause-leaves : goal.returns-in-Err-clause-leaves
 returns-in-Err-clause-leaves g c = leaves_still g.D.DeskStore.is_clean g.S.SiteStore.is_clean g.D.DeskStore.is_sound g.S.SiteStore.is_sound g.D.DeskStore.refused g.S.SiteStore.refused c.args.self.now.machines

@@ -1,10 +1,10 @@
 -- Why `commits` meets its contract.
 use Rattle.world.proofs.Leaves.{leaves_still}
 use Rattle.std.proofs.Common.{inl, refl}
-use Rattle.world.specs.Serving.{did_commit}
-use Rattle.world.specs.Held.{counted}
-use Rattle.world.specs.Denying.{declines_outside}
-use Rattle.world.proofs.Denying.{as_before, commit_declines}
+use Rattle.world.specs.Client.{did_commit}
+use Rattle.world.specs.Contents.{counted}
+use Rattle.world.specs.Denials.{declines_outside}
+use Rattle.world.proofs.Denials.{as_before, commit_declines}
 use Rattle.world.proofs.solo.Solo.commits.Goals as goal
 
 pub returns-in-Ok-clause-ok : goal.returns-in-Ok-clause-ok

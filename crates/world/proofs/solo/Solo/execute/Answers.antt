@@ -7,13 +7,16 @@ use Rattle.protocol.specs.Client.{ReachedLaw}
 use Rattle.desk.specs.Database.{language}
 use Rattle.desk.specs.OfCatalogue.{IsOfCatalogue}
 use Rattle.world.specs.Base.{database, fits}
-use Rattle.world.specs.Held.{counted}
-use Rattle.world.specs.Obeying.{ObeysUnlessRefused}
-use Rattle.world.specs.Denying.{DeniesForAReason}
+use Rattle.world.specs.Contents.{counted}
+use Rattle.world.specs.Executed.{ObeysUnlessRefused}
+use Rattle.world.specs.Denials.{DeniesForAReason}
+use Rattle.world.specs.Account.{AccountFollows}
+use Rattle.world.specs.Deeds.{DeedsFollow}
+use Rattle.world.proofs.Account.{heard_rightly, refused_rightly}
 use Rattle.world.specs.StandingAgain.{StandsAgain}
-use Rattle.world.proofs.Moving.{if_ok}
+use Rattle.world.proofs.SiteSteps.{if_ok}
 use Rattle.world.proofs.Refusing.{if_err}
-use Rattle.world.proofs.Obeying.{obeys_of}
+use Rattle.world.proofs.Executed.{obeys_of}
 use Rattle.world.proofs.StandingAgain.{stands_next}
 use Rattle.world.proofs.solo.Solo.execute.Goals as goal
 
@@ -67,3 +70,25 @@ returns-clause-blames g c = λ going clean sound. c.command-done.ensures.blames 
 
 pub returns-in-Some-clause-leaves : goal.returns-in-Some-clause-leaves
 returns-in-Some-clause-leaves g c = leaves_still g.D.DeskStore.is_clean g.S.SiteStore.is_clean g.D.DeskStore.is_sound g.S.SiteStore.is_sound g.D.DeskStore.refused g.S.SiteStore.refused c.args.self.now.machines
+
+pub returns-clause-right : goal.returns-clause-right
+returns-clause-right g c = λ whole entries past going clean sound served told.
+    let catalogue = catalogue_of c.args.self.now.machines.desk.catalog in
+    let before = counted g.D.DeskStore.kept g.S.SiteStore.kept g.D.DeskStore.refused g.S.SiteStore.refused c.args.self.now.machines in
+    let after = counted g.D.DeskStore.kept g.S.SiteStore.kept g.D.DeskStore.refused g.S.SiteStore.refused c.command-done.new.self.machines in
+    let of = subst (λ (x : List (List ℕ) × List SplitRelation). IsOfCatalogue (database (catalogue_of x))) c.catalog.ensures c.database_is_of_catalogue.ensures.of_catalogue in
+    let deeds = subst (λ (x : List (List ℕ) × List SplitRelation). DeedsFollow (database (catalogue_of x))) c.catalog-6.ensures c.deeds_follow.ensures in
+    let account = subst (λ (x : List (List ℕ) × List SplitRelation). AccountFollows (database (catalogue_of x))) c.catalog-7.ensures c.account_follows.ensures in
+    if_ok c.command-done.result (λ heard executes. heard_rightly (database catalogue) deeds account whole c.args.text.now c.args.self.now.current before c.command-done.new.self.current after entries past heard.items served told executes)
+    (c.command-done.ensures.ok (database catalogue) of refl clean sound served.fit)
+
+pub returns-clause-refused_right : goal.returns-clause-refused_right
+returns-clause-refused_right g c = λ whole entries past going clean sound served told.
+    let catalogue = catalogue_of c.args.self.now.machines.desk.catalog in
+    let before = counted g.D.DeskStore.kept g.S.SiteStore.kept g.D.DeskStore.refused g.S.SiteStore.refused c.args.self.now.machines in
+    let after = counted g.D.DeskStore.kept g.S.SiteStore.kept g.D.DeskStore.refused g.S.SiteStore.refused c.command-done.new.self.machines in
+    let of = subst (λ (x : List (List ℕ) × List SplitRelation). IsOfCatalogue (database (catalogue_of x))) c.catalog.ensures c.database_is_of_catalogue.ensures.of_catalogue in
+    let deeds = subst (λ (x : List (List ℕ) × List SplitRelation). DeedsFollow (database (catalogue_of x))) c.catalog-6.ensures c.deeds_follow.ensures in
+    let account = subst (λ (x : List (List ℕ) × List SplitRelation). AccountFollows (database (catalogue_of x))) c.catalog-7.ensures c.account_follows.ensures in
+    if_err c.command-done.result (λ refusal declines still. refused_rightly (database catalogue) deeds account whole c.args.text.now c.args.self.now.current before after entries past refusal still served told declines)
+    (c.command-done.ensures.denied (database catalogue) of refl clean sound served.fit)

@@ -5,7 +5,7 @@ use Rattle.protocol.specs.Client.{ReachedLaw}
 use Rattle.desk.specs.Database.{language}
 use Rattle.world.specs.Base.{database}
 use Rattle.world.specs.Counted.{counts}
-use Rattle.world.specs.Held.{counted, held}
+use Rattle.world.specs.Contents.{counted, held}
 use Rattle.world.specs.Machines.{world_of}
 use Rattle.world.specs.Settled.{after_committed}
 use Rattle.world.proofs.Counting.{fit_uncounted}
@@ -26,3 +26,11 @@ returns-clause-fails_after g c = λ whole past clean sound served.
     let law = subst (λ x. ReachedLaw (language (database (catalogue_of x)))) c.catalog.ensures c.one_client_is_a_run.ensures in
     let rests = world_of db machines [] past in
     c.rebuilt.ensures.fails (after_committed db past whole) clean sound (fit_uncounted db (held g.D.DeskStore.kept g.S.SiteStore.kept c.args.self.now.machines) (counts g.D.DeskStore.refused g.S.SiteStore.refused c.args.self.now.machines) served.fit) (law.serial whole rests served.reached).rebuilt (law.is_whole whole rests served.reached)
+
+pub returns-clause-rows : goal.returns-clause-rows
+returns-clause-rows g c = λ whole clean sound fit those fits.
+    c.rebuilt.ensures.rows whole clean sound (fit_uncounted (database (catalogue_of c.args.self.now.machines.desk.catalog)) (held g.D.DeskStore.kept g.S.SiteStore.kept c.args.self.now.machines) (counts g.D.DeskStore.refused g.S.SiteStore.refused c.args.self.now.machines) fit) those fits
+
+pub returns-clause-fails : goal.returns-clause-fails
+returns-clause-fails g c = λ whole clean sound fit those fits.
+    c.rebuilt.ensures.fails whole clean sound (fit_uncounted (database (catalogue_of c.args.self.now.machines.desk.catalog)) (held g.D.DeskStore.kept g.S.SiteStore.kept c.args.self.now.machines) (counts g.D.DeskStore.refused g.S.SiteStore.refused c.args.self.now.machines) fit) those fits

@@ -1,10 +1,10 @@
 -- Why `rolls_back` meets its contract.
 use Rattle.world.proofs.Leaves.{leaves_still}
 use Rattle.std.proofs.Common.{inr, refl}
-use Rattle.world.specs.Serving.{did_roll_back}
-use Rattle.world.specs.Held.{counted}
-use Rattle.world.specs.Denying.{declines_outside}
-use Rattle.world.proofs.Denying.{as_before, rollback_declines}
+use Rattle.world.specs.Client.{did_roll_back}
+use Rattle.world.specs.Contents.{counted}
+use Rattle.world.specs.Denials.{declines_outside}
+use Rattle.world.proofs.Denials.{as_before, rollback_declines}
 use Rattle.world.proofs.solo.Solo.rolls_back.Goals as goal
 
 pub returns-in-Ok-clause-ok : goal.returns-in-Ok-clause-ok

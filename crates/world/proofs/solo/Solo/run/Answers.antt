@@ -9,12 +9,12 @@ use Rattle.desk.specs.OfCatalogue.{IsOfCatalogue}
 use Rattle.world.specs.declared.transaction.Stop.{Stop}
 use Rattle.world.specs.Account.{AccountFollows}
 use Rattle.world.specs.Base.{database, fits}
-use Rattle.world.specs.Faring.{WasStopped}
-use Rattle.world.specs.Held.{counted}
-use Rattle.world.specs.Obeying.{ObeysUnlessRefused}
-use Rattle.world.specs.Serving.{ServedIsSerial}
+use Rattle.world.specs.BatchRuns.{WasStopped}
+use Rattle.world.specs.Contents.{counted}
+use Rattle.world.specs.Executed.{ObeysUnlessRefused}
+use Rattle.world.specs.Client.{ServedIsSerial}
 use Rattle.world.specs.Settling.{GrowsQuiet}
-use Rattle.world.proofs.Faring.{has_run, was_stopped}
+use Rattle.world.proofs.BatchRuns.{has_run, was_stopped}
 use Rattle.world.specs.Stopping.{StopsFor}
 use Rattle.world.specs.Counted.{counts}
 use Rattle.world.proofs.solo.Solo.run.Goals as goal

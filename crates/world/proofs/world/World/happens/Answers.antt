@@ -5,9 +5,11 @@ use Rattle.catalog.specs.Relation.{catalogue_of}
 use Rattle.desk.specs.OfCatalogue.{IsOfCatalogue}
 use Rattle.world.specs.declared.event.Entry.{Entry}
 use Rattle.world.specs.Base.{database}
-use Rattle.world.specs.Held.{OfStores, counted, held}
+use Rattle.world.specs.Contents.{OfStores, counted, held}
 use Rattle.world.specs.Refused.{IsRefusedFor}
-use Rattle.world.specs.Runs.{IsRun, RunsHold, RunsOn}
+use Rattle.world.specs.Counted.{HaveRefused, counts}
+use Rattle.world.specs.Runs.{IsRun, RunsHold, entry_of}
+use Rattle.world.proofs.Running.{spares_pushed, step_pushed}
 use Rattle.world.proofs.world.World.happens.Goals as goal
 
 pub returns-in-Err-clause-refused : goal.returns-in-Err-clause-refused
@@ -15,7 +17,7 @@ returns-in-Err-clause-refused g c = λ whole past run.
     let D = g.D.DeskStore in
     let S = g.S.SiteStore in
     let old = c.args.self.now.machines in
-    let new = c.happen.new.machines in
+    let new = c.apply_event.new.machines in
     let db = database (catalogue_of old.desk.catalog) in
     let of = subst (λ x. IsOfCatalogue (database (catalogue_of x))) c.catalog.ensures c.database_is_of_catalogue.ensures.of_catalogue in
     subst (λ (entries : List Entry). IsRefusedFor (OfStores D.is_clean S.is_clean new × OfStores D.is_sound S.is_sound old) db (counted D.kept S.kept D.refused S.refused old) (counted D.kept S.kept D.refused S.refused new) entries c.args.event c.in-Err.fault) c.in_ok-make_room.ensures.items
@@ -25,13 +27,32 @@ pub returns-in-Ok-clause-goes_on : goal.returns-in-Ok-clause-goes_on
 returns-in-Ok-clause-goes_on g c = λ whole past clean sound run.
     let db = database (catalogue_of c.args.self.now.machines.desk.catalog) in
     let before = held g.D.DeskStore.kept g.S.SiteStore.kept c.args.self.now.machines in
-    let after = held g.D.DeskStore.kept g.S.SiteStore.kept c.happen.new.machines in
+    let after = held g.D.DeskStore.kept g.S.SiteStore.kept c.apply_event.new.machines in
     let of = subst (λ x. IsOfCatalogue (database (catalogue_of x))) c.catalog.ensures c.database_is_of_catalogue.ensures.of_catalogue in
     let law = subst (λ x. RunsHold (database (catalogue_of x))) c.catalog-2.ensures c.runs_hold.ensures in
     let with_room = subst (λ (entries : List Entry). IsRun db whole before entries past) (sym c.in_ok-make_room.ensures.items) run in
-    let happened = c.in-Ok.ensures.ok db whole past of refl clean sound with_room in
-    let on = subst (λ (entries : List Entry). RunsOn db whole after entries past) (sym c.push.ensures) happened in
+    let on = step_pushed db whole before after _ _ _ past (entry_of c.args.event c.in-Ok.out) c.in_ok-make_room.ensures.items c.push.ensures (c.in-Ok.ensures.ok db whole past of refl clean sound with_room) in
     record { on = on; holds = law whole after c.push.new.self.items (past ++ on.deeds) on.run_on }
+
+pub returns-in-Ok-clause-ok : goal.returns-in-Ok-clause-ok
+returns-in-Ok-clause-ok g c = λ whole past clean sound run.
+    let db = database (catalogue_of c.args.self.now.machines.desk.catalog) in
+    let before = held g.D.DeskStore.kept g.S.SiteStore.kept c.args.self.now.machines in
+    let after = held g.D.DeskStore.kept g.S.SiteStore.kept c.apply_event.new.machines in
+    let of = subst (λ x. IsOfCatalogue (database (catalogue_of x))) c.catalog.ensures c.database_is_of_catalogue.ensures.of_catalogue in
+    let with_room = subst (λ (entries : List Entry). IsRun db whole before entries past) (sym c.in_ok-make_room.ensures.items) run in
+    let on = step_pushed db whole before after _ _ _ past (entry_of c.args.event c.in-Ok.out) c.in_ok-make_room.ensures.items c.push.ensures (c.in-Ok.ensures.ok db whole past of refl clean sound with_room) in
+    record { deeds = on.deeds; run_on = on.run_on }
+
+pub returns-in-Ok-clause-spared : goal.returns-in-Ok-clause-spared
+returns-in-Ok-clause-spared g c = λ whole past clean sound run.
+    let db = database (catalogue_of c.args.self.now.machines.desk.catalog) in
+    let before = held g.D.DeskStore.kept g.S.SiteStore.kept c.args.self.now.machines in
+    let after = held g.D.DeskStore.kept g.S.SiteStore.kept c.apply_event.new.machines in
+    let of = subst (λ x. IsOfCatalogue (database (catalogue_of x))) c.catalog.ensures c.database_is_of_catalogue.ensures.of_catalogue in
+    let with_room = subst (λ (entries : List Entry). IsRun db whole before entries past) (sym c.in_ok-make_room.ensures.items) run in
+    spares_pushed (HaveRefused (counts g.D.DeskStore.refused g.S.SiteStore.refused c.args.self.now.machines) (counts g.D.DeskStore.refused g.S.SiteStore.refused c.apply_event.new.machines)) db before after _ _ _ past (entry_of c.args.event c.in-Ok.out) c.args.event c.in_ok-make_room.ensures.items c.push.ensures
+    (c.in-Ok.ensures.spared db whole past of refl clean sound with_room)
 
 pub returns-in_err-make_room-clause-leaves : goal.returns-in_err-make_room-clause-leaves
 returns-in_err-make_room-clause-leaves g c = leaves_still g.D.DeskStore.is_clean g.S.SiteStore.is_clean g.D.DeskStore.is_sound g.S.SiteStore.is_sound g.D.DeskStore.refused g.S.SiteStore.refused c.args.self.now.machines

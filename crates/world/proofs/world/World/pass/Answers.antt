@@ -6,9 +6,9 @@ use Rattle.world.specs.declared.event.Event.{Event}
 use Rattle.world.specs.Base.{database}
 use Rattle.world.specs.Counted.{counts}
 use Rattle.world.specs.Following.{Happens}
-use Rattle.world.specs.Held.{OfStores, held}
+use Rattle.world.specs.Contents.{OfStores, held}
 use Rattle.world.proofs.Counting.{with_counts}
-use Rattle.world.proofs.Follow.{passes_by, runs_same}
+use Rattle.world.proofs.RunGoesOn.{passes_by, runs_same}
 use Rattle.world.proofs.Refusals.{refused_soundly}
 use Rattle.world.proofs.world.World.pass.Goals as goal
 

@@ -6,7 +6,7 @@ use Rattle.desk.specs.Database.{language}
 use Rattle.world.specs.Base.{database}
 use Rattle.world.specs.Counted.{counts}
 use Rattle.world.specs.Fault.{FailsFor}
-use Rattle.world.specs.Held.{held}
+use Rattle.world.specs.Contents.{held}
 use Rattle.world.specs.Runs.{RunsAreSerial}
 use Rattle.world.proofs.InSerial.{serial_gives, serial_shown}
 use Rattle.world.proofs.world.World.rebuilt.Goals as goal

@@ -9,11 +9,11 @@ use Rattle.world.specs.declared.event.Entry.{Entry}
 use Rattle.world.specs.declared.event.Event.{Event}
 use Rattle.world.specs.Base.{database}
 use Rattle.world.specs.Following.{Follows, FollowsAtLeast, Happens}
-use Rattle.world.specs.Held.{OfStores, counted, held}
+use Rattle.world.specs.Contents.{OfStores, counted, held}
 use Rattle.world.specs.Machines.{Machines}
 use Rattle.world.specs.Runs.{IsRun, RunsOn}
 use Rattle.world.proofs.Counting.{with_counts}
-use Rattle.world.proofs.Follow.{follows_more, runs_further, runs_still}
+use Rattle.world.proofs.RunGoesOn.{follows_more, runs_further, runs_still}
 use Rattle.world.proofs.Leaves.{leaves_still, leaves_then}
 use Rattle.world.proofs.world.World.run.Goals as goal
 

@@ -7,7 +7,7 @@ use Rattle.desk.specs.Database.{language}
 use Rattle.world.specs.Base.{database}
 use Rattle.world.specs.Following.{Follows}
 use Rattle.world.specs.Frame.{LeavesMachines}
-use Rattle.world.specs.Held.{OfStores, counted, held}
+use Rattle.world.specs.Contents.{OfStores, counted, held}
 use Rattle.world.specs.Runs.{IsRun, RunsOn}
 use Rattle.world.proofs.world.World.run.Given as goal
 

@@ -1,8 +1,0 @@
--- Why `answers` meets its contract.
-use Rattle.std.proofs.Common.{rules}
-use Rattle.std.proofs.lemmas.Fn.{filter_same}
-use Rattle.world.specs.Serving.{is_answer}
-use Rattle.world.proofs.alone.answers.Goals as goal
-
-pub returns : goal.returns
-returns c = filter_same _ (λ notice. is_answer notice.reply) _ (λ x b f' k. search rules) _ _ c.retain.ensures.filtered

@@ -1,8 +1,0 @@
--- What each round of `answers_to` keeps.
-use Rattle.std.proofs.Common.{◌≡◌, ◌++◌, drop}
-use Rattle.world.specs.Telling.{answers_to}
-use Rattle.world.proofs.history.answers_to.Given as goal
-
--- the answers so far, and those of the rest
-abbrev pub invariant-loop-entry : goal.invariant-loop-entry
-invariant-loop-entry l = l.answers.items ++ answers_to (drop l.entry-index l.entries) l.txn ≡ answers_to l.entries l.txn

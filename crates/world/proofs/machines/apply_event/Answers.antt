@@ -1,0 +1,175 @@
+-- Why `apply_event` meets its contract.
+use Rattle.world.proofs.Leaves.{leaves_still}
+use Rattle.std.proofs.Common.{ℕ, List, ◌++◌, ◌∷◌, [], refl, sym, ap, subst, true, IfErr, IfOk}
+use Rattle.protocol.specs.World.{Desk_restarts, desk_restarts}
+use Rattle.world.specs.declared.event.Event as events
+use Rattle.world.specs.declared.event.Event.TheVariants as event
+use Rattle.world.specs.Contents.{OfStores, counted, held}
+use Rattle.world.specs.Machines.{world_of}
+use Rattle.world.specs.Refused.{IsRefusedFor}
+use Rattle.world.specs.Counted.{HaveRefused, counts}
+use Rattle.world.specs.Runs.{Spares, StepsOn, entry_of}
+use Rattle.world.proofs.CallsKept.{any_ok}
+use Rattle.world.proofs.SiteSteps.{if_ok_too}
+use Rattle.world.proofs.Refusals.{by_desk_err, call_refused, desk_refused}
+use Rattle.world.proofs.Running.{by_desk_ok, runs_on}
+use Rattle.world.proofs.Told.{desk_restarts_silent, silent_step}
+use Rattle.world.proofs.machines.apply_event.Goals as goal
+
+pub returns-in-Call-clause-ok : goal.returns-in-Call-clause-ok
+returns-in-Call-clause-ok g c = λ db whole past of is clean sound so.
+    let before = held g.D.DeskStore.kept g.S.SiteStore.kept c.args.machines.now in
+    let after = held g.D.DeskStore.kept g.S.SiteStore.kept c.call.new.machines in
+    let entries = c.args.log.now.items in
+    subst (λ (what : events.Event). IfOk c.by_desk.result (λ out. StepsOn db whole before after entries (entries ++ entry_of what out ∷ []) past)) (sym c.in-Call.is)
+    (by_desk_ok (λ out. StepsOn db whole before after entries (entries ++ entry_of (event.Call c.in-Call.asked) out ∷ []) past) c.call.result c.by_desk.result c.by_desk.ensures (c.call.ensures.ok db whole entries past of is so))
+
+pub returns-in-DeskRestarts-clause-ok : goal.returns-in-DeskRestarts-clause-ok
+returns-in-DeskRestarts-clause-ok g c = λ db whole past of is clean sound so.
+    let before = held g.D.DeskStore.kept g.S.SiteStore.kept c.args.machines.now in
+    let after = held g.D.DeskStore.kept g.S.SiteStore.kept c.restart.new.self in
+    let entries = c.args.log.now.items in
+    let kept = c.in-DeskRestarts.kept in
+    let what = event.DeskRestarts kept in
+    subst (λ (what : events.Event). IfOk c.by_desk-in-DeskRestarts.result (λ out. StepsOn db whole before after entries (entries ++ entry_of what out ∷ []) past)) (sym c.in-DeskRestarts.is)
+    (by_desk_ok (λ out. StepsOn db whole before after entries (entries ++ entry_of what out ∷ []) past) c.restart.result c.by_desk-in-DeskRestarts.result c.by_desk-in-DeskRestarts.ensures
+    (if_ok_too c.restart.result (λ out kept_so leads. runs_on db whole before after entries past what out desk_restarts (Desk_restarts true) so leads refl (ap Desk_restarts (sym kept_so)) refl
+    (silent_step db before after out.letters out.replies what desk_restarts leads refl refl (desk_restarts_silent (world_of db before [] []) refl))) c.restart.ensures.called (c.restart.ensures.ok db clean sound so.fit)))
+
+pub returns-in-Call-clause-refused : goal.returns-in-Call-clause-refused
+returns-in-Call-clause-refused g c = λ db of is fit.
+    let D = g.D.DeskStore in
+    let S = g.S.SiteStore in
+    let old = c.args.machines.now in
+    let new = c.call.new.machines in
+    let sound = OfStores D.is_clean S.is_clean new × OfStores D.is_sound S.is_sound old in
+    let before = counted D.kept S.kept D.refused S.refused old in
+    let after = counted D.kept S.kept D.refused S.refused new in
+    subst (λ (what : events.Event). IfErr c.by_desk.result (IsRefusedFor sound db before after c.args.log.now.items what)) (sym c.in-Call.is)
+    (by_desk_err (IsRefusedFor sound db before after c.args.log.now.items (event.Call c.in-Call.asked)) c.call.result c.by_desk.result c.by_desk.ensures
+    (call_refused sound db before after c.args.log.now.items c.call.result c.in-Call.asked (c.call.ensures.refused db of is fit)))
+
+pub returns-in-DeskRestarts-clause-refused : goal.returns-in-DeskRestarts-clause-refused
+returns-in-DeskRestarts-clause-refused g c = λ db of is fit.
+    let D = g.D.DeskStore in
+    let S = g.S.SiteStore in
+    let old = c.args.machines.now in
+    let new = c.restart.new.self in
+    let sound = OfStores D.is_clean S.is_clean new × OfStores D.is_sound S.is_sound old in
+    let before = counted D.kept S.kept D.refused S.refused old in
+    let after = counted D.kept S.kept D.refused S.refused new in
+    let kept = c.in-DeskRestarts.kept in
+    subst (λ (what : events.Event). IfErr c.by_desk-in-DeskRestarts.result (IsRefusedFor sound db before after c.args.log.now.items what)) (sym c.in-DeskRestarts.is)
+    (by_desk_err (IsRefusedFor sound db before after c.args.log.now.items (event.DeskRestarts kept)) c.restart.result c.by_desk-in-DeskRestarts.result c.by_desk-in-DeskRestarts.ensures
+    (desk_refused sound db before after c.args.log.now.items c.restart.result kept c.restart.ensures.told))
+
+pub returns-in_ok-copy-in-SiteGivesUp-clause-ok : goal.returns-in_ok-copy-in-SiteGivesUp-clause-ok
+returns-in_ok-copy-in-SiteGivesUp-clause-ok g c = λ db whole past of is clean sound so.
+    let before = held g.D.DeskStore.kept g.S.SiteStore.kept c.args.machines.now in
+    let after = held g.D.DeskStore.kept g.S.SiteStore.kept c.apply_event_at.new.machines in
+    let entries = c.args.log.now.items in
+    subst (λ (what : events.Event). IfOk c.apply_event_at.result (λ out. StepsOn db whole before after entries (entries ++ entry_of what out ∷ []) past)) (sym c.in-SiteGivesUp.is)
+    (c.apply_event_at.ensures.ok db whole entries (event.SiteGivesUp c.in-SiteGivesUp.site c.in-SiteGivesUp.ticket) past of is clean sound (ap (λ (site : List ℕ). event.SiteGivesUp site c.in-SiteGivesUp.ticket) (sym c.in_ok-copy-in-SiteGivesUp.ensures)) so)
+
+pub returns-in_ok-copy-in-SiteGivesUp-clause-refused : goal.returns-in_ok-copy-in-SiteGivesUp-clause-refused
+returns-in_ok-copy-in-SiteGivesUp-clause-refused g c = λ db of is fit.
+    let D = g.D.DeskStore in
+    let S = g.S.SiteStore in
+    let old = c.args.machines.now in
+    let new = c.apply_event_at.new.machines in
+    let entries = c.args.log.now.items in
+    subst (λ (what : events.Event). IfErr c.apply_event_at.result (IsRefusedFor (OfStores D.is_clean S.is_clean new × OfStores D.is_sound S.is_sound old) db (counted D.kept S.kept D.refused S.refused old) (counted D.kept S.kept D.refused S.refused new) entries what)) (sym c.in-SiteGivesUp.is)
+    (c.apply_event_at.ensures.refused db entries (event.SiteGivesUp c.in-SiteGivesUp.site c.in-SiteGivesUp.ticket) of is fit (ap (λ (site : List ℕ). event.SiteGivesUp site c.in-SiteGivesUp.ticket) (sym c.in_ok-copy-in-SiteGivesUp.ensures)))
+
+pub returns-in_ok-copy-in-SiteInquires-clause-ok : goal.returns-in_ok-copy-in-SiteInquires-clause-ok
+returns-in_ok-copy-in-SiteInquires-clause-ok g c = λ db whole past of is clean sound so.
+    let before = held g.D.DeskStore.kept g.S.SiteStore.kept c.args.machines.now in
+    let after = held g.D.DeskStore.kept g.S.SiteStore.kept c.apply_event_at-in-SiteInquires.new.machines in
+    let entries = c.args.log.now.items in
+    subst (λ (what : events.Event). IfOk c.apply_event_at-in-SiteInquires.result (λ out. StepsOn db whole before after entries (entries ++ entry_of what out ∷ []) past)) (sym c.in-SiteInquires.is)
+    (c.apply_event_at-in-SiteInquires.ensures.ok db whole entries (event.SiteInquires c.in-SiteInquires.site) past of is clean sound (ap (λ (site : List ℕ). event.SiteInquires site) (sym c.in_ok-copy-in-SiteInquires.ensures)) so)
+
+pub returns-in_ok-copy-in-SiteInquires-clause-refused : goal.returns-in_ok-copy-in-SiteInquires-clause-refused
+returns-in_ok-copy-in-SiteInquires-clause-refused g c = λ db of is fit.
+    let D = g.D.DeskStore in
+    let S = g.S.SiteStore in
+    let old = c.args.machines.now in
+    let new = c.apply_event_at-in-SiteInquires.new.machines in
+    let entries = c.args.log.now.items in
+    subst (λ (what : events.Event). IfErr c.apply_event_at-in-SiteInquires.result (IsRefusedFor (OfStores D.is_clean S.is_clean new × OfStores D.is_sound S.is_sound old) db (counted D.kept S.kept D.refused S.refused old) (counted D.kept S.kept D.refused S.refused new) entries what)) (sym c.in-SiteInquires.is)
+    (c.apply_event_at-in-SiteInquires.ensures.refused db entries (event.SiteInquires c.in-SiteInquires.site) of is fit (ap (λ (site : List ℕ). event.SiteInquires site) (sym c.in_ok-copy-in-SiteInquires.ensures)))
+
+pub returns-in_ok-copy-in-SiteRestarts-clause-ok : goal.returns-in_ok-copy-in-SiteRestarts-clause-ok
+returns-in_ok-copy-in-SiteRestarts-clause-ok g c = λ db whole past of is clean sound so.
+    let before = held g.D.DeskStore.kept g.S.SiteStore.kept c.args.machines.now in
+    let after = held g.D.DeskStore.kept g.S.SiteStore.kept c.apply_event_at-in-SiteRestarts.new.machines in
+    let entries = c.args.log.now.items in
+    subst (λ (what : events.Event). IfOk c.apply_event_at-in-SiteRestarts.result (λ out. StepsOn db whole before after entries (entries ++ entry_of what out ∷ []) past)) (sym c.in-SiteRestarts.is)
+    (c.apply_event_at-in-SiteRestarts.ensures.ok db whole entries (event.SiteRestarts c.in-SiteRestarts.site c.in-SiteRestarts.kept) past of is clean sound (ap (λ (site : List ℕ). event.SiteRestarts site c.in-SiteRestarts.kept) (sym c.in_ok-copy-in-SiteRestarts.ensures)) so)
+
+pub returns-in_ok-copy-in-SiteRestarts-clause-refused : goal.returns-in_ok-copy-in-SiteRestarts-clause-refused
+returns-in_ok-copy-in-SiteRestarts-clause-refused g c = λ db of is fit.
+    let D = g.D.DeskStore in
+    let S = g.S.SiteStore in
+    let old = c.args.machines.now in
+    let new = c.apply_event_at-in-SiteRestarts.new.machines in
+    let entries = c.args.log.now.items in
+    subst (λ (what : events.Event). IfErr c.apply_event_at-in-SiteRestarts.result (IsRefusedFor (OfStores D.is_clean S.is_clean new × OfStores D.is_sound S.is_sound old) db (counted D.kept S.kept D.refused S.refused old) (counted D.kept S.kept D.refused S.refused new) entries what)) (sym c.in-SiteRestarts.is)
+    (c.apply_event_at-in-SiteRestarts.ensures.refused db entries (event.SiteRestarts c.in-SiteRestarts.site c.in-SiteRestarts.kept) of is fit (ap (λ (site : List ℕ). event.SiteRestarts site c.in-SiteRestarts.kept) (sym c.in_ok-copy-in-SiteRestarts.ensures)))
+
+pub returns-in_err-copy-in-SiteGivesUp-clause-leaves : goal.returns-in_err-copy-in-SiteGivesUp-clause-leaves
+returns-in_err-copy-in-SiteGivesUp-clause-leaves g c = leaves_still g.D.DeskStore.is_clean g.S.SiteStore.is_clean g.D.DeskStore.is_sound g.S.SiteStore.is_sound g.D.DeskStore.refused g.S.SiteStore.refused c.args.machines.now
+
+pub returns-in_err-copy-in-SiteInquires-clause-leaves : goal.returns-in_err-copy-in-SiteInquires-clause-leaves
+returns-in_err-copy-in-SiteInquires-clause-leaves g c = leaves_still g.D.DeskStore.is_clean g.S.SiteStore.is_clean g.D.DeskStore.is_sound g.S.SiteStore.is_sound g.D.DeskStore.refused g.S.SiteStore.refused c.args.machines.now
+
+pub returns-in_err-copy-in-SiteRestarts-clause-leaves : goal.returns-in_err-copy-in-SiteRestarts-clause-leaves
+returns-in_err-copy-in-SiteRestarts-clause-leaves g c = leaves_still g.D.DeskStore.is_clean g.S.SiteStore.is_clean g.D.DeskStore.is_sound g.S.SiteStore.is_sound g.D.DeskStore.refused g.S.SiteStore.refused c.args.machines.now
+
+pub returns-in-Call-clause-spared : goal.returns-in-Call-clause-spared
+returns-in-Call-clause-spared g c = λ db whole past of is clean sound so.
+    let before = held g.D.DeskStore.kept g.S.SiteStore.kept c.args.machines.now in
+    let after = held g.D.DeskStore.kept g.S.SiteStore.kept c.call.new.machines in
+    let refused = HaveRefused (counts g.D.DeskStore.refused g.S.SiteStore.refused c.args.machines.now) (counts g.D.DeskStore.refused g.S.SiteStore.refused c.call.new.machines) in
+    let entries = c.args.log.now.items in
+    subst (λ (what : events.Event). IfOk c.by_desk.result (λ out. Spares refused db before after entries (entries ++ entry_of what out ∷ []) past what)) (sym c.in-Call.is) (any_ok c.by_desk.result (λ out. tt))
+
+pub returns-in-DeskRestarts-clause-spared : goal.returns-in-DeskRestarts-clause-spared
+returns-in-DeskRestarts-clause-spared g c = λ db whole past of is clean sound so.
+    let before = held g.D.DeskStore.kept g.S.SiteStore.kept c.args.machines.now in
+    let after = held g.D.DeskStore.kept g.S.SiteStore.kept c.restart.new.self in
+    let refused = HaveRefused (counts g.D.DeskStore.refused g.S.SiteStore.refused c.args.machines.now) (counts g.D.DeskStore.refused g.S.SiteStore.refused c.restart.new.self) in
+    let entries = c.args.log.now.items in
+    subst (λ (what : events.Event). IfOk c.by_desk-in-DeskRestarts.result (λ out. Spares refused db before after entries (entries ++ entry_of what out ∷ []) past what)) (sym c.in-DeskRestarts.is) (any_ok c.by_desk-in-DeskRestarts.result (λ out. tt))
+
+pub returns-in_ok-copy-in-SiteGivesUp-clause-spared : goal.returns-in_ok-copy-in-SiteGivesUp-clause-spared
+returns-in_ok-copy-in-SiteGivesUp-clause-spared g c = λ db whole past of is clean sound so.
+    let before = held g.D.DeskStore.kept g.S.SiteStore.kept c.args.machines.now in
+    let after = held g.D.DeskStore.kept g.S.SiteStore.kept c.apply_event_at.new.machines in
+    let refused = HaveRefused (counts g.D.DeskStore.refused g.S.SiteStore.refused c.args.machines.now) (counts g.D.DeskStore.refused g.S.SiteStore.refused c.apply_event_at.new.machines) in
+    let entries = c.args.log.now.items in
+    subst (λ (what : events.Event). IfOk c.apply_event_at.result (λ out. Spares refused db before after entries (entries ++ entry_of what out ∷ []) past what)) (sym c.in-SiteGivesUp.is) (any_ok c.apply_event_at.result (λ out. tt))
+
+pub returns-in_ok-copy-in-SiteInquires-clause-spared : goal.returns-in_ok-copy-in-SiteInquires-clause-spared
+returns-in_ok-copy-in-SiteInquires-clause-spared g c = λ db whole past of is clean sound so.
+    let before = held g.D.DeskStore.kept g.S.SiteStore.kept c.args.machines.now in
+    let after = held g.D.DeskStore.kept g.S.SiteStore.kept c.apply_event_at-in-SiteInquires.new.machines in
+    let refused = HaveRefused (counts g.D.DeskStore.refused g.S.SiteStore.refused c.args.machines.now) (counts g.D.DeskStore.refused g.S.SiteStore.refused c.apply_event_at-in-SiteInquires.new.machines) in
+    let entries = c.args.log.now.items in
+    subst (λ (what : events.Event). IfOk c.apply_event_at-in-SiteInquires.result (λ out. Spares refused db before after entries (entries ++ entry_of what out ∷ []) past what)) (sym c.in-SiteInquires.is) (any_ok c.apply_event_at-in-SiteInquires.result (λ out. tt))
+
+pub returns-in_ok-copy-in-SiteRestarts-clause-spared : goal.returns-in_ok-copy-in-SiteRestarts-clause-spared
+returns-in_ok-copy-in-SiteRestarts-clause-spared g c = λ db whole past of is clean sound so.
+    let before = held g.D.DeskStore.kept g.S.SiteStore.kept c.args.machines.now in
+    let after = held g.D.DeskStore.kept g.S.SiteStore.kept c.apply_event_at-in-SiteRestarts.new.machines in
+    let refused = HaveRefused (counts g.D.DeskStore.refused g.S.SiteStore.refused c.args.machines.now) (counts g.D.DeskStore.refused g.S.SiteStore.refused c.apply_event_at-in-SiteRestarts.new.machines) in
+    let entries = c.args.log.now.items in
+    subst (λ (what : events.Event). IfOk c.apply_event_at-in-SiteRestarts.result (λ out. Spares refused db before after entries (entries ++ entry_of what out ∷ []) past what)) (sym c.in-SiteRestarts.is) (any_ok c.apply_event_at-in-SiteRestarts.result (λ out. tt))
+
+pub returns-in-Deliver-clause-spared : goal.returns-in-Deliver-clause-spared
+returns-in-Deliver-clause-spared g c = λ db whole past of is clean sound so.
+    let before = held g.D.DeskStore.kept g.S.SiteStore.kept c.args.machines.now in
+    let after = held g.D.DeskStore.kept g.S.SiteStore.kept c.deliver.new.machines in
+    let refused = HaveRefused (counts g.D.DeskStore.refused g.S.SiteStore.refused c.args.machines.now) (counts g.D.DeskStore.refused g.S.SiteStore.refused c.deliver.new.machines) in
+    let entries = c.args.log.now.items in
+    subst (λ (what : events.Event). IfOk c.deliver.result (λ out. Spares refused db before after entries (entries ++ entry_of what out ∷ []) past what)) (sym c.in-Deliver.is) (c.deliver.ensures.spared db whole past of is clean sound so)

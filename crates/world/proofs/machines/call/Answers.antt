@@ -1,0 +1,89 @@
+-- Why `call` meets its contract.
+use Rattle.std.proofs.Common.{◌≡◌, ◌⊎◌, ◌++◌, ◌∷◌, [], refl, sym, subst, IfErr, IfOk}
+use Rattle.reader.specs.declared.command.Command.TheVariants.{Run}
+use Rattle.reader.specs.Command.{IsTextOf}
+use Rattle.protocol.specs.Desk.{Commit_call, Give_up, Rollback, State}
+use Rattle.protocol.specs.World.{Begin, begins}
+use Rattle.desk.specs.declared.refusal.Refusal.TheVariants as refusals
+use Rattle.desk.specs.State.{volatile_of}
+use Rattle.world.specs.declared.event.Call as calls
+use Rattle.world.specs.declared.event.Call.TheVariants as call
+use Rattle.world.specs.declared.event.Event.TheVariants as event
+use Rattle.world.specs.Contents.{held}
+use Rattle.world.specs.Machines.{world_of}
+use Rattle.world.specs.Refused.{IsRefused}
+use Rattle.world.specs.Runs.{StepsOn, entry_of}
+use Rattle.world.proofs.SiteSteps.{if_both, if_ok}
+use Rattle.world.proofs.Reasoned.{no_choice}
+use Rattle.world.proofs.Running.{called_on, over_of, runs_on}
+use Rattle.world.proofs.Told.{begins_silent, commit_step, give_up_step, rollback_step, silent_step, state_step}
+use Rattle.world.proofs.machines.call.Goals as goal
+
+pub returns-in-Begin-clause-ok : goal.returns-in-Begin-clause-ok
+returns-in-Begin-clause-ok g c = λ db whole entries past of is so.
+    let before = held g.D.DeskStore.kept g.S.SiteStore.kept c.args.machines.now in
+    let after = held g.D.DeskStore.kept g.S.SiteStore.kept c.begin.new.self in
+    subst (λ (asked : calls.Call). IfOk c.begin.result (λ out. StepsOn db whole before after entries (entries ++ entry_of (event.Call asked) out ∷ []) past)) (sym c.in-Begin.is)
+    (if_both c.begin.result (λ out leads within. runs_on db whole before after entries past (event.Call call.Begin) out begins Begin so leads refl refl within
+    (silent_step db before after out.letters out.replies (event.Call call.Begin) begins leads refl refl (begins_silent (world_of db before [] []) refl))) (c.begin.ensures.ok db (over_of db c.args.machines.now.desk.catalog of is) so.fit) (c.begin.ensures.within db (over_of db c.args.machines.now.desk.catalog of is) so.fit))
+
+pub returns-in-Commit-clause-ok : goal.returns-in-Commit-clause-ok
+returns-in-Commit-clause-ok g c = λ db whole entries past of is so.
+    let before = held g.D.DeskStore.kept g.S.SiteStore.kept c.args.machines.now in
+    let after = held g.D.DeskStore.kept g.S.SiteStore.kept c.commit.new.self in
+    let txn = c.in-Commit.txn in
+    let what = event.Call (call.Commit txn) in
+    subst (λ (asked : calls.Call). IfOk c.commit.result (λ out. StepsOn db whole before after entries (entries ++ entry_of (event.Call asked) out ∷ []) past)) (sym c.in-Commit.is)
+    (if_ok c.commit.result (λ out asked. called_on db whole before after entries past what out txn (no_choice db) Commit_call so asked (no_choice db, refl)
+    (commit_step db before after out.letters out.replies txn (no_choice db) what asked refl refl)) (c.commit.ensures.ok db (no_choice db) (over_of db c.args.machines.now.desk.catalog of is) so.fit))
+
+pub returns-in-Rollback-clause-ok : goal.returns-in-Rollback-clause-ok
+returns-in-Rollback-clause-ok g c = λ db whole entries past of is so.
+    let before = held g.D.DeskStore.kept g.S.SiteStore.kept c.args.machines.now in
+    let after = held g.D.DeskStore.kept g.S.SiteStore.kept c.rollback.new.self in
+    let txn = c.in-Rollback.txn in
+    let what = event.Call (call.Rollback txn) in
+    subst (λ (asked : calls.Call). IfOk c.rollback.result (λ out. StepsOn db whole before after entries (entries ++ entry_of (event.Call asked) out ∷ []) past)) (sym c.in-Rollback.is)
+    (if_ok c.rollback.result (λ out asked. called_on db whole before after entries past what out txn (no_choice db) Rollback so asked (no_choice db, refl)
+    (rollback_step db before after out.letters out.replies txn (no_choice db) what asked refl refl)) (c.rollback.ensures.ok db (no_choice db) (over_of db c.args.machines.now.desk.catalog of is) so.fit))
+
+pub returns-in-GiveUp-clause-ok : goal.returns-in-GiveUp-clause-ok
+returns-in-GiveUp-clause-ok g c = λ db whole entries past of is so.
+    let before = held g.D.DeskStore.kept g.S.SiteStore.kept c.args.machines.now in
+    let after = held g.D.DeskStore.kept g.S.SiteStore.kept c.give_up.new.self in
+    let txn = c.in-GiveUp.txn in
+    let what = event.Call (call.GiveUp txn) in
+    subst (λ (asked : calls.Call). IfOk c.give_up.result (λ out. StepsOn db whole before after entries (entries ++ entry_of (event.Call asked) out ∷ []) past)) (sym c.in-GiveUp.is)
+    (if_ok c.give_up.result (λ out asked. called_on db whole before after entries past what out txn (no_choice db) Give_up so asked (no_choice db, refl)
+    (give_up_step db before after out.letters out.replies txn (no_choice db) what asked refl refl)) (c.give_up.ensures.ok db (no_choice db) (over_of db c.args.machines.now.desk.catalog of is) so.fit))
+
+pub returns-in-State-clause-ok : goal.returns-in-State-clause-ok
+returns-in-State-clause-ok g c = λ db whole entries past of is so.
+    let before = held g.D.DeskStore.kept g.S.SiteStore.kept c.args.machines.now in
+    let after = held g.D.DeskStore.kept g.S.SiteStore.kept c.statement.new.self in
+    let txn = c.in-State.txn in
+    let text = c.in-State.text in
+    let what = event.Call (call.State txn text) in
+    subst (λ (asked : calls.Call). IfOk c.statement.result (λ out. StepsOn db whole before after entries (entries ++ entry_of (event.Call asked) out ∷ []) past)) (sym c.in-State.is)
+    (if_ok c.statement.result (λ out stated.
+    let spelled = subst (λ of. IsTextOf db.schemas of (Run stated.statement)) c.as_str.ensures stated.spelled in
+    called_on db whole before after entries past what out txn stated.choice (State stated.statement) so stated.asked (stated.statement, stated.choice, (spelled, refl))
+    (state_step db before after out.letters out.replies txn text stated.statement stated.choice what stated.asked spelled refl refl)) (c.statement.ensures.ok db of is so.fit))
+
+pub returns-in-Begin-clause-refused : goal.returns-in-Begin-clause-refused
+returns-in-Begin-clause-refused g c = λ db of is fit.
+    subst (λ (asked : calls.Call). IfErr c.begin.result (λ told. (told ≡ refusals.Memory) ⊎ IsRefused db (volatile_of c.args.machines.now.desk.volatile) asked told)) (sym c.in-Begin.is)
+    (c.begin.ensures.full db (over_of db c.args.machines.now.desk.catalog of is) fit)
+
+pub returns-in-State-clause-refused : goal.returns-in-State-clause-refused
+returns-in-State-clause-refused g c = λ db of is fit.
+    subst (λ (asked : calls.Call). IfErr c.statement.result (λ told. (told ≡ refusals.Memory) ⊎ IsRefused db (volatile_of c.args.machines.now.desk.volatile) asked told)) (sym c.in-State.is)
+    (subst (λ text. IfErr c.statement.result (λ told. (told ≡ refusals.Memory) ⊎ IsRefused db (volatile_of c.args.machines.now.desk.volatile) (call.State c.in-State.txn text) told)) c.as_str.ensures (c.statement.ensures.told db of is fit))
+
+pub returns-in-Commit-clause-refused : goal.returns-in-Commit-clause-refused
+returns-in-Commit-clause-refused g c = λ db of is fit.
+    subst (λ (asked : calls.Call). IfErr c.commit.result (λ told. (told ≡ refusals.Memory) ⊎ IsRefused db (volatile_of c.args.machines.now.desk.volatile) asked told)) (sym c.in-Commit.is) (c.commit.ensures.told db)
+
+pub returns-in-Rollback-clause-refused : goal.returns-in-Rollback-clause-refused
+returns-in-Rollback-clause-refused g c = λ db of is fit.
+    subst (λ (asked : calls.Call). IfErr c.rollback.result (λ told. (told ≡ refusals.Memory) ⊎ IsRefused db (volatile_of c.args.machines.now.desk.volatile) asked told)) (sym c.in-Rollback.is) (c.rollback.ensures.told db)

@@ -1,0 +1,75 @@
+-- Why `deliver_all` meets its contract.
+use Rattle.std.proofs.Common.{rules, ◌≡◌, ◌∙◌, ◌+◌, ◌-◌, ℕ, suc, refl, sym, ap, subst, arith}
+use Rattle.catalog.specs.Relation.{catalogue_of}
+use Rattle.protocol.specs.Rounds.{RanksUnder}
+use Rattle.world.specs.Contents.{counted}
+use Rattle.world.specs.Taking.{put_out_by, scene, world_at}
+use Rattle.world.proofs.Deliveries.{alike_goes, all_nine, goes_settled, none_left, then_breaks, then_goes}
+use Rattle.world.proofs.SiteSteps.{on_any_err}
+use Rattle.world.proofs.Counting.{no_fewer, no_fewer_then}
+use Rattle.world.proofs.Stops.{stops_since, told_on}
+use Rattle.world.specs.Counted.{counts}
+use Rattle.world.proofs.mailbox.deliver_all.Goals as goal
+
+pub loop-init : goal.loop-init
+loop-init g c =
+    let m = counted g.D.DeskStore.kept g.S.SiteStore.kept g.D.DeskStore.refused g.S.SiteStore.refused c.args.machines.now in
+    record {
+      clean = λ x. x;
+      sound = λ x s. s;
+      catalog = refl;
+      counts = no_fewer (counts g.D.DeskStore.refused g.S.SiteStore.refused c.args.machines.now);
+      goes = λ db of is clean sound fit. alike_goes db (put_out_by m c.args.out) (scene m c.of-post.result) refl c.of-post.ensures.waiting c.of-post.ensures.heard fit;
+      ranks = λ db of is clean sound fit. all_nine db (scene m c.of-post.result);
+    }
+
+pub loop-preserved : goal.loop-preserved
+loop-preserved g c =
+    let first = put_out_by (counted g.D.DeskStore.kept g.S.SiteStore.kept g.D.DeskStore.refused g.S.SiteStore.refused c.args.machines.now) c.args.out in
+    let here = scene (counted g.D.DeskStore.kept g.S.SiteStore.kept g.D.DeskStore.refused g.S.SiteStore.refused c.loop.machines) c.loop.post in
+    let there = scene (counted g.D.DeskStore.kept g.S.SiteStore.kept g.D.DeskStore.refused g.S.SiteStore.refused c.deliver_round.new.machines) c.deliver_round.new.post in
+    let one_less : 9 - c.loop.counter ≡ suc (8 - c.loop.counter) = omega (arith, c.loop-test.true) in
+    let same : 8 - c.loop.counter ≡ 9 - (c.loop.counter + 1) = omega arith in
+    record {
+      clean = λ x. c.loop.invariant.clean (c.deliver_round.ensures.leaves.clean x);
+      sound = λ x s. c.deliver_round.ensures.leaves.sound x (c.loop.invariant.sound (c.deliver_round.ensures.leaves.clean x) s);
+      catalog = c.deliver_round.ensures.leaves.catalog ∙ c.loop.invariant.catalog;
+      counts = no_fewer_then (counts g.D.DeskStore.refused g.S.SiteStore.refused c.args.machines.now) (counts g.D.DeskStore.refused g.S.SiteStore.refused c.loop.machines) (counts g.D.DeskStore.refused g.S.SiteStore.refused c.deliver_round.new.machines) c.loop.invariant.counts c.deliver_round.ensures.leaves.counts;
+      goes = λ db of is clean sound fit.
+          let so_far = c.loop.invariant.goes db of is (c.deliver_round.ensures.leaves.clean clean) sound fit in
+          then_goes db (λ w. w) first here so_far there (c.in_ok-deliver_round.ensures.ok db of (is ∙ ap catalogue_of (sym c.loop.invariant.catalog)) clean (c.loop.invariant.sound (c.deliver_round.ensures.leaves.clean clean) sound) so_far.fit);
+      ranks = λ db of is clean sound fit.
+          let so_far = c.loop.invariant.goes db of is (c.deliver_round.ensures.leaves.clean clean) sound fit in
+          let ranked = c.loop.invariant.ranks db of is (c.deliver_round.ensures.leaves.clean clean) sound fit in
+          subst (λ (k : ℕ). RanksUnder k (world_at db there)) same
+          (c.in_ok-deliver_round.ensures.ranks db (8 - c.loop.counter) of (is ∙ ap catalogue_of (sym c.loop.invariant.catalog)) clean (c.loop.invariant.sound (c.deliver_round.ensures.leaves.clean clean) sound) so_far.fit
+          (subst (λ (k : ℕ). RanksUnder k (world_at db here)) one_less ranked));
+    }
+
+pub returns-clause-ok : goal.returns-clause-ok
+returns-clause-ok g c = λ db of is clean sound fit.
+    let first = put_out_by (counted g.D.DeskStore.kept g.S.SiteStore.kept g.D.DeskStore.refused g.S.SiteStore.refused c.args.machines.now) c.args.out in
+    let here = scene (counted g.D.DeskStore.kept g.S.SiteStore.kept g.D.DeskStore.refused g.S.SiteStore.refused c.loop.machines) c.loop.post in
+    let over : 9 - c.loop.counter ≡ 0 = omega (arith, c.loop-test.false) in
+    goes_settled db (λ w. w) first here (c.loop.invariant.goes db of is clean sound fit) (none_left db here (subst (λ (k : ℕ). RanksUnder k (world_at db here)) over (c.loop.invariant.ranks db of is clean sound fit)))
+
+pub returns-in_err-deliver_round-clause-err : goal.returns-in_err-deliver_round-clause-err
+returns-in_err-deliver_round-clause-err g c = λ db of is clean sound fit.
+    let first = put_out_by (counted g.D.DeskStore.kept g.S.SiteStore.kept g.D.DeskStore.refused g.S.SiteStore.refused c.args.machines.now) c.args.out in
+    let here = scene (counted g.D.DeskStore.kept g.S.SiteStore.kept g.D.DeskStore.refused g.S.SiteStore.refused c.loop.machines) c.loop.post in
+    let so_far = c.loop.invariant.goes db of is (c.deliver_round.ensures.leaves.clean clean) sound fit in
+    on_any_err c.from_residual.result (then_breaks db (λ w. w) first here so_far (counted g.D.DeskStore.kept g.S.SiteStore.kept g.D.DeskStore.refused g.S.SiteStore.refused c.deliver_round.new.machines)
+    (c.in_err-deliver_round.ensures.err db of (is ∙ ap catalogue_of (sym c.loop.invariant.catalog)) clean (c.loop.invariant.sound (c.deliver_round.ensures.leaves.clean clean) sound) so_far.fit))
+
+pub returns-in_err-deliver_round-clause-leaves : goal.returns-in_err-deliver_round-clause-leaves
+returns-in_err-deliver_round-clause-leaves g c = record {
+  clean = search rules;
+  sound = search rules;
+  counts = no_fewer_then (counts g.D.DeskStore.refused g.S.SiteStore.refused c.args.machines.now) (counts g.D.DeskStore.refused g.S.SiteStore.refused c.loop.machines) (counts g.D.DeskStore.refused g.S.SiteStore.refused c.deliver_round.new.machines) c.loop.invariant.counts c.deliver_round.ensures.leaves.counts;
+  catalog = search rules;
+}
+
+pub returns-in_err-deliver_round-clause-blames : goal.returns-in_err-deliver_round-clause-blames
+returns-in_err-deliver_round-clause-blames g c = λ clean sound.
+    told_on c.from_residual.result c.in_err-deliver_round.field-0.0 (counts g.D.DeskStore.refused g.S.SiteStore.refused c.args.machines.now) (counts g.D.DeskStore.refused g.S.SiteStore.refused c.deliver_round.new.machines) c.from_residual.ensures.1
+    (stops_since (counts g.D.DeskStore.refused g.S.SiteStore.refused c.args.machines.now) (counts g.D.DeskStore.refused g.S.SiteStore.refused c.loop.machines) (counts g.D.DeskStore.refused g.S.SiteStore.refused c.deliver_round.new.machines) c.loop.invariant.counts c.in_err-deliver_round.field-0.0 (c.in_err-deliver_round.ensures.blames clean (c.loop.invariant.sound (c.deliver_round.ensures.leaves.clean clean) sound)))

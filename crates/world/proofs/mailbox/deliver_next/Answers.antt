@@ -1,0 +1,57 @@
+-- Why `deliver_next` meets its contract.
+use Rattle.std.proofs.Common.{rules, ◌≡◌, refl, subst, List}
+use Rattle.store.specs.declared.letter.Letter.{Letter}
+use Rattle.world.specs.Mailbox.{Goes}
+use Rattle.world.specs.Counted.{counts}
+use Rattle.world.specs.Contents.{counted, held}
+use Rattle.world.specs.Taking.{scene}
+use Rattle.world.proofs.Counting.{fit_uncounted, no_fewer}
+use Rattle.world.proofs.Deliveries.{comes_breaks, comes_goes, comes_ranked, nothing_breaks, nothing_goes}
+use Rattle.world.proofs.SiteSteps.{on_any_err, on_both, on_ok}
+use Rattle.world.proofs.Stops.{memory_only}
+use Rattle.world.proofs.mailbox.deliver_next.Goals as goal
+
+pub returns-in_default-clause-ok : goal.returns-in_default-clause-ok
+returns-in_default-clause-ok g c = λ db of is clean sound fit.
+    let here = scene (counted g.D.DeskStore.kept g.S.SiteStore.kept g.D.DeskStore.refused g.S.SiteStore.refused c.args.machines.now) c.args.post.now in
+    let same : here.waiting ≡ c.pop_front.new.self.items = c.in_default.ensures.items in
+    subst (λ (waiting : List Letter). Goes db (λ w. w) here (record { machines = here.machines; waiting = waiting; heard = here.heard })) same (nothing_goes db here fit)
+
+pub returns-in-Ok-clause-ok : goal.returns-in-Ok-clause-ok
+returns-in-Ok-clause-ok g c = λ db of is clean sound fit.
+    let here = scene (counted g.D.DeskStore.kept g.S.SiteStore.kept g.D.DeskStore.refused g.S.SiteStore.refused c.args.machines.now) c.args.post.now in
+    let after = counted g.D.DeskStore.kept g.S.SiteStore.kept g.D.DeskStore.refused g.S.SiteStore.refused c.deliver_one.new.machines in
+    on_both c.add.result (λ waiting heard. comes_goes db c.in-Some.letter here after c.pop_front.new.self.items c.in-Ok.out.letters c.in-Ok.out.replies c.in-Some.ensures.items (c.in-Ok.ensures.ok db of is clean sound fit) (scene after c.add.new.self) refl waiting heard)
+    c.add.ensures.waiting c.add.ensures.heard
+
+pub returns-in-Ok-clause-ranks : goal.returns-in-Ok-clause-ranks
+returns-in-Ok-clause-ranks g c = λ db n i of is clean sound fit ranked.
+    let here = scene (counted g.D.DeskStore.kept g.S.SiteStore.kept g.D.DeskStore.refused g.S.SiteStore.refused c.args.machines.now) c.args.post.now in
+    let after = counted g.D.DeskStore.kept g.S.SiteStore.kept g.D.DeskStore.refused g.S.SiteStore.refused c.deliver_one.new.machines in
+    on_ok c.add.result (λ waiting. comes_ranked db c.in-Some.letter here after c.pop_front.new.self.items c.in-Ok.out.letters c.in-Ok.out.replies c.in-Some.ensures.items (c.in-Ok.ensures.ok db of is clean sound fit) n i fit (scene after c.add.new.self) refl waiting ranked)
+    c.add.ensures.waiting
+
+pub returns-in-Ok-clause-err : goal.returns-in-Ok-clause-err
+returns-in-Ok-clause-err g c = λ db of is clean sound fit.
+    let here = scene (counted g.D.DeskStore.kept g.S.SiteStore.kept g.D.DeskStore.refused g.S.SiteStore.refused c.args.machines.now) c.args.post.now in
+    let after = counted g.D.DeskStore.kept g.S.SiteStore.kept g.D.DeskStore.refused g.S.SiteStore.refused c.deliver_one.new.machines in
+    on_any_err c.add.result (comes_breaks db c.in-Some.letter here after c.pop_front.new.self.items c.in-Ok.out.letters c.in-Ok.out.replies c.in-Some.ensures.items (c.in-Ok.ensures.ok db of is clean sound fit))
+
+pub returns-in-Err-clause-err : goal.returns-in-Err-clause-err
+returns-in-Err-clause-err g c = λ db of is clean sound fit.
+    let before = held g.D.DeskStore.kept g.S.SiteStore.kept c.args.machines.now in
+    let after = held g.D.DeskStore.kept g.S.SiteStore.kept c.deliver_one.new.machines in
+    let old = counts g.D.DeskStore.refused g.S.SiteStore.refused c.args.machines.now in
+    let new = counts g.D.DeskStore.refused g.S.SiteStore.refused c.deliver_one.new.machines in
+    nothing_breaks db before after old new c.args.post.now.waiting.items c.args.post.now.heard.items (c.in-Err.ensures.err clean sound) (fit_uncounted db before old fit)
+
+pub returns-in_default-clause-leaves : goal.returns-in_default-clause-leaves
+returns-in_default-clause-leaves g c = record {
+  clean = search rules;
+  sound = search rules;
+  counts = no_fewer (counts g.D.DeskStore.refused g.S.SiteStore.refused c.args.machines.now);
+  catalog = search rules;
+}
+
+pub returns-in-Ok-clause-blames : goal.returns-in-Ok-clause-blames
+returns-in-Ok-clause-blames g c = λ clean sound. memory_only c.add.result (counts g.D.DeskStore.refused g.S.SiteStore.refused c.args.machines.now) (counts g.D.DeskStore.refused g.S.SiteStore.refused c.deliver_one.new.machines) c.add.ensures.own

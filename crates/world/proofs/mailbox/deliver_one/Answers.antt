@@ -1,0 +1,56 @@
+-- Why `deliver_one` meets its contract.
+use Rattle.std.proofs.Common.{rules, ◌∙◌, sym, ap, subst, IfSome, Option}
+use Rattle.catalog.specs.Relation.{catalogue_of}
+use Rattle.world.specs.Counted.{counts}
+use Rattle.world.specs.Contents.{counted, held}
+use Rattle.world.specs.Machines.{AreFit}
+use Rattle.world.proofs.Counting.{fit_uncounted, no_fewer_then, none_fewer}
+use Rattle.world.proofs.Deliveries.{passed_over, turned_away}
+use Rattle.world.proofs.SiteSteps.{if_ok}
+use Rattle.world.proofs.Reasoned.{is_unsent, no_choice, turned_away as is_turned}
+use Rattle.world.proofs.Running.{over_of}
+use Rattle.desk.specs.declared.refusal.Refusal.{Refusal}
+use Rattle.world.specs.Stopping.{StopsFor}
+use Rattle.world.proofs.Stops.{memory_only}
+use Rattle.world.proofs.mailbox.deliver_one.Goals as goal
+
+pub returns-in-None-clause-ok : goal.returns-in-None-clause-ok
+returns-in-None-clause-ok g c = λ db of is clean sound fit.
+    let content = g.S.SiteStore.kept in
+    let told = c.in-Err.ensures.told db of is fit in
+    let before = held g.D.DeskStore.kept content c.args.machines.now in
+    let mid = held g.D.DeskStore.kept content c.take.new.machines in
+    let after = held g.D.DeskStore.kept content c.give_up.new.self in
+    let old = counts g.D.DeskStore.refused g.S.SiteStore.refused c.args.machines.now in
+    let more = counts g.D.DeskStore.refused g.S.SiteStore.refused c.take.new.machines in
+    let new = counts g.D.DeskStore.refused g.S.SiteStore.refused c.give_up.new.self in
+    let same = c.in-Err.ensures.err (c.give_up.ensures.leaves.clean clean) sound in
+    let over = over_of db c.take.new.machines.desk.catalog of (is ∙ ap catalogue_of (sym c.take.ensures.leaves.catalog)) in
+    let why = is_turned db (counted g.D.DeskStore.kept content g.D.DeskStore.refused g.S.SiteStore.refused c.args.machines.now) c.args.letter fit c.in-Err.fault told (sym c.turns_away-is_turned_away.ensures ∙ c.if-is_turned_away.true) in
+    if_ok c.give_up.result (λ out asked. turned_away db c.args.letter before after out.letters out.replies old new (no_fewer_then old more new c.take.ensures.leaves.counts (none_fewer more new c.give_up.ensures.uncalled)) mid (no_choice db) same why asked.leads)
+    (c.give_up.ensures.ok db (no_choice db) over (subst (AreFit db) (sym same) (fit_uncounted db before old fit)))
+
+pub returns-in-None-2-clause-ok : goal.returns-in-None-2-clause-ok
+returns-in-None-2-clause-ok g c = λ db of is clean sound fit.
+    let content = g.S.SiteStore.kept in
+    let told = c.in-Err.ensures.told db of is fit in
+    let before = held g.D.DeskStore.kept content c.args.machines.now in
+    let after = held g.D.DeskStore.kept content c.take.new.machines in
+    let old = counts g.D.DeskStore.refused g.S.SiteStore.refused c.args.machines.now in
+    let new = counts g.D.DeskStore.refused g.S.SiteStore.refused c.take.new.machines in
+    let none = is_unsent db (counted g.D.DeskStore.kept content g.D.DeskStore.refused g.S.SiteStore.refused c.args.machines.now) c.args.letter c.in-Err.fault told (sym c.stopping.ensures ∙ c.in-None-2.is) (sym c.turns_away-is_turned_away.ensures ∙ c.if-is_turned_away.false) in
+    passed_over db c.args.letter before after c.put_out.result.letters c.put_out.result.replies old new c.take.ensures.leaves.counts (fit_uncounted db before old fit) none (c.in-Err.ensures.err clean sound) (c.put_out.ensures.letters ∙ c.new.ensures.items) c.put_out.ensures.replies
+
+pub returns-in-None-clause-leaves : goal.returns-in-None-clause-leaves
+returns-in-None-clause-leaves g c = record {
+  clean = search rules;
+  sound = search rules;
+  counts = no_fewer_then (counts g.D.DeskStore.refused g.S.SiteStore.refused c.args.machines.now) (counts g.D.DeskStore.refused g.S.SiteStore.refused c.take.new.machines) (counts g.D.DeskStore.refused g.S.SiteStore.refused c.give_up.new.self) c.take.ensures.leaves.counts (none_fewer (counts g.D.DeskStore.refused g.S.SiteStore.refused c.take.new.machines) (counts g.D.DeskStore.refused g.S.SiteStore.refused c.give_up.new.self) c.give_up.ensures.uncalled);
+  catalog = search rules;
+}
+
+pub returns-in-Some-clause-blames : goal.returns-in-Some-clause-blames
+returns-in-Some-clause-blames g c = λ clean sound. subst (λ (stop : Option Refusal). IfSome stop (StopsFor (counts g.D.DeskStore.refused g.S.SiteStore.refused c.args.machines.now) (counts g.D.DeskStore.refused g.S.SiteStore.refused c.take.new.machines))) (sym c.stopping.ensures ∙ c.in-Some.is) (c.in-Err.ensures.blames clean sound)
+
+pub returns-in-None-clause-blames : goal.returns-in-None-clause-blames
+returns-in-None-clause-blames g c = λ clean sound. memory_only c.give_up.result (counts g.D.DeskStore.refused g.S.SiteStore.refused c.args.machines.now) (counts g.D.DeskStore.refused g.S.SiteStore.refused c.give_up.new.self) c.give_up.ensures.own

@@ -1,0 +1,72 @@
+-- Why `deliver_round` meets its contract.
+use Rattle.std.proofs.Common.{rules, ◌≡◌, ◌∙◌, ◌+◌, ◌-◌, ℕ, suc, length, refl, sym, ap, subst, arith}
+use Rattle.catalog.specs.Relation.{catalogue_of}
+use Rattle.world.specs.Contents.{counted}
+use Rattle.world.specs.Taking.{IsInRound, scene}
+use Rattle.world.proofs.Deliveries.{all_in_round, nothing_goes, then_breaks, then_goes}
+use Rattle.world.proofs.SiteSteps.{on_any_err}
+use Rattle.world.proofs.Counting.{no_fewer, no_fewer_then}
+use Rattle.world.proofs.Stops.{stops_since, told_on}
+use Rattle.world.specs.Counted.{counts}
+use Rattle.world.proofs.mailbox.deliver_round.Goals as goal
+
+pub loop-init : goal.loop-init
+loop-init g c =
+    let here = scene (counted g.D.DeskStore.kept g.S.SiteStore.kept g.D.DeskStore.refused g.S.SiteStore.refused c.args.machines.now) c.args.post.now in
+    let count : c.len-end.result - 0 ≡ length c.args.post.now.waiting.items = omega (arith, c.len-end.ensures, c.args.post.now.waiting.ok.0) in
+    record {
+      clean = λ x. x;
+      sound = λ x s. s;
+      catalog = refl;
+      counts = no_fewer (counts g.D.DeskStore.refused g.S.SiteStore.refused c.args.machines.now);
+      goes = λ db of is clean sound fit. nothing_goes db here fit;
+      ranks = λ db n of is clean sound fit ranks. all_in_round db n (c.len-end.result - 0) here count ranks;
+    }
+
+pub loop-preserved : goal.loop-preserved
+loop-preserved g c =
+    let first = scene (counted g.D.DeskStore.kept g.S.SiteStore.kept g.D.DeskStore.refused g.S.SiteStore.refused c.args.machines.now) c.args.post.now in
+    let here = scene (counted g.D.DeskStore.kept g.S.SiteStore.kept g.D.DeskStore.refused g.S.SiteStore.refused c.loop.machines) c.loop.post in
+    let there = scene (counted g.D.DeskStore.kept g.S.SiteStore.kept g.D.DeskStore.refused g.S.SiteStore.refused c.deliver_next.new.machines) c.deliver_next.new.post in
+    let one_less : c.len-end.result - c.loop.counter ≡ suc (c.len-end.result - (c.loop.counter + 1)) = omega (arith, c.loop-test.true) in
+    record {
+      clean = λ x. c.loop.invariant.clean (c.deliver_next.ensures.leaves.clean x);
+      sound = λ x s. c.deliver_next.ensures.leaves.sound x (c.loop.invariant.sound (c.deliver_next.ensures.leaves.clean x) s);
+      catalog = c.deliver_next.ensures.leaves.catalog ∙ c.loop.invariant.catalog;
+      counts = no_fewer_then (counts g.D.DeskStore.refused g.S.SiteStore.refused c.args.machines.now) (counts g.D.DeskStore.refused g.S.SiteStore.refused c.loop.machines) (counts g.D.DeskStore.refused g.S.SiteStore.refused c.deliver_next.new.machines) c.loop.invariant.counts c.deliver_next.ensures.leaves.counts;
+      goes = λ db of is clean sound fit.
+          let so_far = c.loop.invariant.goes db of is (c.deliver_next.ensures.leaves.clean clean) sound fit in
+          then_goes db (λ w. w) first here so_far there (c.in_ok-deliver_next.ensures.ok db of (is ∙ ap catalogue_of (sym c.loop.invariant.catalog)) clean (c.loop.invariant.sound (c.deliver_next.ensures.leaves.clean clean) sound) so_far.fit);
+      ranks = λ db n of is clean sound fit ranks.
+          let so_far = c.loop.invariant.goes db of is (c.deliver_next.ensures.leaves.clean clean) sound fit in
+          let ranked = c.loop.invariant.ranks db n of is (c.deliver_next.ensures.leaves.clean clean) sound fit ranks in
+          c.in_ok-deliver_next.ensures.ranks db n (c.len-end.result - (c.loop.counter + 1)) of (is ∙ ap catalogue_of (sym c.loop.invariant.catalog)) clean (c.loop.invariant.sound (c.deliver_next.ensures.leaves.clean clean) sound) so_far.fit
+          (subst (λ (k : ℕ). IsInRound db n k here) one_less ranked);
+    }
+
+pub returns-clause-ranks : goal.returns-clause-ranks
+returns-clause-ranks g c = λ db n of is clean sound fit ranks.
+    let here = scene (counted g.D.DeskStore.kept g.S.SiteStore.kept g.D.DeskStore.refused g.S.SiteStore.refused c.loop.machines) c.loop.post in
+    let over : c.len-end.result - c.loop.counter ≡ 0 = omega (arith, c.loop-test.false) in
+    subst (λ (k : ℕ). IsInRound db n k here) over (c.loop.invariant.ranks db n of is clean sound fit ranks)
+
+pub returns-in_err-deliver_next-clause-err : goal.returns-in_err-deliver_next-clause-err
+returns-in_err-deliver_next-clause-err g c = λ db of is clean sound fit.
+    let first = scene (counted g.D.DeskStore.kept g.S.SiteStore.kept g.D.DeskStore.refused g.S.SiteStore.refused c.args.machines.now) c.args.post.now in
+    let here = scene (counted g.D.DeskStore.kept g.S.SiteStore.kept g.D.DeskStore.refused g.S.SiteStore.refused c.loop.machines) c.loop.post in
+    let so_far = c.loop.invariant.goes db of is (c.deliver_next.ensures.leaves.clean clean) sound fit in
+    on_any_err c.from_residual.result (then_breaks db (λ w. w) first here so_far (counted g.D.DeskStore.kept g.S.SiteStore.kept g.D.DeskStore.refused g.S.SiteStore.refused c.deliver_next.new.machines)
+    (c.in_err-deliver_next.ensures.err db of (is ∙ ap catalogue_of (sym c.loop.invariant.catalog)) clean (c.loop.invariant.sound (c.deliver_next.ensures.leaves.clean clean) sound) so_far.fit))
+
+pub returns-in_err-deliver_next-clause-leaves : goal.returns-in_err-deliver_next-clause-leaves
+returns-in_err-deliver_next-clause-leaves g c = record {
+  clean = search rules;
+  sound = search rules;
+  counts = no_fewer_then (counts g.D.DeskStore.refused g.S.SiteStore.refused c.args.machines.now) (counts g.D.DeskStore.refused g.S.SiteStore.refused c.loop.machines) (counts g.D.DeskStore.refused g.S.SiteStore.refused c.deliver_next.new.machines) c.loop.invariant.counts c.deliver_next.ensures.leaves.counts;
+  catalog = search rules;
+}
+
+pub returns-in_err-deliver_next-clause-blames : goal.returns-in_err-deliver_next-clause-blames
+returns-in_err-deliver_next-clause-blames g c = λ clean sound.
+    told_on c.from_residual.result c.in_err-deliver_next.field-0.0 (counts g.D.DeskStore.refused g.S.SiteStore.refused c.args.machines.now) (counts g.D.DeskStore.refused g.S.SiteStore.refused c.deliver_next.new.machines) c.from_residual.ensures.1
+    (stops_since (counts g.D.DeskStore.refused g.S.SiteStore.refused c.args.machines.now) (counts g.D.DeskStore.refused g.S.SiteStore.refused c.loop.machines) (counts g.D.DeskStore.refused g.S.SiteStore.refused c.deliver_next.new.machines) c.loop.invariant.counts c.in_err-deliver_next.field-0.0 (c.in_err-deliver_next.ensures.blames clean (c.loop.invariant.sound (c.deliver_next.ensures.leaves.clean clean) sound)))

@@ -1,0 +1,77 @@
+-- The letters of one client's machines come, each once, the oldest first.
+use Rattle.std.specs.Prelude.{◌≡◌, ◌⊎◌, List, [], ◌++◌, map}
+use Rattle.std.specs.List.{filter_map}
+use Rattle.store.specs.declared.letter.Letter as letters
+pub use Rattle.world.specs.Delivery.{Coming, Passed_over, Taken, Turned_away, all_come, come, done_with, first_comes}
+use Rattle.protocol.specs.Desk.{Choice, Deed, Request}
+use Rattle.protocol.specs.Home.{AreHomed}
+use Rattle.protocol.specs.Language.{Lang, Name}
+use Rattle.protocol.specs.Letter.{Letter}
+use Rattle.protocol.specs.Serial.{AllExplained}
+use Rattle.protocol.specs.World.{World, begins, called}
+use Rattle.desk.specs.declared.reply.Notice.{Notice}
+use Rattle.desk.specs.Database.{Database, language, sent}
+use Rattle.desk.specs.State.{notice_of}
+use Rattle.desk.specs.Transition.{told}
+use Rattle.world.specs.Counted.{KeptUnless, NoFewer}
+use Rattle.world.specs.Machines.{AreFit, Machines, world_of}
+use Rattle.world.specs.Reasons.{AllFounded}
+
+-- what the client asks of the coordinator: that a transaction begins, or something of one
+pub data Ask (L : Lang) : Type 0 where
+  To_begin : Ask L
+  To_do : (txn : Name) (request : Request L) (choice : Choice L) → Ask L
+
+-- so asked
+abbrev pub asked : {L : Lang} → Ask L → World L → World L
+asked To_begin w = begins w
+asked (To_do txn request choice) w = called w txn choice request
+
+-- machines, the letters that wait, oldest first, and what the client has heard
+pub record Scene : Type 0 where
+  pub machines : Machines
+  pub waiting : List letters.Letter
+  pub heard : List Notice
+
+-- a step of the machines, after which some letters come, and each store call is kept unless a store refuses: deeds are done, among them no statement that isn't explained, and the client hears of them. Where operations that wait are for the sites that keep their leaves, so they are later, and what becomes of each letter has its reason
+pub record Goes (db : Database) (step : World (language db) → World (language db)) (before after : Scene) : Type 0 where
+  pub comings : List (Coming (language db))
+  pub deeds : List (Deed (language db))
+  pub fit : AreFit db after.machines
+  pub is : (past : List (Deed (language db))) → all_come comings (step (world_of db before.machines (map (sent db) before.waiting) past)) ≡ world_of db after.machines (map (sent db) after.waiting) (past ++ deeds)
+  pub homed : AreHomed (map (sent db) before.waiting) → AreHomed (map (sent db) after.waiting)
+  pub founded : AreHomed (map (sent db) before.waiting) → (past : List (Deed (language db))) → AllFounded db comings (step (world_of db before.machines (map (sent db) before.waiting) past))
+  pub counts : NoFewer before.machines.refused after.machines.refused
+  pub kept : KeptUnless comings before.machines.refused after.machines.refused
+  pub explained : AllExplained deeds
+  pub replies : map notice_of after.heard ≡ map notice_of before.heard ++ filter_map (told db) deeds
+
+-- so where something is refused on the way: letters are left, and of what was heard nothing is said
+pub record Breaks (db : Database) (step : World (language db) → World (language db)) (before : Scene) (after : Machines) : Type 0 where
+  pub comings : List (Coming (language db))
+  pub deeds : List (Deed (language db))
+  pub left : List (Letter (language db))
+  pub fit : AreFit db after
+  pub is : (past : List (Deed (language db))) → all_come comings (step (world_of db before.machines (map (sent db) before.waiting) past)) ≡ world_of db after left (past ++ deeds)
+  pub explained : AllExplained deeds
+
+-- machines at rest: nothing waits, and nothing was heard
+abbrev pub at_rest : Machines → Scene
+at_rest machines = record { machines = machines; waiting = []; heard = [] }
+
+-- machines after all letters came, and what the client heard
+abbrev pub settled : Machines → List Notice → Scene
+settled machines notices = record { machines = machines; waiting = []; heard = notices }
+
+-- a call of the client, after which all letters come; notices: what the client hears
+abbrev pub Serves : (db : Database) → Ask (language db) → Machines → Machines → List Notice → Type 0
+Serves db ask before after notices = Goes db (asked ask) (at_rest before) (settled after notices)
+
+-- a call is refused, and nothing has changed, or something is refused on the way
+abbrev pub Fails : Database → Machines → Machines → Type 0
+Fails db before after = (after ≡ before) ⊎ ((ask : Ask (language db)) × Breaks db (asked ask) (at_rest before) after)
+
+-- nothing has been done: the machines stand as they stood
+pub record IsStill (db : Database) (before after : Machines) : Type 0 where
+  pub fit : AreFit db after
+  pub same : world_of db after [] [] ≡ world_of db before [] []

@@ -1,0 +1,101 @@
+-- What the entries of a world tell: what clients asked for, and what they heard.
+use Rattle.std.specs.Prelude.{◌≡◌, ℕ, ◌&&◌, Bool, true, false, List, [], ◌∷◌, map, if◌then◌else◌}
+use Rattle.std.specs.List.{filter, filter_map, flat_map, list_any}
+use Rattle.meaning.specs.declared.answer.Answer.{Answer}
+use Rattle.meaning.specs.declared.statement.Statement.{Statement}
+use Rattle.reader.specs.declared.command.Command.TheVariants as command
+use Rattle.reader.specs.Command.{IsTextOf}
+use Rattle.store.specs.declared.name.Txn.{Txn}
+use Rattle.protocol.specs.Desk as protocol
+use Rattle.protocol.specs.Language.{Lang, Name, same}
+use Rattle.protocol.specs.Letters.{txn_name}
+use Rattle.protocol.specs.Serial.{phases_of}
+use Rattle.desk.specs.declared.reply.Notice.{Notice}
+use Rattle.desk.specs.declared.reply.Reply as replies
+use Rattle.desk.specs.declared.reply.Reply.TheVariants as reply
+use Rattle.desk.specs.Database.{Database, language}
+use Rattle.desk.specs.State.{notice_of}
+use Rattle.desk.specs.Transition.{told}
+use Rattle.world.specs.declared.event.Call.TheVariants as call
+use Rattle.world.specs.declared.event.Entry.{Entry}
+use Rattle.world.specs.declared.event.Event as events
+use Rattle.world.specs.declared.event.Event.TheVariants as event
+
+-- what clients heard, oldest first
+abbrev pub notices_in : List Entry → List Notice
+notices_in entries = flat_map (λ entry. entry.out.replies) entries
+
+-- the transaction whose first phase an event begins: its client asks for the commit
+abbrev pub phased_by : events.Event → List Txn
+phased_by (event.Call (call.Commit txn)) = txn ∷ []
+phased_by other = []
+
+-- the transactions whose commit was asked for, in this order
+abbrev pub phased_in : List Entry → List Txn
+phased_in entries = flat_map (λ entry. phased_by entry.event) entries
+
+-- the statement of a transaction that an event brings, by its text
+abbrev pub text_by : events.Event → List (Txn × List ℕ)
+text_by (event.Call (call.State txn text)) = (txn, text) ∷ []
+text_by other = []
+
+-- the statements, by their texts, oldest first
+abbrev pub texts_in : List Entry → List (Txn × List ℕ)
+texts_in entries = flat_map (λ entry. text_by entry.event) entries
+
+-- whether it is this transaction
+abbrev pub is_txn : Txn → Txn → Bool
+is_txn one other = same (txn_name one) (txn_name other)
+
+-- whether a reply says that the transaction is committed
+abbrev pub says_committed : replies.Reply → Bool
+says_committed reply.Committed = true
+says_committed other = false
+
+-- whether a transaction's client heard that it is committed
+abbrev pub is_told_committed : List Entry → Txn → Bool
+is_told_committed entries txn = list_any (λ notice. is_txn notice.txn txn && says_committed notice.reply) (notices_in entries)
+
+-- the committed transactions, in the order in which their commits were asked for
+abbrev pub committed_in : List Entry → List Txn
+committed_in entries = filter (is_told_committed entries) (phased_in entries)
+
+-- the answer in a reply
+abbrev pub answer_of : replies.Reply → List Answer
+answer_of (reply.Answer answer) = answer ∷ []
+answer_of other = []
+
+-- the answers that a transaction's client heard
+abbrev pub answers_to : List Entry → Txn → List Answer
+answers_to entries txn = flat_map (λ notice. if is_txn notice.txn txn then answer_of notice.reply else []) (notices_in entries)
+
+-- the texts of a transaction's statements
+abbrev pub texts_of : List Entry → Txn → List (List ℕ)
+texts_of entries txn = flat_map (λ text. if is_txn text.0 txn then text.1 ∷ [] else []) (texts_in entries)
+
+-- the statement that a deed of the protocol accepts
+abbrev pub stated_by : {L : Lang} → protocol.Deed L → List (Name × L.Statement)
+stated_by (protocol.Stated t s) = (t, s) ∷ []
+stated_by deed = []
+
+-- the accepted statements, oldest first
+abbrev pub stated_of : {L : Lang} → List (protocol.Deed L) → List (Name × L.Statement)
+stated_of past = flat_map stated_by past
+
+-- texts of transactions are those of statements, one by one
+abbrev pub AreStated : (db : Database) → List (Txn × List ℕ) → List (Name × Statement) → Type 0
+AreStated db [] [] = Unit
+AreStated db [] (y ∷ ys) = ⊥
+AreStated db (x ∷ xs) [] = ⊥
+AreStated db (x ∷ xs) (y ∷ ys) = (txn_name x.0 ≡ y.0) × IsTextOf db.schemas x.1 (command.Run y.1) × AreStated db xs ys
+
+-- the deeds that an event did: the first phase and the statement that it brings, and no others
+pub record Shows (db : Database) (what : events.Event) (deeds : List (protocol.Deed (language db))) : Type 0 where
+  pub phased : map txn_name (phased_by what) ≡ phases_of deeds
+  pub stated : AreStated db (text_by what) (stated_of deeds)
+
+-- entries tell what happened to transactions: their first phases, their statements, and what their clients heard
+pub record Tells (db : Database) (entries : List Entry) (past : List (protocol.Deed (language db))) : Type 0 where
+  pub phased : map txn_name (phased_in entries) ≡ phases_of past
+  pub stated : AreStated db (texts_in entries) (stated_of past)
+  pub heard : map notice_of (notices_in entries) ≡ filter_map (told db) past

@@ -1,0 +1,143 @@
+//! Calls of one client, each with all letters that it brings about.
+
+ghost use Rattle.std.specs.Prelude.{◌≡◌, List, [], Some, slice_get, IfErr, IfOk, OnErr};
+ghost use Rattle.std.specs.Option.{option_map};
+ghost use Rattle.meaning.specs.Whole.{Relations};
+ghost use Rattle.catalog.specs.Relation.{catalogue_of};
+ghost use Rattle.protocol.specs.Client.{ReachedLaw};
+ghost use Rattle.protocol.specs.Desk.{Commit_call, Deed, Rollback};
+ghost use Rattle.desk.specs.Database.{Database, language};
+ghost use Rattle.desk.specs.OfCatalogue.{IsOfCatalogue};
+ghost use Rattle.desk.specs.declared.refusal.Refusal.TheVariants as refusals;
+ghost use Rattle.world.specs.declared.event.Call.TheVariants as call;
+ghost use Rattle.world.specs.Counted.{NoFewer, counts};
+ghost use Rattle.world.specs.Denials.{IsDenied};
+ghost use Rattle.world.specs.Mailbox.{Serves, To_begin};
+ghost use Rattle.world.specs.Frame.{Blames, LeavesMachines, OverDatabase, StaysServed};
+ghost use Rattle.world.specs.Contents.{OfStores, counted};
+ghost use Rattle.world.specs.Machines.{AreFit};
+ghost use Rattle.world.specs.Client.{DoesAsk, DoesBegin, DoesState, IsServed, IsServedOn};
+ghost use Rattle.world.specs.Stopping.{StopsFor};
+
+use crate::machines::Machines;
+use crate::mailbox::deliver_all;
+use desk::refusal::Refusal;
+use desk::reply::Notice;
+use store::desk_store::DeskStore;
+use store::name::Txn;
+use store::site_store::SiteStore;
+
+/// A transaction that has begun, and what its client heard.
+#[derive(Drop)]
+pub(crate) struct Begun {
+    pub(crate) txn: Txn,
+    pub(crate) heard: Vec<Notice>,
+}
+
+/// The transaction that the first notice names. None has begun where there is no notice, since the coordinator is at a limit.
+fn named(heard: Vec<Notice>) -> Result<Begun, Refusal>
+    ensures same { IfOk result (λ begun. begun.heard.items ≡ heard.items) }
+    ensures first { IfOk result (λ begun. option_map (λ notice. notice.txn) (slice_get heard.items 0) ≡ Some begun.txn) }
+    ensures none { OnErr result (heard.items ≡ []) }
+    ensures full { IfErr result (λ refusal. refusal ≡ refusals.Full) }
+{
+    match heard.first() {
+        Some(first) => Ok(Begun {
+            txn: first.txn,
+            heard,
+        }),
+        None => Err(Refusal::Full),
+    }
+}
+
+/// A transaction begins. Its client hears of it.
+fn greet<D: DeskStore, S: SiteStore>(machines: &mut Machines<D, S>) -> Result<Vec<Notice>, Refusal>
+    ensures leaves { LeavesMachines D.is_clean S.is_clean D.is_sound S.is_sound D.refused S.refused machines.old machines.new }
+    ensures blames { Blames (OfStores D.is_clean S.is_clean) (OfStores D.is_sound S.is_sound) (counts D.refused S.refused) machines.old machines.new result }
+    ensures ok { OverDatabase (OfStores D.is_clean S.is_clean) (OfStores D.is_sound S.is_sound) (counted D.kept S.kept D.refused S.refused) machines.old machines.new
+        (λ db before after. IfOk result (λ heard. Serves db To_begin before after heard.items)) }
+    ensures denied { OverDatabase (OfStores D.is_clean S.is_clean) (OfStores D.is_sound S.is_sound) (counted D.kept S.kept D.refused S.refused) machines.old machines.new
+        (λ db before after. IfErr result (IsDenied db before after call.Begin)) }
+    ensures served { StaysServed (OfStores D.is_clean S.is_clean) (OfStores D.is_sound S.is_sound) (counted D.kept S.kept D.refused S.refused) machines.old machines.new }
+{
+    match machines.begin() {
+        Ok(out) => deliver_all(machines, out),
+        Err(refusal) => Err(refusal),
+    }
+}
+
+/// A transaction begins.
+pub(crate) fn begin<D: DeskStore, S: SiteStore>(
+    machines: &mut Machines<D, S>,
+) -> Result<Begun, Refusal>
+    ensures leaves { LeavesMachines D.is_clean S.is_clean D.is_sound S.is_sound D.refused S.refused machines.old machines.new }
+    ensures blames { Blames (OfStores D.is_clean S.is_clean) (OfStores D.is_sound S.is_sound) (counts D.refused S.refused) machines.old machines.new result }
+    ensures ok { OverDatabase (OfStores D.is_clean S.is_clean) (OfStores D.is_sound S.is_sound) (counted D.kept S.kept D.refused S.refused) machines.old machines.new
+        (λ db before after. IfOk result (λ begun. DoesBegin db before begun.txn after begun.heard.items)) }
+    ensures denied { OverDatabase (OfStores D.is_clean S.is_clean) (OfStores D.is_sound S.is_sound) (counted D.kept S.kept D.refused S.refused) machines.old machines.new
+        (λ db before after. IfErr result (IsDenied db before after call.Begin)) }
+    ensures served { StaysServed (OfStores D.is_clean S.is_clean) (OfStores D.is_sound S.is_sound) (counted D.kept S.kept D.refused S.refused) machines.old machines.new }
+{
+    match greet(machines) {
+        Ok(heard) => named(heard),
+        Err(refusal) => Err(refusal),
+    }
+}
+
+/// A statement of a transaction is stated, by its text.
+pub(crate) fn state<D: DeskStore, S: SiteStore>(
+    machines: &mut Machines<D, S>,
+    txn: Txn,
+    text: &str,
+) -> Result<Vec<Notice>, Refusal>
+    ensures leaves { LeavesMachines D.is_clean S.is_clean D.is_sound S.is_sound D.refused S.refused machines.old machines.new }
+    ensures blames { Blames (OfStores D.is_clean S.is_clean) (OfStores D.is_sound S.is_sound) (counts D.refused S.refused) machines.old machines.new result }
+    ensures ok { OverDatabase (OfStores D.is_clean S.is_clean) (OfStores D.is_sound S.is_sound) (counted D.kept S.kept D.refused S.refused) machines.old machines.new
+        (λ db before after. IfOk result (λ heard. DoesState db text.now txn before after heard.items)) }
+    ensures denied { OverDatabase (OfStores D.is_clean S.is_clean) (OfStores D.is_sound S.is_sound) (counted D.kept S.kept D.refused S.refused) machines.old machines.new
+        (λ db before after. IfErr result (IsDenied db before after (call.State txn text.now))) }
+    ensures served { StaysServed (OfStores D.is_clean S.is_clean) (OfStores D.is_sound S.is_sound) (counted D.kept S.kept D.refused S.refused) machines.old machines.new }
+{
+    match machines.statement(txn, text) {
+        Ok(out) => deliver_all(machines, out),
+        Err(refusal) => Err(refusal),
+    }
+}
+
+/// The commit of a transaction is asked for.
+pub(crate) fn commit<D: DeskStore, S: SiteStore>(
+    machines: &mut Machines<D, S>,
+    txn: Txn,
+) -> Result<Vec<Notice>, Refusal>
+    ensures leaves { LeavesMachines D.is_clean S.is_clean D.is_sound S.is_sound D.refused S.refused machines.old machines.new }
+    ensures blames { Blames (OfStores D.is_clean S.is_clean) (OfStores D.is_sound S.is_sound) (counts D.refused S.refused) machines.old machines.new result }
+    ensures ok { OverDatabase (OfStores D.is_clean S.is_clean) (OfStores D.is_sound S.is_sound) (counted D.kept S.kept D.refused S.refused) machines.old machines.new
+        (λ db before after. IfOk result (λ heard. DoesAsk db Commit_call txn before after heard.items)) }
+    ensures denied { OverDatabase (OfStores D.is_clean S.is_clean) (OfStores D.is_sound S.is_sound) (counted D.kept S.kept D.refused S.refused) machines.old machines.new
+        (λ db before after. IfErr result (IsDenied db before after (call.Commit txn))) }
+    ensures served { StaysServed (OfStores D.is_clean S.is_clean) (OfStores D.is_sound S.is_sound) (counted D.kept S.kept D.refused S.refused) machines.old machines.new }
+{
+    match machines.commit(txn) {
+        Ok(out) => deliver_all(machines, out),
+        Err(refusal) => Err(refusal),
+    }
+}
+
+/// A transaction is rolled back.
+pub(crate) fn roll_back<D: DeskStore, S: SiteStore>(
+    machines: &mut Machines<D, S>,
+    txn: Txn,
+) -> Result<Vec<Notice>, Refusal>
+    ensures leaves { LeavesMachines D.is_clean S.is_clean D.is_sound S.is_sound D.refused S.refused machines.old machines.new }
+    ensures blames { Blames (OfStores D.is_clean S.is_clean) (OfStores D.is_sound S.is_sound) (counts D.refused S.refused) machines.old machines.new result }
+    ensures ok { OverDatabase (OfStores D.is_clean S.is_clean) (OfStores D.is_sound S.is_sound) (counted D.kept S.kept D.refused S.refused) machines.old machines.new
+        (λ db before after. IfOk result (λ heard. DoesAsk db Rollback txn before after heard.items)) }
+    ensures denied { OverDatabase (OfStores D.is_clean S.is_clean) (OfStores D.is_sound S.is_sound) (counted D.kept S.kept D.refused S.refused) machines.old machines.new
+        (λ db before after. IfErr result (IsDenied db before after (call.Rollback txn))) }
+    ensures served { StaysServed (OfStores D.is_clean S.is_clean) (OfStores D.is_sound S.is_sound) (counted D.kept S.kept D.refused S.refused) machines.old machines.new }
+{
+    match machines.rollback(txn) {
+        Ok(out) => deliver_all(machines, out),
+        Err(refusal) => Err(refusal),
+    }
+}

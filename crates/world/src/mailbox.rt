@@ -1,0 +1,196 @@
+//! The letters of one client's machines come, each once, the oldest first.
+
+ghost use Rattle.std.specs.Prelude.{◌≡◌, ◌++◌, ℕ, suc, true, IfErr, IfOk, IfSome, OnErr, OnOk};
+ghost use Rattle.catalog.specs.Relation.{catalogue_of};
+ghost use Rattle.desk.specs.Database.{Database};
+ghost use Rattle.desk.specs.OfCatalogue.{IsOfCatalogue};
+ghost use Rattle.protocol.specs.Rounds.{RanksUnder};
+ghost use Rattle.desk.specs.declared.refusal.Refusal.TheVariants as refusals;
+ghost use Rattle.world.specs.Counted.{NoFewer, counts};
+ghost use Rattle.world.specs.Mailbox.{Breaks, Goes, settled};
+ghost use Rattle.world.specs.Frame.{Blames, LeavesMachines, OverDatabase, StaysOnErr};
+ghost use Rattle.world.specs.Contents.{OfStores, counted, held};
+ghost use Rattle.world.specs.Machines.{AreFit};
+ghost use Rattle.world.specs.Reasons.{Tells};
+ghost use Rattle.world.specs.Stopping.{StopsFor, is_stop};
+ghost use Rattle.world.specs.Taking.{IsDone, IsInRound, put_out_by, scene, stop_of, turns_away, world_at};
+
+use crate::fault::Fault;
+use crate::machines::{Machines, has_site, put_out};
+use desk::refusal::Refusal;
+use desk::reply::{Notice, Out};
+use site::fault::SiteFault;
+use std::collections::VecDeque;
+use store::desk_store::DeskStore;
+use store::letter::Letter;
+use store::site_store::SiteStore;
+
+/// The letters that wait, oldest first, and what the client has heard.
+#[derive(Drop)]
+pub(crate) struct Post {
+    pub(crate) waiting: VecDeque<Letter>,
+    pub(crate) heard: Vec<Notice>,
+}
+
+/// The refusal that stops a client's machines, if the fault is one that does: memory ran out, or a store failed.
+fn stopping(fault: &Fault) -> Option<Refusal>
+    ensures { result ≡ stop_of fault.now }
+{
+    match fault {
+        Fault::Desk(Refusal::Memory) => Some(Refusal::Memory),
+        Fault::Desk(Refusal::Store(fault)) => Some(Refusal::Store(*fault)),
+        Fault::Site(SiteFault::Memory) => Some(Refusal::Memory),
+        Fault::Site(SiteFault::Store(fault)) => Some(Refusal::Store(*fault)),
+        _ => None,
+    }
+}
+
+/// A letter comes to the machine that it is for.
+fn take<D: DeskStore, S: SiteStore>(
+    machines: &mut Machines<D, S>,
+    letter: Letter,
+) -> Result<Out, Fault>
+    ensures leaves { LeavesMachines D.is_clean S.is_clean D.is_sound S.is_sound D.refused S.refused machines.old machines.new }
+    ensures blames { OfStores D.is_clean S.is_clean machines.new → OfStores D.is_sound S.is_sound machines.old → IfErr result (λ fault. IfSome (stop_of fault) (StopsFor (counts D.refused S.refused machines.old) (counts D.refused S.refused machines.new))) }
+    ensures ok { OverDatabase (OfStores D.is_clean S.is_clean) (OfStores D.is_sound S.is_sound) (counted D.kept S.kept D.refused S.refused) machines.old machines.new
+        (λ db before after. IfOk result (λ out. IsDone db letter before after out.letters out.replies)) }
+    ensures told { (db : Database) → IsOfCatalogue db → db.catalogue ≡ catalogue_of machines.old.desk.catalog → AreFit db (counted D.kept S.kept D.refused S.refused machines.old) → IfErr result (Tells db (counted D.kept S.kept D.refused S.refused machines.old) letter) }
+    ensures err { StaysOnErr (OfStores D.is_clean S.is_clean) (OfStores D.is_sound S.is_sound) (held D.kept S.kept) machines.old machines.new result }
+{
+    if !has_site(machines.desk.catalog(), &letter.site) {
+        return Err(Fault::Unsent);
+    }
+    machines.deliver(letter, true)
+}
+
+/// A letter comes. Where its step leads past a limit the letter is let go, and its transaction given up; so it would be where the site
+/// didn't have the leaf, but one client's operations are for the sites that keep their leaves. One
+/// that is for no site of the database is let go, and nobody hears of it; none of one client's letters is.
+fn deliver_one<D: DeskStore, S: SiteStore>(
+    machines: &mut Machines<D, S>,
+    letter: Letter,
+) -> Result<Out, Refusal>
+    ensures leaves { LeavesMachines D.is_clean S.is_clean D.is_sound S.is_sound D.refused S.refused machines.old machines.new }
+    ensures blames { Blames (OfStores D.is_clean S.is_clean) (OfStores D.is_sound S.is_sound) (counts D.refused S.refused) machines.old machines.new result }
+    ensures ok { OverDatabase (OfStores D.is_clean S.is_clean) (OfStores D.is_sound S.is_sound) (counted D.kept S.kept D.refused S.refused) machines.old machines.new
+        (λ db before after. IfOk result (λ out. IsDone db letter before after out.letters out.replies)) }
+    ensures err { StaysOnErr (OfStores D.is_clean S.is_clean) (OfStores D.is_sound S.is_sound) (held D.kept S.kept) machines.old machines.new result }
+    ensures own { IfErr result (λ refusal. is_stop refusal ≡ true) }
+{
+    let txn = letter.txn;
+    let fault = match take(machines, letter) {
+        Ok(out) => return Ok(out),
+        Err(fault) => fault,
+    };
+    let is_turned_away = turns_away(&fault);
+    match stopping(&fault) {
+        Some(refusal) => Err(refusal),
+        None if is_turned_away => machines.give_up(txn),
+        None => Ok(put_out(machines.alloc, Vec::new(machines.alloc))),
+    }
+}
+
+/// Whether a letter is turned away: its step leads past a limit, or its site doesn't have the leaf.
+fn turns_away(fault: &Fault) -> bool
+    ensures { result ≡ turns_away fault.now }
+{
+    matches!(
+        fault,
+        Fault::Desk(Refusal::Full) | Fault::Site(SiteFault::Full) | Fault::Site(SiteFault::Stranger)
+    )
+}
+
+impl Post {
+    /// What a call has put out.
+    fn of(out: Out) -> Post
+        ensures waiting { result.waiting.items ≡ out.letters }
+        ensures heard { result.heard.items ≡ out.replies }
+    {
+        Post {
+            waiting: VecDeque::from_vec(out.letters.into_vec()),
+            heard: out.replies.into_vec(),
+        }
+    }
+
+    /// What a letter has brought about. Its letters wait behind the others.
+    fn add(&mut self, out: Out) -> Result<(), Refusal>
+        ensures waiting { OnOk result (self.new.waiting.items ≡ self.old.waiting.items ++ out.letters) }
+        ensures heard { OnOk result (self.new.heard.items ≡ self.old.heard.items ++ out.replies) }
+        ensures own { IfErr result (λ refusal. refusal ≡ refusals.Memory) }
+    {
+        let mut letters = VecDeque::from_vec(out.letters.into_vec());
+        if self.waiting.append(&mut letters).is_err() {
+            return Err(Refusal::Memory);
+        }
+        if self.heard.append(&mut out.replies.into_vec()).is_err() {
+            return Err(Refusal::Memory);
+        }
+        Ok(())
+    }
+}
+
+/// The oldest letter that waits comes, if one does.
+fn deliver_next<D: DeskStore, S: SiteStore>(
+    machines: &mut Machines<D, S>,
+    post: &mut Post,
+) -> Result<(), Refusal>
+    ensures leaves { LeavesMachines D.is_clean S.is_clean D.is_sound S.is_sound D.refused S.refused machines.old machines.new }
+    ensures blames { Blames (OfStores D.is_clean S.is_clean) (OfStores D.is_sound S.is_sound) (counts D.refused S.refused) machines.old machines.new result }
+    ensures ok { OverDatabase (OfStores D.is_clean S.is_clean) (OfStores D.is_sound S.is_sound) (counted D.kept S.kept D.refused S.refused) machines.old machines.new
+        (λ db before after. OnOk result (Goes db (λ w. w) (scene before post.old) (scene after post.new))) }
+    ensures ranks { (db : Database) (n i : ℕ) → IsOfCatalogue db → db.catalogue ≡ catalogue_of machines.old.desk.catalog → OfStores D.is_clean S.is_clean machines.new → OfStores D.is_sound S.is_sound machines.old → AreFit db (counted D.kept S.kept D.refused S.refused machines.old)
+        → IsInRound db n (suc i) (scene (counted D.kept S.kept D.refused S.refused machines.old) post.old) → OnOk result (IsInRound db n i (scene (counted D.kept S.kept D.refused S.refused machines.new) post.new)) }
+    ensures err { OverDatabase (OfStores D.is_clean S.is_clean) (OfStores D.is_sound S.is_sound) (counted D.kept S.kept D.refused S.refused) machines.old machines.new
+        (λ db before after. OnErr result (Breaks db (λ w. w) (scene before post.old) after)) }
+    ensures own { IfErr result (λ refusal. is_stop refusal ≡ true) }
+{
+    let Some(letter) = post.waiting.pop_front() else {
+        return Ok(());
+    };
+    match deliver_one(machines, letter) {
+        Ok(out) => post.add(out),
+        Err(refusal) => Err(refusal),
+    }
+}
+
+/// The letters that wait come, one after another. What they bring about waits.
+fn deliver_round<D: DeskStore, S: SiteStore>(
+    machines: &mut Machines<D, S>,
+    post: &mut Post,
+) -> Result<(), Refusal>
+    ensures leaves { LeavesMachines D.is_clean S.is_clean D.is_sound S.is_sound D.refused S.refused machines.old machines.new }
+    ensures blames { Blames (OfStores D.is_clean S.is_clean) (OfStores D.is_sound S.is_sound) (counts D.refused S.refused) machines.old machines.new result }
+    ensures ok { OverDatabase (OfStores D.is_clean S.is_clean) (OfStores D.is_sound S.is_sound) (counted D.kept S.kept D.refused S.refused) machines.old machines.new
+        (λ db before after. OnOk result (Goes db (λ w. w) (scene before post.old) (scene after post.new))) }
+    ensures ranks { (db : Database) (n : ℕ) → IsOfCatalogue db → db.catalogue ≡ catalogue_of machines.old.desk.catalog → OfStores D.is_clean S.is_clean machines.new → OfStores D.is_sound S.is_sound machines.old → AreFit db (counted D.kept S.kept D.refused S.refused machines.old)
+        → RanksUnder (suc n) (world_at db (scene (counted D.kept S.kept D.refused S.refused machines.old) post.old)) → OnOk result (RanksUnder n (world_at db (scene (counted D.kept S.kept D.refused S.refused machines.new) post.new))) }
+    ensures err { OverDatabase (OfStores D.is_clean S.is_clean) (OfStores D.is_sound S.is_sound) (counted D.kept S.kept D.refused S.refused) machines.old machines.new
+        (λ db before after. OnErr result (Breaks db (λ w. w) (scene before post.old) after)) }
+    ensures own { IfErr result (λ refusal. is_stop refusal ≡ true) }
+{
+    for _ in 0..post.waiting.len() {
+        deliver_next(machines, post)?;
+    }
+    Ok(())
+}
+
+/// All letters that a call has put out come, and all that these bring about. Says what the client hears.
+pub(crate) fn deliver_all<D: DeskStore, S: SiteStore>(
+    machines: &mut Machines<D, S>,
+    out: Out,
+) -> Result<Vec<Notice>, Refusal>
+    ensures leaves { LeavesMachines D.is_clean S.is_clean D.is_sound S.is_sound D.refused S.refused machines.old machines.new }
+    ensures blames { Blames (OfStores D.is_clean S.is_clean) (OfStores D.is_sound S.is_sound) (counts D.refused S.refused) machines.old machines.new result }
+    ensures ok { OverDatabase (OfStores D.is_clean S.is_clean) (OfStores D.is_sound S.is_sound) (counted D.kept S.kept D.refused S.refused) machines.old machines.new
+        (λ db before after. IfOk result (λ heard. Goes db (λ w. w) (put_out_by before out) (settled after heard.items))) }
+    ensures err { OverDatabase (OfStores D.is_clean S.is_clean) (OfStores D.is_sound S.is_sound) (counted D.kept S.kept D.refused S.refused) machines.old machines.new
+        (λ db before after. OnErr result (Breaks db (λ w. w) (put_out_by before out) after)) }
+    ensures own { IfErr result (λ refusal. is_stop refusal ≡ true) }
+{
+    let mut post = Post::of(out);
+    // Each letter has a rank of at most nine, and what it brings about ranks lower.
+    for _ in 0..9usize {
+        deliver_round(machines, &mut post)?;
+    }
+    Ok(post.heard)
+}
