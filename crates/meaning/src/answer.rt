@@ -5,6 +5,7 @@ ghost use Rattle.std.specs.Prelude.{◌≡◌, IfOk};
 use terms::copy::TryCopy;
 use terms::memory::Memory;
 use terms::row::Row;
+use terms::same::Same;
 use terms::seq::Seq;
 use terms::text::Text;
 
@@ -28,6 +29,29 @@ impl TryCopy for Answer {
             Answer::Changed(count) => Ok(Answer::Changed(*count)),
             Answer::Exists => Ok(Answer::Exists),
             Answer::Overflow => Ok(Answer::Overflow),
+        }
+    }
+}
+
+impl Same for Answer {
+    fn same(&self, other: &Answer) -> bool {
+        match self {
+            Answer::Rows(header, rows) => match other {
+                Answer::Rows(others, other_rows) => header.same(others) && rows.same(other_rows),
+                _ => false,
+            },
+            Answer::Changed(count) => match other {
+                Answer::Changed(other) => count.same(other),
+                _ => false,
+            },
+            Answer::Exists => match other {
+                Answer::Exists => true,
+                _ => false,
+            },
+            Answer::Overflow => match other {
+                Answer::Overflow => true,
+                _ => false,
+            },
         }
     }
 }

@@ -6,6 +6,7 @@ ghost use Rattle.terms.specs.Row.{key_of};
 
 use crate::copy::{TryCopy, copy_all};
 use crate::memory::Memory;
+use crate::same::{Same, same_all};
 use crate::value::Value;
 use std::cmp::Ordering;
 use std::marker::Model;
@@ -61,5 +62,11 @@ impl TryCopy for Row {
     fn copy(&self) -> Result<Row, Memory> {
         let values = copy_all(*self.values.allocator(), self.values.as_slice())?;
         Ok(Row { values })
+    }
+}
+
+impl Same for Row {
+    fn same(&self, other: &Row) -> bool {
+        same_all(self.values(), other.values())
     }
 }
