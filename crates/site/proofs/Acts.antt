@@ -31,15 +31,16 @@ use Rattle.site.specs.declared.tickets.TicketState.TheVariants as standing
 use Rattle.site.specs.declared.tickets.Visit as visits
 use Rattle.protocol.specs.Local.{local, AtKey}
 use Rattle.protocol.specs.Letters.{name_of, said_by, reason_of}
-use Rattle.site.specs.Locks.{reads, writes, is_writer, is_other, is_foreign, locks_in, place_in, with_reader, with_writer, stops}
+use Rattle.site.specs.Locks.{reads, writes, is_writer, is_other, is_foreign, leaves_in, locks_in, place_in, with_reader, with_writer, stops}
 use Rattle.site.specs.State.{VolatileState, Fits, Steps, volatile_from, state_of, stands, visiting, is_visit, txn_in}
 use Rattle.site.specs.Moves.{next_of, stood, locked, opened, gone}
 use Rattle.site.proofs.Endings.{ended_state}
 use Rattle.site.proofs.Fitting.{fits_opened, fits_operated, fits_gone}
+use Rattle.site.proofs.LeavesKept.{leaves_set, leaves_stop}
 use Rattle.site.proofs.Listed.{row_none}
 use Rattle.site.proofs.LockLaws.{reads-with_reader, foreign-with_reader, foreign-with_reader-others, foreign-with_writer, foreign-with_writer-others}
 use Rattle.site.proofs.Steps.{opens_state, locks_state}
-use Rattle.site.proofs.TicketStates.{Entries, at_ticket, set_there, set_keys, removed_there, removed_keys, put_last, last_keys, last_there, all_stop, locked_there}
+use Rattle.site.proofs.TicketStates.{Entries, at_ticket, set_there, set_keys, removed_there, removed_keys, put_last, last_keys, last_there, all_stop, got, is_place, locked_there}
 use Rattle.site.proofs.TicketOrder.{ticket_is, ticket_self, ticket_sym, leaf_is}
 
 -- ---- nothing happens but something is said
@@ -56,14 +57,14 @@ module _ (kept : SiteContent) (entries : Entries) (ls : List locks.Locks) (activ
 
   -- ---- a visit ends
   pub gone_table : (k : Ticket) (left : ℕ) → IsStrictlySortedBy ticket_cmp (keys_of entries) → volatile_from (remove_entry (is_at (ticket_cmp k)) entries) (map (stops k number) ls) left life number ≡ gone k left table
-  gone_table k left sorted = λ i. record { standing = λ j. removed_there k entries sorted j i; tickets = removed_keys k entries sorted i; locks = λ g. all_stop k number ls g i; active = left; life = life; number = number }
+  gone_table k left sorted = λ i. record { standing = λ j. removed_there k entries sorted j i; tickets = removed_keys k entries sorted i; leaves = leaves_stop k number ls i; locks = λ g. all_stop k number ls g i; active = left; life = life; number = number }
 
   pub ends_steps : (k : Ticket) (left : ℕ) → left ≡ active - 1 → IsStrictlySortedBy ticket_cmp (keys_of entries) → is_visit (table.standing k) ≡ true → (act : Act local) (answer : Option Reply) → act ≡ Ends (name_of k) (said_by answer) →
       Steps kept table kept (volatile_from (remove_entry (is_at (ticket_cmp k)) entries) (map (stops k number) ls) left life number) act answer
   ends_steps k left fewer sorted visit act answer is =
       steps_at kept kept table _ (gone k left table) act answer (gone_table k left sorted)
       (record {
-        fits = fits_gone kept table fits k kept left (inr (visit, fewer)) rows refl;
+        fits = fits_gone kept table fits k kept left (inr (visit, fewer)) rows refl (λ g. refl);
         state = ended_state kept table fits k kept left kept.content rows (λ g. refl) ∙ ap (site_after (state_of kept table)) (sym is);
         says = ap (said (state_of kept table)) is;
       })
@@ -96,7 +97,7 @@ module _ (kept : SiteContent) (entries : Entries) (ls : List locks.Locks) (activ
   pub opened_table : volatile_from (insert_entry ticket_cmp entries (next_of table) begun) ls (active + 1) life (number + 1) ≡ opened table
   opened_table =
       ap (λ es. volatile_from es ls (active + 1) life (number + 1)) (put_last (next_of table) begun entries above)
-      ∙ (λ i. record { standing = λ j. last_there (next_of table) begun entries above j i; tickets = last_keys (next_of table) begun entries i; locks = λ g. locks_in g ls; active = add-one active i; life = life; number = add-one number i })
+      ∙ (λ i. record { standing = λ j. last_there (next_of table) begun entries above j i; tickets = last_keys (next_of table) begun entries i; leaves = leaves_in ls; locks = λ g. locks_in g ls; active = add-one active i; life = life; number = add-one number i })
 
   pub opens_steps : suc active ≤ 1024 → suc number < 2 ^ 63 → (answer : Option Reply) → answer ≡ Some (reply.Ticket (next_of table)) → Steps kept table kept (volatile_from (insert_entry ticket_cmp entries (next_of table) begun) ls (active + 1) life (number + 1)) Opens answer
   opens_steps room lower answer is =
@@ -112,11 +113,15 @@ module _ (kept : SiteContent) (entries : Entries) (ls : List locks.Locks) (activ
         λ i. record {
           standing = λ j. set_there k entries (standing.Active (record { done = op; changes = changes })) (standing.Active v) visit j i;
           tickets = set_keys k entries (standing.Active (record { done = op; changes = changes })) i;
+          leaves = same_leaves i;
           locks = λ g. locked_there leaf ls place place_is step keeps g i;
           active = active;
           life = life;
           number = number;
         }
+      where
+        same_leaves : leaves_in (slice_set ls place (step (locks_in leaf ls))) ≡ leaves_in ls
+        same_leaves = leaves_set ls place (step (locks_in leaf ls)) (locks_in leaf ls) (sym (got ls place _ (locks_in leaf ls) (is_place leaf ls place place_is).here)) (keeps (locks_in leaf ls))
 
     no_row : kept.prepared k ≡ None
     no_row = row_none kept table fits k (ap txn_in visit)

@@ -101,7 +101,7 @@ untouched_same leaf changes content e = untouched leaf (fin.entries changes) con
 
 -- what is unchanged is the same
 pub unchanged_is : (old new : SiteContent) → IsUnchanged old new → old ≡ new
-unchanged_is old new same = λ i. record { content = λ leaf. sym (same.content leaf) i; prepared = λ ticket. sym (same.prepared ticket) i; life = sym same.life i }
+unchanged_is old new same = λ i. record { has = λ leaf. sym (same.has leaf) i; content = λ leaf. sym (same.content leaf) i; prepared = λ ticket. sym (same.prepared ticket) i; life = sym same.life i }
 
 -- a step over a store that is unchanged
 pub moves : (old new : SiteContent) (before after : VolatileState) (act : Act local) (answer : Option Reply) → IsUnchanged old new → Steps old before old after act answer → Steps old before new after act answer

@@ -1,5 +1,5 @@
 -- Steps by which a visit is prepared or ends, and what the table says of them.
-use Rattle.std.proofs.Common.{Result, Ok, Err, IfOk, ◌≡◌, refl, sym, ap, ◌∙◌, subst, ℕ, ◌-◌, ◌==◌, nat_eq, Bool, true, false, List, [], ◌∷◌, map, Option, Some, None, if◌then◌else◌, cond, inl, inr}
+use Rattle.std.proofs.Common.{Result, Ok, Err, IfOk, ◌≡◌, ◌≢◌, refl, sym, ap, ◌∙◌, subst, ℕ, ◌-◌, ◌==◌, nat_eq, Bool, true, false, List, [], ◌∷◌, map, Option, Some, None, if◌then◌else◌, cond, inl, inr}
 use Rattle.std.specs.BTreeMap.{is_at}
 use Rattle.std.specs.FinMap as fin
 use Rattle.std.specs.List.Sorted.{IsStrictlySortedBy}
@@ -13,9 +13,11 @@ use Rattle.store.specs.declared.reply.Reply.{Reply}
 use Rattle.store.specs.declared.reply.Reply.TheVariants as reply
 use Rattle.store.specs.declared.reply.Vote.{Vote}
 use Rattle.store.specs.declared.reply.Vote.TheVariants as votes
-use Rattle.store.specs.Content.{Content, changed}
+use Rattle.store.specs.Content.{Changes, Content, changed}
 use Rattle.store.specs.Name.{ticket_cmp}
 use Rattle.store.specs.SiteContent as content
+use Rattle.store.specs.Slot.{slot_cmp}
+use Rattle.terms.specs.declared.value.Value.{Value}
 use Rattle.store.specs.SiteContent.{SiteContent, IsUnchanged, is_ticket}
 use Rattle.protocol.specs.Language.{put, same}
 use Rattle.protocol.specs.Letter as protocol
@@ -36,6 +38,7 @@ use Rattle.site.specs.Verdict.{ballot}
 use Rattle.site.proofs.Acts.{steps_at, gone_table}
 use Rattle.site.proofs.Endings.{ended_state, prepared_state}
 use Rattle.site.proofs.Fitting.{Left, fits_gone, fits_prepared}
+use Rattle.site.proofs.LeavesKept.{leaves_stop_reading}
 use Rattle.site.proofs.Listed.{row_none}
 use Rattle.site.proofs.TicketStates.{Entries, at_ticket, set_there, set_keys, all_stop_reading}
 use Rattle.site.proofs.TicketOrder.{ticket_is, ticket_self}
@@ -66,11 +69,16 @@ set_removed k (e ∷ entries) one = go (is_ticket k e.0) refl (set_removed k ent
     go true is rest = if_true (is_ticket k e.0) entries ((e.0, one) ∷ remove_entry test entries) is
     go false is rest = if_false (is_ticket k e.0) (set_value test entries one) (e ∷ remove_entry test (set_value test entries one)) is ∙ ap (λ l. e ∷ l) rest
 
--- what is to be kept is a visit's
-pub kept_visit : (count : ℕ) (o : Option standings.TicketState) → ballot count o ≡ ballots.Keeps → (v : visits.Visit) × (o ≡ Some (standing.Active v))
+-- what is to be kept is a visit's that intends something
+pub kept_visit : (count : ℕ) (o : Option standings.TicketState) → ballot count o ≡ ballots.Keeps → (v : visits.Visit) × (o ≡ Some (standing.Active v)) × (v.changes ≢ fin.empty)
 kept_visit count None is = cc
 kept_visit count (Some (standing.Prepared t)) is = cc
-kept_visit count (Some (standing.Active v)) is = (v, refl)
+kept_visit count (Some (standing.Active v)) is = (v, refl, λ none. go (v.done == count) (nat_eq (fin.len v.changes) 0) (ap (λ (changes : Changes). nat_eq (fin.len changes) 0) none ∙ ap (λ n. nat_eq n 0) (fin.len-empty slot_cmp (Option (List Value)))) is)
+  where
+    go : (b c : Bool) → c ≡ true → (if b then (if c then ballots.Ends votes.Read else ballots.Keeps) else ballots.Ends votes.No) ≡ ballots.Keeps → ⊥
+    go true true e f = cc
+    go true false e f = cc
+    go false c e f = cc
 
 module _ (kept : SiteContent) (entries : Entries) (ls : List locks.Locks) (active life number : ℕ) (fits : Fits kept (volatile_from entries ls active life number)) (k : Ticket) where
   abbrev table : VolatileState
@@ -93,28 +101,28 @@ module _ (kept : SiteContent) (entries : Entries) (ls : List locks.Locks) (activ
       go false e = refl
 
   -- what stood there is gone
-  pub ended_steps : (after : SiteContent) (left : ℕ) → Left kept table fits k left → IsStrictlySortedBy ticket_cmp (keys_of entries) → ((j : Ticket) → after.prepared j ≡ (if is_ticket k j then None else kept.prepared j)) → after.life ≡ kept.life →
+  pub ended_steps : (after : SiteContent) (left : ℕ) → Left kept table fits k left → IsStrictlySortedBy ticket_cmp (keys_of entries) → ((j : Ticket) → after.prepared j ≡ (if is_ticket k j then None else kept.prepared j)) → after.life ≡ kept.life → ((g : Leaf) → after.has g ≡ kept.has g) →
       (contents : Leaf → Content) → ((g : Leaf) → after.content g ≡ contents g) → (act : Act local) (answer : Option Reply) →
       site_after s act ≡ record (with_status s (put same (name_of k) Dead s.status) s.known) { kept = contents } → said s act ≡ said_by answer →
       Steps kept table after (volatile_from (remove_entry (is_at (ticket_cmp k)) entries) (map (stops k number) ls) left life number) act answer
-  ended_steps after left left_so sorted rows life_is contents same act answer state says =
+  ended_steps after left left_so sorted rows life_is has_is contents same act answer state says =
       steps_at kept after table _ (gone k left table) act answer (gone_table kept entries ls active life number fits k left sorted)
-      (record { fits = fits_gone kept table fits k after left left_so rows life_is; state = ended_state kept table fits k after left contents rows same ∙ sym state; says = says })
+      (record { fits = fits_gone kept table fits k after left left_so rows life_is has_is; state = ended_state kept table fits k after left contents rows same ∙ sym state; says = says })
 
   -- a visit ends, whatever the store's call left as it was
   pub visit_ends : (after : SiteContent) (left : ℕ) → left ≡ active - 1 → IsStrictlySortedBy ticket_cmp (keys_of entries) → is_visit (table.standing k) ≡ true → IsUnchanged kept after → (act : Act local) (answer : Option Reply) → act ≡ Ends (name_of k) (said_by answer) →
       Steps kept table after (volatile_from (remove_entry (is_at (ticket_cmp k)) entries) (map (stops k number) ls) left life number) act answer
   visit_ends after left fewer sorted visit same act answer is =
-      ended_steps after left (inr (visit, fewer)) sorted (visit_rows visit after same) same.life kept.content same.content act answer (ap (site_after s) is) (ap (said s) is)
+      ended_steps after left (inr (visit, fewer)) sorted (visit_rows visit after same) same.life same.has kept.content same.content act answer (ap (site_after s) is) (ap (said s) is)
 
   -- a visit is prepared
   pub prepares_steps : (after : SiteContent) (txn : Txn) (visit : visits.Visit) → table.standing k ≡ Some (standing.Active visit) → content.Prepares k (record { txn = txn; changes = visit.changes }) kept after → (act : Act local) (answer : Option Reply) →
       act ≡ acts.Prepares (name_of k) (txn_name txn) visit.changes → answer ≡ Some (reply.Voted (record { ticket = k; vote = votes.Yes })) →
       Steps kept table after (volatile_from (set_value (is_at (ticket_cmp k)) entries (standing.Prepared txn)) (map (stops_reading k number) ls) (active - 1) life number) act answer
   prepares_steps after txn visit is keeps act answer act_is says =
-      let new = fits_prepared kept table fits k txn visit is after keeps.prepared keeps.life in
+      let new = fits_prepared kept table fits k txn visit is after keeps.prepared keeps.life keeps.has in
       steps_at kept after table _ (prepared k txn table) act answer
-      (λ i. record { standing = λ j. set_there k entries (standing.Prepared txn) (standing.Active visit) is j i; tickets = set_keys k entries (standing.Prepared txn) i; locks = λ g. all_stop_reading k number ls g i; active = active - 1; life = life; number = number })
+      (λ i. record { standing = λ j. set_there k entries (standing.Prepared txn) (standing.Active visit) is j i; tickets = set_keys k entries (standing.Prepared txn) i; leaves = leaves_stop_reading k number ls i; locks = λ g. all_stop_reading k number ls g i; active = active - 1; life = life; number = number })
       (record { fits = new; state = prepared_state kept table fits k txn visit.changes after new keeps.prepared keeps.content ∙ ap (site_after s) (sym act_is); says = ap (said s) act_is ∙ ap said_by (sym says) })
 
   -- the rows of the table
@@ -138,13 +146,13 @@ module _ (kept : SiteContent) (entries : Entries) (ls : List locks.Locks) (activ
       Steps kept table after (volatile_from (remove_entry (is_at (ticket_cmp k)) entries) (map (stops k number) ls) active life number) (on_commit true (name_of k) (s.status (name_of k))) (Some (reply.Ack k))
   commit_steps after row sorted is applies =
       let act = ap (λ r. on_commit true (name_of k) (stands table k r)) is in
-      ended_steps after active (inl (row_no_visit row is, refl)) sorted applies.prepared applies.life (λ g. changed g row.changes (kept.content g)) applies.content _ (Some (reply.Ack k)) (ap (site_after s) act) (ap (said s) act)
+      ended_steps after active (inl (row_no_visit row is, refl)) sorted applies.prepared applies.life applies.has (λ g. changed g row.changes (kept.content g)) applies.content _ (Some (reply.Ack k)) (ap (site_after s) act) (ap (said s) act)
 
   pub abort_steps : (after : SiteContent) (row : Row) → IsStrictlySortedBy ticket_cmp (keys_of entries) → kept.prepared k ≡ Some row → content.Discards k kept after →
       Steps kept table after (volatile_from (remove_entry (is_at (ticket_cmp k)) entries) (map (stops k number) ls) active life number) (on_abort true (name_of k) (s.status (name_of k))) None
   abort_steps after row sorted is discards =
       let act = ap (λ r. on_abort true (name_of k) (stands table k r)) is in
-      ended_steps after active (inl (row_no_visit row is, refl)) sorted discards.prepared discards.life kept.content discards.content _ None (ap (site_after s) act) (ap (said s) act)
+      ended_steps after active (inl (row_no_visit row is, refl)) sorted discards.prepared discards.life discards.has kept.content discards.content _ None (ap (site_after s) act) (ap (said s) act)
 
   visit_there : (o : Option standings.TicketState) → table.standing k ≡ o → is_visit o ≡ true → (v : visits.Visit) × (table.standing k ≡ Some (standing.Active v))
   visit_there None e is = cc

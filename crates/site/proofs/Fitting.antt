@@ -72,6 +72,7 @@ module _ (kept : SiteContent) (table : VolatileState) (fits : Fits kept table) w
       record {
         prepared = stood_all next new table.standing (λ j o. txn_in o ≡ option_map (λ row. row.txn) (kept.prepared j)) (sym (ap (option_map (λ row. row.txn)) none)) (λ j apart. fits.prepared j);
         life = fits.life;
+        had = fits.had;
         listed = stood_all next new table.standing (λ j o. is_some o ≡ true → In j (table.tickets ++ next ∷ [])) (λ e. in_right next table.tickets (next ∷ []) (inl refl)) (λ j apart e. in_left j table.tickets (next ∷ []) (fits.listed j e));
         lives = stood_all next new table.standing (λ j o. In j (table.tickets ++ next ∷ []) → is_some o ≡ true) (λ here. refl)
             (λ j apart here. ⊎_elim (fits.lives j) (λ last. ⊎_elim (λ e. clash (ticket_same next j (sym e)) apart) (λ no_one. absurd no_one) last) (in_append j table.tickets (next ∷ []) here));
@@ -140,6 +141,7 @@ module _ (kept : SiteContent) (table : VolatileState) (fits : Fits kept table) w
       fits_operated low_op = record {
         prepared = stood_all k new table.standing (λ j o. txn_in o ≡ option_map (λ row. row.txn) (kept.prepared j)) (sym (ap (option_map (λ row. row.txn)) no_row)) (λ j apart. fits.prepared j);
         life = fits.life;
+        had = fits.had;
         listed = stood_all k new table.standing (λ j o. is_some o ≡ true → In j table.tickets) (λ e. fits.listed k (ap is_some visit)) (λ j apart. fits.listed j);
         lives = stood_all k new table.standing (λ j o. In j table.tickets → is_some o ≡ true) (λ here. refl) (λ j apart. fits.lives j);
         readers = λ g. stood_all k new table.standing (λ j o. reads j (locked leaf step table.locks g) ≡ true → is_visit o ≡ true) (λ e. refl) (λ j apart e. fits.readers g j (sym (read_before g j apart) ∙ e));
@@ -230,12 +232,13 @@ module _ (kept : SiteContent) (table : VolatileState) (fits : Fits kept table) w
       part = ap length (without k now table.tickets none)
 
   -- nothing stands behind a ticket any more, nor has the store a row
-  pub fits_gone : (k : Ticket) (after : SiteContent) (active : ℕ) → Left k active → ((j : Ticket) → after.prepared j ≡ (if is_ticket k j then None else kept.prepared j)) → after.life ≡ kept.life → Fits after (gone k active table)
-  fits_gone k after active left_so rows life =
+  pub fits_gone : (k : Ticket) (after : SiteContent) (active : ℕ) → Left k active → ((j : Ticket) → after.prepared j ≡ (if is_ticket k j then None else kept.prepared j)) → after.life ≡ kept.life → ((g : Leaf) → after.has g ≡ kept.has g) → Fits after (gone k active table)
+  fits_gone k after active left_so rows life has =
       let left : List Ticket = filter (λ j. not (is_ticket k j)) table.tickets in
       record {
         prepared = matches k None None after active rows life refl;
         life = fits.life ∙ sym life;
+        had = λ g here. has g ∙ fits.had g here;
         listed = stood_all k None table.standing (λ j o. is_some o ≡ true → In j left) (λ e. cc) (λ j apart e. in_filter (λ x. not (is_ticket k x)) j table.tickets (fits.listed j e) (ap not apart));
         lives = stood_all k None table.standing (λ j o. In j left → is_some o ≡ true)
             (λ here. clash (from_filter (λ x. not (is_ticket k x)) k table.tickets here).1 (ap not (ticket_self k)))
@@ -267,13 +270,14 @@ module _ (kept : SiteContent) (table : VolatileState) (fits : Fits kept table) w
 
   -- a visit is prepared
   pub fits_prepared : (k : Ticket) (txn : Txn) (visit : visits.Visit) → table.standing k ≡ Some (standing.Active visit) → (after : SiteContent) →
-      ((j : Ticket) → after.prepared j ≡ (if is_ticket k j then Some (record { txn = txn; changes = visit.changes }) else kept.prepared j)) → after.life ≡ kept.life → Fits after (prepared k txn table)
-  fits_prepared k txn visit is after rows life =
+      ((j : Ticket) → after.prepared j ≡ (if is_ticket k j then Some (record { txn = txn; changes = visit.changes }) else kept.prepared j)) → after.life ≡ kept.life → ((g : Leaf) → after.has g ≡ kept.has g) → Fits after (prepared k txn table)
+  fits_prepared k txn visit is after rows life has =
       let new = Some (standing.Prepared txn) in
       let row = Some (record { txn = txn; changes = visit.changes }) in
       record {
         prepared = matches k new row after 0 rows life refl;
         life = fits.life ∙ sym life;
+        had = λ g here. has g ∙ fits.had g here;
         listed = stood_all k new table.standing (λ j o. is_some o ≡ true → In j table.tickets) (λ e. fits.listed k (ap is_some is)) (λ j apart. fits.listed j);
         lives = stood_all k new table.standing (λ j o. In j table.tickets → is_some o ≡ true) (λ here. refl) (λ j apart. fits.lives j);
         readers = λ g. stood_all k new table.standing (λ j o. reads j (stops_reading k table.number (table.locks g)) ≡ true → is_visit o ≡ true)

@@ -4,8 +4,7 @@ use Rattle.std.proofs.Math.Seq.{map-set_same, take-append_seam}
 use Rattle.std.proofs.lemmas.List.{length-map}
 use Rattle.store.specs.declared.name.Ticket.{Ticket}
 use Rattle.site.specs.declared.locks.Locks.{Locks}
-use Rattle.site.specs.Locks.{reads, writes, stops, stops_reading}
-use Rattle.site.specs.Recovery.{leaves_in}
+use Rattle.site.specs.Locks.{reads, writes, stops, stops_reading, leaves_in}
 
 -- a lock is let go, or not
 either_leaf : (b : Bool) (changed kept : Locks) → changed.leaf ≡ kept.leaf → (if b then changed else kept).leaf ≡ kept.leaf

@@ -11,7 +11,9 @@ pub mod Endings
 pub mod Acts
 pub mod Verdicts
 pub mod Finals
+pub mod Had
 pub mod Fetched
+pub mod Overlaid
 pub mod LeavesKept
 pub mod Lawful
 pub mod PreparedRows

@@ -8,9 +8,10 @@ use Rattle.terms.specs.declared.leaf.Leaf.{Leaf}
 use Rattle.store.specs.declared.name.Ticket.{Ticket}
 use Rattle.store.specs.declared.prepared.Prepared.{Prepared as Row}
 use Rattle.store.specs.declared.prepared.PreparedRow.{PreparedRow}
-use Rattle.store.specs.declared.prepared.SiteKept.{SiteKept}
+use Rattle.store.specs.declared.prepared.SiteRows.{SiteRows}
 use Rattle.store.specs.Name.{ticket_cmp}
-use Rattle.store.specs.SiteContent.{SiteContent, BeginsLife, Lists, row_of}
+use Rattle.store.specs.SiteContent.{SiteContent, BeginsLife, ListsRows, row_of}
+use Rattle.protocol.specs.Parts.{In}
 use Rattle.protocol.specs.Site.{has_exclusive, is_short}
 use Rattle.protocol.proofs.Basics.{clash}
 use Rattle.store.specs.declared.fault.StoreFault.{StoreFault}
@@ -22,12 +23,12 @@ use Rattle.protocol.specs.Letters.{name_of, ticket_of}
 use Rattle.protocol.specs.Local.{local}
 use Rattle.site.specs.Locks.{free}
 use Rattle.site.specs.Recovery.{Begins, granted, stood_by, all_may_stand, resting}
-use Rattle.site.specs.State.{VolatileState, volatile_from, stands, visiting, is_visit, txn_in}
+use Rattle.site.specs.State.{AreHad, VolatileState, volatile_from, stands, visiting, is_visit, txn_in}
 use Rattle.site.proofs.Counting.{none_pass}
-use Rattle.site.proofs.PreparedRows.{standing_of, holds, rows_there, rows_drawn, none_read, none_released, all_write, some_listed, listed_some}
+use Rattle.site.proofs.PreparedRows.{all_leaves, standing_of, holds, rows_there, rows_drawn, none_read, none_released, all_write, some_listed, listed_some}
 use Rattle.site.proofs.TicketStates.{Entries}
 
-module _ (leaves : List Leaf) (all : SiteKept) (kept after : SiteContent) (lists : Lists kept all) (life : BeginsLife kept after)
+module _ (leaves : List Leaf) (all : SiteRows) (kept after : SiteContent) (lists : ListsRows kept all) (life : BeginsLife kept after) (had : AreHad leaves kept)
     (right : all_may_stand leaves all.life all.prepared (map free leaves) ≡ true)
     (sorted : IsStrictlySortedBy ticket_cmp (keys_of (stood_by all.prepared []))) where
   abbrev entries : Entries
@@ -77,6 +78,7 @@ module _ (leaves : List Leaf) (all : SiteKept) (kept after : SiteContent) (lists
     fits = record {
       prepared = λ j. ap txn_in (there j) ∙ txn_is (after.prepared j);
       life = refl;
+      had = λ g here. life.has g ∙ had g (subst (In g) (all_leaves leaves all.prepared) here);
       listed = λ j e. some_listed entries j e;
       lives = λ j here. listed_some entries j here;
       readers = λ g j e. clash e (none_read g leaves all.prepared j);
@@ -99,15 +101,15 @@ module _ (leaves : List Leaf) (all : SiteKept) (kept after : SiteContent) (lists
     active = refl;
   }
 
-pub begins_from : (leaves : List Leaf) (all : SiteKept) (kept after : SiteContent) → Lists kept all → BeginsLife kept after → (rows : List PreparedRow) → rows ≡ all.prepared → (es : Entries) (locks : List Locks) (life : ℕ) →
+pub begins_from : (leaves : List Leaf) (all : SiteRows) (kept after : SiteContent) → ListsRows kept all → BeginsLife kept after → AreHad leaves kept → (rows : List PreparedRow) → rows ≡ all.prepared → (es : Entries) (locks : List Locks) (life : ℕ) →
     after.life < 2 ^ 63 → es ≡ stood_by rows [] → locks ≡ granted rows (map free leaves) → all_may_stand leaves all.life rows (map free leaves) ≡ true → IsStrictlySortedBy ticket_cmp (keys_of es) → life ≡ after.life → Begins after (volatile_from es locks 0 life 0)
-begins_from leaves all kept after lists begun rows rows_are es locks life lower stand lock_exclusive right sorted life_is =
+begins_from leaves all kept after lists begun had rows rows_are es locks life lower stand lock_exclusive right sorted life_is =
     let entries_are = stand ∙ ap (λ r. stood_by r []) rows_are in
     let locks_are = lock_exclusive ∙ ap (λ r. granted r (map free leaves)) rows_are in
     subst (λ n. Begins after (volatile_from es locks 0 n 0)) (sym life_is)
     (subst (λ l. Begins after (volatile_from es l 0 after.life 0)) (sym locks_are)
     (subst (λ x. Begins after (volatile_from x (granted all.prepared (map free leaves)) 0 after.life 0)) (sym entries_are)
-    (begins leaves all kept after lists begun
+    (begins leaves all kept after lists begun had
     (subst (λ r. all_may_stand leaves all.life r (map free leaves) ≡ true) rows_are right)
     (subst (λ x. IsStrictlySortedBy ticket_cmp (keys_of x)) entries_are sorted) lower)))
 

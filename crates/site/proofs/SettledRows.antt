@@ -113,16 +113,16 @@ stands_there None None same some = some
 stands_there None (Some row) same some = absurd cc
 stands_there (Some o) r same some = refl
 
-settles : (decided : List Txn) (kept : SiteContent) (table : VolatileState) (all : SiteKept) (made : Changes) → Lists kept all → Fits kept table → IsStrictlySortedBy ticket_cmp table.tickets → ((leaf : Leaf) → made_by made leaf ≡ with_rows decided leaf all.prepared (made_by all.parts leaf)) →
+settles : (decided : List Txn) (kept : SiteContent) (table : VolatileState) (all : SiteKept) (made : Changes) → Lists kept all → Fits kept table → IsStrictlySortedBy ticket_cmp table.tickets → ((leaf : Leaf) → made_by made leaf ≡ with_rows decided leaf all.rows.prepared (made_by all.parts leaf)) →
     AreSettled decided kept table.tickets made
 settles decided kept table all made lists fits sorted is leaf =
-    is leaf ∙ ap (with_rows decided leaf all.prepared) (lists.fragments leaf) ∙
-    sym (rows_are decided leaf kept.prepared table.tickets all.prepared sorted lists.ascend (λ k here. sym (lists.rows k))
-    (each_in table.tickets all.prepared (λ t here. fits.listed t (stands_there (table.standing t) (kept.prepared t) (fits.prepared t) (subst (λ o. is_some o ≡ true) (lists.rows t) (some_row t all.prepared here))))) (kept.content leaf))
+    is leaf ∙ ap (with_rows decided leaf all.rows.prepared) (lists.fragments leaf) ∙
+    sym (rows_are decided leaf kept.prepared table.tickets all.rows.prepared sorted lists.rows.ascend (λ k here. sym (lists.rows.rows k))
+    (each_in table.tickets all.rows.prepared (λ t here. fits.listed t (stands_there (table.standing t) (kept.prepared t) (fits.prepared t) (subst (λ o. is_some o ≡ true) (lists.rows.rows t) (some_row t all.rows.prepared here))))) (kept.content leaf))
 
 -- so where what is kept was listed, and nothing has changed
 pub settles_still : (decided : List Txn) (old new : SiteContent) (table : VolatileState) (all : SiteKept) (made : Changes) → IsUnchanged old new → Lists new all → Fits old table → IsStrictlySortedBy ticket_cmp table.tickets →
-    ((leaf : Leaf) → made_by made leaf ≡ with_rows decided leaf all.prepared (made_by all.parts leaf)) → AreSettled decided old table.tickets made
+    ((leaf : Leaf) → made_by made leaf ≡ with_rows decided leaf all.rows.prepared (made_by all.parts leaf)) → AreSettled decided old table.tickets made
 settles_still decided old new table all made same lists fits sorted is =
-    let unchanged : new ≡ old = λ i. record { content = λ leaf. same.content leaf i; prepared = λ ticket. same.prepared ticket i; life = same.life i } in
+    let unchanged : new ≡ old = λ i. record { has = λ leaf. same.has leaf i; content = λ leaf. same.content leaf i; prepared = λ ticket. same.prepared ticket i; life = same.life i } in
     settles decided old table all made (subst (λ kept. Lists kept all) unchanged lists) fits sorted is

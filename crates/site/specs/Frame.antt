@@ -14,8 +14,9 @@ use Rattle.site.specs.declared.fault.SiteFault.{SiteFault}
 use Rattle.site.specs.declared.fault.SiteFault.TheVariants.{Memory, Store, Full, Stranger}
 use Rattle.site.specs.declared.volatile.Volatile.{Volatile}
 use Rattle.site.specs.Refusals.{AsksElsewhere, AsksBeyond, AsksStore}
-use Rattle.site.specs.Recovery.{Begins, Restarts, IsStrange, leaves_in}
-use Rattle.site.specs.State.{Fits, Steps, volatile_of}
+use Rattle.site.specs.Locks.{leaves_in}
+use Rattle.site.specs.Recovery.{Begins, Restarts, IsStrange}
+use Rattle.site.specs.State.{AreHad, Fits, Steps, volatile_of}
 
 -- what a call leaves of what is in memory, whatever it answers: the site's name, and its leaves
 pub record LeavesVolatile (old new : Volatile) : Type 0 where
@@ -85,5 +86,5 @@ module _ {S : Type 0} (is_clean is_sound : S → Type 0) (kept : S → SiteConte
     pub is_called : OnOk result (called ≡ true)
     pub uncalled : called ≡ false → new ≡ old
     pub ok : is_clean new → Fits (kept old) (volatile_of before) → OnOk result (Restarts (kept old) (volatile_of before) (kept new) (volatile_of after))
-    pub rests : is_clean new → OnOk result (Begins (kept new) (volatile_of after))
+    pub rests : is_clean new → AreHad (leaves_in before.locks.items) (kept old) → OnOk result (Begins (kept new) (volatile_of after))
     pub own : result ≢ Err Stranger

@@ -1,5 +1,5 @@
 -- The locks on one leaf, and what granting one and letting go make of them.
-use Rattle.std.specs.Prelude.{ℕ, Bool, false, ◌||◌, not, nat_le, List, [], ◌∷◌, Option, Some, None, if◌then◌else◌}
+use Rattle.std.specs.Prelude.{ℕ, Bool, false, ◌||◌, not, nat_le, List, [], ◌∷◌, map, Option, Some, None, if◌then◌else◌}
 use Rattle.std.specs.BTreeSet.{contains, insert_key}
 use Rattle.std.specs.List.{filter, list_any, position_from}
 use Rattle.std.specs.Ordering.{is_eq}
@@ -13,6 +13,10 @@ use Rattle.site.specs.declared.locks.Locks.{Locks}
 -- no locks, and none was ever let go
 abbrev pub free : Leaf → Locks
 free leaf = record { leaf = leaf; readers = record { keys = [] }; writer = None; released = 0 }
+
+-- the leaves of locks
+abbrev pub leaves_in : List Locks → List Leaf
+leaves_in locks = map (λ l. l.leaf) locks
 
 -- whether a ticket has the shared lock
 abbrev pub reads : Ticket → Locks → Bool

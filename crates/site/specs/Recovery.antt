@@ -6,10 +6,10 @@ use Rattle.terms.specs.declared.leaf.Leaf.{Leaf}
 use Rattle.store.specs.declared.name.Ticket.{Ticket}
 use Rattle.store.specs.declared.prepared.Prepared.{Prepared as Row}
 use Rattle.store.specs.declared.prepared.PreparedRow.{PreparedRow}
-use Rattle.store.specs.declared.prepared.SiteKept.{SiteKept}
+use Rattle.store.specs.declared.prepared.SiteRows.{SiteRows}
 use Rattle.store.specs.Content.{Changes, touches, are_within}
 use Rattle.store.specs.Name.{ticket_cmp}
-use Rattle.store.specs.SiteContent.{SiteContent, Lists}
+use Rattle.store.specs.SiteContent.{SiteContent, ListsRows}
 use Rattle.protocol.specs.Site.{SiteState, Status, Dead, Prepared, site_restarted}
 use Rattle.site.specs.declared.locks.Locks.{Locks}
 use Rattle.site.specs.declared.tickets.TicketState as standings
@@ -47,8 +47,8 @@ all_may_stand leaves life (row ∷ rows) locks = may_stand leaves life row locks
 
 -- what is kept can be no site's that has these leaves
 pub record IsStrange (leaves : List Leaf) (kept : SiteContent) : Type 0 where
-  pub all : SiteKept
-  pub lists : Lists kept all
+  pub all : SiteRows
+  pub lists : ListsRows kept all
   pub strange : all_may_stand leaves all.life all.prepared (map free leaves) ≡ false
 
 -- what stands behind a ticket where there are no visits
@@ -76,7 +76,3 @@ pub record Begins (kept : SiteContent) (table : VolatileState) : Type 0 where
 pub record Restarts (old : SiteContent) (before : VolatileState) (new : SiteContent) (after : VolatileState) : Type 0 where
   pub fits : Fits new after
   pub state : state_of new after ≡ site_restarted (state_of old before)
-
--- the leaves of locks
-abbrev pub leaves_in : List Locks → List Leaf
-leaves_in locks = map (λ l. l.leaf) locks

@@ -23,19 +23,20 @@ use Rattle.site.specs.declared.tickets.TicketState as standings
 use Rattle.site.specs.declared.tickets.TicketState.TheVariants as standing
 use Rattle.protocol.specs.Local.{local}
 use Rattle.protocol.specs.Letters.{name_of, ticket_of, txn_name, said_by, body_of, letter_of, kept_in}
-use Rattle.site.specs.Locks.{reads, writes, is_foreign, locks_in}
+use Rattle.site.specs.Locks.{reads, writes, is_foreign, leaves_in, locks_in}
 
 -- what is in memory, read ticket by ticket and leaf by leaf
 pub record VolatileState : Type 0 where
   pub standing : Ticket → Option standings.TicketState
   pub tickets : List Ticket
+  pub leaves : List Leaf
   pub locks : Leaf → Locks
   pub active : ℕ
   pub life : ℕ
   pub number : ℕ
 
 abbrev pub volatile_from : List (Ticket × standings.TicketState) → List Locks → ℕ → ℕ → ℕ → VolatileState
-volatile_from entries locks active life number = record { standing = λ ticket. lookup (is_at (ticket_cmp ticket)) entries; tickets = keys_of entries; locks = λ leaf. locks_in leaf locks; active = active; life = life; number = number }
+volatile_from entries locks active life number = record { standing = λ ticket. lookup (is_at (ticket_cmp ticket)) entries; tickets = keys_of entries; leaves = leaves_in locks; locks = λ leaf. locks_in leaf locks; active = active; life = life; number = number }
 
 abbrev pub volatile_of : Volatile → VolatileState
 volatile_of volatile = volatile_from volatile.standings volatile.locks.items volatile.active volatile.life volatile.number
@@ -101,11 +102,17 @@ IsDrawn table ticket = (ticket.life < table.life) ⊎ ((ticket.life ≡ table.li
 abbrev pub visits_among : (Ticket → Option standings.TicketState) → List Ticket → ℕ
 visits_among standing tickets = length (filter (λ ticket. is_visit (standing ticket)) tickets)
 
+-- the store has these leaves
+abbrev pub AreHad : List Leaf → SiteContent → Type 0
+AreHad leaves kept = (leaf : Leaf) → In leaf leaves → kept.has leaf ≡ true
+
 -- what is in memory fits what the store keeps
 pub record Fits (kept : SiteContent) (table : VolatileState) : Type 0 where
   -- the prepared tickets are those of the store's rows
   pub prepared : (ticket : Ticket) → txn_in (table.standing ticket) ≡ option_map (λ row. row.txn) (kept.prepared ticket)
   pub life : table.life ≡ kept.life
+  -- the site's leaves are the store's
+  pub had : AreHad table.leaves kept
   -- the list has the tickets behind which something stands
   pub listed : (ticket : Ticket) → is_some (table.standing ticket) ≡ true → In ticket table.tickets
   pub lives : (ticket : Ticket) → In ticket table.tickets → is_some (table.standing ticket) ≡ true

@@ -3,8 +3,8 @@
 ghost use Rattle.std.specs.Prelude.{◌≡◌, ◌<◌, Some, OnOk, OnErr, length, map, not, slice_get, slice_set};
 ghost use Rattle.std.specs.List.{list_all, list_any};
 ghost use Rattle.store.specs.SiteContent.{is_ticket};
-ghost use Rattle.site.specs.Locks.{free, others_write, is_foreign, with_reader, with_writer, stops, stops_reading, stops_writing, place_in};
-ghost use Rattle.site.specs.Recovery.{grants, is_open, leaves_in};
+ghost use Rattle.site.specs.Locks.{free, others_write, is_foreign, with_reader, with_writer, stops, stops_reading, stops_writing, place_in, leaves_in};
+ghost use Rattle.site.specs.Recovery.{grants, is_open};
 ghost use Rattle.site.specs.declared.locks.Locks.{Locks as LocksNow};
 
 use std::alloc::Global;

@@ -1,6 +1,7 @@
 //! Visits are prepared, and end.
 
-ghost use Rattle.std.specs.Prelude.{◌≡◌, true, [], ◌∷◌, Some, None, Err, IfOk, IfErr, if◌then◌else◌, ◌⊎◌, false};
+ghost use Rattle.std.specs.Prelude.{◌≡◌, ◌≢◌, true, [], ◌∷◌, Some, None, Err, IfOk, IfErr, if◌then◌else◌, ◌⊎◌, false};
+ghost use Rattle.std.specs.FinMap as fin;
 ghost use Rattle.store.specs.Fault.{HasRefused};
 ghost use Rattle.store.specs.declared.fault.StoreFault.{StoreFault as StoreFaultName};
 ghost use Rattle.store.specs.declared.reply.Reply.TheVariants as replies;
@@ -65,7 +66,7 @@ fn keep<S: SiteStore>(
     ticket: Ticket,
     kept: bool,
 ) -> Result<Option<Reply>, SiteFault>
-    requires { (visit : Visited) × ((volatile_of volatile.old).standing ticket ≡ Some (standing.Active visit)) }
+    requires { (visit : Visited) × ((volatile_of volatile.old).standing ticket ≡ Some (standing.Active visit)) × (visit.changes ≢ fin.empty) }
 
     ensures ok { S.is_clean store.new → S.is_sound store.old → Fits (S.kept store.old) (volatile_of volatile.old) → (visit : Visited) → (volatile_of volatile.old).standing ticket ≡ Some (standing.Active visit)
         → IfOk result (λ reply. Steps (S.kept store.old) (volatile_of volatile.old) (S.kept store.new) (volatile_of volatile.new)

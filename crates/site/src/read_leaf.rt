@@ -5,6 +5,7 @@ ghost use Rattle.std.specs.FinMap as map;
 ghost use Rattle.std.specs.List.{filter};
 ghost use Rattle.terms.specs.Cond.{conds_hold};
 ghost use Rattle.store.specs.Content.{Content, IsKeyed, changed, parts, AreKeyed};
+ghost use Rattle.store.specs.Slot.{slot_of};
 ghost use Rattle.site.specs.ReadLeaf.{stored};
 ghost use Rattle.site.specs.Frame.{Reads};
 ghost use Rattle.site.specs.State.{volatile_of, changes_at};
@@ -41,17 +42,18 @@ pub(crate) fn rows<S: SiteStore>(
     if let Some(key) = key_equality(conds.as_slice()) {
         return read_point(store, volatile, ticket, leaf, key, conds);
     }
-    let kept = match store.scan(leaf) {
+    let kept = match store.scan(leaf, conds) {
         Ok(parts) => parts,
         Err(fault) => return Err(site_fault(fault)),
     };
     match volatile.changes(ticket) {
         Some(changes) => Ok(overlaid(volatile.alloc, kept, changes, leaf, conds)?),
-        None => Ok(meeting(kept, conds)),
+        None => Ok(kept),
     }
 }
 
-/// The parts that meet conditions, after changes. Each part stands under its own key.
+/// The parts of a leaf that meet conditions, after changes, where these are the parts that met them before.
+/// Each part stands under its own key.
 fn overlaid(
     alloc: Global,
     kept: Vec<Part>,
@@ -59,10 +61,10 @@ fn overlaid(
     leaf: &Leaf,
     conds: &Conds,
 ) -> Result<Vec<Part>, Memory>
-    ensures { (content : Content) → IsKeyed content → kept.items ≡ map.values content → IfOk result (λ rows. rows.items ≡ parts conds.now (changed leaf.now changes.now content)) }
+    ensures { (content : Content) → IsKeyed content → kept.items ≡ parts conds.now content → IfOk result (λ rows. rows.items ≡ parts conds.now (changed leaf.now changes.now content)) }
 {
     if !changes.touches(leaf) {
-        return Ok(meeting(kept, conds));
+        return Ok(kept);
     }
     let mut all = stored(alloc, kept.as_slice(), leaf)?;
     all.make_rooms(changes)?;
@@ -134,26 +136,36 @@ pub(crate) fn read_point<S: SiteStore>(
     ensures rows { S.is_clean store.new → S.is_sound store.old → IfOk result (λ rows. rows.items ≡ parts conds.now (changed leaf.now (changes_at (volatile_of volatile.now) ticket.now) ((S.kept store.old).content leaf.now))) }
     ensures reads { Reads S.is_clean S.is_sound S.kept S.refused store.old store.new result }
 {
-    let leaf = leaf.copy()?;
-    let slot = Slot { leaf, key };
-    let kept = match store.find(&slot) {
+    let kept = match store.find(leaf, key) {
         Ok(part) => part,
         Err(fault) => return Err(site_fault(fault)),
     };
     one_key_suffices();
     let none = Changes::new(volatile.alloc);
     let changes = volatile.changes(ticket).unwrap_or(&none);
-    let part = changed_at(kept, changes, &slot)?;
+    let part = changed_at(kept, changes, leaf, key)?;
     Ok(if_meets(volatile.alloc, part, conds)?)
 }
 
-/// What changes make of what is at a slot.
-fn changed_at(kept: Option<Part>, changes: &Changes, slot: &Slot) -> Result<Option<Part>, Memory>
-    ensures part { IfOk result (λ part. part ≡ unwrap_or (map.get changes.now slot.now) kept) }
+/// What changes make of what is at a key of a leaf.
+fn changed_at(
+    kept: Option<Part>,
+    changes: &Changes,
+    leaf: &Leaf,
+    key: i64,
+) -> Result<Option<Part>, Memory>
+    ensures part { IfOk result (λ part. part ≡ unwrap_or (map.get changes.now (slot_of leaf.now key)) kept) }
     ensures keyed { AreKeyed changes.now }
 {
     let _count = changes.len();
-    match changes.get(slot) {
+    if changes.is_empty() {
+        return Ok(kept);
+    }
+    let slot = Slot {
+        leaf: leaf.copy()?,
+        key,
+    };
+    match changes.get(&slot) {
         Some(Some(part)) => Ok(Some(part.copy()?)),
         Some(None) => Ok(None),
         None => Ok(kept),

@@ -8,9 +8,9 @@ ghost use Rattle.store.specs.declared.fault.StoreFault.TheVariants as store_faul
 ghost use Rattle.site.specs.declared.fault.SiteFault.TheVariants as faults;
 ghost use Rattle.site.specs.Fault.{StopsStart};
 ghost use Rattle.site.specs.Frame.{BeginsOrFails};
-ghost use Rattle.site.specs.Locks.{free};
-ghost use Rattle.site.specs.Recovery.{Begins, granted, stood_by, may_stand, all_may_stand, leaves_in};
-ghost use Rattle.site.specs.State.{volatile_from};
+ghost use Rattle.site.specs.Locks.{free, leaves_in};
+ghost use Rattle.site.specs.Recovery.{Begins, granted, stood_by, may_stand, all_may_stand};
+ghost use Rattle.site.specs.State.{AreHad, volatile_from};
 ghost use Rattle.site.specs.Inquiries.{inquiries_of};
 ghost use Rattle.site.specs.Youngest.{from_oldest};
 ghost use Rattle.terms.specs.declared.leaf.Leaf.{Leaf};
@@ -48,18 +48,18 @@ pub(crate) struct Beginning {
     pub(crate) life: u64,
 }
 
-/// Loads what the store keeps, and begins the next life. On a fault nothing has changed.
+/// Reads the rows that the store keeps, and begins the next life. On a fault nothing has changed.
 pub(crate) fn begin<S: SiteStore>(
     store: &mut S,
     alloc: Global,
     leaves: &[Leaf],
 ) -> Result<Beginning, SiteFault>
-    ensures ok { S.is_clean store.new → IfOk result (λ begun. Begins (S.kept store.new) (volatile_from begun.resting.standings begun.resting.locks.items 0 begun.life 0)) }
+    ensures ok { S.is_clean store.new → AreHad leaves.now (S.kept store.old) → IfOk result (λ begun. Begins (S.kept store.new) (volatile_from begun.resting.standings begun.resting.locks.items 0 begun.life 0)) }
     ensures leaves { IfOk result (λ begun. leaves_in begun.resting.locks.items ≡ leaves.now) }
     ensures fails { BeginsOrFails S.is_clean S.is_sound S.kept S.refused true leaves.now store.old store.new result }
     ensures own { IfErr result StopsStart }
 {
-    let all = match store.load() {
+    let all = match store.rows() {
         Ok(all) => all,
         Err(fault) => return Err(site_fault(fault)),
     };
@@ -165,15 +165,11 @@ fn make(parts: &mut Changes, changes: Changes) -> Result<(), Memory>
 /// What is kept, with the intentions of the rows whose transactions are decided: the changes that make the
 /// fragments of nothing.
 pub(crate) fn settle(kept: SiteKept, decided: &[Txn]) -> Result<Changes, Memory>
-    ensures { (leaf : Leaf) → IfOk result (λ made. made_by made leaf ≡ with_rows decided.now leaf kept.prepared (made_by kept.parts leaf)) }
+    ensures { (leaf : Leaf) → IfOk result (λ made. made_by made leaf ≡ with_rows decided.now leaf kept.rows.prepared (made_by kept.parts leaf)) }
 {
-    let SiteKept {
-        parts,
-        prepared,
-        ..
-    } = kept;
+    let SiteKept { parts, rows } = kept;
     let mut parts = parts;
-    for row in prepared.into_vec() {
+    for row in rows.prepared.into_vec() {
         let prepared = row.prepared;
         if decided.contains(&prepared.txn) {
             make(&mut parts, prepared.changes)?;

@@ -13,9 +13,10 @@ ghost use Rattle.protocol.specs.Letters.{name_of, letter_of, order_body, txn_nam
 ghost use Rattle.site.specs.Refusals.{IsElsewhere, IsToKeep, IsBeyond, CallsStore, IsPastLimits, AsksElsewhere, AsksToKeep};
 ghost use Rattle.site.specs.Fault.{StopsStart};
 ghost use Rattle.site.specs.Frame.{LeavesVolatile, TurnsAway, StepsBy, Reads, ChangesOrFails, RestartsOrFails};
-ghost use Rattle.site.specs.Recovery.{Begins, IsStrange, leaves_in};
+ghost use Rattle.site.specs.Locks.{leaves_in};
+ghost use Rattle.site.specs.Recovery.{Begins, IsStrange};
 ghost use Rattle.site.specs.Settled.{AreSettled};
-ghost use Rattle.site.specs.State.{Fits, Steps, Takes, state_of, volatile_of};
+ghost use Rattle.site.specs.State.{AreHad, Fits, Steps, Takes, state_of, volatile_of};
 
 use crate::fault::{SiteFault, site_fault};
 use crate::locks::Locks;
@@ -54,8 +55,8 @@ pub struct Unstarted<S> {
 }
 
 impl<S: SiteStore> Site<S> {
-    /// Starts the site of this name that has these leaves: the next life begins. On a fault the store is
-    /// as it was.
+    /// Starts the site of this name that has these leaves, which the store has too: the next life begins. On a
+    /// fault the store is as it was.
     pub fn start(
         alloc: Global,
         name: Text,
@@ -65,7 +66,7 @@ impl<S: SiteStore> Site<S> {
         ensures leaves_store { IfOk result (λ site. LeavesStore S.is_clean S.is_sound S.refused store site.store) }
         ensures leaves_still { IfErr result (λ unstarted. LeavesStore S.is_clean S.is_sound S.refused store unstarted.store) }
         ensures learnt { IfOk result (λ site. S.is_clean site.store → S.is_sound store) }
-        ensures ok { IfOk result (λ site. S.is_clean site.store → Begins (S.kept site.store) (volatile_of site.volatile)) }
+        ensures ok { AreHad leaves.now (S.kept store) → IfOk result (λ site. S.is_clean site.store → Begins (S.kept site.store) (volatile_of site.volatile)) }
         ensures life { IfOk result (λ site. S.is_clean site.store → BeginsLife (S.kept store) (S.kept site.store)) }
         ensures name { IfOk result (λ site. site.volatile.name ≡ name) }
         ensures leaves { IfOk result (λ site. leaves_in site.volatile.locks.items ≡ leaves.now) }

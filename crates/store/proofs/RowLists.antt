@@ -1,7 +1,8 @@
 -- The list of a map's rows finds what the map has, and ascends as it does.
-use Rattle.std.proofs.Common.{◌≡◌, List, [], ◌∷◌, Some, cond, map, refl, ap}
+use Rattle.std.proofs.Common.{◌≡◌, Bool, true, false, List, [], ◌∷◌, Option, Some, cond, if◌then◌else◌, map, refl, ap}
 use Rattle.std.specs.BTreeMap.{is_at}
 use Rattle.std.specs.Map.{lookup, keys_of}
+use Rattle.std.specs.Option.{option_map}
 use Rattle.store.specs.declared.commit.Voter.{Voter}
 use Rattle.store.specs.declared.name.Ticket.{Ticket}
 use Rattle.store.specs.declared.name.Txn.{Txn}
@@ -26,3 +27,8 @@ voters_found (entry ∷ entries) txn = ap (cond (is_txn txn entry.0) (Some entry
 pub txns_listed : (entries : List (Txn × List Voter)) → map (λ row. row.txn) (commits_of entries) ≡ keys_of entries
 txns_listed [] = refl
 txns_listed (entry ∷ entries) = ap (λ txns. entry.0 ∷ txns) (txns_listed entries)
+
+-- what is made of one of two is one of what is made of both
+pub either_mapped : {A B : Type 0} (f : A → B) (b : Bool) (x y : Option A) → option_map f (if b then x else y) ≡ (if b then option_map f x else option_map f y)
+either_mapped f true x y = refl
+either_mapped f false x y = refl

@@ -1,18 +1,29 @@
 -- What the coordinator's store keeps, and what its calls make of it.
 use Rattle.std.specs.Prelude.{◌≡◌, ℕ, ◌+◌, ◌<◌, List, [], ◌∷◌, map, length, nat_eq, Bool, Option, Some, None, if◌then◌else◌}
-use Rattle.std.specs.Cmp.Lexicographic.{pointwise}
+use Rattle.std.specs.Cmp.Lexicographic.{pointwise, slice_cmp}
+use Rattle.std.specs.FinMap as keyed
 use Rattle.std.specs.List.{IsDistinct}
 use Rattle.std.specs.List.Sorted.{IsStrictlySortedBy}
-use Rattle.std.specs.Ordering.{is_eq}
+use Rattle.std.specs.Option.{option_map}
+use Rattle.std.specs.Ordering.{is_eq, nat_cmp}
 use Rattle.store.specs.declared.commit.CommitRow.{CommitRow}
 use Rattle.store.specs.declared.commit.DeskKept.{DeskKept}
 use Rattle.store.specs.declared.commit.Voter.{Voter}
+use Rattle.store.specs.declared.name.Ticket.{Ticket}
 use Rattle.store.specs.declared.name.Txn.{Txn}
 use Rattle.store.specs.Name.{txn_cmp}
 
+-- the voters of a commit row: the ticket of each site that voted YES
+abbrev pub Voters : Type 0
+Voters = keyed.FinMap (slice_cmp nat_cmp) Ticket
+
+-- those of a list, in whatever order
+abbrev pub by_site : List Voter → Voters
+by_site voters = keyed.from_entries (map (λ voter. (voter.site, voter.ticket)) voters)
+
 -- the voters of each transaction that has a commit row, the incarnation, and the catalogue's version
 pub record DeskContent : Type 0 where
-  pub commits : Txn → Option (List Voter)
+  pub commits : Txn → Option Voters
   pub life : ℕ
   pub version : ℕ
 
@@ -33,7 +44,7 @@ pub record IsUnchanged (old new : DeskContent) : Type 0 where
 
 -- the transaction has a commit row with these voters
 pub record KeepsCommit (txn : Txn) (voters : List Voter) (old new : DeskContent) : Type 0 where
-  pub commits : (other : Txn) → new.commits other ≡ (if is_txn txn other then Some voters else old.commits other)
+  pub commits : (other : Txn) → new.commits other ≡ (if is_txn txn other then Some (by_site voters) else old.commits other)
   pub life : new.life ≡ old.life
   pub version : new.version ≡ old.version
 
@@ -54,9 +65,9 @@ abbrev pub voters_in : Txn → List CommitRow → Option (List Voter)
 voters_in txn [] = None
 voters_in txn (row ∷ rows) = if is_txn txn row.txn then Some row.voters else voters_in txn rows
 
--- a listing of all that is kept
+-- a listing of all that is kept; the voters of a row stand in any order
 pub record Lists (kept : DeskContent) (all : DeskKept) : Type 0 where
-  pub rows : (txn : Txn) → voters_in txn all.commits ≡ kept.commits txn
+  pub rows : (txn : Txn) → option_map by_site (voters_in txn all.commits) ≡ kept.commits txn
   pub ascend : IsStrictlySortedBy txn_cmp (map (λ row. row.txn) all.commits)
   pub incarnation : all.life ≡ kept.life
   pub catalogue : all.version ≡ kept.version

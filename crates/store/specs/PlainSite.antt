@@ -1,5 +1,5 @@
 -- What a site's lists keep.
-use Rattle.std.specs.Prelude.{◌≡◌, None}
+use Rattle.std.specs.Prelude.{◌≡◌, true, None}
 use Rattle.std.specs.BTreeMap as tree
 use Rattle.terms.specs.declared.leaf.Leaf.{Leaf}
 use Rattle.store.specs.declared.name.Ticket.{Ticket}
@@ -8,8 +8,9 @@ use Rattle.store.specs.Content.{Changes, AreKeyed, made_by}
 use Rattle.store.specs.Name.{ticket_cmp}
 use Rattle.store.specs.SiteContent.{SiteContent}
 
+-- lists have a place for any leaf
 abbrev pub kept_of : PlainSite → SiteContent
-kept_of site = record { content = made_by site.parts; prepared = tree.get ticket_cmp site.prepared; life = site.life }
+kept_of site = record { has = λ leaf. true; content = made_by site.parts; prepared = tree.get ticket_cmp site.prepared; life = site.life }
 
 -- each part stands under its own key
 abbrev pub IsSound : PlainSite → Type 0

@@ -8,8 +8,8 @@ ghost use Rattle.store.specs.declared.slot.Slot.{Slot as Place};
 ghost use Rattle.store.specs.Slot.{slot_of};
 ghost use Rattle.store.specs.Content.{AreKeyed, HasRoomFor, made_by, put_at, touches, are_within};
 
-use crate::slot::Slot;
-use crate::slots::{Slots, copy_slots, fill, list_parts, make_rooms, stay_within, touch};
+use crate::slot::{Slot, Slots};
+use crate::slots::{copy_slots, fill, list_parts, make_rooms, stay_within, touch};
 use std::alloc::Global;
 use std::collections::BTreeMap;
 use std::marker::Model;
@@ -57,11 +57,13 @@ impl Changes {
         Changes { alloc, slots }
     }
 
-    /// The map that has the changes.
-    pub(crate) fn slots(&self) -> &Slots
+    /// Each slot that is changed, in order, with the part to put, or none where a part is to go.
+    pub fn slots(&self) -> &Slots
+        ensures entries { result.now.entries ≡ map.entries self.now }
         ensures slots { map.from_entries result.now.entries ≡ self.now }
         ensures keyed { AreKeyed self.now }
     {
+        let _count = self.slots.len();
         &self.slots
     }
 

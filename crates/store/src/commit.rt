@@ -22,7 +22,7 @@ impl TryCopy for Voter {
     }
 }
 
-/// A committed transaction, and its voters.
+/// A committed transaction, and its voters: each site once, in no order.
 #[derive(Debug, Drop)]
 pub struct CommitRow {
     pub txn: Txn,

@@ -4,14 +4,15 @@ ghost use Rattle.std.specs.Prelude.{◌≡◌, IfOk, OnOk, unwrap_or};
 ghost use Rattle.std.specs.FinMap as map;
 ghost use Rattle.std.specs.Option.{option_copied};
 ghost use Rattle.store.specs.declared.slot.Slot.{Slot as Place};
-ghost use Rattle.store.specs.Content.{AreKeyed, HasRoomFor, made_by, put_at};
+ghost use Rattle.store.specs.Slot.{slot_of};
+ghost use Rattle.store.specs.Content.{AreKeyed, HasRoomFor, made_by, parts, put_at};
 
 use crate::changes::Changes;
 use crate::shelves::{Shelves, copy_all, fill, find_part, list_leaf, make_rooms, pack};
-use crate::slot::Slot;
 use std::alloc::Global;
 use std::collections::BTreeMap;
 use std::marker::Model;
+use terms::cond::Conds;
 use terms::leaf::Leaf;
 use terms::memory::Memory;
 use terms::part::Part;
@@ -63,19 +64,26 @@ impl Parts {
         })
     }
 
-    /// The part at a slot, if there is one.
-    pub(crate) fn find(&self, slot: &Slot) -> Option<&Part>
-        ensures part { option_copied result ≡ put_at self.now slot.now }
+    /// How many leaves have a shelf.
+    pub(crate) fn len(&self) -> usize
         ensures keyed { AreKeyed self.now }
     {
-        find_part(&self.shelves, slot)
+        self.shelves.len()
     }
 
-    /// The parts of a leaf, in the order of their keys.
-    pub(crate) fn list(&self, leaf: &Leaf) -> Result<Vec<Part>, Memory>
-        ensures { IfOk result (λ parts. parts.items ≡ map.values (made_by self.now leaf.now)) }
+    /// The part at a key of a leaf, if there is one.
+    pub(crate) fn find(&self, leaf: &Leaf, key: &i64) -> Option<&Part>
+        ensures part { option_copied result ≡ put_at self.now (slot_of leaf.now key.now) }
+        ensures keyed { AreKeyed self.now }
     {
-        list_leaf(self.alloc, &self.shelves, leaf)
+        find_part(&self.shelves, leaf, key)
+    }
+
+    /// The parts of a leaf that meet conditions, in the order of their keys.
+    pub(crate) fn list(&self, leaf: &Leaf, conds: &Conds) -> Result<Vec<Part>, Memory>
+        ensures { IfOk result (λ found. found.items ≡ parts conds.now (made_by self.now leaf.now)) }
+    {
+        list_leaf(self.alloc, &self.shelves, leaf, conds)
     }
 
     /// Room for each part that changes put. No part is put or goes by this.

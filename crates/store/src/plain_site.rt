@@ -10,11 +10,11 @@ use crate::changes::Changes;
 use crate::fault::StoreFault;
 use crate::name::{Ticket, Txn};
 use crate::parts::Parts;
-use crate::prepared::{Prepared, PreparedRow, SiteKept, Unkept};
+use crate::prepared::{Prepared, PreparedRow, SiteKept, SiteRows, Unkept};
 use crate::site_store::SiteStore;
-use crate::slot::Slot;
 use std::alloc::Global;
 use std::collections::BTreeMap;
+use terms::cond::Conds;
 use terms::copy::TryCopy;
 use terms::leaf::Leaf;
 use terms::memory::Memory;
@@ -50,7 +50,8 @@ fn list_rows(
 }
 
 impl PlainSite {
-    ghost use Rattle.store.specs.PlainSite.{IsSound, HoldsParts};
+    ghost use Rattle.store.specs.PlainSite.{IsSound, HoldsParts, kept_of};
+    ghost use Rattle.store.specs.SiteContent.{ListsRows};
 
     /// A store that keeps nothing yet.
     pub fn new(alloc: Global) -> PlainSite
@@ -81,6 +82,16 @@ impl PlainSite {
             life: 0,
         }
     }
+
+    /// What is kept beside the parts.
+    fn site_rows(&self) -> Result<SiteRows, Memory>
+        ensures { IfOk result (ListsRows (kept_of self.now)) }
+    {
+        Ok(SiteRows {
+            prepared: list_rows(self.alloc, &self.prepared)?,
+            life: self.life,
+        })
+    }
 }
 
 impl SiteStore for PlainSite {
@@ -98,12 +109,12 @@ impl SiteStore for PlainSite {
 
     ghost keyed = { λ store clean sound leaf. IsKeyed-made_by store.parts sound leaf };
 
-    fn scan(&mut self, leaf: &Leaf) -> Result<Vec<Part>, StoreFault> {
-        Ok(self.parts.list(leaf)?)
+    fn scan(&mut self, leaf: &Leaf, conds: &Conds) -> Result<Vec<Part>, StoreFault> {
+        Ok(self.parts.list(leaf, conds)?)
     }
 
-    fn find(&mut self, slot: &Slot) -> Result<Option<Part>, StoreFault> {
-        match self.parts.find(slot) {
+    fn find(&mut self, leaf: &Leaf, key: i64) -> Result<Option<Part>, StoreFault> {
+        match self.parts.find(leaf, &key) {
             Some(part) => Ok(Some(part.copy()?)),
             None => Ok(None),
         }
@@ -146,11 +157,15 @@ impl SiteStore for PlainSite {
         Ok(self.life)
     }
 
+    fn rows(&mut self) -> Result<SiteRows, StoreFault> {
+        let _count = self.parts.len();
+        Ok(self.site_rows()?)
+    }
+
     fn load(&mut self) -> Result<SiteKept, StoreFault> {
         Ok(SiteKept {
             parts: self.parts.changes()?,
-            prepared: list_rows(self.alloc, &self.prepared)?,
-            life: self.life,
+            rows: self.site_rows()?,
         })
     }
 

@@ -30,15 +30,21 @@ pub struct PreparedRow {
     pub prepared: Prepared,
 }
 
+/// What a site's store keeps beside the fragments.
+#[derive(Debug, Drop)]
+pub struct SiteRows {
+    /// The prepared rows, by ticket.
+    pub prepared: Seq<PreparedRow>,
+    /// The incarnation.
+    pub life: u64,
+}
+
 /// All that a site's store keeps.
 #[derive(Debug, Drop)]
 pub struct SiteKept {
     /// The changes that make the fragments of nothing.
     pub parts: Changes,
-    /// The prepared rows, by ticket.
-    pub prepared: Seq<PreparedRow>,
-    /// The incarnation.
-    pub life: u64,
+    pub rows: SiteRows,
 }
 
 /// Changes that were not kept, and why.

@@ -1,12 +1,14 @@
 //! The maps that hold a site's parts, leaf by leaf.
 
-ghost use Rattle.std.specs.Prelude.{◌≡◌, ℤ, List, false, IfOk, OnOk, Some, None, IsSome, if◌then◌else◌, unwrap_or};
+ghost use Rattle.std.specs.Prelude.{◌≡◌, ◌++◌, ℤ, List, false, IfOk, OnOk, Some, None, IsSome, if◌then◌else◌, option_to_list, unwrap_or};
 ghost use Rattle.std.specs.BTreeMap.{is_at, IsOrdered};
+ghost use Rattle.std.specs.List.{filter};
 ghost use Rattle.std.specs.List.Sorted.{IsStrictlySortedBy};
 ghost use Rattle.std.specs.Map.{lookup, keys_of};
 ghost use Rattle.std.specs.Option.{option_copied, option_map};
 ghost use Rattle.std.specs.Ordering.{int_cmp};
 ghost use Rattle.std.specs.declared.cmp.Ordering.TheVariants.{Equal};
+ghost use Rattle.terms.specs.Cond.{conds_hold};
 ghost use Rattle.terms.specs.Leaf.{leaf_cmp};
 ghost use Rattle.terms.specs.declared.value.Value.{Value};
 ghost use Rattle.store.specs.declared.slot.Slot.{Slot as Place};
@@ -14,10 +16,11 @@ ghost use Rattle.store.specs.Slot.{slot_cmp, slot_of};
 ghost use Rattle.store.specs.Entries.{entry_at};
 ghost use Rattle.store.specs.Shelves.{key_at, place_at, part_on, shelf_at, shelf_parts};
 
-use crate::slot::Slot;
-use crate::slots::{Slots, copy_part};
+use crate::slot::{Slot, Slots};
+use crate::slots::copy_part;
 use std::alloc::Global;
 use std::collections::BTreeMap;
+use terms::cond::Conds;
 use terms::copy::TryCopy;
 use terms::leaf::Leaf;
 use terms::memory::Memory;
@@ -30,14 +33,14 @@ pub(crate) type Shelf = BTreeMap<i64, Option<Part>>;
 /// compared.
 pub(crate) type Shelves = BTreeMap<Leaf, Shelf>;
 
-/// The part at a slot, if there is one.
-pub(crate) fn find_part<'a>(shelves: &'a Shelves, slot: &Slot) -> Option<&'a Part>
-    ensures part { option_copied result ≡ part_on shelves.now.entries slot.now }
+/// The part at a key of a leaf, if there is one.
+pub(crate) fn find_part<'a>(shelves: &'a Shelves, leaf: &Leaf, key: &i64) -> Option<&'a Part>
+    ensures part { option_copied result ≡ part_on shelves.now.entries (slot_of leaf.now key.now) }
     ensures ordered { IsOrdered leaf_cmp shelves.now }
 {
     let _count = shelves.len();
-    match shelves.get(&slot.leaf) {
-        Some(shelf) => find_key(shelf, &slot.key),
+    match shelves.get(leaf) {
+        Some(shelf) => find_key(shelf, key),
         None => None,
     }
 }
@@ -51,31 +54,46 @@ fn find_key<'a>(shelf: &'a Shelf, key: &i64) -> Option<&'a Part>
     }
 }
 
-/// The parts of a leaf, in order.
-pub(crate) fn list_leaf(alloc: Global, shelves: &Shelves, leaf: &Leaf) -> Result<Vec<Part>, Memory>
-    ensures parts { IfOk result (λ parts. parts.items ≡ shelf_parts (shelf_at shelves.now.entries leaf.now)) }
+/// The parts of a leaf that meet conditions, in order.
+pub(crate) fn list_leaf(
+    alloc: Global,
+    shelves: &Shelves,
+    leaf: &Leaf,
+    conds: &Conds,
+) -> Result<Vec<Part>, Memory>
+    ensures parts { IfOk result (λ parts. parts.items ≡ filter (conds_hold conds.now) (shelf_parts (shelf_at shelves.now.entries leaf.now))) }
     ensures sorted { IsStrictlySortedBy int_cmp (keys_of (shelf_at shelves.now.entries leaf.now)) }
     ensures ordered { IsOrdered leaf_cmp shelves.now }
 {
     let _count = shelves.len();
     match shelves.get(leaf) {
-        Some(shelf) => list_shelf(alloc, shelf),
+        Some(shelf) => list_shelf(alloc, shelf, conds),
         None => Ok(Vec::new(alloc)),
     }
 }
 
-fn list_shelf(alloc: Global, shelf: &Shelf) -> Result<Vec<Part>, Memory>
-    ensures parts { IfOk result (λ parts. parts.items ≡ shelf_parts shelf.now.entries) }
+fn list_shelf(alloc: Global, shelf: &Shelf, conds: &Conds) -> Result<Vec<Part>, Memory>
+    ensures parts { IfOk result (λ parts. parts.items ≡ filter (conds_hold conds.now) (shelf_parts shelf.now.entries)) }
     ensures ordered { IsOrdered int_cmp shelf.now }
 {
     let mut parts = Vec::new(alloc);
     let _count = shelf.len();
     for (_, part) in shelf {
-        if let Some(part) = part {
-            parts.push(part.copy()?)?;
-        }
+        push_meeting(&mut parts, part, conds)?;
     }
     Ok(parts)
+}
+
+/// The part, if there is one and it meets conditions.
+fn push_meeting(parts: &mut Vec<Part>, part: &Option<Part>, conds: &Conds) -> Result<(), Memory>
+    ensures { OnOk result (parts.new.items ≡ parts.old.items ++ filter (conds_hold conds.now) (option_to_list part.now)) }
+{
+    if let Some(part) = part
+        && part.meets(conds.as_slice())
+    {
+        parts.push(part.copy()?)?;
+    }
+    Ok(())
 }
 
 /// Room at a key.

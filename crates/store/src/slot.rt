@@ -4,6 +4,7 @@ ghost use Rattle.std.specs.Prelude.{◌≡◌};
 ghost use Rattle.terms.specs.Row.{key_of};
 ghost use Rattle.store.specs.Slot.{slot_of};
 
+use std::collections::BTreeMap;
 use terms::copy::TryCopy;
 use terms::leaf::Leaf;
 use terms::memory::Memory;
@@ -15,6 +16,9 @@ pub struct Slot {
     pub leaf: Leaf,
     pub key: i64,
 }
+
+/// What stands at each slot, by slot; `None` where a part is to go, or where there is room for one.
+pub type Slots = BTreeMap<Slot, Option<Part>>;
 
 impl Slot {
     /// The place of a part in a leaf, by the part's key.

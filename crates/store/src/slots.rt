@@ -8,16 +8,13 @@ ghost use Rattle.store.specs.Slot.{slot_cmp};
 ghost use Rattle.store.specs.Entries.{entry_at, part_at, parts_of, HasRooms};
 ghost use Rattle.store.specs.Content.{is_of};
 
-use crate::slot::Slot;
+use crate::slot::{Slot, Slots};
 use std::alloc::Global;
 use std::collections::BTreeMap;
 use terms::copy::TryCopy;
 use terms::leaf::Leaf;
 use terms::memory::Memory;
 use terms::part::Part;
-
-/// What stands at each slot; `None` where a part is to go, or where there is room for one.
-pub(crate) type Slots = BTreeMap<Slot, Option<Part>>;
 
 /// Room for the part at this slot, if there is one.
 fn make_room(slots: &mut Slots, slot: &Slot, part: &Option<Part>) -> Result<(), Memory>

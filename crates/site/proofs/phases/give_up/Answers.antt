@@ -11,5 +11,5 @@ returns-then-is_visit-clause-gone c = λ kept fits.
     let k = c.args.ticket.now in
     let visit = sym c.is_visit.ensures ∙ c.if-is_visit.true in
     steps_at kept kept (volatile_of p) (volatile_of c.end.new.self) _ _ None c.end.ensures.ended
-    (visit_ends kept p.standings p.locks.items p.active p.life p.number fits k kept _ refl c.end.ensures.ordered visit (record { content = λ leaf. refl; prepared = λ ticket. refl; life = refl }) _ None
+    (visit_ends kept p.standings p.locks.items p.active p.life p.number fits k kept _ refl c.end.ensures.ordered visit (record { has = λ leaf. refl; content = λ leaf. refl; prepared = λ ticket. refl; life = refl }) _ None
     (given_up kept p.standings p.locks.items p.active p.life p.number fits k visit))

@@ -1,18 +1,18 @@
 -- Why `keep` meets its contract.
-use Rattle.std.proofs.Common.{rules, refl, ap, ◌∙◌, subst, ◌-◌, map}
+use Rattle.std.proofs.Common.{rules, refl, sym, ap, ◌∙◌, subst, ◌-◌, map}
 use Rattle.std.specs.BTreeMap.{is_at}
 use Rattle.std.specs.List.Sorted.{IsStrictlySortedBy}
 use Rattle.std.specs.Map.{set_value, remove_entry, keys_of}
 use Rattle.std.proofs.lemmas.Map.Steps.{set_value_same}
 use Rattle.store.specs.Content.{Changes}
 use Rattle.store.specs.Name.{ticket_cmp}
-use Rattle.store.specs.SiteContent.{Prepares}
+use Rattle.store.specs.SiteContent.{MayPrepare, Prepares}
 use Rattle.site.specs.declared.tickets.TicketState.TheVariants as standing
 use Rattle.site.specs.Locks.{stops, stops_reading}
-use Rattle.site.specs.State.{VolatileState, volatile_of, volatile_from, txn_in}
+use Rattle.site.specs.State.{VolatileState, volatile_of, volatile_from}
 use Rattle.site.proofs.Acts.{steps_at}
 use Rattle.site.proofs.Finals.{visit_ends, prepares_steps, set_twice, set_removed, set_here, no_act, yes_act, is_visiting}
-use Rattle.site.proofs.Listed.{row_none}
+use Rattle.site.proofs.Had.{may_prepare}
 use Rattle.site.proofs.TicketStates.{Entries, set_keys}
 use Rattle.site.proofs.phases.keep.Goals as goal
 
@@ -22,7 +22,7 @@ returns-then-not-kept-clause-ok g c = λ clean sound fits visit is.
     let k = c.args.ticket in
     let kept = g.S.SiteStore.kept c.args.store.now in
     steps_at kept kept (volatile_of p) (volatile_of c.end.new.self) _ _ c.voted.result c.end.ensures.ended
-    (visit_ends kept p.standings p.locks.items p.active p.life p.number fits k kept _ refl c.end.ensures.ordered (is_visiting p.standings k visit is) (record { content = λ leaf. refl; prepared = λ ticket. refl; life = refl }) _ c.voted.result
+    (visit_ends kept p.standings p.locks.items p.active p.life p.number fits k kept _ refl c.end.ensures.ordered (is_visiting p.standings k visit is) (record { has = λ leaf. refl; content = λ leaf. refl; prepared = λ ticket. refl; life = refl }) _ c.voted.result
     (no_act k c.voted.result _ c.voted.ensures))
 
 pub returns-then-eq-clause-ends : goal.returns-then-eq-clause-ends
@@ -60,8 +60,9 @@ returns-in-Ok-clause-ok g c = λ clean sound fits visit is.
     let after = g.S.SiteStore.kept c.keep_prepared.new.self in
     let empty = standing.Active (record visit { changes = c.new-none.result }) in
     let once = c.swap_changes-changes.ensures.swapped (standing.Active visit) is in
-    let none = row_none kept (volatile_of p) fits k (ap txn_in is) in
-    let keeps = subst (λ changes. Prepares k (record { txn = c.args.txn; changes = changes }) kept after) (c.swap_changes-changes.ensures.old (standing.Active visit) is) (c.in-Ok.ensures.ok clean sound none) in
+    let own = c.swap_changes-changes.ensures.old (standing.Active visit) is in
+    let may = subst (λ changes. MayPrepare k changes kept) (sym own) (may_prepare kept p.standings p.locks.items p.active p.life p.number fits k c.requires.0 visit c.requires.1 is c.requires.2) in
+    let keeps = subst (λ changes. Prepares k (record { txn = c.args.txn; changes = changes }) kept after) own (c.in-Ok.ensures.ok clean sound may) in
     let rest : Entries → VolatileState = λ es. volatile_from es (map (stops_reading k p.number) p.locks.items) (p.active - 1) p.life p.number in
     let ends = c.prepare.ensures.prepared empty (set_here p.standings c.swap_changes-changes.new.self k (standing.Active visit) empty is once)
     ∙ ap (λ es. rest (set_value (is_at (ticket_cmp k)) es (standing.Prepared c.args.txn))) once ∙ ap rest (set_twice k p.standings empty (standing.Prepared c.args.txn)) in

@@ -18,7 +18,7 @@ returns-in-Ends-clause-ok g c = λ clean sound fits.
     let r = prepare_ends kept p.standings p.locks.items p.active p.life p.number fits k (kept_by answer) c.args.txn c.args.prepare.count ((volatile_of p).standing k) c.in-Ends.vote refl (sym c.ballot_at.ensures ∙ c.in-Ends.is) in
     let ends : Option Reply → Act local = λ a. Ends (name_of k) (said_by a) in
     steps_at kept kept (volatile_of p) (volatile_of c.end.new.self) _ _ answer c.end.ensures.ended
-    (visit_ends kept p.standings p.locks.items p.active p.life p.number fits k kept _ refl c.end.ensures.ordered r.1 (record { content = λ leaf. refl; prepared = λ ticket. refl; life = refl }) _ answer
+    (visit_ends kept p.standings p.locks.items p.active p.life p.number fits k kept _ refl c.end.ensures.ordered r.1 (record { has = λ leaf. refl; content = λ leaf. refl; prepared = λ ticket. refl; life = refl }) _ answer
     (r.0 ∙ ap ends (sym c.voted-in-Ends.ensures)))
 
 pub returns-in-Keeps-clause-ok : goal.returns-in-Keeps-clause-ok

@@ -1,8 +1,6 @@
 -- Why `rows` meets its contract.
-use Rattle.std.proofs.Common.{ap, sym, ◌∙◌, filter}
-use Rattle.std.specs.FinMap as fin
-use Rattle.terms.specs.Cond.{conds_hold}
-use Rattle.store.specs.Content.{changed}
+use Rattle.std.proofs.Common.{ap, sym, ◌∙◌}
+use Rattle.store.specs.Content.{changed, parts}
 use Rattle.store.proofs.Changing.{changed_none}
 use Rattle.site.proofs.read_leaf.rows.Goals as goal
 
@@ -10,4 +8,4 @@ pub returns-in-None-clause-rows : goal.returns-in-None-clause-rows
 returns-in-None-clause-rows g c = λ clean sound.
     let leaf = c.args.leaf.now in
     let content = (g.S.SiteStore.kept c.args.store.now).content leaf in
-    c.meeting.ensures ∙ ap (filter (conds_hold c.args.conds.now)) (c.in-Ok.ensures.parts clean sound ∙ ap fin.values (sym (ap (λ ch. changed leaf ch content) (sym c.in-None.ensures) ∙ changed_none leaf content)))
+    c.in-Ok.ensures.parts clean sound ∙ ap (parts c.args.conds.now) (sym (ap (λ ch. changed leaf ch content) (sym c.in-None.ensures) ∙ changed_none leaf content))

@@ -1,6 +1,6 @@
 -- The leaves so far, and those of the locks that are left, are all.
 use Rattle.std.proofs.Common.{◌≡◌, ◌++◌, drop}
-use Rattle.site.specs.Recovery.{leaves_in}
+use Rattle.site.specs.Locks.{leaves_in}
 use Rattle.site.proofs.recovery.leaves_of.Given as goal
 
 abbrev pub invariant-loop-locks : goal.invariant-loop-locks

@@ -2,8 +2,9 @@
 use Rattle.std.proofs.Common.{rules, sym, ap, ◌∙◌, subst, Err}
 use Rattle.store.specs.declared.fault.StoreFault.TheVariants as store_faults
 use Rattle.site.specs.declared.fault.SiteFault.TheVariants as faults
-use Rattle.site.specs.Recovery.{Begins, IsStrange, leaves_in}
-use Rattle.site.specs.State.{volatile_of}
+use Rattle.site.specs.Locks.{leaves_in}
+use Rattle.site.specs.Recovery.{Begins, IsStrange}
+use Rattle.site.specs.State.{AreHad, volatile_of}
 use Rattle.site.proofs.Recovered.{fault_is}
 use Rattle.site.proofs.Restarting.{restarts}
 use Rattle.site.proofs.site.Site.restart_kept.Goals as goal
@@ -38,6 +39,7 @@ pub returns : goal.returns
 returns g c =
     let old = g.S.SiteStore.kept c.args.self.now.store in
     let new = g.S.SiteStore.kept c.begin.new.store in
+    let own = c.as_slice-2.ensures.value ∙ c.in_ok-leaves.ensures ∙ ap leaves_in c.as_slice.ensures.value in
     record {
       restarts = record {
         begins = search rules;
@@ -45,9 +47,9 @@ returns g c =
         is_called = search rules;
         uncalled = search rules;
         ok = λ clean fits.
-            let begun = subst (Begins new) (sym c.restart.ensures.begun) (c.in_ok-begun.ensures.ok clean) in
+            let begun = subst (Begins new) (sym c.restart.ensures.begun) (c.in_ok-begun.ensures.ok clean (subst (λ leaves. AreHad leaves old) (sym own) fits.had)) in
             restarts old (volatile_of c.args.self.now.volatile) fits new (volatile_of c.restart.new.self) begun (c.in_ok-begun.ensures.fails.life clean);
-        rests = search rules;
+        rests = λ clean had. subst (Begins new) (sym c.restart.ensures.begun) (c.in_ok-begun.ensures.ok clean (subst (λ leaves. AreHad leaves old) (sym own) had));
         own = search rules;
       };
     }

@@ -1,6 +1,6 @@
 -- Why `forget` meets its contract.
 use Rattle.std.proofs.Common.{refl, ap, ◌∙◌}
-use Rattle.site.specs.Recovery.{leaves_in}
+use Rattle.site.specs.Locks.{leaves_in}
 use Rattle.site.proofs.LeavesKept.{leaves_back, leaves_stop}
 use Rattle.site.proofs.volatile.Volatile.forget.Goals as goal
 

@@ -1,6 +1,6 @@
 -- Why `prepare` meets its contract.
 use Rattle.std.proofs.Common.{refl, ap, ◌∙◌}
-use Rattle.site.specs.Recovery.{leaves_in}
+use Rattle.site.specs.Locks.{leaves_in}
 use Rattle.site.proofs.LeavesKept.{leaves_back, leaves_stop_reading}
 use Rattle.site.proofs.volatile.Volatile.prepare.Goals as goal
 

@@ -11,7 +11,7 @@ on_err (Err e) holds = holds
 
 pub returns-in_err-make_rooms-clause-fails : goal.returns-in_err-make_rooms-clause-fails
 returns-in_err-make_rooms-clause-fails c = record {
-  err = λ clean sound. on_err c.from_residual.result (record { content = same_made c.make_rooms.new.self c.args.self.now.parts c.make_rooms.ensures.same; prepared = λ ticket. refl; life = refl });
+  err = λ clean sound. on_err c.from_residual.result (record { has = λ leaf. refl; content = same_made c.make_rooms.new.self c.args.self.now.parts c.make_rooms.ensures.same; prepared = λ ticket. refl; life = refl });
   refusal = search rules;
   intact = search rules;
 }
@@ -19,6 +19,7 @@ returns-in_err-make_rooms-clause-fails c = record {
 pub returns-clause-ok : goal.returns-clause-ok
 returns-clause-ok c = λ clean sound row is.
     record {
+      has = λ leaf. refl;
       content = made_over c.args.self.now.parts c.make.new.self row.changes (λ slot.
           c.make.ensures.over slot
           ∙ ap (unwrap_or (fin.get c.in-Some-remove.prepared.changes slot)) (c.make_rooms.ensures.same slot)
