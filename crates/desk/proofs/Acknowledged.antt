@@ -10,7 +10,7 @@ use Rattle.std.specs.declared.cmp.Ordering.TheVariants.{Less, Equal, Greater}
 use Rattle.store.specs.declared.commit.Voter.{Voter}
 use Rattle.store.specs.declared.name.Ticket.{Ticket}
 use Rattle.store.specs.declared.name.Txn.{Txn}
-use Rattle.store.specs.DeskContent.{DeskContent, is_txn, IsUnchanged}
+use Rattle.store.specs.DeskContent.{DeskContent, Voters, is_txn, IsUnchanged}
 use Rattle.store.specs.Orders.{ticket_cmp_total, ticket_cmp-IsAntisymmetric, txn_cmp-IsAntisymmetric}
 use Rattle.protocol.specs.Desk as desk
 use Rattle.protocol.specs.Language.{Name, same}
@@ -116,7 +116,7 @@ pub txn_is : (a b : Txn) → is_txn a b ≡ true → a ≡ b
 txn_is a b e = txn_cmp-IsAntisymmetric a b (is_equal _ e)
 
 -- nothing has changed
-pub keeps_same : (txn : Txn) (voters : Option (List Voter)) (kept after : DeskContent) → kept.commits txn ≡ voters → IsUnchanged kept after → Keeps txn voters kept after
+pub keeps_same : (txn : Txn) (voters : Option Voters) (kept after : DeskContent) → kept.commits txn ≡ voters → IsUnchanged kept after → Keeps txn voters kept after
 keeps_same txn voters kept after is same = record {
   commits = λ other. same.commits other ∙ go other (is_txn txn other) refl;
   life = same.life;

@@ -10,7 +10,7 @@ use Rattle.store.specs.declared.name.Ticket.{Ticket}
 use Rattle.store.specs.declared.name.Txn.{Txn}
 use Rattle.store.specs.declared.reply.Vote.{Vote}
 use Rattle.store.specs.declared.reply.Vote.TheVariants.{Yes, No, Read}
-use Rattle.store.specs.DeskContent.{AreVoters, DeskContent, IsUnchanged, KeepsCommit, is_txn}
+use Rattle.store.specs.DeskContent.{AreVoters, DeskContent, IsUnchanged, KeepsCommit, by_site, is_txn}
 use Rattle.protocol.specs.Desk as desk
 use Rattle.protocol.specs.Language.{Name}
 use Rattle.protocol.specs.Letters.{name_of, txn_name, vote_of}
@@ -114,7 +114,7 @@ ended_keeps txn old kept after none same (Ok turn) is = subst (λ a. Keeps txn (
 ended_keeps txn old kept after none same (Err e) is = tt
 
 -- ---- the voters' sites are distinct
-others_apart : (site : List ℕ) (participants : List Participant) → AllByRecursion (λ other. (site ≡ other) → ⊥) (sites_of participants) → AllByRecursion (λ other. pointwise nat_eq site other ≡ false) (map (λ voter. voter.site) (voters_among participants))
+pub others_apart : (site : List ℕ) (participants : List Participant) → AllByRecursion (λ other. (site ≡ other) → ⊥) (sites_of participants) → AllByRecursion (λ other. pointwise nat_eq site other ≡ false) (map (λ voter. voter.site) (voters_among participants))
 others_apart site [] apart = tt
 others_apart site (s ∷ participants) apart = go s.visited s.vote s.ticket (others_apart site participants apart.1)
   where
@@ -149,8 +149,8 @@ pub are_voters : (participants : List Participant) (voters : List Voter) → Are
 are_voters participants voters apart same some = record { some = some; once = subst (λ vs. IsDistinct (pointwise nat_eq) (map (λ voter. voter.site) vs)) (sym same) (voters_once participants apart) }
 
 -- the store keeps the row
-pub keeps_row : (txn : Txn) (kept after : DeskContent) (voters same : List Voter) → voters ≡ same → KeepsCommit txn voters kept after → Keeps txn (Some same) kept after
-keeps_row txn kept after voters same is keeps = record { commits = λ other. keeps.commits other ∙ ap (λ vs. if is_txn txn other then Some vs else kept.commits other) is; life = keeps.life; version = keeps.version }
+pub keeps_row : (txn : Txn) (kept after : DeskContent) (voters same : List Voter) → voters ≡ same → KeepsCommit txn voters kept after → Keeps txn (Some (by_site same)) kept after
+keeps_row txn kept after voters same is keeps = record { commits = λ other. keeps.commits other ∙ ap (λ vs. if is_txn txn other then Some (by_site vs) else kept.commits other) is; life = keeps.life; version = keeps.version }
 
 -- ---- the code's branches
 -- nobody is to be told

@@ -50,14 +50,14 @@ is_at db kept table distinct fits txn = go (table.standing txn) refl
     go : (o : Option TxnState) → table.standing txn ≡ o → IsAt db o
     go None e = tt
     go (Some (standing.Undecided u)) e = let s : sites_of u.participants ≡ db.sites = (fits.sites txn (standing.Undecided u) e).0 in record { sites = s; distinct = subst AreDistinct (sym s) distinct }
-    go (Some (standing.Committed c)) e = tt
+    go (Some (standing.Committed c)) e = fits.sites txn (standing.Committed c) e
 
 -- a transaction in its first phase sends nothing more
 is_in : (db : Database) (a : After) → AtSites db.sites a → IsInAfter db a
 is_in db Stays sites = tt
 is_in db Ends sites = tt
 is_in db (Becomes (standing.Undecided u)) sites = (sites.0, subst (IsAtHome db) (sym sites.1) tt, subst (IsPlanned db) (sym sites.1) tt)
-is_in db (Becomes (standing.Committed c)) sites = tt
+is_in db (Becomes (standing.Committed c)) sites = sites
 
 -- ---- where nothing changes in memory
 module _ (db : Database) (kept new : DeskContent) (table : VolatileState) (fits : Fits db kept table) (k : Txn) where

@@ -3,6 +3,7 @@ use Rattle.std.proofs.Common.{◌≡◌, refl, sym, ap, ◌∙◌, subst, ℕ, s
 use Rattle.std.specs.List.{AllByRecursion, filter_map, flat_map, list_any}
 use Rattle.std.specs.List.Sorted.{IsStrictlySortedBy}
 use Rattle.std.specs.Map.{keys_of}
+use Rattle.std.specs.Option.{option_map}
 use Rattle.std.specs.Ordering.{is_eq}
 use Rattle.std.specs.declared.cmp.Ordering.TheVariants.{Less}
 use Rattle.std.proofs.lemmas.List.{map-append}
@@ -14,7 +15,7 @@ use Rattle.store.specs.declared.commit.CommitRow.{CommitRow}
 use Rattle.store.specs.declared.commit.Voter.{Voter}
 use Rattle.store.specs.declared.letter.Letter.{Letter}
 use Rattle.store.specs.declared.name.Txn.{Txn}
-use Rattle.store.specs.DeskContent.{BeginsLife, DeskContent, is_txn, voters_in}
+use Rattle.store.specs.DeskContent.{BeginsLife, DeskContent, Voters, by_site, is_txn, voters_in}
 use Rattle.store.specs.Name.{txn_cmp}
 use Rattle.store.specs.Orders.{txn_cmp_total, txn_cmp-IsAntisymmetric}
 use Rattle.protocol.specs.Desk as desk
@@ -28,11 +29,11 @@ use Rattle.desk.specs.declared.reply.Notice.{Notice}
 use Rattle.desk.specs.declared.transaction.TxnState.{TxnState}
 use Rattle.desk.specs.declared.transaction.TxnState.TheVariants as standing
 use Rattle.desk.specs.Database.{Database, language, sent}
-use Rattle.desk.specs.Transaction.{txn_of}
+use Rattle.desk.specs.Transaction.{txn_of, voter_of}
 use Rattle.desk.specs.Recovery.{Restarts, Rises, SendsAgain, commits_again, lost_among, resting, with_lost}
-use Rattle.desk.specs.State.{Fits, VolatileState, desk_of, notice_of, volatile_from, txn_at}
+use Rattle.desk.specs.State.{Fits, IsIn, VolatileState, desk_of, notice_of, volatile_from, txn_at}
 use Rattle.desk.specs.Transition.{told}
-use Rattle.desk.specs.Acknowledge.{commit_letters, kept_voters}
+use Rattle.desk.specs.Acknowledge.{AreInOrder, commit_letters, kept_voters, listed}
 use Rattle.desk.proofs.Acknowledged.{same_bool, txn_is}
 use Rattle.desk.proofs.Decisions.{commits_is}
 use Rattle.desk.proofs.Rising.{txns_of}
@@ -105,20 +106,26 @@ module _ (db : Database) where
   some_row (Some s) e = refl
 
   -- who is decided stays
-  rows_stay : (j : Txn) (o : Option TxnState) → (turned j o).txn ≡ txn_of db (resting (kept_voters o))
-  rows_stay j None = refl
-  rows_stay j (Some (standing.Undecided u)) = refl
-  rows_stay j (Some (standing.Committed c)) = refl
+  rows_stay : (j : Txn) (o : Option TxnState) → ((s : TxnState) → o ≡ Some s → IsIn db s) → (turned j o).txn ≡ txn_of db (resting db.sites (kept_voters o))
+  rows_stay j None home = refl
+  rows_stay j (Some (standing.Undecided u)) home = refl
+  rows_stay j (Some (standing.Committed c)) home = ap (λ vs. desk.Row (map voter_of vs) []) (sym (home (standing.Committed c) refl))
 
   none_said : (j : Txn) (o : Option TxnState) → is_some (kept_voters o) ≡ false → (turned j o).letters ≡ []
   none_said j None e = refl
   none_said j (Some (standing.Undecided u)) e = refl
   none_said j (Some (standing.Committed c)) e = cc
 
-  said : (j : Txn) (o : Option TxnState) (voters : List Voter) → kept_voters o ≡ Some voters → (turned j o).letters ≡ map (sent db) (commit_letters j voters)
-  said j None voters e = cc
-  said j (Some (standing.Undecided u)) voters e = cc
-  said j (Some (standing.Committed c)) voters e = sym (commits_is db j c.voters) ∙ ap (λ vs. map (sent db) (commit_letters j vs)) (some_is e)
+  said : (j : Txn) (o : Option TxnState) (voters : List Voter) → ((s : TxnState) → o ≡ Some s → IsIn db s) → AreInOrder db.sites voters → kept_voters o ≡ Some (by_site voters) → (turned j o).letters ≡ map (sent db) (commit_letters j voters)
+  said j None voters home order e = cc
+  said j (Some (standing.Undecided u)) voters home order e = cc
+  said j (Some (standing.Committed c)) voters home order e =
+      sym (commits_is db j c.voters) ∙ ap (λ vs. map (sent db) (commit_letters j vs)) (sym (home (standing.Committed c) refl) ∙ ap (listed db.sites) (some_is e) ∙ order)
+
+  order_there : (rows : List CommitRow) → AllByRecursion (λ row. AreInOrder db.sites row.voters) rows → (row : CommitRow) → In row rows → AreInOrder db.sites row.voters
+  order_there [] all row here = absurd here
+  order_there (x ∷ rows) all row (inl is) = subst (λ (y : CommitRow). AreInOrder db.sites y.voters) (sym is) all.0
+  order_there (x ∷ rows) all row (inr here) = order_there rows all.1 row here
 
   one_lost : (j : Txn) (s : TxnState) (notices : List Notice) → map notice_of (with_lost j s notices) ≡ filter_map (told db) (turned j (Some s)).deeds ++ map notice_of notices
   one_lost j (standing.Undecided u) notices = refl
@@ -164,9 +171,13 @@ module _ (db : Database) (old new : DeskContent) (entries : Entries) (sorted : I
   before_listed : (j : Txn) → is_row j ≡ true → In j (filter is_row before.txns)
   before_listed j e = in_filter is_row j before.txns (fits.listed j (some_row db (before.standing j) (ap is_some (fits.rows j) ∙ e))) e
 
-  is_some_row : (r : Option (List Voter)) → is_some (resting r) ≡ is_some r
+  is_some_row : (r : Option Voters) → is_some (resting db.sites r) ≡ is_some r
   is_some_row None = refl
   is_some_row (Some voters) = refl
+
+  is_some_list : (r : Option (List Voter)) → is_some (option_map by_site r) ≡ is_some r
+  is_some_list None = refl
+  is_some_list (Some voters) = refl
 
   after_row : (j : Txn) → is_some (after.standing j) ≡ is_row j
   after_row j = ap is_some (rises.stands j) ∙ is_some_row (new.commits j) ∙ ap is_some (begins.commits j)
@@ -181,7 +192,7 @@ module _ (db : Database) (old new : DeskContent) (entries : Entries) (sorted : I
 
   -- ---- the state
   txn_there : (j : Txn) → txn_of db (after.standing j) ≡ (turned db j (before.standing j)).txn
-  txn_there j = ap (txn_of db) (rises.stands j ∙ ap resting (begins.commits j ∙ sym (fits.rows j))) ∙ sym (rows_stay db j (before.standing j))
+  txn_there j = ap (txn_of db) (rises.stands j ∙ ap (resting db.sites) (begins.commits j ∙ sym (fits.rows j))) ∙ sym (rows_stay db j (before.standing j) (fits.sites j))
 
   known_are : map txn_name after.txns ≡ filter (λ t. not (desk.is_unknown (desk.txn_restarted t ((desk_of db before).txn t)).txn)) (map txn_name before.txns)
   known_are = ap (map txn_name) txns_are ∙ sym (filter_names (λ t. not (desk.is_unknown (desk.txn_restarted t ((desk_of db before).txn t)).txn)) is_row before.txns
@@ -196,14 +207,14 @@ module _ (db : Database) (old new : DeskContent) (entries : Entries) (sorted : I
   }
 
   -- ---- the letters
-  letters_are : (written : List Letter) → SendsAgain new written → map (sent db) written ≡ flat_map (λ t. (desk.txn_restarted t ((desk_of db before).txn t)).letters) (map txn_name before.txns)
+  letters_are : (written : List Letter) → SendsAgain db.sites new written → map (sent db) written ≡ flat_map (λ t. (desk.txn_restarted t ((desk_of db before).txn t)).letters) (map txn_name before.txns)
   letters_are written sends =
       let says : Txn → List (protocol.Letter (language db)) = λ j. (turned db j (before.standing j)).letters in
       ap (map (sent db)) sends.letters
-      ∙ all_said db says sends.rows (λ row here. said db row.txn (before.standing row.txn) row.voters (fits.rows row.txn ∙ sym (begins.commits row.txn) ∙ sym (sends.voters row.txn) ∙ row_there sends.rows sends.ascend row here))
+      ∙ all_said db says sends.rows (λ row here. said db row.txn (before.standing row.txn) row.voters (fits.sites row.txn) (order_there db sends.rows sends.in_order row here) (fits.rows row.txn ∙ sym (begins.commits row.txn) ∙ sym (sends.voters row.txn) ∙ ap (option_map by_site) (row_there sends.rows sends.ascend row here)))
       ∙ ap (flat_map says) (same_txns (txns_of sends.rows) (filter is_row before.txns) sends.ascend rows_sorted
-      (λ j here. before_listed j (ap is_some (sym (begins.commits j)) ∙ ap is_some (sym (sends.voters j)) ∙ row_some sends.rows j here))
-      (λ j here. row_listed sends.rows j (ap is_some (sends.voters j ∙ begins.commits j) ∙ (from_filter is_row j before.txns here).1)))
+      (λ j here. before_listed j (ap is_some (sym (begins.commits j)) ∙ ap is_some (sym (sends.voters j)) ∙ is_some_list (voters_in j sends.rows) ∙ row_some sends.rows j here))
+      (λ j here. row_listed sends.rows j (sym (is_some_list (voters_in j sends.rows)) ∙ ap is_some (sends.voters j ∙ begins.commits j) ∙ (from_filter is_row j before.txns here).1)))
       ∙ sym (flat_rows db says is_row before.txns (λ j none. none_said db j (before.standing j) (ap is_some (fits.rows j) ∙ none)))
       ∙ sym (flat_names db (λ t. (desk.txn_restarted t ((desk_of db before).txn t)).letters) before.txns)
 
@@ -213,7 +224,7 @@ module _ (db : Database) (old new : DeskContent) (entries : Entries) (sorted : I
       all_lost db (λ j. (turned db j (before.standing j)).deeds) entries (λ e here. ap (λ o. (turned db e.0 o).deeds) (entry_there entries sorted e here))
       ∙ ap (filter_map (told db)) (sym (flat_names db (λ t. (desk.txn_restarted t ((desk_of db before).txn t)).deeds) before.txns))
 
-  pub restarts : (table : VolatileState) (written : List Letter) (heard : List Notice) → table ≡ after → SendsAgain new written → heard ≡ lost_among entries → Restarts db before new table written heard
+  pub restarts : (table : VolatileState) (written : List Letter) (heard : List Notice) → table ≡ after → SendsAgain db.sites new written → heard ≡ lost_among entries → Restarts db before new table written heard
   restarts table written heard table_is sends heard_is = record {
     fits = subst (Fits db new) (sym table_is) rises.fits;
     within = ap (λ t. desk.is_desk_within (desk_of db t)) table_is ∙ rises.within;

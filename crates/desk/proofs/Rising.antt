@@ -4,6 +4,7 @@ use Rattle.std.specs.BTreeMap.{insert_entry}
 use Rattle.std.specs.List.{AllByRecursion}
 use Rattle.std.specs.List.Sorted.{IsStrictlySortedBy}
 use Rattle.std.specs.Map.{keys_of}
+use Rattle.std.specs.Option.{option_map}
 use Rattle.std.specs.Ordering.{is_eq, match_ordering}
 use Rattle.std.specs.declared.cmp.Ordering.{Ordering}
 use Rattle.std.specs.declared.cmp.Ordering.TheVariants.{Less, Equal, Greater}
@@ -11,8 +12,9 @@ use Rattle.std.proofs.lemmas.Map.Keys.{sorted_head, sorted_tail}
 use Rattle.store.specs.declared.commit.CommitRow.{CommitRow}
 use Rattle.store.specs.declared.commit.DeskKept.{DeskKept}
 use Rattle.store.specs.declared.commit.Voter.{Voter}
+use Rattle.store.specs.declared.letter.Letter.{Letter}
 use Rattle.store.specs.declared.name.Txn.{Txn}
-use Rattle.store.specs.DeskContent.{BeginsLife, DeskContent, Lists, is_txn, voters_in}
+use Rattle.store.specs.DeskContent.{BeginsLife, DeskContent, Lists, Voters, by_site, is_txn, voters_in}
 use Rattle.store.specs.Name.{txn_cmp}
 use Rattle.store.specs.Orders.{txn_cmp-IsAntisymmetric}
 use Rattle.protocol.specs.Parts.{In}
@@ -20,12 +22,13 @@ use Rattle.protocol.proofs.Basics.{clash, if_true, if_false, left_true, right_tr
 use Rattle.desk.specs.declared.transaction.TxnState.{TxnState}
 use Rattle.desk.specs.declared.transaction.TxnState.TheVariants as standing
 use Rattle.desk.specs.Database.{Database}
-use Rattle.desk.specs.Recovery.{Rises, are_begun, resting, row_standing, stood_by}
+use Rattle.desk.specs.Recovery.{Rises, SendsAgain, are_begun, commits_again, in_order, may_stand, resting, row_in_order, row_standing, rows_are_at, stood_by}
 use Rattle.desk.specs.State.{Fits, IsIn, VolatileState, is_open, open_among, volatile_from}
 use Rattle.desk.specs.Transaction.{txn_of}
 use Rattle.protocol.specs.Desk.{is_short_txn}
-use Rattle.desk.specs.Acknowledge.{kept_voters}
+use Rattle.desk.specs.Acknowledge.{kept_voters, listed}
 use Rattle.desk.proofs.Acknowledged.{txn_is}
+use Rattle.desk.proofs.InOrder.{back, order_is, ordered_rows, row_is_at, rows_txns, rows_voters}
 use Rattle.desk.proofs.Settled.{is_within}
 use Rattle.desk.proofs.Txns.{Entries, at_txn, txn_same}
 
@@ -103,33 +106,60 @@ rows_begun life (row ∷ rows) right j e = go (rows_begun life rows (right_true 
     go below true is f = subst (λ k. nat_le k.life life ≡ true) (sym (txn_is j row.txn is)) (left_true (nat_le row.txn.life life) _ right)
     go below false is f = below f
 
+-- ---- the letters
+pub sent_again : (sites : List (List ℕ)) (all : DeskKept) (kept after : DeskContent) → Lists kept all → BeginsLife kept after → may_stand all.life sites all.commits ≡ true → (written : List Letter) → written ≡ commits_again (map (row_in_order sites) all.commits) → SendsAgain sites after written
+sent_again sites all kept after lists life right written is = record {
+  rows = map (row_in_order sites) all.commits;
+  voters = λ j. ap (option_map by_site) (rows_voters sites all.commits j) ∙ same_map j (voters_in j all.commits) refl ∙ lists.rows j ∙ sym (life.commits j);
+  in_order = ordered_rows sites all.commits at;
+  ascend = subst (IsStrictlySortedBy txn_cmp) (sym (rows_txns sites all.commits)) lists.ascend;
+  letters = is;
+}
+  where
+    at : rows_are_at sites all.commits ≡ true
+    at = right_true (are_begun all.life all.commits) (rows_are_at sites all.commits) right
+
+    same_map : (j : Txn) (r : Option (List Voter)) → voters_in j all.commits ≡ r → option_map by_site (option_map (in_order sites) r) ≡ option_map by_site r
+    same_map j None is = refl
+    same_map j (Some voters) is = ap Some (ap by_site (sym (order_is sites voters)) ∙ back sites voters (row_is_at sites all.commits at j voters is))
+
 -- ---- the memory
-module _ (db : Database) (all : DeskKept) (kept after : DeskContent) (lists : Lists kept all) (life : BeginsLife kept after) (right : are_begun all.life all.commits ≡ true) (below : kept.life + 1 < 2 ^ 63) where
+module _ (db : Database) (all : DeskKept) (kept after : DeskContent) (lists : Lists kept all) (life : BeginsLife kept after) (right : may_stand all.life db.sites all.commits ≡ true) (below : kept.life + 1 < 2 ^ 63) where
   abbrev entries : Entries
-  entries = stood_by all.commits []
+  entries = stood_by (map (row_in_order db.sites) all.commits) []
 
   abbrev table : VolatileState
   table = volatile_from entries 0 after.life 0
 
-  row_is : (j : Txn) → voters_in j all.commits ≡ after.commits j
+  row_is : (j : Txn) → option_map by_site (voters_in j all.commits) ≡ after.commits j
   row_is j = lists.rows j ∙ sym (life.commits j)
 
-  there : (j : Txn) → table.standing j ≡ resting (after.commits j)
-  there j = rows_there all.commits [] lists.ascend j ∙ ap (λ r. standing_of r None) (row_is j) ∙ rests (after.commits j)
+  there : (j : Txn) → table.standing j ≡ resting db.sites (after.commits j)
+  there j =
+      rows_there (map (row_in_order db.sites) all.commits) [] (subst (IsStrictlySortedBy txn_cmp) (sym (rows_txns db.sites all.commits)) lists.ascend) j
+      ∙ ap (λ r. standing_of r None) (rows_voters db.sites all.commits j) ∙ rests (voters_in j all.commits) ∙ ap (resting db.sites) (row_is j)
     where
-      rests : (r : Option (List Voter)) → standing_of r None ≡ resting r
+      rests : (r : Option (List Voter)) → standing_of (option_map (in_order db.sites) r) None ≡ resting db.sites (option_map by_site r)
       rests None = refl
-      rests (Some voters) = refl
+      rests (Some voters) = ap (λ vs. standing_of (Some vs) None) (sym (order_is db.sites voters))
 
-  voters_are : (r : Option (List Voter)) → kept_voters (resting r) ≡ r
-  voters_are None = refl
-  voters_are (Some voters) = refl
+  -- each voter is at a site of the database
+  at_home : (j : Txn) (voters : List Voter) → voters_in j all.commits ≡ Some voters → by_site (listed db.sites (by_site voters)) ≡ by_site voters
+  at_home j voters is = back db.sites voters (row_is_at db.sites all.commits (right_true (are_begun all.life all.commits) (rows_are_at db.sites all.commits) right) j voters is)
 
-  is_row : (r : Option (List Voter)) → is_some (resting r) ≡ is_some r
+  voters_are : (j : Txn) (r : Option (List Voter)) → voters_in j all.commits ≡ r → kept_voters (resting db.sites (option_map by_site r)) ≡ option_map by_site r
+  voters_are j None is = refl
+  voters_are j (Some voters) is = ap Some (at_home j voters is)
+
+  is_row : (r : Option Voters) → is_some (resting db.sites r) ≡ is_some r
   is_row None = refl
   is_row (Some voters) = refl
 
-  shut : (r : Option (List Voter)) → is_open (resting r) ≡ false
+  listed_row : (r : Option (List Voter)) → is_some (option_map by_site r) ≡ is_some r
+  listed_row None = refl
+  listed_row (Some voters) = refl
+
+  shut : (r : Option Voters) → is_open (resting db.sites r) ≡ false
   shut None = refl
   shut (Some voters) = refl
 
@@ -137,27 +167,27 @@ module _ (db : Database) (all : DeskKept) (kept after : DeskContent) (lists : Li
   none_open [] = refl
   none_open (j ∷ js) = ap (λ b. length (cond b (j ∷ filter (λ i. is_open (table.standing i)) js) (filter (λ i. is_open (table.standing i)) js))) (ap is_open (there j) ∙ shut (after.commits j)) ∙ none_open js
 
-  at_sites : (r : Option (List Voter)) (s : TxnState) → resting r ≡ Some s → IsIn db s
-  at_sites None s e = cc
-  at_sites (Some voters) s e = subst (IsIn db) (some_is e) tt
+  at_sites : (j : Txn) (r : Option (List Voter)) → voters_in j all.commits ≡ r → (s : TxnState) → resting db.sites (option_map by_site r) ≡ Some s → IsIn db s
+  at_sites j None is s e = cc
+  at_sites j (Some voters) is s e = subst (IsIn db) (some_is e) (ap (listed db.sites) (at_home j voters is))
 
-  short : (r : Option (List Voter)) → is_short_txn (txn_of db (resting r)) ≡ true
+  short : (r : Option Voters) → is_short_txn (txn_of db (resting db.sites r)) ≡ true
   short None = refl
   short (Some voters) = refl
 
   fits : Fits db after table
   fits = record {
-    rows = λ j. ap kept_voters (there j) ∙ voters_are (after.commits j);
+    rows = λ j. ap kept_voters (there j) ∙ ap (λ r. kept_voters (resting db.sites r)) (sym (row_is j)) ∙ voters_are j (voters_in j all.commits) refl ∙ row_is j;
     life = refl;
     listed = λ j e. some_listed entries j e;
     lives = λ j here. listed_some entries j here;
     begun = λ j e.
-        let old : nat_le j.life all.life ≡ true = rows_begun all.life all.commits right j (ap is_some (row_is j) ∙ sym (is_row (after.commits j)) ∙ sym (ap is_some (there j)) ∙ e) in
+        let old : nat_le j.life all.life ≡ true = rows_begun all.life all.commits (left_true (are_begun all.life all.commits) (rows_are_at db.sites all.commits) right) j (sym (listed_row (voters_in j all.commits)) ∙ ap is_some (row_is j) ∙ sym (is_row (after.commits j)) ∙ sym (ap is_some (there j)) ∙ e) in
         let a : after.life ≡ kept.life + 1 = life.life in
         let b : all.life ≡ kept.life = lists.incarnation in
         let h : j.life < after.life = grind (arith) in
         inl h;
-    sites = λ j s e. at_sites (after.commits j) s (sym (there j) ∙ e);
+    sites = λ j s e. at_sites j (voters_in j all.commits) refl s (ap (resting db.sites) (row_is j) ∙ sym (there j) ∙ e);
     counted = sym (none_open table.txns);
     short = λ j. subst (λ o. is_short_txn (txn_of db o) ≡ true) (sym (there j)) (short (after.commits j));
     few = omega arith;

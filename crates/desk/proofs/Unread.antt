@@ -1,5 +1,6 @@
 -- What the reader says of texts that are no statement's.
-use Rattle.std.proofs.Common.{◌≡◌, ◌≢◌, ◌⊎◌, inl, inr, refl, sym, subst, ℕ, List, Result, Ok, Err, IfOk, IfErr}
+use Rattle.std.proofs.Common.{◌≡◌, ◌≢◌, ◌⊎◌, inl, inr, refl, sym, ap, ◌∙◌, subst, ℕ, List, Option, Some, None, Result, Ok, Err, IfOk, IfErr}
+use Rattle.std.specs.Option.{option_map}
 use Rattle.meaning.specs.declared.schema.RelationSchema.{RelationSchema}
 use Rattle.meaning.specs.declared.statement.Statement.{Statement}
 use Rattle.meaning.specs.Statement.{IsStatementOf}
@@ -11,7 +12,9 @@ use Rattle.reader.specs.Command.{IsCommandOf, IsTextOf}
 use Rattle.reader.specs.Fault.{Fault}
 use Rattle.desk.specs.declared.refusal.Refusal.{Refusal}
 use Rattle.desk.specs.declared.refusal.Refusal.TheVariants as refusal
+use Rattle.protocol.specs.Desk as protocol
 use Rattle.desk.specs.Does.{IsUnread}
+use Rattle.desk.specs.Request.{refused_as}
 
 module _ (there schema : List RelationSchema) (same : there ≡ schema) where
   pub spelled_by : (text : List ℕ) (given : Command) (result : Result Statement Refusal) → IsTextOf there text given → IfOk result (λ stated. given ≡ command.Run stated) → IfOk result (λ stated. IsTextOf schema text (command.Run stated))
@@ -43,6 +46,20 @@ module _ (there schema : List RelationSchema) (same : there ≡ schema) where
     is = other.1;
     why = inl (subst (λ ss. TextBreaks fault.rule ss text) same (breaks other.0), λ given spelled. none other.0 given (subst (λ ss. IsTextOf ss text given) (sym same) spelled));
   })
+
+-- what is told of a statement that was read is told of its text, by whichever statement the protocol is asked
+pub ran_told : {A : Type 0} (result : Result A Refusal) (First Unread Full : Refusal → Type 0) (one other : Option protocol.Refusal) → one ≡ None → other ≡ None →
+    IfErr result (λ told. First told ⊎ (option_map refused_as one ≡ Some told) ⊎ ((one ≡ None) × Full told)) →
+    IfErr result (λ told. First told ⊎ (option_map refused_as other ≡ Some told) ⊎ ((other ≡ None) × (Unread told ⊎ Full told)))
+ran_told (Ok out) First Unread Full one other free none why = tt
+ran_told (Err told) First Unread Full one other free none (inl first) = inl first
+ran_told (Err told) First Unread Full one other free none (inr (inl refused)) = let no : None ≡ Some told = sym (ap (option_map refused_as) free) ∙ refused in cc
+ran_told (Err told) First Unread Full one other free none (inr (inr full)) = inr (inr (none, inr full.1))
+
+-- what holds of a result holds of it with less
+pub if_ok : {A E : Type 0} (result : Result A E) {P Q : A → Type 0} → ((x : A) → P x → Q x) → IfOk result P → IfOk result Q
+if_ok (Ok x) less holds = less x holds
+if_ok (Err e) less holds = tt
 
 -- the second of three
 pub told_by : {A : Type 0} (result : Result A Refusal) (told : Refusal) (First Second Third : Refusal → Type 0) → result ≡ Err told → Second told → IfErr result (λ x. First x ⊎ Second x ⊎ Third x)

@@ -1,6 +1,7 @@
 -- Who is to commit, and who has acknowledged.
 use Rattle.std.specs.Prelude.{◌≡◌, ℕ, nat_eq, Bool, true, false, ◌&&◌, not, List, [], ◌∷◌, ◌++◌, map, Option, Some, None, if◌then◌else◌}
 use Rattle.std.specs.Cmp.Lexicographic.{pointwise}
+use Rattle.std.specs.FinMap as keyed
 use Rattle.std.specs.List.{filter_map, list_all, list_any}
 use Rattle.std.specs.Option.{option_map}
 use Rattle.std.specs.Ordering.{is_eq}
@@ -11,7 +12,7 @@ use Rattle.store.specs.declared.name.Txn.{Txn}
 use Rattle.store.specs.declared.order.Order.TheVariants as order
 use Rattle.store.specs.declared.reply.Vote.{Vote}
 use Rattle.store.specs.declared.reply.Vote.TheVariants.{Yes, No, Read}
-use Rattle.store.specs.DeskContent.{DeskContent, is_txn}
+use Rattle.store.specs.DeskContent.{DeskContent, Voters, by_site, is_txn}
 use Rattle.store.specs.Name.{ticket_cmp}
 use Rattle.desk.specs.declared.participant.Participant.{Participant}
 use Rattle.desk.specs.declared.transaction.Committed.{Committed}
@@ -38,6 +39,14 @@ voter_at participant = if participant.visited && is_yes participant.vote then op
 abbrev pub voters_among : List Participant → List Voter
 voters_among participants = filter_map voter_at participants
 
+-- the voters of a commit row, in the order of these sites
+abbrev pub listed : List (List ℕ) → Voters → List Voter
+listed sites voters = filter_map (λ site. option_map (voter_with site) (keyed.get voters site)) sites
+
+-- a list of voters is that of a commit row, in the order of these sites
+abbrev pub AreInOrder : List (List ℕ) → List Voter → Type 0
+AreInOrder sites voters = listed sites (by_site voters) ≡ voters
+
 -- a Commit to each voter
 abbrev pub commit_letters : Txn → List Voter → List Letter
 commit_letters txn voters = map (λ voter. ordered txn voter.site (order.Commit voter.ticket)) voters
@@ -63,13 +72,13 @@ abbrev pub are_acked : List Voter → List Voter → Bool
 are_acked voters acked = list_all (λ voter. has_voter acked voter.site voter.ticket) voters
 
 -- the voters that the store is to keep
-abbrev pub kept_voters : Option TxnState → Option (List Voter)
+abbrev pub kept_voters : Option TxnState → Option Voters
 kept_voters None = None
 kept_voters (Some (standing.Undecided undecided)) = None
-kept_voters (Some (standing.Committed committed)) = Some committed.voters
+kept_voters (Some (standing.Committed committed)) = Some (by_site committed.voters)
 
 -- the store keeps these voters of a transaction, or no longer any, and nothing else has changed
-pub record Keeps (txn : Txn) (voters : Option (List Voter)) (old new : DeskContent) : Type 0 where
+pub record Keeps (txn : Txn) (voters : Option Voters) (old new : DeskContent) : Type 0 where
   pub commits : (other : Txn) → new.commits other ≡ (if is_txn txn other then voters else old.commits other)
   pub life : new.life ≡ old.life
   pub version : new.version ≡ old.version

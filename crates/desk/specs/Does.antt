@@ -56,14 +56,18 @@ pub record IsUnread (schema : List RelationSchema) (text : List ℕ) (told : ref
   pub why : (TextBreaks fault.rule schema text × ((given : Command) → IsTextOf schema text given → ⊥))
       ⊎ ((fault ≡ record { rule = rules.Syntax; offset = 0 }) × (IsTextOf schema text command.Begin ⊎ (IsTextOf schema text command.Commit ⊎ IsTextOf schema text command.Rollback)))
 
--- a text is a statement's, and the statement is stated
-pub record States (db : Database) (before : VolatileState) (kept : DeskContent) (after : VolatileState) (txn : Txn) (text : List ℕ) (written : List Letter) (heard : List Notice) : Type 0 where
-  pub statement : Statement
+-- a statement is run
+pub record Runs (db : Database) (before : VolatileState) (kept : DeskContent) (after : VolatileState) (txn : Txn) (statement : Statement) (written : List Letter) (heard : List Notice) : Type 0 where
   pub choice : protocol.Choice (language db)
-  pub spelled : IsTextOf db.schemas text (command.Run statement)
-  pub fits : IsStatementOf db.schemas statement
   pub steps : Steps db before kept after txn (protocol.on_request (txn_name txn) choice (protocol.State statement) (txn_in db before txn)) written heard
   pub explained : AllExplained (protocol.on_request (txn_name txn) choice (protocol.State statement) (txn_in db before txn)).deeds
+
+-- a text is a statement's, and the statement is run
+pub record States (db : Database) (before : VolatileState) (kept : DeskContent) (after : VolatileState) (txn : Txn) (text : List ℕ) (written : List Letter) (heard : List Notice) : Type 0 where
+  pub statement : Statement
+  pub spelled : IsTextOf db.schemas text (command.Run statement)
+  pub fits : IsStatementOf db.schemas statement
+  pub runs : Runs db before kept after txn statement written heard
 
 -- a letter of a site is taken
 pub record Takes (db : Database) (before : VolatileState) (kept : DeskContent) (after : VolatileState) (txn : Txn) (wanted : protocol.Choice (language db) → protocol.Transition (language db)) (written : List Letter) (heard : List Notice) : Type 0 where
@@ -90,9 +94,13 @@ pub record IsPastLimits (db : Database) (before : VolatileState) (txn : Txn) (wa
   pub explained : AllExplained (wanted choice).deeds
   pub past : protocol.is_desk_within (protocol.desk_after (desk_of db before) (txn_name txn) (wanted choice).txn) ≡ false
 
--- a text is a statement's, and to state it would lead past them
+-- to run the statement would lead past them
+abbrev pub RunsPastLimits : Database → VolatileState → Txn → Statement → Type 0
+RunsPastLimits db before txn statement = IsPastLimits db before txn (λ choice. protocol.on_request (txn_name txn) choice (protocol.State statement) (txn_in db before txn))
+
+-- a text is a statement's, and to run that would
 pub record StatesPastLimits (db : Database) (before : VolatileState) (txn : Txn) (text : List ℕ) : Type 0 where
   pub statement : Statement
   pub spelled : IsTextOf db.schemas text (command.Run statement)
   pub fits : IsStatementOf db.schemas statement
-  pub past : IsPastLimits db before txn (λ choice. protocol.on_request (txn_name txn) choice (protocol.State statement) (txn_in db before txn))
+  pub past : RunsPastLimits db before txn statement

@@ -1,13 +1,17 @@
 -- What calls leave of the coordinator, and why they fail.
-use Rattle.std.specs.Prelude.{◌≡◌, ◌⊎◌, ◌+◌, ◌^◌, ◌≤◌, nat_eq, ℕ, Bool, true, false, [], Result, Err, IsOk, IfOk, IfErr, OnOk, OnErr}
+use Rattle.std.specs.Prelude.{◌≡◌, ◌⊎◌, ◌+◌, ◌^◌, ◌≤◌, nat_eq, ℕ, Bool, true, false, List, [], Some, None, is_some, Result, Err, IsOk, IfOk, IfErr, OnOk, OnErr}
 use Rattle.std.specs.Cmp.Lexicographic.{pointwise}
 use Rattle.std.specs.List.{list_any}
+use Rattle.terms.specs.declared.memory.Memory.{Memory}
+use Rattle.meaning.specs.declared.statement.Statement.{Statement}
 use Rattle.catalog.specs.Relation.{catalogue_of}
+use Rattle.protocol.specs.Desk as protocol
 use Rattle.protocol.specs.Desk.{on_desk_letter}
 use Rattle.protocol.specs.Letters.{txn_name}
 use Rattle.store.specs.declared.fault.StoreFault.TheVariants as store_faults
 use Rattle.store.specs.declared.letter.Body.TheVariants as bodies
 use Rattle.store.specs.declared.letter.Letter.{Letter}
+use Rattle.store.specs.declared.name.Txn.{Txn}
 use Rattle.store.specs.declared.reply.Reply.{Reply}
 use Rattle.store.specs.DeskContent.{BeginsLife, DeskContent, IsUnchanged}
 use Rattle.store.specs.Fault.{HasRefused}
@@ -15,15 +19,91 @@ use Rattle.store.specs.Frame.{LeavesStore, Soundly}
 use Rattle.desk.specs.declared.desk.Desk.{Desk}
 use Rattle.desk.specs.declared.refusal.Refusal.{Refusal}
 use Rattle.desk.specs.declared.refusal.Refusal.TheVariants as refusals
+use Rattle.desk.specs.declared.participant.Participant.{Participant}
+use Rattle.desk.specs.declared.reply.Notice.{Notice}
 use Rattle.desk.specs.declared.reply.Out.{Out}
+use Rattle.desk.specs.declared.statement.Progress.{Progress}
+use Rattle.desk.specs.declared.transaction.TxnState.TheVariants as standing
+use Rattle.desk.specs.declared.transaction.Undecided.{Undecided}
+use Rattle.desk.specs.declared.transition.After.TheVariants.{Stays}
+use Rattle.desk.specs.declared.transition.Transition.{Transition}
+use Rattle.desk.specs.declared.volatile.Volatile.{Volatile}
+use Rattle.desk.specs.Acknowledge.{kept_voters}
 use Rattle.desk.specs.Called.{CallsStore}
-use Rattle.desk.specs.Request.{txn_in}
+use Rattle.desk.specs.Request.{IsAt, IsOver, txn_in}
 use Rattle.desk.specs.Database.{Database, language, replied}
 use Rattle.desk.specs.Does.{IsPastLimits, Takes}
 use Rattle.desk.specs.OfCatalogue.{IsOfCatalogue}
 use Rattle.desk.specs.Recovery.{IsStrange, Restarts, Rises}
 use Rattle.desk.specs.State.{Fits, volatile_of}
+use Rattle.desk.specs.Participants.{sites_of}
 use Rattle.desk.specs.Receive.{is_strange, may_send}
+use Rattle.desk.specs.Send.{AreShort, IsPast}
+use Rattle.desk.specs.Transition.{AtSites, after_of}
+
+-- a call puts out these letters and replies, and no store counts as having refused
+pub record PutsOut (out : Out) (written : List Letter) (heard : List Notice) : Type 0 where
+  pub letters : out.letters ≡ written
+  pub replies : out.replies ≡ heard
+  pub kept : out.kept ≡ true
+
+-- a step is made in memory alone: no store counts as having refused, and after a refusal nothing has changed
+pub record StepsInMemory (old new : Volatile) (result : Result Out Refusal) : Type 0 where
+  pub kept : IfOk result (λ out. out.kept ≡ true)
+  pub err : OnErr result (volatile_of new ≡ volatile_of old)
+
+-- and it is refused only at a limit, and for want of memory
+pub record StepsBelowLimits (old new : Volatile) (result : Result Out Refusal) : Type 0 where
+  pub kept : IfOk result (λ out. out.kept ≡ true)
+  pub err : OnErr result (volatile_of new ≡ volatile_of old)
+  pub own : IfErr result (λ told. (told ≡ refusals.Memory) ⊎ (told ≡ refusals.Full))
+
+-- a statement's step is made in memory alone, of a transaction for which the protocol refuses none
+pub record StatesInMemory (old new : Volatile) (txn : Txn) (result : Result Out Refusal) : Type 0 where
+  pub kept : IfOk result (λ out. out.kept ≡ true)
+  pub err : OnErr result (volatile_of new ≡ volatile_of old)
+  pub accepted : (db : Database) (statement : Statement) → OnOk result (protocol.refusal (protocol.State statement) (txn_in db (volatile_of old) txn) ≡ None)
+
+-- the coordinator makes a step in memory alone: its store and its catalogue are as they were
+pub record StepsPlainly {S : Type 0} (old new : Desk S) (result : Result Out Refusal) : Type 0 where
+  pub kept : IfOk result (λ out. out.kept ≡ true)
+  pub err : OnErr result (volatile_of new.volatile ≡ volatile_of old.volatile)
+  pub store : new.store ≡ old.store
+  pub catalog : new.catalog ≡ old.catalog
+
+-- so it makes a statement's, of a transaction for which the protocol refuses none
+pub record StatesPlainly {S : Type 0} (old new : Desk S) (txn : Txn) (result : Result Out Refusal) : Type 0 where
+  pub plainly : StepsPlainly old new result
+  pub accepted : (db : Database) (statement : Statement) → OnOk result (protocol.refusal (protocol.State statement) (txn_in db (volatile_of old.volatile) txn) ≡ None)
+
+-- a step that calls no store leaves what stands there
+pub record LeavesStanding (result : Result Transition Memory) : Type 0 where
+  pub after : IfOk result (λ turn. turn.after ≡ Stays)
+  pub kept : IfOk result (λ turn. turn.kept ≡ true)
+
+-- a step of an undecided transaction calls no store: the transaction keeps its sites, and has no commit row
+pub record LeavesNoRow (old : Undecided) (result : Result Transition Memory) : Type 0 where
+  pub sites : IfOk result (λ turn. AtSites (sites_of old.participants) turn.after)
+  pub keeps : IfOk result (λ turn. kept_voters (after_of (Some (standing.Undecided old)) turn.after) ≡ None)
+  pub kept : IfOk result (λ turn. turn.kept ≡ true)
+
+-- the step that a client asks for calls no store: a transaction keeps its sites and its commit row, and nothing comes to stand where nothing stood
+pub record LeavesRows (old : Volatile) (txn : Txn) (result : Result Transition Refusal) : Type 0 where
+  pub sites : (db : Database) → IsAt db ((volatile_of old).standing txn) → IfOk result (λ turn. AtSites db.sites turn.after)
+  pub keeps : IfOk result (λ turn. kept_voters (after_of ((volatile_of old).standing txn) turn.after) ≡ kept_voters ((volatile_of old).standing txn))
+  pub kept : IfOk result (λ turn. turn.kept ≡ true)
+  pub stands : IfOk result (λ turn. (is_some ((volatile_of old).standing txn) ≡ true) ⊎ (turn.after ≡ Stays))
+
+-- a statement goes on, and the counts of operations stay below the limit, or nothing has changed
+pub record GoesOnOrStays (old new : Undecided) (result : Result Progress Refusal) : Type 0 where
+  pub short : AreShort old.participants → OnOk result (AreShort new.participants)
+  pub same : OnErr result (new ≡ old)
+
+-- so where operations go out to these participants; Full only where one of them would pass the limit
+pub record SendsOrStays (old new : Undecided) (sent : List Participant) (result : Result Progress Refusal) : Type 0 where
+  pub short : AreShort old.participants → OnOk result (AreShort new.participants)
+  pub same : OnErr result (new ≡ old)
+  pub full : result ≡ Err refusals.Full → IsPast sent
 
 -- a step that may call the store, where `may` is true: a store that isn't called is as it was, and so is what is kept after an error;
 -- it counts as not kept only for what the store is called for, and only where it wasn't to be called or refused
@@ -34,14 +114,14 @@ pub record StepsStore {S T E : Type 0} (is_clean is_sound : S → Type 0) (kept 
   pub called : IfOk result (λ out. was_kept out ≡ false → calls)
   pub refusal : IfOk result (λ out. was_kept out ≡ false → (may ≡ false) ⊎ HasRefused (refused old) (refused new))
 
--- a life of the coordinator begins, or nothing has changed: Full only at the last life, damage only where a row is of a transaction that was not begun
-pub record BeginsOrFails {S T : Type 0} (is_clean is_sound : S → Type 0) (kept : S → DeskContent) (refused : S → ℕ) (old new : S) (result : Result T Refusal) : Type 0 where
+-- a life of the coordinator begins, or nothing has changed: Full only at the last life, damage only where a row is of a transaction that was not begun, or has a voter at none of these sites
+pub record BeginsOrFails {S T : Type 0} (is_clean is_sound : S → Type 0) (kept : S → DeskContent) (refused : S → ℕ) (sites : List (List ℕ)) (old new : S) (result : Result T Refusal) : Type 0 where
   pub leaves : LeavesStore is_clean is_sound refused old new
   pub learnt : is_clean new → OnOk result (is_sound old)
   pub life : is_clean new → OnOk result (BeginsLife (kept old) (kept new))
   pub same : Soundly is_clean is_sound old new (OnErr result (IsUnchanged (kept old) (kept new)))
   pub full : is_clean new → result ≡ Err refusals.Full → 2 ^ 63 ≤ (kept new).life + 1
-  pub damaged : Soundly is_clean is_sound old new (result ≡ Err (refusals.Store store_faults.Damaged) → IsStrange (kept new))
+  pub damaged : Soundly is_clean is_sound old new (result ≡ Err (refusals.Store store_faults.Damaged) → IsStrange sites (kept new))
   pub own : IfErr result (λ told. (told ≡ refusals.Memory) ⊎ (told ≡ refusals.Full) ⊎ (told ≡ refusals.Store store_faults.Refused) ⊎ (told ≡ refusals.Store store_faults.Damaged))
 
 -- a letter is taken, where `may` is true with the store: it makes the protocol's step, Full only where that would lead past the limits; a letter of no
@@ -66,9 +146,9 @@ pub record TakesLetter {S : Type 0} (is_clean is_sound : S → Type 0) (kept : S
 
 -- a restart of the coordinator: who was undecided is lost, and the rows of the store stand; after a refusal nothing has changed
 pub record RestartsDesk {S : Type 0} (is_clean is_sound : S → Type 0) (kept : S → DeskContent) (refused : S → ℕ) (old new : Desk S) (result : Result Out Refusal) : Type 0 where
-  pub begins : BeginsOrFails is_clean is_sound kept refused old.store new.store result
-  pub ok : (db : Database) → is_clean new.store → Fits db (kept old.store) (volatile_of old.volatile) → IfOk result (λ out. Restarts db (volatile_of old.volatile) (kept new.store) (volatile_of new.volatile) out.letters out.replies)
-  pub rises : (db : Database) → is_clean new.store → OnOk result (Rises db (kept new.store) (volatile_of new.volatile))
+  pub begins : BeginsOrFails is_clean is_sound kept refused old.catalog.0 old.store new.store result
+  pub ok : (db : Database) → IsOver db old.catalog.0 → is_clean new.store → Fits db (kept old.store) (volatile_of old.volatile) → IfOk result (λ out. Restarts db (volatile_of old.volatile) (kept new.store) (volatile_of new.volatile) out.letters out.replies)
+  pub rises : (db : Database) → IsOver db old.catalog.0 → is_clean new.store → OnOk result (Rises db (kept new.store) (volatile_of new.volatile))
   pub says_kept : IfOk result (λ out. out.kept ≡ true)
   pub err : OnErr result (volatile_of new.volatile ≡ volatile_of old.volatile)
   pub catalog : new.catalog ≡ old.catalog

@@ -4,6 +4,7 @@ pub mod Database
 pub mod OfCatalogue
 pub mod Participants
 pub mod Transaction
+pub mod CatalogueDatabase
 pub mod Orders
 pub mod Acknowledge
 pub mod Transition

@@ -12,6 +12,7 @@ use Rattle.desk.specs.declared.transaction.TxnState.{TxnState}
 use Rattle.desk.specs.declared.transaction.TxnState.TheVariants as standing
 use Rattle.desk.specs.declared.transaction.Undecided.{Undecided}
 use Rattle.desk.specs.Database.{Database, language}
+use Rattle.desk.specs.Acknowledge.{AreInOrder}
 use Rattle.desk.specs.State.{VolatileState, desk_of}
 use Rattle.desk.specs.Transition.{AreParticipants}
 
@@ -20,11 +21,11 @@ pub record IsOver (db : Database) (those : List (List ℕ)) : Type 0 where
   pub sites : db.sites ≡ those
   pub distinct : AreDistinct db.sites
 
--- an undecided transaction has to do with the sites of the database
+-- an undecided transaction has to do with the sites of the database, and the voters of a decided one stand in their order
 abbrev pub IsAt : Database → Option TxnState → Type 0
 IsAt db None = Unit
 IsAt db (Some (standing.Undecided undecided)) = AreParticipants db undecided.participants
-IsAt db (Some (standing.Committed committed)) = Unit
+IsAt db (Some (standing.Committed committed)) = AreInOrder db.sites committed.voters
 
 -- a refusal as clients hear it
 abbrev pub refused_as : protocol.Refusal → refusals.Refusal

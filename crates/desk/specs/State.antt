@@ -23,7 +23,7 @@ use Rattle.desk.specs.Participants.{sites_of}
 use Rattle.desk.specs.Transaction.{txn_of}
 use Rattle.desk.specs.Stepped.{IsAtHome}
 use Rattle.desk.specs.Transition.{told}
-use Rattle.desk.specs.Acknowledge.{kept_voters}
+use Rattle.desk.specs.Acknowledge.{AreInOrder, kept_voters}
 
 -- what is in memory, read transaction by transaction
 pub record VolatileState : Type 0 where
@@ -66,10 +66,10 @@ closes (Becomes (standing.Undecided undecided)) = false
 closes (Becomes (standing.Committed committed)) = true
 
 -- an undecided transaction has to do with the sites of the database, what its statement still sends has the sites of its leaves,
--- and a plan whose rows are waited for is the statement's
+-- and a plan whose rows are waited for is the statement's; the voters of a decided one stand in the order of the sites
 abbrev pub IsIn : Database → TxnState → Type 0
 IsIn db (standing.Undecided undecided) = (sites_of undecided.participants ≡ db.sites) × IsAtHome db undecided.stage × IsPlanned db undecided.stage
-IsIn db (standing.Committed committed) = Unit
+IsIn db (standing.Committed committed) = AreInOrder db.sites committed.voters
 
 -- so after a step
 abbrev pub IsInAfter : Database → After → Type 0

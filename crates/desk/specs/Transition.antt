@@ -19,6 +19,7 @@ use Rattle.desk.specs.declared.transition.Transition.{Transition}
 use Rattle.desk.specs.declared.transaction.Stage.TheVariants as stage
 use Rattle.desk.specs.declared.transaction.Undecided.{Undecided}
 use Rattle.desk.specs.Database.{Database, language, sent}
+use Rattle.desk.specs.Acknowledge.{AreInOrder}
 use Rattle.desk.specs.Participants.{sites_of}
 use Rattle.desk.specs.Transaction.{txn_of}
 
@@ -55,10 +56,10 @@ after_of old Stays = old
 after_of old Ends = None
 after_of old (Becomes standing) = Some standing
 
--- what stands after a step that is no statement's: a transaction in its first phase at these sites, or a decided one
+-- what stands after a step that is no statement's: a transaction in its first phase at these sites, or a decided one whose voters stand in their order
 abbrev pub InPhaseAt : List (List ℕ) → TxnState → Type 0
 InPhaseAt sites (standing.Undecided undecided) = (sites_of undecided.participants ≡ sites) × (undecided.stage ≡ stage.Voting)
-InPhaseAt sites (standing.Committed committed) = Unit
+InPhaseAt sites (standing.Committed committed) = AreInOrder sites committed.voters
 
 abbrev pub AtSites : List (List ℕ) → afters.After → Type 0
 AtSites sites Stays = Unit

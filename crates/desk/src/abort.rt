@@ -8,6 +8,7 @@ ghost use Rattle.desk.specs.declared.transaction.TxnState.{TxnState};
 ghost use Rattle.desk.specs.declared.transition.After.TheVariants.{Ends};
 ghost use Rattle.desk.specs.declared.transaction.Stage.{Stage as StageNow};
 ghost use Rattle.desk.specs.Database.{Database, language, replied};
+ghost use Rattle.desk.specs.Frame.{LeavesNoRow};
 ghost use Rattle.desk.specs.Orders.{abort_broadcast, is_voting};
 ghost use Rattle.desk.specs.Transaction.{undecided_of, stage_of};
 ghost use Rattle.desk.specs.Transition.{AreParticipants, IsTransition, told, AtSites, after_of};
@@ -71,9 +72,7 @@ pub(crate) fn is_voting(stage: &Stage) -> bool
 pub(crate) fn give_up(alloc: Global, txn: Txn, undecided: &Undecided) -> Result<Transition, Memory>
     ensures turn { (db : Database) → AreParticipants db undecided.now.participants
         → IfOk result (λ turn. IsTransition db txn (Some (standing.Undecided undecided.now)) turn (ends_by (txn_name txn) (undecided_of db undecided.now) (protocol.Aborted (txn_name txn) Given_up))) }
-    ensures sites { IfOk result (λ turn. AtSites (sites_of undecided.now.participants) turn.after) }
-    ensures keeps { IfOk result (λ turn. kept_voters (after_of (Some (standing.Undecided undecided.now)) turn.after) ≡ None) }
-    ensures kept { IfOk result (λ turn. turn.kept ≡ true) }
+    ensures leaves { LeavesNoRow undecided.now result }
 {
     let word = abort_broadcast(&undecided.stage);
     let participants = undecided.participants.as_slice();
@@ -95,9 +94,7 @@ pub(crate) fn roll_back(
 ) -> Result<Transition, Memory>
     ensures turn { (db : Database) → AreParticipants db undecided.now.participants
         → IfOk result (λ turn. IsTransition db txn (Some (standing.Undecided undecided.now)) turn (on_rollback (txn_name txn) (undecided_of db undecided.now) (stage_of db undecided.now.participants undecided.now.stage))) }
-    ensures sites { IfOk result (λ turn. AtSites (sites_of undecided.now.participants) turn.after) }
-    ensures keeps { IfOk result (λ turn. kept_voters (after_of (Some (standing.Undecided undecided.now)) turn.after) ≡ None) }
-    ensures kept { IfOk result (λ turn. turn.kept ≡ true) }
+    ensures leaves { LeavesNoRow undecided.now result }
 {
     if is_voting(&undecided.stage) {
         return Ok(stays(alloc, true));
@@ -111,9 +108,7 @@ pub(crate) fn roll_back(
 pub(crate) fn refused(alloc: Global, txn: Txn, undecided: &Undecided) -> Result<Transition, Memory>
     ensures turn { (db : Database) → AreParticipants db undecided.now.participants
         → IfOk result (λ turn. IsTransition db txn (Some (standing.Undecided undecided.now)) turn (on_refused (txn_name txn) (undecided_of db undecided.now) (stage_of db undecided.now.participants undecided.now.stage))) }
-    ensures sites { IfOk result (λ turn. AtSites (sites_of undecided.now.participants) turn.after) }
-    ensures keeps { IfOk result (λ turn. kept_voters (after_of (Some (standing.Undecided undecided.now)) turn.after) ≡ None) }
-    ensures kept { IfOk result (λ turn. turn.kept ≡ true) }
+    ensures leaves { LeavesNoRow undecided.now result }
 {
     if is_voting(&undecided.stage) {
         return Ok(stays(alloc, true));

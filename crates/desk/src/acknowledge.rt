@@ -1,7 +1,8 @@
 //! Who is to commit, and who has acknowledged.
 
 ghost use Rattle.std.specs.Prelude.{◌≡◌, IfOk, OnOk, map, ◌++◌, ◌∷◌, [], ℕ, List, Some};
-ghost use Rattle.desk.specs.Acknowledge.{are_acked, commit_letters, has_voter, is_voter, is_yes, voter_at, voter_with, voters_among, Keeps, is_new_ack, kept_voters, with_ack};
+ghost use Rattle.store.specs.DeskContent.{by_site};
+ghost use Rattle.desk.specs.Acknowledge.{AreInOrder, are_acked, commit_letters, has_voter, is_voter, is_yes, voter_at, voter_with, voters_among, Keeps, is_new_ack, kept_voters, with_ack};
 ghost use Rattle.protocol.specs.Desk.{Row, on_row, on_ack};
 ghost use Rattle.protocol.specs.Letters.{txn_name, name_of};
 ghost use Rattle.desk.specs.declared.transaction.TxnState.TheVariants as standing;
@@ -156,8 +157,8 @@ pub(crate) fn on_row<S: DeskStore>(
     ensures store { StepsStore S.is_clean S.is_sound S.kept S.refused store.old store.new kept result (λ turn. turn.kept) ((db : Database) → CallsStore {L = language db} site.now (replied db reply.now) (Row (map voter_of committed.now.voters) (map voter_of committed.now.acked))) }
     ensures turn { (db : Database) → IfOk result (λ turn. IsTransition db txn (Some (standing.Committed committed.now)) turn
         (on_row (txn_name txn) (map voter_of committed.now.voters) (map voter_of committed.now.acked) site.now turn.kept (replied db reply.now))) }
-    ensures sites { (sites : List (List ℕ)) → IfOk result (λ turn. AtSites sites turn.after) }
-    ensures keeps { S.is_clean store.new → S.is_sound store.old → (S.kept store.old).commits txn ≡ Some committed.now.voters
+    ensures sites { (sites : List (List ℕ)) → AreInOrder sites committed.now.voters → IfOk result (λ turn. AtSites sites turn.after) }
+    ensures keeps { S.is_clean store.new → S.is_sound store.old → (S.kept store.old).commits txn ≡ Some (by_site committed.now.voters)
         → IfOk result (λ turn. Keeps txn (kept_voters (after_of (Some (standing.Committed committed.now)) turn.after)) (S.kept store.old) (S.kept store.new)) }
 {
     match reply {
@@ -214,8 +215,8 @@ fn on_ack<S: DeskStore>(
     ensures store { StepsStore S.is_clean S.is_sound S.kept S.refused store.old store.new kept result (λ turn. turn.kept) ((db : Database) → IsLastAck (language db) (map voter_of committed.now.voters) (map voter_of committed.now.acked) (site.now, name_of ticket)) }
     ensures turn { (db : Database) → IfOk result (λ turn. IsTransition db txn (Some (standing.Committed committed.now)) turn
         (on_ack {L = language db} (map voter_of committed.now.voters) (map voter_of committed.now.acked) (site.now, name_of ticket) turn.kept)) }
-    ensures sites { (sites : List (List ℕ)) → IfOk result (λ turn. AtSites sites turn.after) }
-    ensures keeps { S.is_clean store.new → S.is_sound store.old → (S.kept store.old).commits txn ≡ Some committed.now.voters
+    ensures sites { (sites : List (List ℕ)) → AreInOrder sites committed.now.voters → IfOk result (λ turn. AtSites sites turn.after) }
+    ensures keeps { S.is_clean store.new → S.is_sound store.old → (S.kept store.old).commits txn ≡ Some (by_site committed.now.voters)
         → IfOk result (λ turn. Keeps txn (kept_voters (after_of (Some (standing.Committed committed.now)) turn.after)) (S.kept store.old) (S.kept store.new)) }
 {
     if !is_new(committed, site, &ticket) {

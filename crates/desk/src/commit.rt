@@ -10,10 +10,11 @@ ghost use Rattle.desk.specs.Database.{Database, language, replied};
 ghost use Rattle.desk.specs.Participants.{sites_of, participant_in};
 ghost use Rattle.desk.specs.Transaction.{stage_of, undecided_of, voter_of, votes_of};
 ghost use Rattle.desk.specs.Transition.{AreParticipants, AtSites, IsTransition, after_of, commits_now, voting};
-ghost use Rattle.desk.specs.Acknowledge.{kept_voters, Keeps};
+ghost use Rattle.desk.specs.Acknowledge.{AreInOrder, kept_voters, Keeps};
+ghost use Rattle.reader.specs.Printable.{AreDistinct};
 ghost use Rattle.store.specs.declared.reply.Reply.TheVariants as reply;
 ghost use Rattle.desk.specs.Called.{CallsStore, Decides};
-ghost use Rattle.desk.specs.Frame.{StepsStore};
+ghost use Rattle.desk.specs.Frame.{LeavesNoRow, StepsStore};
 ghost use Rattle.protocol.specs.Desk as protocol;
 ghost use Rattle.store.specs.DeskContent.{AreVoters};
 ghost use Rattle.desk.specs.declared.transition.After.TheVariants.{Ends};
@@ -47,9 +48,7 @@ pub(crate) fn is_idle(stage: &Stage) -> bool
 pub(crate) fn commit(alloc: Global, txn: Txn, undecided: &Undecided) -> Result<Transition, Memory>
     ensures turn { (db : Database) → AreParticipants db undecided.now.participants
         → IfOk result (λ turn. IsTransition db txn (Some (standing.Undecided undecided.now)) turn (on_commit_call (txn_name txn) (undecided_of db undecided.now) (stage_of db undecided.now.participants undecided.now.stage))) }
-    ensures sites { IfOk result (λ turn. AtSites (sites_of undecided.now.participants) turn.after) }
-    ensures keeps { IfOk result (λ turn. kept_voters (after_of (Some (standing.Undecided undecided.now)) turn.after) ≡ None) }
-    ensures kept { IfOk result (λ turn. turn.kept ≡ true) }
+    ensures leaves { LeavesNoRow undecided.now result }
 {
     if !is_idle(&undecided.stage) {
         return Ok(stays(alloc, true));
@@ -138,7 +137,7 @@ pub(crate) fn on_vote<S: DeskStore>(
     ensures turn { (db : Database) (choice : Choice (language db)) → AreParticipants db undecided.now.participants
         → IfOk result (λ turn. IsTransition db txn (Some (standing.Undecided undecided.now)) turn
         (on_known (txn_name txn) (undecided_of db undecided.now) site.now turn.kept choice (replied db (reply.Voted voted)))) }
-    ensures sites { IfOk result (λ turn. AtSites (sites_of undecided.now.participants) turn.after) }
+    ensures sites { AreDistinct (sites_of undecided.now.participants) → IfOk result (λ turn. AtSites (sites_of undecided.now.participants) turn.after) }
     ensures keeps { (db : Database) → AreParticipants db undecided.now.participants → S.is_clean store.new → S.is_sound store.old → (S.kept store.old).commits txn ≡ None
         → IfOk result (λ turn. Keeps txn (kept_voters (after_of (Some (standing.Undecided undecided.now)) turn.after)) (S.kept store.old) (S.kept store.new)) }
 {
@@ -172,7 +171,7 @@ pub(crate) fn votes_go<S: DeskStore>(
     ensures store { StepsStore S.is_clean S.is_sound S.kept S.refused store.old store.new kept result (λ turn. turn.kept) ((db : Database) → AreParticipants db participants.items → Decides (undecided_of db (voting participants.items)) (votes_of participants.items)) }
     ensures turn { (db : Database) (old : Option TxnStateNow) → AreParticipants db participants.items
         → IfOk result (λ turn. IsTransition db txn old turn (votes_go (txn_name txn) (undecided_of db (voting participants.items)) (votes_of participants.items) turn.kept)) }
-    ensures sites { IfOk result (λ turn. AtSites (sites_of participants.items) turn.after) }
+    ensures sites { AreDistinct (sites_of participants.items) → IfOk result (λ turn. AtSites (sites_of participants.items) turn.after) }
     ensures keeps { (db : Database) (old : Option TxnStateNow) → AreParticipants db participants.items → kept_voters old ≡ None → S.is_clean store.new → S.is_sound store.old → (S.kept store.old).commits txn ≡ None
         → IfOk result (λ turn. Keeps txn (kept_voters (after_of old turn.after)) (S.kept store.old) (S.kept store.new)) }
 {
@@ -230,7 +229,7 @@ fn decides<S: DeskStore>(
     ensures store { StepsStore S.is_clean S.is_sound S.kept S.refused store.old store.new kept result (λ turn. turn.kept) (⊤) }
     ensures turn { (db : Database) (old : Option TxnStateNow) → AreParticipants db participants.now → 0 < length voters.items
         → IfOk result (λ turn. IsTransition db txn old turn (decides (txn_name txn) (undecided_of db (voting participants.now)) turn.kept (map voter_of voters.items))) }
-    ensures sites { (sites : List (List ℕ)) → IfOk result (λ turn. AtSites sites turn.after) }
+    ensures sites { (sites : List (List ℕ)) → AreInOrder sites voters.items → IfOk result (λ turn. AtSites sites turn.after) }
     ensures keeps { (old : Option TxnStateNow) → AreVoters voters.items → S.is_clean store.new → S.is_sound store.old → (S.kept store.old).commits txn ≡ None
         → IfOk result (λ turn. Keeps txn (kept_voters (after_of old turn.after)) (S.kept store.old) (S.kept store.new)) }
 {

@@ -1,8 +1,9 @@
 //! The coordinator's machine.
 
-ghost use Rattle.std.specs.Prelude.{◌≡◌, ◌≢◌, ◌⊎◌, ◌+◌, ◌≤◌, ◌^◌, None, Some, true, false, Err, IfOk, IfErr, OnOk, OnErr};
+ghost use Rattle.std.specs.Prelude.{◌≡◌, ◌≢◌, ◌⊎◌, ◌+◌, ◌≤◌, ◌^◌, None, Some, true, false, Err, IfOk, IfErr, OnOk};
 ghost use Rattle.std.specs.Option.{option_map};
-ghost use Rattle.meaning.specs.declared.statement.Statement.{Statement};
+ghost use Rattle.meaning.specs.declared.statement.Statement.{Statement as StatementNow};
+ghost use Rattle.meaning.specs.Statement.{IsStatementOf};
 ghost use Rattle.catalog.specs.FragmentLeaf.{schemas_of};
 ghost use Rattle.catalog.specs.Relation.{catalogue_of};
 ghost use Rattle.protocol.specs.Desk.{Choice, Commit_call, Give_up, Rollback, State, desk_began, is_desk_within, on_request, refusal};
@@ -15,8 +16,8 @@ ghost use Rattle.store.specs.declared.reply.Reply.{Reply};
 ghost use Rattle.desk.specs.declared.refusal.Refusal.TheVariants as refusals;
 ghost use Rattle.desk.specs.Request.{IsOver, refused_as, txn_in};
 ghost use Rattle.desk.specs.Database.{Database, language};
-ghost use Rattle.desk.specs.Does.{IsUnread, States, StatesPastLimits};
-ghost use Rattle.desk.specs.Frame.{RestartsDesk, TakesLetter};
+ghost use Rattle.desk.specs.Does.{IsUnread, Runs, RunsPastLimits, States, StatesPastLimits};
+ghost use Rattle.desk.specs.Frame.{RestartsDesk, StatesPlainly, StepsPlainly, TakesLetter};
 ghost use Rattle.desk.specs.OfCatalogue.{IsOfCatalogue};
 ghost use Rattle.desk.specs.Recovery.{IsStrange, Rises};
 ghost use Rattle.desk.specs.State.{Begins, Fits, Steps, desk_of, volatile_of};
@@ -25,10 +26,13 @@ use crate::receive::{may_send, on_reply, passed_over, take};
 use crate::recovery::{begin, restart};
 use crate::refusal::{Refusal, store_refusal};
 use crate::reply::Out;
-use crate::request::{call_begin, call_commit, call_give_up, call_rollback, call_statement};
+use crate::request::{
+    call_begin, call_commit, call_give_up, call_rollback, call_run, call_statement,
+};
 use crate::send::is_among;
 use crate::volatile::Volatile;
 use catalog::catalogue::Catalog;
+use meaning::statement::Statement;
 use std::alloc::Global;
 use store::commit::DeskKept;
 use store::desk_store::DeskStore;
@@ -58,7 +62,7 @@ impl<S: DeskStore> Desk<S> {
     pub fn start(alloc: Global, catalog: Catalog, store: S) -> Result<Desk<S>, Unstarted<S>>
         ensures leaves_store { IfOk result (λ desk. LeavesStore S.is_clean S.is_sound S.refused store desk.store) }
         ensures learnt { IfOk result (λ desk. S.is_clean desk.store → S.is_sound store) }
-        ensures ok { (db : Database) → IfOk result (λ desk. S.is_clean desk.store → Rises db (S.kept desk.store) (volatile_of desk.volatile)) }
+        ensures ok { (db : Database) → IsOver db catalog.0 → IfOk result (λ desk. S.is_clean desk.store → Rises db (S.kept desk.store) (volatile_of desk.volatile)) }
         ensures life { IfOk result (λ desk. S.is_clean desk.store → BeginsLife (S.kept store) (S.kept desk.store)) }
         ensures catalog { IfOk result (λ desk. desk.catalog ≡ catalog) }
         ensures given_back { IfErr result (λ unstarted. unstarted.catalog ≡ catalog) }
@@ -66,11 +70,11 @@ impl<S: DeskStore> Desk<S> {
         ensures same { IfErr result (λ unstarted. S.is_clean unstarted.store → S.is_sound store → IsUnchanged (S.kept store) (S.kept unstarted.store)) }
         ensures refusal { IfErr result (λ unstarted. unstarted.refusal ≡ refusals.Store store_faults.Refused → HasRefused (S.refused store) (S.refused unstarted.store)) }
         ensures full { IfErr result (λ unstarted. S.is_clean unstarted.store → unstarted.refusal ≡ refusals.Full → 2 ^ 63 ≤ (S.kept unstarted.store).life + 1) }
-        ensures damaged { IfErr result (λ unstarted. S.is_clean unstarted.store → S.is_sound store → unstarted.refusal ≡ refusals.Store store_faults.Damaged → IsStrange (S.kept unstarted.store)) }
+        ensures damaged { IfErr result (λ unstarted. S.is_clean unstarted.store → S.is_sound store → unstarted.refusal ≡ refusals.Store store_faults.Damaged → IsStrange catalog.0 (S.kept unstarted.store)) }
         ensures own { IfErr result (λ unstarted. (unstarted.refusal ≡ refusals.Memory) ⊎ (unstarted.refusal ≡ refusals.Full) ⊎ (unstarted.refusal ≡ refusals.Store store_faults.Refused) ⊎ (unstarted.refusal ≡ refusals.Store store_faults.Damaged)) }
     {
         let mut store = store;
-        match begin(&mut store, alloc) {
+        match begin(&mut store, alloc, catalog.sites()) {
             Ok(begun) => Ok(Desk {
                 store,
                 catalog,
@@ -94,13 +98,10 @@ impl<S: DeskStore> Desk<S> {
     pub fn begin(&mut self) -> Result<Out, Refusal>
         ensures ok { (db : Database) → IsOver db self.old.catalog.0 → Fits db (S.kept self.old.store) (volatile_of self.old.volatile)
             → IfOk result (λ out. Begins db (volatile_of self.old.volatile) (S.kept self.new.store) (volatile_of self.new.volatile) out.letters out.replies) }
-        ensures kept { IfOk result (λ out. out.kept ≡ true) }
+        ensures plainly { StepsPlainly self.old self.new result }
         ensures own { IfErr result (λ told. (told ≡ refusals.Memory) ⊎ (told ≡ refusals.Full)) }
         ensures full { (db : Database) → IsOver db self.old.catalog.0 → Fits db (S.kept self.old.store) (volatile_of self.old.volatile)
             → IfErr result (λ told. (told ≡ refusals.Memory) ⊎ ((told ≡ refusals.Full) × (is_desk_within (desk_began (desk_of db (volatile_of self.old.volatile))) ≡ false))) }
-        ensures err { OnErr result (volatile_of self.new.volatile ≡ volatile_of self.old.volatile) }
-        ensures store { self.new.store ≡ self.old.store }
-        ensures catalog { self.new.catalog ≡ self.old.catalog }
     {
         call_begin(&mut self.volatile, self.catalog.sites())
     }
@@ -109,12 +110,9 @@ impl<S: DeskStore> Desk<S> {
     pub fn commit(&mut self, txn: Txn) -> Result<Out, Refusal>
         ensures ok { (db : Database) (choice : Choice (language db)) → IsOver db self.old.catalog.0 → Fits db (S.kept self.old.store) (volatile_of self.old.volatile)
             → IfOk result (λ out. Steps db (volatile_of self.old.volatile) (S.kept self.new.store) (volatile_of self.new.volatile) txn (on_request (txn_name txn) choice Commit_call (txn_in db (volatile_of self.old.volatile) txn)) out.letters out.replies) }
-        ensures kept { IfOk result (λ out. out.kept ≡ true) }
+        ensures plainly { StepsPlainly self.old self.new result }
         ensures accepted { (db : Database) → OnOk result (refusal Commit_call (txn_in db (volatile_of self.old.volatile) txn) ≡ None) }
         ensures told { (db : Database) → IfErr result (λ told. (told ≡ refusals.Memory) ⊎ (option_map refused_as (refusal Commit_call (txn_in db (volatile_of self.old.volatile) txn)) ≡ Some told)) }
-        ensures err { OnErr result (volatile_of self.new.volatile ≡ volatile_of self.old.volatile) }
-        ensures store { self.new.store ≡ self.old.store }
-        ensures catalog { self.new.catalog ≡ self.old.catalog }
     {
         call_commit(&mut self.volatile, txn)
     }
@@ -123,12 +121,9 @@ impl<S: DeskStore> Desk<S> {
     pub fn rollback(&mut self, txn: Txn) -> Result<Out, Refusal>
         ensures ok { (db : Database) (choice : Choice (language db)) → IsOver db self.old.catalog.0 → Fits db (S.kept self.old.store) (volatile_of self.old.volatile)
             → IfOk result (λ out. Steps db (volatile_of self.old.volatile) (S.kept self.new.store) (volatile_of self.new.volatile) txn (on_request (txn_name txn) choice Rollback (txn_in db (volatile_of self.old.volatile) txn)) out.letters out.replies) }
-        ensures kept { IfOk result (λ out. out.kept ≡ true) }
+        ensures plainly { StepsPlainly self.old self.new result }
         ensures accepted { (db : Database) → OnOk result (refusal Rollback (txn_in db (volatile_of self.old.volatile) txn) ≡ None) }
         ensures told { (db : Database) → IfErr result (λ told. (told ≡ refusals.Memory) ⊎ (option_map refused_as (refusal Rollback (txn_in db (volatile_of self.old.volatile) txn)) ≡ Some told)) }
-        ensures err { OnErr result (volatile_of self.new.volatile ≡ volatile_of self.old.volatile) }
-        ensures store { self.new.store ≡ self.old.store }
-        ensures catalog { self.new.catalog ≡ self.old.catalog }
     {
         call_rollback(&mut self.volatile, txn)
     }
@@ -137,11 +132,8 @@ impl<S: DeskStore> Desk<S> {
     pub fn give_up(&mut self, txn: Txn) -> Result<Out, Refusal>
         ensures ok { (db : Database) (choice : Choice (language db)) → IsOver db self.old.catalog.0 → Fits db (S.kept self.old.store) (volatile_of self.old.volatile)
             → IfOk result (λ out. Steps db (volatile_of self.old.volatile) (S.kept self.new.store) (volatile_of self.new.volatile) txn (on_request (txn_name txn) choice Give_up (txn_in db (volatile_of self.old.volatile) txn)) out.letters out.replies) }
-        ensures kept { IfOk result (λ out. out.kept ≡ true) }
+        ensures plainly { StepsPlainly self.old self.new result }
         ensures own { IfErr result (λ told. told ≡ refusals.Memory) }
-        ensures err { OnErr result (volatile_of self.new.volatile ≡ volatile_of self.old.volatile) }
-        ensures store { self.new.store ≡ self.old.store }
-        ensures catalog { self.new.catalog ≡ self.old.catalog }
     {
         call_give_up(&mut self.volatile, txn)
     }
@@ -151,17 +143,27 @@ impl<S: DeskStore> Desk<S> {
     pub fn statement(&mut self, txn: Txn, text: &str) -> Result<Out, Refusal>
         ensures ok { (db : Database) → IsOfCatalogue db → db.catalogue ≡ catalogue_of self.old.catalog → Fits db (S.kept self.old.store) (volatile_of self.old.volatile)
             → IfOk result (λ out. States db (volatile_of self.old.volatile) (S.kept self.new.store) (volatile_of self.new.volatile) txn text.now out.letters out.replies) }
-        ensures kept { IfOk result (λ out. out.kept ≡ true) }
-        ensures accepted { (db : Database) (statement : Statement) → OnOk result (refusal (State statement) (txn_in db (volatile_of self.old.volatile) txn) ≡ None) }
-        ensures told { (db : Database) (statement : Statement) → IfErr result (λ told. (told ≡ refusals.Memory) ⊎ (option_map refused_as (refusal (State statement) (txn_in db (volatile_of self.old.volatile) txn)) ≡ Some told)
+        ensures states { StatesPlainly self.old self.new txn result }
+        ensures told { (db : Database) (statement : StatementNow) → IfErr result (λ told. (told ≡ refusals.Memory) ⊎ (option_map refused_as (refusal (State statement) (txn_in db (volatile_of self.old.volatile) txn)) ≡ Some told)
             ⊎ ((refusal (State statement) (txn_in db (volatile_of self.old.volatile) txn) ≡ None) × (IsUnread (schemas_of (catalogue_of self.old.catalog)) text.now told ⊎ (told ≡ refusals.Full)))) }
         ensures full { (db : Database) → IsOfCatalogue db → db.catalogue ≡ catalogue_of self.old.catalog → Fits db (S.kept self.old.store) (volatile_of self.old.volatile) → result ≡ Err refusals.Full
             → StatesPastLimits db (volatile_of self.old.volatile) txn text.now }
-        ensures err { OnErr result (volatile_of self.new.volatile ≡ volatile_of self.old.volatile) }
-        ensures store { self.new.store ≡ self.old.store }
-        ensures catalog { self.new.catalog ≡ self.old.catalog }
     {
         call_statement(&mut self.volatile, &self.catalog, txn, text)
+    }
+
+    /// A statement of a transaction, as the reader has it under the catalogue's schema. After a refusal nothing has changed.
+    pub fn run(&mut self, txn: Txn, statement: &Statement) -> Result<Out, Refusal>
+        requires { IsStatementOf (schemas_of (catalogue_of self.old.catalog)) statement.now }
+        ensures ok { (db : Database) → IsOfCatalogue db → db.catalogue ≡ catalogue_of self.old.catalog → Fits db (S.kept self.old.store) (volatile_of self.old.volatile)
+            → IfOk result (λ out. Runs db (volatile_of self.old.volatile) (S.kept self.new.store) (volatile_of self.new.volatile) txn statement.now out.letters out.replies) }
+        ensures states { StatesPlainly self.old self.new txn result }
+        ensures told { (db : Database) → IfErr result (λ told. (told ≡ refusals.Memory) ⊎ (option_map refused_as (refusal (State statement.now) (txn_in db (volatile_of self.old.volatile) txn)) ≡ Some told)
+            ⊎ ((refusal (State statement.now) (txn_in db (volatile_of self.old.volatile) txn) ≡ None) × (told ≡ refusals.Full))) }
+        ensures full { (db : Database) → IsOfCatalogue db → db.catalogue ≡ catalogue_of self.old.catalog → Fits db (S.kept self.old.store) (volatile_of self.old.volatile) → result ≡ Err refusals.Full
+            → RunsPastLimits db (volatile_of self.old.volatile) txn statement.now }
+    {
+        call_run(&mut self.volatile, &self.catalog, txn, statement)
     }
 
     /// A letter comes. One of a site that the catalogue doesn't have, and one that no site sends, are passed over.
@@ -208,7 +210,7 @@ impl<S: DeskStore> Desk<S> {
         if !kept {
             return Err(Refusal::Store(StoreFault::Refused));
         }
-        restart(&mut self.store, &mut self.volatile)
+        restart(&mut self.store, &mut self.volatile, self.catalog.sites())
     }
 
     /// All that the store keeps.

@@ -13,7 +13,7 @@ ghost use Rattle.desk.specs.declared.transition.After.TheVariants as after;
 ghost use Rattle.desk.specs.Called.{CallsStore};
 ghost use Rattle.desk.specs.Request.{IsAt, txn_in};
 ghost use Rattle.desk.specs.Database.{Database, language, replied};
-ghost use Rattle.desk.specs.Frame.{StepsStore};
+ghost use Rattle.desk.specs.Frame.{GoesOnOrStays, LeavesStanding, PutsOut, StepsBelowLimits, StepsStore};
 ghost use Rattle.desk.specs.Participants.{sites_of, participant_in, is_at};
 ghost use Rattle.desk.specs.Transaction.{txn_of, undecided_of};
 ghost use Rattle.desk.specs.State.{Fits, Steps, volatile_of, IsIn};
@@ -30,7 +30,6 @@ ghost use Rattle.store.specs.Name.{txn_cmp};
 ghost use Rattle.desk.specs.declared.transaction.Undecided.{Undecided as UndecidedNow};
 ghost use Rattle.desk.specs.Does.{Does, DoesIn, GoesOn, IsLong, IsPastLimits, IsShort, Takes};
 ghost use Rattle.desk.specs.OfCatalogue.{IsOfCatalogue};
-ghost use Rattle.desk.specs.Send.{AreShort};
 
 use crate::abort::on_refusal;
 use crate::acknowledge::on_row;
@@ -89,8 +88,7 @@ fn on_another(
     ensures turn { (db : Database) (choice : Choice (language db)) → (participant_in site.now undecided.now.participants).ticket ≢ None
         → IfOk result (λ turn. IsTransition db txn (Some (standings.Undecided undecided.now)) turn
         (on_known (txn_name txn) (undecided_of db undecided.now) site.now turn.kept choice (replied db (replies.Ticket ticket)))) }
-    ensures after { IfOk result (λ turn. turn.after ≡ after.Stays) }
-    ensures kept { IfOk result (λ turn. turn.kept ≡ true) }
+    ensures leaves { LeavesStanding result }
 {
     let first = ticket_of(undecided.participants.as_slice(), site);
     if is_first(first, &ticket) {
@@ -123,7 +121,7 @@ fn on_open<S: DeskStore>(
     ensures turn { (db : Database) (choice : Choice (language db)) → AreParticipants db undecided.now.participants
         → IfOk result (λ turn. IsTransition db txn (Some (standings.Undecided undecided.now)) turn
         (on_known (txn_name txn) (undecided_of db undecided.now) site.now turn.kept choice (replied db reply.now))) }
-    ensures sites { IfOk result (λ turn. AtSites (sites_of undecided.now.participants) turn.after) }
+    ensures sites { AreDistinct (sites_of undecided.now.participants) → IfOk result (λ turn. AtSites (sites_of undecided.now.participants) turn.after) }
     ensures keeps { (db : Database) → AreParticipants db undecided.now.participants → S.is_clean store.new → S.is_sound store.old → (S.kept store.old).commits txn ≡ None
         → IfOk result (λ turn. Keeps txn (kept_voters (after_of (Some (standings.Undecided undecided.now)) turn.after)) (S.kept store.old) (S.kept store.new)) }
 {
@@ -196,8 +194,7 @@ pub(crate) fn on_unknown(
     reply: &Reply,
 ) -> Result<Transition, Memory>
     ensures turn { (db : Database) → IfOk result (λ turn. IsTransition db txn None turn (on_unknown (txn_name txn) site.now (replied db reply.now))) }
-    ensures after { IfOk result (λ turn. turn.after ≡ Stays) }
-    ensures kept { IfOk result (λ turn. turn.kept ≡ true) }
+    ensures leaves { LeavesStanding result }
 {
     match reply {
         Reply::Ticket(ticket) => tells(alloc, txn, site, Order::Abort(*ticket)),
@@ -220,10 +217,9 @@ fn rows_come(
 ) -> Result<Progress, Refusal>
     ensures does { (db : Database) → IsOfCatalogue db → db.catalogue ≡ catalogue_of catalog.now → AreParticipants db undecided.old.participants → IsIn db (standings.Undecided undecided.old)
         → IfOk result (λ step. Does db txn undecided.new step (λ choice. on_known (txn_name txn) (undecided_of db undecided.old) site.now true choice (replied db (replies.Rows rows.now)))) }
-    ensures short { AreShort undecided.old.participants → OnOk result (AreShort undecided.new.participants) }
+    ensures goes { GoesOnOrStays undecided.old undecided.new result }
     ensures full { (db : Database) → IsOfCatalogue db → db.catalogue ≡ catalogue_of catalog.now → AreParticipants db undecided.old.participants → IsIn db (standings.Undecided undecided.old) → result ≡ Err refusals.Full
         → IsLong db (λ choice. on_known (txn_name txn) (undecided_of db undecided.old) site.now true choice (replied db (replies.Rows rows.now))) }
-    ensures same { OnErr result (undecided.new ≡ undecided.old) }
 {
     leaf_names_are_unique();
     if !gave_first(undecided.participants.as_slice(), site, &rows.ticket) {
@@ -260,10 +256,9 @@ fn resume_on(
     requires { goes_on (participant_in site.now undecided.old.participants).ticket reply.now ≡ true }
     ensures does { (db : Database) → IsOfCatalogue db → db.catalogue ≡ catalogue_of catalog.now → list_any (is_at site.now) undecided.old.participants ≡ true → AreParticipants db undecided.old.participants → IsIn db (standings.Undecided undecided.old)
         → IfOk result (λ step. Does db txn undecided.new step (λ choice. on_known (txn_name txn) (undecided_of db undecided.old) site.now true choice (replied db reply.now))) }
-    ensures short { AreShort undecided.old.participants → OnOk result (AreShort undecided.new.participants) }
+    ensures goes { GoesOnOrStays undecided.old undecided.new result }
     ensures full { (db : Database) → IsOfCatalogue db → db.catalogue ≡ catalogue_of catalog.now → list_any (is_at site.now) undecided.old.participants ≡ true → AreParticipants db undecided.old.participants → IsIn db (standings.Undecided undecided.old) → result ≡ Err refusals.Full
         → IsLong db (λ choice. on_known (txn_name txn) (undecided_of db undecided.old) site.now true choice (replied db reply.now)) }
-    ensures same { OnErr result (undecided.new ≡ undecided.old) }
 {
     match reply {
         Reply::Ticket(ticket) => ticket_goes(alloc, txn, undecided, site, *ticket),
@@ -323,9 +318,7 @@ fn resume(
 
 /// Nothing is put out.
 pub(crate) fn passed_over(alloc: Global) -> Out
-    ensures letters { result.letters ≡ [] }
-    ensures replies { result.replies ≡ [] }
-    ensures kept { result.kept ≡ true }
+    ensures { PutsOut result [] [] }
 {
     Out {
         letters: Seq::new(Vec::new(alloc)),
@@ -345,11 +338,9 @@ pub(crate) fn on_reply(
     requires { may_send ((volatile_of volatile.old).standing txn) site.now reply.now ≡ true }
     ensures ok { (db : Database) (kept : DeskContent) → IsOfCatalogue db → db.catalogue ≡ catalogue_of catalog.now → Fits db kept (volatile_of volatile.old) → list_any (λ other. pointwise nat_eq other site.now) db.sites ≡ true
         → IfOk result (λ out. Takes db (volatile_of volatile.old) kept (volatile_of volatile.new) txn (λ choice. on_desk_letter (txn_name txn) site.now true choice (replied db reply.now) (txn_in db (volatile_of volatile.old) txn)) out.letters out.replies) }
-    ensures kept { IfOk result (λ out. out.kept ≡ true) }
-    ensures own { IfErr result (λ told. (told ≡ refusals.Memory) ⊎ (told ≡ refusals.Full)) }
+    ensures steps { StepsBelowLimits volatile.old volatile.new result }
     ensures full { (db : Database) (kept : DeskContent) → IsOfCatalogue db → db.catalogue ≡ catalogue_of catalog.now → Fits db kept (volatile_of volatile.old) → list_any (λ other. pointwise nat_eq other site.now) db.sites ≡ true → result ≡ Err refusals.Full
         → IsPastLimits db (volatile_of volatile.old) txn (λ choice. on_desk_letter (txn_name txn) site.now true choice (replied db reply.now) (txn_in db (volatile_of volatile.old) txn)) }
-    ensures err { OnErr result (volatile_of volatile.new ≡ volatile_of volatile.old) }
 {
     let room = room(volatile.alloc)?;
     match resume(volatile, catalog, txn, site, reply) {

@@ -1,30 +1,34 @@
 //! An incarnation of the coordinator begins.
 
-ghost use Rattle.std.specs.Prelude.{◌≡◌, [], true, Err, IfOk, IfErr, OnOk, OnErr};
+ghost use Rattle.std.specs.Prelude.{◌≡◌, [], map, Err, IfOk, IfErr, OnOk};
 ghost use Rattle.std.specs.BTreeMap.{IsOrdered};
+ghost use Rattle.std.specs.List.{find};
+ghost use Rattle.std.specs.Option.{option_copied};
 ghost use Rattle.store.specs.Fault.{HasRefused};
 ghost use Rattle.store.specs.Name.{txn_cmp};
 ghost use Rattle.store.specs.declared.fault.StoreFault.TheVariants as store_faults;
 ghost use Rattle.desk.specs.declared.refusal.Refusal.TheVariants as refusals;
 ghost use Rattle.desk.specs.Database.{Database};
-ghost use Rattle.desk.specs.Frame.{BeginsOrFails};
-ghost use Rattle.desk.specs.Recovery.{Restarts, Rises, SendsAgain, are_begun, commits_again, lost_among, row_standing, stood_by};
+ghost use Rattle.desk.specs.Frame.{BeginsOrFails, PutsOut, StepsInMemory};
+ghost use Rattle.desk.specs.Recovery.{Restarts, Rises, SendsAgain, are_at, are_begun, commits_again, in_order, is_of, lost_among, may_stand, row_in_order, row_standing, rows_are_at, stood_by};
 ghost use Rattle.desk.specs.State.{Fits, volatile_from, volatile_of};
 
 use crate::acknowledge::add_commits;
 use crate::refusal::{Refusal, store_refusal};
 use crate::reply::{Notice, Out, Reply, Why};
+use crate::send::is_among;
 use crate::transaction::{Committed, TxnState, TxnStates};
 use crate::volatile::{LAST, Volatile, add};
 use std::alloc::Global;
 use std::collections::BTreeMap;
-use store::commit::CommitRow;
+use store::commit::{CommitRow, Voter};
 use store::desk_store::DeskStore;
 use store::fault::StoreFault;
 use store::letter::Letter;
 use terms::copy::TryCopy;
 use terms::memory::Memory;
 use terms::seq::Seq;
+use terms::text::Text;
 
 /// What stands as a life begins: the decided transactions of the store's rows. And a Commit to each of
 /// their voters.
@@ -33,6 +37,49 @@ pub(crate) struct Beginning {
     pub(crate) standings: TxnStates,
     pub(crate) letters: Vec<Letter>,
     pub(crate) life: u64,
+}
+
+/// The voter of a site, if there is one among these.
+fn find_voter<'a>(voters: &'a [Voter], site: &Text) -> Option<&'a Voter>
+    ensures { option_copied result ≡ find (is_of site.now) voters.now }
+{
+    for voter in voters {
+        if voter.site == *site {
+            return Some(voter);
+        }
+    }
+    None
+}
+
+/// Voters in the order of these sites.
+fn in_order(alloc: Global, sites: &[Text], voters: &[Voter]) -> Result<Vec<Voter>, Memory>
+    ensures { IfOk result (λ ordered. ordered.items ≡ in_order sites.now voters.now) }
+{
+    let mut ordered = Vec::new(alloc);
+    for site in sites {
+        if let Some(voter) = find_voter(voters, site) {
+            ordered.push(voter.copy()?)?;
+        }
+    }
+    Ok(ordered)
+}
+
+/// Rows, each with its voters in the order of these sites: a store's stand in any order.
+fn rows_in_order(
+    alloc: Global,
+    sites: &[Text],
+    rows: &[CommitRow],
+) -> Result<Vec<CommitRow>, Memory>
+    ensures { IfOk result (λ ordered. ordered.items ≡ map (row_in_order sites.now) rows.now) }
+{
+    let mut ordered = Vec::new(alloc);
+    for row in rows {
+        ordered.push(CommitRow {
+            txn: row.txn,
+            voters: Seq::new(in_order(alloc, sites, row.voters.as_slice())?),
+        })?;
+    }
+    Ok(ordered)
 }
 
 /// A decided transaction of which no acknowledgement has come.
@@ -50,6 +97,27 @@ fn are_begun(life: u64, rows: &[CommitRow]) -> bool
     ensures { result ≡ are_begun life rows.now }
 {
     rows.iter().all(|row| row.txn.life <= life)
+}
+
+/// Whether each of these voters is at one of these sites.
+fn are_at(sites: &[Text], voters: &[Voter]) -> bool
+    ensures { result ≡ are_at sites.now voters.now }
+{
+    voters.iter().all(|voter| is_among(&voter.site, sites))
+}
+
+/// Whether each voter of these rows is at one of these sites.
+fn rows_are_at(sites: &[Text], rows: &[CommitRow]) -> bool
+    ensures { result ≡ rows_are_at sites.now rows.now }
+{
+    rows.iter().all(|row| are_at(sites, row.voters.as_slice()))
+}
+
+/// Whether rows can be those of a coordinator of these sites.
+fn may_stand(life: u64, sites: &[Text], rows: &[CommitRow]) -> bool
+    ensures { result ≡ may_stand life sites.now rows.now }
+{
+    are_begun(life, rows) && rows_are_at(sites, rows)
 }
 
 /// Each row stands.
@@ -95,11 +163,15 @@ pub(crate) fn lost(volatile: &Volatile) -> Result<Vec<Notice>, Memory>
     Ok(notices)
 }
 
-/// Loads what the store keeps, and begins the next life. On a refusal nothing has changed.
-pub(crate) fn begin<S: DeskStore>(store: &mut S, alloc: Global) -> Result<Beginning, Refusal>
-    ensures begins { BeginsOrFails S.is_clean S.is_sound S.kept S.refused store.old store.new result }
-    ensures rises { (db : Database) → S.is_clean store.new → IfOk result (λ begun. Rises db (S.kept store.new) (volatile_from begun.standings.entries 0 begun.life 0)) }
-    ensures letters { S.is_clean store.new → IfOk result (λ begun. SendsAgain (S.kept store.new) begun.letters.items) }
+/// Loads what the store keeps, and begins the next life over these sites. On a refusal nothing has changed.
+pub(crate) fn begin<S: DeskStore>(
+    store: &mut S,
+    alloc: Global,
+    sites: &[Text],
+) -> Result<Beginning, Refusal>
+    ensures begins { BeginsOrFails S.is_clean S.is_sound S.kept S.refused sites.now store.old store.new result }
+    ensures rises { (db : Database) → db.sites ≡ sites.now → S.is_clean store.new → IfOk result (λ begun. Rises db (S.kept store.new) (volatile_from begun.standings.entries 0 begun.life 0)) }
+    ensures letters { S.is_clean store.new → IfOk result (λ begun. SendsAgain sites.now (S.kept store.new) begun.letters.items) }
     ensures ordered { IfOk result (λ begun. IsOrdered txn_cmp begun.standings) }
     ensures refusal { result ≡ Err (refusals.Store store_faults.Refused) → HasRefused (S.refused store.old) (S.refused store.new) }
 {
@@ -110,11 +182,12 @@ pub(crate) fn begin<S: DeskStore>(store: &mut S, alloc: Global) -> Result<Beginn
     if all.life >= LAST {
         return Err(Refusal::Full);
     }
-    if !are_begun(all.life, all.commits.as_slice()) {
+    if !may_stand(all.life, sites, all.commits.as_slice()) {
         return Err(Refusal::Store(StoreFault::Damaged));
     }
-    let standings = rest(alloc, all.commits.as_slice())?;
-    let letters = commits_again(alloc, all.commits.as_slice())?;
+    let rows = rows_in_order(alloc, sites, all.commits.as_slice())?;
+    let standings = rest(alloc, &rows)?;
+    let letters = commits_again(alloc, &rows)?;
     match store.next_incarnation() {
         Ok(life) => Ok(Beginning {
             standings,
@@ -127,17 +200,20 @@ pub(crate) fn begin<S: DeskStore>(store: &mut S, alloc: Global) -> Result<Beginn
 
 /// The coordinator restarts: who was undecided is lost, and the next life begins. On a refusal nothing has
 /// changed.
-pub(crate) fn restart<S: DeskStore>(store: &mut S, volatile: &mut Volatile) -> Result<Out, Refusal>
-    ensures begins { BeginsOrFails S.is_clean S.is_sound S.kept S.refused store.old store.new result }
-    ensures ok { (db : Database) → S.is_clean store.new → Fits db (S.kept store.old) (volatile_of volatile.old)
+pub(crate) fn restart<S: DeskStore>(
+    store: &mut S,
+    volatile: &mut Volatile,
+    sites: &[Text],
+) -> Result<Out, Refusal>
+    ensures begins { BeginsOrFails S.is_clean S.is_sound S.kept S.refused sites.now store.old store.new result }
+    ensures ok { (db : Database) → db.sites ≡ sites.now → S.is_clean store.new → Fits db (S.kept store.old) (volatile_of volatile.old)
         → IfOk result (λ out. Restarts db (volatile_of volatile.old) (S.kept store.new) (volatile_of volatile.new) out.letters out.replies) }
-    ensures rises { (db : Database) → S.is_clean store.new → OnOk result (Rises db (S.kept store.new) (volatile_of volatile.new)) }
-    ensures kept { IfOk result (λ out. out.kept ≡ true) }
-    ensures err { OnErr result (volatile_of volatile.new ≡ volatile_of volatile.old) }
+    ensures rises { (db : Database) → db.sites ≡ sites.now → S.is_clean store.new → OnOk result (Rises db (S.kept store.new) (volatile_of volatile.new)) }
+    ensures steps { StepsInMemory volatile.old volatile.new result }
     ensures refusal { result ≡ Err (refusals.Store store_faults.Refused) → HasRefused (S.refused store.old) (S.refused store.new) }
 {
     let replies = lost(volatile)?;
-    match begin(store, volatile.alloc) {
+    match begin(store, volatile.alloc, sites) {
         Ok(begun) => Ok(rise(volatile, begun, replies)),
         Err(refusal) => Err(refusal),
     }
@@ -146,9 +222,7 @@ pub(crate) fn restart<S: DeskStore>(store: &mut S, volatile: &mut Volatile) -> R
 /// What was in memory is lost, and a life has begun.
 fn rise(volatile: &mut Volatile, begun: Beginning, replies: Vec<Notice>) -> Out
     ensures begun { volatile_of volatile.new ≡ volatile_from begun.standings.entries 0 begun.life 0 }
-    ensures letters { result.letters ≡ begun.letters.items }
-    ensures replies { result.replies ≡ replies.items }
-    ensures kept { result.kept ≡ true }
+    ensures puts_out { PutsOut result begun.letters.items replies.items }
     ensures ordered { IsOrdered txn_cmp volatile.old.standings }
 {
     let Beginning {

@@ -1,6 +1,6 @@
 //! What clients ask: a transaction begins, states a statement, and ends.
 
-ghost use Rattle.std.specs.Prelude.{◌≡◌, ◌<◌, ◌⊎◌, [], vec_len, false, None, Some, true, is_some, IfOk, IfErr, OnOk, OnErr, ◌≢◌, Err, map};
+ghost use Rattle.std.specs.Prelude.{◌≡◌, ◌<◌, ◌⊎◌, [], vec_len, false, None, Some, true, IfOk, IfErr, OnOk, OnErr, ◌≢◌, Err, map};
 ghost use Rattle.std.specs.Vec.{vec_capacity};
 ghost use Rattle.std.specs.Option.{option_copied, option_map};
 ghost use Rattle.reader.specs.Printable.{AreDistinct};
@@ -8,14 +8,13 @@ ghost use Rattle.protocol.specs.Desk.{Choice, Commit_call, Give_up, Rollback, de
 ghost use Rattle.protocol.specs.Letters.{txn_name};
 ghost use Rattle.store.specs.DeskContent.{DeskContent};
 ghost use Rattle.desk.specs.declared.refusal.Refusal.TheVariants as refusals;
-ghost use Rattle.desk.specs.declared.transition.After.TheVariants as after;
 ghost use Rattle.desk.specs.declared.reply.Reply.TheVariants as replies;
 ghost use Rattle.desk.specs.Begun.{nowhere_yet};
 ghost use Rattle.desk.specs.Request.{IsAt, IsOver, notices, open_in, refused_as, txn_in};
 ghost use Rattle.desk.specs.Database.{Database, language};
+ghost use Rattle.desk.specs.Frame.{GoesOnOrStays, LeavesRows, StatesInMemory, StepsBelowLimits, StepsInMemory};
 ghost use Rattle.desk.specs.State.{Begins, Fits, Steps, desk_of, volatile_of};
-ghost use Rattle.desk.specs.Transition.{AtSites, IsTransition, after_of, AreParticipants};
-ghost use Rattle.desk.specs.Acknowledge.{kept_voters};
+ghost use Rattle.desk.specs.Transition.{IsTransition, AreParticipants};
 ghost use Rattle.std.specs.BTreeMap.{IsOrdered};
 ghost use Rattle.meaning.specs.declared.statement.Statement.{Statement as StatementNow};
 ghost use Rattle.meaning.specs.Statement.{IsStatementOf};
@@ -28,10 +27,9 @@ ghost use Rattle.store.specs.Name.{txn_cmp};
 ghost use Rattle.desk.specs.declared.transaction.TxnState.TheVariants as standings;
 ghost use Rattle.desk.specs.declared.transaction.Stage.TheVariants as stages;
 ghost use Rattle.desk.specs.declared.transaction.Undecided.{Undecided as UndecidedNow};
-ghost use Rattle.desk.specs.Does.{Does, DoesIn, GoesOn, IsLong, IsShort, IsUnread, States, StatesPastLimits};
+ghost use Rattle.desk.specs.Does.{Does, DoesIn, GoesOn, IsLong, IsShort, IsUnread, Runs, RunsPastLimits, States, StatesPastLimits};
 ghost use Rattle.desk.specs.OfCatalogue.{IsOfCatalogue};
 ghost use Rattle.desk.specs.Planned.{IsOfPlan, ask_from};
-ghost use Rattle.desk.specs.Send.{AreShort};
 ghost use Rattle.desk.specs.Transaction.{undecided_of};
 
 use crate::abort::{give_up, is_voting, roll_back};
@@ -79,9 +77,7 @@ fn nowhere_yet(alloc: Global, sites: &[Text]) -> Result<Vec<Participant>, Memory
 pub(crate) fn call_begin(volatile: &mut Volatile, sites: &[Text]) -> Result<Out, Refusal>
     ensures ok { (db : Database) (kept : DeskContent) → IsOver db sites.now → Fits db kept (volatile_of volatile.old)
         → IfOk result (λ out. Begins db (volatile_of volatile.old) kept (volatile_of volatile.new) out.letters out.replies) }
-    ensures kept { IfOk result (λ out. out.kept ≡ true) }
-    ensures err { OnErr result (volatile_of volatile.new ≡ volatile_of volatile.old) }
-    ensures own { IfErr result (λ told. (told ≡ refusals.Memory) ⊎ (told ≡ refusals.Full)) }
+    ensures steps { StepsBelowLimits volatile.old volatile.new result }
     ensures full { (db : Database) (kept : DeskContent) → IsOver db sites.now → Fits db kept (volatile_of volatile.old)
         → IfErr result (λ told. (told ≡ refusals.Memory) ⊎ ((told ≡ refusals.Full) × (is_desk_within (desk_began (desk_of db (volatile_of volatile.old))) ≡ false))) }
 {
@@ -121,10 +117,7 @@ pub(crate) fn undecided_of<'a>(volatile: &'a Volatile, txn: &Txn) -> Option<&'a 
 fn commit_step(volatile: &Volatile, txn: Txn) -> Result<Transition, Refusal>
     ensures turn { (db : Database) (choice : Choice (language db)) → IsAt db ((volatile_of volatile.now).standing txn)
         → IfOk result (λ turn. IsTransition db txn ((volatile_of volatile.now).standing txn) turn (on_request (txn_name txn) choice Commit_call (txn_in db (volatile_of volatile.now) txn))) }
-    ensures sites { (db : Database) → IsAt db ((volatile_of volatile.now).standing txn) → IfOk result (λ turn. AtSites db.sites turn.after) }
-    ensures keeps { IfOk result (λ turn. kept_voters (after_of ((volatile_of volatile.now).standing txn) turn.after) ≡ kept_voters ((volatile_of volatile.now).standing txn)) }
-    ensures kept { IfOk result (λ turn. turn.kept ≡ true) }
-    ensures stands { IfOk result (λ turn. (is_some ((volatile_of volatile.now).standing txn) ≡ true) ⊎ (turn.after ≡ after.Stays)) }
+    ensures leaves { LeavesRows volatile.now txn result }
     ensures accepted { (db : Database) → OnOk result (refusal Commit_call (txn_in db (volatile_of volatile.now) txn) ≡ None) }
     ensures told { (db : Database) → IfErr result (λ told. (told ≡ refusals.Memory) ⊎ (option_map refused_as (refusal Commit_call (txn_in db (volatile_of volatile.now) txn)) ≡ Some told)) }
 {
@@ -142,10 +135,7 @@ fn commit_step(volatile: &Volatile, txn: Txn) -> Result<Transition, Refusal>
 fn rollback_step(volatile: &Volatile, txn: Txn) -> Result<Transition, Refusal>
     ensures turn { (db : Database) (choice : Choice (language db)) → IsAt db ((volatile_of volatile.now).standing txn)
         → IfOk result (λ turn. IsTransition db txn ((volatile_of volatile.now).standing txn) turn (on_request (txn_name txn) choice Rollback (txn_in db (volatile_of volatile.now) txn))) }
-    ensures sites { (db : Database) → IsAt db ((volatile_of volatile.now).standing txn) → IfOk result (λ turn. AtSites db.sites turn.after) }
-    ensures keeps { IfOk result (λ turn. kept_voters (after_of ((volatile_of volatile.now).standing txn) turn.after) ≡ kept_voters ((volatile_of volatile.now).standing txn)) }
-    ensures kept { IfOk result (λ turn. turn.kept ≡ true) }
-    ensures stands { IfOk result (λ turn. (is_some ((volatile_of volatile.now).standing txn) ≡ true) ⊎ (turn.after ≡ after.Stays)) }
+    ensures leaves { LeavesRows volatile.now txn result }
     ensures accepted { (db : Database) → OnOk result (refusal Rollback (txn_in db (volatile_of volatile.now) txn) ≡ None) }
     ensures told { (db : Database) → IfErr result (λ told. (told ≡ refusals.Memory) ⊎ (option_map refused_as (refusal Rollback (txn_in db (volatile_of volatile.now) txn)) ≡ Some told)) }
 {
@@ -162,10 +152,7 @@ fn rollback_step(volatile: &Volatile, txn: Txn) -> Result<Transition, Refusal>
 fn give_up_step(volatile: &Volatile, txn: Txn) -> Result<Transition, Refusal>
     ensures turn { (db : Database) (choice : Choice (language db)) → IsAt db ((volatile_of volatile.now).standing txn)
         → IfOk result (λ turn. IsTransition db txn ((volatile_of volatile.now).standing txn) turn (on_request (txn_name txn) choice Give_up (txn_in db (volatile_of volatile.now) txn))) }
-    ensures sites { (db : Database) → IsAt db ((volatile_of volatile.now).standing txn) → IfOk result (λ turn. AtSites db.sites turn.after) }
-    ensures keeps { IfOk result (λ turn. kept_voters (after_of ((volatile_of volatile.now).standing txn) turn.after) ≡ kept_voters ((volatile_of volatile.now).standing txn)) }
-    ensures kept { IfOk result (λ turn. turn.kept ≡ true) }
-    ensures stands { IfOk result (λ turn. (is_some ((volatile_of volatile.now).standing txn) ≡ true) ⊎ (turn.after ≡ after.Stays)) }
+    ensures leaves { LeavesRows volatile.now txn result }
     ensures own { IfErr result (λ told. told ≡ refusals.Memory) }
 {
     match undecided_of(volatile, &txn) {
@@ -178,8 +165,7 @@ fn give_up_step(volatile: &Volatile, txn: Txn) -> Result<Transition, Refusal>
 pub(crate) fn call_commit(volatile: &mut Volatile, txn: Txn) -> Result<Out, Refusal>
     ensures ok { (db : Database) (choice : Choice (language db)) (kept : DeskContent) → AreDistinct db.sites → Fits db kept (volatile_of volatile.old)
         → IfOk result (λ out. Steps db (volatile_of volatile.old) kept (volatile_of volatile.new) txn (on_request (txn_name txn) choice Commit_call (txn_in db (volatile_of volatile.old) txn)) out.letters out.replies) }
-    ensures kept { IfOk result (λ out. out.kept ≡ true) }
-    ensures err { OnErr result (volatile_of volatile.new ≡ volatile_of volatile.old) }
+    ensures steps { StepsInMemory volatile.old volatile.new result }
     ensures accepted { (db : Database) → OnOk result (refusal Commit_call (txn_in db (volatile_of volatile.old) txn) ≡ None) }
     ensures told { (db : Database) → IfErr result (λ told. (told ≡ refusals.Memory) ⊎ (option_map refused_as (refusal Commit_call (txn_in db (volatile_of volatile.old) txn)) ≡ Some told)) }
 {
@@ -192,8 +178,7 @@ pub(crate) fn call_commit(volatile: &mut Volatile, txn: Txn) -> Result<Out, Refu
 pub(crate) fn call_rollback(volatile: &mut Volatile, txn: Txn) -> Result<Out, Refusal>
     ensures ok { (db : Database) (choice : Choice (language db)) (kept : DeskContent) → AreDistinct db.sites → Fits db kept (volatile_of volatile.old)
         → IfOk result (λ out. Steps db (volatile_of volatile.old) kept (volatile_of volatile.new) txn (on_request (txn_name txn) choice Rollback (txn_in db (volatile_of volatile.old) txn)) out.letters out.replies) }
-    ensures kept { IfOk result (λ out. out.kept ≡ true) }
-    ensures err { OnErr result (volatile_of volatile.new ≡ volatile_of volatile.old) }
+    ensures steps { StepsInMemory volatile.old volatile.new result }
     ensures accepted { (db : Database) → OnOk result (refusal Rollback (txn_in db (volatile_of volatile.old) txn) ≡ None) }
     ensures told { (db : Database) → IfErr result (λ told. (told ≡ refusals.Memory) ⊎ (option_map refused_as (refusal Rollback (txn_in db (volatile_of volatile.old) txn)) ≡ Some told)) }
 {
@@ -206,8 +191,7 @@ pub(crate) fn call_rollback(volatile: &mut Volatile, txn: Txn) -> Result<Out, Re
 pub(crate) fn call_give_up(volatile: &mut Volatile, txn: Txn) -> Result<Out, Refusal>
     ensures ok { (db : Database) (choice : Choice (language db)) (kept : DeskContent) → AreDistinct db.sites → Fits db kept (volatile_of volatile.old)
         → IfOk result (λ out. Steps db (volatile_of volatile.old) kept (volatile_of volatile.new) txn (on_request (txn_name txn) choice Give_up (txn_in db (volatile_of volatile.old) txn)) out.letters out.replies) }
-    ensures kept { IfOk result (λ out. out.kept ≡ true) }
-    ensures err { OnErr result (volatile_of volatile.new ≡ volatile_of volatile.old) }
+    ensures steps { StepsInMemory volatile.old volatile.new result }
     ensures own { IfErr result (λ told. told ≡ refusals.Memory) }
 {
     let room = room(volatile.alloc)?;
@@ -228,11 +212,10 @@ fn run_at_once(
     ensures does { (db : Database) → IsOfCatalogue db → db.catalogue ≡ catalogue_of catalog.now → AreParticipants db undecided.old.participants → undecided.old.stage ≡ stages.Idle
         → IsOfPlan db statement.now plan.now asks.now → asks.now ≡ map (ask_from db.catalogue) plan.now.fetches.items → asks.now ≡ []
         → IfOk result (λ step. Does db txn undecided.new step (λ choice. on_request (txn_name txn) choice (State statement.now) (Known (undecided_of db undecided.old)))) }
-    ensures short { AreShort undecided.old.participants → OnOk result (AreShort undecided.new.participants) }
+    ensures goes { GoesOnOrStays undecided.old undecided.new result }
     ensures full { (db : Database) → IsOfCatalogue db → db.catalogue ≡ catalogue_of catalog.now → AreParticipants db undecided.old.participants → undecided.old.stage ≡ stages.Idle
         → IsOfPlan db statement.now plan.now asks.now → asks.now ≡ map (ask_from db.catalogue) plan.now.fetches.items → asks.now ≡ [] → result ≡ Err refusals.Full
         → IsLong db (λ choice. on_request (txn_name txn) choice (State statement.now) (Known (undecided_of db undecided.old))) }
-    ensures same { OnErr result (undecided.new ≡ undecided.old) }
 {
     let worked = evaluate(alloc, catalog, statement, plan, asks)?;
     let Worked { answer, unsent } = worked;
@@ -252,11 +235,10 @@ fn start_reading(
     ensures does { (db : Database) → IsOfCatalogue db → db.catalogue ≡ catalogue_of catalog.now → AreParticipants db undecided.old.participants → undecided.old.stage ≡ stages.Idle
         → IsOfPlan db statement plan asks.items → asks.items ≡ map (ask_from db.catalogue) plan.fetches.items
         → IfOk result (λ step. Does db txn undecided.new step (λ choice. on_request (txn_name txn) choice (State statement) (Known (undecided_of db undecided.old)))) }
-    ensures short { AreShort undecided.old.participants → OnOk result (AreShort undecided.new.participants) }
+    ensures goes { GoesOnOrStays undecided.old undecided.new result }
     ensures full { (db : Database) → IsOfCatalogue db → db.catalogue ≡ catalogue_of catalog.now → AreParticipants db undecided.old.participants → undecided.old.stage ≡ stages.Idle
         → IsOfPlan db statement plan asks.items → asks.items ≡ map (ask_from db.catalogue) plan.fetches.items → result ≡ Err refusals.Full
         → IsLong db (λ choice. on_request (txn_name txn) choice (State statement) (Known (undecided_of db undecided.old))) }
-    ensures same { OnErr result (undecided.new ≡ undecided.old) }
 {
     leaf_names_are_unique();
     if asks.is_empty() {
@@ -398,7 +380,34 @@ pub(crate) fn put_out(room: Vec<Notice>, txn: Txn, step: Progress) -> Out
     }
 }
 
-/// A statement of a transaction, by its text.
+/// A statement of a transaction.
+pub(crate) fn call_run(
+    volatile: &mut Volatile,
+    catalog: &Catalog,
+    txn: Txn,
+    statement: &Statement,
+) -> Result<Out, Refusal>
+    requires { IsStatementOf (schemas_of (catalogue_of catalog.now)) statement.now }
+    ensures ok { (db : Database) (kept : DeskContent) → IsOfCatalogue db → db.catalogue ≡ catalogue_of catalog.now → Fits db kept (volatile_of volatile.old)
+        → IfOk result (λ out. Runs db (volatile_of volatile.old) kept (volatile_of volatile.new) txn statement.now out.letters out.replies) }
+    ensures states { StatesInMemory volatile.old volatile.new txn result }
+    ensures told { (db : Database) → IfErr result (λ told. (told ≡ refusals.Memory) ⊎ (option_map refused_as (refusal (State statement.now) (txn_in db (volatile_of volatile.old) txn)) ≡ Some told)
+        ⊎ ((refusal (State statement.now) (txn_in db (volatile_of volatile.old) txn) ≡ None) × (told ≡ refusals.Full))) }
+    ensures full { (db : Database) (kept : DeskContent) → IsOfCatalogue db → db.catalogue ≡ catalogue_of catalog.now → Fits db kept (volatile_of volatile.old) → result ≡ Err refusals.Full
+        → RunsPastLimits db (volatile_of volatile.old) txn statement.now }
+{
+    let room = room(volatile.alloc)?;
+    may_state(volatile, &txn)?;
+    let plan = Planned::new(volatile.alloc, catalog, statement)?;
+    let asks = asks_of(volatile.alloc, catalog, fetches(plan.reduced()))?;
+    let copy = statement.copy()?;
+    match start(volatile, catalog, txn, copy, plan, asks) {
+        Ok(step) => Ok(put_out(room, txn, step)),
+        Err(refusal) => Err(limit_or_memory(refusal)),
+    }
+}
+
+/// A statement of a transaction, by its text, which is read only where the transaction may state something.
 pub(crate) fn call_statement(
     volatile: &mut Volatile,
     catalog: &Catalog,
@@ -407,21 +416,13 @@ pub(crate) fn call_statement(
 ) -> Result<Out, Refusal>
     ensures ok { (db : Database) (kept : DeskContent) → IsOfCatalogue db → db.catalogue ≡ catalogue_of catalog.now → Fits db kept (volatile_of volatile.old)
         → IfOk result (λ out. States db (volatile_of volatile.old) kept (volatile_of volatile.new) txn text.now out.letters out.replies) }
-    ensures kept { IfOk result (λ out. out.kept ≡ true) }
-    ensures err { OnErr result (volatile_of volatile.new ≡ volatile_of volatile.old) }
-    ensures accepted { (db : Database) (statement : StatementNow) → OnOk result (refusal (State statement) (txn_in db (volatile_of volatile.old) txn) ≡ None) }
+    ensures states { StatesInMemory volatile.old volatile.new txn result }
     ensures told { (db : Database) (statement : StatementNow) → IfErr result (λ told. (told ≡ refusals.Memory) ⊎ (option_map refused_as (refusal (State statement) (txn_in db (volatile_of volatile.old) txn)) ≡ Some told)
         ⊎ ((refusal (State statement) (txn_in db (volatile_of volatile.old) txn) ≡ None) × (IsUnread (schemas_of (catalogue_of catalog.now)) text.now told ⊎ (told ≡ refusals.Full)))) }
     ensures full { (db : Database) (kept : DeskContent) → IsOfCatalogue db → db.catalogue ≡ catalogue_of catalog.now → Fits db kept (volatile_of volatile.old) → result ≡ Err refusals.Full
         → StatesPastLimits db (volatile_of volatile.old) txn text.now }
 {
-    let room = room(volatile.alloc)?;
     may_state(volatile, &txn)?;
     let statement = statement_of(volatile.alloc, catalog, text)?;
-    let plan = Planned::new(volatile.alloc, catalog, &statement)?;
-    let asks = asks_of(volatile.alloc, catalog, fetches(plan.reduced()))?;
-    match start(volatile, catalog, txn, statement, plan, asks) {
-        Ok(step) => Ok(put_out(room, txn, step)),
-        Err(refusal) => Err(limit_or_memory(refusal)),
-    }
+    call_run(volatile, catalog, txn, &statement)
 }

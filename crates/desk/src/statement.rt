@@ -8,6 +8,7 @@ ghost use Rattle.desk.specs.declared.refusal.Refusal.TheVariants as refusals;
 ghost use Rattle.desk.specs.declared.transaction.TxnState.TheVariants as standings;
 ghost use Rattle.desk.specs.declared.transaction.Stage.TheVariants as stages;
 ghost use Rattle.desk.specs.Database.{Database, language};
+ghost use Rattle.desk.specs.Frame.{SendsOrStays};
 ghost use Rattle.desk.specs.Opening.{HaveParticipants, opens, visits};
 ghost use Rattle.desk.specs.Planned.{IsOfPlan};
 ghost use Rattle.desk.specs.Send.{AreShort, AsksAtHome, IsPast, asks_go, writes_go, UnsentAtHome};
@@ -104,9 +105,7 @@ pub(crate) fn reads(
     ensures step { (db : Database) (choice : Choice (language db)) (first : AskNow) (rest : List AskNow) → asks.items ≡ first ∷ rest → AreParticipants db undecided.old.participants → HaveParticipants undecided.old.participants (ask_sites asks.items) → AsksAtHome db asks.items
         → IfOk result (λ step. IsProgress db txn undecided.new step (states (txn_name txn) (undecided_of db undecided.old) statement (map (ask_of db) asks.items) choice)) }
     ensures within { (db : Database) → sites_of undecided.old.participants ≡ db.sites → AsksAtHome db asks.items → IsOfPlan db statement plan asks.items → OnOk result (IsIn db (standings.Undecided undecided.new)) }
-    ensures short { AreShort undecided.old.participants → OnOk result (AreShort undecided.new.participants) }
-    ensures full { result ≡ Err refusals.Full → IsPast (asks_go txn asks.items (visits (ask_sites asks.items) undecided.old.participants)).participants }
-    ensures same { OnErr result (undecided.new ≡ undecided.old) }
+    ensures sends { SendsOrStays undecided.old undecided.new (asks_go txn asks.items (visits (ask_sites asks.items) undecided.old.participants)).participants result }
 {
     let mut asks = asks;
     let going = asks_begin(alloc, txn, undecided.participants.as_slice(), &mut asks)?;
@@ -232,9 +231,7 @@ pub(crate) fn ticket_goes(
         → IfOk result (λ step. IsProgress db txn undecided.new step
         (ticket_goes (txn_name txn) (ticketed db undecided.old site.now ticket) choice (stage_of db undecided.old.participants undecided.old.stage))) }
     ensures within { (db : Database) → IsIn db (standings.Undecided undecided.old) → OnOk result (IsIn db (standings.Undecided undecided.new)) }
-    ensures short { AreShort undecided.old.participants → OnOk result (AreShort undecided.new.participants) }
-    ensures full { result ≡ Err refusals.Full → IsPast (goes_to txn (map (changed_at site.now (with_ticket (Some ticket))) undecided.old.participants) undecided.old.stage) }
-    ensures same { OnErr result (undecided.new ≡ undecided.old) }
+    ensures sends { SendsOrStays undecided.old undecided.new (goes_to txn (map (changed_at site.now (with_ticket (Some ticket))) undecided.old.participants) undecided.old.stage) result }
 {
     let participants = with_ticket(alloc, undecided.participants.as_slice(), site, ticket)?;
     match &mut undecided.stage {
@@ -347,9 +344,7 @@ pub(crate) fn works(
     ensures step { (db : Database) (statement : Statement) (asks : List (ProtocolAsk (language db))) → AreParticipants db undecided.old.participants → HaveParticipants undecided.old.participants (write_sites unsent.items) → UnsentAtHome db unsent.items
         → IfOk result (λ step. IsProgress db txn undecided.new step (works (txn_name txn) (undecided_of db undecided.old) statement asks (answer, map write_of unsent.items))) }
     ensures within { (db : Database) → sites_of undecided.old.participants ≡ db.sites → UnsentAtHome db unsent.items → OnOk result (IsIn db (standings.Undecided undecided.new)) }
-    ensures short { AreShort undecided.old.participants → OnOk result (AreShort undecided.new.participants) }
-    ensures full { result ≡ Err refusals.Full → IsPast (writes_go txn unsent.items (visits (write_sites unsent.items) undecided.old.participants)).participants }
-    ensures same { OnErr result (undecided.new ≡ undecided.old) }
+    ensures sends { SendsOrStays undecided.old undecided.new (writes_go txn unsent.items (visits (write_sites unsent.items) undecided.old.participants)).participants result }
 {
     let mut unsent = unsent;
     let going = writes_begin(alloc, txn, undecided.participants.as_slice(), &mut unsent)?;

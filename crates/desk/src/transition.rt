@@ -4,6 +4,7 @@ ghost use Rattle.std.specs.Prelude.{◌≡◌, [], ◌∷◌, Option, Some, true
 ghost use Rattle.protocol.specs.Desk.{stays};
 ghost use Rattle.desk.specs.declared.transition.After.TheVariants as after;
 ghost use Rattle.desk.specs.Database.{Database, sent};
+ghost use Rattle.desk.specs.Frame.{LeavesStanding};
 ghost use Rattle.desk.specs.Orders.{ordered};
 ghost use Rattle.desk.specs.Transaction.{txn_of};
 ghost use Rattle.desk.specs.Transition.{IsTransition};
@@ -83,8 +84,7 @@ pub(crate) fn tells(
     order: Order,
 ) -> Result<Transition, Memory>
     ensures turn { (db : Database) (old : Option TxnState) → IfOk result (λ turn. IsTransition db txn old turn (record { txn = txn_of db old; letters = sent db (ordered txn site.now order) ∷ []; deeds = [] })) }
-    ensures after { IfOk result (λ turn. turn.after ≡ after.Stays) }
-    ensures kept { IfOk result (λ turn. turn.kept ≡ true) }
+    ensures leaves { LeavesStanding result }
 {
     let mut letters = Vec::new(alloc);
     letters.push(Letter {

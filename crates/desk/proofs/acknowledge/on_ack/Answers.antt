@@ -1,7 +1,10 @@
 -- Why `on_ack` meets its contract.
-use Rattle.std.proofs.Common.{Some, map, refl, sym, ap, ◌∙◌, inl, inr, arith, rules}
+use Rattle.std.proofs.Common.{Some, map, refl, sym, ap, ◌∙◌, inl, inr, subst, arith, rules}
 use Rattle.desk.specs.declared.transaction.TxnState.TheVariants as standing
+use Rattle.desk.specs.declared.transaction.Committed.{Committed}
+use Rattle.desk.specs.Acknowledge.{AreInOrder}
 use Rattle.desk.specs.Database.{sent}
+use Rattle.desk.specs.Transition.{AtSites}
 use Rattle.desk.proofs.Acknowledged.{old_ack, one_ack, last_ack, lost_ack}
 use Rattle.desk.proofs.Called.{ack_calls}
 use Rattle.desk.proofs.acknowledge.on_ack.Goals as goal
@@ -47,3 +50,6 @@ returns-clause-store g c = record {
   called = λ unkept db. ack_calls db c.args.committed.now c.args.site.now c.args.ticket c.in_ok-more.more c.in_ok-more.ensures (sym c.is_new.ensures ∙ c.if-not-is_new.false) (sym c.is_done.ensures ∙ c.if-not-is_done.false);
   refusal = λ unkept. inr (search rules);
 }
+
+pub returns-then-not-is_done-clause-sites : goal.returns-then-not-is_done-clause-sites
+returns-then-not-is_done-clause-sites g c = λ sites order. subst (λ a. AtSites sites a) (sym c.becomes.ensures.after) (subst (λ (m : Committed). AreInOrder sites m.voters) (sym c.in_ok-more.ensures) order)

@@ -23,8 +23,12 @@ returns-clause-turn c = λ db are.
     commit_asks db c.args.txn c.args.undecided.now are c.in_ok-letters.letters c.in_ok-participants.participants.items c.voting.result (c.in_ok-participants.ensures ∙ ap (map (with_vote None)) c.as_slice.ensures) c.voting.ensures (sym c.is_idle.ensures ∙ c.if-not-is_idle.false)
     (sym (c.are_all_in.ensures ∙ ap (list_all is_in) c.deref.ensures.value) ∙ c.if-are_all_in.false) (c.in_ok-letters.ensures ∙ ap (broadcast_letters c.args.txn Prepare) c.as_slice-2.ensures)
 
-pub returns-clause-sites : goal.returns-clause-sites
-returns-clause-sites c = (
-  ap (λ u. sites_of u.participants) c.voting.ensures ∙ ap sites_of (c.in_ok-participants.ensures ∙ ap (map (with_vote None)) c.as_slice.ensures) ∙ same_sites (with_vote None) (λ s. refl) c.args.undecided.now.participants,
-  ap (λ u. u.stage) c.voting.ensures,
-)
+pub returns-clause-leaves : goal.returns-clause-leaves
+returns-clause-leaves c = record {
+  sites = (
+    ap (λ u. sites_of u.participants) c.voting.ensures ∙ ap sites_of (c.in_ok-participants.ensures ∙ ap (map (with_vote None)) c.as_slice.ensures) ∙ same_sites (with_vote None) (λ s. refl) c.args.undecided.now.participants,
+    ap (λ u. u.stage) c.voting.ensures,
+  );
+  keeps = refl;
+  kept = refl;
+}

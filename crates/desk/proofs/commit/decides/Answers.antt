@@ -1,12 +1,12 @@
 -- Why `decides` meets its contract.
-use Rattle.std.proofs.Common.{map, refl, sym, ap, ◌∙◌, subst, Ok}
+use Rattle.std.proofs.Common.{map, refl, sym, ap, ◌∙◌, inl, inr, subst, Ok, arith, rules}
 use Rattle.terms.specs.declared.memory.Memory.{Memory}
 use Rattle.store.specs.DeskContent.{AreVoters}
 use Rattle.protocol.specs.Desk.{Row}
 use Rattle.desk.specs.Database.{sent}
 use Rattle.desk.specs.Transaction.{undecided_of, voter_of}
 use Rattle.desk.specs.Transition.{voting}
-use Rattle.desk.specs.Acknowledge.{commit_letters}
+use Rattle.desk.specs.Acknowledge.{AreInOrder, commit_letters}
 use Rattle.desk.proofs.Acknowledged.{unchanged}
 use Rattle.desk.proofs.Decisions.{commits_is, ended_keeps, keeps_row, kept_is, unkept_is}
 use Rattle.desk.proofs.commit.decides.Goals as goal
@@ -41,3 +41,33 @@ returns-clause-turn g c = λ db old are some.
 pub returns-clause-keeps : goal.returns-clause-keeps
 returns-clause-keeps g c = λ old are clean sound none.
     ended_keeps c.args.txn old (g.S.DeskStore.kept c.args.store.now) (g.S.DeskStore.kept c.keep_commit.new.self) none (c.in-Err.ensures.fails.err clean sound) {E = Memory} (Ok c.in_ok-aborts.aborts) c.in_ok-aborts.ensures.after
+
+pub returns-in-Ok-clause-sites : goal.returns-in-Ok-clause-sites
+returns-in-Ok-clause-sites g c = λ sites order. subst (λ vs. AreInOrder sites vs) (sym c.new.ensures) order
+
+pub returns-then-not-kept-clause-store : goal.returns-then-not-kept-clause-store
+returns-then-not-kept-clause-store g c = record {
+  leaves = record { clean = λ clean. clean; counts = omega arith; sound = λ clean sound. sound };
+  uncalled = λ unmade. refl;
+  same = λ clean sound. tt;
+  called = λ unkept. tt;
+  refusal = λ unkept. inl c.if-not-kept.true;
+}
+
+pub returns-in-Ok-clause-store : goal.returns-in-Ok-clause-store
+returns-in-Ok-clause-store g c = record {
+  leaves = c.keep_commit.ensures.leaves;
+  uncalled = λ unmade. (let made = c.if-not-kept.false in cc);
+  same = λ clean sound. tt;
+  called = λ unkept. tt;
+  refusal = λ unkept. (let no = unkept in cc);
+}
+
+pub returns-clause-store : goal.returns-clause-store
+returns-clause-store g c = record {
+  leaves = c.keep_commit.ensures.leaves;
+  uncalled = λ unmade. (let made = c.if-not-kept.false in cc);
+  same = λ clean sound. tt;
+  called = λ unkept. tt;
+  refusal = λ unkept. inr (search rules);
+}

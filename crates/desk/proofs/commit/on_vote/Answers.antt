@@ -1,5 +1,6 @@
 -- Why `on_vote` meets its contract.
-use Rattle.std.proofs.Common.{Some, sym, ◌∙◌, ◌≡◌, map, refl, true}
+use Rattle.std.proofs.Common.{Some, sym, ◌∙◌, ◌≡◌, map, refl, subst, true}
+use Rattle.reader.specs.Printable.{AreDistinct}
 use Rattle.protocol.specs.Desk.{Aborted, By_vote}
 use Rattle.protocol.specs.Letters.{txn_name}
 use Rattle.desk.specs.declared.transaction.TxnState.TheVariants as standing
@@ -52,10 +53,9 @@ returns-clause-keeps g c = λ db are clean sound none.
     refl clean sound none
 
 pub returns-clause-sites : goal.returns-clause-sites
-returns-clause-sites g c =
-    at_same c.votes_go.result (sites_of c.in_ok-participants.participants.items) (sites_of c.args.undecided.now.participants)
-    (voted_sites c.args.site.now c.args.voted.vote c.args.undecided.now.participants c.in_ok-participants.participants.items (copied_vote c.args.site.now c.args.voted.vote c.in_ok-participants.participants.items c.in_ok-participants.participants.items c.as_slice.result.now c.args.undecided.now.participants refl c.in_ok-participants.ensures c.as_slice.ensures))
-    c.votes_go.ensures.sites
+returns-clause-sites g c = λ distinct.
+    let same = voted_sites c.args.site.now c.args.voted.vote c.args.undecided.now.participants c.in_ok-participants.participants.items (copied_vote c.args.site.now c.args.voted.vote c.in_ok-participants.participants.items c.in_ok-participants.participants.items c.as_slice.result.now c.args.undecided.now.participants refl c.in_ok-participants.ensures c.as_slice.ensures) in
+    at_same c.votes_go.result (sites_of c.in_ok-participants.participants.items) (sites_of c.args.undecided.now.participants) same (c.votes_go.ensures.sites (subst AreDistinct (sym same) distinct))
 
 pub returns-clause-store : goal.returns-clause-store
 returns-clause-store g c =

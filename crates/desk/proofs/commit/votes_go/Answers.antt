@@ -4,13 +4,14 @@ use Rattle.std.specs.List.{list_all}
 use Rattle.protocol.specs.Desk.{stays}
 use Rattle.protocol.specs.Letters.{txn_name}
 use Rattle.desk.specs.declared.transaction.TxnState.TheVariants as standing
-use Rattle.desk.specs.Participants.{is_in}
+use Rattle.desk.specs.Participants.{is_in, sites_of}
 use Rattle.desk.specs.Transaction.{txn_of}
 use Rattle.desk.specs.Transition.{AreParticipants, after_of}
-use Rattle.desk.specs.Acknowledge.{Keeps, kept_voters, voters_among}
+use Rattle.desk.specs.Acknowledge.{AreInOrder, Keeps, kept_voters, voters_among}
 use Rattle.desk.proofs.Acknowledged.{keeps_same, turn_as, unchanged}
 use Rattle.desk.proofs.Called.{decides_all, steps_as}
 use Rattle.desk.proofs.Decisions.{are_voters, decided_is, nobody, somebody, votes_decide, votes_wait}
+use Rattle.desk.proofs.InOrder.{decided_in_order}
 use Rattle.desk.proofs.commit.votes_go.Goals as goal
 
 pub returns-then-not-are_all_in-clause-turn : goal.returns-then-not-are_all_in-clause-turn
@@ -55,3 +56,9 @@ returns-clause-store g c =
     (c.in_ok-voters.ensures ∙ ap voters_among c.deref-2.ensures.value)
     (somebody c.in_ok-voters.voters.items (ap (λ vs. length vs == 0) (sym c.deref-3.ensures.value) ∙ sym c.are_none.ensures ∙ c.if-are_none.false)))
     c.decides.ensures.store
+
+pub returns-clause-sites : goal.returns-clause-sites
+returns-clause-sites g c = λ distinct.
+    let participants = c.args.participants.items in
+    c.decides.ensures.sites (sites_of participants)
+    (subst (λ vs. AreInOrder (sites_of participants) vs) (sym (c.in_ok-voters.ensures ∙ ap voters_among c.deref-2.ensures.value)) (decided_in_order participants distinct))

@@ -17,4 +17,4 @@ returns-in-Ticket-clause-full c = λ db of same there are known full.
     let u = c.args.undecided.now in
     let first = (participant_in c.args.site.now u.participants).ticket in
     let none : first ≡ None = first_none first c.args.reply.now _ c.in-Ticket.is c.requires in
-    rw c.in-Ticket.is (ticket_long db c.args.txn u c.args.site.now _ none there known (c.ticket_goes.ensures.full full))
+    rw c.in-Ticket.is (ticket_long db c.args.txn u c.args.site.now _ none there known (c.ticket_goes.ensures.sends.full full))

@@ -25,9 +25,8 @@ returns-in_default c = record {
   does = λ db of same are known.
       let u = c.args.undecided.now in
       rows_unread db c.args.txn u c.args.site.now c.args.rows.now u c.no_progress-in_default.result (search rules) (λ i. u) (search rules) (search rules) known;
-  short = λ short. short;
+  goes = record { short = λ short. short; same = tt };
   full = λ db of same are known full. cc;
-  same = tt;
 }
 
 pub returns-then-not-are_in_with-clause-does : goal.returns-then-not-are_in_with-clause-does
@@ -74,4 +73,4 @@ returns-clause-full c = λ db of same are known full.
     let planned = planned_given_by db c.args.txn u c.args.site.now c.args.rows.now of c.leaf_names_are_unique.ensures reading here first known c.as_slice-4.result.now slice in
     rows_long db c.args.txn u c.args.site.now c.args.rows.now of c.leaf_names_are_unique.ensures reading here first known c.as_slice-4.result.now slice (ap are_in c.as_slice-4.ensures.value ∙ all) worked.answer worked.unsent.items
     (c.in_ok-worked.ensures.explained db (txn_name c.args.txn) of same planned)
-    (writes_past db c.args.txn u are.sites (write_sites worked.unsent.items) reading.statement (map (ask_of db) c.as_slice-4.result.now) worked.answer worked.unsent.items (c.in_ok-worked.ensures.home db of same) (c.works.ensures.full full))
+    (writes_past db c.args.txn u are.sites (write_sites worked.unsent.items) reading.statement (map (ask_of db) c.as_slice-4.result.now) worked.answer worked.unsent.items (c.in_ok-worked.ensures.home db of same) (c.works.ensures.sends.full full))

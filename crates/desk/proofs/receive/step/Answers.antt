@@ -8,7 +8,7 @@ use Rattle.desk.specs.Request.{IsAt}
 use Rattle.desk.specs.Database.{Database, language, replied}
 use Rattle.desk.specs.Transaction.{txn_of}
 use Rattle.desk.specs.State.{volatile_of}
-use Rattle.desk.specs.Transition.{IsTransition, after_of}
+use Rattle.desk.specs.Transition.{AreParticipants, AtSites, IsTransition, after_of}
 use Rattle.desk.specs.Acknowledge.{Keeps, kept_voters}
 use Rattle.desk.proofs.Called.{steps_as}
 use Rattle.desk.proofs.receive.step.Goals as goal
@@ -51,3 +51,16 @@ returns-in-Some-Committed-clause-store g c =
     let o = (volatile_of c.args.volatile.now).standing c.args.txn in
     let is : Some (standing.Committed c.in-Some-Committed.committed) ≡ o = ap Some (sym c.in-Some-Committed.field-0-is) ∙ c.in-Some-Committed.ensures in
     steps_as (λ called. subst (λ p. (db : Database) → IsAt db p → CallsStore {L = language db} c.args.site.now (replied db c.args.reply.now) (txn_of db p)) is (λ db at. called db)) c.on_row.ensures.store
+
+pub returns-in-Some-Undecided-clause-sites : goal.returns-in-Some-Undecided-clause-sites
+returns-in-Some-Undecided-clause-sites g c = λ db at.
+    let o = (volatile_of c.args.volatile.now).standing c.args.txn in
+    let is : Some (standing.Undecided c.in-Some-Undecided.undecided) ≡ o = ap Some (sym c.in-Some-Undecided.field-0-is) ∙ c.in-Some-Undecided.ensures in
+    let are : AreParticipants db c.in-Some-Undecided.undecided.participants = subst (λ p. IsAt db p) (sym is) at in
+    subst (λ sites. IfOk c.on_open.result (λ turn. AtSites sites turn.after)) are.sites (c.on_open.ensures.sites are.distinct)
+
+pub returns-in-Some-Committed-clause-sites : goal.returns-in-Some-Committed-clause-sites
+returns-in-Some-Committed-clause-sites g c = λ db at.
+    let o = (volatile_of c.args.volatile.now).standing c.args.txn in
+    let is : Some (standing.Committed c.in-Some-Committed.committed) ≡ o = ap Some (sym c.in-Some-Committed.field-0-is) ∙ c.in-Some-Committed.ensures in
+    c.on_row.ensures.sites db.sites (subst (λ p. IsAt db p) (sym is) at)

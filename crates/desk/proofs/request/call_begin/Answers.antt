@@ -15,5 +15,5 @@ returns-in-Ok-clause-ok c = λ db kept over fits.
     begins db kept p.standings.entries p.undecided p.life p.number fits c.args.sites.now over.sites (volatile_of c.begin.new.self) c.in_ok-participants.participants.items c.in-Ok.txn c.begun.result.letters c.begun.result.replies
     c.in_ok-participants.ensures c.in-Ok.ensures.ok c.in-Ok.ensures.limits c.in-Ok.ensures.last c.in-Ok.ensures.txn c.begun.ensures.letters (c.begun.ensures.replies c.in_ok-room.ensures.empty)
 
-pub returns-in-Err-clause-own : goal.returns-in-Err-clause-own
-returns-in-Err-clause-own c = ⊎_elim (λ memory. inl memory) (λ full. inr full.0) c.in-Err.ensures.refusal
+pub returns-in-Err-clause-steps : goal.returns-in-Err-clause-steps
+returns-in-Err-clause-steps c = record { kept = tt; err = c.in-Err.ensures.err; own = ⊎_elim (λ memory. inl memory) (λ full. inr full.0) c.in-Err.ensures.refusal }

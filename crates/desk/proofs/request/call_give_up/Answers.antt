@@ -11,10 +11,10 @@ use Rattle.desk.proofs.request.call_give_up.Goals as goal
 pub returns-clause-ok : goal.returns-clause-ok
 returns-clause-ok c = λ db choice kept distinct fits.
     asks db kept c.args.volatile.now c.make.ensures.ordered fits distinct c.args.txn choice Give_up c.in_ok-turn.turn
-    (λ at. c.in_ok-turn.ensures.turn db choice at) (λ at. c.in_ok-turn.ensures.sites db at) c.in_ok-turn.ensures.keeps
-    (short_given_up (txn_name c.args.txn) choice (txn_of db ((volatile_of c.args.volatile.now).standing c.args.txn))) c.in_ok-turn.ensures.stands
+    (λ at. c.in_ok-turn.ensures.turn db choice at) (λ at. c.in_ok-turn.ensures.leaves.sites db at) c.in_ok-turn.ensures.leaves.keeps
+    (short_given_up (txn_name c.args.txn) choice (txn_of db ((volatile_of c.args.volatile.now).standing c.args.txn))) c.in_ok-turn.ensures.leaves.stands
     (volatile_of c.make.new.volatile) (record { moved = c.make.ensures.settled; still = c.make.ensures.still })
     c.make.result.letters c.make.result.replies c.make.ensures.letters (c.make.ensures.replies c.in_ok-room.ensures.empty)
 
-pub returns-clause-kept : goal.returns-clause-kept
-returns-clause-kept c = c.make.ensures.kept ∙ c.in_ok-turn.ensures.kept
+pub returns-clause-steps : goal.returns-clause-steps
+returns-clause-steps c = record { kept = c.make.ensures.kept ∙ c.in_ok-turn.ensures.leaves.kept; err = tt }

@@ -1,65 +1,42 @@
 -- Why `call_statement` meets its contract.
-use Rattle.std.proofs.Common.{rules, ◌≡◌, Err, sym, ap, ◌∙◌, subst, map, List}
+use Rattle.std.proofs.Common.{rules, ◌≡◌, Err, sym, ap, ◌∙◌, subst, List}
 use Rattle.catalog.specs.FragmentLeaf.{schemas_of}
-use Rattle.catalog.specs.Relation.{catalogue_of}
 use Rattle.meaning.specs.declared.schema.RelationSchema.{RelationSchema}
 use Rattle.meaning.specs.Statement.{IsStatementOf}
 use Rattle.reader.specs.declared.command.Command.TheVariants.{Run}
 use Rattle.reader.specs.Command.{IsTextOf}
-use Rattle.protocol.specs.Desk.{State, on_request}
-use Rattle.protocol.specs.Letters.{txn_name}
-use Rattle.desk.specs.Request.{txn_in}
-use Rattle.desk.specs.Planned.{ask_from}
-use Rattle.desk.specs.State.{volatile_of}
-use Rattle.desk.proofs.Doing.{idle_there, plan_made, steps_on}
-use Rattle.desk.proofs.Unread.{told_by}
-use Rattle.desk.proofs.Full.{past_limits}
+use Rattle.desk.proofs.Unread.{if_ok, ran_told, told_by}
 use Rattle.desk.proofs.request.call_statement.Goals as goal
 
-pub returns-in-Ok-clause-ok : goal.returns-in-Ok-clause-ok
-returns-in-Ok-clause-ok c = λ db kept of same fits.
-    let volatile = c.args.volatile.now in
-    let catalogue = catalogue_of c.args.catalog.now in
+pub returns-clause-ok : goal.returns-clause-ok
+returns-clause-ok c = λ db kept of same fits.
     let statement = c.in_ok-statement.statement in
-    let plan = c.in_ok-plan.plan in
-    let asks = c.in_ok-asks.asks.items in
-    let list : asks ≡ map (ask_from catalogue) plan.fetches.items = search rules in
-    let stands = idle_there ((volatile_of volatile).standing c.args.txn) c.in_ok-may_state.ensures.idle in
-    let planned = plan_made db of catalogue same statement plan asks c.in_ok-statement.ensures.fits c.in_ok-plan.ensures.fetches c.in_ok-plan.ensures.finds list in
-    let goes = c.in-Ok.ensures.goes db kept stands.0 of same fits stands.1 stands.2 planned (list ∙ ap (λ cat. map (ask_from cat) plan.fetches.items) (sym same)) in
     let schemas = of.schemas ∙ ap schemas_of same in
-    record {
+    if_ok c.call_run.result (λ out runs. record {
       statement = statement;
-      choice = goes.does.choice;
       spelled = subst (λ (ss : List RelationSchema). IsTextOf ss c.args.text.now (Run statement)) (sym schemas) c.in_ok-statement.ensures.spelled;
       fits = subst (λ (ss : List RelationSchema). IsStatementOf ss statement) (sym schemas) c.in_ok-statement.ensures.fits;
-      steps = steps_on db kept volatile c.start.ensures.ordered fits c.args.txn stands.0 stands.1 (λ choice. on_request (txn_name c.args.txn) choice (State statement) (txn_in db (volatile_of volatile) c.args.txn)) (volatile_of c.start.new.volatile) c.in-Ok.step goes
-          c.put_out.result.letters c.put_out.result.replies c.put_out.ensures.letters (c.put_out.ensures.replies c.in_ok-room.ensures.empty);
-      explained = goes.does.explained;
-    }
+      runs = runs;
+    }) (c.call_run.ensures.ok db kept of same fits)
+
+pub returns-clause-told : goal.returns-clause-told
+returns-clause-told c = λ db other.
+    ran_told c.call_run.result _ _ _ _ _ (c.in_ok-may_state.ensures.accepted db c.in_ok-statement.statement) (c.in_ok-may_state.ensures.accepted db other) (c.call_run.ensures.told db)
 
 pub returns-in_err-may_state-clause-told : goal.returns-in_err-may_state-clause-told
 returns-in_err-may_state-clause-told c = λ db statement.
-    let is : c.from_residual-in_err-may_state.result ≡ Err c.in_err-may_state.field-0.0 = search rules in
+    let is : c.from_residual.result ≡ Err c.in_err-may_state.field-0.0 = search rules in
     told_by _ _ _ _ _ is (c.in_err-may_state.ensures.told db statement)
 
-pub returns-in-Err-clause-full : goal.returns-in-Err-clause-full
-returns-in-Err-clause-full c = λ db kept of same fits full.
-    let volatile = c.args.volatile.now in
-    let catalogue = catalogue_of c.args.catalog.now in
+pub returns-clause-full : goal.returns-clause-full
+returns-clause-full c = λ db kept of same fits full.
     let statement = c.in_ok-statement.statement in
-    let plan = c.in_ok-plan.plan in
-    let asks = c.in_ok-asks.asks.items in
-    let list : asks ≡ map (ask_from catalogue) plan.fetches.items = search rules in
-    let stands = idle_there ((volatile_of volatile).standing c.args.txn) c.in_ok-may_state.ensures.idle in
-    let planned = plan_made db of catalogue same statement plan asks c.in_ok-statement.ensures.fits c.in_ok-plan.ensures.fetches c.in_ok-plan.ensures.finds list in
     let schemas = of.schemas ∙ ap schemas_of same in
     record {
       statement = statement;
       spelled = subst (λ (ss : List RelationSchema). IsTextOf ss c.args.text.now (Run statement)) (sym schemas) c.in_ok-statement.ensures.spelled;
       fits = subst (λ (ss : List RelationSchema). IsStatementOf ss statement) (sym schemas) c.in_ok-statement.ensures.fits;
-      past = past_limits db kept volatile fits c.args.txn stands.0 stands.1 (λ choice. on_request (txn_name c.args.txn) choice (State statement) (txn_in db (volatile_of volatile) c.args.txn))
-          (c.in-Err.ensures.full db kept stands.0 of same fits stands.1 stands.2 planned (list ∙ ap (λ cat. map (ask_from cat) plan.fetches.items) (sym same)) (search rules));
+      past = c.call_run.ensures.full db kept of same fits full;
     }
 
 pub returns-in_err-may_state-clause-full : goal.returns-in_err-may_state-clause-full

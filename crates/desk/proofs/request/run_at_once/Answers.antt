@@ -18,4 +18,4 @@ pub returns-clause-full : goal.returns-clause-full
 returns-clause-full c = λ db of same are idle planned list none full.
     let worked = c.in_ok-worked.worked in
     once_long db of c.args.txn c.args.undecided.now idle c.args.statement.now c.args.plan.now c.args.asks.now planned list none worked.answer worked.unsent.items (c.in_ok-worked.ensures.explained db (txn_name c.args.txn) of same planned)
-    (λ others. writes_past db c.args.txn c.args.undecided.now are.sites (write_sites worked.unsent.items) c.args.statement.now others worked.answer worked.unsent.items (c.in_ok-worked.ensures.home db of same) (c.works.ensures.full full))
+    (λ others. writes_past db c.args.txn c.args.undecided.now are.sites (write_sites worked.unsent.items) c.args.statement.now others worked.answer worked.unsent.items (c.in_ok-worked.ensures.home db of same) (c.works.ensures.sends.full full))

@@ -36,4 +36,10 @@ returns-clause-full c = λ db of same are idle planned list full.
     let home = ready_home db of c.leaf_names_are_unique.ensures c.args.statement c.args.plan asks planned list in
     let some : nat_eq (length asks) 0 ≡ false = search rules in
     reads_long db of c.args.txn c.args.undecided.now idle c.args.statement c.args.plan asks planned list some
-    (λ choice first rest is. asks_past db c.args.txn c.args.undecided.now are.sites (ask_sites asks) c.args.statement choice asks first rest is home (c.reads.ensures.full full))
+    (λ choice first rest is. asks_past db c.args.txn c.args.undecided.now are.sites (ask_sites asks) c.args.statement choice asks first rest is home (c.reads.ensures.sends.full full))
+
+pub returns-then-is_empty-clause-goes : goal.returns-then-is_empty-clause-goes
+returns-then-is_empty-clause-goes c = c.run_at_once.ensures.goes
+
+pub returns-clause-goes : goal.returns-clause-goes
+returns-clause-goes c = record { short = c.reads.ensures.sends.short; same = c.reads.ensures.sends.same }

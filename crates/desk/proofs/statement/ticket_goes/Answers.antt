@@ -51,13 +51,23 @@ returns-in-Idle-clause-within c = λ db known.
     let opened = map (changed_at c.args.site.now (with_ticket (Some c.args.ticket))) old.participants in
     stays_in db c.args.txn opened (ticket_sites c.args.site.now (Some c.args.ticket) old.participants ∙ known.0) _ old known (search rules) (search rules)
 
-pub returns-in_ok-going-in-Reading-clause-short : goal.returns-in_ok-going-in-Reading-clause-short
-returns-in_ok-going-in-Reading-clause-short c = λ short.
-    subst AreShort (search rules) (c.in_ok-going-in-Reading.ensures.short (subst AreShort (search rules) (ticket_short c.args.site.now (Some c.args.ticket) c.args.undecided.now.participants short)))
+pub returns-in_ok-going-in-Reading-clause-sends : goal.returns-in_ok-going-in-Reading-clause-sends
+returns-in_ok-going-in-Reading-clause-sends c = record {
+  short = λ short. subst AreShort (search rules) (c.in_ok-going-in-Reading.ensures.short (subst AreShort (search rules) (ticket_short c.args.site.now (Some c.args.ticket) c.args.undecided.now.participants short)));
+  same = tt;
+  full = λ full. cc;
+}
 
-pub returns-in_ok-written-in-Writing-clause-short : goal.returns-in_ok-written-in-Writing-clause-short
-returns-in_ok-written-in-Writing-clause-short c = λ short.
-    subst AreShort (search rules) (c.in_ok-written-in-Writing.ensures.short (subst AreShort (search rules) (ticket_short c.args.site.now (Some c.args.ticket) c.args.undecided.now.participants short)))
+pub returns-in_ok-written-in-Writing-clause-sends : goal.returns-in_ok-written-in-Writing-clause-sends
+returns-in_ok-written-in-Writing-clause-sends c = record {
+  short = λ short. subst AreShort (search rules) (c.in_ok-written-in-Writing.ensures.short (subst AreShort (search rules) (ticket_short c.args.site.now (Some c.args.ticket) c.args.undecided.now.participants short)));
+  same = tt;
+  full = λ full. cc;
+}
 
-pub returns-in-Idle-clause-short : goal.returns-in-Idle-clause-short
-returns-in-Idle-clause-short c = λ short. subst AreShort (search rules) (ticket_short c.args.site.now (Some c.args.ticket) c.args.undecided.now.participants short)
+pub returns-in-Idle-clause-sends : goal.returns-in-Idle-clause-sends
+returns-in-Idle-clause-sends c = record {
+  short = λ short. subst AreShort (search rules) (ticket_short c.args.site.now (Some c.args.ticket) c.args.undecided.now.participants short);
+  same = tt;
+  full = λ full. cc;
+}

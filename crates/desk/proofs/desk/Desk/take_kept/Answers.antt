@@ -40,7 +40,7 @@ returns-then-not-is_among g c = record {
 pub returns-then-may_send : goal.returns-then-may_send
 returns-then-may_send g c = record {
   takes = record {
-    store = no_call c.args.self.now.store _ c.on_reply.ensures.kept;
+    store = no_call c.args.self.now.store _ c.on_reply.ensures.steps.kept;
     ok = λ db reply of same clean sound fits says among.
         let letter = c.args.letter.now in
         let said = c.in-Reply.reply in
@@ -49,7 +49,7 @@ returns-then-may_send g c = record {
         let here : letter.body ≡ body.Reply said = search rules in
         let is : said ≡ reply = said_is (sym here ∙ says) in
         subst (λ x. IfOk c.on_reply.result (λ out. Takes db (volatile_of volatile) kept (volatile_of c.on_reply.new.volatile) letter.txn (λ choice. on_desk_letter (txn_name letter.txn) letter.site out.kept choice (replied db x) (txn_in db (volatile_of volatile) letter.txn)) out.letters out.replies)) is
-        (loud_takes db (volatile_of volatile) kept (volatile_of c.on_reply.new.volatile) letter.txn letter.site said c.on_reply.result c.on_reply.ensures.kept (c.on_reply.ensures.ok db kept of same fits among));
+        (loud_takes db (volatile_of volatile) kept (volatile_of c.on_reply.new.volatile) letter.txn letter.site said c.on_reply.result c.on_reply.ensures.steps.kept (c.on_reply.ensures.ok db kept of same fits among));
     strange = λ strange.
         let letter = c.args.letter.now in
         let said = c.in-Reply.reply in
@@ -62,7 +62,7 @@ returns-then-may_send g c = record {
         let here : letter.body ≡ body.Reply said = search rules in
         let among : list_any (λ other. pointwise nat_eq other letter.site) c.args.self.now.catalog.0 ≡ true = search rules in
         absurd (not_strange c.args.self.now.catalog.0 letter said here among strange);
-    own = c.on_reply.ensures.own;
+    own = c.on_reply.ensures.steps.own;
     full = λ db reply of same fits says among full.
         let letter = c.args.letter.now in
         let said = c.in-Reply.reply in
@@ -78,7 +78,7 @@ returns-then-may_send g c = record {
         let is : said ≡ reply = said_is (sym here ∙ says) in
         let sends : may_send ((volatile_of c.args.self.now.volatile).standing letter.txn) letter.site said ≡ true = search rules in
         subst (λ x. may_send ((volatile_of c.args.self.now.volatile).standing letter.txn) letter.site x ≡ true) is sends;
-    err = c.on_reply.ensures.err;
+    err = c.on_reply.ensures.steps.err;
     catalog = refl;
   };
 }

@@ -1,0 +1,8 @@
+-- Why `run` meets its contract.
+use Rattle.desk.proofs.desk.Desk.run.Goals as goal
+
+pub returns-clause-ok : goal.returns-clause-ok
+returns-clause-ok g c = λ db of same fits. c.call_run.ensures.ok db (g.S.DeskStore.kept c.args.self.now.store) of same fits
+
+pub returns-clause-full : goal.returns-clause-full
+returns-clause-full g c = λ db of same fits full. c.call_run.ensures.full db (g.S.DeskStore.kept c.args.self.now.store) of same fits full
