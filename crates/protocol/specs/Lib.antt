@@ -22,5 +22,7 @@ pub mod OneClient
 pub mod Home
 pub mod Fitting
 pub mod WithoutRefusal
+pub mod Delivery
+pub mod Accepted
 pub mod Toy
 pub mod NothingCommits

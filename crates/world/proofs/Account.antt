@@ -1,18 +1,18 @@
 -- What a client asked for and heard tells what has happened to its database.
-use Rattle.std.proofs.Common.{◌≡◌, refl, sym, ap, ap₂, ◌∙◌, subst, ℕ, Bool, true, false, List, [], ◌∷◌, ◌++◌, append_assoc, map, if◌then◌else◌, Option}
+use Rattle.std.proofs.Common.{◌≡◌, refl, sym, ap, ap₂, ◌∙◌, subst, ℕ, Bool, true, false, List, [], ◌∷◌, ◌++◌, append_assoc, map, if◌then◌else◌}
 use Rattle.std.proofs.lemmas.List.{append-nil}
 use Rattle.std.proofs.lemmas.Grind.{flat_map-append}
-use Rattle.meaning.specs.Whole.{Relations}
 use Rattle.store.specs.declared.name.Txn.{Txn}
+use Rattle.protocol.specs.Accepted.{stated_by, stated_of}
+use Rattle.protocol.specs.Client.{ReachedLaw}
 use Rattle.protocol.specs.Desk.{Began, Choice, Commit_call, Deed, Give_up, Rollback, State, Transition, desk_after, is_desk_within, next_txn, on_desk_letter, on_request}
 use Rattle.protocol.specs.Language.{Lang, Name}
 use Rattle.protocol.specs.Letter.{Letter, is_for_desk}
 use Rattle.protocol.specs.Letters.{txn_name}
 use Rattle.protocol.specs.Serial.{phased_of, phases_of}
 use Rattle.protocol.specs.Site.{is_within, on_letter, said as said_by_site, site_after}
-use Rattle.protocol.specs.World.{World, addressed, begins, begun, comes, comes_to, turned, turns, with_site}
+use Rattle.protocol.specs.World.{World, addressed, begun, comes, comes_to, turned, turns, with_site}
 use Rattle.protocol.proofs.Basics.{either}
-use Rattle.desk.specs.declared.refusal.Refusal.{Refusal}
 use Rattle.desk.specs.declared.reply.Notice.{Notice}
 use Rattle.desk.specs.Request.{txn_in}
 use Rattle.desk.specs.Database.{Database, language}
@@ -21,14 +21,13 @@ use Rattle.world.specs.declared.event.Call as calls
 use Rattle.world.specs.declared.event.Call.TheVariants as call
 use Rattle.world.specs.declared.event.Entry.{Entry}
 use Rattle.world.specs.declared.event.Event.TheVariants as event
-use Rattle.world.specs.Account.{AccountFollows, IsHeardRightly, IsRefusedRightly, said, said_alone, said_begun, said_in_vain, said_of, said_of_decision, said_refused_alone, said_taken_back, said_undecided}
-use Rattle.world.specs.Deeds.{DeedsFollow, deeds_alone, deeds_begun, deeds_in_vain, deeds_of, deeds_of_decision, deeds_refused_alone, deeds_taken_back, deeds_undecided}
 use Rattle.world.specs.Mailbox.{Ask, Coming, Passed_over, Serves, Taken, To_begin, To_do, Turned_away, all_come, asked, come, first_comes}
-use Rattle.world.specs.Denials.{CommitIsDenied, Declines, IsTakenBack, LoneIsDenied, RunIsDenied, commit_stops, declines_all, declines_begin, declines_commit, declines_inside, declines_lone, declines_outside, declines_rollback, declines_statement, declines_text, has_begun_but, has_not_begun, is_left, is_not_committed, is_not_decided, is_not_stated, is_rolled_back, run_stops}
 use Rattle.world.specs.Machines.{Machines, world_of}
-use Rattle.world.specs.Client.{DoesAlone, DoesAsk, DoesBegin, DoesDecide, DoesState, Executes, IsServed, ServedIsSerial, did_begin, did_commit, did_decide, did_roll_back, did_run, did_state, had_ended}
-use Rattle.world.specs.Replies.{AreStated, Shows, Tells, phased_by, stated_by, stated_of, text_by}
-use Rattle.world.specs.Stopping.{is_stop}
+use Rattle.world.specs.Client.{DoesAsk, DoesBegin, DoesState, ServedIsSerial}
+use Rattle.world.specs.Commands.{MovesFollow}
+use Rattle.world.specs.Course.{Begins, Commits, Made, Move, Moves, Refuses, Rolls_back, States, deeds_in, deeds_of, said, said_in, said_of}
+use Rattle.world.specs.Replies.{AreStated, Shows, Tells, phased_by, text_by}
+use Rattle.world.proofs.Deeds.{made_served}
 use Rattle.world.proofs.Heard.{serial_run}
 use Rattle.world.proofs.Shown.{IsSilent, came_silent, commit_shows, give_up_silent, rollback_silent, state_shows}
 use Rattle.world.proofs.Told.{tells_more}
@@ -121,17 +120,6 @@ module _ (db : Database) where
   none_more : (entries : List Entry) (past : List (Deed (language db))) → Tells db entries past → Tells db (entries ++ []) (past ++ [])
   none_more entries past so = subst (λ es. Tells db es (past ++ [])) (sym (append-nil entries)) (subst (Tells db entries) (sym (append-nil past)) so)
 
-  -- what comes behind a first call
-  behind : (entries : List Entry) (past : List (Deed (language db))) (first : Entry) (rest : List Entry) (deeds more : List (Deed (language db))) → Tells db ((entries ++ first ∷ []) ++ rest) ((past ++ deeds) ++ more) → Tells db (entries ++ first ∷ rest) (past ++ (deeds ++ more))
-  behind entries past first rest deeds more so = subst (λ es. Tells db es (past ++ (deeds ++ more))) (append_assoc entries (first ∷ []) rest) (subst (Tells db ((entries ++ first ∷ []) ++ rest)) (append_assoc past deeds more) so)
-
-  -- ---- commands that are executed
-  decision_told : (txn : Txn) (told : List Notice) (before after : Machines) (heard : List Notice) (entries : List Entry) (past : List (Deed (language db))) → Tells db entries past → (does : DoesDecide db txn told before after heard) →
-      Tells db (entries ++ said_of_decision db txn told before after heard does) (past ++ deeds_of_decision db txn told before after heard does)
-  decision_told txn told before after heard entries past so (had_ended ended same hears) = none_more entries past so
-  decision_told txn told before after heard entries past so (did_decide goes commits) =
-      told_more entries past so (call.Commit txn) (To_do (txn_name txn) Commit_call commits.asks.choice) before after commits.decided commits.asks.serves (commit_shown before after txn commits.decided commits.asks)
-
   pub begin_told : (before after : Machines) (txn : Txn) (heard : List Notice) (entries : List Entry) (past : List (Deed (language db))) → Tells db entries past → (does : DoesBegin db before txn after heard) → Tells db (entries ++ said call.Begin heard ∷ []) (past ++ does.serves.deeds)
   begin_told before after txn heard entries past so does = told_more entries past so call.Begin To_begin before after heard does.serves (begin_shows before after txn heard does)
 
@@ -144,95 +132,30 @@ module _ (db : Database) where
       Tells db (entries ++ said (call.Rollback txn) heard ∷ []) (past ++ does.serves.deeds)
   rollback_told before after txn heard entries past so does = told_more entries past so (call.Rollback txn) (To_do (txn_name txn) Rollback does.choice) before after heard does.serves (rollback_shown before after txn heard does)
 
-  alone_told : (text : List ℕ) (before after : Machines) (heard : List Notice) (entries : List Entry) (past : List (Deed (language db))) → Tells db entries past → (does : DoesAlone db text before after heard) →
-      Tells db (entries ++ said_alone db text before after heard does) (past ++ deeds_alone db text before after heard does)
-  alone_told text before after heard entries past so does =
-      let runs = does.runs in
-      let told = does.greeted ++ runs.answered in
-      let begins = does.begun.serves.deeds in
-      let states = runs.stated.asks.serves.deeds in
-      let first = said call.Begin does.greeted in
-      let second = said (call.State does.txn text) runs.answered in
-      let begun_so = begin_told before does.began does.txn does.greeted entries past so does.begun in
-      let stated_so = state_told text does.began runs.worked does.txn runs.answered (entries ++ first ∷ []) (past ++ begins) begun_so runs.stated in
-      let all = decision_told does.txn told runs.worked after heard ((entries ++ first ∷ []) ++ second ∷ []) ((past ++ begins) ++ states) stated_so runs.decides in
-      let ends = said_of_decision db does.txn told runs.worked after heard runs.decides in
-      let decided = deeds_of_decision db does.txn told runs.worked after heard runs.decides in
-      subst (λ ds. Tells db (entries ++ first ∷ second ∷ ends) (past ++ ds)) (sym (append_assoc begins states decided))
-      (behind entries past first (second ∷ ends) begins (states ++ decided) (behind (entries ++ first ∷ []) (past ++ begins) second ends states decided all))
-
-  executed_told : (text : List ℕ) (current later : Option Txn) (before after : Machines) (heard : List Notice) (entries : List Entry) (past : List (Deed (language db))) → Tells db entries past → (does : Executes db text current before later after heard) →
-      Tells db (entries ++ said_of db text current before later after heard does) (past ++ deeds_of db text current before later after heard does)
-  executed_told text current later before after heard entries past so (did_begin txn spelled none some does) = begin_told before after txn heard entries past so does
-  executed_told text current later before after heard entries past so (did_commit txn spelled some none does) =
+  -- ---- moves
+  move_told : (move : Move) (before after : Machines) (entries : List Entry) (past : List (Deed (language db))) → Tells db entries past → (moves : Moves db move before after) → Tells db (entries ++ said_of move) (past ++ deeds_of db move before after moves)
+  move_told (Begins txn heard) before after entries past so does = begin_told before after txn heard entries past so does
+  move_told (States txn text heard) before after entries past so does = state_told text before after txn heard entries past so does
+  move_told (Commits txn heard) before after entries past so does =
       told_more entries past so (call.Commit txn) (To_do (txn_name txn) Commit_call does.choice) before after heard does.serves (commit_shown before after txn heard does)
-  executed_told text current later before after heard entries past so (did_roll_back txn spelled some none does) = rollback_told before after txn heard entries past so does
-  executed_told text current later before after heard entries past so (did_state txn some still does) = state_told text before after txn heard entries past so does
-  executed_told text current later before after heard entries past so (did_run none after_none does) = alone_told text before after heard entries past so does
+  move_told (Rolls_back txn heard) before after entries past so does = rollback_told before after txn heard entries past so does
+  move_told (Refuses asked told) before after entries past so refused = none_more entries past so
 
-  -- ---- commands that are refused
-  back_told : (txn : Txn) (before after : Machines) (entries : List Entry) (past : List (Deed (language db))) → Tells db entries past → (back : IsTakenBack db txn before after) → Tells db (entries ++ said_taken_back db txn before after back) (past ++ deeds_taken_back db txn before after back)
-  back_told txn before after entries past so (is_rolled_back heard does) = rollback_told before after txn heard entries past so does
-  back_told txn before after entries past so (is_left other refused still) = none_more entries past so
+  pub made_told : (moves : List Move) (before after : Machines) (entries : List Entry) (past : List (Deed (language db))) → Tells db entries past → (made : Made db moves before after) → Tells db (entries ++ said_in moves) (past ++ deeds_in db moves before after made)
+  made_told [] before after entries past so same = none_more entries past so
+  made_told (move ∷ moves) before after entries past so made =
+      let first = deeds_of db move before made.0 made.1 in
+      let rest = deeds_in db moves made.0 after made.2 in
+      subst (λ es. Tells db es (past ++ (first ++ rest))) (append_assoc entries (said_of move) (said_in moves))
+      (subst (Tells db ((entries ++ said_of move) ++ said_in moves)) (append_assoc past first rest)
+      (made_told moves made.0 after (entries ++ said_of move) (past ++ first) (move_told move before made.0 entries past so made.1) made.2))
 
-  undecided_told : (txn : Txn) (told : List Notice) (before after : Machines) (refused : Refusal) (entries : List Entry) (past : List (Deed (language db))) → Tells db entries past → (denied : CommitIsDenied db txn told before after refused) →
-      Tells db (entries ++ said_undecided db txn told before after refused denied) (past ++ deeds_undecided db txn told before after refused denied)
-  undecided_told txn told before after refused entries past so (commit_stops stops) = none_more entries past so
-  undecided_told txn told before after refused entries past so (is_not_decided goes undone) = back_told txn undone.middle after entries past so undone.back
-
-  begun_told : (text : List ℕ) (txn : Txn) (greeted : List Notice) (began after : Machines) (refused : Refusal) (entries : List Entry) (past : List (Deed (language db))) → Tells db entries past → (denied : RunIsDenied db text txn greeted began after refused) →
-      Tells db (entries ++ said_begun db text txn greeted began after refused denied) (past ++ deeds_begun db text txn greeted began after refused denied)
-  begun_told text txn greeted began after refused entries past so (run_stops stops) = none_more entries past so
-  begun_told text txn greeted began after refused entries past so (is_not_stated undone) = back_told txn undone.middle after entries past so undone.back
-  begun_told text txn greeted began after refused entries past so (is_not_committed worked answered states denied) =
-      let first = said (call.State txn text) answered in
-      let deeds = states.asks.serves.deeds in
-      behind entries past first (said_undecided db txn (greeted ++ answered) worked after refused denied) deeds (deeds_undecided db txn (greeted ++ answered) worked after refused denied)
-      (undecided_told txn (greeted ++ answered) worked after refused (entries ++ first ∷ []) (past ++ deeds) (state_told text began worked txn answered entries past so states) denied)
-
-  lone_told : (text : List ℕ) (before after : Machines) (refused : Refusal) (entries : List Entry) (past : List (Deed (language db))) → Tells db entries past → (denied : LoneIsDenied db text before after refused) →
-      Tells db (entries ++ said_refused_alone db text before after refused denied) (past ++ deeds_refused_alone db text before after refused denied)
-  lone_told text before after refused entries past so (has_not_begun denied) = none_more entries past so
-  lone_told text before after refused entries past so (has_begun_but txn began greeted begins denied) =
-      let first = said call.Begin greeted in
-      let deeds = begins.serves.deeds in
-      behind entries past first (said_begun db text txn greeted began after refused denied) deeds (deeds_begun db text txn greeted began after refused denied)
-      (begun_told text txn greeted began after refused (entries ++ first ∷ []) (past ++ deeds) (begin_told before began txn greeted entries past so begins) denied)
-
-  refused_told : (text : List ℕ) (current : Option Txn) (before after : Machines) (refused : Refusal) (entries : List Entry) (past : List (Deed (language db))) → Tells db entries past → (declines : Declines db text current before after refused) →
-      Tells db (entries ++ said_in_vain db text current before after refused declines) (past ++ deeds_in_vain db text current before after refused declines)
-  refused_told text current before after refused entries past so (declines_all stops) = none_more entries past so
-  refused_told text current before after refused entries past so (declines_text none still) = none_more entries past so
-  refused_told text current before after refused entries past so (declines_inside txn some spelled is still) = none_more entries past so
-  refused_told text current before after refused entries past so (declines_outside none spelled is still) = none_more entries past so
-  refused_told text current before after refused entries past so (declines_begin none spelled full still) = none_more entries past so
-  refused_told text current before after refused entries past so (declines_commit txn some spelled denied still) = none_more entries past so
-  refused_told text current before after refused entries past so (declines_rollback txn some spelled denied still) = none_more entries past so
-  refused_told text current before after refused entries past so (declines_statement txn statement some spelled denied still) = none_more entries past so
-  refused_told text current before after refused entries past so (declines_lone statement none spelled denied) = lone_told text before after refused entries past so denied
-
-  -- ---- the law
-  pub account_follows : ServedIsSerial db → AccountFollows db
-  account_follows law = record {
-    executed = executed_told;
-    refused = refused_told;
-    serial = λ whole machines entries past so served.
-        let serial = law whole machines past served in
-        serial_run db whole machines entries past so (record { answers = serial.answers; rebuilt = serial.rebuilt });
-  }
-
--- ---- what is heard of a command is right
-module _ (db : Database) (deeds : DeedsFollow db) (account : AccountFollows db) (whole : Relations) where
-  pub heard_rightly : (text : List ℕ) (current : Option Txn) (before : Machines) (later : Option Txn) (after : Machines) (entries : List Entry) (past : List (Deed (language db))) (heard : List Notice) → IsServed db whole before past → Tells db entries past →
-      Executes db text current before later after heard → IsHeardRightly db whole text current before later after entries past heard
-  heard_rightly text current before later after entries past heard served told does =
-      let on = deeds.executed whole text current later before after heard past served does in
-      let tells = account.executed text current later before after heard entries past told does in
-      record { executes = does; served = on; tells = tells; serial = account.serial whole after (entries ++ said_of db text current before later after heard does) (past ++ deeds_of db text current before later after heard does) tells on }
-
-  pub refused_rightly : (text : List ℕ) (current : Option Txn) (before after : Machines) (entries : List Entry) (past : List (Deed (language db))) (refusal : Refusal) → is_stop refusal ≡ false → IsServed db whole before past → Tells db entries past →
-      Declines db text current before after refusal → IsRefusedRightly db whole text current before after entries past refusal
-  refused_rightly text current before after entries past refusal still served told declines =
-      let on = deeds.refused whole text current before after refusal past still served declines in
-      let tells = account.refused text current before after refusal entries past told declines in
-      record { declines = declines; served = on; tells = tells; serial = account.serial whole after (entries ++ said_in_vain db text current before after refusal declines) (past ++ deeds_in_vain db text current before after refusal declines) tells on }
+-- ---- the law
+pub moves_follow : (db : Database) → ReachedLaw (language db) → ServedIsSerial db → MovesFollow db
+moves_follow db reached law = record {
+  served = λ whole moves before after past served made. made_served db whole reached moves before after past served made;
+  tells = λ moves before after entries past so made. made_told db moves before after entries past so made;
+  serial = λ whole machines entries past so served.
+      let serial = law whole machines past served in
+      serial_run db whole machines entries past so (record { answers = serial.answers; rebuilt = serial.rebuilt });
+}

@@ -27,7 +27,7 @@ use Rattle.world.specs.declared.transaction.End.TheVariants as end
 use Rattle.world.specs.declared.transaction.Outcome as outcomes
 use Rattle.world.specs.declared.transaction.Outcome.TheVariants.{Ran, Unbegun}
 use Rattle.world.specs.declared.transaction.Transaction.{Transaction}
-use Rattle.world.specs.Account.{AccountFollows}
+use Rattle.world.specs.Commands.{MovesFollow}
 use Rattle.world.specs.Batch.{Makes, RunsAll, RunsOne, StopsAt, calls_of_end, said_by_all, tells_commit}
 use Rattle.world.specs.Mailbox.{IsStill, To_do}
 use Rattle.world.specs.BatchRuns.{FareAll, Fares, HasRun, SomeWasRefused, WasStopped, ends_as_asked, finds_no_place, is_to_commit, was_refused}
@@ -42,7 +42,7 @@ use Rattle.world.proofs.Deeds.{still_served}
 use Rattle.world.proofs.Denials.{no_commit, no_rollback}
 use Rattle.world.proofs.Executed.{tells_by}
 use Rattle.world.proofs.Reaching.{serves_past}
-use Rattle.world.proofs.StandingAgain.{stands_whenever}
+use Rattle.world.proofs.Standing.{stands_whenever}
 
 -- what one notice tells
 tells_one : (is : replies.Reply → Bool) (heard : List Notice) (name : Name) (reply : replies.Reply) → map notice_of heard ≡ (name, reply) ∷ [] → tells is heard ≡ (is reply || false)
@@ -161,7 +161,7 @@ module _ (db : Database) (fits : Leaf → Content → Bool) (reached : ReachedLa
       (λ last. (
         same_on None makes.0 after past last.3 (record { deeds = deeds; served = served_here; stands = over.0 }),
         ⊎_elim
-            (λ was. clash over.1 (tells_one is_end heard (txn_name txn) (Answer was.answer) was.hears))
+            (λ was. clash over.1 (tells_one is_end heard (txn_name txn) (Answer was.1.0) was.1.1))
             (λ refused. inr (makes.0, does, inl refused))
             (obeys.states whole before makes.0 past text txn heard served ready does),
       ))
@@ -197,7 +197,7 @@ module _ (db : Database) (fits : Leaf → Content → Bool) (reached : ReachedLa
       record { fare = (runs.0, runs.1, one.0, one.1, more.fare); on = since None after past one.1.deeds more.on }
 
   -- ---- so they have run, and one was stopped
-  module _ (account : AccountFollows db) where
+  module _ (follow : MovesFollow db) where
     pub has_run : (transactions : List Transaction) (came : List outcomes.Outcome) (before after : Machines) (entries : List Entry) (past : List (Deed (language db))) → IsServed db whole before past → Tells db entries past → RunsAll db transactions came before after →
         HasRun db fits whole transactions came before after entries past
     has_run transactions came before after entries past served so runs =
@@ -207,7 +207,7 @@ module _ (db : Database) (fits : Leaf → Content → Bool) (reached : ReachedLa
           deeds = told.deeds;
           served = told.served;
           tells = told.tells;
-          serial = account.serial whole after (entries ++ said_by_all transactions came) (past ++ told.deeds) told.tells told.served;
+          serial = follow.serial whole after (entries ++ said_by_all transactions came) (past ++ told.deeds) told.tells told.served;
           fare = λ stands. (all_fare transactions came before after past served stands runs).fare;
           stands = λ stands. let fared = all_fare transactions came before after past served stands runs in stands_whenever db fits None after (past ++ fared.on.deeds) (past ++ told.deeds) fared.on.stands;
         }

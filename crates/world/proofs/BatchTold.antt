@@ -16,7 +16,7 @@ use Rattle.world.specs.declared.transaction.Came.TheVariants.{Heard, Refused}
 use Rattle.world.specs.declared.transaction.Outcome as outcomes
 use Rattle.world.specs.declared.transaction.Outcome.TheVariants.{Ran, Unbegun}
 use Rattle.world.specs.declared.transaction.Transaction.{Transaction}
-use Rattle.world.specs.Account.{said}
+use Rattle.world.specs.Course.{said}
 use Rattle.world.specs.Batch.{Does, Makes, RunsAll, RunsOne, calls_of, has_ended, said_by, said_by_all, said_in_turn}
 use Rattle.world.specs.Mailbox.{IsStill, To_begin, To_do}
 use Rattle.world.specs.Machines.{Machines}

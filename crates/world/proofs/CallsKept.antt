@@ -15,8 +15,8 @@ use Rattle.protocol.specs.Statements.{body_with}
 use Rattle.protocol.specs.World.{addressed}
 use Rattle.protocol.proofs.Basics.{either}
 use Rattle.desk.specs.Database.{Database, language, statements}
+use Rattle.protocol.specs.Delivery.{CallKept}
 use Rattle.world.specs.Machines.{is_order}
-use Rattle.world.specs.Reasons.{CallKept}
 
 module _ {L : Lang} where
   -- the store call that a Fetch makes is kept

@@ -9,10 +9,11 @@ use Rattle.desk.specs.declared.reply.Notice.{Notice}
 use Rattle.desk.specs.Database.{Database, language}
 use Rattle.world.specs.declared.fault.Fault as faults
 use Rattle.world.specs.declared.fault.Fault.TheVariants as fault
-use Rattle.world.specs.Delivery.{Coming}
+use Rattle.protocol.specs.Delivery.{AllKept, Coming}
 use Rattle.site.specs.declared.site.Site.{Site}
 use Rattle.world.specs.declared.machines.Machines as code
-use Rattle.world.specs.Counted.{AllKept, HaveRefused, KeptUnless, NoFewer, counts_of}
+use Rattle.world.specs.Counted.{HaveRefused, KeptUnless, NoFewer, counts, counts_of}
+use Rattle.world.specs.Frame.{CallsNoStore, stores_of}
 use Rattle.world.specs.Contents.{held, unrefused}
 use Rattle.world.specs.Machines.{AreFit, Leads, Machines}
 use Rattle.world.specs.Seated.{seats_in}
@@ -121,3 +122,13 @@ pub same_unrefused : {D S : Type 0} (of_desk : D → DeskContent) (of_site : S �
 same_unrefused of_desk of_site one other same =
     same_counted (held of_desk of_site other) (held of_desk of_site one) _ _ same
     (ap (λ (counts : List ℕ). 0 ∷ counts) (zeros of_site one.sites.items ∙ ap (λ (machines : Machines). map (λ (seat : Seat). 0) machines.seats) same ∙ sym (zeros of_site other.sites.items)))
+
+-- where no store has been called none has refused
+counted_stores : {S : Type 0} (refused : S → ℕ) (sites : List (Site S)) → counts_of refused sites ≡ map refused (stores_of sites)
+counted_stores refused [] = refl
+counted_stores refused (site ∷ sites) = ap (λ (counts : List ℕ). refused site.store ∷ counts) (counted_stores refused sites)
+
+pub uncounted : {D S : Type 0} (of_desk : D → ℕ) (of_site : S → ℕ) {old new : code.Machines D S} → CallsNoStore old new → counts of_desk of_site new ≡ counts of_desk of_site old
+uncounted of_desk of_site {old} {new} none =
+    let sites = counted_stores of_site new.sites.items ∙ ap (map of_site) none.sites ∙ sym (counted_stores of_site old.sites.items) in
+    ap (λ (first : ℕ). first ∷ counts_of of_site new.sites.items) (ap of_desk none.desk) ∙ ap (λ (others : List ℕ). of_desk old.desk.store ∷ others) sites

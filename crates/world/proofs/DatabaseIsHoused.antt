@@ -45,7 +45,7 @@ use Rattle.protocol.specs.WithoutRefusal.{IsHoused}
 use Rattle.protocol.proofs.Basics.{both_true, every_in, left_true, right_true, some_is}
 use Rattle.desk.specs.Database.{language}
 use Rattle.desk.specs.Transaction.{at_leaf}
-use Rattle.world.specs.Base.{content_of, database, fits, found, is_part, site_of, width_of}
+use Rattle.desk.specs.CatalogueDatabase.{content_of, database, fits, found, is_part, site_of, width_of}
 use Rattle.world.proofs.DatabaseSites.{leaf_at_sites}
 use Rattle.world.proofs.DatabaseIsStored.{entries_stored, under}
 use Rattle.world.proofs.DatabaseIsWritten.{found_has, to_leaf}

@@ -22,7 +22,7 @@ use Rattle.protocol.specs.Language.{IsLawful}
 use Rattle.site.proofs.Lawful.{lawful}
 use Rattle.desk.specs.Database.{language, statements}
 use Rattle.desk.specs.OfCatalogue.{FormsParts, HasContent}
-use Rattle.world.specs.Base.{IsBase, content_of, database, found, site_of, width_of}
+use Rattle.desk.specs.CatalogueDatabase.{IsBase, content_of, database, found, site_of, width_of}
 use Rattle.world.proofs.DatabaseIsStored.{values_stored}
 use Rattle.world.proofs.DatabaseIsWritten.{writes_right}
 

@@ -6,7 +6,7 @@ use Rattle.std.specs.List.{AllByRecursion, list_any}
 use Rattle.catalog.specs.Catalogue.{Catalogue, IsSiteName}
 use Rattle.catalog.specs.Formed.{IsFormed}
 use Rattle.catalog.specs.FragmentLeaf.{catalogue_leaves, schemas_of}
-use Rattle.world.specs.Base.{content_of, database, site_of}
+use Rattle.desk.specs.CatalogueDatabase.{content_of, database, site_of}
 use Rattle.world.specs.Machines.{Machines, world_of}
 use Rattle.world.specs.Placed.{IsPlaced, Opens}
 use Rattle.world.specs.Runs.{IsRun, RunsAreSerial}

@@ -12,8 +12,8 @@ use Rattle.terms.specs.Row.{key_of}
 use Rattle.meaning.specs.Relation.{Ascends}
 use Rattle.catalog.specs.Keyed.{row_at}
 use Rattle.store.specs.Content.{Content}
-use Rattle.world.specs.Base.{stored}
-use Rattle.world.specs.Filling.{stored_in}
+use Rattle.desk.specs.CatalogueDatabase.{stored}
+use Rattle.desk.specs.CatalogueDatabase.{stored_in}
 
 apart : (a b key : ℤ) → a <ℤ b → int_eq a key ≡ true → int_eq b key ≡ false
 apart a b key below same = grind (arith, ints)

@@ -33,7 +33,7 @@ use Rattle.protocol.specs.Language.{written}
 use Rattle.site.proofs.TicketOrder.{leaf_is, leaf_self, same_bool}
 use Rattle.desk.specs.Database.{Database, language}
 use Rattle.desk.specs.Transaction.{at_leaf}
-use Rattle.world.specs.Base.{content_of, database, found, stored}
+use Rattle.desk.specs.CatalogueDatabase.{content_of, database, found, stored}
 use Rattle.world.proofs.DatabaseIsStored.{get_stored, turned}
 
 same_names : (one other : Leaf) → is_eq (leaf_cmp one other) ≡ same_leaf one other

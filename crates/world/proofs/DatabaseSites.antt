@@ -11,7 +11,7 @@ use Rattle.plan.specs.Contents.{ContentsAscend}
 use Rattle.protocol.specs.Parts.{In}
 use Rattle.protocol.proofs.Basics.{some_is}
 use Rattle.protocol.proofs.Locks.{Once}
-use Rattle.world.specs.Base.{found, site_of}
+use Rattle.desk.specs.CatalogueDatabase.{found, site_of}
 use Rattle.world.proofs.DatabaseIsLawful.{homes}
 
 not_later : (site : List ℕ) (sites : List (List ℕ)) → AllByRecursion (λ other. site ≢ other) sites → In site sites → ⊥

@@ -23,13 +23,14 @@ use Rattle.desk.specs.Database.{Database, language, sent}
 use Rattle.desk.specs.State.{desk_of, notice_of}
 use Rattle.desk.specs.Transition.{told}
 use Rattle.site.specs.declared.fault.SiteFault.TheVariants as site_faults
+use Rattle.protocol.specs.Delivery.{AllFounded, FirstIsFounded, IsFounded, IsKept}
 use Rattle.world.specs.declared.fault.Fault.{Fault}
 use Rattle.world.specs.declared.fault.Fault.TheVariants as faults
-use Rattle.world.specs.Counted.{HaveRefused, IsKept, KeptUnless, NoFewer}
+use Rattle.world.specs.Counted.{HaveRefused, KeptUnless, NoFewer}
 use Rattle.world.specs.Mailbox.{Ask, To_begin, To_do, Breaks, Coming, Fails, Goes, Passed_over, Scene, Serves, Taken, Turned_away, all_come, asked, at_rest, come, done_with, settled}
 use Rattle.world.specs.Machines.{AreFit, Leads, Machines, is_of_site, world_of}
 use Rattle.world.specs.Taking.{CameUnless, IsDone, IsInRound, put_out_by, stop_of, world_at}
-use Rattle.world.specs.Reasons.{AllFounded, FirstIsFounded, HasReason, IsFounded, TurnsAway}
+use Rattle.world.specs.Reasons.{HasReason, TurnsAway}
 use Rattle.world.specs.Stopping.{is_stop}
 use Rattle.world.proofs.Reasoned.{same_passes, turned_ranks}
 use Rattle.world.proofs.Counting.{fit_counted, kept_then, leads_counted, no_fewer, no_fewer_then, with_counts}
@@ -39,7 +40,7 @@ pub all_come_append : {L : Lang} (one other : List (Coming L)) (w : World L) →
 all_come_append [] other w = refl
 all_come_append (c ∷ one) other w = all_come_append one other (come w c)
 
-founded_append : (db : Database) (one other : List (Coming (language db))) (w : World (language db)) → AllFounded db one w → AllFounded db other (all_come one w) → AllFounded db (one ++ other) w
+founded_append : (db : Database) (one other : List (Coming (language db))) (w : World (language db)) → AllFounded one w → AllFounded other (all_come one w) → AllFounded (one ++ other) w
 founded_append db [] other w first second = second
 founded_append db (c ∷ one) other w first second = (first.0, founded_append db one other (come w c) first.1 second)
 
@@ -82,7 +83,7 @@ module _ (db : Database) (step : World (language db) → World (language db)) (f
         ∙ other.is (past ++ one.deeds)
         ∙ ap (world_of db third.machines (map (sent db) third.waiting)) (append_assoc past one.deeds other.deeds);
     homed = λ homes. other.homed (one.homed homes);
-    founded = λ homes past. founded_append db one.comings other.comings (step (world_of db first.machines (map (sent db) first.waiting) past)) (one.founded homes past) (subst (AllFounded db other.comings) (sym (one.is past)) (other.founded (one.homed homes) (past ++ one.deeds)));
+    founded = λ homes past. founded_append db one.comings other.comings (step (world_of db first.machines (map (sent db) first.waiting) past)) (one.founded homes past) (subst (AllFounded other.comings) (sym (one.is past)) (other.founded (one.homed homes) (past ++ one.deeds)));
     counts = no_fewer_then first.machines.refused second.machines.refused third.machines.refused one.counts other.counts;
     kept = kept_then one.comings other.comings first.machines.refused second.machines.refused third.machines.refused one.counts other.counts one.kept other.kept;
     explained = all_both Explained one.deeds other.deeds one.explained other.explained;
@@ -122,7 +123,7 @@ one_left : (rank n : ℕ) → 2 ≤ rank → rank ≤ suc n → 1 ≤ n
 one_left rank n two few = omega arith
 
 -- what becomes of a letter whose operation is for the site that keeps the leaf has its reason in the protocol's world
-founded_here : (db : Database) (machines : Machines) (letter : letters.Letter) (waiting : List (Letter (language db))) (past : List (Deed (language db))) (coming : Coming (language db)) → IsHomed (sent db letter) → HasReason db machines letter coming → IsFounded db (world_of db machines waiting past) coming (sent db letter)
+founded_here : (db : Database) (machines : Machines) (letter : letters.Letter) (waiting : List (Letter (language db))) (past : List (Deed (language db))) (coming : Coming (language db)) → IsHomed (sent db letter) → HasReason db machines letter coming → IsFounded (world_of db machines waiting past) coming (sent db letter)
 founded_here db machines letter waiting past (Taken kept choice) home reason = (same_passes db (is_for_desk (sent db letter).body) machines waiting past kept choice (sent db letter) ∙ reason.0, reason.1)
 founded_here db machines letter waiting past (Turned_away choice) home (inl limit) = record { choice = limit.choice; explained = limit.explained; past = same_passes db (is_for_desk (sent db letter).body) machines waiting past true limit.choice (sent db letter) ∙ limit.past }
 founded_here db machines letter waiting past (Turned_away choice) home (inr astray) = absurd (astray home)
@@ -159,7 +160,7 @@ module _ (db : Database) (letter : letters.Letter) (here : Scene) (after : Machi
         (subst (λ (w : World (language db)). AreHomed w.letters) (done.leads.is (map (sent db) rest) [] ∙ ap (λ all. world_of db after all ([] ++ done.leads.deeds)) (sym (map-append (sent db) rest out)))
         (done_homed (sent db letter) done.coming (world_of db here.machines (map (sent db) rest) []) (homed_in_front homes).1));
     founded = λ homes past. (
-      subst (λ (waiting : List letters.Letter). FirstIsFounded db (world_of db here.machines (map (sent db) waiting) past) done.coming (map (sent db) waiting)) (sym in_front)
+      subst (λ (waiting : List letters.Letter). FirstIsFounded (world_of db here.machines (map (sent db) waiting) past) done.coming (map (sent db) waiting)) (sym in_front)
           (founded_here db here.machines letter (map (sent db) (letter ∷ rest)) past done.coming (homed_in_front homes).0 done.reason),
       tt,
     );

@@ -10,7 +10,7 @@ use Rattle.protocol.proofs.Basics.{either, put_all, same_law}
 use Rattle.desk.specs.declared.reply.Reply.{Reply}
 use Rattle.desk.specs.Database.{Database, language}
 use Rattle.desk.specs.Transition.{told}
-use Rattle.world.specs.Delivery.{Coming, Passed_over, Taken, Turned_away, all_come, come, first_comes}
+use Rattle.protocol.specs.Delivery.{Coming, Passed_over, Taken, Turned_away, all_come, come, first_comes}
 use Rattle.world.specs.Client.{is_end}
 
 module _ {L : Lang} where

@@ -28,7 +28,7 @@ use Rattle.desk.proofs.AtHomes.{found_so}
 use Rattle.desk.proofs.Located.{IsEither, IsFetchOf, are_of}
 use Rattle.world.specs.declared.fault.Fault.{Fault}
 use Rattle.world.specs.declared.fault.Fault.TheVariants as fault
-use Rattle.world.specs.Base.{IsBase, database}
+use Rattle.desk.specs.CatalogueDatabase.{IsBase, database}
 use Rattle.world.specs.Counted.{HaveRefused, NoFewer}
 use Rattle.world.specs.Fault.{FailsFor, is_memory}
 use Rattle.world.specs.Machines.{AreFit, Machines}

@@ -8,7 +8,8 @@ use Rattle.catalog.specs.declared.fragment_leaf.FragmentLeaf.{FragmentLeaf}
 use Rattle.catalog.specs.Fragment.{Fragment, content}
 use Rattle.catalog.specs.FragmentLeaf.{unnamed}
 use Rattle.store.specs.Content.{Content}
-use Rattle.world.specs.Filling.{is_leaf, kept_with, stored_in}
+use Rattle.desk.specs.CatalogueDatabase.{stored_in}
+use Rattle.world.specs.Filling.{is_leaf, kept_with}
 
 -- a row's part, and then those of the rest
 one_then : (leaf : Fragment) (kept : Content) (row : List Value) (rows : List (List Value)) → stored_in (stored_in kept (content leaf (row ∷ []))) (content leaf rows) ≡ stored_in kept (content leaf (row ∷ rows))

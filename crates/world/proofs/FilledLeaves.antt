@@ -13,7 +13,8 @@ use Rattle.catalog.proofs.LeafNames.{AreOther, HaveOwnNames}
 use Rattle.store.specs.Content.{Content}
 use Rattle.protocol.proofs.Basics.{left_true, right_true, some_is}
 use Rattle.site.proofs.TicketOrder.{leaf_is, leaf_self, same_bool}
-use Rattle.world.specs.Filling.{filled, is_leaf, kept_with, stored_in}
+use Rattle.desk.specs.CatalogueDatabase.{stored_in}
+use Rattle.world.specs.Filling.{filled, is_leaf, kept_with}
 
 -- one test of a leaf's name is the other
 pub same_test : (name : Leaf) (leaf : FragmentLeaf) → is_name_of name leaf ≡ is_leaf leaf name

@@ -5,6 +5,7 @@ use Rattle.meaning.specs.declared.answer.Answer.{Answer}
 use Rattle.meaning.specs.declared.statement.Statement.{Statement}
 use Rattle.meaning.specs.Whole.{Relations}
 use Rattle.store.specs.declared.name.Txn.{Txn}
+use Rattle.protocol.specs.Accepted.{stated_of}
 use Rattle.protocol.specs.Desk.{Aborted, Answered, Began, Committed, Deed, Phased, Rolled_back, Stated, Worked}
 use Rattle.protocol.specs.Language.{Name, same}
 use Rattle.protocol.specs.Letters.{txn_name}
@@ -19,7 +20,7 @@ use Rattle.world.specs.Committed.{committed_of}
 use Rattle.world.specs.Machines.{Machines, world_of}
 use Rattle.world.specs.Posted.{letters_in}
 use Rattle.world.specs.Runs.{AreTexts, IsSerialRun}
-use Rattle.world.specs.Replies.{AreStated, Tells, answer_of, answers_to, committed_in, is_told_committed, is_txn, notices_in, phased_in, says_committed, stated_of, texts_in, texts_of}
+use Rattle.world.specs.Replies.{AreStated, Tells, answer_of, answers_to, committed_in, is_told_committed, is_txn, notices_in, phased_in, says_committed, texts_in, texts_of}
 
 -- ---- small lemmas
 and_true : (b : Bool) → (b && true) ≡ b

@@ -1,5 +1,5 @@
 -- What calls leave of the machines, one after another.
-use Rattle.std.proofs.Common.{◌≡◌, ◌∙◌, refl, ℕ}
+use Rattle.std.proofs.Common.{◌∙◌, refl, ℕ}
 use Rattle.world.specs.declared.machines.Machines as code
 use Rattle.world.specs.Counted.{counts}
 use Rattle.world.specs.Frame.{LeavesMachines}

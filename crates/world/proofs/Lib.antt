@@ -47,7 +47,11 @@ pub mod Sited
 pub mod EndsTold
 pub mod Quieting
 pub mod StatementEnds
-pub mod StandingAgain
+pub mod Moves
+pub mod Standing
+pub mod Outcomes
+pub mod Calls
+pub mod Lone
 pub mod Batches
 pub mod BatchTold
 pub mod BatchRuns

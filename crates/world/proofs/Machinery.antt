@@ -4,7 +4,6 @@ use Rattle.std.specs.List.{flat_map}
 use Rattle.std.proofs.lemmas.List.{append-nil}
 use Rattle.store.specs.declared.letter.Body as bodies
 use Rattle.store.specs.declared.letter.Body.TheVariants as body
-use Rattle.store.specs.declared.order.Order.TheVariants as order
 use Rattle.store.specs.declared.reply.Reply as replies
 use Rattle.store.specs.declared.reply.Reply.TheVariants as reply_kinds
 use Rattle.store.specs.declared.letter.Letter as letters
@@ -16,7 +15,7 @@ use Rattle.desk.specs.Recovery.{Restarts}
 use Rattle.protocol.specs.Language.{Name}
 use Rattle.protocol.specs.StatementCourse.{passes, passes_to}
 use Rattle.protocol.specs.Desk.{Began, Choice, Desk, Known, Row, Txn, Unknown, desk_restarted, next_txn, txn_restarted, Deed, Request, Transition, desk_after, desk_began, is_desk_within, on_desk_letter, on_request, refusal}
-use Rattle.protocol.specs.Letter.{Letter, is_for_desk}
+use Rattle.protocol.specs.Letter.{Letter}
 use Rattle.protocol.specs.Letters.{body_of, kept_in, letter_of, name_of, txn_name}
 use Rattle.protocol.specs.Serial.{AllExplained}
 use Rattle.protocol.specs.Site.{Act, SiteState, inquiries, is_within, on_give_up, on_letter, said, site_after, site_restarted}

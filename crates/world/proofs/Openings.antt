@@ -31,10 +31,10 @@ use Rattle.desk.specs.State.{txn_at}
 use Rattle.site.specs.declared.tickets.TicketState as standings
 use Rattle.site.specs.declared.tickets.TicketState.TheVariants as standing
 use Rattle.site.specs.Recovery.{resting}
-use Rattle.site.specs.State.{stands, state_of, txn_in, visiting}
+use Rattle.site.specs.State.{stands, txn_in, visiting}
 use Rattle.world.specs.Machines.{AreFit, HasItsLeaves, Machines, world_of}
 use Rattle.world.specs.Placed.{IsPlaced, Opens}
-use Rattle.world.specs.Start.{AllStarted, IsStarted}
+use Rattle.world.specs.Start.{AllStarted, IsAtRest, IsStarted}
 use Rattle.world.specs.Sites.{Seat, is_called, nobody, seat_of, state_at, states_of}
 use Rattle.world.proofs.FilledLeaves.{leaf_filled, none_filled, same_test}
 use Rattle.world.proofs.Seating.{name_is, name_self, state_there}
@@ -141,22 +141,22 @@ module _ (db : Database) (c : Catalogue) (whole : Relations) (distinct : AreDist
     all_have_theirs (suc place) names seats all.1 (λ i name got. subst (λ p. slice_get db.sites p ≡ Some name) (let e : place + suc i ≡ suc place + i = omega arith in e) (there (suc i) name got)),
   )
 
--- ---- a site that has started is at rest
-module _ (S : Statements local) (c : Catalogue) (whole : Relations) (at : ℕ) (name : List ℕ) (seat : Seat) (started : IsStarted c whole at name seat) where
+-- ---- a site at rest has nothing in memory
+module _ (S : Statements local) (seat : Seat) (rests : IsAtRest seat) where
   stands_dead : (ticket : Ticket) → stands seat.table ticket (seat.kept.prepared ticket) ≡ Dead
-  stands_dead ticket = ap (λ (s : SiteState local). s.status (name_of ticket)) started.begins.state ∙ ap resting (started.prepared ticket)
+  stands_dead ticket = ap (λ (s : SiteState local). s.status (name_of ticket)) rests.begins.state ∙ ap resting (rests.prepared ticket)
 
   dead : (k : Name) → (state_at S seat).status k ≡ Dead
   dead k = ap (status_with S) (stands_dead (ticket_of k))
 
   nobody_listed : (ticket : Ticket) → In ticket seat.table.tickets → ⊥
-  nobody_listed ticket here = go (seat.table.standing ticket) refl (started.begins.fits.lives ticket here)
+  nobody_listed ticket here = go (seat.table.standing ticket) refl (rests.begins.fits.lives ticket here)
     where
       go : (o : Option standings.TicketState) → seat.table.standing ticket ≡ o → is_some (seat.table.standing ticket) ≡ true → ⊥
       go None e some = let no : is_some (seat.table.standing ticket) ≡ false = ap is_some e in absurd cc
-      go (Some (standing.Prepared t)) e some = let has : txn_in (seat.table.standing ticket) ≡ Some t = ap txn_in e in let none : txn_in (seat.table.standing ticket) ≡ None = started.begins.fits.prepared ticket ∙ ap (λ r. Rattle.std.specs.Option.option_map (λ row. row.txn) r) (started.prepared ticket) in absurd cc
+      go (Some (standing.Prepared t)) e some = let has : txn_in (seat.table.standing ticket) ≡ Some t = ap txn_in e in let none : txn_in (seat.table.standing ticket) ≡ None = rests.begins.fits.prepared ticket ∙ ap (λ r. Rattle.std.specs.Option.option_map (λ row. row.txn) r) (rests.prepared ticket) in absurd cc
       go (Some (standing.Active v)) e some =
-          let is : visiting seat.table.locks ticket (Some (standing.Active v)) ≡ Dead = ap (visiting seat.table.locks ticket) (sym e) ∙ ap (stands seat.table ticket) (sym (started.prepared ticket)) ∙ stands_dead ticket in absurd cc
+          let is : visiting seat.table.locks ticket (Some (standing.Active v)) ≡ Dead = ap (visiting seat.table.locks ticket) (sym e) ∙ ap (stands seat.table ticket) (sym (rests.prepared ticket)) ∙ stands_dead ticket in absurd cc
 
   none_known : (state_at S seat).known ≡ []
   none_known = go seat.table.tickets nobody_listed
@@ -174,57 +174,71 @@ at_each S P (seat ∷ seats) none all a = go (is_called a seat) (at_each S P sea
     go true later = all.0
     go false later = later
 
--- ---- the whole world
-module _ (db : Database) (c : Catalogue) (whole : Relations) (machines : Machines) (distinct : AreDistinct db.sites) (own : HaveOwnNames (catalogue_leaves c)) (places : IsPlaced db c whole)
-    (started : AllStarted c whole 0 db.sites machines.seats) (rises : desk_starting.Rises db machines.desk machines.table) (none : (txn : txns.Txn) → machines.desk.commits txn ≡ None) where
+-- ---- the whole world, where all sites are at rest
+-- map: something of each site, from something of each
+all_so : {P Q : Seat → Type 0} (seats : List Seat) → ((seat : Seat) → P seat → Q seat) → AllByRecursion P seats → AllByRecursion Q seats
+all_so [] so all = tt
+all_so (seat ∷ seats) so all = (so seat all.0, all_so seats so all.1)
+
+-- the contents of its sites are those of whole relations
+module _ (db : Database) (whole : Relations) (machines : Machines) (is_whole : (language db).IsWhole whole) (names : map (λ seat. seat.name) machines.seats ≡ db.sites) (leaves : AllByRecursion (HasItsLeaves db) machines.seats) (rest : AllByRecursion IsAtRest machines.seats)
+    (keeps : (name : Leaf) → (states_of (statements db) machines.seats (db.home name)).kept name ≡ db.content name whole) (rises : desk_starting.Rises db machines.desk machines.table) (none : (txn : txns.Txn) → machines.desk.commits txn ≡ None) where
   abbrev S : Statements local
   S = statements db
 
-  opened_fit : AreFit db machines
-  opened_fit = record {
-    names = started_names c whole 0 db.sites machines.seats started;
-    leaves = all_have_theirs db c whole distinct places 0 db.sites machines.seats started (λ i name got. subst (λ p. slice_get db.sites p ≡ Some name) (let e : i ≡ 0 + i = omega arith in e) got);
+  rested_fit : AreFit db machines
+  rested_fit = record {
+    names = names;
+    leaves = leaves;
     desk = rises.fits;
     within = rises.within;
-    sites = started_all (λ seat. Rattle.site.specs.State.Fits seat.kept seat.table) c whole 0 db.sites machines.seats (λ at name seat is. is.begins.fits) started;
+    sites = all_so machines.seats (λ seat rests. rests.begins.fits) rest;
   }
 
   nothing_stands : (txn : txns.Txn) → machines.table.standing txn ≡ None
-  nothing_stands txn = rises.stands txn ∙ ap desk_starting.resting (none txn)
+  nothing_stands txn = rises.stands txn ∙ ap (desk_starting.resting db.sites) (none txn)
 
   no_names : (names : List txns.Txn) → ((txn : txns.Txn) → In txn names → is_some (machines.table.standing txn) ≡ true) → map txn_name names ≡ []
   no_names [] lives = refl
   no_names (txn ∷ names) lives = let some = lives txn (inl refl) in let no : is_some (machines.table.standing txn) ≡ false = ap is_some (nothing_stands txn) in absurd cc
 
-  keeps_its : (name : Leaf) → (states_of S machines.seats (db.home name)).kept name ≡ db.content name whole
+  rested_world : IsOpening whole (world_of db machines [] [])
+  rested_world = record {
+    is_whole = is_whole;
+    letters = refl;
+    past = refl;
+    visits = at_each S (λ s. (k : Name) → s.status k ≡ Dead) machines.seats (λ k. refl) (all_so machines.seats (λ seat rests. dead S seat rests) rest);
+    tickets = at_each S (λ s. s.known ≡ []) machines.seats refl (all_so machines.seats (λ seat rests. none_known S seat rests) rest);
+    undecided = λ t. ap (txn_of db) (nothing_stands (txn_at t));
+    names = no_names machines.table.txns rises.fits.lives;
+    rebuilt = keeps;
+  }
+
+  pub opens_at_rest : Opens db whole machines
+  opens_at_rest = record { fit = rested_fit; opening = rested_world }
+
+-- ---- where all sites have started
+module _ (db : Database) (c : Catalogue) (whole : Relations) (machines : Machines) (distinct : AreDistinct db.sites) (own : HaveOwnNames (catalogue_leaves c)) (places : IsPlaced db c whole)
+    (started : AllStarted c whole 0 db.sites machines.seats) (rises : desk_starting.Rises db machines.desk machines.table) (none : (txn : txns.Txn) → machines.desk.commits txn ≡ None) where
+  keeps_its : (name : Leaf) → (states_of (statements db) machines.seats (db.home name)).kept name ≡ db.content name whole
   keeps_its name = go (leaf_named name (catalogue_leaves c)) refl
     where
-      go : (o : Option FragmentLeaf) → leaf_named name (catalogue_leaves c) ≡ o → (states_of S machines.seats (db.home name)).kept name ≡ db.content name whole
+      go : (o : Option FragmentLeaf) → leaf_named name (catalogue_leaves c) ≡ o → (states_of (statements db) machines.seats (db.home name)).kept name ≡ db.content name whole
       go None e =
-          at_each S (λ s. s.kept name ≡ fin.empty) machines.seats refl
-          (started_all (λ seat. (state_at S seat).kept name ≡ fin.empty) c whole 0 db.sites machines.seats (λ at site seat is. is.content name ∙ none_filled whole at (catalogue_leaves c) name fin.empty e) started) (db.home name)
+          at_each (statements db) (λ s. s.kept name ≡ fin.empty) machines.seats refl
+          (started_all (λ seat. (state_at (statements db) seat).kept name ≡ fin.empty) c whole 0 db.sites machines.seats (λ at site seat is. is.content name ∙ none_filled whole at (catalogue_leaves c) name fin.empty e) started) (db.home name)
           ∙ sym (places.nowhere name e)
       go (Some leaf) e =
           let here = found_at c whole 0 db.sites machines.seats leaf.site (db.home name) started distinct (places.home name leaf e) in
-          ap (λ (s : SiteState (language db)). s.kept name) (state_there S (db.home name) machines.seats here.seat here.there)
+          ap (λ (s : SiteState (language db)). s.kept name) (state_there (statements db) (db.home name) machines.seats here.seat here.there)
           ∙ here.started.content name
           ∙ leaf_filled whole (0 + leaf.site) (catalogue_leaves c) name leaf fin.empty own e (let n : leaf.site ≡ 0 + leaf.site = omega arith in n)
           ∙ sym (places.has name leaf e)
 
-  opened_world : IsOpening whole (world_of db machines [] [])
-  opened_world = record {
-    is_whole = places.fits;
-    letters = refl;
-    past = refl;
-    visits = at_each S (λ s. (k : Name) → s.status k ≡ Dead) machines.seats (λ k. refl) (started_all (λ seat. (k : Name) → (state_at S seat).status k ≡ Dead) c whole 0 db.sites machines.seats (λ at name seat is. dead S c whole at name seat is) started);
-    tickets = at_each S (λ s. s.known ≡ []) machines.seats refl (started_all (λ seat. (state_at S seat).known ≡ []) c whole 0 db.sites machines.seats (λ at name seat is. none_known S c whole at name seat is) started);
-    undecided = λ t. ap (txn_of db) (nothing_stands (txn_at t));
-    names = no_names machines.table.txns rises.fits.lives;
-    rebuilt = keeps_its;
-  }
-
   pub opens : Opens db whole machines
-  opens = record { fit = opened_fit; opening = opened_world }
+  opens = opens_at_rest db whole machines places.fits (started_names c whole 0 db.sites machines.seats started)
+      (all_have_theirs db c whole distinct places 0 db.sites machines.seats started (λ i name got. subst (λ p. slice_get db.sites p ≡ Some name) (let e : i ≡ 0 + i = omega arith in e) got))
+      (started_all IsAtRest c whole 0 db.sites machines.seats (λ at name seat is. is.rests) started) keeps_its rises none
 
 -- of the sites of the code and their catalogue
 pub opens_of : (db : Database) (c : Catalogue) (whole : Relations) (machines : Machines) → IsFormed c → IsPlaced db c whole → AllStarted c whole 0 c.sites machines.seats → desk_starting.Rises db machines.desk machines.table → ((txn : txns.Txn) → machines.desk.commits txn ≡ None) → Opens db whole machines

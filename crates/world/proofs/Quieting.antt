@@ -1,5 +1,5 @@
 -- After a commit or a rollback of one client all is quiet again, whatever becomes of its letters.
-use Rattle.std.proofs.Common.{◌≡◌, refl, sym, ap, ◌∙◌, subst, Bool, true, false, List, [], ◌∷◌, ◌++◌, inr, append-nil, ℕ, Option, is_none}
+use Rattle.std.proofs.Common.{◌≡◌, refl, sym, ap, ◌∙◌, subst, Bool, true, false, List, [], ◌∷◌, ◌++◌, inr, append-nil, Option, is_none}
 use Rattle.terms.specs.declared.leaf.Leaf.{Leaf}
 use Rattle.store.specs.Content.{Content}
 use Rattle.protocol.specs.Client.{IsQuiet, first}
@@ -9,19 +9,17 @@ use Rattle.protocol.specs.Desk.{Choice, Deed, Give_up, Idle, Known, Reading, Row
 use Rattle.protocol.specs.Language.{IsLawful, Lang, Name, same}
 use Rattle.protocol.specs.AfterAbort.{EndKept, Ending, LeavingAt, Within}
 use Rattle.protocol.specs.Letter.{Body, Letter, Vote, Yes, No, Read, Open, Fetch, Write, Prepare, Commit, Abort, Ticket, Rows, Refused, Voted, Ack, Inquire, is_for_desk}
-use Rattle.protocol.specs.Letters.{body_of}
 use Rattle.protocol.specs.VisitPlaces.{at}
-use Rattle.protocol.specs.Statements.{body_with}
 use Rattle.protocol.specs.World.{World, called, turned, turns}
 use Rattle.protocol.proofs.AtSite.{head_is}
 use Rattle.protocol.proofs.Basics.{Every, clash, either, put_all, same_law}
 use Rattle.protocol.proofs.Committing.{commit_ends, commit_goes_on, commit_starts}
-use Rattle.protocol.proofs.Ended.{by_site, desk_no_end, ending_goes_on, ending_quiet, in_front}
+use Rattle.protocol.proofs.Ended.{by_site, ending_goes_on, ending_quiet, in_front}
 use Rattle.protocol.proofs.AfterAbort.{NoEnd, leaving_lost}
 use Rattle.protocol.proofs.Limits.{OfTheEnd, called_within, next_within, turn_within}
 use Rattle.protocol.proofs.Locks.{Once}
-use Rattle.desk.specs.Database.{Database, language, sent, statements}
-use Rattle.world.specs.Delivery.{Coming, Passed_over, Taken, Turned_away, all_come, come, first_comes}
+use Rattle.desk.specs.Database.{Database, language}
+use Rattle.protocol.specs.Delivery.{AllFounded, Coming, FirstIsFounded, IsFounded, Passed_over, Taken, Turned_away, all_come, come, first_comes}
 use Rattle.meaning.specs.Whole.{Relations}
 use Rattle.protocol.specs.Desk.{Aborted, Commit_call, Committed, Phased, Rollback}
 use Rattle.protocol.specs.WithoutRefusal.{Ready}
@@ -31,8 +29,7 @@ use Rattle.world.specs.Mailbox.{Serves, To_do}
 use Rattle.world.specs.Client.{IsServed}
 use Rattle.world.specs.Smoothly.{rests}
 use Rattle.world.proofs.Smoothly.{fit_within}
-use Rattle.world.specs.Machines.{Machines, is_order, world_of}
-use Rattle.world.specs.Reasons.{AllFounded, FirstIsFounded, IsFounded}
+use Rattle.world.specs.Machines.{Machines}
 use Rattle.world.proofs.CallsKept.{end_kept}
 use Rattle.world.proofs.Reasoned.{end_passes}
 use Rattle.world.proofs.Sited.{Sited, called_sited, come_sited, first_is_sited, not_passed, steady_sited}
@@ -107,7 +104,7 @@ module _ (db : Database) where
   IsBallot (Voted k x) = Unit {0}
   IsBallot said = ⊥
 
-  ballot_taken : (w : World L) (l : Letter L) (choice : Choice L) → Within w → IsFounded db w (Turned_away choice) l → IsBallot l.body → (is_for_desk l.body ≡ true → (other : Choice L) → passes w true other l ≡ true) → ⊥
+  ballot_taken : (w : World L) (l : Letter L) (choice : Choice L) → Within w → IsFounded w (Turned_away choice) l → IsBallot l.body → (is_for_desk l.body ≡ true → (other : Choice L) → passes w true other l ≡ true) → ⊥
   ballot_taken w l choice within limit is goes = go l.body refl is
     where
       go : (c : Body L) → l.body ≡ c → IsBallot c → ⊥
@@ -125,7 +122,7 @@ module _ (db : Database) where
       go (Inquire k) e ballot = ballot
 
   -- no Commit and no Abort is turned away
-  pub turned_no_end : (w : World L) (l : Letter L) (choice : Choice L) → Within w → IsFounded db w (Turned_away choice) l → NoEnd l.body
+  pub turned_no_end : (w : World L) (l : Letter L) (choice : Choice L) → Within w → IsFounded w (Turned_away choice) l → NoEnd l.body
   turned_no_end w l choice within limit = go l.body refl
     where
       go : (c : Body L) → l.body ≡ c → NoEnd c
@@ -154,11 +151,11 @@ module _ (db : Database) where
     pub lost_within : (w : World L) (q : List (Letter L)) → Within w → Within (record w { letters = q })
     lost_within w q within = record { desk = within.desk; sites = within.sites }
 
-    pub kept_end_of : (w : World L) (kept : Bool) (choice : Choice L) (l : Letter L) → IsFounded db w (Taken kept choice) l → EndKept kept l.body
+    pub kept_end_of : (w : World L) (kept : Bool) (choice : Choice L) (l : Letter L) → IsFounded w (Taken kept choice) l → EndKept kept l.body
     kept_end_of w kept choice l founded = end_kept kept l.body founded.1
 
     module _ (deeds : List (Deed L)) where
-      one_ended : (w : World L) (c : Coming L) (letters : List (Letter L)) → w.letters ≡ letters → Within w → Sited w → FirstIsFounded db w c letters → Ending deeds w → Within (first_comes w c letters) × Ending deeds (first_comes w c letters)
+      one_ended : (w : World L) (c : Coming L) (letters : List (Letter L)) → w.letters ≡ letters → Within w → Sited w → FirstIsFounded w c letters → Ending deeds w → Within (first_comes w c letters) × Ending deeds (first_comes w c letters)
       one_ended w c [] e within sited founded here = (within, here)
       one_ended w (Taken kept choice) (l ∷ q) e within sited founded here = (
         subst (λ (letters : List (Letter L)). Within (first w kept choice letters)) e (next_within law w kept choice within),
@@ -170,7 +167,7 @@ module _ (db : Database) where
       )
       one_ended w Passed_over (l ∷ q) e within sited founded here = absurd (not_passed db law w l (first_is_sited w l q e sited) founded)
 
-      all_ended : (cs : List (Coming L)) (w : World L) → Within w → Sited w → AllFounded db cs w → Ending deeds w → Ending deeds (all_come cs w)
+      all_ended : (cs : List (Coming L)) (w : World L) → Within w → Sited w → AllFounded cs w → Ending deeds w → Ending deeds (all_come cs w)
       all_ended [] w within sited founded here = here
       all_ended (c ∷ cs) w within sited founded here =
           let one = one_ended w c w.letters refl within sited founded.0 here in
@@ -196,7 +193,7 @@ module _ (db : Database) where
       Commits w = Committing (Unit {0}) txn before w
 
       -- no ballot is turned away while votes are awaited
-      not_turned : (w : World L) (l : Letter L) (q : List (Letter L)) → w.letters ≡ l ∷ q → Within w → (choice : Choice L) → IsFounded db w (Turned_away choice) l → InVote (Unit {0}) txn before w → ⊥
+      not_turned : (w : World L) (l : Letter L) (q : List (Letter L)) → w.letters ≡ l ∷ q → Within w → (choice : Choice L) → IsFounded w (Turned_away choice) l → InVote (Unit {0}) txn before w → ⊥
       not_turned w l q e within choice founded vote = by_ballot (subst (Ballot (Unit {0}) (w.sites l.site).status (vote.u.visited l.site) (vote.u.ticket l.site) (vote.votes l.site)) (ap (at l.site) e ∙ in_front law l q) (vote.ballots l.site))
         where
           own : l.txn ≡ txn
@@ -212,12 +209,12 @@ module _ (db : Database) where
               let is : l.body ≡ Voted k x = head_is l.body (Voted k x) (at l.site q) [] waits in
               ballot_taken w l choice within founded (subst IsBallot (sym is) tt) (λ to_desk other. vote_taken w true other l k x vote.u is (ap w.desk.txn own ∙ vote.known) within.desk)
 
-      given_up : (w : World L) (l : Letter L) (q : List (Letter L)) → w.letters ≡ l ∷ q → Within w → (choice : Choice L) → IsFounded db w (Turned_away choice) l → Commits w → Commits (called (record w { letters = q }) l.txn choice Give_up)
+      given_up : (w : World L) (l : Letter L) (q : List (Letter L)) → w.letters ≡ l ∷ q → Within w → (choice : Choice L) → IsFounded w (Turned_away choice) l → Commits w → Commits (called (record w { letters = q }) l.txn choice Give_up)
       given_up w l q e within choice founded (in_vote vote) = absurd (not_turned w l q e within choice founded vote)
       given_up w l q e within choice founded (is_done ending) = is_done (ended_gives_up l.txn (record w { letters = q }) choice (before ++ Phased txn ∷ Committed txn ∷ []) (ending_lost (before ++ Phased txn ∷ Committed txn ∷ []) w l q e (turned_no_end w l choice within founded) ending))
       given_up w l q e within choice founded (is_undone excuse why ending) = is_undone excuse why (ended_gives_up l.txn (record w { letters = q }) choice (before ++ Phased txn ∷ Aborted txn why ∷ []) (ending_lost (before ++ Phased txn ∷ Aborted txn why ∷ []) w l q e (turned_no_end w l choice within founded) ending))
 
-      one_voted : (w : World L) (c : Coming L) (letters : List (Letter L)) → w.letters ≡ letters → Within w → Sited w → FirstIsFounded db w c letters → Commits w → Within (first_comes w c letters) × Commits (first_comes w c letters)
+      one_voted : (w : World L) (c : Coming L) (letters : List (Letter L)) → w.letters ≡ letters → Within w → Sited w → FirstIsFounded w c letters → Commits w → Within (first_comes w c letters) × Commits (first_comes w c letters)
       one_voted w c [] e within sited founded here = (within, here)
       one_voted w (Taken kept choice) (l ∷ q) e within sited founded here = (
         subst (λ (letters : List (Letter L)). Within (first w kept choice letters)) e (next_within law w kept choice within),
@@ -226,7 +223,7 @@ module _ (db : Database) where
       one_voted w (Turned_away choice) (l ∷ q) e within sited founded here = (called_within (record w { letters = q }) l.txn choice Give_up (lost_within w q within), given_up w l q e within choice founded here)
       one_voted w Passed_over (l ∷ q) e within sited founded here = absurd (not_passed db law w l (first_is_sited w l q e sited) founded)
 
-      all_voted : (cs : List (Coming L)) (w : World L) → Within w → Sited w → AllFounded db cs w → Commits w → Commits (all_come cs w)
+      all_voted : (cs : List (Coming L)) (w : World L) → Within w → Sited w → AllFounded cs w → Commits w → Commits (all_come cs w)
       all_voted [] w within sited founded here = here
       all_voted (c ∷ cs) w within sited founded here =
           let one = one_voted w c w.letters refl within sited founded.0 here in

@@ -32,7 +32,7 @@ use Rattle.site.specs.declared.fault.SiteFault as site_faults
 use Rattle.site.specs.declared.fault.SiteFault.TheVariants as site_fault
 use Rattle.site.specs.declared.locks.Locks.{Locks}
 use Rattle.site.specs.Refusals as site
-use Rattle.site.specs.Recovery.{leaves_in}
+use Rattle.site.specs.Locks.{leaves_in}
 use Rattle.site.specs.State.{state_of}
 use Rattle.site.proofs.Limited.{fits_within}
 use Rattle.desk.specs.declared.refusal.Refusal as refusals

@@ -50,7 +50,7 @@ use Rattle.desk.specs.Planned.{IsOfPlan, asked, fetched, site_in}
 use Rattle.desk.specs.Transaction.{ask_of}
 use Rattle.desk.proofs.AtHomes.{found_so}
 use Rattle.desk.proofs.Explaining.{are_brought}
-use Rattle.world.specs.Base.{IsBase, content_of, database, found, site_of}
+use Rattle.desk.specs.CatalogueDatabase.{IsBase, content_of, database, found, site_of}
 use Rattle.world.specs.Machines.{AreFit, Machines}
 use Rattle.world.specs.Sites.{Seat, seat_of, states_of}
 use Rattle.world.specs.Settled.{AreDecided, AreThoseOf, brought_of, everything, parts_kept, settled_at, settled_in}

@@ -1,5 +1,5 @@
 -- Why events are refused: what machines and their stores tell is the event's reason.
-use Rattle.std.proofs.Common.{◌≡◌, ◌≢◌, ◌≤◌, ◌+◌, ◌^◌, ◌⊎◌, refl, sym, ap, subst, ◌∙◌, ℕ, Bool, false, true, List, Some, Result, Ok, Err, IfErr, IfSome, OnErr, inl, inr, ⊎_elim, slice_get}
+use Rattle.std.proofs.Common.{◌≡◌, ◌≢◌, ◌≤◌, ◌+◌, ◌^◌, ◌⊎◌, refl, sym, ap, subst, ℕ, Bool, false, true, List, Some, Result, Ok, Err, IfErr, IfSome, OnErr, inl, inr, ⊎_elim, slice_get}
 use Rattle.std.specs.Prelude.{⊤}
 use Rattle.store.specs.declared.fault.StoreFault.TheVariants as store_faults
 use Rattle.store.specs.declared.letter.Letter.{Letter}
@@ -82,18 +82,18 @@ first_fails result S R what kept first seat same why = subst (λ (s : Seat). IfE
 desk_unchanged : (old new : of_desk.DeskContent) → of_desk.IsUnchanged old new → new ≡ old
 desk_unchanged old new same i = record { commits = λ txn. same.commits txn i; life = same.life i; version = same.version i }
 
-pub desk_fails : {T : Type 0} (result : Result T Refusal) (S R : Type 0) (kept : Bool) (before after : of_desk.DeskContent) →
+pub desk_fails : {T : Type 0} (result : Result T Refusal) (S R : Type 0) (kept : Bool) (sites : List (List ℕ)) (before after : of_desk.DeskContent) →
     IfErr result (λ told. (told ≡ refusals.Memory) ⊎ (told ≡ refusals.Full) ⊎ (told ≡ refusals.Store store_faults.Refused) ⊎ (told ≡ refusals.Store store_faults.Damaged)) →
-    (result ≡ Err (refusals.Store store_faults.Refused) → (kept ≡ false) ⊎ R) → (S → result ≡ Err (refusals.Store store_faults.Damaged) → desk.IsStrange after) → (S → result ≡ Err refusals.Full → 2 ^ 63 ≤ after.life + 1) →
-    (S → OnErr result (of_desk.IsUnchanged before after)) → IfErr result (DeskRestartTells S R kept before)
-desk_fails (Ok done) S R kept before after own refusal damaged full same = tt
-desk_fails {T} (Err told) S R kept before after own refusal damaged full same = go own
+    (result ≡ Err (refusals.Store store_faults.Refused) → (kept ≡ false) ⊎ R) → (S → result ≡ Err (refusals.Store store_faults.Damaged) → desk.IsStrange sites after) → (S → result ≡ Err refusals.Full → 2 ^ 63 ≤ after.life + 1) →
+    (S → OnErr result (of_desk.IsUnchanged before after)) → IfErr result (DeskRestartTells S R kept sites before)
+desk_fails (Ok done) S R kept sites before after own refusal damaged full same = tt
+desk_fails {T} (Err told) S R kept sites before after own refusal damaged full same = go own
   where
-    go : (told ≡ refusals.Memory) ⊎ (told ≡ refusals.Full) ⊎ (told ≡ refusals.Store store_faults.Refused) ⊎ (told ≡ refusals.Store store_faults.Damaged) → DeskRestartTells S R kept before told
-    go (inl memory) = subst (DeskRestartTells S R kept before) (sym memory) tt
-    go (inr (inl limit)) = subst (DeskRestartTells S R kept before) (sym limit) (λ so. subst (λ (n : ℕ). 2 ^ 63 ≤ n + 1) (same so).life (full so (ap Err limit)))
-    go (inr (inr (inl refused))) = subst (DeskRestartTells S R kept before) (sym refused) (refusal (ap Err refused))
-    go (inr (inr (inr strange))) = subst (DeskRestartTells S R kept before) (sym strange) (λ so. subst desk.IsStrange (desk_unchanged before after (same so)) (damaged so (ap Err strange)))
+    go : (told ≡ refusals.Memory) ⊎ (told ≡ refusals.Full) ⊎ (told ≡ refusals.Store store_faults.Refused) ⊎ (told ≡ refusals.Store store_faults.Damaged) → DeskRestartTells S R kept sites before told
+    go (inl memory) = subst (DeskRestartTells S R kept sites before) (sym memory) tt
+    go (inr (inl limit)) = subst (DeskRestartTells S R kept sites before) (sym limit) (λ so. subst (λ (n : ℕ). 2 ^ 63 ≤ n + 1) (same so).life (full so (ap Err limit)))
+    go (inr (inr (inl refused))) = subst (DeskRestartTells S R kept sites before) (sym refused) (refusal (ap Err refused))
+    go (inr (inr (inr strange))) = subst (DeskRestartTells S R kept sites before) (sym strange) (λ so. subst (desk.IsStrange sites) (desk_unchanged before after (same so)) (damaged so (ap Err strange)))
 
 -- what the coordinator tells is told on
 pub by_desk_err : (P : Fault → Type 0) (done : Result Out Refusal) (result : Result Out Fault) → result ≡ told_by_desk done → IfErr done (λ why. P (fault.Desk why)) → IfErr result P
@@ -109,9 +109,9 @@ module _ (Sound : Type 0) (db : Database) (before after : Machines) (entries : L
   call_refused (Err told) asked why = ⊎_elim (λ memory. inl (ap fault.Desk memory)) (λ refused. inr (inr (told, (refl, refused)))) why
 
   -- a restart of the coordinator
-  pub desk_refused : (done : Result Out Refusal) (kept : Bool) → IfErr done (DeskRestartTells Sound (HaveRefused before.refused after.refused) kept before.desk) → IfErr done (λ why. IsRefusedFor Sound db before after entries (event.DeskRestarts kept) (fault.Desk why))
-  desk_refused (Ok out) kept why = tt
-  desk_refused (Err told) kept why = inr (inr (told, (refl, why)))
+  pub desk_refused : (done : Result Out Refusal) (kept : Bool) (sites : List (List ℕ)) → db.sites ≡ sites → IfErr done (DeskRestartTells Sound (HaveRefused before.refused after.refused) kept sites before.desk) → IfErr done (λ why. IsRefusedFor Sound db before after entries (event.DeskRestarts kept) (fault.Desk why))
+  desk_refused (Ok out) kept sites is why = tt
+  desk_refused (Err told) kept sites is why = inr (inr (told, (refl, subst (λ (s : List (List ℕ)). DeskRestartTells Sound (HaveRefused before.refused after.refused) kept s before.desk told) (sym is) why)))
 
   -- what is done at a site
   pub place_refused : (what : doing.SiteAction) (kept : Bool) (at : events.Event) (seat : Seat) (told : site_faults.SiteFault) → IsAtSite what kept at → seat_of (place_of what) before.seats ≡ Some seat →
@@ -147,7 +147,7 @@ module _ (Sound : Type 0) (db : Database) (before after : Machines) (entries : L
   own_soundly (event.SiteRestarts place kept) told so why = record { seat = why.seat; there = why.there; why = why.why; is = why.is; tells = restarts_so Sound (HaveRefused before.refused after.refused) ⊤ (HaveRefused before.refused after.refused) (λ any. so) (λ more. more) kept why.seat why.why why.tells }
   own_soundly (event.DeskRestarts kept) told so why = (why.0, (why.1.0, go why.0 why.1.1))
     where
-      go : (told : Refusal) → DeskRestartTells Sound (HaveRefused before.refused after.refused) kept before.desk told → DeskRestartTells ⊤ (HaveRefused before.refused after.refused) kept before.desk told
+      go : (told : Refusal) → DeskRestartTells Sound (HaveRefused before.refused after.refused) kept db.sites before.desk told → DeskRestartTells ⊤ (HaveRefused before.refused after.refused) kept db.sites before.desk told
       go refusals.Memory why = tt
       go refusals.Full why = λ any. why so
       go (refusals.Store store_faults.Refused) why = why

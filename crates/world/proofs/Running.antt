@@ -6,7 +6,6 @@ use Rattle.std.specs.List.{AllByRecursion, list_any}
 use Rattle.meaning.specs.Whole.{Relations}
 use Rattle.store.specs.declared.letter.Letter as letters
 use Rattle.store.specs.declared.name.Txn as names
-use Rattle.meaning.specs.declared.answer.Answer.TheVariants.{Exists}
 use Rattle.reader.specs.Printable.{AreDistinct}
 use Rattle.catalog.specs.declared.relation.SplitRelation.{SplitRelation}
 use Rattle.catalog.specs.Catalogue.{Catalogue}
@@ -35,7 +34,8 @@ use Rattle.world.specs.Events.{IsEvent}
 use Rattle.world.specs.EventApplied.{IsAtSite, told_by_desk}
 use Rattle.world.specs.Machines.{Asked, Came, Leads, Machines, happens_at, world_of}
 use Rattle.world.specs.Posted.{letters_in}
-use Rattle.world.specs.Runs.{IsAccepted, IsRun, IsSpared, Spares, StepsOn, entry_of}
+use Rattle.protocol.specs.Accepted.{IsAccepted}
+use Rattle.world.specs.Runs.{IsRun, IsSpared, Spares, StepsOn, entry_of}
 use Rattle.world.specs.Taking.{CameUnless}
 use Rattle.world.proofs.Reasoned.{same_passes}
 use Rattle.world.specs.Seated.{place_of}

@@ -3,6 +3,7 @@ use Rattle.std.proofs.Common.{◌≡◌, refl, sym, ap, ◌∙◌, ℕ, Bool, tr
 use Rattle.terms.specs.declared.leaf.Leaf.{Leaf}
 use Rattle.store.specs.declared.commit.CommitRow.{CommitRow}
 use Rattle.store.specs.declared.commit.DeskKept.{DeskKept}
+use Rattle.store.specs.declared.commit.Voter.{Voter}
 use Rattle.store.specs.declared.name.Ticket.{Ticket}
 use Rattle.store.specs.declared.name.Txn.{Txn}
 use Rattle.store.specs.declared.prepared.Prepared.{Prepared}
@@ -18,7 +19,7 @@ use Rattle.site.specs.declared.site.Site.{Site}
 use Rattle.site.specs.declared.tickets.TicketState as site_standings
 use Rattle.site.specs.declared.tickets.TicketState.TheVariants as at_site
 use Rattle.site.specs.Settled.{is_among, with_all, with_some}
-use Rattle.site.specs.Recovery.{leaves_in}
+use Rattle.site.specs.Locks.{leaves_in}
 use Rattle.site.specs.State as site_state
 use Rattle.desk.specs.declared.transaction.TxnState as desk_standings
 use Rattle.desk.specs.declared.transaction.TxnState.TheVariants as at_desk
@@ -51,8 +52,12 @@ listed_among (row ∷ rows) txn =
     go true later = refl
     go false later = later
 
+is_some_list : (found : Option (List Voter)) → is_some (option_map of_desk.by_site found) ≡ is_some found
+is_some_list None = refl
+is_some_list (Some voters) = refl
+
 pub decided_are : (db : Database) (kept after : of_desk.DeskContent) (table : desk_state.VolatileState) (all : DeskKept) → desk_state.Fits db kept table → of_desk.IsUnchanged kept after → of_desk.Lists after all → AreDecided table (map (λ row. row.txn) all.commits)
-decided_are db kept after table all fits same lists = λ txn. listed_among all.commits txn ∙ ap is_some (lists.rows txn ∙ same.commits txn ∙ sym (fits.rows txn))
+decided_are db kept after table all fits same lists = λ txn. listed_among all.commits txn ∙ sym (is_some_list (of_desk.voters_in txn all.commits)) ∙ ap is_some (lists.rows txn ∙ same.commits txn ∙ sym (fits.rows txn))
 
 -- ---- the settled fragments of a site
 module _ (db : Database) (table : desk_state.VolatileState) (decided : List Txn) (are : AreDecided table decided) (leaf : Leaf) where

@@ -1,12 +1,12 @@
 -- Which steps show a first phase, and which a statement.
 use Rattle.std.proofs.Common.{◌≡◌, refl, ap, ℕ, Bool, true, false, List, [], ◌∷◌, ◌++◌, Option, Some, None, is_some, is_none, if◌then◌else◌, map, not, ◌&&◌}
 use Rattle.std.specs.List.{flat_map, list_any, list_all}
+use Rattle.protocol.specs.Accepted.{stated_of}
 use Rattle.protocol.specs.Language.{Lang, Name, put, same}
 use Rattle.protocol.specs.Desk.{Ask, Choice, Deed, Stated, Worked, Answered, Began, Phased, Committed, Aborted, Rolled_back, Desk, State, Commit_call, Give_up, Rollback, Idle, Known, Reading, Row, Stage, Transition, Txn, Undecided, Unknown, Voting, Writing, are_acked, are_all_in, ask_of, counts, decides, is_named, is_pair, on_ack, on_commit_call, on_desk_letter, on_known, on_refused, on_request, on_rollback, on_row, on_rows, on_state, on_ticket, on_unknown, on_vote, refusal, refusal_at, states, stays, ticket_goes, txn_restarted, visits, voters_of, votes_go, with_rows, works, writes_go, writes_out, writing}
 use Rattle.protocol.specs.Letter.{Vote, Yes, No, Read, Body, Open, Fetch, Write, Prepare, Commit, Abort, Ticket, Rows, Refused, Voted, Ack, Inquire, Letter}
 use Rattle.protocol.specs.Serial.{phases_of}
 use Rattle.protocol.proofs.Basics.{either}
-use Rattle.world.specs.Replies.{stated_of}
 
 -- neither a first phase nor a statement is shown
 abbrev pub IsSilent : {L : Lang} → List (Deed L) → Type 0

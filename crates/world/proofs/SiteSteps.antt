@@ -44,7 +44,7 @@ if_both (Err e) to p q = tt
 
 -- a store that has not changed keeps the same
 pub unchanged : (old new : SiteContent) → IsUnchanged old new → new ≡ old
-unchanged old new same i = record { content = λ leaf. same.content leaf i; prepared = λ ticket. same.prepared ticket i; life = same.life i }
+unchanged old new same i = record { has = λ leaf. same.has leaf i; content = λ leaf. same.content leaf i; prepared = λ ticket. same.prepared ticket i; life = same.life i }
 
 pub seat_same : (old new : Seat) → new.name ≡ old.name → new.leaves ≡ old.leaves → new.table ≡ old.table → new.kept ≡ old.kept → new ≡ old
 seat_same old new name leaves table kept i = record { name = name i; leaves = leaves i; kept = kept i; table = table i }

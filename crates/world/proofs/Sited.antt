@@ -12,8 +12,7 @@ use Rattle.protocol.proofs.Basics.{Every, In, any_in, by_test, clash, either, ev
 use Rattle.protocol.proofs.Going.{asks_each, writes_each}
 use Rattle.protocol.proofs.Turns.{every_letter}
 use Rattle.desk.specs.Database.{Database, language}
-use Rattle.world.specs.Delivery.{Coming, Passed_over, Taken, Turned_away, first_comes}
-use Rattle.world.specs.Reasons.{IsFounded}
+use Rattle.protocol.specs.Delivery.{Coming, IsFounded, Passed_over, Taken, Turned_away, first_comes}
 
 every_found : {A B : Type 0} (P : B → Type 0) (f : A → List B) (xs : List A) → ((x : A) → In x xs → Every P (f x)) → Every P (flat_map f xs)
 every_found P f [] all = tt
@@ -282,7 +281,7 @@ module _ {L : Lang} where
       own = subst HasSited (sym steady.known) (λ a k is. steady.stands.among a (spot_visited (w.sites a).status (u.visited a) (u.ticket a) (u.sent a) (at a w.letters) k (steady.stands.spots a) is))
 
 -- no letter of a site is passed over
-pub not_passed : (db : Database) (law : IsLawful (language db)) (w : World (language db)) (l : Letter (language db)) → IsSited l → IsFounded db w Passed_over l → ⊥
+pub not_passed : (db : Database) (law : IsLawful (language db)) (w : World (language db)) (l : Letter (language db)) → IsSited l → IsFounded w Passed_over l → ⊥
 not_passed db law w l sited none = clash (any_in (λ a. (language db).same_site a l.site) l.site db.sites sited ((law.sites l.site l.site).1 refl)) none
 
 -- the oldest letter is of a site

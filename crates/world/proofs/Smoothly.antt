@@ -1,5 +1,5 @@
 -- What served machines do where all letters come smoothly.
-use Rattle.std.proofs.Common.{◌≡◌, refl, sym, ap, ◌∙◌, subst, ℕ, Bool, true, false, List, [], ◌∷◌, ◌++◌, map, if◌then◌else◌, ◌⊎◌, inl, inr, ⊎_elim}
+use Rattle.std.proofs.Common.{◌≡◌, refl, sym, ap, ◌∙◌, subst, Bool, true, false, List, [], ◌∷◌, ◌++◌, map, ◌⊎◌, inl, inr, ⊎_elim}
 use Rattle.std.specs.List.{filter_map}
 use Rattle.terms.specs.declared.leaf.Leaf.{Leaf}
 use Rattle.store.specs.Content.{Content}
@@ -9,8 +9,8 @@ use Rattle.protocol.specs.Committing.{Committing}
 use Rattle.protocol.specs.Desk.{Began, Choice, Commit_call, Committed, Deed, Phased, Rollback, Rolled_back, State, desk_began, is_desk_within, next_txn}
 use Rattle.protocol.specs.Language.{IsLawful, Name}
 use Rattle.protocol.specs.AfterAbort.{Ending, Within}
-use Rattle.protocol.specs.StatementCourse.{Room, passes, passes_to}
-use Rattle.protocol.specs.Letter.{Body, Letter, Open, Fetch, Write, Prepare, Commit, Abort, Ticket, Rows, Refused, Voted, Ack, Inquire, is_for_desk}
+use Rattle.protocol.specs.StatementCourse.{Room}
+use Rattle.protocol.specs.Letter.{Body, Letter, Open, Fetch, Write, Prepare, Commit, Abort, Ticket, Rows, Refused, Voted, Ack, Inquire}
 use Rattle.protocol.specs.Site.{Active, Dead, Prepared, SiteState, Status, Visit}
 use Rattle.protocol.specs.Serial.{AllExplained, Explained}
 use Rattle.protocol.specs.WithoutRefusal.{InCourse, IsHoused, Ready, SmoothLaw}
@@ -23,21 +23,17 @@ use Rattle.protocol.proofs.Limits.{called_within, next_within}
 use Rattle.protocol.proofs.Locks.{Once}
 use Rattle.protocol.proofs.ForgottenLetters.{reached_law}
 use Rattle.protocol.proofs.WithoutRefusal.{smooth_law}
-use Rattle.protocol.proofs.OtherStatements.{within_same}
-use Rattle.site.specs.State.{state_of}
+use Rattle.protocol.specs.Delivery.{AllFounded, AllKept, AllSmooth, FindsNoRoom, FirstHinders, FirstIsFounded, FirstIsSmooth, Hinders, IsFounded, IsKept, IsSmooth, SomeHinder}
 use Rattle.world.proofs.Reasoned.{seats_within}
 use Rattle.desk.specs.declared.reply.Notice.{Notice}
 use Rattle.desk.specs.declared.reply.Reply.TheVariants.{Begun}
-use Rattle.desk.specs.Database.{Database, language, sent, statements}
+use Rattle.desk.specs.Database.{Database, language}
 use Rattle.desk.specs.State.{desk_of, notice_of}
 use Rattle.desk.specs.Transition.{told}
-use Rattle.world.specs.Counted.{AllKept, IsKept}
 use Rattle.world.specs.Mailbox.{Ask, Coming, Passed_over, Serves, Taken, To_begin, To_do, Turned_away, all_come, asked, come, first_comes}
 use Rattle.world.specs.Machines.{AreFit, Machines, world_of}
-use Rattle.world.specs.Sites.{AreSeated, Seat, is_called, state_at, states_of}
 use Rattle.world.specs.Client.{IsServed}
-use Rattle.world.specs.Reasons.{AllFounded, FirstIsFounded, IsFounded}
-use Rattle.world.specs.Smoothly.{FindsNoRoom, FirstIsRefused, IsRefused, IsSmooth, ServesUnlessRefused, SomeRefused, AllSmooth, FirstIsSmooth, ServesSmoothly, rests}
+use Rattle.world.specs.Smoothly.{ServesUnlessRefused, ServesSmoothly, rests}
 use Rattle.world.proofs.Beginning.{all_silent}
 use Rattle.world.proofs.Reaching.{all_explained, all_reached, asked_reached}
 use Rattle.world.proofs.Running.{all_both}
@@ -61,7 +57,7 @@ module _ (db : Database) (fits : Leaf → Content → Bool) (law : IsLawful (lan
 
   -- the letters of a statement come
   module _ (txn : Name) (statement : (language db).Statement) (before : List (Deed (language db))) where
-    one_comes : (w : World (language db)) (c : Coming (language db)) (letters : List (Letter (language db))) → w.letters ≡ letters → Within w → FirstIsSmooth db w c letters → IsReached whole (first_comes w c letters) → InCourse (language db) fits txn statement before w →
+    one_comes : (w : World (language db)) (c : Coming (language db)) (letters : List (Letter (language db))) → w.letters ≡ letters → Within w → FirstIsSmooth w c letters → IsReached whole (first_comes w c letters) → InCourse (language db) fits txn statement before w →
         Within (first_comes w c letters) × InCourse (language db) fits txn statement before (first_comes w c letters)
     one_comes w c [] e within is reached here = (within, here)
     one_comes w (Taken kept choice) (l ∷ q) e within is reached here = (
@@ -72,7 +68,7 @@ module _ (db : Database) (fits : Leaf → Content → Bool) (law : IsLawful (lan
     one_comes w (Turned_away choice) (l ∷ q) e within is reached here = absurd is
     one_comes w Passed_over (l ∷ q) e within is reached here = absurd is
 
-    all_course : (cs : List (Coming (language db))) (w : World (language db)) → Within w → AllSmooth db cs w → IsReached whole w → AllExplained (all_come cs w).past → InCourse (language db) fits txn statement before w → InCourse (language db) fits txn statement before (all_come cs w)
+    all_course : (cs : List (Coming (language db))) (w : World (language db)) → Within w → AllSmooth cs w → IsReached whole w → AllExplained (all_come cs w).past → InCourse (language db) fits txn statement before w → InCourse (language db) fits txn statement before (all_come cs w)
     all_course [] w within is reached explained here = here
     all_course (c ∷ cs) w within is reached explained here =
         let there : IsReached whole (come w c) = all_reached (reached_law law) whole (c ∷ []) w reached (all_explained cs (come w c) explained) in
@@ -81,7 +77,7 @@ module _ (db : Database) (fits : Leaf → Content → Bool) (law : IsLawful (lan
 
   -- those of a commit come
   module _ (txn : Name) (before : List (Deed (language db))) where
-    one_voted : (w : World (language db)) (c : Coming (language db)) (letters : List (Letter (language db))) → w.letters ≡ letters → Within w → FirstIsSmooth db w c letters → Committing ⊥ txn before w → Within (first_comes w c letters) × Committing ⊥ txn before (first_comes w c letters)
+    one_voted : (w : World (language db)) (c : Coming (language db)) (letters : List (Letter (language db))) → w.letters ≡ letters → Within w → FirstIsSmooth w c letters → Committing ⊥ txn before w → Within (first_comes w c letters) × Committing ⊥ txn before (first_comes w c letters)
     one_voted w c [] e within is here = (within, here)
     one_voted w (Taken kept choice) (l ∷ q) e within is here = (
       subst (λ (letters : List (Letter (language db))). Within (first w kept choice letters)) e (next_within law w kept choice within),
@@ -90,13 +86,13 @@ module _ (db : Database) (fits : Leaf → Content → Bool) (law : IsLawful (lan
     one_voted w (Turned_away choice) (l ∷ q) e within is here = absurd is
     one_voted w Passed_over (l ∷ q) e within is here = absurd is
 
-    all_voted : (cs : List (Coming (language db))) (w : World (language db)) → Within w → AllSmooth db cs w → Committing ⊥ txn before w → Committing ⊥ txn before (all_come cs w)
+    all_voted : (cs : List (Coming (language db))) (w : World (language db)) → Within w → AllSmooth cs w → Committing ⊥ txn before w → Committing ⊥ txn before (all_come cs w)
     all_voted [] w within is here = here
     all_voted (c ∷ cs) w within is here = let one = one_voted w c w.letters refl within is.0 here in all_voted cs (come w c) one.0 is.1 one.1
 
   -- those of a rollback come
   module _ (deeds : List (Deed (language db))) where
-    one_ended : (w : World (language db)) (c : Coming (language db)) (letters : List (Letter (language db))) → w.letters ≡ letters → Within w → FirstIsSmooth db w c letters → Ending deeds w → Within (first_comes w c letters) × Ending deeds (first_comes w c letters)
+    one_ended : (w : World (language db)) (c : Coming (language db)) (letters : List (Letter (language db))) → w.letters ≡ letters → Within w → FirstIsSmooth w c letters → Ending deeds w → Within (first_comes w c letters) × Ending deeds (first_comes w c letters)
     one_ended w c [] e within is here = (within, here)
     one_ended w (Taken kept choice) (l ∷ q) e within is here = (
       subst (λ (letters : List (Letter (language db))). Within (first w kept choice letters)) e (next_within law w kept choice within),
@@ -105,7 +101,7 @@ module _ (db : Database) (fits : Leaf → Content → Bool) (law : IsLawful (lan
     one_ended w (Turned_away choice) (l ∷ q) e within is here = absurd is
     one_ended w Passed_over (l ∷ q) e within is here = absurd is
 
-    all_ended : (cs : List (Coming (language db))) (w : World (language db)) → Within w → AllSmooth db cs w → Ending deeds w → Ending deeds (all_come cs w)
+    all_ended : (cs : List (Coming (language db))) (w : World (language db)) → Within w → AllSmooth cs w → Ending deeds w → Ending deeds (all_come cs w)
     all_ended [] w within is here = here
     all_ended (c ∷ cs) w within is here = let one = one_ended w c w.letters refl within is.0 here in all_ended cs (come w c) one.0 is.1 one.1
 
@@ -135,7 +131,7 @@ module _ (db : Database) (fits : Leaf → Content → Bool) (law : IsLawful (lan
         )
 
     -- a rollback
-    rolled_back : (txn : Name) (choice : Choice (language db)) → Ready (language db) fits txn here → (serves : Serves db (To_do txn Rollback choice) before after heard) → AllSmooth db serves.comings (called here txn choice Rollback) →
+    rolled_back : (txn : Name) (choice : Choice (language db)) → Ready (language db) fits txn here → (serves : Serves db (To_do txn Rollback choice) before after heard) → AllSmooth serves.comings (called here txn choice Rollback) →
         IsQuiet (rests db after (past ++ serves.deeds)) × (past ++ serves.deeds ≡ past ++ Rolled_back txn ∷ [])
     rolled_back txn choice ready serves is =
         let within = fit_within db before [] past served.fit in
@@ -143,7 +139,7 @@ module _ (db : Database) (fits : Leaf → Content → Bool) (law : IsLawful (lan
         let ending = subst (Ending (past ++ Rolled_back txn ∷ [])) (serves.is past) (all_ended (past ++ Rolled_back txn ∷ []) serves.comings (called here txn choice Rollback) (called_within here txn choice Rollback within) is ended) in
         (ending_quiet law (past ++ Rolled_back txn ∷ []) (rests db after (past ++ serves.deeds)) ending refl, ending.past)
 
-    committed : (txn : Name) (choice : Choice (language db)) → Ready (language db) fits txn here → (serves : Serves db (To_do txn Commit_call choice) before after heard) → AllSmooth db serves.comings (called here txn choice Commit_call) →
+    committed : (txn : Name) (choice : Choice (language db)) → Ready (language db) fits txn here → (serves : Serves db (To_do txn Commit_call choice) before after heard) → AllSmooth serves.comings (called here txn choice Commit_call) →
         IsQuiet (rests db after (past ++ serves.deeds)) × (past ++ serves.deeds ≡ past ++ Phased txn ∷ Committed txn ∷ [])
     committed txn choice ready serves is =
         let within = fit_within db before [] past served.fit in
@@ -174,7 +170,7 @@ serves_smoothly db fits law once housed = record {
 
 -- ---- each letter comes smoothly, or something is refused
 module _ (db : Database) where
-  pub room_or_full : (s : SiteState (language db)) (body : Body (language db)) → Room s body ⊎ FindsNoRoom db s body
+  pub room_or_full : (s : SiteState (language db)) (body : Body (language db)) → Room s body ⊎ FindsNoRoom s body
   room_or_full s (Write ticket op leaf write) = go (s.status ticket) refl
     where
       go : (status : Status (language db)) → s.status ticket ≡ status → ((v : Visit (language db)) → s.status ticket ≡ Active v → (language db).is_full leaf write v.changes ≡ false) ⊎ ((v : Visit (language db)) × ((s.status ticket ≡ Active v) × ((language db).is_full leaf write v.changes ≡ true)))
@@ -195,17 +191,17 @@ module _ (db : Database) where
 
 -- Unkept: what is the case where a store call isn't kept
 module _ (db : Database) (law : IsLawful (language db)) (Unkept : Type 0) where
-  one_smooth : (w : World (language db)) (c : Coming (language db)) (l : Letter (language db)) → IsSited l → IsFounded db w c l → IsKept c ⊎ Unkept → IsSmooth db w c l ⊎ IsRefused db Unkept w c l
+  one_smooth : (w : World (language db)) (c : Coming (language db)) (l : Letter (language db)) → IsSited l → IsFounded w c l → IsKept c ⊎ Unkept → IsSmooth w c l ⊎ Hinders Unkept w c l
   one_smooth w (Taken true choice) l sited founded kept = ⊎_elim (λ room. inl (record { is_kept = refl; within = founded.0; room = room })) (λ full. inr full) (room_or_full db (w.sites l.site) l.body)
   one_smooth w (Taken false choice) l sited founded kept = ⊎_elim (λ wrong. absurd wrong) (λ unkept. inr (unkept, founded)) kept
   one_smooth w (Turned_away choice) l sited founded kept = inr founded
   one_smooth w Passed_over l sited founded kept = absurd (not_passed db law w l sited founded)
 
-  first_smooth : (w : World (language db)) (c : Coming (language db)) (letters : List (Letter (language db))) → AreSited letters → FirstIsFounded db w c letters → IsKept c ⊎ Unkept → FirstIsSmooth db w c letters ⊎ FirstIsRefused db Unkept w c letters
+  first_smooth : (w : World (language db)) (c : Coming (language db)) (letters : List (Letter (language db))) → AreSited letters → FirstIsFounded w c letters → IsKept c ⊎ Unkept → FirstIsSmooth w c letters ⊎ FirstHinders Unkept w c letters
   first_smooth w c [] sited founded kept = inl tt
   first_smooth w c (l ∷ q) sited founded kept = one_smooth w c l sited.0 founded kept
 
-  all_smooth : (cs : List (Coming (language db))) (w : World (language db)) → Sited w → AllFounded db cs w → AllKept cs ⊎ Unkept → AllSmooth db cs w ⊎ SomeRefused db Unkept cs w
+  all_smooth : (cs : List (Coming (language db))) (w : World (language db)) → Sited w → AllFounded cs w → AllKept cs ⊎ Unkept → AllSmooth cs w ⊎ SomeHinder Unkept cs w
   all_smooth [] w sited founded kept = inl tt
   all_smooth (c ∷ cs) w sited founded kept = ⊎_elim
       (λ smooth. ⊎_elim (λ rest. inl (smooth, rest)) (λ refused. inr (inr refused)) (all_smooth cs (come w c) (come_sited law w c w.letters refl sited) founded.1 (⊎_elim (λ all. inl all.1) (λ unkept. inr unkept) kept)))

@@ -20,8 +20,8 @@ use Rattle.site.specs.declared.tickets.TicketState as standings
 use Rattle.site.specs.declared.tickets.TicketState.TheVariants as standing
 use Rattle.site.specs.Refusals.{AsksToKeep}
 use Rattle.site.specs.State.{VolatileState, stands, visiting}
+use Rattle.protocol.specs.Delivery.{CallKept}
 use Rattle.world.specs.Machines.{Came, Machines, is_order, world_of}
-use Rattle.world.specs.Reasons.{CallKept}
 use Rattle.world.specs.Sites.{Seat, seat_of, state_at, states_of}
 use Rattle.world.specs.Taking.{CameUnless}
 use Rattle.world.proofs.Reasoned.{order_is}

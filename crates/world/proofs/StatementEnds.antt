@@ -32,14 +32,13 @@ use Rattle.protocol.proofs.Overflow.{went_on}
 use Rattle.protocol.proofs.ForgottenLetters.{reached_law}
 use Rattle.protocol.proofs.WithoutRefusal.{smooth_law}
 use Rattle.desk.specs.declared.reply.Notice.{Notice}
-use Rattle.desk.specs.Database.{Database, language, sent}
+use Rattle.desk.specs.Database.{Database, language}
 use Rattle.desk.specs.State.{desk_of, notice_of}
-use Rattle.world.specs.Delivery.{Coming, Passed_over, Taken, Turned_away, all_come, come, first_comes}
+use Rattle.protocol.specs.Delivery.{AllFounded, Coming, FindsNoRoom, FirstIsFounded, IsFounded, Passed_over, Taken, Turned_away, all_come, come, first_comes}
 use Rattle.world.specs.Mailbox.{Serves, To_do}
-use Rattle.world.specs.Machines.{Machines, world_of}
-use Rattle.world.specs.Reasons.{AllFounded, FirstIsFounded, IsFounded}
+use Rattle.world.specs.Machines.{Machines}
 use Rattle.world.specs.Client.{IsServed, is_end, tells}
-use Rattle.world.specs.Smoothly.{FindsNoRoom, rests}
+use Rattle.world.specs.Smoothly.{rests}
 use Rattle.world.proofs.CallsKept.{FetchKept, fetch_kept}
 use Rattle.world.proofs.Sited.{Sited, called_sited, come_sited, first_is_sited, not_passed, steady_sited}
 use Rattle.world.proofs.NoWrites.{NoWrites, bare, comes_bare, is_write, reads_on, state_reads}
@@ -153,7 +152,7 @@ module _ (db : Database) where
   D = language db
 
   -- what finds no room is a write
-  full_write : (s : SiteState D) (b : Body D) → FindsNoRoom db s b → is_write b ≡ true
+  full_write : (s : SiteState D) (b : Body D) → FindsNoRoom s b → is_write b ≡ true
   full_write s (Write k n g x) full = refl
   full_write s Open full = absurd full
   full_write s (Fetch k n g q) full = absurd full
@@ -197,7 +196,7 @@ module _ (db : Database) where
 
     module _ (w : World D) (l : Letter D) (q : List (Letter D)) (e : w.letters ≡ l ∷ q) (within : Within w) where
       -- the transaction is given up
-      gives_up : Loose t before w → (choice : Choice D) → IsFounded db w (Turned_away choice) l → Stand (called (record w { letters = q }) l.txn choice Give_up)
+      gives_up : Loose t before w → (choice : Choice D) → IsFounded w (Turned_away choice) l → Stand (called (record w { letters = q }) l.txn choice Give_up)
       gives_up loose choice founded =
           let lost = loose_lost law t before w l q e (turned_no_end db w l choice within founded) loose in
           has_left (w.past ++ Aborted t Given_up ∷ []) (subst (λ (j : Name). Ending (w.past ++ Aborted t Given_up ∷ []) (called (record w { letters = q }) j choice Give_up)) (sym (subst (Every (λ (x : Letter D). x.txn ≡ t)) e loose.alone).0)
@@ -229,7 +228,7 @@ module _ (db : Database) where
             let at_t : is_reading ((next w true c).desk.txn l.txn) ≡ true = ap (λ (j : Name). is_reading ((next w true c).desk.txn j)) own ∙ is in
             on.none at_t (subst NoWrites e (none (sym (ap (λ (j : Name). is_reading (w.desk.txn j)) own) ∙ on.falls at_t))).1
 
-        overflows : FindsNoRoom db (w.sites l.site) l.body → Stand (next w true choice)
+        overflows : FindsNoRoom (w.sites l.site) l.body → Stand (next w true choice)
         overflows full =
             let write = full_write (w.sites l.site) l.body full in
             let to_site = for_site l.body write in
@@ -260,21 +259,21 @@ module _ (db : Database) where
           let same_bare : next w kept choice ≡ next w kept (bare D choice) = ap (first w kept choice) e ∙ comes_bare (is_for_desk l.body) (record w { letters = q }) kept choice l (ap (λ (j : Name). is_reading (w.desk.txn j)) own ∙ idle) ∙ sym (ap (first w kept (bare D choice)) e) in
           subst Stand (sym same_bare) (of_failing (next w kept (bare D choice)) (idle_on kept (bare D choice) own idle) (failing_goes_on law once t before w l q e within kept (bare D choice) end (λ g there. absurd there) (doomed d)))
 
-    fetch_kept_of : (w : World D) (kept : Bool) (choice : Choice D) (l : Letter D) → IsFounded db w (Taken kept choice) l → FetchKept kept l.body
+    fetch_kept_of : (w : World D) (kept : Bool) (choice : Choice D) (l : Letter D) → IsFounded w (Taken kept choice) l → FetchKept kept l.body
     fetch_kept_of w kept choice l founded = fetch_kept kept l.body founded.1
 
     -- whatever becomes of a letter
-    taken_on : (w : World D) (l : Letter D) (q : List (Letter D)) (e : w.letters ≡ l ∷ q) (within : Within w) (kept : Bool) (choice : Choice D) → IsFounded db w (Taken kept choice) l → IsReached whole (next w kept choice) → Stand w → Stand (next w kept choice)
+    taken_on : (w : World D) (l : Letter D) (q : List (Letter D)) (e : w.letters ≡ l ∷ q) (within : Within w) (kept : Bool) (choice : Choice D) → IsFounded w (Taken kept choice) l → IsReached whole (next w kept choice) → Stand w → Stand (next w kept choice)
     taken_on w l q e within kept choice founded reached (in_course here none) = came_on w l q e within here none kept choice (fetch_kept_of w kept choice l founded) founded.0 reached
     taken_on w l q e within kept choice founded reached (is_doomed d idle) = doomed_on w l q e within d idle kept choice (kept_end_of db law once w kept choice l founded)
     taken_on w l q e within kept choice founded reached (has_left deeds ending) = has_left deeds (ending_goes_on law deeds w l q e ending law.touches_none within kept choice (kept_end_of db law once w kept choice l founded))
 
-    turned_on : (w : World D) (l : Letter D) (q : List (Letter D)) (e : w.letters ≡ l ∷ q) (within : Within w) (choice : Choice D) → IsFounded db w (Turned_away choice) l → Stand w → Stand (called (record w { letters = q }) l.txn choice Give_up)
+    turned_on : (w : World D) (l : Letter D) (q : List (Letter D)) (e : w.letters ≡ l ∷ q) (within : Within w) (choice : Choice D) → IsFounded w (Turned_away choice) l → Stand w → Stand (called (record w { letters = q }) l.txn choice Give_up)
     turned_on w l q e within choice founded (in_course here none) = gives_up w l q e within (statement_loose t s before w here.course) choice founded
     turned_on w l q e within choice founded (is_doomed d idle) = gives_up w l q e within d.loose choice founded
     turned_on w l q e within choice founded (has_left deeds ending) = has_left deeds (ended_gives_up l.txn (record w { letters = q }) choice deeds (ending_lost db law once deeds w l q e (turned_no_end db w l choice within founded) ending))
 
-    one_stands : (w : World D) (c : Coming D) (letters : List (Letter D)) → w.letters ≡ letters → Within w → Sited w → FirstIsFounded db w c letters → IsReached whole (first_comes w c letters) → Stand w → Within (first_comes w c letters) × Stand (first_comes w c letters)
+    one_stands : (w : World D) (c : Coming D) (letters : List (Letter D)) → w.letters ≡ letters → Within w → Sited w → FirstIsFounded w c letters → IsReached whole (first_comes w c letters) → Stand w → Within (first_comes w c letters) × Stand (first_comes w c letters)
     one_stands w c [] e within sited founded reached here = (within, here)
     one_stands w (Taken kept choice) (l ∷ q) e within sited founded reached here = (
       subst (λ (letters : List (Letter D)). Within (first w kept choice letters)) e (next_within law w kept choice within),
@@ -283,7 +282,7 @@ module _ (db : Database) where
     one_stands w (Turned_away choice) (l ∷ q) e within sited founded reached here = (called_within (record w { letters = q }) l.txn choice Give_up (lost_within db law once w q within), turned_on w l q e within choice founded here)
     one_stands w Passed_over (l ∷ q) e within sited founded reached here = absurd (not_passed db law w l (first_is_sited w l q e sited) founded)
 
-    all_stand : (cs : List (Coming D)) (w : World D) → Within w → Sited w → AllFounded db cs w → IsReached whole w → AllExplained (all_come cs w).past → Stand w → Stand (all_come cs w)
+    all_stand : (cs : List (Coming D)) (w : World D) → Within w → Sited w → AllFounded cs w → IsReached whole w → AllExplained (all_come cs w).past → Stand w → Stand (all_come cs w)
     all_stand [] w within sited founded reached explained here = here
     all_stand (c ∷ cs) w within sited founded reached explained here =
         let there : IsReached whole (come w c) = all_reached (reached_law law) whole (c ∷ []) w reached (all_explained cs (come w c) explained) in

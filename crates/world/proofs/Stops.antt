@@ -18,7 +18,7 @@ use Rattle.world.specs.declared.fault.Fault.TheVariants as fault
 use Rattle.world.specs.declared.transaction.Came.{Came}
 use Rattle.world.specs.declared.transaction.Came.TheVariants.{Heard, Refused}
 use Rattle.world.specs.Counted.{HaveRefused, NoFewer}
-use Rattle.world.specs.Denials.{IsUnreadable}
+use Rattle.world.specs.Commands.{IsUnreadable}
 use Rattle.world.specs.Stopping.{StopsFor, is_stop}
 use Rattle.world.specs.Taking.{stop_of}
 use Rattle.world.proofs.Counting.{refused_before, refused_since}

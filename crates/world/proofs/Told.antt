@@ -8,6 +8,7 @@ use Rattle.reader.specs.declared.command.Command.TheVariants as command
 use Rattle.reader.specs.Command.{IsTextOf}
 use Rattle.store.specs.declared.letter.Letter as letters
 use Rattle.store.specs.declared.name.Txn as names
+use Rattle.protocol.specs.Accepted.{stated_by, stated_of}
 use Rattle.protocol.specs.Desk.{Choice, Commit_call, Deed, Give_up, Rollback, State, Transition, desk_after, desk_began, desk_restarted, is_desk_within, next_txn, on_desk_letter, Began}
 use Rattle.protocol.specs.Language.{Lang, Name}
 use Rattle.protocol.specs.Letter.{Letter, is_for_desk}
@@ -26,7 +27,7 @@ use Rattle.world.specs.declared.event.Entry.{Entry}
 use Rattle.world.specs.declared.event.Event as events
 use Rattle.world.specs.Events.{AreEvents}
 use Rattle.world.specs.Machines.{Asked, Leads, Machines, world_of}
-use Rattle.world.specs.Replies.{AreStated, Shows, Tells, notices_in, phased_by, phased_in, stated_by, stated_of, text_by, texts_in}
+use Rattle.world.specs.Replies.{AreStated, Shows, Tells, notices_in, phased_by, phased_in, text_by, texts_in}
 use Rattle.world.proofs.Shown.{IsSilent, came_silent, commit_shows, give_up_silent, restarted_silent, rollback_silent, state_shows}
 
 -- ---- an entry more

@@ -16,7 +16,7 @@ use Rattle.world.specs.declared.transaction.End.TheVariants as end
 use Rattle.world.specs.declared.transaction.Outcome as outcomes
 use Rattle.world.specs.declared.transaction.Outcome.TheVariants.{Ran, Unbegun}
 use Rattle.world.specs.declared.transaction.Transaction.{Transaction}
-use Rattle.world.specs.Account.{said}
+use Rattle.world.specs.Course.{said}
 use Rattle.world.specs.Mailbox.{IsStill}
 use Rattle.world.specs.Machines.{Machines}
 use Rattle.world.specs.Refused.{IsRefused}

@@ -1,10 +1,10 @@
--- What one client's database does with a command.
-use Rattle.std.specs.Prelude.{◌≡◌, ℕ, Bool, true, false, List, [], ◌++◌, filter, Option, Some, None, if◌then◌else◌}
+-- One client's database: what it has been through, and what its calls do.
+use Rattle.std.specs.Prelude.{◌≡◌, ℕ, Bool, true, false, List, [], ◌++◌, filter, Option, None, if◌then◌else◌}
 use Rattle.std.specs.List.{list_any}
 use Rattle.meaning.specs.declared.statement.Statement.{Statement}
 use Rattle.meaning.specs.Statement.{IsStatementOf}
 use Rattle.meaning.specs.Whole.{Relations}
-use Rattle.reader.specs.declared.command.Command.TheVariants.{Begin, Commit, Rollback, Run}
+use Rattle.reader.specs.declared.command.Command.TheVariants.{Run}
 use Rattle.reader.specs.Command.{IsTextOf}
 use Rattle.store.specs.declared.name.Txn.{Txn}
 use Rattle.protocol.specs.Client.{IsReached}
@@ -88,37 +88,3 @@ pub record DoesState (db : Database) (text : List ℕ) (txn : Txn) (before after
   pub spelled : IsTextOf db.schemas text (Run statement)
   pub fits : IsStatementOf db.schemas statement
   pub asks : DoesAsk db (protocol.State statement) txn before after heard
-
--- the commit of a transaction is asked for, and its client hears what is told of a lone statement
-pub record DoesCommit (db : Database) (txn : Txn) (told : List Notice) (before after : Machines) (heard : List Notice) : Type 0 where
-  pub decided : List Notice
-  pub asks : DoesAsk db protocol.Commit_call txn before after decided
-  pub hears : heard ≡ autocommit_reply (told ++ decided)
-
--- so of a lone statement of which this was told, unless it has ended by itself
-pub data DoesDecide (db : Database) (txn : Txn) (told : List Notice) (before after : Machines) (heard : List Notice) : Type 0 where
-  had_ended : tells is_end told ≡ true → after ≡ before → heard ≡ autocommit_reply told → DoesDecide db txn told before after heard
-  did_decide : tells is_end told ≡ false → DoesCommit db txn told before after heard → DoesDecide db txn told before after heard
-
--- a transaction that has begun is that of a lone statement
-pub record DoesRun (db : Database) (text : List ℕ) (txn : Txn) (greeted : List Notice) (before after : Machines) (heard : List Notice) : Type 0 where
-  pub worked : Machines
-  pub answered : List Notice
-  pub stated : DoesState db text txn before worked answered
-  pub decides : DoesDecide db txn (greeted ++ answered) worked after heard
-
--- a statement is a transaction of its own: it begins, is stated, and unless it has ended by itself its commit is asked for
-pub record DoesAlone (db : Database) (text : List ℕ) (before after : Machines) (heard : List Notice) : Type 0 where
-  pub txn : Txn
-  pub began : Machines
-  pub greeted : List Notice
-  pub begun : DoesBegin db before txn began greeted
-  pub runs : DoesRun db text txn greeted began after heard
-
--- a command of this text is executed. current, later: the transaction that is open before and after it
-pub data Executes (db : Database) (text : List ℕ) (current : Option Txn) (before : Machines) (later : Option Txn) (after : Machines) (heard : List Notice) : Type 0 where
-  did_begin : (txn : Txn) → IsTextOf db.schemas text Begin → current ≡ None → later ≡ Some txn → DoesBegin db before txn after heard → Executes db text current before later after heard
-  did_commit : (txn : Txn) → IsTextOf db.schemas text Commit → current ≡ Some txn → later ≡ None → DoesAsk db protocol.Commit_call txn before after heard → Executes db text current before later after heard
-  did_roll_back : (txn : Txn) → IsTextOf db.schemas text Rollback → current ≡ Some txn → later ≡ None → DoesAsk db protocol.Rollback txn before after heard → Executes db text current before later after heard
-  did_state : (txn : Txn) → current ≡ Some txn → later ≡ still_open current heard → DoesState db text txn before after heard → Executes db text current before later after heard
-  did_run : current ≡ None → later ≡ None → DoesAlone db text before after heard → Executes db text current before later after heard

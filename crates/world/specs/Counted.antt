@@ -1,10 +1,10 @@
 -- How often stores have refused, before something and after it.
-use Rattle.std.specs.Prelude.{◌≤◌, ◌⊎◌, ⊤, ℕ, true, false, List, [], ◌∷◌, map}
+use Rattle.std.specs.Prelude.{◌≤◌, ◌⊎◌, ⊤, ℕ, List, [], ◌∷◌, map}
 use Rattle.store.specs.Fault.{HasRefused}
 use Rattle.protocol.specs.Language.{Lang}
 use Rattle.site.specs.declared.site.Site.{Site}
 use Rattle.world.specs.declared.machines.Machines as code
-use Rattle.world.specs.Delivery.{Coming, Passed_over, Taken, Turned_away}
+use Rattle.protocol.specs.Delivery.{AllKept, Coming}
 
 -- how often the medium of each site's store has refused
 abbrev pub counts_of : {S : Type 0} → (S → ℕ) → List (Site S) → List ℕ
@@ -26,19 +26,6 @@ abbrev pub HaveRefused : List ℕ → List ℕ → Type 0
 HaveRefused [] after = ⊥
 HaveRefused (count ∷ before) [] = ⊥
 HaveRefused (count ∷ before) (now ∷ after) = HasRefused count now ⊎ HaveRefused before after
-
-module _ {L : Lang} where
-  -- the store call that a letter makes is kept
-  abbrev pub IsKept : Coming L → Type 0
-  IsKept (Taken true choice) = ⊤
-  IsKept (Taken false choice) = ⊥
-  IsKept (Turned_away choice) = ⊤
-  IsKept Passed_over = ⊤
-
-  -- so of each of these letters
-  abbrev pub AllKept : List (Coming L) → Type 0
-  AllKept [] = ⊤
-  AllKept (coming ∷ comings) = IsKept coming × AllKept comings
 
 -- each store call was kept, unless one of the stores has refused
 abbrev pub KeptUnless : {L : Lang} → List (Coming L) → List ℕ → List ℕ → Type 0

@@ -1,21 +1,15 @@
 -- What the sites of a database keep as it is opened.
 use Rattle.std.specs.Prelude.{ℕ, ◌==◌, Bool, List, [], ◌∷◌, if◌then◌else◌}
-use Rattle.std.specs.FinMap as fin
 use Rattle.std.specs.Ordering.{is_eq}
 use Rattle.terms.specs.declared.leaf.Leaf.{Leaf}
 use Rattle.terms.specs.declared.value.Value.{Value}
 use Rattle.terms.specs.Leaf.{leaf_cmp}
-use Rattle.terms.specs.Row.{key_of}
 use Rattle.meaning.specs.Whole.{Relations, rows_of}
 use Rattle.catalog.specs.declared.fragment_leaf.FragmentLeaf.{FragmentLeaf}
 use Rattle.catalog.specs.Fragment.{content}
 use Rattle.catalog.specs.FragmentLeaf.{unnamed}
 use Rattle.store.specs.Content.{Content}
-
--- a content with parts under their keys
-abbrev pub stored_in : Content → List (List Value) → Content
-stored_in kept [] = kept
-stored_in kept (part ∷ parts) = stored_in (fin.insert kept (key_of part) part) parts
+use Rattle.desk.specs.CatalogueDatabase.{stored_in}
 
 -- whether a leaf has this name
 abbrev pub is_leaf : FragmentLeaf → Leaf → Bool

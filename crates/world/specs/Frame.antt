@@ -1,8 +1,6 @@
 -- What a call leaves of the machines of a database, and of what its clauses speak.
-use Rattle.std.specs.Prelude.{◌≡◌, ℕ, List, Result, IfErr, OnErr}
+use Rattle.std.specs.Prelude.{◌≡◌, ◌⊎◌, ℕ, true, List, map, Result, Ok, Err, IfErr, OnErr}
 use Rattle.std.specs.List.{AllByRecursion}
-use Rattle.store.specs.DeskContent.{DeskContent}
-use Rattle.store.specs.SiteContent.{SiteContent}
 use Rattle.catalog.specs.Relation.{catalogue_of}
 use Rattle.meaning.specs.Whole.{Relations}
 use Rattle.protocol.specs.Client.{ReachedLaw}
@@ -13,10 +11,11 @@ use Rattle.world.specs.declared.machines.Machines as code
 use Rattle.site.specs.declared.site.Site.{Site}
 use Rattle.desk.specs.declared.refusal.Refusal.{Refusal}
 use Rattle.world.specs.Counted.{NoFewer, counts, counts_of}
-use Rattle.world.specs.Contents.{OfStores, counted}
+use Rattle.world.specs.Contents.{OfStores}
 use Rattle.world.specs.Machines.{AreFit, Machines}
 use Rattle.world.specs.Client.{IsServed, IsServedOn}
-use Rattle.world.specs.Stopping.{StopsFor}
+use Rattle.world.specs.Course.{Made, Move}
+use Rattle.world.specs.Stopping.{StopsFor, is_stop}
 
 -- what a call leaves of the machines, whatever it answers: stores that are clean now were clean, sound ones stay sound, no refusal is
 -- forgotten, and the catalogue is the same
@@ -26,11 +25,20 @@ pub record LeavesMachines {D S : Type 0} (desk_is_clean : D → Type 0) (site_is
   pub counts : NoFewer (counts desk_refused site_refused old) (counts desk_refused site_refused new)
   pub catalog : new.desk.catalog ≡ old.desk.catalog
 
+-- the stores of sites
+abbrev pub stores_of : {S : Type 0} → List (Site S) → List S
+stores_of sites = map (λ site. site.store) sites
+
 -- so of the stores of sites
 pub record LeavesSites {S : Type 0} (is_clean is_sound : S → Type 0) (refused : S → ℕ) (old new : List (Site S)) : Type 0 where
   pub clean : AllByRecursion (λ site. is_clean site.store) new → AllByRecursion (λ site. is_clean site.store) old
   pub sound : AllByRecursion (λ site. is_clean site.store) new → AllByRecursion (λ site. is_sound site.store) old → AllByRecursion (λ site. is_sound site.store) new
   pub counts : NoFewer (counts_of refused old) (counts_of refused new)
+
+-- no store has been called: each is what it was
+pub record CallsNoStore {D S : Type 0} (old new : code.Machines D S) : Type 0 where
+  pub desk : new.desk.store ≡ old.desk.store
+  pub sites : stores_of new.sites.items ≡ stores_of old.sites.items
 
 -- something holds of each database of the catalogue, of the machines before a call and after it, where stores are clean now and were sound, and memory fitted them.
 -- clean, sound: of the stores; view: the machines as the protocol sees them
@@ -53,3 +61,25 @@ StaysAsItIs clean sound view old new = clean new → sound old → view new ≡ 
 -- so where the call fails
 abbrev pub StaysOnErr : {D S T E : Type 0} → (code.Machines D S → Type 0) → (code.Machines D S → Type 0) → (code.Machines D S → Machines) → code.Machines D S → code.Machines D S → Result T E → Type 0
 StaysOnErr clean sound view old new result = clean new → sound old → OnErr result (view new ≡ view old)
+
+-- moves of a client were made, of this kind
+pub record HasMade (db : Database) (before after : Machines) (kind : List Move → Type 0) : Type 0 where
+  pub moves : List Move
+  pub made : Made db moves before after
+  pub is : kind moves
+
+-- so by a call that answers this, unless it stops the database
+abbrev pub MakesMoves : {T : Type 0} → Database → Machines → Machines → Result T Refusal → (Result T Refusal → List Move → Type 0) → Type 0
+MakesMoves db before after (Ok x) kind = HasMade db before after (kind (Ok x))
+MakesMoves db before after (Err told) kind = (is_stop told ≡ true) ⊎ HasMade db before after (kind (Err told))
+
+-- What a call makes of the machines that serve one client: what it leaves of their stores, that it stops the database for a reason, that it is served on whatever
+-- was refused, and which moves it makes. view: the machines as the protocol sees them, with how often media have refused; kind: which moves these are, by what is answered
+pub record ComesTo {D S T : Type 0} (IsClean IsSound : code.Machines D S → Type 0) (view : code.Machines D S → Machines) (old new : code.Machines D S) (result : Result T Refusal) (kind : Database → Result T Refusal → List Move → Type 0) : Type 0 where
+  pub clean : IsClean new → IsClean old
+  pub sound : IsClean new → IsSound old → IsSound new
+  pub counts : NoFewer (view old).refused (view new).refused
+  pub catalog : new.desk.catalog ≡ old.desk.catalog
+  pub blames : IsClean new → IsSound old → IfErr result (StopsFor (view old).refused (view new).refused)
+  pub served : StaysServed IsClean IsSound view old new
+  pub moves : OverDatabase IsClean IsSound view old new (λ db before after. MakesMoves db before after result (kind db))

@@ -19,8 +19,6 @@ pub mod Settled
 pub mod Steps
 pub mod Following
 pub mod EventApplied
-pub mod Base
-pub mod Delivery
 pub mod Reasons
 pub mod Mailbox
 pub mod Taking
@@ -29,9 +27,7 @@ pub mod Stopping
 pub mod Smoothly
 pub mod Settling
 pub mod Executed
-pub mod StandingAgain
-pub mod Denials
-pub mod Deeds
-pub mod Account
+pub mod Course
+pub mod Commands
 pub mod Batch
 pub mod BatchRuns

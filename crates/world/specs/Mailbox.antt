@@ -2,30 +2,18 @@
 use Rattle.std.specs.Prelude.{◌≡◌, ◌⊎◌, List, [], ◌++◌, map}
 use Rattle.std.specs.List.{filter_map}
 use Rattle.store.specs.declared.letter.Letter as letters
-pub use Rattle.world.specs.Delivery.{Coming, Passed_over, Taken, Turned_away, all_come, come, done_with, first_comes}
-use Rattle.protocol.specs.Desk.{Choice, Deed, Request}
+pub use Rattle.protocol.specs.Delivery.{AllFounded, Ask, Coming, Passed_over, Taken, To_begin, To_do, Turned_away, all_come, asked, come, done_with, first_comes}
+use Rattle.protocol.specs.Desk.{Deed}
 use Rattle.protocol.specs.Home.{AreHomed}
-use Rattle.protocol.specs.Language.{Lang, Name}
 use Rattle.protocol.specs.Letter.{Letter}
 use Rattle.protocol.specs.Serial.{AllExplained}
-use Rattle.protocol.specs.World.{World, begins, called}
+use Rattle.protocol.specs.World.{World}
 use Rattle.desk.specs.declared.reply.Notice.{Notice}
 use Rattle.desk.specs.Database.{Database, language, sent}
 use Rattle.desk.specs.State.{notice_of}
 use Rattle.desk.specs.Transition.{told}
 use Rattle.world.specs.Counted.{KeptUnless, NoFewer}
 use Rattle.world.specs.Machines.{AreFit, Machines, world_of}
-use Rattle.world.specs.Reasons.{AllFounded}
-
--- what the client asks of the coordinator: that a transaction begins, or something of one
-pub data Ask (L : Lang) : Type 0 where
-  To_begin : Ask L
-  To_do : (txn : Name) (request : Request L) (choice : Choice L) → Ask L
-
--- so asked
-abbrev pub asked : {L : Lang} → Ask L → World L → World L
-asked To_begin w = begins w
-asked (To_do txn request choice) w = called w txn choice request
 
 -- machines, the letters that wait, oldest first, and what the client has heard
 pub record Scene : Type 0 where
@@ -40,7 +28,7 @@ pub record Goes (db : Database) (step : World (language db) → World (language 
   pub fit : AreFit db after.machines
   pub is : (past : List (Deed (language db))) → all_come comings (step (world_of db before.machines (map (sent db) before.waiting) past)) ≡ world_of db after.machines (map (sent db) after.waiting) (past ++ deeds)
   pub homed : AreHomed (map (sent db) before.waiting) → AreHomed (map (sent db) after.waiting)
-  pub founded : AreHomed (map (sent db) before.waiting) → (past : List (Deed (language db))) → AllFounded db comings (step (world_of db before.machines (map (sent db) before.waiting) past))
+  pub founded : AreHomed (map (sent db) before.waiting) → (past : List (Deed (language db))) → AllFounded comings (step (world_of db before.machines (map (sent db) before.waiting) past))
   pub counts : NoFewer before.machines.refused after.machines.refused
   pub kept : KeptUnless comings before.machines.refused after.machines.refused
   pub explained : AllExplained deeds

@@ -11,7 +11,7 @@ use Rattle.catalog.specs.Fragment.{content}
 use Rattle.catalog.specs.FragmentLeaf.{catalogue_leaves, leaf_named, unnamed}
 use Rattle.protocol.specs.Serial.{IsOpening}
 use Rattle.desk.specs.Database.{Database}
-use Rattle.world.specs.Filling.{stored_in}
+use Rattle.desk.specs.CatalogueDatabase.{stored_in}
 use Rattle.world.specs.Machines.{AreFit, Machines, world_of}
 
 -- a database has the sites of a catalogue and each leaf at its site, and no other leaf at any; whole relations fit it, and each leaf has of them the parts of its fragment

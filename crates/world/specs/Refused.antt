@@ -66,13 +66,13 @@ PlaceTells Sound Refused (things.GiveUp place ticket) kept seat told = ⊥
 PlaceTells Sound Refused (things.Inquire place) kept seat told = told ≡ site_fault.Memory
 PlaceTells Sound Refused (things.Restart place) kept seat told = SiteRestartTells Sound Refused kept seat told
 
--- why the coordinator doesn't restart, as it is with a site; content: what its store keeps
-abbrev pub DeskRestartTells : (Sound Refused : Type 0) → Bool → DeskContent → refusals.Refusal → Type 0
-DeskRestartTells Sound Refused kept content refusal_of.Memory = ⊤
-DeskRestartTells Sound Refused kept content refusal_of.Full = Sound → 2 ^ 63 ≤ content.life + 1
-DeskRestartTells Sound Refused kept content (refusal_of.Store store_faults.Refused) = (kept ≡ false) ⊎ Refused
-DeskRestartTells Sound Refused kept content (refusal_of.Store store_faults.Damaged) = Sound → desk.IsStrange content
-DeskRestartTells Sound Refused kept content other = ⊥
+-- why the coordinator of these sites doesn't restart, as it is with a site; content: what its store keeps
+abbrev pub DeskRestartTells : (Sound Refused : Type 0) → Bool → List (List ℕ) → DeskContent → refusals.Refusal → Type 0
+DeskRestartTells Sound Refused kept sites content refusal_of.Memory = ⊤
+DeskRestartTells Sound Refused kept sites content refusal_of.Full = Sound → 2 ^ 63 ≤ content.life + 1
+DeskRestartTells Sound Refused kept sites content (refusal_of.Store store_faults.Refused) = (kept ≡ false) ⊎ Refused
+DeskRestartTells Sound Refused kept sites content (refusal_of.Store store_faults.Damaged) = Sound → desk.IsStrange sites content
+DeskRestartTells Sound Refused kept sites content other = ⊥
 
 -- A letter that was sent isn't taken: its machine says why, and names its store only where that refused or wasn't to be called (kept is false)
 pub record LetterTells (Sound : Type 0) (db : Database) (before after : Machines) (entries : List Entry) (number : ℕ) (kept : Bool) (told : faults.Fault) : Type 0 where
@@ -96,7 +96,7 @@ HasOwnReason Sound db before after entries (event.Deliver number kept) told = Le
 HasOwnReason Sound db before after entries (event.SiteGivesUp place ticket) told = ⊥
 HasOwnReason Sound db before after entries (event.SiteInquires place) told = told ≡ fault.Site site_fault.Memory
 HasOwnReason Sound db before after entries (event.SiteRestarts place kept) told = SiteTellsOfRestart Sound before after place kept told
-HasOwnReason Sound db before after entries (event.DeskRestarts kept) told = (why : refusals.Refusal) × ((told ≡ fault.Desk why) × DeskRestartTells Sound (HaveRefused before.refused after.refused) kept before.desk why)
+HasOwnReason Sound db before after entries (event.DeskRestarts kept) told = (why : refusals.Refusal) × ((told ≡ fault.Desk why) × DeskRestartTells Sound (HaveRefused before.refused after.refused) kept db.sites before.desk why)
 
 -- Why an event is refused, by machines that were these, and count refusals now as these do: memory ran out, there is no such letter or site, or the reason is of its kind.
 -- Sound: that stores are clean now and were sound

@@ -7,8 +7,9 @@ use Rattle.reader.specs.declared.command.Command.TheVariants as command
 use Rattle.reader.specs.Command.{IsTextOf}
 use Rattle.store.specs.declared.name.Txn.{Txn}
 use Rattle.protocol.specs.Desk as protocol
-use Rattle.protocol.specs.Language.{Lang, Name, same}
+use Rattle.protocol.specs.Language.{Name, same}
 use Rattle.protocol.specs.Letters.{txn_name}
+use Rattle.protocol.specs.Accepted.{stated_of}
 use Rattle.protocol.specs.Serial.{phases_of}
 use Rattle.desk.specs.declared.reply.Notice.{Notice}
 use Rattle.desk.specs.declared.reply.Reply as replies
@@ -72,15 +73,6 @@ answers_to entries txn = flat_map (λ notice. if is_txn notice.txn txn then answ
 -- the texts of a transaction's statements
 abbrev pub texts_of : List Entry → Txn → List (List ℕ)
 texts_of entries txn = flat_map (λ text. if is_txn text.0 txn then text.1 ∷ [] else []) (texts_in entries)
-
--- the statement that a deed of the protocol accepts
-abbrev pub stated_by : {L : Lang} → protocol.Deed L → List (Name × L.Statement)
-stated_by (protocol.Stated t s) = (t, s) ∷ []
-stated_by deed = []
-
--- the accepted statements, oldest first
-abbrev pub stated_of : {L : Lang} → List (protocol.Deed L) → List (Name × L.Statement)
-stated_of past = flat_map stated_by past
 
 -- texts of transactions are those of statements, one by one
 abbrev pub AreStated : (db : Database) → List (Txn × List ℕ) → List (Name × Statement) → Type 0

@@ -1,20 +1,16 @@
 -- The machines and the entries of a world are those of a run of the protocol.
-use Rattle.std.specs.Prelude.{◌≡◌, ◌⊎◌, ⊤, ℕ, Bool, true, false, List, ◌++◌, ◌∷◌, [], map, None, Some, slice_get}
+use Rattle.std.specs.Prelude.{◌≡◌, ◌⊎◌, ⊤, ℕ, Bool, true, false, List, ◌++◌, ◌∷◌, [], map}
 use Rattle.terms.specs.declared.leaf.Leaf.{Leaf}
 use Rattle.meaning.specs.declared.statement.Statement.{Statement}
 use Rattle.reader.specs.declared.command.Command.TheVariants as command
 use Rattle.reader.specs.Command.{IsTextOf}
 use Rattle.store.specs.declared.name.Txn.{Txn}
 use Rattle.meaning.specs.Whole.{Relations}
-use Rattle.protocol.specs.Applied.{AppliesOnce}
-use Rattle.protocol.specs.Language.{Lang}
-use Rattle.protocol.specs.Letter.{Letter}
-use Rattle.protocol.specs.Parts.{AreApart, Counts, Line, operations, works}
-use Rattle.protocol.specs.Desk.{Choice, Deed, desk_after, desk_began, is_desk_within, on_request, refusal}
-use Rattle.protocol.specs.Serial.{AllExplained, IsOpening, is_committed, phases_of, serial_answers, serial_whole, settled}
-use Rattle.protocol.specs.StatementCourse.{passes}
+use Rattle.protocol.specs.Accepted.{Holds, IsAccepted}
+use Rattle.protocol.specs.Desk.{Choice, Deed}
+use Rattle.protocol.specs.Serial.{AllExplained, IsOpening, serial_answers, serial_whole, settled}
 use Rattle.protocol.specs.World as world
-use Rattle.protocol.specs.World.{Event, World, happens, is_site, run}
+use Rattle.protocol.specs.World.{Event, World, happens, run}
 use Rattle.desk.specs.declared.reply.Out.{Out}
 use Rattle.desk.specs.Database.{Database, language, sent}
 use Rattle.world.specs.declared.event.Entry.{Entry}
@@ -41,16 +37,6 @@ pub record RunsOn (db : Database) (whole : Relations) (machines : Machines) (ent
   pub deeds : List (Deed (language db))
   pub run_on : IsRun db whole machines entries (past ++ deeds)
 
--- an event is accepted in a world: a call of a client isn't refused, and its step is within the limits; a letter was sent, and its step is within them; there is a site of the name; and a restart is kept
-abbrev pub IsAccepted : {L : Lang} → World L → Event L → Type 0
-IsAccepted w world.Begin = is_desk_within (desk_began w.desk) ≡ true
-IsAccepted w (world.Call t request choice) = (refusal request (w.desk.txn t) ≡ None) × (is_desk_within (desk_after w.desk t (on_request t choice request (w.desk.txn t)).txn) ≡ true)
-IsAccepted {L} w (world.Deliver n kept choice) = (l : Letter L) × ((slice_get w.letters n ≡ Some l) × (passes w kept choice l ≡ true))
-IsAccepted {L} w (world.Site_gives_up a k) = is_site L a L.sites ≡ true
-IsAccepted {L} w (world.Site_inquires a) = is_site L a L.sites ≡ true
-IsAccepted {L} w (world.Site_restarts a kept) = (is_site L a L.sites ≡ true) × (kept ≡ true)
-IsAccepted w (world.Desk_restarts kept) = kept ≡ true
-
 -- one event more: it is accepted in the old world, its step leads from there to the new one, and the run goes on by just this event
 pub record StepsOn (db : Database) (whole : Relations) (before after : Machines) (entries more : List Entry) (past : List (Deed (language db))) : Type 0 where
   pub entry : Entry
@@ -61,18 +47,6 @@ pub record StepsOn (db : Database) (whole : Relations) (before after : Machines)
   pub deeds : List (Deed (language db))
   pub is : happens (world_of db before (map (sent db) (letters_in entries)) past) step ≡ world_of db after (map (sent db) (letters_in more)) (past ++ deeds)
   pub run_on : IsRun db whole after more (past ++ deeds)
-
--- the line of the commits: each transaction that is committed, or still can be, has read the contents after the committed ones before it, with its own earlier writes, and the settled contents are those after all committed ones
-abbrev pub IsInLine : {L : Lang} → L.Whole → World L → Type 0
-IsInLine {L} whole w = Line (works w.past) (is_committed w.past) (Counts (operations w.letters) w) (settled w) (λ g. L.content g whole) (phases_of w.past)
-
--- The invariant of the protocol, in one world. apart: only a transaction that is viable is committed next, what a viable one writes nobody else
--- has a lock on, and no later one that counts reads; line: the line of the commits; applied: the commit row stays until each voter has applied, no Abort
--- goes to one, and a ticket that was acknowledged is gone.
-pub record Holds {L : Lang} (whole : L.Whole) (w : World L) : Type 0 where
-  pub apart : AreApart w
-  pub line : IsInLine whole w
-  pub applied : AppliesOnce w
 
 -- the run goes on by one event, and in the world that it leads to the invariant holds
 pub record GoesOn (db : Database) (whole : Relations) (before after : Machines) (entries more : List Entry) (past : List (Deed (language db))) : Type 0 where

@@ -6,7 +6,8 @@ use Rattle.store.specs.SiteContent.{SiteContent}
 use Rattle.protocol.specs.Letters.{letter_of, name_of}
 use Rattle.protocol.specs.Site.{inquiries, on_give_up}
 use Rattle.site.specs.declared.site.Site.{Site}
-use Rattle.site.specs.Recovery.{Restarts, leaves_in}
+use Rattle.site.specs.Locks.{leaves_in}
+use Rattle.site.specs.Recovery.{Restarts}
 use Rattle.site.specs.State.{Steps, Takes, state_of, volatile_of}
 use Rattle.world.specs.declared.sites.SiteAction as doing
 use Rattle.world.specs.declared.sites.SiteAction.TheVariants.{GiveUp, Inquire, Restart, Take}

@@ -10,13 +10,17 @@ use Rattle.site.specs.Recovery.{Begins}
 use Rattle.world.specs.Filling.{filled}
 use Rattle.world.specs.Sites.{Seat}
 
+-- a site has begun, and has no prepared row
+pub record IsAtRest (seat : Seat) : Type 0 where
+  pub begins : Begins seat.kept seat.table
+  pub prepared : (ticket : Ticket) → seat.kept.prepared ticket ≡ None
+
 -- a site of this number and name has started: it keeps the parts that whole relations have there, and no prepared row
 pub record IsStarted (catalogue : Catalogue) (whole : Relations) (place : ℕ) (name : List ℕ) (seat : Seat) : Type 0 where
   pub called : seat.name ≡ name
   pub leaves : seat.leaves ≡ names_at place (catalogue_leaves catalogue)
   pub content : (leaf : Leaf) → seat.kept.content leaf ≡ filled whole place (catalogue_leaves catalogue) leaf fin.empty
-  pub prepared : (ticket : Ticket) → seat.kept.prepared ticket ≡ None
-  pub begins : Begins seat.kept seat.table
+  pub rests : IsAtRest seat
 
 -- so have the sites of these names, numbered on from a first one
 abbrev pub AllStarted : Catalogue → Relations → ℕ → List (List ℕ) → List Seat → Type 0

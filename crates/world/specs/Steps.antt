@@ -1,5 +1,5 @@
 -- One event of a world: what a step answers, and what stands after it.
-use Rattle.std.specs.Prelude.{◌≡◌, ◌⊎◌, ◌++◌, ◌∷◌, [], true, List, Result, Ok, Err, IfOk, IfErr, OnOk, OnErr}
+use Rattle.std.specs.Prelude.{◌≡◌, ◌⊎◌, ◌++◌, ◌∷◌, [], true, false, List, Result, Ok, Err, IfOk, IfErr, OnOk, OnErr}
 use Rattle.std.specs.Borrow.{Bor}
 use Rattle.meaning.specs.Whole.{Relations}
 use Rattle.catalog.specs.Relation.{catalogue_of}
@@ -12,9 +12,11 @@ use Rattle.world.specs.declared.fault.Fault as faults
 use Rattle.world.specs.declared.fault.Fault.TheVariants as fault
 use Rattle.world.specs.declared.machines.Machines as code
 use Rattle.world.specs.declared.world.World as code_world
-use Rattle.world.specs.Base.{database}
+use Rattle.desk.specs.CatalogueDatabase.{database}
 use Rattle.world.specs.Counted.{HaveRefused}
+use Rattle.world.specs.EventApplied.{may_call}
 use Rattle.world.specs.Events.{is_unsent}
+use Rattle.world.specs.Frame.{CallsNoStore}
 use Rattle.world.specs.Machines.{Machines}
 use Rattle.world.specs.Refused.{IsRefusedFor}
 use Rattle.world.specs.Runs.{GoesOn, IsRun, Spares}
@@ -30,7 +32,7 @@ based world = database (catalogue_of world.machines.desk.catalog)
 
 -- IsClean, IsSound: that no store of the machines failed on its own, and that each is sound; hold: what the machines hold; count: so, with how often the
 -- media have refused. An event that
--- happens has an entry, the last one, which is answered; it is accepted, the run goes on by just this event, the caller's flag is honoured, and the
+-- happens has an entry, the last one, which is answered; it is accepted, the run goes on by just this event, the caller's flag is honoured (also no store is called unless it says so), and the
 -- protocol's invariant holds in the world that it leads to. One
 -- that is refused changes nothing: no letter has the number or no site the name, exactly where that is told, or memory ran out, or the coordinator refuses the
 -- call as the protocol does, or the letter's machine is at a limit with it, or a restart is of the last life, or a store refused.
@@ -43,6 +45,7 @@ pub record Steps {D S : Type 0} (IsClean IsSound : code.Machines D S → Type 0)
       → IsRun (based old) whole (hold old.machines) old.entries.items past → OnOk answer (GoesOn (based old) whole (hold old.machines) (hold new.machines) old.entries.items new.entries.items past)
   pub spared : (whole : Relations) (past : List (Deed (language (based old)))) → IsClean new.machines → IsSound old.machines
       → IsRun (based old) whole (hold old.machines) old.entries.items past → OnOk answer (Spares (HaveRefused (count old.machines).refused (count new.machines).refused) (based old) (hold old.machines) (hold new.machines) old.entries.items new.entries.items past what)
+  pub uncalled : may_call what ≡ false → CallsNoStore old.machines new.machines
   pub unsent : answer ≡ Err fault.Unsent → is_unsent old.machines.desk.catalog.0 old.entries.items what ≡ true
   pub nowhere : is_unsent old.machines.desk.catalog.0 old.entries.items what ≡ true → (answer ≡ Err fault.Unsent) ⊎ (answer ≡ Err (fault.Desk refusals.Memory))
   pub refused : (whole : Relations) (past : List (Deed (language (based old)))) → IsRun (based old) whole (hold old.machines) old.entries.items past

@@ -13,9 +13,10 @@ use Rattle.world.specs.declared.mailbox.Post.{Post}
 use Rattle.world.specs.declared.fault.Fault.{Fault}
 use Rattle.world.specs.declared.fault.Fault.TheVariants.{Desk, Site, Unsent}
 use Rattle.world.specs.Mailbox.{Coming, Scene, done_with}
-use Rattle.world.specs.Counted.{HaveRefused, IsKept, NoFewer}
+use Rattle.world.specs.Counted.{HaveRefused, NoFewer}
+use Rattle.protocol.specs.Delivery.{CallKept, IsKept}
 use Rattle.world.specs.Machines.{Came, Leads, Machines, world_of}
-use Rattle.world.specs.Reasons.{CallKept, HasReason}
+use Rattle.world.specs.Reasons.{HasReason}
 
 -- the refusal that stops one client's machines, if the fault is one that does
 abbrev pub stop_of_desk : Refusal → Option Refusal

@@ -1,21 +1,12 @@
 //! A statement that is a transaction of its own.
 
-ghost use Rattle.std.specs.Prelude.{◌≡◌, ◌⊎◌, ◌++◌, List, true, filter, IfErr, IfOk, OnOk};
-ghost use Rattle.meaning.specs.Whole.{Relations};
-ghost use Rattle.catalog.specs.Relation.{catalogue_of};
-ghost use Rattle.protocol.specs.Client.{ReachedLaw};
-ghost use Rattle.protocol.specs.Desk.{Deed};
-ghost use Rattle.desk.specs.Database.{Database, language};
-ghost use Rattle.desk.specs.OfCatalogue.{IsOfCatalogue};
+ghost use Rattle.std.specs.Prelude.{◌≡◌, ◌++◌, false, filter, IfErr, IfOk, OnOk};
 ghost use Rattle.desk.specs.declared.refusal.Refusal.TheVariants as refusals;
-ghost use Rattle.world.specs.declared.event.Call.TheVariants as call;
-ghost use Rattle.world.specs.Counted.{NoFewer, counts};
-ghost use Rattle.world.specs.Denials.{CommitIsDenied, IsTakenBack, IsUndone, LoneIsDenied, RunIsDenied};
-ghost use Rattle.world.specs.Frame.{Blames, LeavesMachines, OverDatabase, StaysServed};
+ghost use Rattle.world.specs.Client.{autocommit_reply, is_answer, is_commit, is_end, tells};
+ghost use Rattle.world.specs.Commands.{IsDecided, IsLone, IsStated, TakesBack, heard_in};
 ghost use Rattle.world.specs.Contents.{OfStores, counted};
-ghost use Rattle.world.specs.Machines.{AreFit};
-ghost use Rattle.world.specs.Client.{DoesAlone, DoesCommit, DoesDecide, DoesRun, IsServed, IsServedOn, is_answer, is_commit, is_end, tells, autocommit_reply};
-ghost use Rattle.world.specs.Stopping.{StopsFor, is_stop};
+ghost use Rattle.world.specs.Frame.{ComesTo};
+ghost use Rattle.world.specs.Stopping.{is_stop};
 
 use crate::client::{Begun, begin, commit, roll_back, state};
 use crate::machines::Machines;
@@ -91,10 +82,8 @@ fn joined(told: Vec<Notice>, since: Vec<Notice>) -> Result<Vec<Notice>, Refusal>
     ensures own { IfErr result (λ refusal. refusal ≡ refusals.Memory) }
 {
     let mut told = told;
-    match add(&mut told, since) {
-        Ok(()) => Ok(told),
-        Err(refusal) => Err(refusal),
-    }
+    add(&mut told, since)?;
+    Ok(told)
 }
 
 /// What the client of a lone statement hears, of what was told before and since.
@@ -102,10 +91,7 @@ fn hears(told: Vec<Notice>, since: Vec<Notice>) -> Result<Vec<Notice>, Refusal>
     ensures heard { IfOk result (λ heard. heard.items ≡ autocommit_reply (told.items ++ since.items)) }
     ensures own { IfErr result (λ refusal. refusal ≡ refusals.Memory) }
 {
-    match joined(told, since) {
-        Ok(all) => Ok(autocommit_reply(all)),
-        Err(refusal) => Err(refusal),
-    }
+    Ok(autocommit_reply(joined(told, since)?))
 }
 
 /// More is heard.
@@ -129,45 +115,24 @@ pub(crate) fn tells_commit(heard: &[Notice]) -> bool
         .any(|notice| matches!(&notice.reply, Reply::Committed))
 }
 
-/// A transaction whose call was refused is rolled back. Says what was refused.
-fn take_back<D: DeskStore, S: SiteStore>(
+/// A transaction whose call was refused, which stops nothing, is rolled back. Answers what was refused, unless it is stopped now.
+fn take_back<T, D: DeskStore, S: SiteStore>(
     machines: &mut Machines<D, S>,
     txn: Txn,
     refusal: Refusal,
-) -> Refusal
-    ensures leaves { LeavesMachines D.is_clean S.is_clean D.is_sound S.is_sound D.refused S.refused machines.old machines.new }
-    ensures told { (is_stop result ≡ true) ⊎ (result ≡ refusal) }
-    ensures blames { OfStores D.is_clean S.is_clean machines.new → OfStores D.is_sound S.is_sound machines.old → StopsFor (counts D.refused S.refused machines.old) (counts D.refused S.refused machines.new) result ⊎ (result ≡ refusal) }
-    ensures taken { OverDatabase (OfStores D.is_clean S.is_clean) (OfStores D.is_sound S.is_sound) (counted D.kept S.kept D.refused S.refused) machines.old machines.new
-        (λ db before after. (is_stop result ≡ true) ⊎ IsTakenBack db txn before after) }
-    ensures served { StaysServed (OfStores D.is_clean S.is_clean) (OfStores D.is_sound S.is_sound) (counted D.kept S.kept D.refused S.refused) machines.old machines.new }
+) -> Result<T, Refusal>
+    requires { is_stop refusal ≡ false }
+    ensures { ComesTo (OfStores D.is_clean S.is_clean) (OfStores D.is_sound S.is_sound) (counted D.kept S.kept D.refused S.refused) machines.old machines.new result
+        (λ db. TakesBack txn refusal) }
 {
-    if is_stop(&refusal) {
-        return refusal;
-    }
     match roll_back(machines, txn) {
-        Ok(_heard) => refusal,
-        Err(other) => { if is_stop(&other) { other } else { refusal } }
-    }
-}
-
-/// The commit of a lone statement is asked for.
-fn commit_autocommit<D: DeskStore, S: SiteStore>(
-    machines: &mut Machines<D, S>,
-    txn: Txn,
-    told: Vec<Notice>,
-) -> Result<Vec<Notice>, Refusal>
-    ensures leaves { LeavesMachines D.is_clean S.is_clean D.is_sound S.is_sound D.refused S.refused machines.old machines.new }
-    ensures blames { Blames (OfStores D.is_clean S.is_clean) (OfStores D.is_sound S.is_sound) (counts D.refused S.refused) machines.old machines.new result }
-    ensures ok { OverDatabase (OfStores D.is_clean S.is_clean) (OfStores D.is_sound S.is_sound) (counted D.kept S.kept D.refused S.refused) machines.old machines.new
-        (λ db before after. IfOk result (λ heard. DoesCommit db txn told.items before after heard.items)) }
-    ensures denied { OverDatabase (OfStores D.is_clean S.is_clean) (OfStores D.is_sound S.is_sound) (counted D.kept S.kept D.refused S.refused) machines.old machines.new
-        (λ db before after. IfErr result (λ refusal. (is_stop refusal ≡ true) ⊎ IsUndone db txn (call.Commit txn) before after refusal)) }
-    ensures served { StaysServed (OfStores D.is_clean S.is_clean) (OfStores D.is_sound S.is_sound) (counted D.kept S.kept D.refused S.refused) machines.old machines.new }
-{
-    match commit(machines, txn) {
-        Ok(decided) => hears(told, decided),
-        Err(refusal) => Err(take_back(machines, txn, refusal)),
+        Ok(_heard) => Err(refusal),
+        Err(other) => {
+            if is_stop(&other) {
+                return Err(other);
+            }
+            Err(refusal)
+        }
     }
 }
 
@@ -177,18 +142,21 @@ fn decide<D: DeskStore, S: SiteStore>(
     txn: Txn,
     told: Vec<Notice>,
 ) -> Result<Vec<Notice>, Refusal>
-    ensures leaves { LeavesMachines D.is_clean S.is_clean D.is_sound S.is_sound D.refused S.refused machines.old machines.new }
-    ensures blames { Blames (OfStores D.is_clean S.is_clean) (OfStores D.is_sound S.is_sound) (counts D.refused S.refused) machines.old machines.new result }
-    ensures ok { OverDatabase (OfStores D.is_clean S.is_clean) (OfStores D.is_sound S.is_sound) (counted D.kept S.kept D.refused S.refused) machines.old machines.new
-        (λ db before after. IfOk result (λ heard. DoesDecide db txn told.items before after heard.items)) }
-    ensures denied { OverDatabase (OfStores D.is_clean S.is_clean) (OfStores D.is_sound S.is_sound) (counted D.kept S.kept D.refused S.refused) machines.old machines.new
-        (λ db before after. IfErr result (CommitIsDenied db txn told.items before after)) }
-    ensures served { StaysServed (OfStores D.is_clean S.is_clean) (OfStores D.is_sound S.is_sound) (counted D.kept S.kept D.refused S.refused) machines.old machines.new }
+    ensures { ComesTo (OfStores D.is_clean S.is_clean) (OfStores D.is_sound S.is_sound) (counted D.kept S.kept D.refused S.refused) machines.old machines.new result
+        (λ db done moves. IsDecided txn told.items moves (heard_in (λ heard. heard.items) done)) }
 {
     if tells_end(told.as_slice()) {
         return Ok(autocommit_reply(told));
     }
-    commit_autocommit(machines, txn, told)
+    match commit(machines, txn) {
+        Ok(decided) => hears(told, decided),
+        Err(refusal) => {
+            if is_stop(&refusal) {
+                return Err(refusal);
+            }
+            take_back(machines, txn, refusal)
+        }
+    }
 }
 
 /// A lone statement was answered so, after its transaction had begun.
@@ -198,13 +166,8 @@ fn go_on<D: DeskStore, S: SiteStore>(
     greeted: Vec<Notice>,
     answered: Vec<Notice>,
 ) -> Result<Vec<Notice>, Refusal>
-    ensures leaves { LeavesMachines D.is_clean S.is_clean D.is_sound S.is_sound D.refused S.refused machines.old machines.new }
-    ensures blames { Blames (OfStores D.is_clean S.is_clean) (OfStores D.is_sound S.is_sound) (counts D.refused S.refused) machines.old machines.new result }
-    ensures ok { OverDatabase (OfStores D.is_clean S.is_clean) (OfStores D.is_sound S.is_sound) (counted D.kept S.kept D.refused S.refused) machines.old machines.new
-        (λ db before after. IfOk result (λ heard. DoesDecide db txn (greeted.items ++ answered.items) before after heard.items)) }
-    ensures denied { OverDatabase (OfStores D.is_clean S.is_clean) (OfStores D.is_sound S.is_sound) (counted D.kept S.kept D.refused S.refused) machines.old machines.new
-        (λ db before after. IfErr result (CommitIsDenied db txn (greeted.items ++ answered.items) before after)) }
-    ensures served { StaysServed (OfStores D.is_clean S.is_clean) (OfStores D.is_sound S.is_sound) (counted D.kept S.kept D.refused S.refused) machines.old machines.new }
+    ensures { ComesTo (OfStores D.is_clean S.is_clean) (OfStores D.is_sound S.is_sound) (counted D.kept S.kept D.refused S.refused) machines.old machines.new result
+        (λ db done moves. IsDecided txn (greeted.items ++ answered.items) moves (heard_in (λ heard. heard.items) done)) }
 {
     match joined(greeted, answered) {
         Ok(told) => decide(machines, txn, told),
@@ -218,18 +181,18 @@ fn run_begun<D: DeskStore, S: SiteStore>(
     begun: Begun,
     text: &str,
 ) -> Result<Vec<Notice>, Refusal>
-    ensures leaves { LeavesMachines D.is_clean S.is_clean D.is_sound S.is_sound D.refused S.refused machines.old machines.new }
-    ensures blames { Blames (OfStores D.is_clean S.is_clean) (OfStores D.is_sound S.is_sound) (counts D.refused S.refused) machines.old machines.new result }
-    ensures ok { OverDatabase (OfStores D.is_clean S.is_clean) (OfStores D.is_sound S.is_sound) (counted D.kept S.kept D.refused S.refused) machines.old machines.new
-        (λ db before after. IfOk result (λ heard. DoesRun db text.now begun.txn begun.heard.items before after heard.items)) }
-    ensures denied { OverDatabase (OfStores D.is_clean S.is_clean) (OfStores D.is_sound S.is_sound) (counted D.kept S.kept D.refused S.refused) machines.old machines.new
-        (λ db before after. IfErr result (RunIsDenied db text.now begun.txn begun.heard.items before after)) }
-    ensures served { StaysServed (OfStores D.is_clean S.is_clean) (OfStores D.is_sound S.is_sound) (counted D.kept S.kept D.refused S.refused) machines.old machines.new }
+    ensures { ComesTo (OfStores D.is_clean S.is_clean) (OfStores D.is_sound S.is_sound) (counted D.kept S.kept D.refused S.refused) machines.old machines.new result
+        (λ db done moves. IsStated text.now begun.txn begun.heard.items moves (heard_in (λ heard. heard.items) done)) }
 {
     let Begun { txn, heard } = begun;
     match state(machines, txn, text) {
         Ok(answered) => go_on(machines, txn, heard, answered),
-        Err(refusal) => Err(take_back(machines, txn, refusal)),
+        Err(refusal) => {
+            if is_stop(&refusal) {
+                return Err(refusal);
+            }
+            take_back(machines, txn, refusal)
+        }
     }
 }
 
@@ -239,13 +202,8 @@ pub(crate) fn run_autocommit<D: DeskStore, S: SiteStore>(
     machines: &mut Machines<D, S>,
     text: &str,
 ) -> Result<Vec<Notice>, Refusal>
-    ensures leaves { LeavesMachines D.is_clean S.is_clean D.is_sound S.is_sound D.refused S.refused machines.old machines.new }
-    ensures blames { Blames (OfStores D.is_clean S.is_clean) (OfStores D.is_sound S.is_sound) (counts D.refused S.refused) machines.old machines.new result }
-    ensures ok { OverDatabase (OfStores D.is_clean S.is_clean) (OfStores D.is_sound S.is_sound) (counted D.kept S.kept D.refused S.refused) machines.old machines.new
-        (λ db before after. IfOk result (λ heard. DoesAlone db text.now before after heard.items)) }
-    ensures denied { OverDatabase (OfStores D.is_clean S.is_clean) (OfStores D.is_sound S.is_sound) (counted D.kept S.kept D.refused S.refused) machines.old machines.new
-        (λ db before after. IfErr result (LoneIsDenied db text.now before after)) }
-    ensures served { StaysServed (OfStores D.is_clean S.is_clean) (OfStores D.is_sound S.is_sound) (counted D.kept S.kept D.refused S.refused) machines.old machines.new }
+    ensures { ComesTo (OfStores D.is_clean S.is_clean) (OfStores D.is_sound S.is_sound) (counted D.kept S.kept D.refused S.refused) machines.old machines.new result
+        (λ db done moves. IsLone text.now moves (heard_in (λ heard. heard.items) done)) }
 {
     match begin(machines) {
         Ok(begun) => run_begun(machines, begun, text),

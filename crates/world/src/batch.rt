@@ -1,23 +1,17 @@
 //! Transactions that a client hands over, one after another.
 
-ghost use Rattle.std.specs.Prelude.{◌≡◌, ◌⊎◌, ◌<◌, ◌++◌, ◌∷◌, ℕ, vec_len, vec_capacity, List, Bool, [], true, false, map, Err, Ok, IfErr, IfOk, OnErr, OnOk};
-ghost use Rattle.meaning.specs.Whole.{Relations};
-ghost use Rattle.catalog.specs.Relation.{catalogue_of};
+ghost use Rattle.std.specs.Prelude.{◌≡◌, ◌⊎◌, ◌<◌, ◌++◌, ◌∷◌, ℕ, vec_len, vec_capacity, List, Bool, [], true, false, map, Err, Ok, IfErr, IfOk, OnOk};
 ghost use Rattle.protocol.specs.Client.{ReachedLaw};
-ghost use Rattle.protocol.specs.Desk.{Deed};
-ghost use Rattle.desk.specs.Database.{Database, language};
-ghost use Rattle.desk.specs.OfCatalogue.{IsOfCatalogue};
+ghost use Rattle.desk.specs.Database.{language};
 ghost use Rattle.desk.specs.declared.refusal.Refusal.TheVariants as refusals;
 ghost use Rattle.world.specs.declared.event.Call.TheVariants as call;
 ghost use Rattle.store.specs.declared.name.Txn.{Txn as TxnNow};
 ghost use Rattle.world.specs.declared.transaction.End.TheVariants as end;
 ghost use Rattle.world.specs.declared.transaction.Came.TheVariants.{Heard, Refused};
 ghost use Rattle.world.specs.Batch.{Makes, MakesMore, RunsAll, RunsOne, StopsAt, calls_of, calls_of_end, has_ended};
-ghost use Rattle.world.specs.Counted.{NoFewer, counts};
+ghost use Rattle.world.specs.Counted.{counts};
 ghost use Rattle.world.specs.Frame.{Blames, LeavesMachines, OverDatabase, StaysServed};
 ghost use Rattle.world.specs.Contents.{OfStores, counted};
-ghost use Rattle.world.specs.Machines.{AreFit};
-ghost use Rattle.world.specs.Client.{IsServed, IsServedOn};
 ghost use Rattle.world.specs.Stopping.{StopsFor, is_stop};
 
 use crate::autocommit::{is_stop, tells_end};

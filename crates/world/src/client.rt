@@ -1,23 +1,16 @@
 //! Calls of one client, each with all letters that it brings about.
 
-ghost use Rattle.std.specs.Prelude.{◌≡◌, List, [], Some, slice_get, IfErr, IfOk, OnErr};
+ghost use Rattle.std.specs.Prelude.{◌≡◌, [], Some, slice_get, IfErr, IfOk, OnErr};
 ghost use Rattle.std.specs.Option.{option_map};
-ghost use Rattle.meaning.specs.Whole.{Relations};
-ghost use Rattle.catalog.specs.Relation.{catalogue_of};
-ghost use Rattle.protocol.specs.Client.{ReachedLaw};
-ghost use Rattle.protocol.specs.Desk.{Commit_call, Deed, Rollback};
-ghost use Rattle.desk.specs.Database.{Database, language};
-ghost use Rattle.desk.specs.OfCatalogue.{IsOfCatalogue};
+ghost use Rattle.protocol.specs.Desk.{Commit_call, Rollback};
 ghost use Rattle.desk.specs.declared.refusal.Refusal.TheVariants as refusals;
 ghost use Rattle.world.specs.declared.event.Call.TheVariants as call;
-ghost use Rattle.world.specs.Counted.{NoFewer, counts};
-ghost use Rattle.world.specs.Denials.{IsDenied};
+ghost use Rattle.world.specs.Counted.{counts};
+ghost use Rattle.world.specs.Course.{IsTurnedDown};
 ghost use Rattle.world.specs.Mailbox.{Serves, To_begin};
 ghost use Rattle.world.specs.Frame.{Blames, LeavesMachines, OverDatabase, StaysServed};
 ghost use Rattle.world.specs.Contents.{OfStores, counted};
-ghost use Rattle.world.specs.Machines.{AreFit};
-ghost use Rattle.world.specs.Client.{DoesAsk, DoesBegin, DoesState, IsServed, IsServedOn};
-ghost use Rattle.world.specs.Stopping.{StopsFor};
+ghost use Rattle.world.specs.Client.{DoesAsk, DoesBegin, DoesState};
 
 use crate::machines::Machines;
 use crate::mailbox::deliver_all;
@@ -57,7 +50,7 @@ fn greet<D: DeskStore, S: SiteStore>(machines: &mut Machines<D, S>) -> Result<Ve
     ensures ok { OverDatabase (OfStores D.is_clean S.is_clean) (OfStores D.is_sound S.is_sound) (counted D.kept S.kept D.refused S.refused) machines.old machines.new
         (λ db before after. IfOk result (λ heard. Serves db To_begin before after heard.items)) }
     ensures denied { OverDatabase (OfStores D.is_clean S.is_clean) (OfStores D.is_sound S.is_sound) (counted D.kept S.kept D.refused S.refused) machines.old machines.new
-        (λ db before after. IfErr result (IsDenied db before after call.Begin)) }
+        (λ db before after. IfErr result (IsTurnedDown db call.Begin before after)) }
     ensures served { StaysServed (OfStores D.is_clean S.is_clean) (OfStores D.is_sound S.is_sound) (counted D.kept S.kept D.refused S.refused) machines.old machines.new }
 {
     match machines.begin() {
@@ -75,7 +68,7 @@ pub(crate) fn begin<D: DeskStore, S: SiteStore>(
     ensures ok { OverDatabase (OfStores D.is_clean S.is_clean) (OfStores D.is_sound S.is_sound) (counted D.kept S.kept D.refused S.refused) machines.old machines.new
         (λ db before after. IfOk result (λ begun. DoesBegin db before begun.txn after begun.heard.items)) }
     ensures denied { OverDatabase (OfStores D.is_clean S.is_clean) (OfStores D.is_sound S.is_sound) (counted D.kept S.kept D.refused S.refused) machines.old machines.new
-        (λ db before after. IfErr result (IsDenied db before after call.Begin)) }
+        (λ db before after. IfErr result (IsTurnedDown db call.Begin before after)) }
     ensures served { StaysServed (OfStores D.is_clean S.is_clean) (OfStores D.is_sound S.is_sound) (counted D.kept S.kept D.refused S.refused) machines.old machines.new }
 {
     match greet(machines) {
@@ -95,7 +88,7 @@ pub(crate) fn state<D: DeskStore, S: SiteStore>(
     ensures ok { OverDatabase (OfStores D.is_clean S.is_clean) (OfStores D.is_sound S.is_sound) (counted D.kept S.kept D.refused S.refused) machines.old machines.new
         (λ db before after. IfOk result (λ heard. DoesState db text.now txn before after heard.items)) }
     ensures denied { OverDatabase (OfStores D.is_clean S.is_clean) (OfStores D.is_sound S.is_sound) (counted D.kept S.kept D.refused S.refused) machines.old machines.new
-        (λ db before after. IfErr result (IsDenied db before after (call.State txn text.now))) }
+        (λ db before after. IfErr result (IsTurnedDown db (call.State txn text.now) before after)) }
     ensures served { StaysServed (OfStores D.is_clean S.is_clean) (OfStores D.is_sound S.is_sound) (counted D.kept S.kept D.refused S.refused) machines.old machines.new }
 {
     match machines.statement(txn, text) {
@@ -114,7 +107,7 @@ pub(crate) fn commit<D: DeskStore, S: SiteStore>(
     ensures ok { OverDatabase (OfStores D.is_clean S.is_clean) (OfStores D.is_sound S.is_sound) (counted D.kept S.kept D.refused S.refused) machines.old machines.new
         (λ db before after. IfOk result (λ heard. DoesAsk db Commit_call txn before after heard.items)) }
     ensures denied { OverDatabase (OfStores D.is_clean S.is_clean) (OfStores D.is_sound S.is_sound) (counted D.kept S.kept D.refused S.refused) machines.old machines.new
-        (λ db before after. IfErr result (IsDenied db before after (call.Commit txn))) }
+        (λ db before after. IfErr result (IsTurnedDown db (call.Commit txn) before after)) }
     ensures served { StaysServed (OfStores D.is_clean S.is_clean) (OfStores D.is_sound S.is_sound) (counted D.kept S.kept D.refused S.refused) machines.old machines.new }
 {
     match machines.commit(txn) {
@@ -133,7 +126,7 @@ pub(crate) fn roll_back<D: DeskStore, S: SiteStore>(
     ensures ok { OverDatabase (OfStores D.is_clean S.is_clean) (OfStores D.is_sound S.is_sound) (counted D.kept S.kept D.refused S.refused) machines.old machines.new
         (λ db before after. IfOk result (λ heard. DoesAsk db Rollback txn before after heard.items)) }
     ensures denied { OverDatabase (OfStores D.is_clean S.is_clean) (OfStores D.is_sound S.is_sound) (counted D.kept S.kept D.refused S.refused) machines.old machines.new
-        (λ db before after. IfErr result (IsDenied db before after (call.Rollback txn))) }
+        (λ db before after. IfErr result (IsTurnedDown db (call.Rollback txn) before after)) }
     ensures served { StaysServed (OfStores D.is_clean S.is_clean) (OfStores D.is_sound S.is_sound) (counted D.kept S.kept D.refused S.refused) machines.old machines.new }
 {
     match machines.rollback(txn) {

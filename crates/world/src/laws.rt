@@ -13,16 +13,13 @@ ghost use Rattle.protocol.specs.Parts.{PartThree, PartsOneAndTwo};
 ghost use Rattle.protocol.specs.Rounds.{RoundByLetter};
 ghost use Rattle.protocol.specs.Serial.{SerialLaw};
 ghost use Rattle.desk.specs.Database.{language};
-ghost use Rattle.world.specs.Account.{AccountFollows};
-ghost use Rattle.world.specs.Base.{IsBase, database, fits};
-ghost use Rattle.world.specs.Deeds.{DeedsFollow};
-ghost use Rattle.world.specs.Denials.{DeniesForAReason};
+ghost use Rattle.desk.specs.CatalogueDatabase.{IsBase, database, fits};
+ghost use Rattle.world.specs.Commands.{CommandsFollow, MovesFollow};
 ghost use Rattle.world.specs.Executed.{ObeysUnlessRefused};
 ghost use Rattle.world.specs.Runs.{RunsAreSerial, RunsHold};
 ghost use Rattle.world.specs.Client.{ServedIsSerial};
 ghost use Rattle.world.specs.Settling.{GrowsQuiet};
 ghost use Rattle.world.specs.Smoothly.{ServesSmoothly, ServesUnlessRefused};
-ghost use Rattle.world.specs.StandingAgain.{StandsAgain};
 ghost use Rattle.world.specs.Stopping.{StopsForMemory};
 ghost use Rattle.world.specs.declared.machines.Machines.{Machines as MachinesNow};
 
@@ -155,19 +152,13 @@ pub fn served_is_serial(catalog: &Catalog)
     one_client_is_a_run(catalog);
 }
 
-/// What has happened to a client's database: with each command the deeds of what was executed, or of what was refused in vain.
-pub fn deeds_follow(catalog: &Catalog)
-    ensures { DeedsFollow (database (catalogue_of catalog.now)) }
+/// What happens to a client's database, call by call, and what tells of it: what a client asked for and heard tells what has happened, so
+/// the committed transactions, one after another over whole relations, give the answers that it heard and what the settled fragments
+/// rebuild.
+pub fn moves_follow(catalog: &Catalog)
+    ensures { MovesFollow (database (catalogue_of catalog.now)) }
 {
     one_client_is_a_run(catalog);
-}
-
-/// What a client asked for and heard, command by command, tells what has happened to its database: the committed
-/// transactions, one after another over whole relations, give the answers that it heard and what the settled fragments
-/// rebuild.
-pub fn account_follows(catalog: &Catalog)
-    ensures { AccountFollows (database (catalogue_of catalog.now)) }
-{
     served_is_serial(catalog);
 }
 
@@ -202,19 +193,8 @@ pub fn grows_quiet(catalog: &Catalog)
     language_is_lawful(catalog);
 }
 
-/// A client's database that stands, all quiet or its open transaction ready, does so again after each command, executed or
-/// refused, whatever was refused on the way, unless the command stops it.
-pub fn stands_again(catalog: &Catalog)
-    ensures { StandsAgain (database (catalogue_of catalog.now)) (fits (catalogue_of catalog.now)) }
-{
-    one_client_is_a_run(catalog);
-    served_smoothly(catalog);
-    grows_quiet(catalog);
-}
-
-/// The commands of a client's database that stands, all quiet or its open transaction ready: a transaction begins;
-/// unless something is refused on the way, a statement is answered, a commit and a rollback are told, after which
-/// all is quiet, and a lone statement is answered and committed.
+/// The calls of a client's database that stands, all quiet or its open transaction ready: a transaction begins; unless something is refused
+/// on the way, a statement is answered, and a commit and a rollback are told, after which all is quiet.
 pub fn obeyed_unless_refused(catalog: &Catalog)
     ensures { ObeysUnlessRefused (database (catalogue_of catalog.now)) (fits (catalogue_of catalog.now)) }
 {
@@ -223,14 +203,18 @@ pub fn obeyed_unless_refused(catalog: &Catalog)
     served_unless_refused(catalog);
 }
 
-/// A client's database that stands refuses a command only for a reason of the command's own, or for a limit, or since it stops.
-pub fn denied_for_a_reason(catalog: &Catalog)
-    ensures { DeniesForAReason (database (catalogue_of catalog.now)) (fits (catalogue_of catalog.now)) }
+/// Commands of a client's database that is served, by the calls that they make: what was heard is right, and one that stood, all quiet or
+/// its open transaction ready, stands again, whatever was refused on the way. Unless something was, the command has done what it asks
+/// for, or it is refused for a reason of its own, or for a limit.
+pub fn commands_follow(catalog: &Catalog)
+    ensures { CommandsFollow (database (catalogue_of catalog.now)) (fits (catalogue_of catalog.now)) }
 {
     one_command();
     database_is_of_catalogue(catalog);
+    one_client_is_a_run(catalog);
     obeyed_unless_refused(catalog);
     grows_quiet(catalog);
+    moves_follow(catalog);
 }
 
 /// Over lists, whose media never refuse, no store call of one client is refused, and want of memory alone stops a database.

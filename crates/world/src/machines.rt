@@ -10,7 +10,7 @@ ghost use Rattle.catalog.specs.Relation.{catalogue_of};
 ghost use Rattle.protocol.specs.Desk.{Deed};
 ghost use Rattle.desk.specs.Database.{Database, language};
 ghost use Rattle.desk.specs.OfCatalogue.{IsOfCatalogue};
-ghost use Rattle.world.specs.Frame.{LeavesMachines, StaysOnErr};
+ghost use Rattle.world.specs.Frame.{CallsNoStore, LeavesMachines, StaysOnErr};
 ghost use Rattle.world.specs.Contents.{OfStores, counted, held};
 ghost use Rattle.desk.specs.State.{volatile_of};
 ghost use Rattle.world.specs.Counted.{HaveRefused, counts};
@@ -20,7 +20,7 @@ ghost use Rattle.world.specs.declared.event.Event.TheVariants as events;
 ghost use Rattle.world.specs.declared.event.Event.{Event as EventNow};
 ghost use Rattle.world.specs.declared.fault.Fault.TheVariants as faults;
 ghost use Rattle.world.specs.Events.{is_nowhere, is_unsent};
-ghost use Rattle.world.specs.EventApplied.{IsAtSite, told_by_desk};
+ghost use Rattle.world.specs.EventApplied.{IsAtSite, may_call, may_call_at, told_by_desk};
 ghost use Rattle.world.specs.Refused.{IsRefused, IsRefusedFor};
 ghost use Rattle.world.specs.Runs.{IsRun, IsSpared, Spares, StepsOn, entry_of};
 ghost use Rattle.world.specs.Seated.{place_of};
@@ -47,10 +47,10 @@ use terms::text::Text;
 
 /// The coordinator, and the sites in the catalogue's order.
 #[derive(Drop)]
-pub(crate) struct Machines<D: DeskStore, S: SiteStore> {
-    pub(crate) alloc: Global,
-    pub(crate) desk: Desk<D>,
-    pub(crate) sites: Vec<Site<S>>,
+pub struct Machines<D: DeskStore, S: SiteStore> {
+    pub alloc: Global,
+    pub desk: Desk<D>,
+    pub sites: Vec<Site<S>>,
 }
 
 impl<D: DeskStore, S: SiteStore> Machines<D, S> {
@@ -64,16 +64,18 @@ impl<D: DeskStore, S: SiteStore> Machines<D, S> {
     ghost use Rattle.store.specs.declared.letter.Letter.{Letter as LetterNow};
     ghost use Rattle.protocol.specs.StatementCourse.{passes};
     ghost use Rattle.desk.specs.Database.{sent};
-    ghost use Rattle.world.specs.Reasons.{CallKept, DeskTells, SiteTells, Tells};
+    ghost use Rattle.protocol.specs.Delivery.{CallKept};
+    ghost use Rattle.world.specs.Reasons.{DeskTells, SiteTells, Tells};
     ghost use Rattle.world.specs.Refused.{DeskRestartTells, IsRefused, PlaceTells};
     ghost use Rattle.protocol.specs.World.{begins, desk_restarts};
     ghost use Rattle.desk.specs.Request.{IsOver};
     ghost use Rattle.desk.specs.Database.{Database, language};
-    ghost use Rattle.world.specs.Counted.{HaveRefused, NoFewer, counts};
+    ghost use Rattle.world.specs.Counted.{HaveRefused, counts};
     ghost use Rattle.world.specs.Stopping.{StopsFor};
     ghost use Rattle.world.specs.Taking.{CameUnless, stop_of};
     ghost use Rattle.site.specs.Refusals.{AsksToKeep};
-    ghost use Rattle.world.specs.Frame.{LeavesMachines, StaysOnErr};
+    ghost use Rattle.world.specs.EventApplied.{may_call_at};
+    ghost use Rattle.world.specs.Frame.{CallsNoStore, LeavesMachines, StaysOnErr};
     ghost use Rattle.world.specs.Contents.{OfStores, held};
     ghost use Rattle.world.specs.Machines.{AreFit, Asked, Came, Leads, Stated, happens_at, is_for_site, is_of_site, is_order, world_of};
     ghost use Rattle.catalog.specs.Relation.{catalogue_of};
@@ -90,7 +92,7 @@ impl<D: DeskStore, S: SiteStore> Machines<D, S> {
             → IfOk result (λ out. is_desk_within (desk_began (desk_of db (held D.kept S.kept self.old).table)) ≡ true) }
         ensures full { (db : Database) → IsOver db self.old.desk.catalog.0 → AreFit db (held D.kept S.kept self.old)
             → IfErr result (λ told. (told ≡ refusals.Memory) ⊎ IsRefused db (volatile_of self.old.desk.volatile) calls.Begin told) }
-        ensures uncalled { counts D.refused S.refused self.new ≡ counts D.refused S.refused self.old }
+        ensures uncalled { CallsNoStore self.old self.new }
         ensures blames { IfErr result (StopsFor (counts D.refused S.refused self.old) (counts D.refused S.refused self.new)) }
         ensures err { OnErr result (held D.kept S.kept self.new ≡ held D.kept S.kept self.old) }
     {
@@ -103,7 +105,7 @@ impl<D: DeskStore, S: SiteStore> Machines<D, S> {
         ensures ok { (db : Database) (choice : Choice (language db)) → IsOver db self.old.desk.catalog.0 → AreFit db (held D.kept S.kept self.old)
             → IfOk result (λ out. Asked db txn choice Commit_call (held D.kept S.kept self.old) (held D.kept S.kept self.new) out.letters out.replies) }
         ensures told { (db : Database) → IfErr result (λ told. (told ≡ refusals.Memory) ⊎ IsRefused db (volatile_of self.old.desk.volatile) (calls.Commit txn) told) }
-        ensures uncalled { counts D.refused S.refused self.new ≡ counts D.refused S.refused self.old }
+        ensures uncalled { CallsNoStore self.old self.new }
         ensures blames { IfErr result (StopsFor (counts D.refused S.refused self.old) (counts D.refused S.refused self.new)) }
         ensures err { OnErr result (held D.kept S.kept self.new ≡ held D.kept S.kept self.old) }
     {
@@ -116,7 +118,7 @@ impl<D: DeskStore, S: SiteStore> Machines<D, S> {
         ensures ok { (db : Database) (choice : Choice (language db)) → IsOver db self.old.desk.catalog.0 → AreFit db (held D.kept S.kept self.old)
             → IfOk result (λ out. Asked db txn choice Rollback (held D.kept S.kept self.old) (held D.kept S.kept self.new) out.letters out.replies) }
         ensures told { (db : Database) → IfErr result (λ told. (told ≡ refusals.Memory) ⊎ IsRefused db (volatile_of self.old.desk.volatile) (calls.Rollback txn) told) }
-        ensures uncalled { counts D.refused S.refused self.new ≡ counts D.refused S.refused self.old }
+        ensures uncalled { CallsNoStore self.old self.new }
         ensures blames { IfErr result (StopsFor (counts D.refused S.refused self.old) (counts D.refused S.refused self.new)) }
         ensures err { OnErr result (held D.kept S.kept self.new ≡ held D.kept S.kept self.old) }
     {
@@ -129,7 +131,7 @@ impl<D: DeskStore, S: SiteStore> Machines<D, S> {
         ensures ok { (db : Database) (choice : Choice (language db)) → IsOver db self.old.desk.catalog.0 → AreFit db (held D.kept S.kept self.old)
             → IfOk result (λ out. Asked db txn choice Give_up (held D.kept S.kept self.old) (held D.kept S.kept self.new) out.letters out.replies) }
         ensures own { IfErr result (λ told. told ≡ refusals.Memory) }
-        ensures uncalled { counts D.refused S.refused self.new ≡ counts D.refused S.refused self.old }
+        ensures uncalled { CallsNoStore self.old self.new }
         ensures err { OnErr result (held D.kept S.kept self.new ≡ held D.kept S.kept self.old) }
     {
         self.desk.give_up(txn)
@@ -138,10 +140,11 @@ impl<D: DeskStore, S: SiteStore> Machines<D, S> {
     /// The coordinator restarts.
     pub(crate) fn restart(&mut self, kept: bool) -> Result<Out, Refusal>
         ensures leaves { LeavesMachines D.is_clean S.is_clean D.is_sound S.is_sound D.refused S.refused self.old self.new }
-        ensures ok { (db : Database) → OfStores D.is_clean S.is_clean self.new → OfStores D.is_sound S.is_sound self.old → AreFit db (held D.kept S.kept self.old)
+        ensures ok { (db : Database) → IsOver db self.old.desk.catalog.0 → OfStores D.is_clean S.is_clean self.new → OfStores D.is_sound S.is_sound self.old → AreFit db (held D.kept S.kept self.old)
             → IfOk result (λ out. Leads db desk_restarts (held D.kept S.kept self.old) (held D.kept S.kept self.new) out.letters out.replies) }
         ensures called { OnOk result (kept ≡ true) }
-        ensures told { IfErr result (DeskRestartTells (OfStores D.is_clean S.is_clean self.new × OfStores D.is_sound S.is_sound self.old) (HaveRefused (counts D.refused S.refused self.old) (counts D.refused S.refused self.new)) kept (D.kept self.old.desk.store)) }
+        ensures told { IfErr result (DeskRestartTells (OfStores D.is_clean S.is_clean self.new × OfStores D.is_sound S.is_sound self.old) (HaveRefused (counts D.refused S.refused self.old) (counts D.refused S.refused self.new)) kept self.old.desk.catalog.0 (D.kept self.old.desk.store)) }
+        ensures uncalled { kept ≡ false → CallsNoStore self.old self.new }
         ensures err { StaysOnErr (OfStores D.is_clean S.is_clean) (OfStores D.is_sound S.is_sound) (held D.kept S.kept) self.old self.new result }
     {
         self.desk.restart_kept(kept)
@@ -154,7 +157,7 @@ impl<D: DeskStore, S: SiteStore> Machines<D, S> {
             → IfOk result (λ out. Stated db txn text.now (held D.kept S.kept self.old) (held D.kept S.kept self.new) out.letters out.replies) }
         ensures told { (db : Database) → IsOfCatalogue db → db.catalogue ≡ catalogue_of self.old.desk.catalog → AreFit db (held D.kept S.kept self.old)
             → IfErr result (λ told. (told ≡ refusals.Memory) ⊎ IsRefused db (volatile_of self.old.desk.volatile) (calls.State txn text.now) told) }
-        ensures uncalled { counts D.refused S.refused self.new ≡ counts D.refused S.refused self.old }
+        ensures uncalled { CallsNoStore self.old self.new }
         ensures blames { IfErr result (StopsFor (counts D.refused S.refused self.old) (counts D.refused S.refused self.new)) }
         ensures err { OnErr result (held D.kept S.kept self.new ≡ held D.kept S.kept self.old) }
     {
@@ -170,6 +173,7 @@ impl<D: DeskStore, S: SiteStore> Machines<D, S> {
             → IfErr result (DeskTells db (held D.kept S.kept self.old) letter.now) }
         ensures refusal { IfOk result (λ out. out.kept ≡ false → (kept ≡ false) ⊎ HaveRefused (counts D.refused S.refused self.old) (counts D.refused S.refused self.new)) }
         ensures own { IfErr result (λ told. (told ≡ refusals.Memory) ⊎ (told ≡ refusals.Full)) }
+        ensures uncalled { kept ≡ false → CallsNoStore self.old self.new }
         ensures err { StaysOnErr (OfStores D.is_clean S.is_clean) (OfStores D.is_sound S.is_sound) (held D.kept S.kept) self.old self.new result }
     {
         self.desk.take_kept(letter, kept)
@@ -189,6 +193,7 @@ impl<D: DeskStore, S: SiteStore> Machines<D, S> {
         ensures sent { result ≢ Err faults.Unsent }
         ensures blames { kept ≡ true → OfStores D.is_clean S.is_clean self.new → OfStores D.is_sound S.is_sound self.old
             → IfErr result (λ fault. IfSome (stop_of fault) (StopsFor (counts D.refused S.refused self.old) (counts D.refused S.refused self.new))) }
+        ensures uncalled { kept ≡ false → CallsNoStore self.old self.new }
         ensures err { StaysOnErr (OfStores D.is_clean S.is_clean) (OfStores D.is_sound S.is_sound) (held D.kept S.kept) self.old self.new result }
     {
         if !is_order(&letter.body) {
@@ -221,6 +226,7 @@ impl<D: DeskStore, S: SiteStore> Machines<D, S> {
             → IfErr result (PlaceTells (OfStores D.is_clean S.is_clean self.new × OfStores D.is_sound S.is_sound self.old) (HaveRefused (counts D.refused S.refused self.old) (counts D.refused S.refused self.new)) what kept seat) }
         ensures blames { (letter : LetterNow) → what ≡ things.Take letter → kept ≡ true → OfStores D.is_clean S.is_clean self.new → OfStores D.is_sound S.is_sound self.old
             → IfErr result (λ fault. IfSome (stop_of (faults.Site fault)) (StopsFor (counts D.refused S.refused self.old) (counts D.refused S.refused self.new))) }
+        ensures uncalled { may_call_at what kept ≡ false → CallsNoStore self.old self.new }
         ensures err { StaysOnErr (OfStores D.is_clean S.is_clean) (OfStores D.is_sound S.is_sound) (held D.kept S.kept) self.old self.new result }
     {
         match act_among(self.alloc, &mut self.sites, what, kept) {
@@ -299,6 +305,7 @@ fn deliver<D: DeskStore, S: SiteStore>(
     ensures nowhere { is_unsent machines.old.desk.catalog.0 log.now.items (events.Deliver number kept) ≡ true → result ≡ Err faults.Unsent }
     ensures refused { (db : Database) → IsOfCatalogue db → db.catalogue ≡ catalogue_of machines.old.desk.catalog → AreFit db (held D.kept S.kept machines.old)
         → IfErr result (IsRefusedFor (OfStores D.is_clean S.is_clean machines.new × OfStores D.is_sound S.is_sound machines.old) db (counted D.kept S.kept D.refused S.refused machines.old) (counted D.kept S.kept D.refused S.refused machines.new) log.now.items (events.Deliver number kept)) }
+    ensures uncalled { kept ≡ false → CallsNoStore machines.old machines.new }
     ensures err { StaysOnErr (OfStores D.is_clean S.is_clean) (OfStores D.is_sound S.is_sound) (held D.kept S.kept) machines.old machines.new result }
 {
     let Some(letter) = log.letter(number) else {
@@ -321,6 +328,7 @@ fn call<D: DeskStore, S: SiteStore>(
         → IsRun db whole (held D.kept S.kept machines.old) entries past → IfOk result (λ out. StepsOn db whole (held D.kept S.kept machines.old) (held D.kept S.kept machines.new) entries (entries ++ entry_of (events.Call call.now) out ∷ []) past) }
     ensures refused { (db : Database) → IsOfCatalogue db → db.catalogue ≡ catalogue_of machines.old.desk.catalog → AreFit db (held D.kept S.kept machines.old)
         → IfErr result (λ told. (told ≡ refusals.Memory) ⊎ IsRefused db (volatile_of machines.old.desk.volatile) call.now told) }
+    ensures uncalled { CallsNoStore machines.old machines.new }
     ensures err { OnErr result (held D.kept S.kept machines.new ≡ held D.kept S.kept machines.old) }
 {
     match call {
@@ -346,6 +354,7 @@ fn apply_event_at<D: DeskStore, S: SiteStore>(
     ensures nowhere { is_nowhere machines.old.desk.catalog.0 (place_of what) ≡ true → result ≡ Err faults.Unsent }
     ensures refused { (db : Database) (entries : List EntryNow) (at : EventNow) → IsOfCatalogue db → db.catalogue ≡ catalogue_of machines.old.desk.catalog → AreFit db (held D.kept S.kept machines.old) → IsAtSite what kept at
         → IfErr result (IsRefusedFor (OfStores D.is_clean S.is_clean machines.new × OfStores D.is_sound S.is_sound machines.old) db (counted D.kept S.kept D.refused S.refused machines.old) (counted D.kept S.kept D.refused S.refused machines.new) entries at) }
+    ensures uncalled { may_call_at what kept ≡ false → CallsNoStore machines.old machines.new }
     ensures err { StaysOnErr (OfStores D.is_clean S.is_clean) (OfStores D.is_sound S.is_sound) (held D.kept S.kept) machines.old machines.new result }
 {
     if !has_site(machines.desk.catalog(), what.site()) {
@@ -372,6 +381,7 @@ pub(crate) fn apply_event<D: DeskStore, S: SiteStore>(
     ensures nowhere { is_unsent machines.old.desk.catalog.0 log.now.items event.now ≡ true → (result ≡ Err faults.Unsent) ⊎ (result ≡ Err (faults.Desk refusals.Memory)) }
     ensures refused { (db : Database) → IsOfCatalogue db → db.catalogue ≡ catalogue_of machines.old.desk.catalog → AreFit db (held D.kept S.kept machines.old)
         → IfErr result (IsRefusedFor (OfStores D.is_clean S.is_clean machines.new × OfStores D.is_sound S.is_sound machines.old) db (counted D.kept S.kept D.refused S.refused machines.old) (counted D.kept S.kept D.refused S.refused machines.new) log.now.items event.now) }
+    ensures uncalled { may_call event.now ≡ false → CallsNoStore machines.old machines.new }
     ensures err { StaysOnErr (OfStores D.is_clean S.is_clean) (OfStores D.is_sound S.is_sound) (held D.kept S.kept) machines.old machines.new result }
 {
     match event {

@@ -6,7 +6,7 @@ ghost use Rattle.desk.specs.Database.{Database};
 ghost use Rattle.desk.specs.OfCatalogue.{IsOfCatalogue};
 ghost use Rattle.protocol.specs.Rounds.{RanksUnder};
 ghost use Rattle.desk.specs.declared.refusal.Refusal.TheVariants as refusals;
-ghost use Rattle.world.specs.Counted.{NoFewer, counts};
+ghost use Rattle.world.specs.Counted.{counts};
 ghost use Rattle.world.specs.Mailbox.{Breaks, Goes, settled};
 ghost use Rattle.world.specs.Frame.{Blames, LeavesMachines, OverDatabase, StaysOnErr};
 ghost use Rattle.world.specs.Contents.{OfStores, counted, held};

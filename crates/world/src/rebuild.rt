@@ -8,8 +8,8 @@ ghost use Rattle.catalog.specs.Relation.{catalogue_of};
 ghost use Rattle.desk.specs.Database.{Database};
 ghost use Rattle.desk.specs.Planned.{site_in};
 ghost use Rattle.world.specs.declared.fault.Fault.TheVariants as faults;
-ghost use Rattle.world.specs.Base.{database};
-ghost use Rattle.world.specs.Counted.{NoFewer, counts, counts_of};
+ghost use Rattle.desk.specs.CatalogueDatabase.{database};
+ghost use Rattle.world.specs.Counted.{counts, counts_of};
 ghost use Rattle.world.specs.Fault.{FailsFor};
 ghost use Rattle.world.specs.Frame.{LeavesMachines, LeavesSites, StaysAsItIs};
 ghost use Rattle.store.specs.Frame.{LeavesStore};
@@ -164,7 +164,7 @@ pub(crate) fn settled_parts<D: DeskStore, S: SiteStore>(
 }
 
 /// The parts that are kept of a leaf, by key. None of a leaf that the catalogue doesn't have.
-pub(crate) fn kept_parts<D: DeskStore, S: SiteStore>(
+pub fn kept_parts<D: DeskStore, S: SiteStore>(
     machines: &mut Machines<D, S>,
     leaf: &Leaf,
 ) -> Result<Option<Vec<Part>>, Fault>
@@ -364,7 +364,7 @@ fn everything_of(alloc: Global, catalog: &Catalog, name: &Text) -> Result<Option
 }
 
 /// The rows of a relation in the settled fragments; none of a relation that there isn't.
-pub(crate) fn rebuilt<D: DeskStore, S: SiteStore>(
+pub fn rebuilt<D: DeskStore, S: SiteStore>(
     machines: &mut Machines<D, S>,
     name: &Text,
 ) -> Result<Option<Vec<Row>>, Fault>

@@ -6,9 +6,10 @@ ghost use Rattle.store.specs.declared.letter.Letter.{Letter as LetterNow};
 ghost use Rattle.store.specs.Fault.{HasRefused};
 ghost use Rattle.protocol.specs.Letters.{kept_in};
 ghost use Rattle.site.specs.Refusals.{AsksToKeep};
-ghost use Rattle.world.specs.Frame.{LeavesSites};
+ghost use Rattle.world.specs.EventApplied.{may_call_at};
+ghost use Rattle.world.specs.Frame.{LeavesSites, stores_of};
 ghost use Rattle.store.specs.Frame.{LeavesStore};
-ghost use Rattle.world.specs.Counted.{HaveRefused, NoFewer, counts_of};
+ghost use Rattle.world.specs.Counted.{HaveRefused, counts_of};
 ghost use Rattle.world.specs.declared.sites.SiteAction.TheVariants as things;
 ghost use Rattle.world.specs.declared.fault.Fault.TheVariants as faults;
 ghost use Rattle.std.specs.List.{AllByRecursion};
@@ -28,7 +29,7 @@ use terms::text::Text;
 
 /// Something that is done at a site.
 #[derive(Debug, Drop)]
-pub(crate) enum SiteAction {
+pub enum SiteAction {
     /// A letter comes to the site that it is for.
     Take(Letter),
     /// The site gives a visit up.
@@ -41,7 +42,7 @@ pub(crate) enum SiteAction {
 
 impl SiteAction {
     /// The site at which it is done.
-    pub(crate) fn site(&self) -> &Text
+    pub fn site(&self) -> &Text
         ensures { result.now ≡ place_of self.now }
     {
         match self {
@@ -60,8 +61,8 @@ pub(crate) fn is_called<S: SiteStore>(site: &Site<S>, name: &Text) -> bool
     *name == *site.name()
 }
 
-/// Something is done at its site. On a fault nothing has changed.
-fn act_on<S: SiteStore>(
+/// Something is done at its site: the step of a site by itself. On a fault nothing has changed, and the site says why.
+pub fn act_on<S: SiteStore>(
     alloc: Global,
     site: &mut Site<S>,
     what: SiteAction,
@@ -75,6 +76,7 @@ fn act_on<S: SiteStore>(
     ensures called { (site : List ℕ) → what ≡ things.Restart site → OnOk result (kept ≡ true) }
     ensures told { (letter : LetterNow) → what ≡ things.Take letter → is_called letter.site (seat_from S.kept site.old) ≡ true → IfErr result (SiteTells (seat_from S.kept site.old) letter) }
     ensures fails { IfErr result (PlaceTells (S.is_clean site.new.store × S.is_sound site.old.store) (HasRefused (S.refused site.old.store) (S.refused site.new.store)) what kept (seat_from S.kept site.old)) }
+    ensures uncalled { may_call_at what kept ≡ false → site.new.store ≡ site.old.store }
     ensures err { S.is_clean site.new.store → S.is_sound site.old.store → OnErr result (seat_from S.kept site.new ≡ seat_from S.kept site.old) }
 {
     match what {
@@ -112,6 +114,7 @@ fn act_at<S: SiteStore>(
     ensures told { (letter : LetterNow) (seat : Seat) → what ≡ things.Take letter → seat_of letter.site (seats_in S.kept sites.old) ≡ Some seat → IfErr result (SiteTells seat letter) }
     ensures fails { (seat : Seat) → seat_of (place_of what) (seats_in S.kept sites.old) ≡ Some seat
         → IfErr result (PlaceTells (AllByRecursion (λ site. S.is_clean site.store) sites.new × AllByRecursion (λ site. S.is_sound site.store) sites.old) (HaveRefused (counts_of S.refused sites.old) (counts_of S.refused sites.new)) what kept seat) }
+    ensures uncalled { may_call_at what kept ≡ false → stores_of sites.new ≡ stores_of sites.old }
     ensures err { AllByRecursion (λ site. S.is_clean site.store) sites.new → AllByRecursion (λ site. S.is_sound site.store) sites.old → OnErr result (seats_in S.kept sites.new ≡ seats_in S.kept sites.old) }
 {
     let Some((site, rest)) = sites.split_first_mut() else {
@@ -141,6 +144,7 @@ pub(crate) fn act_among<S: SiteStore>(
     ensures told { (letter : LetterNow) (seat : Seat) → what ≡ things.Take letter → seat_of letter.site (seats_in S.kept sites.old.items) ≡ Some seat → IfErr result (SiteTells seat letter) }
     ensures fails { (seat : Seat) → seat_of (place_of what) (seats_in S.kept sites.old.items) ≡ Some seat
         → IfErr result (PlaceTells (AllByRecursion (λ site. S.is_clean site.store) sites.new.items × AllByRecursion (λ site. S.is_sound site.store) sites.old.items) (HaveRefused (counts_of S.refused sites.old.items) (counts_of S.refused sites.new.items)) what kept seat) }
+    ensures uncalled { may_call_at what kept ≡ false → stores_of sites.new.items ≡ stores_of sites.old.items }
     ensures err { AllByRecursion (λ site. S.is_clean site.store) sites.new.items → AllByRecursion (λ site. S.is_sound site.store) sites.old.items → OnErr result (seats_in S.kept sites.new.items ≡ seats_in S.kept sites.old.items) }
 {
     act_at(alloc, sites.as_mut_slice(), what, kept)

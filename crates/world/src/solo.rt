@@ -1,6 +1,6 @@
 //! A database for one client at a time.
 
-ghost use Rattle.std.specs.Prelude.{◌≡◌, ◌≢◌, ◌⊎◌, ℕ, true, false, List, [], None, Some, Err, IfErr, IfOk, OnErr, OnOk, is_some};
+ghost use Rattle.std.specs.Prelude.{◌≡◌, ◌≢◌, ◌⊎◌, ℕ, true, List, [], None, Some, Err, IfErr, IfOk, OnErr, OnOk, is_some};
 ghost use Rattle.std.specs.Option.{option_map};
 ghost use Rattle.meaning.specs.Whole.{FitsSchema, Relations};
 ghost use Rattle.catalog.specs.FragmentLeaf.{schemas_of};
@@ -9,27 +9,24 @@ ghost use Rattle.reader.specs.declared.command.Command.TheVariants.{Begin, Commi
 ghost use Rattle.reader.specs.declared.command.Command.{Command as CommandNow};
 ghost use Rattle.meaning.specs.declared.statement.Statement.{Statement};
 ghost use Rattle.store.specs.declared.name.Txn.{Txn as TxnNow};
-ghost use Rattle.world.specs.Denials.{Declines, Denies, IsUnreadable};
+ghost use Rattle.world.specs.Commands.{Executes, IsCommand, IsUnreadable, UnlessStopped, heard_in};
 ghost use Rattle.reader.specs.Command.{IsTextOf};
-ghost use Rattle.protocol.specs.Client.{ReachedLaw};
 ghost use Rattle.protocol.specs.Desk.{Deed};
 ghost use Rattle.store.specs.PlainDesk.{kept_of as desk_kept};
 ghost use Rattle.store.specs.PlainSite.{IsSound, kept_of};
-ghost use Rattle.desk.specs.Database.{Database, language};
-ghost use Rattle.desk.specs.OfCatalogue.{IsOfCatalogue};
+ghost use Rattle.desk.specs.Database.{language};
 ghost use Rattle.desk.specs.declared.refusal.Refusal.{Refusal as RefusalNow};
 ghost use Rattle.desk.specs.declared.refusal.Refusal.TheVariants as refusals;
 ghost use Rattle.world.specs.declared.fault.Fault.TheVariants as faults;
-ghost use Rattle.world.specs.Account.{IsHeardRightly, IsRefusedRightly};
-ghost use Rattle.world.specs.Base.{database, fits};
-ghost use Rattle.world.specs.Counted.{NoFewer, counts};
+ghost use Rattle.desk.specs.CatalogueDatabase.{database, fits};
+ghost use Rattle.world.specs.Counted.{counts};
 ghost use Rattle.world.specs.BatchRuns.{HasRun, WasStopped};
 ghost use Rattle.world.specs.Fault.{FailsFor, is_memory};
-ghost use Rattle.world.specs.Frame.{Blames, LeavesMachines, OverDatabase, StaysAsItIs, StaysServed};
+ghost use Rattle.world.specs.Frame.{ComesTo, LeavesMachines, StaysAsItIs};
 ghost use Rattle.world.specs.Contents.{OfStores, counted, held, unrefused};
 ghost use Rattle.world.specs.Machines.{AreFit};
-ghost use Rattle.world.specs.Executed.{Obeys, Stands, StandsOn};
-ghost use Rattle.world.specs.Client.{Executes, IsServed, IsServedOn, still_open};
+ghost use Rattle.world.specs.Executed.{Stands};
+ghost use Rattle.world.specs.Client.{IsServed, IsServedOn, still_open};
 ghost use Rattle.world.specs.Settled.{AreThoseOf, after_committed, parts_kept, rows_shown};
 ghost use Rattle.world.specs.Stopping.{StopsFor, is_stop, stopped_by};
 ghost use Rattle.world.specs.Replies.{Tells};
@@ -42,8 +39,8 @@ use crate::batch::run_all;
 use crate::client::{begin, commit, roll_back, state};
 use crate::fault::Fault;
 use crate::laws::{
-    account_follows, database_is_of_catalogue, deeds_follow, denied_for_a_reason, grows_quiet,
-    obeyed_unless_refused, one_client_is_a_run, served_is_serial, stands_again,
+    commands_follow, database_is_of_catalogue, grows_quiet, moves_follow, obeyed_unless_refused,
+    one_client_is_a_run, served_is_serial,
 };
 use crate::machines::Machines;
 use crate::rebuild::{kept_parts, rebuilt};
@@ -152,14 +149,9 @@ fn still_open(txn: Txn, heard: &[Notice]) -> Option<Txn>
 impl<D: DeskStore, S: SiteStore> Solo<D, S> {
     /// BEGIN: a transaction begins, if none is open.
     fn begins(&mut self) -> Result<Vec<Notice>, Refusal>
-        ensures leaves { LeavesMachines D.is_clean S.is_clean D.is_sound S.is_sound D.refused S.refused self.old.machines self.new.machines }
-        ensures blames { Blames (OfStores D.is_clean S.is_clean) (OfStores D.is_sound S.is_sound) (counts D.refused S.refused) self.old.machines self.new.machines result }
-        ensures ok { (db : Database) (text : List ℕ) → IsOfCatalogue db → db.catalogue ≡ catalogue_of self.old.machines.desk.catalog → OfStores D.is_clean S.is_clean self.new.machines → OfStores D.is_sound S.is_sound self.old.machines → AreFit db (counted D.kept S.kept D.refused S.refused self.old.machines)
-            → IsTextOf db.schemas text Begin → IfOk result (λ heard. Executes db text self.old.current (counted D.kept S.kept D.refused S.refused self.old.machines) self.new.current (counted D.kept S.kept D.refused S.refused self.new.machines) heard.items) }
-        ensures denied { (db : Database) (text : List ℕ) → IsOfCatalogue db → db.catalogue ≡ catalogue_of self.old.machines.desk.catalog → OfStores D.is_clean S.is_clean self.new.machines → OfStores D.is_sound S.is_sound self.old.machines → AreFit db (counted D.kept S.kept D.refused S.refused self.old.machines)
-            → IsTextOf db.schemas text Begin → IfErr result (Declines db text self.old.current (counted D.kept S.kept D.refused S.refused self.old.machines) (counted D.kept S.kept D.refused S.refused self.new.machines)) }
+        ensures comes { ComesTo (OfStores D.is_clean S.is_clean) (OfStores D.is_sound S.is_sound) (counted D.kept S.kept D.refused S.refused) self.old.machines self.new.machines result
+            (λ db done moves. (text : List ℕ) → IsTextOf db.schemas text Begin → IsCommand db.schemas text self.old.current self.new.current moves (heard_in (λ heard. heard.items) done)) }
         ensures inside { (txn : TxnNow) → self.old.current ≡ Some txn → result ≡ Err refusals.Busy }
-        ensures served { StaysServed (OfStores D.is_clean S.is_clean) (OfStores D.is_sound S.is_sound) (counted D.kept S.kept D.refused S.refused) self.old.machines self.new.machines }
         ensures still { OnErr result (self.new.current ≡ self.old.current) }
     {
         match self.current {
@@ -176,14 +168,9 @@ impl<D: DeskStore, S: SiteStore> Solo<D, S> {
 
     /// COMMIT: the commit of the open transaction is asked for.
     fn commits(&mut self) -> Result<Vec<Notice>, Refusal>
-        ensures leaves { LeavesMachines D.is_clean S.is_clean D.is_sound S.is_sound D.refused S.refused self.old.machines self.new.machines }
-        ensures blames { Blames (OfStores D.is_clean S.is_clean) (OfStores D.is_sound S.is_sound) (counts D.refused S.refused) self.old.machines self.new.machines result }
-        ensures ok { (db : Database) (text : List ℕ) → IsOfCatalogue db → db.catalogue ≡ catalogue_of self.old.machines.desk.catalog → OfStores D.is_clean S.is_clean self.new.machines → OfStores D.is_sound S.is_sound self.old.machines → AreFit db (counted D.kept S.kept D.refused S.refused self.old.machines)
-            → IsTextOf db.schemas text Commit → IfOk result (λ heard. Executes db text self.old.current (counted D.kept S.kept D.refused S.refused self.old.machines) self.new.current (counted D.kept S.kept D.refused S.refused self.new.machines) heard.items) }
-        ensures denied { (db : Database) (text : List ℕ) → IsOfCatalogue db → db.catalogue ≡ catalogue_of self.old.machines.desk.catalog → OfStores D.is_clean S.is_clean self.new.machines → OfStores D.is_sound S.is_sound self.old.machines → AreFit db (counted D.kept S.kept D.refused S.refused self.old.machines)
-            → IsTextOf db.schemas text Commit → IfErr result (Declines db text self.old.current (counted D.kept S.kept D.refused S.refused self.old.machines) (counted D.kept S.kept D.refused S.refused self.new.machines)) }
+        ensures comes { ComesTo (OfStores D.is_clean S.is_clean) (OfStores D.is_sound S.is_sound) (counted D.kept S.kept D.refused S.refused) self.old.machines self.new.machines result
+            (λ db done moves. (text : List ℕ) → IsTextOf db.schemas text Commit → IsCommand db.schemas text self.old.current self.new.current moves (heard_in (λ heard. heard.items) done)) }
         ensures outside { self.old.current ≡ None → result ≡ Err refusals.NoTransaction }
-        ensures served { StaysServed (OfStores D.is_clean S.is_clean) (OfStores D.is_sound S.is_sound) (counted D.kept S.kept D.refused S.refused) self.old.machines self.new.machines }
         ensures still { OnErr result (self.new.current ≡ self.old.current) }
     {
         let Some(txn) = self.current else {
@@ -200,14 +187,9 @@ impl<D: DeskStore, S: SiteStore> Solo<D, S> {
 
     /// ROLLBACK: the open transaction is rolled back.
     fn rolls_back(&mut self) -> Result<Vec<Notice>, Refusal>
-        ensures leaves { LeavesMachines D.is_clean S.is_clean D.is_sound S.is_sound D.refused S.refused self.old.machines self.new.machines }
-        ensures blames { Blames (OfStores D.is_clean S.is_clean) (OfStores D.is_sound S.is_sound) (counts D.refused S.refused) self.old.machines self.new.machines result }
-        ensures ok { (db : Database) (text : List ℕ) → IsOfCatalogue db → db.catalogue ≡ catalogue_of self.old.machines.desk.catalog → OfStores D.is_clean S.is_clean self.new.machines → OfStores D.is_sound S.is_sound self.old.machines → AreFit db (counted D.kept S.kept D.refused S.refused self.old.machines)
-            → IsTextOf db.schemas text Rollback → IfOk result (λ heard. Executes db text self.old.current (counted D.kept S.kept D.refused S.refused self.old.machines) self.new.current (counted D.kept S.kept D.refused S.refused self.new.machines) heard.items) }
-        ensures denied { (db : Database) (text : List ℕ) → IsOfCatalogue db → db.catalogue ≡ catalogue_of self.old.machines.desk.catalog → OfStores D.is_clean S.is_clean self.new.machines → OfStores D.is_sound S.is_sound self.old.machines → AreFit db (counted D.kept S.kept D.refused S.refused self.old.machines)
-            → IsTextOf db.schemas text Rollback → IfErr result (Declines db text self.old.current (counted D.kept S.kept D.refused S.refused self.old.machines) (counted D.kept S.kept D.refused S.refused self.new.machines)) }
+        ensures comes { ComesTo (OfStores D.is_clean S.is_clean) (OfStores D.is_sound S.is_sound) (counted D.kept S.kept D.refused S.refused) self.old.machines self.new.machines result
+            (λ db done moves. (text : List ℕ) → IsTextOf db.schemas text Rollback → IsCommand db.schemas text self.old.current self.new.current moves (heard_in (λ heard. heard.items) done)) }
         ensures outside { self.old.current ≡ None → result ≡ Err refusals.NoTransaction }
-        ensures served { StaysServed (OfStores D.is_clean S.is_clean) (OfStores D.is_sound S.is_sound) (counted D.kept S.kept D.refused S.refused) self.old.machines self.new.machines }
         ensures still { OnErr result (self.new.current ≡ self.old.current) }
     {
         let Some(txn) = self.current else {
@@ -224,38 +206,28 @@ impl<D: DeskStore, S: SiteStore> Solo<D, S> {
 
     /// A statement: of the open transaction, or a transaction of its own.
     fn states(&mut self, text: &str) -> Result<Vec<Notice>, Refusal>
-        ensures leaves { LeavesMachines D.is_clean S.is_clean D.is_sound S.is_sound D.refused S.refused self.old.machines self.new.machines }
-        ensures blames { Blames (OfStores D.is_clean S.is_clean) (OfStores D.is_sound S.is_sound) (counts D.refused S.refused) self.old.machines self.new.machines result }
-        ensures ok { OverDatabase (OfStores D.is_clean S.is_clean) (OfStores D.is_sound S.is_sound) (counted D.kept S.kept D.refused S.refused) self.old.machines self.new.machines
-            (λ db before after. IfOk result (λ heard. Executes db text.now self.old.current before self.new.current after heard.items)) }
-        ensures denied { (db : Database) (statement : Statement) → IsOfCatalogue db → db.catalogue ≡ catalogue_of self.old.machines.desk.catalog → OfStores D.is_clean S.is_clean self.new.machines → OfStores D.is_sound S.is_sound self.old.machines → AreFit db (counted D.kept S.kept D.refused S.refused self.old.machines)
-            → IsTextOf db.schemas text.now (Run statement) → IfErr result (Declines db text.now self.old.current (counted D.kept S.kept D.refused S.refused self.old.machines) (counted D.kept S.kept D.refused S.refused self.new.machines)) }
-        ensures served { StaysServed (OfStores D.is_clean S.is_clean) (OfStores D.is_sound S.is_sound) (counted D.kept S.kept D.refused S.refused) self.old.machines self.new.machines }
+        ensures comes { ComesTo (OfStores D.is_clean S.is_clean) (OfStores D.is_sound S.is_sound) (counted D.kept S.kept D.refused S.refused) self.old.machines self.new.machines result
+            (λ db done moves. (statement : Statement) → IsTextOf db.schemas text.now (Run statement) → IsCommand db.schemas text.now self.old.current self.new.current moves (heard_in (λ heard. heard.items) done)) }
         ensures still { OnErr result (self.new.current ≡ self.old.current) }
     {
-        match self.current {
-            None => run_autocommit(&mut self.machines, text),
-            Some(txn) => match state(&mut self.machines, txn, text) {
-                Ok(heard) => {
-                    self.current = still_open(txn, heard.as_slice());
-                    Ok(heard)
-                }
-                Err(refusal) => Err(refusal),
-            },
+        let Some(txn) = self.current else {
+            return run_autocommit(&mut self.machines, text);
+        };
+        match state(&mut self.machines, txn, text) {
+            Ok(heard) => {
+                self.current = still_open(txn, heard.as_slice());
+                Ok(heard)
+            }
+            Err(refusal) => Err(refusal),
         }
     }
 
     /// This is the command of the text.
     fn obey(&mut self, command: &Command, text: &str) -> Result<Vec<Notice>, Refusal>
-        ensures leaves { LeavesMachines D.is_clean S.is_clean D.is_sound S.is_sound D.refused S.refused self.old.machines self.new.machines }
-        ensures blames { Blames (OfStores D.is_clean S.is_clean) (OfStores D.is_sound S.is_sound) (counts D.refused S.refused) self.old.machines self.new.machines result }
-        ensures ok { OverDatabase (OfStores D.is_clean S.is_clean) (OfStores D.is_sound S.is_sound) (counted D.kept S.kept D.refused S.refused) self.old.machines self.new.machines
-            (λ db before after. IsTextOf db.schemas text.now command.now → IfOk result (λ heard. Executes db text.now self.old.current before self.new.current after heard.items)) }
-        ensures denied { OverDatabase (OfStores D.is_clean S.is_clean) (OfStores D.is_sound S.is_sound) (counted D.kept S.kept D.refused S.refused) self.old.machines self.new.machines
-            (λ db before after. IsTextOf db.schemas text.now command.now → IfErr result (Declines db text.now self.old.current before after)) }
+        ensures comes { ComesTo (OfStores D.is_clean S.is_clean) (OfStores D.is_sound S.is_sound) (counted D.kept S.kept D.refused S.refused) self.old.machines self.new.machines result
+            (λ db done moves. IsTextOf db.schemas text.now command.now → IsCommand db.schemas text.now self.old.current self.new.current moves (heard_in (λ heard. heard.items) done)) }
         ensures inside { (txn : TxnNow) → self.old.current ≡ Some txn → command.now ≡ Begin → result ≡ Err refusals.Busy }
         ensures outside { self.old.current ≡ None → (command.now ≡ Commit) ⊎ (command.now ≡ Rollback) → result ≡ Err refusals.NoTransaction }
-        ensures served { StaysServed (OfStores D.is_clean S.is_clean) (OfStores D.is_sound S.is_sound) (counted D.kept S.kept D.refused S.refused) self.old.machines self.new.machines }
         ensures still { OnErr result (self.new.current ≡ self.old.current) }
     {
         match command {
@@ -268,16 +240,11 @@ impl<D: DeskStore, S: SiteStore> Solo<D, S> {
 
     /// The command of a text.
     fn command(&mut self, text: &str) -> Result<Vec<Notice>, Refusal>
-        ensures leaves { LeavesMachines D.is_clean S.is_clean D.is_sound S.is_sound D.refused S.refused self.old.machines self.new.machines }
-        ensures blames { Blames (OfStores D.is_clean S.is_clean) (OfStores D.is_sound S.is_sound) (counts D.refused S.refused) self.old.machines self.new.machines result }
-        ensures ok { OverDatabase (OfStores D.is_clean S.is_clean) (OfStores D.is_sound S.is_sound) (counted D.kept S.kept D.refused S.refused) self.old.machines self.new.machines
-            (λ db before after. IfOk result (λ heard. Executes db text.now self.old.current before self.new.current after heard.items)) }
-        ensures denied { OverDatabase (OfStores D.is_clean S.is_clean) (OfStores D.is_sound S.is_sound) (counted D.kept S.kept D.refused S.refused) self.old.machines self.new.machines
-            (λ db before after. IfErr result (Declines db text.now self.old.current before after)) }
+        ensures comes { ComesTo (OfStores D.is_clean S.is_clean) (OfStores D.is_sound S.is_sound) (counted D.kept S.kept D.refused S.refused) self.old.machines self.new.machines result
+            (λ db done moves. IsCommand db.schemas text.now self.old.current self.new.current moves (heard_in (λ heard. heard.items) done)) }
         ensures inside { (txn : TxnNow) → self.old.current ≡ Some txn → IsTextOf (schemas_of (catalogue_of self.old.machines.desk.catalog)) text.now Begin → (result ≡ Err refusals.Busy) ⊎ (result ≡ Err refusals.Memory) }
         ensures outside { self.old.current ≡ None → IsTextOf (schemas_of (catalogue_of self.old.machines.desk.catalog)) text.now Commit ⊎ IsTextOf (schemas_of (catalogue_of self.old.machines.desk.catalog)) text.now Rollback → (result ≡ Err refusals.NoTransaction) ⊎ (result ≡ Err refusals.Memory) }
         ensures reader_refusal { ((given : CommandNow) → IsTextOf (schemas_of (catalogue_of self.old.machines.desk.catalog)) text.now given → ⊥) → OnOk result ⊥ × IfErr result (IsUnreadable (schemas_of (catalogue_of self.old.machines.desk.catalog)) text.now) }
-        ensures served { StaysServed (OfStores D.is_clean S.is_clean) (OfStores D.is_sound S.is_sound) (counted D.kept S.kept D.refused S.refused) self.old.machines self.new.machines }
         ensures still { OnErr result (self.new.current ≡ self.old.current) }
     {
         one_command();
@@ -291,33 +258,16 @@ impl<D: DeskStore, S: SiteStore> Solo<D, S> {
     /// brings about come, each once, the oldest first. Says what the client hears: unless something is refused on the way, the answer of a
     /// statement, or that its transaction has begun, was committed, or was rolled back. What was heard so far is what the committed
     /// transactions answer, one after another over whole relations. What is refused is a letter, whose step leads past a limit, a write,
-    /// by a full visit, or a store call, and that only where the medium of a store has refused meanwhile. Whatever was refused, the command itself too, the next one finds all quiet or the open transaction ready. A refusal
-    /// that stops the database, since memory ran out or the medium of a store has refused meanwhile, is the answer of every later command.
+    /// by a full visit, or a store call, and that only where the medium of a store has refused meanwhile. Whatever was refused, the command
+    /// itself too, the next one finds all quiet or the open transaction ready. A refusal that stops the database, since memory ran out or
+    /// the medium of a store has refused meanwhile, is the answer of every later command.
     pub fn execute(&mut self, text: &str) -> Result<Vec<Notice>, Refusal>
         ensures leaves { LeavesMachines D.is_clean S.is_clean D.is_sound S.is_sound D.refused S.refused self.old.machines self.new.machines }
-        ensures executes { self.old.stopped ≡ None → OfStores D.is_clean S.is_clean self.new.machines → OfStores D.is_sound S.is_sound self.old.machines → AreFit (database (catalogue_of self.old.machines.desk.catalog)) (counted D.kept S.kept D.refused S.refused self.old.machines)
-            → IfOk result (λ heard. Executes (database (catalogue_of self.old.machines.desk.catalog)) text.now self.old.current (counted D.kept S.kept D.refused S.refused self.old.machines) self.new.current (counted D.kept S.kept D.refused S.refused self.new.machines) heard.items) }
+        ensures executes { (whole : Relations) (past : List (Deed (language (database (catalogue_of self.old.machines.desk.catalog))))) → self.old.stopped ≡ None → OfStores D.is_clean S.is_clean self.new.machines → OfStores D.is_sound S.is_sound self.old.machines
+            → IsServed (database (catalogue_of self.old.machines.desk.catalog)) whole (counted D.kept S.kept D.refused S.refused self.old.machines) past
+            → UnlessStopped (λ heard. heard.items) (Executes (database (catalogue_of self.old.machines.desk.catalog)) (fits (catalogue_of self.old.machines.desk.catalog)) whole text.now self.old.current (counted D.kept S.kept D.refused S.refused self.old.machines) self.new.current (counted D.kept S.kept D.refused S.refused self.new.machines) past) result }
         ensures served { (whole : Relations) (past : List (Deed (language (database (catalogue_of self.old.machines.desk.catalog))))) → OfStores D.is_clean S.is_clean self.new.machines → OfStores D.is_sound S.is_sound self.old.machines
             → IsServed (database (catalogue_of self.old.machines.desk.catalog)) whole (counted D.kept S.kept D.refused S.refused self.old.machines) past → IsServedOn (database (catalogue_of self.old.machines.desk.catalog)) whole (counted D.kept S.kept D.refused S.refused self.new.machines) past }
-        ensures obeyed { (whole : Relations) (past : List (Deed (language (database (catalogue_of self.old.machines.desk.catalog))))) → self.old.stopped ≡ None → OfStores D.is_clean S.is_clean self.new.machines → OfStores D.is_sound S.is_sound self.old.machines
-            → IsServed (database (catalogue_of self.old.machines.desk.catalog)) whole (counted D.kept S.kept D.refused S.refused self.old.machines) past
-            → Stands (database (catalogue_of self.old.machines.desk.catalog)) (fits (catalogue_of self.old.machines.desk.catalog)) self.old.current (counted D.kept S.kept D.refused S.refused self.old.machines) past
-            → IfOk result (λ heard. Obeys (database (catalogue_of self.old.machines.desk.catalog)) (fits (catalogue_of self.old.machines.desk.catalog)) whole text.now self.old.current (counted D.kept S.kept D.refused S.refused self.old.machines) self.new.current (counted D.kept S.kept D.refused S.refused self.new.machines) past heard.items) }
-        ensures right { (whole : Relations) (entries : List EntryNow) (past : List (Deed (language (database (catalogue_of self.old.machines.desk.catalog))))) → self.old.stopped ≡ None → OfStores D.is_clean S.is_clean self.new.machines → OfStores D.is_sound S.is_sound self.old.machines
-            → IsServed (database (catalogue_of self.old.machines.desk.catalog)) whole (counted D.kept S.kept D.refused S.refused self.old.machines) past → Tells (database (catalogue_of self.old.machines.desk.catalog)) entries past
-            → IfOk result (λ heard. IsHeardRightly (database (catalogue_of self.old.machines.desk.catalog)) whole text.now self.old.current (counted D.kept S.kept D.refused S.refused self.old.machines) self.new.current (counted D.kept S.kept D.refused S.refused self.new.machines) entries past heard.items) }
-        ensures refused_right { (whole : Relations) (entries : List EntryNow) (past : List (Deed (language (database (catalogue_of self.old.machines.desk.catalog))))) → self.old.stopped ≡ None → OfStores D.is_clean S.is_clean self.new.machines → OfStores D.is_sound S.is_sound self.old.machines
-            → IsServed (database (catalogue_of self.old.machines.desk.catalog)) whole (counted D.kept S.kept D.refused S.refused self.old.machines) past → Tells (database (catalogue_of self.old.machines.desk.catalog)) entries past
-            → IfErr result (λ told. is_stop told ≡ false → IsRefusedRightly (database (catalogue_of self.old.machines.desk.catalog)) whole text.now self.old.current (counted D.kept S.kept D.refused S.refused self.old.machines) (counted D.kept S.kept D.refused S.refused self.new.machines) entries past told) }
-        ensures stands { (whole : Relations) (past : List (Deed (language (database (catalogue_of self.old.machines.desk.catalog))))) → self.old.stopped ≡ None → OfStores D.is_clean S.is_clean self.new.machines → OfStores D.is_sound S.is_sound self.old.machines
-            → IsServed (database (catalogue_of self.old.machines.desk.catalog)) whole (counted D.kept S.kept D.refused S.refused self.old.machines) past
-            → Stands (database (catalogue_of self.old.machines.desk.catalog)) (fits (catalogue_of self.old.machines.desk.catalog)) self.old.current (counted D.kept S.kept D.refused S.refused self.old.machines) past
-            → self.new.stopped ≡ None → StandsOn (database (catalogue_of self.old.machines.desk.catalog)) (fits (catalogue_of self.old.machines.desk.catalog)) whole self.new.current (counted D.kept S.kept D.refused S.refused self.new.machines) past }
-        ensures denied { (whole : Relations) (past : List (Deed (language (database (catalogue_of self.old.machines.desk.catalog))))) → self.old.stopped ≡ None → OfStores D.is_clean S.is_clean self.new.machines → OfStores D.is_sound S.is_sound self.old.machines
-            → IsServed (database (catalogue_of self.old.machines.desk.catalog)) whole (counted D.kept S.kept D.refused S.refused self.old.machines) past → Stands (database (catalogue_of self.old.machines.desk.catalog)) (fits (catalogue_of self.old.machines.desk.catalog)) self.old.current (counted D.kept S.kept D.refused S.refused self.old.machines) past
-            → IfErr result (Denies (database (catalogue_of self.old.machines.desk.catalog)) text.now self.old.current (counted D.kept S.kept D.refused S.refused self.old.machines)) }
-        ensures declined { self.old.stopped ≡ None → OfStores D.is_clean S.is_clean self.new.machines → OfStores D.is_sound S.is_sound self.old.machines → AreFit (database (catalogue_of self.old.machines.desk.catalog)) (counted D.kept S.kept D.refused S.refused self.old.machines)
-            → IfErr result (Declines (database (catalogue_of self.old.machines.desk.catalog)) text.now self.old.current (counted D.kept S.kept D.refused S.refused self.old.machines) (counted D.kept S.kept D.refused S.refused self.new.machines)) }
         ensures blames { self.old.stopped ≡ None → OfStores D.is_clean S.is_clean self.new.machines → OfStores D.is_sound S.is_sound self.old.machines → IfErr result (StopsFor (counts D.refused S.refused self.old.machines) (counts D.refused S.refused self.new.machines)) }
         ensures inside { (txn : TxnNow) → self.old.stopped ≡ None → self.old.current ≡ Some txn → IsTextOf (schemas_of (catalogue_of self.old.machines.desk.catalog)) text.now Begin → (result ≡ Err refusals.Busy) ⊎ (result ≡ Err refusals.Memory) }
         ensures outside { self.old.stopped ≡ None → self.old.current ≡ None → IsTextOf (schemas_of (catalogue_of self.old.machines.desk.catalog)) text.now Commit ⊎ IsTextOf (schemas_of (catalogue_of self.old.machines.desk.catalog)) text.now Rollback → (result ≡ Err refusals.NoTransaction) ⊎ (result ≡ Err refusals.Memory) }
@@ -331,11 +281,7 @@ impl<D: DeskStore, S: SiteStore> Solo<D, S> {
         }
         database_is_of_catalogue(self.machines.desk.catalog());
         one_client_is_a_run(self.machines.desk.catalog());
-        obeyed_unless_refused(self.machines.desk.catalog());
-        denied_for_a_reason(self.machines.desk.catalog());
-        stands_again(self.machines.desk.catalog());
-        deeds_follow(self.machines.desk.catalog());
-        account_follows(self.machines.desk.catalog());
+        commands_follow(self.machines.desk.catalog());
         let done = self.command(text);
         self.stopped = stopped_by(&done);
         done
@@ -370,7 +316,7 @@ impl<D: DeskStore, S: SiteStore> Solo<D, S> {
         }
         database_is_of_catalogue(self.machines.desk.catalog());
         one_client_is_a_run(self.machines.desk.catalog());
-        account_follows(self.machines.desk.catalog());
+        moves_follow(self.machines.desk.catalog());
         served_is_serial(self.machines.desk.catalog());
         obeyed_unless_refused(self.machines.desk.catalog());
         grows_quiet(self.machines.desk.catalog());

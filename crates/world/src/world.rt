@@ -2,7 +2,7 @@
 
 ghost use Rattle.std.specs.Borrow.{follows_so, sem};
 ghost use mathlib.Core.Option.{none};
-ghost use Rattle.std.specs.Prelude.{⊤, ◌≡◌, ◌≢◌, ◌⊎◌, ◌++◌, ◌∷◌, [], true, List, Err, OnOk, OnErr, IfOk, IfErr, length, map, slice_get, take, ◌<◌};
+ghost use Rattle.std.specs.Prelude.{⊤, ◌≡◌, ◌≢◌, ◌⊎◌, ◌++◌, ◌∷◌, [], true, false, List, Err, OnOk, OnErr, IfOk, IfErr, length, map, slice_get, take, ◌<◌};
 ghost use Rattle.std.specs.Option.{option_copied, option_map};
 ghost use Rattle.meaning.specs.Whole.{FitsSchema, Relations};
 ghost use Rattle.catalog.specs.FragmentLeaf.{schemas_of};
@@ -13,15 +13,16 @@ ghost use Rattle.protocol.specs.Serial.{committed};
 ghost use Rattle.store.specs.PlainDesk.{kept_of as desk_kept};
 ghost use Rattle.store.specs.PlainSite.{IsSound, kept_of};
 ghost use Rattle.desk.specs.Database.{language};
-ghost use Rattle.world.specs.Base.{database};
+ghost use Rattle.desk.specs.CatalogueDatabase.{database};
 ghost use Rattle.desk.specs.declared.refusal.Refusal.TheVariants as refusals;
 ghost use Rattle.world.specs.declared.event.Entry.{Entry as EntryNow};
 ghost use Rattle.world.specs.declared.fault.Fault.TheVariants as faults;
+ghost use Rattle.world.specs.EventApplied.{may_call};
 ghost use Rattle.world.specs.Events.{is_unsent};
-ghost use Rattle.world.specs.Counted.{HaveRefused, NoFewer, counts};
+ghost use Rattle.world.specs.Counted.{HaveRefused, counts};
 ghost use Rattle.world.specs.Fault.{FailsFor, is_memory};
 ghost use Rattle.world.specs.Following.{Follows, FollowsAtLeast, Happens};
-ghost use Rattle.world.specs.Frame.{LeavesMachines, StaysAsItIs, StaysOnErr};
+ghost use Rattle.world.specs.Frame.{CallsNoStore, LeavesMachines, StaysAsItIs, StaysOnErr};
 ghost use Rattle.world.specs.Contents.{OfStores, counted, held};
 ghost use Rattle.world.specs.Committed.{AnswerInTurn, committed_of};
 ghost use Rattle.world.specs.Machines.{AreFit};
@@ -126,6 +127,7 @@ impl<D: DeskStore, S: SiteStore> World<D, S> {
             → IsRun (database (catalogue_of self.old.machines.desk.catalog)) whole (held D.kept S.kept self.old.machines) self.old.entries.items past
             → OnOk result (Spares (HaveRefused (counts D.refused S.refused self.old.machines) (counts D.refused S.refused self.new.machines)) (database (catalogue_of self.old.machines.desk.catalog)) (held D.kept S.kept self.old.machines) (held D.kept S.kept self.new.machines) self.old.entries.items self.new.entries.items past event) }
         ensures entry { OnOk result ((entry : EntryNow) × ((entry.event ≡ event) × (self.new.entries.items ≡ self.old.entries.items ++ entry ∷ []))) }
+        ensures uncalled { may_call event ≡ false → CallsNoStore self.old.machines self.new.machines }
         ensures unsent { result ≡ Err faults.Unsent → is_unsent self.old.machines.desk.catalog.0 self.old.entries.items event ≡ true }
         ensures nowhere { is_unsent self.old.machines.desk.catalog.0 self.old.entries.items event ≡ true → (result ≡ Err faults.Unsent) ⊎ (result ≡ Err (faults.Desk refusals.Memory)) }
         ensures refused { (whole : Relations) (past : List (Deed (language (database (catalogue_of self.old.machines.desk.catalog)))))

@@ -1,39 +1,55 @@
 -- Why `decide` meets its contract.
-use Rattle.std.proofs.Common.{rules, ◌≡◌, ◌∙◌, refl, sym, ap, true, false}
-use Rattle.world.specs.Contents.{counted}
-use Rattle.world.specs.Client.{did_decide, had_ended, is_end, tells}
-use Rattle.world.proofs.Denials.{not_decided}
+use Rattle.std.proofs.Common.{refl, sym, subst, ap, Ok, ◌∙◌, []}
+use Rattle.world.proofs.Calls.{IsOne, answered, one_call, stays, stops_as, then_back}
+use Rattle.world.proofs.Lone.{commit_taken_back}
 use Rattle.world.proofs.SiteSteps.{if_ok}
-use Rattle.world.proofs.Reaching.{same_on}
-use Rattle.world.proofs.Refusing.{if_err}
-use Rattle.world.proofs.Counting.{no_fewer}
-use Rattle.world.specs.Counted.{counts}
+use Rattle.world.specs.Client.{is_end, tells}
+use Rattle.world.specs.Commands.{IsDecided}
+use Rattle.world.specs.Contents.{OfStores, counted}
+use Rattle.world.specs.Course.{Commits}
+use Rattle.world.specs.Frame.{ComesTo}
+use Rattle.world.specs.declared.event.Call.TheVariants as call
 use Rattle.world.proofs.autocommit.decide.Goals as goal
 
-pub returns-then-tells_end-clause-ok : goal.returns-then-tells_end-clause-ok
-returns-then-tells_end-clause-ok g c = λ db of is clean sound fit.
-    let ended : tells is_end c.args.told.items ≡ true = ap (tells is_end) (sym c.as_slice.ensures.value) ∙ sym c.tells_end.ensures ∙ c.if-tells_end.true in
-    had_ended ended refl c.autocommit_reply.ensures
+pub returns-then-tells_end : goal.returns-then-tells_end
+returns-then-tells_end g c =
+    let clean = OfStores g.D.DeskStore.is_clean g.S.SiteStore.is_clean in
+    let sound = OfStores g.D.DeskStore.is_sound g.S.SiteStore.is_sound in
+    let view = counted g.D.DeskStore.kept g.S.SiteStore.kept g.D.DeskStore.refused g.S.SiteStore.refused in
+    let old = c.args.machines.now in
+    stays clean sound view old _ tt (λ db of is. record { moves = []; made = refl; is = (sym (c.tells_end.ensures ∙ ap (tells is_end) c.as_slice.ensures.value) ∙ c.if-tells_end.true, ap Ok c.autocommit_reply.ensures) })
 
-pub returns-then-tells_end-clause-served : goal.returns-then-tells_end-clause-served
-returns-then-tells_end-clause-served g c = λ db whole past of law is clean sound served.
-    let here = counted g.D.DeskStore.kept g.S.SiteStore.kept g.D.DeskStore.refused g.S.SiteStore.refused c.args.machines.now in
-    same_on db law whole here here past served refl
+pub returns-in-Ok : goal.returns-in-Ok
+returns-in-Ok g c =
+    let clean = OfStores g.D.DeskStore.is_clean g.S.SiteStore.is_clean in
+    let sound = OfStores g.D.DeskStore.is_sound g.S.SiteStore.is_sound in
+    let view = counted g.D.DeskStore.kept g.S.SiteStore.kept g.D.DeskStore.refused g.S.SiteStore.refused in
+    let old = c.args.machines.now in
+    let new = c.commit.new.machines in
+    let goes = sym (c.tells_end.ensures ∙ ap (tells is_end) c.as_slice.ensures.value) ∙ c.if-tells_end.false in
+    let first = subst (λ r. ComesTo clean sound view old new r (λ db. IsOne (λ heard. Commits c.args.txn heard.items) (call.Commit c.args.txn))) c.in-Ok.is (one_call g.D.DeskStore.is_clean g.S.SiteStore.is_clean g.D.DeskStore.is_sound g.S.SiteStore.is_sound g.D.DeskStore.kept g.S.SiteStore.kept g.D.DeskStore.refused g.S.SiteStore.refused (λ heard. Commits c.args.txn heard.items) (call.Commit c.args.txn) old new c.commit.result c.commit.ensures.leaves c.commit.ensures.blames c.commit.ensures.served c.commit.ensures.ok c.commit.ensures.denied) in
+    answered clean sound view old new _ c.hears.result c.hears.ensures.own
+    (λ db moves is. if_ok c.hears.result (λ heard so. subst (λ ms. IsDecided c.args.txn c.args.told.items ms (Ok heard.items)) (sym is) (refl, goes, ap Ok so)) c.hears.ensures.heard) first
 
-pub returns-clause-ok : goal.returns-clause-ok
-returns-clause-ok g c = λ db of is clean sound fit.
-    let goes_on : tells is_end c.args.told.items ≡ false = ap (tells is_end) (sym c.as_slice.ensures.value) ∙ sym c.tells_end.ensures ∙ c.if-tells_end.false in
-    if_ok c.commit_autocommit.result (λ heard commits. did_decide goes_on commits) (c.commit_autocommit.ensures.ok db of is clean sound fit)
+pub returns-then-is_stop : goal.returns-then-is_stop
+returns-then-is_stop g c =
+    let clean = OfStores g.D.DeskStore.is_clean g.S.SiteStore.is_clean in
+    let sound = OfStores g.D.DeskStore.is_sound g.S.SiteStore.is_sound in
+    let view = counted g.D.DeskStore.kept g.S.SiteStore.kept g.D.DeskStore.refused g.S.SiteStore.refused in
+    let old = c.args.machines.now in
+    let new = c.commit.new.machines in
+    let first = subst (λ r. ComesTo clean sound view old new r (λ db. IsOne (λ heard. Commits c.args.txn heard.items) (call.Commit c.args.txn))) c.in-Err.is (one_call g.D.DeskStore.is_clean g.S.SiteStore.is_clean g.D.DeskStore.is_sound g.S.SiteStore.is_sound g.D.DeskStore.kept g.S.SiteStore.kept g.D.DeskStore.refused g.S.SiteStore.refused (λ heard. Commits c.args.txn heard.items) (call.Commit c.args.txn) old new c.commit.result c.commit.ensures.leaves c.commit.ensures.blames c.commit.ensures.served c.commit.ensures.ok c.commit.ensures.denied) in
+    stops_as clean sound view old new c.in-Err.refusal (sym c.is_stop.ensures ∙ c.if-is_stop.true) first
 
-pub returns-clause-denied : goal.returns-clause-denied
-returns-clause-denied g c = λ db of is clean sound fit.
-    let goes_on : tells is_end c.args.told.items ≡ false = ap (tells is_end) (sym c.as_slice.ensures.value) ∙ sym c.tells_end.ensures ∙ c.if-tells_end.false in
-    if_err c.commit_autocommit.result (λ told denied. not_decided db c.args.txn c.args.told.items (counted g.D.DeskStore.kept g.S.SiteStore.kept g.D.DeskStore.refused g.S.SiteStore.refused c.args.machines.now) (counted g.D.DeskStore.kept g.S.SiteStore.kept g.D.DeskStore.refused g.S.SiteStore.refused c.commit_autocommit.new.machines) told goes_on denied) (c.commit_autocommit.ensures.denied db of is clean sound fit)
-
-pub returns-then-tells_end-clause-leaves : goal.returns-then-tells_end-clause-leaves
-returns-then-tells_end-clause-leaves g c = record {
-  clean = search rules;
-  sound = search rules;
-  counts = no_fewer (counts g.D.DeskStore.refused g.S.SiteStore.refused c.args.machines.now);
-  catalog = search rules;
-}
+pub returns-else-is_stop : goal.returns-else-is_stop
+returns-else-is_stop g c =
+    let clean = OfStores g.D.DeskStore.is_clean g.S.SiteStore.is_clean in
+    let sound = OfStores g.D.DeskStore.is_sound g.S.SiteStore.is_sound in
+    let view = counted g.D.DeskStore.kept g.S.SiteStore.kept g.D.DeskStore.refused g.S.SiteStore.refused in
+    let old = c.args.machines.now in
+    let mid = c.commit.new.machines in
+    let new = c.take_back.new.machines in
+    let goes = sym (c.tells_end.ensures ∙ ap (tells is_end) c.as_slice.ensures.value) ∙ c.if-tells_end.false in
+    let first = subst (λ r. ComesTo clean sound view old mid r (λ db. IsOne (λ heard. Commits c.args.txn heard.items) (call.Commit c.args.txn))) c.in-Err.is (one_call g.D.DeskStore.is_clean g.S.SiteStore.is_clean g.D.DeskStore.is_sound g.S.SiteStore.is_sound g.D.DeskStore.kept g.S.SiteStore.kept g.D.DeskStore.refused g.S.SiteStore.refused (λ heard. Commits c.args.txn heard.items) (call.Commit c.args.txn) old mid c.commit.result c.commit.ensures.leaves c.commit.ensures.blames c.commit.ensures.served c.commit.ensures.ok c.commit.ensures.denied) in
+    then_back clean sound view old mid new c.in-Err.refusal c.take_back.result (sym c.is_stop.ensures ∙ c.if-is_stop.false)
+    (λ db one more is taken. commit_taken_back (λ heard. heard.items) c.args.txn c.args.told.items c.in-Err.refusal c.take_back.result one more goes is taken) first c.take_back.ensures

@@ -1,44 +1,32 @@
 -- Why `run_autocommit` meets its contract.
-use Rattle.std.proofs.Common.{rules, ◌∙◌, sym, ap}
-use Rattle.catalog.specs.Relation.{catalogue_of}
-use Rattle.world.specs.Contents.{counted}
-use Rattle.world.proofs.SiteSteps.{if_ok}
-use Rattle.world.proofs.Reaching.{then_on}
-use Rattle.world.proofs.Refusing.{if_err}
-use Rattle.world.specs.Denials.{has_begun_but, has_not_begun}
-use Rattle.world.proofs.Counting.{no_fewer_then}
-use Rattle.world.proofs.Stops.{call_since}
-use Rattle.world.specs.Counted.{counts}
+use Rattle.std.proofs.Common.{refl, sym, subst, inl, inr, ⊎_elim, Err, ◌++◌}
+use Rattle.world.proofs.Calls.{IsOne, as_kind, one_call, then_too}
+use Rattle.world.specs.Commands.{IsLone, heard_in}
+use Rattle.world.specs.Contents.{OfStores, counted}
+use Rattle.world.specs.Course.{Begins}
+use Rattle.world.specs.Frame.{ComesTo}
+use Rattle.world.specs.declared.event.Call.TheVariants as call
 use Rattle.world.proofs.autocommit.run_autocommit.Goals as goal
 
-pub returns-in-Ok-clause-ok : goal.returns-in-Ok-clause-ok
-returns-in-Ok-clause-ok g c = λ db of is clean sound fit.
-    let begun = c.in-Ok.ensures.ok db of is (c.run_begun.ensures.leaves.clean clean) sound fit in
-    if_ok c.run_begun.result (λ heard runs. record { txn = c.in-Ok.begun.txn; began = counted g.D.DeskStore.kept g.S.SiteStore.kept g.D.DeskStore.refused g.S.SiteStore.refused c.begin.new.machines; greeted = c.in-Ok.begun.heard.items; begun = begun; runs = runs })
-    (c.run_begun.ensures.ok db of (is ∙ ap catalogue_of (sym c.begin.ensures.leaves.catalog)) clean (c.begin.ensures.leaves.sound (c.run_begun.ensures.leaves.clean clean) sound) begun.serves.fit)
+pub returns-in-Ok : goal.returns-in-Ok
+returns-in-Ok g c =
+    let clean = OfStores g.D.DeskStore.is_clean g.S.SiteStore.is_clean in
+    let sound = OfStores g.D.DeskStore.is_sound g.S.SiteStore.is_sound in
+    let view = counted g.D.DeskStore.kept g.S.SiteStore.kept g.D.DeskStore.refused g.S.SiteStore.refused in
+    let old = c.args.machines.now in
+    let mid = c.begin.new.machines in
+    let new = c.run_begun.new.machines in
+    let first = subst (λ r. ComesTo clean sound view old mid r (λ db. IsOne (λ begun. Begins begun.txn begun.heard.items) (call.Begin))) c.in-Ok.is (one_call g.D.DeskStore.is_clean g.S.SiteStore.is_clean g.D.DeskStore.is_sound g.S.SiteStore.is_sound g.D.DeskStore.kept g.S.SiteStore.kept g.D.DeskStore.refused g.S.SiteStore.refused (λ begun. Begins begun.txn begun.heard.items) (call.Begin) old mid c.begin.result c.begin.ensures.leaves c.begin.ensures.blames c.begin.ensures.served c.begin.ensures.ok c.begin.ensures.denied) in
+    then_too clean sound view old mid new _ c.run_begun.result
+    (λ db one more is stated. subst (λ ms. IsLone c.args.text.now (ms ++ more) (heard_in (λ heard. heard.items) c.run_begun.result)) (sym is) stated) first c.run_begun.ensures
 
-pub returns-in-Ok-clause-served : goal.returns-in-Ok-clause-served
-returns-in-Ok-clause-served g c = λ db whole past of law is clean sound served.
-    then_on db law whole (counted g.D.DeskStore.kept g.S.SiteStore.kept g.D.DeskStore.refused g.S.SiteStore.refused c.args.machines.now) (counted g.D.DeskStore.kept g.S.SiteStore.kept g.D.DeskStore.refused g.S.SiteStore.refused c.begin.new.machines) (counted g.D.DeskStore.kept g.S.SiteStore.kept g.D.DeskStore.refused g.S.SiteStore.refused c.run_begun.new.machines) past
-    (c.begin.ensures.served db whole past of law is (c.run_begun.ensures.leaves.clean clean) sound served)
-    (λ more so. c.run_begun.ensures.served db whole more of law (is ∙ ap catalogue_of (sym c.begin.ensures.leaves.catalog)) clean (c.begin.ensures.leaves.sound (c.run_begun.ensures.leaves.clean clean) sound) so)
-
-pub returns-in-Ok-clause-denied : goal.returns-in-Ok-clause-denied
-returns-in-Ok-clause-denied g c = λ db of is clean sound fit.
-    let begun = c.in-Ok.ensures.ok db of is (c.run_begun.ensures.leaves.clean clean) sound fit in
-    if_err c.run_begun.result (λ told denied. has_begun_but c.in-Ok.begun.txn (counted g.D.DeskStore.kept g.S.SiteStore.kept g.D.DeskStore.refused g.S.SiteStore.refused c.begin.new.machines) c.in-Ok.begun.heard.items begun denied)
-    (c.run_begun.ensures.denied db of (is ∙ ap catalogue_of (sym c.begin.ensures.leaves.catalog)) clean (c.begin.ensures.leaves.sound (c.run_begun.ensures.leaves.clean clean) sound) begun.serves.fit)
-
-pub returns-in-Err-clause-denied : goal.returns-in-Err-clause-denied
-returns-in-Err-clause-denied g c = λ db of is clean sound fit. has_not_begun (c.in-Err.ensures.denied db of is clean sound fit)
-
-pub returns-in-Ok-clause-leaves : goal.returns-in-Ok-clause-leaves
-returns-in-Ok-clause-leaves g c = record {
-  clean = search rules;
-  sound = search rules;
-  counts = no_fewer_then (counts g.D.DeskStore.refused g.S.SiteStore.refused c.args.machines.now) (counts g.D.DeskStore.refused g.S.SiteStore.refused c.begin.new.machines) (counts g.D.DeskStore.refused g.S.SiteStore.refused c.run_begun.new.machines) c.begin.ensures.leaves.counts c.run_begun.ensures.leaves.counts;
-  catalog = search rules;
-}
-
-pub returns-in-Ok-clause-blames : goal.returns-in-Ok-clause-blames
-returns-in-Ok-clause-blames g c = λ clean sound. call_since c.run_begun.result (counts g.D.DeskStore.refused g.S.SiteStore.refused c.args.machines.now) (counts g.D.DeskStore.refused g.S.SiteStore.refused c.begin.new.machines) (counts g.D.DeskStore.refused g.S.SiteStore.refused c.run_begun.new.machines) c.begin.ensures.leaves.counts (c.run_begun.ensures.blames clean (c.begin.ensures.leaves.sound (c.run_begun.ensures.leaves.clean clean) sound))
+pub returns-in-Err : goal.returns-in-Err
+returns-in-Err g c =
+    let clean = OfStores g.D.DeskStore.is_clean g.S.SiteStore.is_clean in
+    let sound = OfStores g.D.DeskStore.is_sound g.S.SiteStore.is_sound in
+    let view = counted g.D.DeskStore.kept g.S.SiteStore.kept g.D.DeskStore.refused g.S.SiteStore.refused in
+    let old = c.args.machines.now in
+    let new = c.begin.new.machines in
+    let first = subst (λ r. ComesTo clean sound view old new r (λ db. IsOne (λ begun. Begins begun.txn begun.heard.items) (call.Begin))) c.in-Err.is (one_call g.D.DeskStore.is_clean g.S.SiteStore.is_clean g.D.DeskStore.is_sound g.S.SiteStore.is_sound g.D.DeskStore.kept g.S.SiteStore.kept g.D.DeskStore.refused g.S.SiteStore.refused (λ begun. Begins begun.txn begun.heard.items) (call.Begin) old new c.begin.result c.begin.ensures.leaves c.begin.ensures.blames c.begin.ensures.served c.begin.ensures.ok c.begin.ensures.denied) in
+    as_kind clean sound view old new _ _ (λ blamed. blamed)
+    (λ db of is makes. ⊎_elim (λ stops. inl stops) (λ made. inr (record { moves = made.moves; made = made.made; is = subst (λ ms. IsLone c.args.text.now ms (Err c.in-Err.refusal)) (sym made.is) refl })) makes) first

@@ -1,29 +1,40 @@
 -- Why `take_back` meets its contract.
-use Rattle.std.proofs.Common.{rules, ◌∙◌, inr, refl, sym}
-use Rattle.world.specs.Contents.{counted}
-use Rattle.world.specs.Denials.{is_rolled_back}
-use Rattle.world.proofs.Denials.{rolled_back}
-use Rattle.world.proofs.Reaching.{same_on}
-use Rattle.world.proofs.Counting.{no_fewer}
-use Rattle.world.specs.Counted.{counts}
+use Rattle.std.proofs.Common.{refl, sym, subst, inr, ◌∙◌}
+use Rattle.world.proofs.Calls.{IsOne, as_kind, goes_for_any, left_behind, one_call, stops_as}
+use Rattle.world.specs.Commands.{IsTakenBack}
+use Rattle.world.specs.Contents.{OfStores, counted}
+use Rattle.world.specs.Course.{Rolls_back}
+use Rattle.world.specs.Frame.{ComesTo}
+use Rattle.world.specs.declared.event.Call.TheVariants as call
 use Rattle.world.proofs.autocommit.take_back.Goals as goal
 
-pub returns-then-is_stop-clause-served : goal.returns-then-is_stop-clause-served
-returns-then-is_stop-clause-served g c = λ db whole past of law is clean sound served.
-    let here = counted g.D.DeskStore.kept g.S.SiteStore.kept g.D.DeskStore.refused g.S.SiteStore.refused c.args.machines.now in
-    same_on db law whole here here past served refl
+pub returns-in-Ok : goal.returns-in-Ok
+returns-in-Ok g c =
+    let clean = OfStores g.D.DeskStore.is_clean g.S.SiteStore.is_clean in
+    let sound = OfStores g.D.DeskStore.is_sound g.S.SiteStore.is_sound in
+    let view = counted g.D.DeskStore.kept g.S.SiteStore.kept g.D.DeskStore.refused g.S.SiteStore.refused in
+    let old = c.args.machines.now in
+    let new = c.roll_back.new.machines in
+    let first = subst (λ r. ComesTo clean sound view old new r (λ db. IsOne (λ heard. Rolls_back c.args.txn heard.items) (call.Rollback c.args.txn))) c.in-Ok.is (one_call g.D.DeskStore.is_clean g.S.SiteStore.is_clean g.D.DeskStore.is_sound g.S.SiteStore.is_sound g.D.DeskStore.kept g.S.SiteStore.kept g.D.DeskStore.refused g.S.SiteStore.refused (λ heard. Rolls_back c.args.txn heard.items) (call.Rollback c.args.txn) old new c.roll_back.result c.roll_back.ensures.leaves c.roll_back.ensures.blames c.roll_back.ensures.served c.roll_back.ensures.ok c.roll_back.ensures.denied) in
+    as_kind clean sound view old new _ _ (λ blamed. goes_for_any (view old).refused (view new).refused c.args.refusal c.requires)
+    (λ db of is made. inr (record { moves = made.moves; made = made.made; is = (subst (IsTakenBack c.args.txn) (sym made.is) refl, refl) })) first
 
-pub returns-in-Ok-clause-taken : goal.returns-in-Ok-clause-taken
-returns-in-Ok-clause-taken g c = λ db of is clean sound fit. inr (is_rolled_back c.in-Ok._heard.items (c.in-Ok.ensures.ok db of is clean sound fit))
+pub returns-then-is_stop : goal.returns-then-is_stop
+returns-then-is_stop g c =
+    let clean = OfStores g.D.DeskStore.is_clean g.S.SiteStore.is_clean in
+    let sound = OfStores g.D.DeskStore.is_sound g.S.SiteStore.is_sound in
+    let view = counted g.D.DeskStore.kept g.S.SiteStore.kept g.D.DeskStore.refused g.S.SiteStore.refused in
+    let old = c.args.machines.now in
+    let new = c.roll_back.new.machines in
+    let first = subst (λ r. ComesTo clean sound view old new r (λ db. IsOne (λ heard. Rolls_back c.args.txn heard.items) (call.Rollback c.args.txn))) c.in-Err.is (one_call g.D.DeskStore.is_clean g.S.SiteStore.is_clean g.D.DeskStore.is_sound g.S.SiteStore.is_sound g.D.DeskStore.kept g.S.SiteStore.kept g.D.DeskStore.refused g.S.SiteStore.refused (λ heard. Rolls_back c.args.txn heard.items) (call.Rollback c.args.txn) old new c.roll_back.result c.roll_back.ensures.leaves c.roll_back.ensures.blames c.roll_back.ensures.served c.roll_back.ensures.ok c.roll_back.ensures.denied) in
+    stops_as clean sound view old new c.in-Err.other (sym c.is_stop.ensures ∙ c.if-is_stop.true) first
 
-pub returns-else-is_stop-2-clause-taken : goal.returns-else-is_stop-2-clause-taken
-returns-else-is_stop-2-clause-taken g c = λ db of is clean sound fit.
-    rolled_back db c.args.txn (counted g.D.DeskStore.kept g.S.SiteStore.kept g.D.DeskStore.refused g.S.SiteStore.refused c.args.machines.now) (counted g.D.DeskStore.kept g.S.SiteStore.kept g.D.DeskStore.refused g.S.SiteStore.refused c.roll_back.new.machines) c.args.refusal c.in-Err.other (sym c.is_stop-in-Err.ensures ∙ c.if-is_stop-2.false) (c.in-Err.ensures.denied db of is clean sound fit)
-
-pub returns-then-is_stop-clause-leaves : goal.returns-then-is_stop-clause-leaves
-returns-then-is_stop-clause-leaves g c = record {
-  clean = search rules;
-  sound = search rules;
-  counts = no_fewer (counts g.D.DeskStore.refused g.S.SiteStore.refused c.args.machines.now);
-  catalog = search rules;
-}
+pub returns-else-is_stop : goal.returns-else-is_stop
+returns-else-is_stop g c =
+    let clean = OfStores g.D.DeskStore.is_clean g.S.SiteStore.is_clean in
+    let sound = OfStores g.D.DeskStore.is_sound g.S.SiteStore.is_sound in
+    let view = counted g.D.DeskStore.kept g.S.SiteStore.kept g.D.DeskStore.refused g.S.SiteStore.refused in
+    let old = c.args.machines.now in
+    let new = c.roll_back.new.machines in
+    let first = subst (λ r. ComesTo clean sound view old new r (λ db. IsOne (λ heard. Rolls_back c.args.txn heard.items) (call.Rollback c.args.txn))) c.in-Err.is (one_call g.D.DeskStore.is_clean g.S.SiteStore.is_clean g.D.DeskStore.is_sound g.S.SiteStore.is_sound g.D.DeskStore.kept g.S.SiteStore.kept g.D.DeskStore.refused g.S.SiteStore.refused (λ heard. Rolls_back c.args.txn heard.items) (call.Rollback c.args.txn) old new c.roll_back.result c.roll_back.ensures.leaves c.roll_back.ensures.blames c.roll_back.ensures.served c.roll_back.ensures.ok c.roll_back.ensures.denied) in
+    left_behind clean sound view c.args.txn _ old new c.in-Err.other c.args.refusal (sym c.is_stop.ensures ∙ c.if-is_stop.false) c.requires first

@@ -10,7 +10,7 @@ use Rattle.world.specs.declared.event.Call.TheVariants as call
 use Rattle.world.specs.Mailbox.{Ask, Goes, Serves, To_do, asked, settled}
 use Rattle.world.specs.Contents.{counted, held}
 use Rattle.world.specs.Taking.{put_out_by}
-use Rattle.world.proofs.Counting.{fit_uncounted, leads_counted, none_fewer, same_counted, with_counts, no_fewer_then}
+use Rattle.world.proofs.Counting.{fit_uncounted, leads_counted, none_fewer, same_counted, with_counts, no_fewer_then, uncounted}
 use Rattle.world.proofs.Deliveries.{call_serves}
 use Rattle.world.proofs.Denials.{still_denied}
 use Rattle.world.proofs.SiteSteps.{if_ok}
@@ -31,7 +31,7 @@ returns-in-Ok-clause-ok g c = λ db of is clean sound fit.
     let made = c.in-Ok.ensures.ok db (no_choice db) (over_of db c.args.machines.now.desk.catalog of is) (fit_uncounted db before old fit) in
     let ask : Ask (language db) = To_do (txn_name c.args.txn) Rollback (no_choice db) in
     let leads = leads_counted db (asked ask) before mid old new c.in-Ok.out.letters c.in-Ok.out.replies made.leads in
-    let serves : (heard : List Notice) → Goes db (λ w. w) (put_out_by (with_counts mid new) c.in-Ok.out) (settled after heard) → Serves db ask (with_counts before old) after heard = λ heard goes. call_serves db ask (with_counts before old) (with_counts mid new) c.in-Ok.out leads (none_fewer old new c.rollback.ensures.uncalled) after heard goes in
+    let serves : (heard : List Notice) → Goes db (λ w. w) (put_out_by (with_counts mid new) c.in-Ok.out) (settled after heard) → Serves db ask (with_counts before old) after heard = λ heard goes. call_serves db ask (with_counts before old) (with_counts mid new) c.in-Ok.out leads (none_fewer old new (uncounted g.D.DeskStore.refused g.S.SiteStore.refused c.rollback.ensures.uncalled)) after heard goes in
     if_ok c.deliver_all.result (λ heard goes. record { choice = no_choice db; accepted = made.accepted; within = made.within; serves = serves heard.items goes })
     (c.deliver_all.ensures.ok db of (is ∙ ap catalogue_of (sym c.rollback.ensures.leaves.catalog)) clean (c.rollback.ensures.leaves.sound (c.deliver_all.ensures.leaves.clean clean) sound) leads.fit)
 
@@ -48,7 +48,7 @@ returns-in-Ok-clause-served g c = λ db whole past of law is clean sound served.
     let leads = leads_counted db (asked ask) before mid old new c.in-Ok.out.letters c.in-Ok.out.replies made.leads in
     let is_mid = is ∙ ap catalogue_of (sym c.rollback.ensures.leaves.catalog) in
     let sound_mid = c.rollback.ensures.leaves.sound (c.deliver_all.ensures.leaves.clean clean) sound in
-    call_served db law whole ask (with_counts before old) (with_counts mid new) after c.in-Ok.out past c.deliver_all.result (λ heard. heard.items) served leads (none_fewer old new c.rollback.ensures.uncalled)
+    call_served db law whole ask (with_counts before old) (with_counts mid new) after c.in-Ok.out past c.deliver_all.result (λ heard. heard.items) served leads (none_fewer old new (uncounted g.D.DeskStore.refused g.S.SiteStore.refused c.rollback.ensures.uncalled))
     (c.deliver_all.ensures.ok db of is_mid clean sound_mid leads.fit) (c.deliver_all.ensures.err db of is_mid clean sound_mid leads.fit)
 
 pub returns-in-Err-clause-served : goal.returns-in-Err-clause-served
@@ -57,7 +57,7 @@ returns-in-Err-clause-served g c = λ db whole past of law is clean sound served
     let mid = held g.D.DeskStore.kept g.S.SiteStore.kept c.rollback.new.self in
     let old = counts g.D.DeskStore.refused g.S.SiteStore.refused c.args.machines.now in
     let new = counts g.D.DeskStore.refused g.S.SiteStore.refused c.rollback.new.self in
-    same_on db law whole (with_counts before old) (with_counts mid new) past served (same_counted before mid old new c.in-Err.ensures.err c.rollback.ensures.uncalled)
+    same_on db law whole (with_counts before old) (with_counts mid new) past served (same_counted before mid old new c.in-Err.ensures.err (uncounted g.D.DeskStore.refused g.S.SiteStore.refused c.rollback.ensures.uncalled))
 
 pub returns-in-Ok-clause-denied : goal.returns-in-Ok-clause-denied
 returns-in-Ok-clause-denied g c = λ db of is clean sound fit. if_err c.deliver_all.result (λ told stops. inl stops) c.deliver_all.ensures.own
@@ -68,23 +68,23 @@ returns-in-Err-clause-denied g c = λ db of is clean sound fit.
     let mid = held g.D.DeskStore.kept g.S.SiteStore.kept c.rollback.new.self in
     let old = counts g.D.DeskStore.refused g.S.SiteStore.refused c.args.machines.now in
     let new = counts g.D.DeskStore.refused g.S.SiteStore.refused c.rollback.new.self in
-    still_denied db (with_counts before old) (with_counts mid new) (call.Rollback c.args.txn) c.in-Err.refusal fit (same_counted before mid old new c.in-Err.ensures.err c.rollback.ensures.uncalled) (c.in-Err.ensures.told db)
+    still_denied db (with_counts before old) (with_counts mid new) (call.Rollback c.args.txn) c.in-Err.refusal fit (same_counted before mid old new c.in-Err.ensures.err (uncounted g.D.DeskStore.refused g.S.SiteStore.refused c.rollback.ensures.uncalled)) (c.in-Err.ensures.told db)
 
 pub returns-in-Ok-clause-leaves : goal.returns-in-Ok-clause-leaves
 returns-in-Ok-clause-leaves g c = record {
   clean = search rules;
   sound = search rules;
-  counts = no_fewer_then (counts g.D.DeskStore.refused g.S.SiteStore.refused c.args.machines.now) (counts g.D.DeskStore.refused g.S.SiteStore.refused c.rollback.new.self) (counts g.D.DeskStore.refused g.S.SiteStore.refused c.deliver_all.new.machines) (none_fewer (counts g.D.DeskStore.refused g.S.SiteStore.refused c.args.machines.now) (counts g.D.DeskStore.refused g.S.SiteStore.refused c.rollback.new.self) c.rollback.ensures.uncalled) c.deliver_all.ensures.leaves.counts;
+  counts = no_fewer_then (counts g.D.DeskStore.refused g.S.SiteStore.refused c.args.machines.now) (counts g.D.DeskStore.refused g.S.SiteStore.refused c.rollback.new.self) (counts g.D.DeskStore.refused g.S.SiteStore.refused c.deliver_all.new.machines) (none_fewer (counts g.D.DeskStore.refused g.S.SiteStore.refused c.args.machines.now) (counts g.D.DeskStore.refused g.S.SiteStore.refused c.rollback.new.self) (uncounted g.D.DeskStore.refused g.S.SiteStore.refused c.rollback.ensures.uncalled)) c.deliver_all.ensures.leaves.counts;
   catalog = search rules;
 }
 
 pub returns-in-Ok-clause-blames : goal.returns-in-Ok-clause-blames
-returns-in-Ok-clause-blames g c = λ clean sound. call_since c.deliver_all.result (counts g.D.DeskStore.refused g.S.SiteStore.refused c.args.machines.now) (counts g.D.DeskStore.refused g.S.SiteStore.refused c.rollback.new.self) (counts g.D.DeskStore.refused g.S.SiteStore.refused c.deliver_all.new.machines) (none_fewer (counts g.D.DeskStore.refused g.S.SiteStore.refused c.args.machines.now) (counts g.D.DeskStore.refused g.S.SiteStore.refused c.rollback.new.self) c.rollback.ensures.uncalled) (c.deliver_all.ensures.blames clean (c.rollback.ensures.leaves.sound (c.deliver_all.ensures.leaves.clean clean) sound))
+returns-in-Ok-clause-blames g c = λ clean sound. call_since c.deliver_all.result (counts g.D.DeskStore.refused g.S.SiteStore.refused c.args.machines.now) (counts g.D.DeskStore.refused g.S.SiteStore.refused c.rollback.new.self) (counts g.D.DeskStore.refused g.S.SiteStore.refused c.deliver_all.new.machines) (none_fewer (counts g.D.DeskStore.refused g.S.SiteStore.refused c.args.machines.now) (counts g.D.DeskStore.refused g.S.SiteStore.refused c.rollback.new.self) (uncounted g.D.DeskStore.refused g.S.SiteStore.refused c.rollback.ensures.uncalled)) (c.deliver_all.ensures.blames clean (c.rollback.ensures.leaves.sound (c.deliver_all.ensures.leaves.clean clean) sound))
 
 pub returns-in-Err-clause-leaves : goal.returns-in-Err-clause-leaves
 returns-in-Err-clause-leaves g c = record {
   clean = search rules;
   sound = search rules;
-  counts = none_fewer (counts g.D.DeskStore.refused g.S.SiteStore.refused c.args.machines.now) (counts g.D.DeskStore.refused g.S.SiteStore.refused c.rollback.new.self) c.rollback.ensures.uncalled;
+  counts = none_fewer (counts g.D.DeskStore.refused g.S.SiteStore.refused c.args.machines.now) (counts g.D.DeskStore.refused g.S.SiteStore.refused c.rollback.new.self) (uncounted g.D.DeskStore.refused g.S.SiteStore.refused c.rollback.ensures.uncalled);
   catalog = search rules;
 }

@@ -1,6 +1,6 @@
 -- Why a client's commands are obeyed unless something is refused.
 use Rattle.catalog.specs.Relation.{catalogue_of}
-use Rattle.world.specs.Base.{database, fits}
+use Rattle.desk.specs.CatalogueDatabase.{database, fits}
 use Rattle.world.proofs.Executed.{obeys}
 use Rattle.world.proofs.laws.obeyed_unless_refused.Goals as goal
 

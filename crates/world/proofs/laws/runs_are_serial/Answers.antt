@@ -1,6 +1,6 @@
 -- Why `laws::runs_are_serial` meets its contract.
 use Rattle.catalog.specs.Relation.{catalogue_of}
-use Rattle.world.specs.Base.{database}
+use Rattle.desk.specs.CatalogueDatabase.{database}
 use Rattle.world.proofs.DatabaseIsOpened.{runs_serial}
 use Rattle.world.proofs.laws.runs_are_serial.Goals as goal
 

@@ -3,8 +3,8 @@ use Rattle.catalog.specs.Relation.{catalogue_of}
 use Rattle.desk.specs.Database.{language}
 use Rattle.protocol.specs.World.{World}
 use Rattle.std.proofs.Common.{subst}
-use Rattle.world.specs.Base.{database}
-use Rattle.world.specs.Runs.{Holds}
+use Rattle.desk.specs.CatalogueDatabase.{database}
+use Rattle.protocol.specs.Accepted.{Holds}
 use Rattle.world.proofs.laws.runs_hold.Goals as goal
 
 pub returns : goal.returns

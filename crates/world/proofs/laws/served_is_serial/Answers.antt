@@ -1,7 +1,7 @@
 -- Why `laws::served_is_serial` meets its contract.
 use Rattle.std.proofs.Common.{[]}
 use Rattle.catalog.specs.Relation.{catalogue_of}
-use Rattle.world.specs.Base.{database}
+use Rattle.desk.specs.CatalogueDatabase.{database}
 use Rattle.world.specs.Machines.{world_of}
 use Rattle.world.proofs.laws.served_is_serial.Goals as goal
 

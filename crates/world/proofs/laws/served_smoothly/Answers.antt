@@ -1,6 +1,6 @@
 -- Why the law of letters that come smoothly holds of each catalogue.
 use Rattle.catalog.specs.Relation.{catalogue_of}
-use Rattle.world.specs.Base.{database, fits}
+use Rattle.desk.specs.CatalogueDatabase.{database, fits}
 use Rattle.world.proofs.DatabaseIsHoused.{housed}
 use Rattle.world.proofs.DatabaseSites.{sites_once}
 use Rattle.world.proofs.Smoothly.{serves_smoothly}

@@ -1,6 +1,6 @@
 -- Why a client's database serves unless something is refused.
 use Rattle.catalog.specs.Relation.{catalogue_of}
-use Rattle.world.specs.Base.{database, fits}
+use Rattle.desk.specs.CatalogueDatabase.{database, fits}
 use Rattle.world.proofs.Smoothly.{serves_unless_refused}
 use Rattle.world.proofs.laws.served_unless_refused.Goals as goal
 

@@ -4,7 +4,7 @@ use Rattle.catalog.specs.Relation.{catalogue_of}
 use Rattle.world.specs.Counted.{counts}
 use Rattle.world.specs.Contents.{counted, held}
 use Rattle.world.specs.Machines.{AreFit}
-use Rattle.world.proofs.Counting.{fit_uncounted, no_fewer_then, none_fewer}
+use Rattle.world.proofs.Counting.{fit_uncounted, no_fewer_then, none_fewer, uncounted}
 use Rattle.world.proofs.Deliveries.{passed_over, turned_away}
 use Rattle.world.proofs.SiteSteps.{if_ok}
 use Rattle.world.proofs.Reasoned.{is_unsent, no_choice, turned_away as is_turned}
@@ -27,7 +27,7 @@ returns-in-None-clause-ok g c = λ db of is clean sound fit.
     let same = c.in-Err.ensures.err (c.give_up.ensures.leaves.clean clean) sound in
     let over = over_of db c.take.new.machines.desk.catalog of (is ∙ ap catalogue_of (sym c.take.ensures.leaves.catalog)) in
     let why = is_turned db (counted g.D.DeskStore.kept content g.D.DeskStore.refused g.S.SiteStore.refused c.args.machines.now) c.args.letter fit c.in-Err.fault told (sym c.turns_away-is_turned_away.ensures ∙ c.if-is_turned_away.true) in
-    if_ok c.give_up.result (λ out asked. turned_away db c.args.letter before after out.letters out.replies old new (no_fewer_then old more new c.take.ensures.leaves.counts (none_fewer more new c.give_up.ensures.uncalled)) mid (no_choice db) same why asked.leads)
+    if_ok c.give_up.result (λ out asked. turned_away db c.args.letter before after out.letters out.replies old new (no_fewer_then old more new c.take.ensures.leaves.counts (none_fewer more new (uncounted g.D.DeskStore.refused g.S.SiteStore.refused c.give_up.ensures.uncalled))) mid (no_choice db) same why asked.leads)
     (c.give_up.ensures.ok db (no_choice db) over (subst (AreFit db) (sym same) (fit_uncounted db before old fit)))
 
 pub returns-in-None-2-clause-ok : goal.returns-in-None-2-clause-ok
@@ -45,7 +45,7 @@ pub returns-in-None-clause-leaves : goal.returns-in-None-clause-leaves
 returns-in-None-clause-leaves g c = record {
   clean = search rules;
   sound = search rules;
-  counts = no_fewer_then (counts g.D.DeskStore.refused g.S.SiteStore.refused c.args.machines.now) (counts g.D.DeskStore.refused g.S.SiteStore.refused c.take.new.machines) (counts g.D.DeskStore.refused g.S.SiteStore.refused c.give_up.new.self) c.take.ensures.leaves.counts (none_fewer (counts g.D.DeskStore.refused g.S.SiteStore.refused c.take.new.machines) (counts g.D.DeskStore.refused g.S.SiteStore.refused c.give_up.new.self) c.give_up.ensures.uncalled);
+  counts = no_fewer_then (counts g.D.DeskStore.refused g.S.SiteStore.refused c.args.machines.now) (counts g.D.DeskStore.refused g.S.SiteStore.refused c.take.new.machines) (counts g.D.DeskStore.refused g.S.SiteStore.refused c.give_up.new.self) c.take.ensures.leaves.counts (none_fewer (counts g.D.DeskStore.refused g.S.SiteStore.refused c.take.new.machines) (counts g.D.DeskStore.refused g.S.SiteStore.refused c.give_up.new.self) (uncounted g.D.DeskStore.refused g.S.SiteStore.refused c.give_up.ensures.uncalled));
   catalog = search rules;
 }
 

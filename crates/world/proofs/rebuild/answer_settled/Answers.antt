@@ -11,7 +11,7 @@ use Rattle.plan.specs.Reduced.{FindsAll}
 use Rattle.plan.specs.Shape.{shape}
 use Rattle.plan.specs.Stated.{AreFetchesOf}
 use Rattle.answers.specs.Table.{given}
-use Rattle.world.specs.Base.{IsBase, database}
+use Rattle.desk.specs.CatalogueDatabase.{IsBase, database}
 use Rattle.world.specs.Counted.{counts}
 use Rattle.world.specs.Contents.{held}
 use Rattle.world.specs.Settled.{AreDecided, brought_of}

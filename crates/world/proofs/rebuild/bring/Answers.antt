@@ -6,7 +6,7 @@ use Rattle.catalog.specs.declared.relation.SplitRelation.{SplitRelation}
 use Rattle.catalog.specs.Relation.{catalogue_of}
 use Rattle.plan.specs.declared.fetch.Fetch.{Fetch}
 use Rattle.answers.specs.declared.table.FetchRows.{FetchRows}
-use Rattle.world.specs.Base.{database}
+use Rattle.desk.specs.CatalogueDatabase.{database}
 use Rattle.world.specs.Counted.{counts}
 use Rattle.world.specs.Contents.{OfStores, held}
 use Rattle.world.specs.Machines.{AreFit, Machines}

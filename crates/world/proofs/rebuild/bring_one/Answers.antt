@@ -3,7 +3,7 @@ use Rattle.std.proofs.Common.{◌≡◌, ◌∙◌, ap, subst, filter, option_ma
 use Rattle.terms.specs.Cond.{conds_hold}
 use Rattle.catalog.specs.Relation.{catalogue_of}
 use Rattle.store.specs.Content.{parts}
-use Rattle.world.specs.Base.{IsBase, database}
+use Rattle.desk.specs.CatalogueDatabase.{IsBase, database}
 use Rattle.world.specs.Contents.{held}
 use Rattle.world.proofs.Rebuilt.{brought_is}
 use Rattle.world.proofs.rebuild.bring_one.Goals as goal

@@ -2,7 +2,7 @@
 use Rattle.std.proofs.Common.{List, subst}
 use Rattle.meaning.specs.declared.schema.RelationSchema.{RelationSchema}
 use Rattle.reader.specs.Command.{IsTextOf}
-use Rattle.world.specs.Denials.{IsUnreadable}
+use Rattle.world.specs.Commands.{IsUnreadable}
 use Rattle.world.proofs.Denials.{unreadable}
 use Rattle.world.proofs.solo.command_of.Goals as goal
 

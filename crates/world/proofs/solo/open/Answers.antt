@@ -3,7 +3,7 @@ use Rattle.std.proofs.Common.{[]}
 use Rattle.catalog.specs.Relation.{catalogue_of}
 use Rattle.store.specs.PlainDesk.{kept_of as desk_kept}
 use Rattle.store.specs.PlainSite.{kept_of}
-use Rattle.world.specs.Base.{database}
+use Rattle.desk.specs.CatalogueDatabase.{database}
 use Rattle.world.specs.Counted.{counts}
 use Rattle.world.specs.Contents.{held}
 use Rattle.world.proofs.DatabaseIsOpened.{opens_quiet, opens_run}

@@ -3,11 +3,11 @@ use Rattle.std.proofs.Common.{rules, Bool, ℕ, List, Err, ◌≡◌, ◌∙◌,
 use Rattle.protocol.specs.Letters.{txn_name}
 use Rattle.site.specs.State.{state_of}
 use Rattle.desk.specs.Database.{language, sent}
+use Rattle.protocol.specs.Delivery.{CallKept}
 use Rattle.world.proofs.CallsKept.{calls_kept}
 use Rattle.world.specs.declared.fault.Fault.TheVariants as fault
 use Rattle.world.specs.Contents.{held}
 use Rattle.world.specs.Machines.{is_for_site}
-use Rattle.world.specs.Reasons.{CallKept}
 use Rattle.world.specs.Sites.{seat_of}
 use Rattle.world.specs.Seated.{SomeSeatDoes, place_of, seats_in}
 use Rattle.world.proofs.Machinery.{put_out_leads, take_within}

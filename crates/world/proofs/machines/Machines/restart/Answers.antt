@@ -7,15 +7,13 @@ use Rattle.world.specs.Contents.{held}
 use Rattle.world.proofs.Machinery.{restart_leads}
 use Rattle.world.proofs.SiteSteps.{if_ok}
 use Rattle.world.proofs.Refusals.{desk_fails}
-use Rattle.world.specs.Counted.{HaveRefused, counts}
-use Rattle.world.specs.Contents.{OfStores}
 use Rattle.world.proofs.machines.Machines.restart.Goals as goal
 
 pub returns-clause-ok : goal.returns-clause-ok
-returns-clause-ok g c = λ db clean sound fit.
+returns-clause-ok g c = λ db over clean sound fit.
     let before = held g.D.DeskStore.kept g.S.SiteStore.kept c.args.self.now in
     let new = c.restart_kept.new.self in
-    if_ok c.restart_kept.result (λ out restarts. restart_leads db before (g.D.DeskStore.kept new.store) (volatile_of new.volatile) out.letters out.replies fit restarts) (c.restart_kept.ensures.restarts.ok db clean.0 fit.desk)
+    if_ok c.restart_kept.result (λ out restarts. restart_leads db before (g.D.DeskStore.kept new.store) (volatile_of new.volatile) out.letters out.replies fit restarts) (c.restart_kept.ensures.restarts.ok db over clean.0 fit.desk)
 
 pub returns-clause-leaves : goal.returns-clause-leaves
 returns-clause-leaves g c = record {
@@ -32,6 +30,6 @@ returns-clause-told g c =
     let old = c.args.self.now in
     let new = c.restart_kept.new.self in
     let begins = c.restart_kept.ensures.restarts.begins in
-    desk_fails c.restart_kept.result _ _ c.args.kept (D.kept old.desk.store) (D.kept new.store) begins.own
+    desk_fails c.restart_kept.result _ _ c.args.kept old.desk.catalog.0 (D.kept old.desk.store) (D.kept new.store) begins.own
     (λ is. ⊎_elim (λ unmade. inl unmade) (λ more. inr (inl more)) (c.restart_kept.ensures.refusal is))
     (λ so is. begins.damaged so.0.0 so.1.0 is) (λ so is. begins.full so.0.0 is) (λ so. begins.same so.0.0 so.1.0)

@@ -11,7 +11,7 @@ use Rattle.world.proofs.SiteSteps.{if_ok_too}
 use Rattle.world.specs.Counted.{counts, counts_of}
 use Rattle.std.proofs.Common.{◌∷◌, rules, ap}
 use Rattle.catalog.specs.Relation.{catalogue_of}
-use Rattle.world.specs.Base.{database}
+use Rattle.desk.specs.CatalogueDatabase.{database}
 use Rattle.world.proofs.Refusing.{if_err}
 use Rattle.world.proofs.Stops.{refused_stops}
 use Rattle.world.proofs.machines.Machines.rollback.Goals as goal
@@ -32,6 +32,6 @@ returns-clause-leaves g c = record {
   clean = search rules;
   sound = search rules;
   counts = none_fewer (counts g.D.DeskStore.refused g.S.SiteStore.refused c.args.self.now) (g.D.DeskStore.refused c.rollback.new.self.store ∷ counts_of g.S.SiteStore.refused c.args.self.now.sites.items)
-      (ap (λ store. g.D.DeskStore.refused store ∷ counts_of g.S.SiteStore.refused c.args.self.now.sites.items) c.rollback.ensures.store);
+      (ap (λ store. g.D.DeskStore.refused store ∷ counts_of g.S.SiteStore.refused c.args.self.now.sites.items) c.rollback.ensures.plainly.store);
   catalog = search rules;
 }

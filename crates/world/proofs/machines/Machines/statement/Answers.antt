@@ -11,7 +11,7 @@ use Rattle.world.proofs.SiteSteps.{if_ok_all}
 use Rattle.world.proofs.Refusing.{statement_refused, some, if_err}
 use Rattle.world.specs.Counted.{counts, counts_of}
 use Rattle.catalog.specs.Relation.{catalogue_of}
-use Rattle.world.specs.Base.{database}
+use Rattle.desk.specs.CatalogueDatabase.{database}
 use Rattle.world.proofs.Stops.{statement_stops}
 use Rattle.world.proofs.machines.Machines.statement.Goals as goal
 
@@ -22,11 +22,11 @@ returns-clause-ok g c = λ db of is fit.
     let txn = txn_in db before.table c.args.txn in
     if_ok_all c.statement.result (λ (s : Statement). refusal (State s) txn ≡ None) (λ out accepted states. record {
       statement = states.statement;
-      choice = states.choice;
+      choice = states.runs.choice;
       spelled = states.spelled;
       fits = states.fits;
-      asked = asked_leads db before (g.D.DeskStore.kept new.store) (volatile_of new.volatile) c.args.txn states.choice (State states.statement) out.letters out.replies fit states.steps states.explained (accepted states.statement);
-    }) (λ s. c.statement.ensures.accepted db s) (c.statement.ensures.ok db of is fit.desk)
+      asked = asked_leads db before (g.D.DeskStore.kept new.store) (volatile_of new.volatile) c.args.txn states.runs.choice (State states.statement) out.letters out.replies fit states.runs.steps states.runs.explained (accepted states.statement);
+    }) (λ s. c.statement.ensures.states.accepted db s) (c.statement.ensures.ok db of is fit.desk)
 
 pub returns-clause-told : goal.returns-clause-told
 returns-clause-told g c = λ db of is fit. statement_refused db (volatile_of c.args.self.now.desk.volatile) c.args.txn c.args.text.now c.args.self.now.desk.catalog is c.statement.result (c.statement.ensures.told db) (c.statement.ensures.full db of is fit.desk)
@@ -39,6 +39,6 @@ returns-clause-leaves g c = record {
   clean = search rules;
   sound = search rules;
   counts = none_fewer (counts g.D.DeskStore.refused g.S.SiteStore.refused c.args.self.now) (g.D.DeskStore.refused c.statement.new.self.store ∷ counts_of g.S.SiteStore.refused c.args.self.now.sites.items)
-      (ap (λ store. g.D.DeskStore.refused store ∷ counts_of g.S.SiteStore.refused c.args.self.now.sites.items) c.statement.ensures.store);
+      (ap (λ store. g.D.DeskStore.refused store ∷ counts_of g.S.SiteStore.refused c.args.self.now.sites.items) c.statement.ensures.states.plainly.store);
   catalog = search rules;
 }

@@ -1,33 +1,36 @@
 -- Why `command` meets its contract.
-use Rattle.world.proofs.Leaves.{leaves_still}
-use Rattle.std.proofs.Common.{◌∙◌, List, ap, refl, subst, sym, ℕ, inl, inr, ⊎_elim, Err}
+use Rattle.std.proofs.Common.{◌∙◌, List, ap, subst, sym, ℕ, inl, inr, ⊎_elim, Err}
 use Rattle.reader.specs.declared.command.Command.TheVariants.{Begin, Commit, Rollback}
-use Rattle.world.specs.Denials.{IsUnreadable}
 use Rattle.world.specs.Contents.{counted}
-use Rattle.world.proofs.Denials.{as_before, only_memory, text_declines}
+use Rattle.world.specs.Commands.{IsUnreadable}
+use Rattle.world.specs.Contents.{OfStores}
+use Rattle.world.proofs.Calls.{narrowed_of, unread}
+use Rattle.world.proofs.Denials.{only_memory}
 use Rattle.meaning.specs.declared.schema.RelationSchema.{RelationSchema}
 use Rattle.reader.specs.Command.{IsTextOf}
 use Rattle.catalog.specs.declared.relation.SplitRelation.{SplitRelation}
 use Rattle.catalog.specs.FragmentLeaf.{schemas_of}
 use Rattle.catalog.specs.Relation.{catalogue_of}
-use Rattle.world.specs.Counted.{counts}
 use Rattle.world.proofs.Stops.{unreadable_stops}
 use Rattle.world.proofs.solo.Solo.command.Goals as goal
 
-pub returns-in-Ok-clause-ok : goal.returns-in-Ok-clause-ok
-returns-in-Ok-clause-ok g c = λ db of is clean sound fit.
-    c.obey.ensures.ok db of is clean sound fit
-    (subst (λ (schemas : List RelationSchema). IsTextOf schemas c.args.text.now c.in-Ok.command) (ap (λ (x : List (List ℕ) × List SplitRelation). schemas_of (catalogue_of x)) c.catalog.ensures ∙ ap schemas_of (sym is) ∙ sym of.schemas) c.in-Ok.ensures.read)
+pub returns-in-Ok-clause-comes : goal.returns-in-Ok-clause-comes
+returns-in-Ok-clause-comes g c =
+    let clean = OfStores g.D.DeskStore.is_clean g.S.SiteStore.is_clean in
+    let sound = OfStores g.D.DeskStore.is_sound g.S.SiteStore.is_sound in
+    let view = counted g.D.DeskStore.kept g.S.SiteStore.kept g.D.DeskStore.refused g.S.SiteStore.refused in
+    let old = c.args.self.now.machines in
+    narrowed_of clean sound view old c.obey.new.self.machines c.obey.result
+    (λ db of is moves so. so (subst (λ (schemas : List RelationSchema). IsTextOf schemas c.args.text.now c.in-Ok.command) (ap (λ (x : List (List ℕ) × List SplitRelation). schemas_of (catalogue_of x)) c.catalog.ensures ∙ ap schemas_of (sym is) ∙ sym of.schemas) c.in-Ok.ensures.read)) c.obey.ensures.comes
 
-pub returns-in-Ok-clause-denied : goal.returns-in-Ok-clause-denied
-returns-in-Ok-clause-denied g c = λ db of is clean sound fit.
-    c.obey.ensures.denied db of is clean sound fit
-    (subst (λ (schemas : List RelationSchema). IsTextOf schemas c.args.text.now c.in-Ok.command) (ap (λ (x : List (List ℕ) × List SplitRelation). schemas_of (catalogue_of x)) c.catalog.ensures ∙ ap schemas_of (sym is) ∙ sym of.schemas) c.in-Ok.ensures.read)
-
-pub returns-in-Err-clause-denied : goal.returns-in-Err-clause-denied
-returns-in-Err-clause-denied g c = λ db of is clean sound fit.
-    text_declines db c.args.text.now c.args.self.now.current (counted g.D.DeskStore.kept g.S.SiteStore.kept g.D.DeskStore.refused g.S.SiteStore.refused c.args.self.now.machines) (counted g.D.DeskStore.kept g.S.SiteStore.kept g.D.DeskStore.refused g.S.SiteStore.refused c.args.self.now.machines) c.in-Err.refusal (as_before db (counted g.D.DeskStore.kept g.S.SiteStore.kept g.D.DeskStore.refused g.S.SiteStore.refused c.args.self.now.machines) (counted g.D.DeskStore.kept g.S.SiteStore.kept g.D.DeskStore.refused g.S.SiteStore.refused c.args.self.now.machines) fit refl)
-    (subst (λ (schemas : List RelationSchema). IsUnreadable schemas c.args.text.now c.in-Err.refusal) (ap (λ (x : List (List ℕ) × List SplitRelation). schemas_of (catalogue_of x)) c.catalog.ensures ∙ ap schemas_of (sym is) ∙ sym of.schemas) c.in-Err.ensures.reader_refusal)
+pub returns-in-Err-clause-comes : goal.returns-in-Err-clause-comes
+returns-in-Err-clause-comes g c =
+    let clean = OfStores g.D.DeskStore.is_clean g.S.SiteStore.is_clean in
+    let sound = OfStores g.D.DeskStore.is_sound g.S.SiteStore.is_sound in
+    let view = counted g.D.DeskStore.kept g.S.SiteStore.kept g.D.DeskStore.refused g.S.SiteStore.refused in
+    let old = c.args.self.now.machines in
+    unread clean sound view old c.in-Err.refusal c.args.text.now c.args.self.now.current
+    (λ db of is. (subst (λ (schemas : List RelationSchema). IsUnreadable schemas c.args.text.now c.in-Err.refusal) (ap (λ (x : List (List ℕ) × List SplitRelation). schemas_of (catalogue_of x)) c.catalog.ensures ∙ ap schemas_of (sym is) ∙ sym of.schemas) c.in-Err.ensures.reader_refusal)) (unreadable_stops (view old).refused (view old).refused c.in-Err.refusal _ c.args.text.now c.in-Err.ensures.reader_refusal)
 
 pub returns-in-Ok-clause-inside : goal.returns-in-Ok-clause-inside
 returns-in-Ok-clause-inside g c = λ txn some spelled.
@@ -59,9 +62,3 @@ returns-in-Ok-clause-reader_refusal g c = λ none.
 
 pub returns-in-Err-clause-reader_refusal : goal.returns-in-Err-clause-reader_refusal
 returns-in-Err-clause-reader_refusal g c = λ none. (tt, subst (λ (schemas : List RelationSchema). IsUnreadable schemas c.args.text.now c.in-Err.refusal) (ap (λ (x : List (List ℕ) × List SplitRelation). schemas_of (catalogue_of x)) c.catalog.ensures) c.in-Err.ensures.reader_refusal)
-
-pub returns-in-Err-clause-blames : goal.returns-in-Err-clause-blames
-returns-in-Err-clause-blames g c = λ clean sound. unreadable_stops (counts g.D.DeskStore.refused g.S.SiteStore.refused c.args.self.now.machines) (counts g.D.DeskStore.refused g.S.SiteStore.refused c.args.self.now.machines) c.in-Err.refusal _ c.args.text.now c.in-Err.ensures.reader_refusal
-
-pub returns-in-Err-clause-leaves : goal.returns-in-Err-clause-leaves
-returns-in-Err-clause-leaves g c = leaves_still g.D.DeskStore.is_clean g.S.SiteStore.is_clean g.D.DeskStore.is_sound g.S.SiteStore.is_sound g.D.DeskStore.refused g.S.SiteStore.refused c.args.self.now.machines

@@ -1,25 +1,38 @@
 -- Why `obey` meets its contract.
-use Rattle.std.proofs.Common.{subst}
 use Rattle.reader.specs.Command.{IsTextOf}
+use Rattle.std.proofs.Common.{subst}
+use Rattle.world.proofs.Calls.{narrowed}
+use Rattle.world.specs.Contents.{OfStores, counted}
 use Rattle.world.proofs.solo.Solo.obey.Goals as goal
 
-pub returns-in-Begin-clause-ok : goal.returns-in-Begin-clause-ok
-returns-in-Begin-clause-ok g c = λ db of is clean sound fit spelled. c.begins.ensures.ok db c.args.text.now of is clean sound fit (subst (IsTextOf db.schemas c.args.text.now) c.in-Begin.is spelled)
+pub returns-in-Begin-clause-comes : goal.returns-in-Begin-clause-comes
+returns-in-Begin-clause-comes g c =
+    let clean = OfStores g.D.DeskStore.is_clean g.S.SiteStore.is_clean in
+    let sound = OfStores g.D.DeskStore.is_sound g.S.SiteStore.is_sound in
+    let view = counted g.D.DeskStore.kept g.S.SiteStore.kept g.D.DeskStore.refused g.S.SiteStore.refused in
+    let old = c.args.self.now.machines in
+    narrowed clean sound view old c.begins.new.self.machines c.begins.result (λ db moves so spelled. so c.args.text.now (subst (IsTextOf db.schemas c.args.text.now) c.in-Begin.is spelled)) c.begins.ensures.comes
 
-pub returns-in-Commit-clause-ok : goal.returns-in-Commit-clause-ok
-returns-in-Commit-clause-ok g c = λ db of is clean sound fit spelled. c.commits.ensures.ok db c.args.text.now of is clean sound fit (subst (IsTextOf db.schemas c.args.text.now) c.in-Commit.is spelled)
+pub returns-in-Commit-clause-comes : goal.returns-in-Commit-clause-comes
+returns-in-Commit-clause-comes g c =
+    let clean = OfStores g.D.DeskStore.is_clean g.S.SiteStore.is_clean in
+    let sound = OfStores g.D.DeskStore.is_sound g.S.SiteStore.is_sound in
+    let view = counted g.D.DeskStore.kept g.S.SiteStore.kept g.D.DeskStore.refused g.S.SiteStore.refused in
+    let old = c.args.self.now.machines in
+    narrowed clean sound view old c.commits.new.self.machines c.commits.result (λ db moves so spelled. so c.args.text.now (subst (IsTextOf db.schemas c.args.text.now) c.in-Commit.is spelled)) c.commits.ensures.comes
 
-pub returns-in-Rollback-clause-ok : goal.returns-in-Rollback-clause-ok
-returns-in-Rollback-clause-ok g c = λ db of is clean sound fit spelled. c.rolls_back.ensures.ok db c.args.text.now of is clean sound fit (subst (IsTextOf db.schemas c.args.text.now) c.in-Rollback.is spelled)
+pub returns-in-Rollback-clause-comes : goal.returns-in-Rollback-clause-comes
+returns-in-Rollback-clause-comes g c =
+    let clean = OfStores g.D.DeskStore.is_clean g.S.SiteStore.is_clean in
+    let sound = OfStores g.D.DeskStore.is_sound g.S.SiteStore.is_sound in
+    let view = counted g.D.DeskStore.kept g.S.SiteStore.kept g.D.DeskStore.refused g.S.SiteStore.refused in
+    let old = c.args.self.now.machines in
+    narrowed clean sound view old c.rolls_back.new.self.machines c.rolls_back.result (λ db moves so spelled. so c.args.text.now (subst (IsTextOf db.schemas c.args.text.now) c.in-Rollback.is spelled)) c.rolls_back.ensures.comes
 
-pub returns-in-Begin-clause-denied : goal.returns-in-Begin-clause-denied
-returns-in-Begin-clause-denied g c = λ db of is clean sound fit spelled. c.begins.ensures.denied db c.args.text.now of is clean sound fit (subst (IsTextOf db.schemas c.args.text.now) c.in-Begin.is spelled)
-
-pub returns-in-Commit-clause-denied : goal.returns-in-Commit-clause-denied
-returns-in-Commit-clause-denied g c = λ db of is clean sound fit spelled. c.commits.ensures.denied db c.args.text.now of is clean sound fit (subst (IsTextOf db.schemas c.args.text.now) c.in-Commit.is spelled)
-
-pub returns-in-Rollback-clause-denied : goal.returns-in-Rollback-clause-denied
-returns-in-Rollback-clause-denied g c = λ db of is clean sound fit spelled. c.rolls_back.ensures.denied db c.args.text.now of is clean sound fit (subst (IsTextOf db.schemas c.args.text.now) c.in-Rollback.is spelled)
-
-pub returns-in-Run-clause-denied : goal.returns-in-Run-clause-denied
-returns-in-Run-clause-denied g c = λ db of is clean sound fit spelled. c.states.ensures.denied db c.in-Run.field-0 of is clean sound fit (subst (IsTextOf db.schemas c.args.text.now) c.in-Run.is spelled)
+pub returns-in-Run-clause-comes : goal.returns-in-Run-clause-comes
+returns-in-Run-clause-comes g c =
+    let clean = OfStores g.D.DeskStore.is_clean g.S.SiteStore.is_clean in
+    let sound = OfStores g.D.DeskStore.is_sound g.S.SiteStore.is_sound in
+    let view = counted g.D.DeskStore.kept g.S.SiteStore.kept g.D.DeskStore.refused g.S.SiteStore.refused in
+    let old = c.args.self.now.machines in
+    narrowed clean sound view old c.states.new.self.machines c.states.result (λ db moves so spelled. so c.in-Run.field-0 (subst (IsTextOf db.schemas c.args.text.now) c.in-Run.is spelled)) c.states.ensures.comes

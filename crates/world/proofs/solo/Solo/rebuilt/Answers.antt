@@ -3,7 +3,7 @@ use Rattle.std.proofs.Common.{subst, []}
 use Rattle.catalog.specs.Relation.{catalogue_of}
 use Rattle.protocol.specs.Client.{ReachedLaw}
 use Rattle.desk.specs.Database.{language}
-use Rattle.world.specs.Base.{database}
+use Rattle.desk.specs.CatalogueDatabase.{database}
 use Rattle.world.specs.Counted.{counts}
 use Rattle.world.specs.Contents.{counted, held}
 use Rattle.world.specs.Machines.{world_of}

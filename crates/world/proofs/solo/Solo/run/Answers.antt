@@ -7,8 +7,8 @@ use Rattle.protocol.specs.Client.{ReachedLaw}
 use Rattle.desk.specs.Database.{language}
 use Rattle.desk.specs.OfCatalogue.{IsOfCatalogue}
 use Rattle.world.specs.declared.transaction.Stop.{Stop}
-use Rattle.world.specs.Account.{AccountFollows}
-use Rattle.world.specs.Base.{database, fits}
+use Rattle.world.specs.Commands.{MovesFollow}
+use Rattle.desk.specs.CatalogueDatabase.{database, fits}
 use Rattle.world.specs.BatchRuns.{WasStopped}
 use Rattle.world.specs.Contents.{counted}
 use Rattle.world.specs.Executed.{ObeysUnlessRefused}
@@ -26,10 +26,10 @@ returns-in-Ok-clause-ran g c = λ whole entries past clean sound served so.
     let after = counted g.D.DeskStore.kept g.S.SiteStore.kept g.D.DeskStore.refused g.S.SiteStore.refused c.run_all.new.machines in
     let of = subst (λ (x : List (List ℕ) × List SplitRelation). IsOfCatalogue (database (catalogue_of x))) c.catalog.ensures c.database_is_of_catalogue.ensures.of_catalogue in
     let reached = subst (λ (x : List (List ℕ) × List SplitRelation). ReachedLaw (language (database (catalogue_of x)))) c.catalog-2.ensures c.one_client_is_a_run.ensures in
-    let account = subst (λ (x : List (List ℕ) × List SplitRelation). AccountFollows (database (catalogue_of x))) c.catalog-3.ensures c.account_follows.ensures in
+    let follow = subst (λ (x : List (List ℕ) × List SplitRelation). MovesFollow (database (catalogue_of x))) c.catalog-3.ensures c.moves_follow.ensures in
     let obeys = subst (λ (x : List (List ℕ) × List SplitRelation). ObeysUnlessRefused (database (catalogue_of x)) (fits (catalogue_of x))) c.catalog-5.ensures c.obeyed_unless_refused.ensures in
     let quiet = subst (λ (x : List (List ℕ) × List SplitRelation). GrowsQuiet (database (catalogue_of x)) (fits (catalogue_of x))) c.catalog-6.ensures c.grows_quiet.ensures in
-    has_run (database catalogue) (fits catalogue) reached obeys quiet whole account c.args.transactions.now c.in-Ok.outcomes.items before after entries past served so (c.in-Ok.ensures.ok (database catalogue) of refl clean sound served.fit)
+    has_run (database catalogue) (fits catalogue) reached obeys quiet whole follow c.args.transactions.now c.in-Ok.outcomes.items before after entries past served so (c.in-Ok.ensures.ok (database catalogue) of refl clean sound served.fit)
 
 pub returns-in-Err-clause-broke : goal.returns-in-Err-clause-broke
 returns-in-Err-clause-broke g c = λ whole entries past stop clean sound served so is.
@@ -38,13 +38,13 @@ returns-in-Err-clause-broke g c = λ whole entries past stop clean sound served 
     let after = counted g.D.DeskStore.kept g.S.SiteStore.kept g.D.DeskStore.refused g.S.SiteStore.refused c.run_all.new.machines in
     let of = subst (λ (x : List (List ℕ) × List SplitRelation). IsOfCatalogue (database (catalogue_of x))) c.catalog.ensures c.database_is_of_catalogue.ensures.of_catalogue in
     let reached = subst (λ (x : List (List ℕ) × List SplitRelation). ReachedLaw (language (database (catalogue_of x)))) c.catalog-2.ensures c.one_client_is_a_run.ensures in
-    let account = subst (λ (x : List (List ℕ) × List SplitRelation). AccountFollows (database (catalogue_of x))) c.catalog-3.ensures c.account_follows.ensures in
+    let follow = subst (λ (x : List (List ℕ) × List SplitRelation). MovesFollow (database (catalogue_of x))) c.catalog-3.ensures c.moves_follow.ensures in
     let serial = subst (λ (x : List (List ℕ) × List SplitRelation). ServedIsSerial (database (catalogue_of x))) c.catalog-4.ensures c.served_is_serial.ensures in
     let obeys = subst (λ (x : List (List ℕ) × List SplitRelation). ObeysUnlessRefused (database (catalogue_of x)) (fits (catalogue_of x))) c.catalog-5.ensures c.obeyed_unless_refused.ensures in
     let quiet = subst (λ (x : List (List ℕ) × List SplitRelation). GrowsQuiet (database (catalogue_of x)) (fits (catalogue_of x))) c.catalog-6.ensures c.grows_quiet.ensures in
     let same : c.in-Err.stop ≡ stop = cc in
     subst (λ (s : Stop). WasStopped (database catalogue) (fits catalogue) whole c.args.transactions.now s.done before after entries past) same
-    (was_stopped (database catalogue) (fits catalogue) reached obeys quiet whole account serial c.args.transactions.now c.in-Err.stop.done before after entries past served so
+    (was_stopped (database catalogue) (fits catalogue) reached obeys quiet whole follow serial c.args.transactions.now c.in-Err.stop.done before after entries past served so
     (c.in-Err.ensures.stops (database catalogue) of refl clean sound served.fit reached))
 
 pub returns-in-Ok-clause-served : goal.returns-in-Ok-clause-served

@@ -1,21 +1,44 @@
 -- Why `states` meets its contract.
-use Rattle.std.proofs.Common.{◌∙◌, sym}
-use Rattle.world.specs.Client.{did_run, did_state, still_open}
-use Rattle.world.proofs.SiteSteps.{if_ok}
-use Rattle.world.specs.Contents.{counted}
-use Rattle.world.proofs.Denials.{statement_declines}
-use Rattle.world.proofs.Refusing.{if_err}
-use Rattle.world.specs.Denials.{declines_lone}
+use Rattle.std.proofs.Common.{refl, sym, subst, ◌∙◌, inl, inr, ⊎_elim, Err, Ok}
+use Rattle.world.proofs.Calls.{IsOne, as_kind, lone_command, one_call}
+use Rattle.world.specs.Client.{still_open}
+use Rattle.world.specs.Commands.{IsSingle, is_single}
+use Rattle.world.specs.Contents.{OfStores, counted}
+use Rattle.world.specs.Course.{States}
+use Rattle.world.specs.Frame.{ComesTo}
+use Rattle.world.specs.declared.event.Call.TheVariants as call
 use Rattle.world.proofs.solo.Solo.states.Goals as goal
 
-pub returns-in-None-clause-ok : goal.returns-in-None-clause-ok
-returns-in-None-clause-ok g c = λ db of is clean sound fit. if_ok c.run_autocommit.result (λ heard does. did_run c.in-None.is c.in-None.is does) (c.run_autocommit.ensures.ok db of is clean sound fit)
+pub returns-in-Ok-clause-comes : goal.returns-in-Ok-clause-comes
+returns-in-Ok-clause-comes g c =
+    let clean = OfStores g.D.DeskStore.is_clean g.S.SiteStore.is_clean in
+    let sound = OfStores g.D.DeskStore.is_sound g.S.SiteStore.is_sound in
+    let view = counted g.D.DeskStore.kept g.S.SiteStore.kept g.D.DeskStore.refused g.S.SiteStore.refused in
+    let old = c.args.self.now.machines in
+    let new = c.state.new.machines in
+    let txn = c.in-Some.txn in
+    let first = subst (λ r. ComesTo clean sound view old new r (λ db. IsOne (λ heard. States txn c.args.text.now heard.items) (call.State txn c.args.text.now))) c.in-Ok.is (one_call g.D.DeskStore.is_clean g.S.SiteStore.is_clean g.D.DeskStore.is_sound g.S.SiteStore.is_sound g.D.DeskStore.kept g.S.SiteStore.kept g.D.DeskStore.refused g.S.SiteStore.refused (λ heard. States txn c.args.text.now heard.items) (call.State txn c.args.text.now) old new c.state.result c.state.ensures.leaves c.state.ensures.blames c.state.ensures.served c.state.ensures.ok c.state.ensures.denied) in
+    as_kind clean sound view old new _ _ (λ blamed. tt)
+    (λ db of is made. record { moves = made.moves; made = made.made; is = λ statement spelled. is_single (subst (λ ms. IsSingle db.schemas c.args.text.now c.args.self.now.current c.still_open-self.result ms (Ok c.in-Ok.heard.items)) (sym made.is) (((statement, spelled), c.in-Some.is, refl), c.still_open-self.ensures ∙ (λ i. still_open (sym c.in-Some.is i) (c.as_slice.ensures.value i)), refl)) }) first
 
-pub returns-in-Ok-clause-ok : goal.returns-in-Ok-clause-ok
-returns-in-Ok-clause-ok g c = λ db of is clean sound fit. did_state c.in-Some.txn c.in-Some.is (c.still_open-self.ensures ∙ (λ i. still_open (sym c.in-Some.is i) (c.as_slice.ensures.value i))) (c.in-Ok.ensures.ok db of is clean sound fit)
+pub returns-in-Err-clause-comes : goal.returns-in-Err-clause-comes
+returns-in-Err-clause-comes g c =
+    let clean = OfStores g.D.DeskStore.is_clean g.S.SiteStore.is_clean in
+    let sound = OfStores g.D.DeskStore.is_sound g.S.SiteStore.is_sound in
+    let view = counted g.D.DeskStore.kept g.S.SiteStore.kept g.D.DeskStore.refused g.S.SiteStore.refused in
+    let old = c.args.self.now.machines in
+    let new = c.state.new.machines in
+    let txn = c.in-Some.txn in
+    let told = c.in-Err.refusal in
+    let first = subst (λ r. ComesTo clean sound view old new r (λ db. IsOne (λ heard. States txn c.args.text.now heard.items) (call.State txn c.args.text.now))) c.in-Err.is (one_call g.D.DeskStore.is_clean g.S.SiteStore.is_clean g.D.DeskStore.is_sound g.S.SiteStore.is_sound g.D.DeskStore.kept g.S.SiteStore.kept g.D.DeskStore.refused g.S.SiteStore.refused (λ heard. States txn c.args.text.now heard.items) (call.State txn c.args.text.now) old new c.state.result c.state.ensures.leaves c.state.ensures.blames c.state.ensures.served c.state.ensures.ok c.state.ensures.denied) in
+    as_kind clean sound view old new _ _ (λ blamed. blamed)
+    (λ db of is makes. ⊎_elim (λ stops. inl stops) (λ made. inr (record { moves = made.moves; made = made.made; is = λ statement spelled. is_single (subst (λ ms. IsSingle db.schemas c.args.text.now c.args.self.now.current c.args.self.now.current ms (Err told)) (sym made.is) (((statement, spelled), c.in-Some.is, refl), refl, refl)) })) makes) first
 
-pub returns-in-None-clause-denied : goal.returns-in-None-clause-denied
-returns-in-None-clause-denied g c = λ db statement of is clean sound fit spelled. if_err c.run_autocommit.result (λ told denied. declines_lone statement c.in-None.is spelled denied) (c.run_autocommit.ensures.denied db of is clean sound fit)
-
-pub returns-in-Err-clause-denied : goal.returns-in-Err-clause-denied
-returns-in-Err-clause-denied g c = λ db statement of is clean sound fit spelled. statement_declines db c.args.text.now c.args.self.now.current (counted g.D.DeskStore.kept g.S.SiteStore.kept g.D.DeskStore.refused g.S.SiteStore.refused c.args.self.now.machines) (counted g.D.DeskStore.kept g.S.SiteStore.kept g.D.DeskStore.refused g.S.SiteStore.refused c.state.new.machines) c.in-Err.refusal c.in-Some.txn statement c.in-Some.is spelled (c.in-Err.ensures.denied db of is clean sound fit)
+pub returns-in_default-clause-comes : goal.returns-in_default-clause-comes
+returns-in_default-clause-comes g c =
+    let clean = OfStores g.D.DeskStore.is_clean g.S.SiteStore.is_clean in
+    let sound = OfStores g.D.DeskStore.is_sound g.S.SiteStore.is_sound in
+    let view = counted g.D.DeskStore.kept g.S.SiteStore.kept g.D.DeskStore.refused g.S.SiteStore.refused in
+    let old = c.args.self.now.machines in
+    let new = c.run_autocommit.new.machines in
+    lone_command clean sound view old new c.run_autocommit.result c.args.text.now c.args.self.now.current c.in_default.is c.run_autocommit.ensures

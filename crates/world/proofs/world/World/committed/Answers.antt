@@ -1,7 +1,7 @@
 -- Why `World::committed` meets its contract.
 use Rattle.std.proofs.Common.{◌≡◌, IfOk, map, subst}
 use Rattle.catalog.specs.Relation.{catalogue_of}
-use Rattle.world.specs.Base.{database}
+use Rattle.desk.specs.CatalogueDatabase.{database}
 use Rattle.world.specs.Contents.{held}
 use Rattle.world.specs.Committed.{committed_of}
 use Rattle.world.specs.Replies.{committed_in}

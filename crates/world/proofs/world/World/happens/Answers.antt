@@ -4,7 +4,7 @@ use Rattle.std.proofs.Common.{refl, sym, subst, ◌++◌, List}
 use Rattle.catalog.specs.Relation.{catalogue_of}
 use Rattle.desk.specs.OfCatalogue.{IsOfCatalogue}
 use Rattle.world.specs.declared.event.Entry.{Entry}
-use Rattle.world.specs.Base.{database}
+use Rattle.desk.specs.CatalogueDatabase.{database}
 use Rattle.world.specs.Contents.{OfStores, counted, held}
 use Rattle.world.specs.Refused.{IsRefusedFor}
 use Rattle.world.specs.Counted.{HaveRefused, counts}

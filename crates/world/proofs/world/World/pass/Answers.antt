@@ -3,7 +3,7 @@ use Rattle.world.proofs.Leaves.{leaves_still}
 use Rattle.std.proofs.Common.{subst, ◌∙◌, sym, inl}
 use Rattle.catalog.specs.Relation.{catalogue_of}
 use Rattle.world.specs.declared.event.Event.{Event}
-use Rattle.world.specs.Base.{database}
+use Rattle.desk.specs.CatalogueDatabase.{database}
 use Rattle.world.specs.Counted.{counts}
 use Rattle.world.specs.Following.{Happens}
 use Rattle.world.specs.Contents.{OfStores, held}

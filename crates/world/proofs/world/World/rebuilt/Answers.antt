@@ -3,7 +3,7 @@ use Rattle.std.proofs.Common.{subst, option_map, IfErr}
 use Rattle.catalog.specs.Relation.{catalogue_of}
 use Rattle.protocol.specs.Language.{IsLawful}
 use Rattle.desk.specs.Database.{language}
-use Rattle.world.specs.Base.{database}
+use Rattle.desk.specs.CatalogueDatabase.{database}
 use Rattle.world.specs.Counted.{counts}
 use Rattle.world.specs.Fault.{FailsFor}
 use Rattle.world.specs.Contents.{held}

@@ -7,7 +7,7 @@ use Rattle.protocol.specs.Desk.{Deed}
 use Rattle.desk.specs.Database.{language}
 use Rattle.world.specs.declared.event.Entry.{Entry}
 use Rattle.world.specs.declared.event.Event.{Event}
-use Rattle.world.specs.Base.{database}
+use Rattle.desk.specs.CatalogueDatabase.{database}
 use Rattle.world.specs.Following.{Follows, FollowsAtLeast, Happens}
 use Rattle.world.specs.Contents.{OfStores, counted, held}
 use Rattle.world.specs.Machines.{Machines}

@@ -4,7 +4,7 @@ use Rattle.meaning.specs.Whole.{Relations}
 use Rattle.catalog.specs.Relation.{catalogue_of}
 use Rattle.protocol.specs.Desk.{Deed}
 use Rattle.desk.specs.Database.{language}
-use Rattle.world.specs.Base.{database}
+use Rattle.desk.specs.CatalogueDatabase.{database}
 use Rattle.world.specs.Following.{Follows}
 use Rattle.world.specs.Frame.{LeavesMachines}
 use Rattle.world.specs.Contents.{OfStores, counted, held}

@@ -1,0 +1,190 @@
+-- What calls make of the machines that serve one client, one after another.
+use Rattle.std.proofs.Common.{◌≡◌, refl, sym, ap, subst, ◌∙◌, ℕ, true, false, List, [], ◌∷◌, ◌++◌, inl, inr, ⊎_elim, Option, None, Result, Ok, Err, IfErr, IfOk}
+use Rattle.meaning.specs.declared.statement.Statement.{Statement}
+use Rattle.catalog.specs.Relation.{catalogue_of}
+use Rattle.reader.specs.declared.command.Command.TheVariants.{Run}
+use Rattle.reader.specs.Command.{IsTextOf}
+use Rattle.store.specs.declared.name.Txn.{Txn}
+use Rattle.store.specs.DeskContent.{DeskContent}
+use Rattle.store.specs.SiteContent.{SiteContent}
+use Rattle.protocol.proofs.Basics.{clash}
+use Rattle.desk.specs.declared.refusal.Refusal.{Refusal}
+use Rattle.desk.specs.declared.refusal.Refusal.TheVariants as told_as
+use Rattle.desk.specs.declared.refusal.Refusal.TheVariants.{Memory}
+use Rattle.desk.specs.declared.reply.Notice.{Notice}
+use Rattle.desk.specs.Database.{Database}
+use Rattle.desk.specs.OfCatalogue.{IsOfCatalogue}
+use Rattle.world.specs.declared.event.Call as calls
+use Rattle.world.specs.declared.event.Call.TheVariants as call
+use Rattle.world.specs.declared.machines.Machines as code
+use Rattle.world.specs.Commands.{IsCommand, IsLone, IsTakenBack, IsUnreadable, TakesBack, heard_in, is_lone, is_no_command, is_single}
+use Rattle.world.specs.Counted.{counts}
+use Rattle.world.specs.Contents.{OfStores, counted}
+use Rattle.world.specs.Course.{IsTurnedDown, Move, Moves, Refuses}
+use Rattle.world.specs.Frame.{Blames, ComesTo, HasMade, LeavesMachines, MakesMoves, OverDatabase, StaysServed}
+use Rattle.world.specs.Machines.{Machines}
+use Rattle.world.specs.Stopping.{StopsFor, is_stop}
+use Rattle.world.proofs.Counting.{no_fewer, no_fewer_then}
+use Rattle.world.proofs.Deeds.{made_fit, made_then}
+use Rattle.world.proofs.Denials.{is_memory}
+use Rattle.world.proofs.Reaching.{same_on, then_on}
+use Rattle.world.proofs.Stops.{call_since, memory_only}
+
+-- what doesn't stop the database needs no reason
+pub goes_for_any : (before after : List ℕ) (told : Refusal) → is_stop told ≡ false → StopsFor before after told
+goes_for_any before after told_as.NoTransaction goes = tt
+goes_for_any before after told_as.Busy goes = tt
+goes_for_any before after told_as.Ended goes = tt
+goes_for_any before after told_as.Full goes = tt
+goes_for_any before after (told_as.Read fault) goes = tt
+goes_for_any before after (told_as.Aborted why) goes = tt
+goes_for_any before after Memory goes = tt
+goes_for_any before after (told_as.Store fault) goes = cc
+
+-- which moves are made by a call with this answer
+abbrev pub Kind : Type 0 → Type 1
+Kind T = Database → Result T Refusal → List Move → Type 0
+
+-- a call that stands for moves of a client, by what it answers
+abbrev pub IsOne : {T : Type 0} → (T → Move) → calls.Call → Result T Refusal → List Move → Type 0
+IsOne move asked (Ok x) moves = moves ≡ move x ∷ []
+IsOne move asked (Err told) moves = moves ≡ Refuses asked told ∷ []
+
+-- moves that were made, where the answer doesn't stop the database
+pub made_of : {T : Type 0} (db : Database) (before after : Machines) (told : Refusal) (K : Result T Refusal → List Move → Type 0) → is_stop told ≡ false → MakesMoves db before after (Err told) K → HasMade db before after (K (Err told))
+made_of db before after told K goes (inl stops) = clash stops goes
+made_of db before after told K goes (inr made) = made
+
+module _ {D S : Type 0} (IsClean IsSound : code.Machines D S → Type 0) (view : code.Machines D S → Machines) where
+  -- so each result of one call, as another's
+  pub as_kind : {T U : Type 0} {K : Kind T} {M : Kind U} (old new : code.Machines D S) (first : Result T Refusal) (result : Result U Refusal) → (IfErr first (StopsFor (view old).refused (view new).refused) → IfErr result (StopsFor (view old).refused (view new).refused)) →
+      ((db : Database) → IsOfCatalogue db → db.catalogue ≡ catalogue_of old.desk.catalog → MakesMoves db (view old) (view new) first (K db) → MakesMoves db (view old) (view new) result (M db)) → ComesTo IsClean IsSound view old new first K → ComesTo IsClean IsSound view old new result M
+  as_kind old new first result blames moves comes = record {
+    clean = comes.clean;
+    sound = comes.sound;
+    counts = comes.counts;
+    catalog = comes.catalog;
+    blames = λ clean sound. blames (comes.blames clean sound);
+    served = comes.served;
+    moves = λ db of is clean sound fit. moves db of is (comes.moves db of is clean sound fit);
+  }
+
+  -- it is answered by what doesn't stop the database, or want of memory
+  pub answered : {T U : Type 0} {K : Kind T} {M : Kind U} (old new : code.Machines D S) (x : T) (result : Result U Refusal) → IfErr result (λ told. told ≡ Memory) → ((db : Database) (moves : List Move) → K db (Ok x) moves → IfOk result (λ y. M db (Ok y) moves)) →
+      ComesTo IsClean IsSound view old new (Ok x) K → ComesTo IsClean IsSound view old new result M
+  answered old new x (Ok y) memory so comes = as_kind old new (Ok x) (Ok y) (λ none. tt) (λ db of is made. record { moves = made.moves; made = made.made; is = so db made.moves made.is }) comes
+  answered {U = U} old new x (Err told) memory so comes = as_kind old new (Ok x) (Err told) (λ none. memory_only {T = U} (Err told) (view old).refused (view new).refused memory) (λ db of is made. inl (is_memory told memory)) comes
+
+  -- it stops the database, whatever it was to do
+  pub stops_as : {T U : Type 0} {K : Kind T} {M : Kind U} (old new : code.Machines D S) (told : Refusal) → is_stop told ≡ true → ComesTo IsClean IsSound view old new (Err told) K → ComesTo IsClean IsSound view old new (Err told) M
+  stops_as old new told stops comes = as_kind old new (Err told) (Err told) (λ blamed. blamed) (λ db of is made. inl stops) comes
+
+  -- nothing is done
+  pub stays : {T : Type 0} {M : Kind T} (machines : code.Machines D S) (result : Result T Refusal) → IfErr result (StopsFor (view machines).refused (view machines).refused) → ((db : Database) → IsOfCatalogue db → db.catalogue ≡ catalogue_of machines.desk.catalog → MakesMoves db (view machines) (view machines) result (M db)) → ComesTo IsClean IsSound view machines machines result M
+  stays machines result blames moves = record {
+    clean = λ clean. clean;
+    sound = λ clean sound. sound;
+    counts = no_fewer (view machines).refused;
+    catalog = refl;
+    blames = λ clean sound. blames;
+    served = λ db whole past of law is clean sound served. same_on db law whole (view machines) (view machines) past served refl;
+    moves = λ db of is clean sound fit. moves db of is;
+  }
+
+  moves_then : {U : Type 0} (db : Database) (L M : Result U Refusal → List Move → Type 0) (K : List Move → Type 0) (before middle after : Machines) (result : Result U Refusal) → HasMade db before middle K → ((one more : List Move) → K one → L result more → M result (one ++ more)) → MakesMoves db middle after result L → MakesMoves db before after result M
+  moves_then db L M K before middle after (Ok y) first join second = record { moves = first.moves ++ second.moves; made = made_then db first.moves second.moves before middle after first.made second.made; is = join first.moves second.moves first.is second.is }
+  moves_then db L M K before middle after (Err told) first join (inl stops) = inl stops
+  moves_then db L M K before middle after (Err told) first join (inr second) = inr (record { moves = first.moves ++ second.moves; made = made_then db first.moves second.moves before middle after first.made second.made; is = join first.moves second.moves first.is second.is })
+
+  -- one call, and then another
+  pub then_from : {T U : Type 0} {K : Kind T} {L M : Kind U} (old mid new : code.Machines D S) (first : Result T Refusal) (result : Result U Refusal) →
+      ((db : Database) → MakesMoves db (view old) (view mid) first (K db) → HasMade db (view old) (view mid) (K db first)) → ((db : Database) (one more : List Move) → K db first one → L db result more → M db result (one ++ more)) →
+      ComesTo IsClean IsSound view old mid first K → ComesTo IsClean IsSound view mid new result L → ComesTo IsClean IsSound view old new result M
+  then_from {K = K} {L = L} {M = M} old mid new first result done join one two = record {
+    clean = λ clean. one.clean (two.clean clean);
+    sound = λ clean sound. two.sound clean (one.sound (two.clean clean) sound);
+    counts = no_fewer_then (view old).refused (view mid).refused (view new).refused one.counts two.counts;
+    catalog = two.catalog ∙ one.catalog;
+    blames = λ clean sound. call_since result (view old).refused (view mid).refused (view new).refused one.counts (two.blames clean (one.sound (two.clean clean) sound));
+    served = λ db whole past of law is clean sound served.
+        then_on db law whole (view old) (view mid) (view new) past (one.served db whole past of law is (two.clean clean) sound served)
+        (λ more so. two.served db whole more of law (is ∙ ap catalogue_of (sym one.catalog)) clean (one.sound (two.clean clean) sound) so);
+    moves = λ db of is clean sound fit.
+        let made = done db (one.moves db of is (two.clean clean) sound fit) in
+        moves_then db (L db) (M db) (K db first) (view old) (view mid) (view new) result made (join db)
+        (two.moves db of (is ∙ ap catalogue_of (sym one.catalog)) clean (one.sound (two.clean clean) sound) (made_fit db made.moves (view old) (view mid) fit made.made));
+  }
+
+  -- so behind a call that went well
+  pub then_too : {T U : Type 0} {K : Kind T} {L M : Kind U} (old mid new : code.Machines D S) (x : T) (result : Result U Refusal) → ((db : Database) (one more : List Move) → K db (Ok x) one → L db result more → M db result (one ++ more)) →
+      ComesTo IsClean IsSound view old mid (Ok x) K → ComesTo IsClean IsSound view mid new result L → ComesTo IsClean IsSound view old new result M
+  then_too old mid new x result join one two = then_from old mid new (Ok x) result (λ db made. made) join one two
+
+  -- and behind one that was refused
+  pub then_back : {T U : Type 0} {K : Kind T} {L M : Kind U} (old mid new : code.Machines D S) (told : Refusal) (result : Result U Refusal) → is_stop told ≡ false → ((db : Database) (one more : List Move) → K db (Err told) one → L db result more → M db result (one ++ more)) →
+      ComesTo IsClean IsSound view old mid (Err told) K → ComesTo IsClean IsSound view mid new result L → ComesTo IsClean IsSound view old new result M
+  then_back {K = K} old mid new told result goes join one two = then_from old mid new (Err told) result (λ db made. made_of db (view old) (view mid) told (K db) goes made) join one two
+
+  -- its moves are of another kind too
+  moves_narrowed : {T : Type 0} (db : Database) (K M : Result T Refusal → List Move → Type 0) (before after : Machines) (result : Result T Refusal) → ((moves : List Move) → K result moves → M result moves) → MakesMoves db before after result K → MakesMoves db before after result M
+  moves_narrowed db K M before after (Ok x) so made = record { moves = made.moves; made = made.made; is = so made.moves made.is }
+  moves_narrowed db K M before after (Err told) so (inl stops) = inl stops
+  moves_narrowed db K M before after (Err told) so (inr made) = inr (record { moves = made.moves; made = made.made; is = so made.moves made.is })
+
+  pub narrowed_of : {T : Type 0} {K M : Kind T} (old new : code.Machines D S) (result : Result T Refusal) → ((db : Database) → IsOfCatalogue db → db.catalogue ≡ catalogue_of old.desk.catalog → (moves : List Move) → K db result moves → M db result moves) →
+      ComesTo IsClean IsSound view old new result K → ComesTo IsClean IsSound view old new result M
+  narrowed_of {K = K} {M = M} old new result so comes = as_kind old new result result (λ blamed. blamed) (λ db of is made. moves_narrowed db (K db) (M db) (view old) (view new) result (so db of is) made) comes
+
+  pub narrowed : {T : Type 0} {K M : Kind T} (old new : code.Machines D S) (result : Result T Refusal) → ((db : Database) (moves : List Move) → K db result moves → M db result moves) → ComesTo IsClean IsSound view old new result K → ComesTo IsClean IsSound view old new result M
+  narrowed old new result so comes = narrowed_of old new result (λ db of is. so db) comes
+
+  -- a rollback is refused too, and the transaction left
+  pub left_behind : {T U : Type 0} (txn : Txn) (move : T → Move) (old new : code.Machines D S) (other refusal : Refusal) → is_stop other ≡ false → is_stop refusal ≡ false → ComesTo IsClean IsSound view old new (Err other) (λ db. IsOne move (call.Rollback txn)) →
+      ComesTo IsClean IsSound view old new (Err refusal) (λ db. TakesBack {T = U} txn refusal)
+  left_behind txn move old new other refusal goes stays_on comes = as_kind old new (Err other) (Err refusal) (λ blamed. goes_for_any (view old).refused (view new).refused refusal stays_on)
+      (λ db of is makes.
+      let made = made_of db (view old) (view new) other (IsOne move (call.Rollback txn)) goes makes in
+      inr (record { moves = made.moves; made = made.made; is = (subst (IsTakenBack txn) (sym made.is) refl, refl) })) comes
+
+  -- a lone statement is a command
+  pub lone_command : {T : Type 0} {items : T → List Notice} (old new : code.Machines D S) (result : Result T Refusal) (text : List ℕ) (current : Option Txn) → current ≡ None → ComesTo IsClean IsSound view old new result (λ db done moves. IsLone text moves (heard_in items done)) →
+      ComesTo IsClean IsSound view old new result (λ db done moves. (statement : Statement) → IsTextOf db.schemas text (Run statement) → IsCommand db.schemas text current current moves (heard_in items done))
+  lone_command old new result text current none comes = narrowed old new result (λ db moves lone statement spelled. is_lone statement spelled none none lone) comes
+
+  -- a text is no command's
+  pub unread : {T : Type 0} {items : T → List Notice} (machines : code.Machines D S) (told : Refusal) (text : List ℕ) (current : Option Txn) → ((db : Database) → IsOfCatalogue db → db.catalogue ≡ catalogue_of machines.desk.catalog → IsUnreadable db.schemas text told) → StopsFor (view machines).refused (view machines).refused told →
+      ComesTo IsClean IsSound view machines machines (Err told) (λ db done moves. IsCommand db.schemas text current current moves (heard_in items done))
+  unread machines told text current none blames = stays machines (Err told) blames (λ db of is. ⊎_elim (λ memory. inl (is_memory told memory)) (λ no. inr (record { moves = []; made = refl; is = is_single (refl, (told, refl, is_no_command no)) })) (none db of is))
+
+-- a call of the client, by its clauses
+module _ {D S : Type 0} (desk_is_clean : D → Type 0) (site_is_clean : S → Type 0) (desk_is_sound : D → Type 0) (site_is_sound : S → Type 0) (desk_kept : D → DeskContent) (site_kept : S → SiteContent) (desk_refused : D → ℕ) (site_refused : S → ℕ) where
+  abbrev IsClean : code.Machines D S → Type 0
+  IsClean = OfStores desk_is_clean site_is_clean
+
+  abbrev IsSound : code.Machines D S → Type 0
+  IsSound = OfStores desk_is_sound site_is_sound
+
+  abbrev view : code.Machines D S → Machines
+  view = counted desk_kept site_kept desk_refused site_refused
+
+  one_move : {T : Type 0} (db : Database) (move : T → Move) (asked : calls.Call) (before after : Machines) (result : Result T Refusal) → IfOk result (λ x. Moves db (move x) before after) → IfErr result (IsTurnedDown db asked before after) → MakesMoves db before after result (IsOne move asked)
+  one_move db move asked before after (Ok x) does none = record { moves = move x ∷ []; made = (after, does, refl); is = refl }
+  one_move db move asked before after (Err told) none (inl stops) = inl stops
+  one_move db move asked before after (Err told) none (inr refused) = inr (record { moves = Refuses asked told ∷ []; made = (after, refused, refl); is = refl })
+
+  pub one_call : {T : Type 0} (move : T → Move) (asked : calls.Call) (old new : code.Machines D S) (result : Result T Refusal) → LeavesMachines desk_is_clean site_is_clean desk_is_sound site_is_sound desk_refused site_refused old new →
+      Blames IsClean IsSound (counts desk_refused site_refused) old new result → StaysServed IsClean IsSound view old new → OverDatabase IsClean IsSound view old new (λ db before after. IfOk result (λ x. Moves db (move x) before after)) →
+      OverDatabase IsClean IsSound view old new (λ db before after. IfErr result (IsTurnedDown db asked before after)) → ComesTo IsClean IsSound view old new result (λ db. IsOne move asked)
+  one_call move asked old new result leaves blames served ok denied = record {
+    clean = leaves.clean;
+    sound = leaves.sound;
+    counts = leaves.counts;
+    catalog = leaves.catalog;
+    blames = blames;
+    served = served;
+    moves = λ db of is clean sound fit. one_move db move asked (view old) (view new) result (ok db of is clean sound fit) (denied db of is clean sound fit);
+  }
+
+  -- what it leaves
+  pub leaves_of : {T : Type 0} {K : Kind T} (old new : code.Machines D S) (result : Result T Refusal) → ComesTo IsClean IsSound view old new result K → LeavesMachines desk_is_clean site_is_clean desk_is_sound site_is_sound desk_refused site_refused old new
+  leaves_of old new result comes = record { clean = comes.clean; sound = comes.sound; counts = comes.counts; catalog = comes.catalog }

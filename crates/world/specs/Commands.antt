@@ -1,0 +1,164 @@
+-- The commands of one client: the calls that each makes, and what it comes to.
+use Rattle.std.specs.Prelude.{◌≡◌, ◌≤◌, ◌⊎◌, ◌^◌, ℕ, Bool, suc, true, false, List, [], ◌∷◌, ◌++◌, map, Option, Some, None, Result, Ok, Err}
+use Rattle.meaning.specs.declared.answer.Answer.{Answer as AnswerNow}
+use Rattle.meaning.specs.declared.schema.RelationSchema.{RelationSchema}
+use Rattle.meaning.specs.declared.statement.Statement.{Statement}
+use Rattle.meaning.specs.Whole.{Relations}
+use Rattle.terms.specs.declared.leaf.Leaf.{Leaf}
+use Rattle.reader.specs.declared.command.Command as commands
+use Rattle.reader.specs.declared.command.Command.TheVariants as command
+use Rattle.reader.specs.Breaks.{TextBreaks}
+use Rattle.reader.specs.Command.{IsTextOf}
+use Rattle.reader.specs.Fault.{Fault}
+use Rattle.store.specs.Content.{Content}
+use Rattle.store.specs.declared.name.Txn.{Txn}
+use Rattle.protocol.specs.Desk.{Deed}
+use Rattle.protocol.specs.Letters.{txn_name}
+use Rattle.protocol.specs.Serial.{committed}
+use Rattle.desk.specs.declared.refusal.Refusal as refusals
+use Rattle.desk.specs.declared.refusal.Refusal.TheVariants as refusal
+use Rattle.desk.specs.declared.reply.Notice.{Notice}
+use Rattle.desk.specs.declared.reply.Reply.TheVariants.{Answer, Begun, Committed, RolledBack}
+use Rattle.desk.specs.Database.{Database, language}
+use Rattle.desk.specs.Does.{StatesPastLimits}
+use Rattle.desk.specs.State.{notice_of}
+use Rattle.world.specs.declared.event.Call as calls
+use Rattle.world.specs.declared.event.Call.TheVariants as call
+use Rattle.world.specs.declared.event.Entry.{Entry}
+use Rattle.world.specs.Client.{DoesBegin, IsServed, autocommit_reply, is_end, still_open, tells}
+use Rattle.world.specs.Course.{Begins, Commits, Made, Move, Refuses, Rolls_back, SomeHindered, States, deeds_in, said_in}
+use Rattle.world.specs.Executed.{Stands}
+use Rattle.world.specs.Machines.{Machines}
+use Rattle.world.specs.Replies.{Tells}
+use Rattle.world.specs.Runs.{IsSerialRun}
+use Rattle.world.specs.Stopping.{is_stop}
+
+-- what a client is answered: what it hears, or why it is refused
+abbrev pub Reply : Type 0
+Reply = Result (List Notice) refusals.Refusal
+
+-- so, of a call of the code
+abbrev pub heard_in : {T : Type 0} → (T → List Notice) → Result T refusals.Refusal → Reply
+heard_in items (Ok heard) = Ok (items heard)
+heard_in items (Err told) = Err told
+
+-- ---- a text that is no command's
+-- as the reader tells it: it breaks the rule that is named
+pub record IsNoCommand (schemas : List RelationSchema) (text : List ℕ) (told : refusals.Refusal) : Type 0 where
+  pub fault : Fault
+  pub is : told ≡ refusal.Read fault
+  pub breaks : TextBreaks fault.rule schemas text
+  pub none : (given : commands.Command) → IsTextOf schemas text given → ⊥
+
+-- memory ran out, or it is no command's
+abbrev pub IsUnreadable : List RelationSchema → List ℕ → refusals.Refusal → Type 0
+IsUnreadable schemas text told = (told ≡ refusal.Memory) ⊎ IsNoCommand schemas text told
+
+-- ---- a lone statement, which is a transaction of its own
+-- after a refusal its transaction is rolled back, or that is refused too
+abbrev pub IsTakenBack : Txn → List Move → Type 0
+IsTakenBack txn (Rolls_back of heard ∷ []) = of ≡ txn
+IsTakenBack txn (Refuses (call.Rollback of) told ∷ []) = of ≡ txn
+IsTakenBack txn other = ⊥
+
+-- so by a call that answers what was refused
+abbrev pub TakesBack : {T : Type 0} → Txn → refusals.Refusal → Result T refusals.Refusal → List Move → Type 0
+TakesBack txn refused (Ok x) moves = ⊥
+TakesBack txn refused (Err told) moves = IsTakenBack txn moves × (told ≡ refused)
+
+-- so much was told of it: unless it has ended by itself its commit is asked for. Its client hears the answer where it was committed, and else how it ended
+abbrev pub IsDecided : Txn → List Notice → List Move → Reply → Type 0
+IsDecided txn told [] reply = (tells is_end told ≡ true) × (reply ≡ Ok (autocommit_reply told))
+IsDecided txn told (Commits of decided ∷ []) reply = (of ≡ txn) × (tells is_end told ≡ false) × (reply ≡ Ok (autocommit_reply (told ++ decided)))
+IsDecided txn told (Refuses (call.Commit of) refused ∷ back) reply = (of ≡ txn) × (tells is_end told ≡ false) × IsTakenBack txn back × (reply ≡ Err refused)
+IsDecided txn told other reply = ⊥
+
+-- its transaction has begun: the statement is stated
+abbrev pub IsStated : List ℕ → Txn → List Notice → List Move → Reply → Type 0
+IsStated text txn greeted (States of stated answered ∷ moves) reply = (of ≡ txn) × (stated ≡ text) × IsDecided txn (greeted ++ answered) moves reply
+IsStated text txn greeted (Refuses (call.State of stated) refused ∷ back) reply = (of ≡ txn) × (stated ≡ text) × IsTakenBack txn back × (reply ≡ Err refused)
+IsStated text txn greeted other reply = ⊥
+
+abbrev pub IsLone : List ℕ → List Move → Reply → Type 0
+IsLone text (Begins txn greeted ∷ moves) reply = IsStated text txn greeted moves reply
+IsLone text (Refuses call.Begin refused ∷ []) reply = reply ≡ Err refused
+IsLone text other reply = ⊥
+
+-- ---- any command. current, later: the transaction that is open before and after it
+-- it is refused at once, and makes no call: the text is no command's, BEGIN comes inside a transaction, or COMMIT or ROLLBACK outside one
+pub data IsMisplaced (schemas : List RelationSchema) (text : List ℕ) (current : Option Txn) (told : refusals.Refusal) : Type 0 where
+  is_no_command : IsNoCommand schemas text told → IsMisplaced schemas text current told
+  is_inside : (txn : Txn) → current ≡ Some txn → IsTextOf schemas text command.Begin → told ≡ refusal.Busy → IsMisplaced schemas text current told
+  is_outside : current ≡ None → IsTextOf schemas text command.Commit ⊎ IsTextOf schemas text command.Rollback → told ≡ refusal.NoTransaction → IsMisplaced schemas text current told
+
+-- the call that it makes, if it is no lone statement
+abbrev pub IsCallOf : List RelationSchema → List ℕ → Option Txn → calls.Call → Type 0
+IsCallOf schemas text current call.Begin = IsTextOf schemas text command.Begin × (current ≡ None)
+IsCallOf schemas text current (call.State txn stated) = ((statement : Statement) × IsTextOf schemas text (command.Run statement)) × (current ≡ Some txn) × (stated ≡ text)
+IsCallOf schemas text current (call.Commit txn) = IsTextOf schemas text command.Commit × (current ≡ Some txn)
+IsCallOf schemas text current (call.Rollback txn) = IsTextOf schemas text command.Rollback × (current ≡ Some txn)
+IsCallOf schemas text current (call.GiveUp txn) = ⊥
+
+-- what comes of that call
+abbrev pub IsSingle : List RelationSchema → List ℕ → (current later : Option Txn) → List Move → Reply → Type 0
+IsSingle schemas text current later [] reply = (later ≡ current) × ((told : refusals.Refusal) × (reply ≡ Err told) × IsMisplaced schemas text current told)
+IsSingle schemas text current later (Begins txn heard ∷ []) reply = IsCallOf schemas text current call.Begin × (later ≡ Some txn) × (reply ≡ Ok heard)
+IsSingle schemas text current later (States txn stated heard ∷ []) reply = IsCallOf schemas text current (call.State txn stated) × (later ≡ still_open current heard) × (reply ≡ Ok heard)
+IsSingle schemas text current later (Commits txn heard ∷ []) reply = IsCallOf schemas text current (call.Commit txn) × (later ≡ None) × (reply ≡ Ok heard)
+IsSingle schemas text current later (Rolls_back txn heard ∷ []) reply = IsCallOf schemas text current (call.Rollback txn) × (later ≡ None) × (reply ≡ Ok heard)
+IsSingle schemas text current later (Refuses asked told ∷ []) reply = IsCallOf schemas text current asked × (later ≡ current) × (reply ≡ Err told)
+IsSingle schemas text current later other reply = ⊥
+
+pub data IsCommand (schemas : List RelationSchema) (text : List ℕ) (current later : Option Txn) (moves : List Move) (reply : Reply) : Type 0 where
+  is_single : IsSingle schemas text current later moves reply → IsCommand schemas text current later moves reply
+  is_lone : (statement : Statement) → IsTextOf schemas text (command.Run statement) → current ≡ None → later ≡ None → IsLone text moves reply → IsCommand schemas text current later moves reply
+
+-- ---- what a command comes to, where the database stands
+-- why it is refused: at once; a transaction can't begin, since the numbers have run out; or to state the statement would lead past the limits, in
+-- the open transaction or in the one that has begun for it alone
+pub data IsDenied (db : Database) (text : List ℕ) (current : Option Txn) (before : Machines) (told : refusals.Refusal) : Type 0 where
+  is_misplaced : IsMisplaced db.schemas text current told → IsDenied db text current before told
+  finds_no_number : current ≡ None → IsTextOf db.schemas text command.Begin ⊎ ((statement : Statement) × IsTextOf db.schemas text (command.Run statement)) → told ≡ refusal.Full → 2 ^ 63 ≤ suc before.table.number → IsDenied db text current before told
+  is_too_much : (txn : Txn) → current ≡ Some txn → told ≡ refusal.Full → StatesPastLimits db before.table txn text → IsDenied db text current before told
+  is_too_much_alone : (txn : Txn) (began : Machines) (greeted : List Notice) → current ≡ None → DoesBegin db before txn began greeted → told ≡ refusal.Full → StatesPastLimits db began.table txn text → IsDenied db text current before told
+
+-- its transaction has begun, is committed, is rolled back, or its statement is answered, and its client hears so; or something was refused on the way; or it is refused
+pub data Outcome (db : Database) (text : List ℕ) (current later : Option Txn) (before after : Machines) (past : List (Deed (language db))) (moves : List Move) (made : Made db moves before after) (reply : Reply) : Type 0 where
+  has_begun : (txn : Txn) (heard : List Notice) → reply ≡ Ok heard → IsTextOf db.schemas text command.Begin → later ≡ Some txn → map notice_of heard ≡ (txn_name txn, Begun) ∷ [] → Outcome db text current later before after past moves made reply
+  has_committed : (txn : Txn) (heard : List Notice) → reply ≡ Ok heard → IsTextOf db.schemas text command.Commit → current ≡ Some txn → map notice_of heard ≡ (txn_name txn, Committed) ∷ [] → Outcome db text current later before after past moves made reply
+  has_rolled_back : (txn : Txn) (heard : List Notice) → reply ≡ Ok heard → IsTextOf db.schemas text command.Rollback → current ≡ Some txn → map notice_of heard ≡ (txn_name txn, RolledBack) ∷ [] → Outcome db text current later before after past moves made reply
+  has_answered : (txn : Txn) (statement : Statement) (heard : List Notice) (answer : AnswerNow) → reply ≡ Ok heard → IsTextOf db.schemas text (command.Run statement) → later ≡ current → map notice_of heard ≡ (txn_name txn, Answer answer) ∷ [] → Outcome db text current later before after past moves made reply
+  is_hindered : (heard : List Notice) → reply ≡ Ok heard → SomeHindered db moves before after past made → Outcome db text current later before after past moves made reply
+  is_refused : (told : refusals.Refusal) → reply ≡ Err told → later ≡ current → IsDenied db text current before told → Outcome db text current later before after past moves made reply
+
+-- A command is executed, or refused, and that stops nothing: these are its moves. What was asked for and heard tells what has happened, so the serial law holds of
+-- it: with all that was before, the committed transactions, one after another over the whole relations, give the answers that were heard and what the settled
+-- fragments rebuild. Where it is refused nothing is committed. A database that stood stands again, and the command comes to its outcome. entries, past: what was
+-- asked for and heard, and what had happened, before it
+pub record Executes (db : Database) (fits : Leaf → Content → Bool) (whole : Relations) (text : List ℕ) (current : Option Txn) (before : Machines) (later : Option Txn) (after : Machines) (past : List (Deed (language db))) (reply : Reply) : Type 0 where
+  pub moves : List Move
+  pub made : Made db moves before after
+  pub command : IsCommand db.schemas text current later moves reply
+  pub served : IsServed db whole after (past ++ deeds_in db moves before after made)
+  pub tells : (entries : List Entry) → Tells db entries past → Tells db (entries ++ said_in moves) (past ++ deeds_in db moves before after made)
+  pub serial : (entries : List Entry) → Tells db entries past → IsSerialRun db whole after (entries ++ said_in moves)
+  pub uncommitted : (told : refusals.Refusal) → reply ≡ Err told → committed (past ++ deeds_in db moves before after made) ≡ committed past
+  pub stands : Stands db fits current before past → Stands db fits later after (past ++ deeds_in db moves before after made)
+  pub outcome : Stands db fits current before past → Outcome db text current later before after past moves made reply
+
+-- so of an answer of the code, unless it stops the database
+abbrev pub UnlessStopped : {T : Type 0} → (T → List Notice) → (Reply → Type 0) → Result T refusals.Refusal → Type 0
+UnlessStopped items P (Ok heard) = P (Ok (items heard))
+UnlessStopped items P (Err told) = (is_stop told ≡ true) ⊎ P (Err told)
+
+-- ---- the laws
+-- what happens to a client's database, move by move, and what tells of it
+pub record MovesFollow (db : Database) : Type 0 where
+  pub served : (whole : Relations) (moves : List Move) (before after : Machines) (past : List (Deed (language db))) → IsServed db whole before past → (made : Made db moves before after) → IsServed db whole after (past ++ deeds_in db moves before after made)
+  pub tells : (moves : List Move) (before after : Machines) (entries : List Entry) (past : List (Deed (language db))) → Tells db entries past → (made : Made db moves before after) → Tells db (entries ++ said_in moves) (past ++ deeds_in db moves before after made)
+  pub serial : (whole : Relations) (machines : Machines) (entries : List Entry) (past : List (Deed (language db))) → Tells db entries past → IsServed db whole machines past → IsSerialRun db whole machines entries
+
+-- commands of a client's database that is served
+abbrev pub CommandsFollow : (db : Database) → (Leaf → Content → Bool) → Type 0
+CommandsFollow db fits = (whole : Relations) (text : List ℕ) (current later : Option Txn) (before after : Machines) (past : List (Deed (language db))) (reply : Reply) (moves : List Move) → IsServed db whole before past → Made db moves before after →
+    IsCommand db.schemas text current later moves reply → Executes db fits whole text current before later after past reply
