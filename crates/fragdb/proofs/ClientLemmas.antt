@@ -1,5 +1,5 @@
 -- Lemmas on a database for one client.
-use Rattle.std.proofs.Common.{◌≡◌, ◌++◌, ◌∷◌, [], IfOk, OnOk, map, ℕ, List, Option, None, Some, append_assoc, Bool, false, Result, Ok, Err, ap, refl, subst, sym, ◌∙◌}
+use Rattle.std.proofs.Common.{◌≡◌, ◌++◌, ◌∷◌, [], IfOk, OnOk, map, ℕ, List, Option, None, Some, append_assoc, Bool, true, false, inl, inr, ◌⊎◌, Result, Ok, Err, ap, refl, subst, sym, ◌∙◌}
 use Rattle.std.proofs.lemmas.List.{append-nil}
 use Rattle.terms.specs.declared.leaf.Leaf.{Leaf}
 use Rattle.terms.specs.declared.value.Value.{Value}
@@ -18,25 +18,23 @@ use Rattle.desk.specs.declared.reply.Notice.{Notice}
 use Rattle.desk.specs.Database.{language}
 use Rattle.world.specs.declared.solo.Solo as code
 use Rattle.world.specs.declared.event.Entry.{Entry}
-use Rattle.world.specs.Account.{AccountFollows, said_in_vain, said_of}
-use Rattle.world.specs.Base.{database, fits}
-use Rattle.world.specs.Deeds.{DeedsFollow, deeds_in_vain, deeds_of}
-use Rattle.world.specs.Denials.{Declines, Denies}
+use Rattle.world.specs.Commands.{Executes, MovesFollow, Reply}
+use Rattle.world.specs.Course.{deeds_in, said_in}
+use Rattle.desk.specs.CatalogueDatabase.{database, fits}
 use Rattle.world.specs.Contents.{OfStores, held, unrefused}
 use Rattle.world.specs.Machines.{AreFit, Machines}
-use Rattle.world.specs.Executed.{Obeys, Stands, StandsOn}
-use Rattle.world.specs.Client.{Executes, IsServed}
+use Rattle.world.specs.Executed.{Stands}
+use Rattle.world.specs.Client.{IsServed}
 use Rattle.world.specs.Settled.{AreThoseOf, parts_kept, rows_shown}
 use Rattle.world.specs.Stopping.{is_stop, stopped_by}
 use Rattle.world.specs.Replies.{Tells}
 use Rattle.world.proofs.Counting.{same_unrefused}
-use Rattle.world.proofs.StandingAgain.{stands_whenever}
 use Rattle.shell.specs.declared.mode.Mode.{Mode}
 use Rattle.shell.specs.Mode.{line_in}
-use Rattle.fragdb.specs.declared.reply.Reply.{Reply}
+use Rattle.fragdb.specs.declared.reply.Reply as replies
 use Rattle.fragdb.specs.PlayText.{refused_text}
 use Rattle.fragdb.specs.Reply.{Answered, Refused, Told, told_by}
-use Rattle.fragdb.specs.Client.{AnswersTask, GoesOn, IsAnswered, ShowsLeafAs, Standing, heard_text, standing_of}
+use Rattle.fragdb.specs.Client.{AnswersTask, GoesOn, IsAnswered, IsDone, ShowsLeafAs, Standing, heard_text, standing_of}
 use Rattle.std.specs.Io.KnownBytes.{Appends}
 use Rattle.fragdb.specs.declared.fault.ProgramFault.{ProgramFault}
 use Rattle.fragdb.specs.declared.script.Item.{Item}
@@ -80,56 +78,50 @@ module _ (catalogue : Catalogue) (whole : Relations) (past : List (Deed (languag
   pub stands_still : (new.current ≡ old.current) × (new.stopped ≡ old.stopped) → (Clean → Sound → held desk_kept kept_of new.machines ≡ held desk_kept kept_of old.machines) → standing_of catalogue new past ≡ standing_of catalogue old past
   stands_still still keeps = rw (still.0, same_machines (keeps (clean new.machines) h.sound)) refl
 
-  -- whatever was done, it stands on, unless that has stopped it
-  abbrev StandsNext : Catalogue → Type 0
-  StandsNext c = (whole : Relations) (past : List (Deed (language (database c)))) → old.stopped ≡ None → Clean → Sound → IsServed (database c) whole before past → Stands (database c) (fits c) old.current before past → new.stopped ≡ None → StandsOn (database c) (fits c) whole new.current after past
+  -- a command is executed, unless that stops the database
+  abbrev ExecutesNext : List ℕ → Reply → Catalogue → Type 0
+  ExecutesNext text reply c = (whole : Relations) (past : List (Deed (language (database c)))) → old.stopped ≡ None → Clean → Sound → IsServed (database c) whole before past → Executes (database c) (fits c) whole text old.current before new.current after past reply
 
-  stands_later : StandsNext own → new.stopped ≡ None → (later : List (Deed (language (database catalogue)))) → Stands (database catalogue) (fits catalogue) new.current after later
-  stands_later next going later =
-      let on = subst StandsNext h.catalog next whole past h.going (clean new.machines) h.sound h.served h.stands going in
-      stands_whenever (database catalogue) (fits catalogue) new.current after (past ++ on.deeds) later on.stands
+  does_next : (text : List ℕ) (reply : Reply) → ExecutesNext text reply own → Executes (database catalogue) (fits catalogue) whole text old.current before new.current after past reply
+  does_next text reply next = subst (ExecutesNext text reply) h.catalog next whole past h.going (clean new.machines) h.sound h.served
 
-  -- a command that is executed does what it asks for, or something was refused on the way
-  abbrev ObeysNext : List ℕ → List Notice → Catalogue → Type 0
-  ObeysNext text heard c = (whole : Relations) (past : List (Deed (language (database c)))) → old.stopped ≡ None → Clean → Sound → IsServed (database c) whole before past → Stands (database c) (fits c) old.current before past →
-      Obeys (database c) (fits c) whole text old.current before new.current after past heard
+  is_done : (text : List ℕ) (reply : Reply) (does : Executes (database catalogue) (fits catalogue) whole text old.current before new.current after past reply) →
+      IsDone catalogue text (standing_of catalogue old past) (standing_of catalogue new (past ++ deeds_in (database catalogue) does.moves before after does.made)) reply
+  is_done text reply does = record { moves = does.moves; made = does.made; command = does.command; outcome = does.outcome h.stands; happened = refl }
 
-  -- and is heard
-  pub is_heard : (mode : Mode) (text : List ℕ) (heard : List Notice) (told : List ℕ) → DeedsFollow (database own) → StandsNext own → ObeysNext text heard own → new.stopped ≡ None → new.machines.desk.catalog ≡ old.machines.desk.catalog → (Clean → Sound → OfStores {D = PlainDesk} {S = PlainSite} (λ _. Unit {0}) IsSound new.machines) →
-      (old.stopped ≡ None → Clean → Sound → AreFit (database own) before → Executes (database own) text old.current before new.current after heard) → told ≡ heard_text mode heard → IsAnswered mode catalogue whole (Runs text) past old new (Answered told)
-  is_heard mode text heard told follow next obeyed going same sound executes lines =
-      let does : Executes (database catalogue) text old.current before new.current after heard = subst (λ (c : Catalogue). Executes (database c) text old.current before new.current after heard) h.catalog (executes h.going (clean new.machines) h.sound own_fit) in
-      let law = subst (λ (c : Catalogue). DeedsFollow (database c)) h.catalog follow in
-      let deeds = deeds_of (database catalogue) text old.current before new.current after heard does in
+  goes_next : (text : List ℕ) (reply : Reply) (does : Executes (database catalogue) (fits catalogue) whole text old.current before new.current after past reply) → new.stopped ≡ None → new.machines.desk.catalog ≡ old.machines.desk.catalog → (Clean → Sound → OfStores {D = PlainDesk} {S = PlainSite} (λ _. Unit {0}) IsSound new.machines) →
+      GoesOn catalogue whole (past ++ deeds_in (database catalogue) does.moves before after does.made) new
+  goes_next text reply does going same sound = goes_on (past ++ deeds_in (database catalogue) does.moves before after does.made) going same sound does.served (does.stands h.stands)
+
+  -- it is heard
+  pub is_heard : (mode : Mode) (text : List ℕ) (heard : List Notice) (told : List ℕ) → ExecutesNext text (Ok heard) own → new.stopped ≡ None → new.machines.desk.catalog ≡ old.machines.desk.catalog → (Clean → Sound → OfStores {D = PlainDesk} {S = PlainSite} (λ _. Unit {0}) IsSound new.machines) →
+      told ≡ heard_text mode heard → IsAnswered mode catalogue whole (Runs text) past old new (Answered told)
+  is_heard mode text heard told next going same sound lines =
+      let does = does_next text (Ok heard) next in
       record {
-        later = past ++ deeds;
-        goes_on = goes_on (past ++ deeds) going same sound (law.executed whole text old.current new.current before after heard past h.served does) (stands_later next going (past ++ deeds));
-        answers = record { heard = heard; executes = does; whole = whole; obeys = subst (ObeysNext text heard) h.catalog obeyed whole past h.going (clean new.machines) h.sound h.served h.stands; happened = refl; lines = lines };
+        later = past ++ deeds_in (database catalogue) does.moves before after does.made;
+        goes_on = goes_next text (Ok heard) does going same sound;
+        answers = record { heard = heard; does = is_done text (Ok heard) does; lines = lines };
       }
 
-  -- a command that is refused is so for its reason
-  is_denied : (text : List ℕ) (refusal : Refusal) →
-      ((whole : Relations) (past : List (Deed (language (database own)))) → old.stopped ≡ None → Clean → Sound → IsServed (database own) whole before past → Stands (database own) (fits own) old.current before past → Denies (database own) text old.current before refusal) →
-      Denies (database catalogue) text old.current before refusal
-  is_denied text refusal denied =
-      let P : Catalogue → Type 0 = λ c. (whole : Relations) (past : List (Deed (language (database c)))) → IsServed (database c) whole before past → Stands (database c) (fits c) old.current before past → Denies (database c) text old.current before refusal in
-      subst P h.catalog (λ other past served stands. denied other past h.going (clean new.machines) h.sound served stands) whole past h.served h.stands
-
   -- a refusal that does not stop the database is told
-  pub is_turned_away : {E : Type 0} (mode : Mode) (text : List ℕ) (refusal : Refusal) (result : Result Reply E) → DeedsFollow (database own) → StandsNext own → (is_stop refusal ≡ false → new.stopped ≡ None) → new.machines.desk.catalog ≡ old.machines.desk.catalog → (Clean → Sound → OfStores {D = PlainDesk} {S = PlainSite} (λ _. Unit {0}) IsSound new.machines) →
-      ((whole : Relations) (past : List (Deed (language (database own)))) → old.stopped ≡ None → Clean → Sound → IsServed (database own) whole before past → Stands (database own) (fits own) old.current before past → Denies (database own) text old.current before refusal) →
-      (old.stopped ≡ None → Clean → Sound → AreFit (database own) before → Declines (database own) text old.current before after refusal) →
+  abbrev StopsOr : List ℕ → Refusal → Catalogue → Type 0
+  StopsOr text refusal c = (whole : Relations) (past : List (Deed (language (database c)))) → old.stopped ≡ None → Clean → Sound → IsServed (database c) whole before past → (is_stop refusal ≡ true) ⊎ Executes (database c) (fits c) whole text old.current before new.current after past (Err refusal)
+
+  goes_so : {P : Type 0} (refusal : Refusal) → is_stop refusal ≡ false → (is_stop refusal ≡ true) ⊎ P → P
+  goes_so refusal goes (inl stops) = let e : true ≡ false = sym stops ∙ goes in cc
+  goes_so refusal goes (inr so) = so
+
+  pub is_turned_away : {E : Type 0} (mode : Mode) (text : List ℕ) (refusal : Refusal) (result : Result replies.Reply E) → StopsOr text refusal own → (is_stop refusal ≡ false → new.stopped ≡ None) → new.machines.desk.catalog ≡ old.machines.desk.catalog → (Clean → Sound → OfStores {D = PlainDesk} {S = PlainSite} (λ _. Unit {0}) IsSound new.machines) →
       new.current ≡ old.current → OnOk result (is_stop refusal ≡ false) → IfOk result (λ reply. told_by reply ≡ Refused (line_in mode (refused_text refusal))) → IfOk result (λ reply. IsAnswered mode catalogue whole (Runs text) past old new (told_by reply))
-  is_turned_away mode text refusal (Ok reply) follow next going same sound denied declined still goes told =
-      let declines : Declines (database catalogue) text old.current before after refusal = subst (λ (c : Catalogue). Declines (database c) text old.current before after refusal) h.catalog (declined h.going (clean new.machines) h.sound own_fit) in
-      let law = subst (λ (c : Catalogue). DeedsFollow (database c)) h.catalog follow in
-      let deeds = deeds_in_vain (database catalogue) text old.current before after refusal declines in
+  is_turned_away mode text refusal (Ok reply) next going same sound still goes told =
+      let does = goes_so refusal goes (subst (StopsOr text refusal) h.catalog next whole past h.going (clean new.machines) h.sound h.served) in
       subst (IsAnswered mode catalogue whole (Runs text) past old new) (sym told) (record {
-        later = past ++ deeds;
-        goes_on = goes_on (past ++ deeds) (going goes) same sound (law.refused whole text old.current before after refusal past goes h.served declines) (stands_later next (going goes) (past ++ deeds));
-        answers = record { refusal = refusal; why = is_denied text refusal denied; goes_on = goes; same = still; declines = declines; happened = refl; uncommitted = law.uncommitted text old.current before after refusal past declines; line = refl };
+        later = past ++ deeds_in (database catalogue) does.moves before after does.made;
+        goes_on = goes_next text (Err refusal) does (going goes) same sound;
+        answers = record { refusal = refusal; does = is_done text (Err refusal) does; goes_on = goes; same = still; uncommitted = does.uncommitted refusal refl; line = refl };
       })
-  is_turned_away mode text refusal (Err e) follow next going same sound denied declined still goes told = tt
+  is_turned_away mode text refusal (Err e) next going same sound still goes told = tt
 
   -- what is shown of the whole database that the fragments are those of, and of a leaf
   pub rows_of_own : (name : List ℕ) (shown : Option (List (List Value))) → ((whole : Relations) → Clean → Sound → AreFit (database own) before → AreThoseOf (database own) before whole → FitsSchema (schemas_of own) whole → shown ≡ rows_shown (database own) whole name) →
@@ -153,23 +145,22 @@ leaf_still : (mode : Mode) (catalogue : Catalogue) (name : List ℕ) (leaf : Opt
 leaf_still mode catalogue name None old new told shows = shows.0
 leaf_still mode catalogue name (Some leaf) old new told shows = shows.0
 
--- what tasks asked for and heard tells what has happened
-pub task_told : (mode : Mode) (catalogue : Catalogue) (law : AccountFollows (database catalogue)) (task : Reading) (old new : Standing catalogue) (told : Told) (entries : List Entry) → Tells (database catalogue) entries old.past → (answers : AnswersTask mode catalogue task old new told) →
+-- what a command and tasks asked for and heard tells what has happened
+done_told : (catalogue : Catalogue) (law : MovesFollow (database catalogue)) (text : List ℕ) (old new : Standing catalogue) (reply : Reply) (entries : List Entry) → Tells (database catalogue) entries old.past → (does : IsDone catalogue text old new reply) → Tells (database catalogue) (entries ++ said_in does.moves) new.past
+done_told catalogue law text old new reply entries so does = subst (Tells (database catalogue) (entries ++ said_in does.moves)) (sym does.happened) (law.tells does.moves old.machines new.machines entries old.past so does.made)
+
+pub task_told : (mode : Mode) (catalogue : Catalogue) (law : MovesFollow (database catalogue)) (task : Reading) (old new : Standing catalogue) (told : Told) (entries : List Entry) → Tells (database catalogue) entries old.past → (answers : AnswersTask mode catalogue task old new told) →
     Tells (database catalogue) (entries ++ said_by mode catalogue task old new told answers) new.past
 task_told mode catalogue law Nothing old new told entries so answers = absurd answers
-task_told mode catalogue law (Runs text) old new (Answered told) entries so answers =
-    let said = said_of (database catalogue) text old.current old.machines new.current new.machines answers.heard answers.executes in
-    subst (Tells (database catalogue) (entries ++ said)) (sym answers.happened) (law.executed text old.current new.current old.machines new.machines answers.heard entries old.past so answers.executes)
-task_told mode catalogue law (Runs text) old new (Refused told) entries so answers =
-    let said = said_in_vain (database catalogue) text old.current old.machines new.machines answers.refusal answers.declines in
-    subst (Tells (database catalogue) (entries ++ said)) (sym answers.happened) (law.refused text old.current old.machines new.machines answers.refusal entries old.past so answers.declines)
+task_told mode catalogue law (Runs text) old new (Answered told) entries so answers = done_told catalogue law text old new (Ok answers.heard) entries so answers.does
+task_told mode catalogue law (Runs text) old new (Refused told) entries so answers = done_told catalogue law text old new (Err answers.refusal) entries so answers.does
 task_told mode catalogue law (ShowsRelation name) old new (Answered told) entries so answers = still_told catalogue old new entries so answers.0
 task_told mode catalogue law (ShowsRelation name) old new (Refused told) entries so answers = absurd answers
 task_told mode catalogue law (ShowsLeaf name) old new (Answered told) entries so answers = still_told catalogue old new entries so (leaf_still mode catalogue name (written_leaf name (catalogue_leaves catalogue)) old new told answers)
 task_told mode catalogue law (ShowsLeaf name) old new (Refused told) entries so answers = absurd answers
 task_told mode catalogue law Unreadable old new told entries so answers = absurd answers
 
-tasks_told : (mode : Mode) (catalogue : Catalogue) (law : AccountFollows (database catalogue)) (answers : List (Reading × Told)) (old new : Standing catalogue) (entries : List Entry) → Tells (database catalogue) entries old.past → (answered : AnswersTasks mode catalogue answers old new) →
+tasks_told : (mode : Mode) (catalogue : Catalogue) (law : MovesFollow (database catalogue)) (answers : List (Reading × Told)) (old new : Standing catalogue) (entries : List Entry) → Tells (database catalogue) entries old.past → (answered : AnswersTasks mode catalogue answers old new) →
     Tells (database catalogue) (entries ++ said_by_tasks mode catalogue answers old new answered) new.past
 tasks_told mode catalogue law [] old new entries so same = still_told catalogue old new entries so same
 tasks_told mode catalogue law (first ∷ others) old new entries so answered =
@@ -179,7 +170,7 @@ tasks_told mode catalogue law (first ∷ others) old new entries so answered =
 
 -- a script over a database that was opened has run
 pub ran_from : (mode : Mode) (old new : Option (List ℕ)) (catalogue : Catalogue) (items : List Item) (opened ended : code.Solo PlainDesk PlainSite) (result : Result Bool ProgramFault) → IsServed (database catalogue) (no_rows catalogue) (unrefused desk_kept kept_of opened.machines) [] →
-    Stands (database catalogue) (fits catalogue) opened.current (unrefused desk_kept kept_of opened.machines) [] → catalogue_of opened.machines.desk.catalog ≡ catalogue → OfStores {D = PlainDesk} {S = PlainSite} (λ _. Unit {0}) IsSound opened.machines → (opened.current ≡ None) × (opened.stopped ≡ None) → AccountFollows (database catalogue) →
+    Stands (database catalogue) (fits catalogue) opened.current (unrefused desk_kept kept_of opened.machines) [] → catalogue_of opened.machines.desk.catalog ≡ catalogue → OfStores {D = PlainDesk} {S = PlainSite} (λ _. Unit {0}) IsSound opened.machines → (opened.current ≡ None) × (opened.stopped ≡ None) → MovesFollow (database catalogue) →
     ((catalogue : Catalogue) (whole : Relations) (past : List (Deed (language (database catalogue)))) → GoesOn catalogue whole past opened → IfOk result (λ any_refused. (written : List ℕ) × Appends old new written × IsStretch mode catalogue whole (map task_of items) past opened ended written any_refused)) →
     IfOk result (λ any_refused. (written : List ℕ) × Appends old new written × IsRun mode catalogue (map task_of items) written any_refused)
 ran_from mode old new catalogue items opened ended (Ok any_refused) served stands over sound idle law works =

@@ -10,7 +10,7 @@ use Rattle.store.specs.PlainDesk.{kept_of as desk_kept}
 use Rattle.store.specs.PlainSite.{IsSound, kept_of}
 use Rattle.world.specs.declared.machines.Machines as code
 use Rattle.world.specs.declared.world.World.{World}
-use Rattle.world.specs.Base.{database}
+use Rattle.desk.specs.CatalogueDatabase.{database}
 use Rattle.world.specs.Contents.{OfStores, held}
 use Rattle.world.specs.Runs.{StepsOn}
 use Rattle.fragdb.specs.Schedule.{HasRun, IsReached}

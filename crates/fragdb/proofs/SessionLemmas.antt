@@ -13,8 +13,8 @@ use Rattle.store.specs.PlainSite.{IsSound, kept_of}
 use Rattle.desk.specs.Database.{language}
 use Rattle.world.specs.declared.event.Entry.{Entry}
 use Rattle.world.specs.declared.solo.Solo as code
-use Rattle.world.specs.Account.{AccountFollows}
-use Rattle.world.specs.Base.{database, fits}
+use Rattle.world.specs.Commands.{MovesFollow}
+use Rattle.desk.specs.CatalogueDatabase.{database, fits}
 use Rattle.world.specs.Contents.{OfStores, unrefused}
 use Rattle.world.specs.Executed.{Stands}
 use Rattle.world.specs.Client.{IsServed}
@@ -101,7 +101,7 @@ talks_then first second third old middle new one two = record {
 }
 
 -- what exchanges asked for and heard tells what has happened
-each_told : (catalogue : Catalogue) (law : AccountFollows (database catalogue)) (exchanges : List Exchange) (old new : Standing catalogue) (entries : List Entry) → Tells (database catalogue) entries old.past → (answered : AnswersEach catalogue exchanges old new) →
+each_told : (catalogue : Catalogue) (law : MovesFollow (database catalogue)) (exchanges : List Exchange) (old new : Standing catalogue) (entries : List Entry) → Tells (database catalogue) entries old.past → (answered : AnswersEach catalogue exchanges old new) →
     Tells (database catalogue) (entries ++ said_by_each catalogue exchanges old new answered) new.past
 each_told catalogue law [] old new entries so same = still_told catalogue old new entries so same
 each_told catalogue law (first ∷ others) old new entries so answered =
@@ -111,7 +111,7 @@ each_told catalogue law (first ∷ others) old new entries so answered =
 
 -- there was a session over a database that was opened
 pub held_from : (old new : Option (List ℕ)) (catalogue : Catalogue) (opened ended : code.Solo PlainDesk PlainSite) (result : Result Unit ProgramFault) → IsServed (database catalogue) (no_rows catalogue) (unrefused desk_kept kept_of opened.machines) [] →
-    Stands (database catalogue) (fits catalogue) opened.current (unrefused desk_kept kept_of opened.machines) [] → catalogue_of opened.machines.desk.catalog ≡ catalogue → OfStores {D = PlainDesk} {S = PlainSite} (λ _. Unit {0}) IsSound opened.machines → (opened.current ≡ None) × (opened.stopped ≡ None) → AccountFollows (database catalogue) →
+    Stands (database catalogue) (fits catalogue) opened.current (unrefused desk_kept kept_of opened.machines) [] → catalogue_of opened.machines.desk.catalog ≡ catalogue → OfStores {D = PlainDesk} {S = PlainSite} (λ _. Unit {0}) IsSound opened.machines → (opened.current ≡ None) × (opened.stopped ≡ None) → MovesFollow (database catalogue) →
     OnOk result (Talks old new opened ended) → OnOk result ((written : List ℕ) × Appends old new written × IsSession catalogue written)
 held_from old new catalogue opened ended (Ok done) served stands over sound idle law talks =
     let h : GoesOn catalogue (no_rows catalogue) [] opened = record { going = idle.1; catalog = over; sound = sound; served = served; stands = stands } in

@@ -1,5 +1,5 @@
 -- What the commands of a script come to over a database for one client, and what is shown of it.
-use Rattle.std.specs.Prelude.{◌≡◌, ◌⊎◌, ℕ, false, List, ◌++◌, flat_map, Option, Some, None}
+use Rattle.std.specs.Prelude.{◌≡◌, ◌⊎◌, ℕ, false, List, ◌++◌, flat_map, Option, Some, None, Ok, Err}
 use Rattle.terms.specs.declared.leaf.Leaf.{Leaf}
 use Rattle.meaning.specs.Whole.{FitsSchema, Relations}
 use Rattle.catalog.specs.Catalogue.{Catalogue}
@@ -15,17 +15,17 @@ use Rattle.protocol.specs.Desk.{Deed}
 use Rattle.protocol.specs.Serial.{committed}
 use Rattle.desk.specs.declared.refusal.Refusal.{Refusal}
 use Rattle.desk.specs.declared.reply.Notice.{Notice}
-use Rattle.desk.specs.declared.reply.Reply.{Reply}
+use Rattle.desk.specs.declared.reply.Reply as replies
 use Rattle.desk.specs.declared.reply.Reply.TheVariants as reply
 use Rattle.desk.specs.Database.{language}
 use Rattle.world.specs.declared.solo.Solo as code
-use Rattle.world.specs.Base.{database, fits}
-use Rattle.world.specs.Deeds.{deeds_in_vain, deeds_of}
-use Rattle.world.specs.Denials.{Declines, Denies}
+use Rattle.desk.specs.CatalogueDatabase.{database, fits}
+use Rattle.world.specs.Commands.{IsCommand, Outcome, Reply}
+use Rattle.world.specs.Course.{Made, Move, deeds_in}
 use Rattle.world.specs.Contents.{OfStores, unrefused}
 use Rattle.world.specs.Machines.{Machines}
-use Rattle.world.specs.Executed.{Obeys, Stands}
-use Rattle.world.specs.Client.{Executes, IsServed}
+use Rattle.world.specs.Executed.{Stands}
+use Rattle.world.specs.Client.{IsServed}
 use Rattle.world.specs.Settled.{AreThoseOf, parts_kept, rows_shown}
 use Rattle.world.specs.Stopping.{is_stop}
 use Rattle.shell.specs.declared.mode.Mode.{Mode}
@@ -55,7 +55,7 @@ pub record GoesOn (catalogue : Catalogue) (whole : Relations) (past : List (Deed
   pub stands : Stands (database catalogue) (fits catalogue) solo.current (unrefused desk_kept kept_of solo.machines) past
 
 -- a reply to a client: an answer as it is shown, and any other in a line
-abbrev pub reply_in : Mode → Reply → List ℕ
+abbrev pub reply_in : Mode → replies.Reply → List ℕ
 reply_in mode (reply.Answer answer) = answer_in mode answer
 reply_in mode other = line_in mode (reply_text other)
 
@@ -63,23 +63,28 @@ reply_in mode other = line_in mode (reply_text other)
 abbrev pub heard_text : Mode → List Notice → List ℕ
 heard_text mode heard = flat_map (λ notice. reply_in mode notice.reply) heard
 
--- a command is executed, all that its client hears is told, and its deeds have happened. Unless something was refused on the way it has done what it asks for, as its client hears. whole: what the run began over
+-- a command makes its calls, and they come to its outcome: it has done what it asks for, or something was refused on the way, or it is refused for its reason alone. What has
+-- happened is what its calls did
+pub record IsDone (catalogue : Catalogue) (text : List ℕ) (before after : Standing catalogue) (reply : Reply) : Type 0 where
+  pub moves : List Move
+  pub made : Made (database catalogue) moves before.machines after.machines
+  pub command : IsCommand (database catalogue).schemas text before.current after.current moves reply
+  pub outcome : Outcome (database catalogue) text before.current after.current before.machines after.machines before.past moves made reply
+  pub happened : after.past ≡ before.past ++ deeds_in (database catalogue) moves before.machines after.machines made
+
+-- it is executed, and all that its client hears is told
 pub record IsHeard (mode : Mode) (catalogue : Catalogue) (text : List ℕ) (before after : Standing catalogue) (told : List ℕ) : Type 0 where
   pub heard : List Notice
-  pub executes : Executes (database catalogue) text before.current before.machines after.current after.machines heard
-  pub whole : Relations
-  pub obeys : Obeys (database catalogue) (fits catalogue) whole text before.current before.machines after.current after.machines before.past heard
-  pub happened : after.past ≡ before.past ++ deeds_of (database catalogue) text before.current before.machines after.current after.machines heard executes
+  pub does : IsDone catalogue text before after (Ok heard)
   pub lines : told ≡ heard_text mode heard
 
--- a command is refused for its reason alone, and that is told: the text is no command's, BEGIN comes inside a transaction, COMMIT or ROLLBACK outside one, or something is at a limit. The transaction that was open stays so. Nothing happens by it, except to a lone statement whose transaction had begun, and nothing is committed
+-- it is refused, which stops nothing, and that is told: the text is no command's, BEGIN comes inside a transaction, COMMIT or ROLLBACK outside one, or something is at a limit. The
+-- transaction that was open stays so, and nothing is committed
 pub record IsTurnedAway (mode : Mode) (catalogue : Catalogue) (text : List ℕ) (before after : Standing catalogue) (told : List ℕ) : Type 0 where
   pub refusal : Refusal
-  pub why : Denies (database catalogue) text before.current before.machines refusal
+  pub does : IsDone catalogue text before after (Err refusal)
   pub goes_on : is_stop refusal ≡ false
   pub same : after.current ≡ before.current
-  pub declines : Declines (database catalogue) text before.current before.machines after.machines refusal
-  pub happened : after.past ≡ before.past ++ deeds_in_vain (database catalogue) text before.current before.machines after.machines refusal declines
   pub uncommitted : committed after.past ≡ committed before.past
   pub line : told ≡ line_in mode (refused_text refusal)
 

@@ -1,5 +1,5 @@
 -- What the program does of what the command line asks for.
-use Rattle.std.specs.Prelude.{◌⊎◌, ℕ, Bool, true, false, List, Option, None, Result, Ok, Err, bytes_eq, codes}
+use Rattle.std.specs.Prelude.{◌≡◌, ℕ, Bool, true, false, List, Option, None, Result, Ok, Err, bytes_eq, codes}
 use Rattle.std.specs.Borrow.{Bor}
 use Rattle.std.specs.Io.KnownBytes.{Keeps}
 use Rattle.shell.specs.declared.mode.Mode.{Mode}
@@ -8,17 +8,17 @@ use Rattle.fragdb.specs.declared.outcome.Outcome.{Outcome}
 use Rattle.fragdb.specs.declared.outcome.Outcome.TheVariants.{Done, SomeRefused, Refused, RefusedStatement, Stopped}
 use Rattle.fragdb.specs.declared.usage.Request.{Request}
 use Rattle.fragdb.specs.declared.usage.Request.TheVariants.{Solo, Check, Plan, Play}
-use Rattle.fragdb.specs.CatalogFile.{RefusesFile}
 use Rattle.fragdb.specs.Check.{ChecksFile}
+use Rattle.fragdb.specs.declared.fault.ProgramFault.{ProgramFault}
 use Rattle.fragdb.specs.declared.catalog_file.CatalogFault.{CatalogFault}
 use Rattle.fragdb.specs.declared.catalog_file.CatalogFault.TheVariants as catalog
 use Rattle.fragdb.specs.declared.plan_text.PlanFault.{PlanFault}
 use Rattle.fragdb.specs.declared.plan_text.PlanFault.TheVariants as plan
 use Rattle.fragdb.specs.Input.{IsOfInput}
 use Rattle.fragdb.specs.Plan.{PlansFile}
-use Rattle.fragdb.specs.Play.{PlaysFiles}
+use Rattle.fragdb.specs.Play.{IsUnplayed, PlaysFiles}
 use Rattle.fragdb.specs.Session.{RunsSession}
-use Rattle.fragdb.specs.Solo.{RunsFiles}
+use Rattle.fragdb.specs.Solo.{IsUnrun, RunsFiles}
 
 -- the file that a request names
 abbrev pub file_of : Request → Bor (List ℕ)
@@ -77,45 +77,31 @@ abbrev pub outcome_of_plan : Result Unit PlanFault → Outcome
 outcome_of_plan (Ok done) = Done
 outcome_of_plan (Err fault) = outcome_of_plan_fault fault
 
+-- the outcome of a command that came to an end; outcome_of: what such an end comes to
+pub record ComesTo {End : Type 0} (outcome_of : End → Outcome) (Ends : End → Type 0) (outcome : Outcome) : Type 0 where
+  pub end : End
+  pub ended : Ends end
+  pub is : outcome ≡ outcome_of end
+
 -- the outcome of a script over the catalogue of a file
 abbrev pub PerformsSolo : Mode → Bor (List ℕ) → List ℕ → Bor (List ℕ) → List ℕ → Option (List ℕ) → Option (List ℕ) → Outcome → Type 0
-PerformsSolo mode name bytes file script old new Done = RunsFiles mode name bytes file script old new (Ok false)
-PerformsSolo mode name bytes file script old new SomeRefused = RunsFiles mode name bytes file script old new (Ok true)
-PerformsSolo mode name bytes file script old new (Refused fault) = RunsFiles mode name bytes file script old new (Err (catalog.Refused fault))
-PerformsSolo mode name bytes file script old new (RefusedStatement fault) = ⊥
-PerformsSolo mode name bytes file script old new (Stopped fault) = RunsFiles mode name bytes file script old new (Err (catalog.Program fault))
+PerformsSolo mode name bytes file script old new outcome = ComesTo outcome_of_script (RunsFiles mode name bytes file script old new) outcome
 
 -- the outcome of a session over the catalogue of a file
 abbrev pub PerformsSession : Bor (List ℕ) → List ℕ → Bor (List ℕ) → Option (List ℕ) → Option (List ℕ) → Outcome → Type 0
-PerformsSession name bytes file old new Done = RunsSession name bytes file old new (Ok tt)
-PerformsSession name bytes file old new SomeRefused = ⊥
-PerformsSession name bytes file old new (Refused fault) = RunsSession name bytes file old new (Err (catalog.Refused fault))
-PerformsSession name bytes file old new (RefusedStatement fault) = ⊥
-PerformsSession name bytes file old new (Stopped fault) = RunsSession name bytes file old new (Err (catalog.Program fault))
+PerformsSession name bytes file old new outcome = ComesTo outcome_of_check (RunsSession name bytes file old new) outcome
 
 -- a catalogue's outcome
 abbrev pub PerformsCheck : Bool → Bor (List ℕ) → List ℕ → Option (List ℕ) → Option (List ℕ) → Outcome → Type 0
-PerformsCheck as_tree file bytes old new Done = ChecksFile as_tree file bytes old new (Ok tt)
-PerformsCheck as_tree file bytes old new SomeRefused = ⊥
-PerformsCheck as_tree file bytes old new (Refused fault) = ChecksFile as_tree file bytes old new (Err (catalog.Refused fault))
-PerformsCheck as_tree file bytes old new (RefusedStatement fault) = ⊥
-PerformsCheck as_tree file bytes old new (Stopped fault) = ChecksFile as_tree file bytes old new (Err (catalog.Program fault))
+PerformsCheck as_tree file bytes old new outcome = ComesTo outcome_of_check (ChecksFile as_tree file bytes old new) outcome
 
 -- a plan's outcome
 abbrev pub PerformsPlan : Bool → Bor (List ℕ) → List ℕ → List ℕ → Option (List ℕ) → Option (List ℕ) → Outcome → Type 0
-PerformsPlan as_tree file statement bytes old new Done = PlansFile as_tree file statement bytes old new (Ok tt)
-PerformsPlan as_tree file statement bytes old new SomeRefused = ⊥
-PerformsPlan as_tree file statement bytes old new (Refused fault) = PlansFile as_tree file statement bytes old new (Err (plan.Catalogue fault))
-PerformsPlan as_tree file statement bytes old new (RefusedStatement fault) = PlansFile as_tree file statement bytes old new (Err (plan.Statement fault))
-PerformsPlan as_tree file statement bytes old new (Stopped fault) = PlansFile as_tree file statement bytes old new (Err (plan.Program fault))
+PerformsPlan as_tree file statement bytes old new outcome = ComesTo outcome_of_plan (PlansFile as_tree file statement bytes old new) outcome
 
 -- the outcome of a play over the catalogue of a file
 abbrev pub PerformsPlayOf : Bor (List ℕ) → List ℕ → Bor (List ℕ) → List ℕ → Option (List ℕ) → Option (List ℕ) → Outcome → Type 0
-PerformsPlayOf name bytes file script old new Done = PlaysFiles name bytes file script old new (Ok tt)
-PerformsPlayOf name bytes file script old new SomeRefused = ⊥
-PerformsPlayOf name bytes file script old new (Refused fault) = PlaysFiles name bytes file script old new (Err (catalog.Refused fault))
-PerformsPlayOf name bytes file script old new (RefusedStatement fault) = ⊥
-PerformsPlayOf name bytes file script old new (Stopped fault) = PlaysFiles name bytes file script old new (Err (catalog.Program fault))
+PerformsPlayOf name bytes file script old new outcome = ComesTo outcome_of_check (PlaysFiles name bytes file script old new) outcome
 
 -- the outcome of a request of a script, which is run or played over a catalogue
 abbrev pub PerformsOver : Request → Bor (List ℕ) → List ℕ → List ℕ → Option (List ℕ) → Option (List ℕ) → Outcome → Type 0
@@ -131,12 +117,10 @@ Performs (Plan file statement as_tree) bytes old new outcome = PerformsPlan as_t
 Performs (Play name file) bytes old new outcome = Unit
 
 -- the outcome where this file can't be opened
-abbrev pub IsUnread : Bor (List ℕ) → Outcome → Type 0
-IsUnread file Done = ⊥
-IsUnread file SomeRefused = ⊥
-IsUnread file (Refused fault) = ⊥
-IsUnread file (RefusedStatement fault) = ⊥
-IsUnread file (Stopped fault) = IsOfInput file fault
+pub record IsUnread (file : Bor (List ℕ)) (outcome : Outcome) : Type 0 where
+  pub fault : ProgramFault
+  pub of_file : IsOfInput file fault
+  pub is : outcome ≡ Stopped fault
 
 -- an outcome of a script that was stopped, or whose catalogue was refused
 abbrev pub IsStopped : Outcome → Type 0
@@ -153,16 +137,9 @@ StopsUncatalogued (Play given file) name old new outcome = IsUnread name outcome
 StopsUncatalogued other name old new outcome = Unit
 
 -- the outcome where a script can't be opened: its catalogue, of these bytes, is none, or that is told
-abbrev pub IsIdle : Bor (List ℕ) → List ℕ → Bor (List ℕ) → Outcome → Type 0
-IsIdle name bytes file Done = ⊥
-IsIdle name bytes file SomeRefused = ⊥
-IsIdle name bytes file (Refused fault) = RefusesFile bytes fault.relation fault.rule
-IsIdle name bytes file (RefusedStatement fault) = ⊥
-IsIdle name bytes file (Stopped fault) = IsOfInput name fault ⊎ IsOfInput file fault
-
 abbrev pub StopsIdle : Request → Bor (List ℕ) → List ℕ → Outcome → Type 0
-StopsIdle (Solo given file explain interactive mode) name bytes outcome = IsIdle name bytes file outcome
-StopsIdle (Play given file) name bytes outcome = IsIdle name bytes file outcome
+StopsIdle (Solo given file explain interactive mode) name bytes outcome = ComesTo outcome_of_script (IsUnrun name bytes file) outcome
+StopsIdle (Play given file) name bytes outcome = ComesTo outcome_of_check (IsUnplayed name bytes file) outcome
 StopsIdle other name bytes outcome = Unit
 
 -- the outcome where the file that is asked for can't be opened; a script may be stopped by its catalogue before

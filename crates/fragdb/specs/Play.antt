@@ -5,7 +5,7 @@ use Rattle.std.specs.Io.KnownBytes.{Appends, Keeps}
 use Rattle.meaning.specs.Whole.{Relations}
 use Rattle.catalog.specs.Catalogue.{Catalogue, IsValidCatalogue}
 use Rattle.catalog.specs.FragmentLeaf.{schemas_of}
-use Rattle.world.specs.Base.{database}
+use Rattle.desk.specs.CatalogueDatabase.{database}
 use Rattle.world.specs.Machines.{Machines}
 use Rattle.world.specs.Runs.{IsSerialRun}
 use Rattle.world.specs.Replies.{committed_in}

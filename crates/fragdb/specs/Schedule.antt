@@ -25,7 +25,7 @@ use Rattle.world.specs.declared.event.Event.TheVariants as event
 use Rattle.world.specs.declared.fault.Fault.{Fault}
 use Rattle.world.specs.declared.fault.Fault.TheVariants as fault
 use Rattle.world.specs.declared.world.World.{World}
-use Rattle.world.specs.Base.{database}
+use Rattle.desk.specs.CatalogueDatabase.{database}
 use Rattle.world.specs.Events.{is_unsent}
 use Rattle.world.specs.Contents.{OfStores, held}
 use Rattle.world.specs.Machines.{Machines}

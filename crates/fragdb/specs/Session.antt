@@ -10,7 +10,7 @@ use Rattle.protocol.specs.Desk.{Deed}
 use Rattle.desk.specs.Database.{language}
 use Rattle.world.specs.declared.event.Entry.{Entry}
 use Rattle.world.specs.declared.solo.Solo as code
-use Rattle.world.specs.Base.{database, fits}
+use Rattle.desk.specs.CatalogueDatabase.{database, fits}
 use Rattle.world.specs.Executed.{Stands}
 use Rattle.world.specs.Runs.{IsSerialRun}
 use Rattle.world.specs.Client.{IsServed}

@@ -12,7 +12,7 @@ use Rattle.catalog.specs.FragmentLeaf.{catalogue_leaves, leaf_named, schemas_of}
 use Rattle.store.specs.declared.name.Txn.{Txn}
 use Rattle.world.specs.declared.event.Entry.{Entry}
 use Rattle.world.specs.declared.fault.Fault.{Fault}
-use Rattle.world.specs.Base.{database}
+use Rattle.desk.specs.CatalogueDatabase.{database}
 use Rattle.world.specs.Machines.{Machines}
 use Rattle.world.specs.Settled.{ShowsSerial, parts_kept}
 use Rattle.shell.specs.declared.mode.Mode.{Mode}

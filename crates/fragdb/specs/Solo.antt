@@ -9,8 +9,8 @@ use Rattle.catalog.specs.Catalogue.{Catalogue, IsValidCatalogue}
 use Rattle.catalog.specs.FragmentLeaf.{schemas_of}
 use Rattle.protocol.specs.Desk.{Deed}
 use Rattle.desk.specs.Database.{language}
-use Rattle.world.specs.Account.{said_in_vain, said_of}
-use Rattle.world.specs.Base.{database, fits}
+use Rattle.world.specs.Course.{said_in}
+use Rattle.desk.specs.CatalogueDatabase.{database, fits}
 use Rattle.world.specs.declared.event.Entry.{Entry}
 use Rattle.world.specs.declared.solo.Solo as code
 use Rattle.world.specs.Executed.{Stands}
@@ -54,8 +54,8 @@ AnswersTasks mode catalogue (first ∷ others) before after = (middle : Standing
 
 -- the calls that a task made, each with all that was heard of it
 abbrev pub said_by : (mode : Mode) (catalogue : Catalogue) (task : Reading) (before after : Standing catalogue) (told : Told) → AnswersTask mode catalogue task before after told → List Entry
-said_by mode catalogue (Runs text) before after (Answered told) answers = said_of (database catalogue) text before.current before.machines after.current after.machines answers.heard answers.executes
-said_by mode catalogue (Runs text) before after (Refused told) answers = said_in_vain (database catalogue) text before.current before.machines after.machines answers.refusal answers.declines
+said_by mode catalogue (Runs text) before after (Answered told) answers = said_in answers.does.moves
+said_by mode catalogue (Runs text) before after (Refused told) answers = said_in answers.does.moves
 said_by mode catalogue task before after told answers = []
 
 -- so of tasks, one after another

@@ -3,7 +3,11 @@ use Rattle.std.specs.Prelude.{◌≡◌, ◌⊎◌, Bool, true, false, List, [],
 use Rattle.std.specs.List.{AllByRecursion}
 use Rattle.clap.specs.Words.{App, Row, Rule, Text, first_of, new_app, new_rule, subcommand_of, with_rule, with_subcommand}
 use Rattle.clap.specs.Matches.{first_value}
-use Rattle.clap.specs.Simple.{new_shape}
+use Rattle.clap.specs.Simple.{app_of, new_shape}
+use Rattle.clap.specs.Walk.{rule_of}
+use Rattle.clap.specs.declared.builder.arg.Arg.{Arg}
+use Rattle.clap.specs.declared.builder.command.Command.{Command}
+use Rattle.clap.specs.declared.builder.command.Command.TheViews.{out-Command}
 use Rattle.clap.specs.declared.parser.matches.Found.{Found}
 use Rattle.clap.specs.declared.builder.action.ArgAction.TheVariants.{SetTrue}
 use Rattle.clap.specs.declared.error.kind.ErrorKind.{ErrorKind}
@@ -73,6 +77,16 @@ abbrev pub usage : App
 usage =
     with_subcommand (with_subcommand (with_subcommand (with_subcommand program (shown (held (explained (of_any_script (codes "solo"))))).top) (treed (explained (command_with (codes "check") (codes "CATALOG")))).top)
     (treed (command_with_two (codes "plan") (codes "CATALOG") (codes "STATEMENT"))).top) (of_script (codes "play")).top
+
+-- an argument of this rule, of its own command alone
+pub record IsRule (rule : Rule) (arg : Arg) : Type 0 where
+  pub is : rule_of arg ≡ rule
+  pub own : arg.global ≡ false
+
+-- a command of this grammar, each argument of which is its own
+pub record IsCommand (app : App) (command : Command) : Type 0 where
+  pub is : app_of command ≡ app
+  pub own : (out-Command command).has_globals ≡ false
 
 -- whether a flag's value says that it is set
 abbrev pub is_set : Option Text → Bool

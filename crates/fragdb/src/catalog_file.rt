@@ -17,7 +17,7 @@ use terms::memory::Memory;
 pub const CATALOG_LIMIT: usize = 65_536;
 
 /// Why a file gives no catalogue.
-#[derive(Debug, Drop)]
+#[derive(Drop)]
 pub enum CatalogFault<'a> {
     /// The file was not read to its end.
     Program(ProgramFault<'a>),

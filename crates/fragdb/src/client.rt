@@ -5,7 +5,7 @@ ghost use Rattle.catalog.specs.Catalogue.{Catalogue};
 ghost use Rattle.meaning.specs.Whole.{Relations};
 ghost use Rattle.protocol.specs.Desk.{Deed};
 ghost use Rattle.desk.specs.Database.{language};
-ghost use Rattle.world.specs.Base.{database as base};
+ghost use Rattle.desk.specs.CatalogueDatabase.{database as base};
 ghost use Rattle.world.specs.Stopping.{is_stop};
 ghost use Rattle.shell.specs.Mode.{line_in};
 ghost use Rattle.fragdb.specs.Client as client;
@@ -30,7 +30,6 @@ use terms::leaf::Leaf;
 use terms::memory::Memory;
 use terms::text::Text;
 use world::fault::Fault;
-use world::laws::deeds_follow;
 use world::solo::Solo;
 
 /// A database over lists.
@@ -63,7 +62,6 @@ fn command<'a>(
     ensures answers { (catalogue : Catalogue) (whole : Relations) (past : List (Deed (language (base catalogue)))) → GoesOn catalogue whole past database.old → IfOk result (λ reply. IsAnswered mode catalogue whole (Runs text.now) past database.old database.new (told_by reply)) }
     ensures err { IfErr result IsOfClient }
 {
-    deeds_follow(database.catalog());
     match database.execute(text) {
         Ok(heard) => Ok(Reply::Answer(heard_text(alloc, mode, heard.as_slice())?)),
         Err(refusal) => refused(alloc, mode, refusal),

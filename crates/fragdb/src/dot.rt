@@ -7,7 +7,7 @@ use crate::cut::cut;
 use shell::mode::Mode;
 
 /// The word that a command of the shell begins with.
-#[derive(Clone, Copy, Debug, PartialEq, Eq)]
+#[derive(Clone, Copy)]
 pub enum Word {
     /// To tell what can be asked for.
     Help,

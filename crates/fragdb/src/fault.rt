@@ -13,7 +13,7 @@ use store::fault::StoreFault;
 use terms::memory::Memory;
 
 /// Why a command stops before its end.
-#[derive(Clone, Copy, Debug, PartialEq, Eq)]
+#[derive(Clone, Copy)]
 pub enum ProgramFault<'a> {
     /// The file of this name can't be opened, or not be read to its end.
     CannotRead { file: &'a str },

@@ -11,7 +11,7 @@ use std::io;
 use std::io::Write;
 
 /// What a command came to, beside what it wrote to its output.
-#[derive(Debug, Drop)]
+#[derive(Drop)]
 pub enum Outcome<'a> {
     /// All was done.
     Done,
@@ -26,7 +26,7 @@ pub enum Outcome<'a> {
 }
 
 /// The exit status of the program.
-#[derive(Clone, Copy, Debug, PartialEq, Eq)]
+#[derive(Clone, Copy)]
 pub enum Status {
     /// All was done.
     Done,

@@ -2,8 +2,10 @@
 
 ghost use Rattle.std.specs.Prelude.{◌≡◌, IfErr, IfOk, IfSome};
 ghost use Rattle.std.specs.Io.KnownBytes.{Keeps};
-ghost use Rattle.fragdb.specs.Perform.{IsIdle, IsStopped, IsUnread, Performs, PerformsCheck, PerformsPlan, PerformsOver, PerformsPlayOf, PerformsSession, PerformsSolo, StopsIdle, StopsUncatalogued, StopsUnread};
+ghost use Rattle.fragdb.specs.Perform.{ComesTo, IsStopped, IsUnread, Performs, PerformsCheck, PerformsPlan, PerformsOver, PerformsPlayOf, PerformsSession, PerformsSolo, StopsIdle, StopsUncatalogued, StopsUnread};
 ghost use Rattle.fragdb.specs.Perform as spec;
+ghost use Rattle.fragdb.specs.Play.{IsUnplayed};
+ghost use Rattle.fragdb.specs.Solo.{IsUnrun};
 ghost use Rattle.fragdb.specs.Usage.{explains, is_interactive};
 
 use crate::catalog_file::CatalogFault;
@@ -119,8 +121,7 @@ pub fn perform<'a, C: Read + Drop, R: Read + Drop, W: Write>(
     ensures over { IfOk catalog (λ opened. IfSome (C.remaining opened) (λ bytes. IfOk input (λ reader. IfSome (R.remaining reader) (λ script. PerformsOver request.entry catalog_file.entry bytes script (W.contents output.old) (W.contents output.new) result)))) }
     ensures uncatalogued { IfErr catalog (λ error. StopsUncatalogued request.entry catalog_file.entry (W.contents output.old) (W.contents output.new) result) }
     ensures idle { IfOk catalog (λ opened. IfSome (C.remaining opened) (λ bytes. IfErr input (λ error. StopsIdle request.entry catalog_file.entry bytes result))) }
-    ensures unread { IfErr input (λ error. StopsUnread request.entry result) }
-    ensures quiet { IfErr input (λ error. Keeps (W.contents output.old) (W.contents output.new)) }
+    ensures unread { IfErr input (λ error. StopsUnread request.entry result × Keeps (W.contents output.old) (W.contents output.new)) }
 {
     match request {
         Request::Solo { script, mode, .. } => {
@@ -154,9 +155,8 @@ fn perform_solo<'a, C: Read + Drop, R: Read + Drop, W: Write>(
 ) -> Outcome<'a>
     ensures ran { IfOk catalog (λ opened. IfSome (C.remaining opened) (λ bytes. IfOk input (λ reader. IfSome (R.remaining reader) (λ text. PerformsSolo mode file.entry bytes script.entry text (W.contents output.old) (W.contents output.new) result)))) }
     ensures uncatalogued { IfErr catalog (λ error. IsUnread file.entry result × Keeps (W.contents output.old) (W.contents output.new)) }
-    ensures idle { IfOk catalog (λ opened. IfSome (C.remaining opened) (λ bytes. IfErr input (λ error. IsIdle file.entry bytes script.entry result))) }
-    ensures unread { IfErr input (λ error. IsStopped result) }
-    ensures quiet { IfErr input (λ error. Keeps (W.contents output.old) (W.contents output.new)) }
+    ensures idle { IfOk catalog (λ opened. IfSome (C.remaining opened) (λ bytes. IfErr input (λ error. ComesTo spec.outcome_of_script (IsUnrun file.entry bytes script.entry) result))) }
+    ensures unread { IfErr input (λ error. IsStopped result × Keeps (W.contents output.old) (W.contents output.new)) }
 {
     match catalog {
         Ok(catalog) => of_script(solo_files(alloc, mode, file, catalog, script, input, output)),
@@ -205,8 +205,7 @@ fn perform_check<'a, R: Read + Drop, W: Write>(
     output: &mut W,
 ) -> Outcome<'a>
     ensures opened { IfOk input (λ reader. IfSome (R.remaining reader) (λ bytes. PerformsCheck tree file.entry bytes (W.contents output.old) (W.contents output.new) result)) }
-    ensures unread { IfErr input (λ error. IsUnread file.entry result) }
-    ensures quiet { IfErr input (λ error. Keeps (W.contents output.old) (W.contents output.new)) }
+    ensures unread { IfErr input (λ error. IsUnread file.entry result × Keeps (W.contents output.old) (W.contents output.new)) }
 {
     match input {
         Ok(input) => of_check(check(alloc, file, tree, input, output)),
@@ -224,8 +223,7 @@ fn perform_plan<'a, R: Read + Drop, W: Write>(
     output: &mut W,
 ) -> Outcome<'a>
     ensures opened { IfOk input (λ reader. IfSome (R.remaining reader) (λ bytes. PerformsPlan tree file.entry statement.now bytes (W.contents output.old) (W.contents output.new) result)) }
-    ensures unread { IfErr input (λ error. IsUnread file.entry result) }
-    ensures quiet { IfErr input (λ error. Keeps (W.contents output.old) (W.contents output.new)) }
+    ensures unread { IfErr input (λ error. IsUnread file.entry result × Keeps (W.contents output.old) (W.contents output.new)) }
 {
     match input {
         Ok(input) => of_plan(plan(alloc, file, statement, tree, input, output)),
@@ -244,9 +242,8 @@ fn perform_play<'a, C: Read + Drop, R: Read + Drop, W: Write>(
 ) -> Outcome<'a>
     ensures played { IfOk catalog (λ opened. IfSome (C.remaining opened) (λ bytes. IfOk input (λ reader. IfSome (R.remaining reader) (λ text. PerformsPlayOf file.entry bytes script.entry text (W.contents output.old) (W.contents output.new) result)))) }
     ensures uncatalogued { IfErr catalog (λ error. IsUnread file.entry result × Keeps (W.contents output.old) (W.contents output.new)) }
-    ensures idle { IfOk catalog (λ opened. IfSome (C.remaining opened) (λ bytes. IfErr input (λ error. IsIdle file.entry bytes script.entry result))) }
-    ensures unread { IfErr input (λ error. IsStopped result) }
-    ensures quiet { IfErr input (λ error. Keeps (W.contents output.old) (W.contents output.new)) }
+    ensures idle { IfOk catalog (λ opened. IfSome (C.remaining opened) (λ bytes. IfErr input (λ error. ComesTo spec.outcome_of_check (IsUnplayed file.entry bytes script.entry) result))) }
+    ensures unread { IfErr input (λ error. IsStopped result × Keeps (W.contents output.old) (W.contents output.new)) }
 {
     match catalog {
         Ok(catalog) => of_check(play_files(alloc, file, catalog, script, input, output)),

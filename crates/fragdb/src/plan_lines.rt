@@ -22,7 +22,7 @@ use terms::cond::Conds;
 use terms::memory::Memory;
 
 /// What a plan stands within, whose line it goes on with if it is of the same kind.
-#[derive(Clone, Copy, Debug, PartialEq, Eq)]
+#[derive(Clone, Copy, PartialEq, Eq)]
 pub enum Within {
     /// Anything but a union or a join.
     Nothing,

@@ -32,7 +32,7 @@ use terms::leaf::Leaf;
 use terms::memory::Memory;
 
 /// Why a plan isn't shown.
-#[derive(Debug, Drop)]
+#[derive(Drop)]
 pub enum PlanFault<'a> {
     /// Something stopped the command.
     Program(ProgramFault<'a>),

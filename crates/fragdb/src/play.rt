@@ -38,8 +38,7 @@ pub fn play_files<'a, C: Read + Drop, R: Read + Drop, W: Write>(
 ) -> Result<(), CatalogFault<'a>>
     ensures opened { IfSome (C.remaining catalog) (λ bytes. IfOk input (λ reader. IfSome (R.remaining reader) (λ script. PlaysFiles catalog_file.entry bytes file.entry script (W.contents output.old) (W.contents output.new) result))) }
     ensures unread { IfErr input (λ error. IfSome (C.remaining catalog) (λ bytes. IsUnplayed catalog_file.entry bytes file.entry result)) }
-    ensures idle { IfErr input (λ error. is_err result ≡ true) }
-    ensures quiet { IfErr input (λ error. Keeps (W.contents output.old) (W.contents output.new)) }
+    ensures idle { IfErr input (λ error. (is_err result ≡ true) × Keeps (W.contents output.old) (W.contents output.new)) }
 {
     match read_catalog(alloc, catalog_file, catalog) {
         Ok(catalog) => match input {

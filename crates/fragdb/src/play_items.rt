@@ -14,14 +14,14 @@ use terms::memory::Memory;
 use terms::text::Text;
 
 /// An item of a script, and the number of its line, counted from 1.
-#[derive(Debug, Drop)]
+#[derive(Drop)]
 pub struct Placed {
     pub line: usize,
     pub item: Item,
 }
 
 /// What was read of a script: its items, as far as the first malformed line, if there is one.
-#[derive(Debug, Drop)]
+#[derive(Drop)]
 pub struct Script {
     pub items: Vec<Placed>,
     pub malformed: Option<usize>,

@@ -19,7 +19,7 @@ use terms::text::Text;
 const NAME_LIMIT: usize = 16;
 
 /// What the client of a transaction asks for.
-#[derive(Debug, Drop)]
+#[derive(Drop)]
 pub enum Ask {
     Begin,
     /// To run a statement, by its text.
@@ -30,7 +30,7 @@ pub enum Ask {
 }
 
 /// What happens at a site.
-#[derive(Clone, Copy, Debug, PartialEq, Eq)]
+#[derive(Clone, Copy)]
 pub enum AtSite {
     /// It gives this visit up.
     GiveUp(Ticket),
@@ -40,7 +40,7 @@ pub enum AtSite {
 }
 
 /// One thing that a script asks for.
-#[derive(Debug, Drop)]
+#[derive(Drop)]
 pub enum Item {
     /// To put a row into the whole relations of the opening, by an INSERT.
     Load(Text),
@@ -62,7 +62,7 @@ pub enum Item {
 }
 
 /// What one line says.
-#[derive(Debug, Drop)]
+#[derive(Drop)]
 pub enum Line {
     PassedOver,
     Asks(Item),
@@ -70,7 +70,7 @@ pub enum Line {
 }
 
 /// What a line with an argument begins with.
-#[derive(Clone, Copy, Debug, PartialEq, Eq)]
+#[derive(Clone, Copy)]
 enum Verb {
     Load,
     Begin,

@@ -5,7 +5,7 @@ ghost use Rattle.fragdb.specs.Reply as spec;
 ghost use Rattle.fragdb.specs.Reply.{told_by, text_of};
 
 /// The answer to a line of a script, as it is printed, with no line feed at its end.
-#[derive(Debug, Drop)]
+#[derive(Drop)]
 pub enum Reply {
     /// What the line asked for.
     Answer(String),

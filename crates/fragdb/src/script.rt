@@ -9,7 +9,7 @@ use std::alloc::{AllocFailed, Global};
 use terms::memory::Memory as OutOfMemory;
 
 /// One thing that a script asks for.
-#[derive(Clone, Copy, Debug, PartialEq, Eq)]
+#[derive(Clone, Copy)]
 pub enum Item<'a> {
     /// To execute a command: a statement, or one that begins or ends a transaction.
     Statement(&'a str),
@@ -20,7 +20,7 @@ pub enum Item<'a> {
 }
 
 /// Why a script has no items.
-#[derive(Clone, Copy, Debug, PartialEq, Eq)]
+#[derive(Clone, Copy)]
 pub enum ScriptFault {
     /// This line, counted from 1, is the first that cannot be read.
     Malformed { line: usize },
@@ -44,7 +44,7 @@ impl From<OutOfMemory> for ScriptFault {
 }
 
 /// What one line says.
-#[derive(Clone, Copy, Debug, PartialEq, Eq)]
+#[derive(Clone, Copy)]
 pub enum Line<'a> {
     PassedOver,
     Asks(Item<'a>),

@@ -26,7 +26,7 @@ use std::alloc::Global;
 use std::io;
 use std::io::{BufRead, BufReader, Read, Write};
 use std::time::{Clock, Instant};
-use world::laws::account_follows;
+use world::laws::moves_follow;
 use world::solo::open;
 
 /// What a session begins with.
@@ -97,7 +97,7 @@ pub fn session<'a, K: Clock, R: BufRead, W: Write, E: Write>(
     ensures ok { OnOk result ((written : List ℕ) × Appends (W.contents output.old) (W.contents output.new) written × IsSession (catalogue_of catalog.now) written) }
     ensures err { IfErr result (IsOfSession file.entry) }
 {
-    account_follows(catalog);
+    moves_follow(catalog);
     let whole = empty_relations(alloc, catalog.schema())?;
     // Lists refuse for want of memory alone.
     let Ok(mut database) = open(alloc, catalog, &whole) else {

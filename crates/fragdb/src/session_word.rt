@@ -65,7 +65,7 @@ impl State {
 }
 
 /// What comes of a line.
-#[derive(Clone, Copy, Debug, PartialEq, Eq)]
+#[derive(Clone, Copy, PartialEq, Eq)]
 pub enum Turn {
     /// Something was answered.
     Answered,

@@ -7,7 +7,7 @@ ghost use Rattle.catalog.specs.Relation.{catalogue_of};
 ghost use Rattle.meaning.specs.Whole.{Relations};
 ghost use Rattle.protocol.specs.Desk.{Deed};
 ghost use Rattle.desk.specs.Database.{language};
-ghost use Rattle.world.specs.Base.{database as base};
+ghost use Rattle.desk.specs.CatalogueDatabase.{database as base};
 ghost use Rattle.fragdb.specs.Client.{GoesOn};
 ghost use Rattle.fragdb.specs.Script.{task_of};
 ghost use Rattle.fragdb.specs.Solo.{IsOfRead, IsOfRun, IsRun, IsStretch, IsUnrun, RunsFiles, RunsOrStops, RunsScript, longest};
@@ -23,7 +23,7 @@ use shell::mode::Mode;
 use std::alloc::Global;
 use std::io;
 use std::io::{Read, Write};
-use world::laws::account_follows;
+use world::laws::moves_follow;
 use world::solo::open;
 
 /// How many bytes a script may have.
@@ -42,8 +42,7 @@ pub fn solo_files<'a, C: Read + Drop, R: Read + Drop, W: Write>(
 ) -> Result<bool, CatalogFault<'a>>
     ensures opened { IfSome (C.remaining catalog) (λ bytes. IfOk input (λ reader. IfSome (R.remaining reader) (λ script. RunsFiles mode catalog_file.entry bytes file.entry script (W.contents output.old) (W.contents output.new) result))) }
     ensures unread { IfErr input (λ error. IfSome (C.remaining catalog) (λ bytes. IsUnrun catalog_file.entry bytes file.entry result)) }
-    ensures idle { IfErr input (λ error. is_err result ≡ true) }
-    ensures quiet { IfErr input (λ error. Keeps (W.contents output.old) (W.contents output.new)) }
+    ensures idle { IfErr input (λ error. (is_err result ≡ true) × Keeps (W.contents output.old) (W.contents output.new)) }
 {
     match read_catalog(alloc, catalog_file, catalog) {
         Ok(catalog) => match input {
@@ -124,7 +123,7 @@ fn run<'a, W: Write>(
     ensures ok { IfOk result (λ any_refused. (written : List ℕ) × Appends (W.contents output.old) (W.contents output.new) written × IsRun mode (catalogue_of catalog) (map task_of items.now) written any_refused) }
     ensures err { IfErr result IsOfRun }
 {
-    account_follows(&catalog);
+    moves_follow(&catalog);
     let whole = empty_relations(alloc, catalog.schema())?;
     // Lists refuse for want of memory alone.
     let Ok(mut database) = open(alloc, &catalog, &whole) else {

@@ -15,7 +15,7 @@ use std::io::BufRead;
 const DROP: u8 = 3;
 
 /// What is typed up to the end of a line.
-#[derive(Debug, Drop)]
+#[derive(Drop)]
 pub enum Typed {
     /// A line, without its end.
     Line(Vec<u8>),
@@ -26,7 +26,7 @@ pub enum Typed {
 }
 
 /// How much of what has come is of a line.
-#[derive(Clone, Copy, Debug, PartialEq, Eq)]
+#[derive(Clone, Copy)]
 enum Front {
     /// All of it, and the line goes on.
     All,

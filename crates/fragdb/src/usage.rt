@@ -4,10 +4,9 @@ ghost use Rattle.std.specs.Prelude.{◌≡◌, ◌≢◌, ◌≤◌, ◌<◌, �
 ghost use Rattle.std.specs.Io.KnownBytes.{Keeps};
 ghost use Rattle.std.specs.List.{AllByRecursion};
 ghost use Rattle.std.specs.IoError.{error_kind};
-ghost use Rattle.clap.specs.declared.builder.command.Command.TheViews.{out-Command};
 ghost use Rattle.clap.specs.Matches.{first_value};
-ghost use Rattle.clap.specs.Words.{app_of, found_of, kind_of};
-ghost use Rattle.fragdb.specs.Usage.{asked, columned, command_with, command_with_two, explained, flags_of, held, is_columns, is_csv, is_interactive, is_json, mode_of_flags, of_any_script, of_script, script_of, shown, treed, usage, usage_status, Asks, IsMisuse};
+ghost use Rattle.clap.specs.Words.{App, Rule, app_of, found_of, kind_of, new_app, new_rule, with_rule};
+ghost use Rattle.fragdb.specs.Usage.{Asks, IsCommand, IsMisuse, IsRule, argument, asked, command_with, command_with_two, explained, flag, flags_of, held, is_columns, is_csv, is_interactive, is_json, mode_of_flags, of_any_script, of_script, option_argument, script_of, shown, treed, usage, usage_status};
 ghost use Rattle.fragdb.specs.Usage as spec;
 
 use crate::fault::ProgramFault;
@@ -21,7 +20,7 @@ use std::io;
 use std::io::{ErrorKind as IoErrorKind, Write};
 
 /// What the command line asks for.
-#[derive(Clone, Copy, Debug, PartialEq, Eq)]
+#[derive(Clone, Copy)]
 pub enum Request<'a> {
     /// To run this script, a file's name, or `-` for standard input, over a database of this catalogue, a
     /// file's name, or over one of the built-in catalogue.
@@ -127,6 +126,9 @@ const AFTER_PLAY: &str =
   .show item                                  the rows of a relation
   .leaf item.1                                the rows that a fragment keeps
   .committed                                  which transactions are committed";
+
+/// What is told of the catalogue of a script.
+const CATALOG_HELP: &str = "A file with a catalogue, in TOML, in place of the built-in one";
 
 /// What is told where answers are to be shown in two ways.
 const TWO_MODES: &str =
@@ -305,144 +307,155 @@ fn command<'a>(alloc: Global) -> Result<Command<'a>, AllocError>
 }
 
 fn solo_command<'a>(alloc: Global) -> Result<Command<'a>, AllocError>
-    ensures shape { IfOk result (λ command. app_of command ≡ shown (held (explained (of_any_script (codes "solo"))))) }
-    ensures local { IfOk result (λ command. (out-Command command).has_globals ≡ false) }
+    ensures { IfOk result (IsCommand (shown (held (explained (of_any_script (codes "solo")))))) }
 {
-    let csv = Arg::new(alloc, "CSV")
-        .long("csv")
-        .action(ArgAction::SetTrue)
-        .help("Shows rows as comma-separated values");
-    let json = Arg::new(alloc, "JSON")
-        .long("json")
-        .action(ArgAction::SetTrue)
-        .help("Shows each row as a JSON object in a line");
-    columned_solo_command(alloc)?.arg(csv)?.arg(json)
-}
-
-/// The command `solo` with its flags but two.
-fn columned_solo_command<'a>(alloc: Global) -> Result<Command<'a>, AllocError>
-    ensures shape { IfOk result (λ command. app_of command ≡ columned (held (explained (of_any_script (codes "solo"))))) }
-    ensures local { IfOk result (λ command. (out-Command command).has_globals ≡ false) }
-{
-    let interactive = Arg::new(alloc, "INTERACTIVE")
-        .long("interactive")
-        .action(ArgAction::SetTrue)
-        .help("Asks for each line, and answers it at once, as at a terminal");
-    let columns = Arg::new(alloc, "COLUMNS")
-        .long("columns")
-        .action(ArgAction::SetTrue)
-        .help("Shows rows in aligned columns");
-    explained_solo_command(alloc)?
-        .arg(interactive)?
-        .arg(columns)
-}
-
-/// The command `solo` with one flag.
-fn explained_solo_command<'a>(alloc: Global) -> Result<Command<'a>, AllocError>
-    ensures shape { IfOk result (λ command. app_of command ≡ explained (of_any_script (codes "solo"))) }
-    ensures local { IfOk result (λ command. (out-Command command).has_globals ≡ false) }
-{
-    let explain = Arg::new(alloc, "EXPLAIN")
-        .long("explain")
-        .action(ArgAction::SetTrue)
-        .help(
-            "Explains on standard error why lines are refused; at a terminal that is on by itself",
-        );
-    plain_solo_command(alloc)?.arg(explain)
-}
-
-/// The command `solo` without its flags.
-fn plain_solo_command<'a>(alloc: Global) -> Result<Command<'a>, AllocError>
-    ensures shape { IfOk result (λ command. app_of command ≡ of_any_script (codes "solo")) }
-    ensures local { IfOk result (λ command. (out-Command command).has_globals ≡ false) }
-{
-    let catalog = Arg::new(alloc, "CATALOG").long("catalog").help(
-        "A file with a catalogue, in TOML, in place of the built-in one",
-    );
-    let script = Arg::new(alloc, "SCRIPT").help(
+    let solo = new_command(alloc, "solo", "Runs a script of statements, one at a time");
+    let catalog = option(alloc, "CATALOG", "catalog", CATALOG_HELP);
+    let solo = with(solo, catalog)?;
+    let script = optional(
+        alloc,
+        "SCRIPT",
         "A file with one item a line, or - for standard input; at a terminal it may be left out",
     );
-    Command::new(alloc, "solo")
-        .about("Runs a script of statements, one at a time")
-        .after_help(AFTER_SOLO)
-        .arg(catalog)?
-        .arg(script)
+    let solo = with(solo, script)?;
+    let explain = flag(
+        alloc,
+        "EXPLAIN",
+        "explain",
+        "Explains on standard error why lines are refused; at a terminal that is on by itself",
+    );
+    let solo = with(solo, explain)?;
+    let interactive = flag(
+        alloc,
+        "INTERACTIVE",
+        "interactive",
+        "Asks for each line, and answers it at once, as at a terminal",
+    );
+    let solo = with(solo, interactive)?;
+    with_modes(alloc, with_notes(solo, AFTER_SOLO))
+}
+
+/// The command with the flags that say how answers are shown.
+fn with_modes<'a>(alloc: Global, command: Command<'a>) -> Result<Command<'a>, AllocError>
+    ensures { (app : App) → IsCommand app command.entry → IfOk result (IsCommand (shown app)) }
+{
+    let columns = flag(alloc, "COLUMNS", "columns", "Shows rows in aligned columns");
+    let command = with(command, columns)?;
+    let csv = flag(alloc, "CSV", "csv", "Shows rows as comma-separated values");
+    let command = with(command, csv)?;
+    let json = flag(
+        alloc,
+        "JSON",
+        "json",
+        "Shows each row as a JSON object in a line",
+    );
+    with(command, json)
 }
 
 fn check_command<'a>(alloc: Global) -> Result<Command<'a>, AllocError>
-    ensures shape { IfOk result (λ command. app_of command ≡ treed (explained (command_with (codes "check") (codes "CATALOG")))) }
-    ensures local { IfOk result (λ command. (out-Command command).has_globals ≡ false) }
+    ensures { IfOk result (IsCommand (treed (explained (command_with (codes "check") (codes "CATALOG"))))) }
 {
-    let tree = Arg::new(alloc, "TREE")
-        .long("tree")
-        .action(ArgAction::SetTrue)
-        .help("Shows the fragments of each relation as a tree");
-    explained_check_command(alloc)?.arg(tree)
-}
-
-/// The command `check` with one flag.
-fn explained_check_command<'a>(alloc: Global) -> Result<Command<'a>, AllocError>
-    ensures shape { IfOk result (λ command. app_of command ≡ explained (command_with (codes "check") (codes "CATALOG"))) }
-    ensures local { IfOk result (λ command. (out-Command command).has_globals ≡ false) }
-{
-    let catalog = Arg::new(alloc, "CATALOG")
-        .required(true)
-        .help("A file with a catalogue, in TOML");
-    let explain = Arg::new(alloc, "EXPLAIN")
-        .long("explain")
-        .action(ArgAction::SetTrue)
-        .help(
-            "Explains on standard error why the catalogue is refused; at a terminal that is on by itself",
-        );
-    Command::new(alloc, "check")
-        .about("Checks a catalogue and lists its fragments")
-        .arg(catalog)?
-        .arg(explain)
+    let check = new_command(alloc, "check", "Checks a catalogue and lists its fragments");
+    let catalog = required(alloc, "CATALOG", "A file with a catalogue, in TOML");
+    let check = with(check, catalog)?;
+    let explain = flag(
+        alloc,
+        "EXPLAIN",
+        "explain",
+        "Explains on standard error why the catalogue is refused; at a terminal that is on by itself",
+    );
+    let check = with(check, explain)?;
+    let tree = flag(
+        alloc,
+        "TREE",
+        "tree",
+        "Shows the fragments of each relation as a tree",
+    );
+    with(check, tree)
 }
 
 fn plan_command<'a>(alloc: Global) -> Result<Command<'a>, AllocError>
-    ensures shape { IfOk result (λ command. app_of command ≡ treed (command_with_two (codes "plan") (codes "CATALOG") (codes "STATEMENT"))) }
-    ensures local { IfOk result (λ command. (out-Command command).has_globals ≡ false) }
+    ensures { IfOk result (IsCommand (treed (command_with_two (codes "plan") (codes "CATALOG") (codes "STATEMENT")))) }
 {
-    let tree = Arg::new(alloc, "TREE")
-        .long("tree")
-        .action(ArgAction::SetTrue)
-        .help("Shows the plan as a tree");
-    plain_plan_command(alloc)?.arg(tree)
-}
-
-/// The command `plan` without its flag.
-fn plain_plan_command<'a>(alloc: Global) -> Result<Command<'a>, AllocError>
-    ensures shape { IfOk result (λ command. app_of command ≡ command_with_two (codes "plan") (codes "CATALOG") (codes "STATEMENT")) }
-    ensures local { IfOk result (λ command. (out-Command command).has_globals ≡ false) }
-{
-    let catalog = Arg::new(alloc, "CATALOG")
-        .required(true)
-        .help("A file with a catalogue, in TOML");
-    let statement = Arg::new(alloc, "STATEMENT")
-        .required(true)
-        .help("A statement over the catalogue's relations");
-    Command::new(alloc, "plan")
-        .about("Shows which fragments a statement reads, and with which conditions")
-        .arg(catalog)?
-        .arg(statement)
+    let about = "Shows which fragments a statement reads, and with which conditions";
+    let plan = new_command(alloc, "plan", about);
+    let catalog = required(alloc, "CATALOG", "A file with a catalogue, in TOML");
+    let plan = with(plan, catalog)?;
+    let statement = required(
+        alloc,
+        "STATEMENT",
+        "A statement over the catalogue's relations",
+    );
+    let plan = with(plan, statement)?;
+    let tree = flag(alloc, "TREE", "tree", "Shows the plan as a tree");
+    with(plan, tree)
 }
 
 fn play_command<'a>(alloc: Global) -> Result<Command<'a>, AllocError>
-    ensures shape { IfOk result (λ command. app_of command ≡ of_script (codes "play")) }
-    ensures local { IfOk result (λ command. (out-Command command).has_globals ≡ false) }
+    ensures { IfOk result (IsCommand (of_script (codes "play"))) }
 {
-    let catalog = Arg::new(alloc, "CATALOG").long("catalog").help(
-        "A file with a catalogue, in TOML, in place of the built-in one",
+    let play = new_command(alloc, "play", "Plays a script of schedules, event by event");
+    let play = with_notes(play, AFTER_PLAY);
+    let catalog = option(alloc, "CATALOG", "catalog", CATALOG_HELP);
+    let play = with(play, catalog)?;
+    let script = required(
+        alloc,
+        "SCRIPT",
+        "A file with one item a line, or - for standard input",
     );
-    let script = Arg::new(alloc, "SCRIPT")
-        .required(true)
-        .help("A file with one item a line, or - for standard input");
-    Command::new(alloc, "play")
-        .about("Plays a script of schedules, event by event")
-        .after_help(AFTER_PLAY)
-        .arg(catalog)?
-        .arg(script)
+    with(play, script)
+}
+
+/// A command with no argument yet.
+fn new_command<'a>(alloc: Global, name: &'a str, about: &'a str) -> Command<'a>
+    ensures { IsCommand (new_app name.entry.now) result }
+{
+    Command::new(alloc, name).about(about)
+}
+
+/// The command with this text after its help.
+fn with_notes<'a>(command: Command<'a>, notes: &'a str) -> Command<'a>
+    ensures { (app : App) → IsCommand app command.entry → IsCommand app result }
+{
+    command.after_help(notes)
+}
+
+/// The command with one more argument.
+fn with<'a>(command: Command<'a>, argument: Arg<'a>) -> Result<Command<'a>, AllocError>
+    ensures { (app : App) (rule : Rule) → IsCommand app command.entry → IsRule rule argument.entry → IfOk result (IsCommand (with_rule app rule)) }
+{
+    command.arg(argument)
+}
+
+/// An argument that must be given.
+fn required<'a>(alloc: Global, name: &'a str, help: &'a str) -> Arg<'a>
+    ensures { IsRule (argument name.entry.now) result }
+{
+    Arg::new(alloc, name).required(true).help(help)
+}
+
+/// An argument that may be left out.
+fn optional<'a>(alloc: Global, name: &'a str, help: &'a str) -> Arg<'a>
+    ensures { IsRule (new_rule name.entry.now) result }
+{
+    Arg::new(alloc, name).help(help)
+}
+
+/// An argument that may be given behind this word.
+fn option<'a>(alloc: Global, name: &'a str, long: &'a str, help: &'a str) -> Arg<'a>
+    ensures { IsRule (option_argument name.entry.now long.entry.now) result }
+{
+    Arg::new(alloc, name).long(long).help(help)
+}
+
+/// A flag, which is known by a word.
+fn flag<'a>(alloc: Global, name: &'a str, long: &'a str, help: &'a str) -> Arg<'a>
+    ensures { IsRule (flag name.entry.now long.entry.now) result }
+{
+    Arg::new(alloc, name)
+        .long(long)
+        .action(ArgAction::SetTrue)
+        .help(help)
 }
 
 /// Writes clap's text where it belongs, help to the output and a mistake to the errors, and answers the

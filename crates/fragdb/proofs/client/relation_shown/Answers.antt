@@ -1,7 +1,7 @@
 use Rattle.std.proofs.Common.{◌≡◌, ℕ, List, ap, option_map, ◌∙◌}
 use Rattle.catalog.specs.Catalogue.{Catalogue}
 use Rattle.catalog.specs.Relation.{catalogue_of}
-use Rattle.world.specs.Base.{database}
+use Rattle.desk.specs.CatalogueDatabase.{database}
 use Rattle.world.specs.Settled.{rows_shown}
 use Rattle.fragdb.specs.Shown.{relation_text}
 use Rattle.fragdb.proofs.ClientLemmas.{rows_of_own, shows_on, stands_still}

@@ -5,7 +5,7 @@ use Rattle.catalog.specs.FragmentLeaf.{schemas_of}
 use Rattle.catalog.specs.Relation.{catalogue_of}
 use Rattle.store.specs.PlainDesk.{kept_of as desk_kept}
 use Rattle.store.specs.PlainSite.{kept_of}
-use Rattle.world.specs.Base.{database}
+use Rattle.desk.specs.CatalogueDatabase.{database}
 use Rattle.world.specs.Contents.{unrefused}
 use Rattle.world.specs.Client.{IsServed}
 use Rattle.fragdb.specs.PlayLoad.{emptied}
@@ -20,4 +20,4 @@ returns-clause-ok g c =
     ran_from c.args.mode (g.W.Write.contents c.args.output.now) (g.W.Write.contents c.run_items.new.output) (catalogue_of c.args.catalog) c.args.items.now c.in-Ok.database c.run_items.new.database c.run_items.result
     (subst (λ (whole : Relations). IsServed (database (catalogue_of c.args.catalog)) whole (unrefused desk_kept kept_of c.in-Ok.database.machines) []) empty (c.in-Ok.ensures.served fits_schema))
     (c.in-Ok.ensures.stands fits_schema)
-    c.in-Ok.ensures.catalog c.in-Ok.ensures.sound c.in-Ok.ensures.idle c.account_follows.ensures c.run_items.ensures.ok
+    c.in-Ok.ensures.catalog c.in-Ok.ensures.sound c.in-Ok.ensures.idle c.moves_follow.ensures c.run_items.ensures.ok

@@ -4,7 +4,7 @@ use Rattle.catalog.specs.Catalogue.{Catalogue}
 use Rattle.meaning.specs.Whole.{Relations}
 use Rattle.protocol.specs.Desk.{Deed}
 use Rattle.desk.specs.Database.{language}
-use Rattle.world.specs.Base.{database}
+use Rattle.desk.specs.CatalogueDatabase.{database}
 use Rattle.fragdb.specs.Client.{GoesOn}
 use Rattle.fragdb.specs.Script.{task_of}
 use Rattle.fragdb.specs.Solo.{IsStretch}

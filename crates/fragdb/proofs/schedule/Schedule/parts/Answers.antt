@@ -5,7 +5,7 @@ use Rattle.catalog.specs.Catalogue.{Catalogue}
 use Rattle.catalog.specs.Relation.{catalogue_of}
 use Rattle.store.specs.PlainDesk.{kept_of as desk_kept}
 use Rattle.store.specs.PlainSite.{kept_of}
-use Rattle.world.specs.Base.{database}
+use Rattle.desk.specs.CatalogueDatabase.{database}
 use Rattle.world.specs.Contents.{held}
 use Rattle.world.specs.Settled.{parts_kept}
 use Rattle.shell.specs.declared.mode.Mode.TheVariants.{Tabs}

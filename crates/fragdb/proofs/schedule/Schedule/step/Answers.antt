@@ -2,7 +2,7 @@ use Rattle.std.proofs.Common.{◌≡◌, OnErr, OnOk, subst}
 use Rattle.catalog.specs.Relation.{catalogue_of}
 use Rattle.store.specs.PlainDesk.{kept_of as desk_kept}
 use Rattle.store.specs.PlainSite.{kept_of}
-use Rattle.world.specs.Base.{database}
+use Rattle.desk.specs.CatalogueDatabase.{database}
 use Rattle.world.specs.Contents.{held}
 use Rattle.world.specs.Runs.{GoesOn}
 use Rattle.world.specs.Steps.{answer_of}
