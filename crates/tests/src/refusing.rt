@@ -7,9 +7,9 @@ use store::changes::Changes;
 use store::fault::StoreFault;
 use store::name::{Ticket, Txn};
 use store::plain_site::PlainSite;
-use store::prepared::{SiteKept, Unkept};
+use store::prepared::{SiteKept, SiteRows, Unkept};
 use store::site_store::SiteStore;
-use store::slot::Slot;
+use terms::cond::Conds;
 use terms::leaf::Leaf;
 use terms::part::Part;
 
@@ -65,18 +65,18 @@ impl SiteStore for Refusing {
 
     ghost keyed = { λ s clean sound leaf. IsKeyed-made_by s.store.parts sound leaf };
 
-    fn scan(&mut self, leaf: &Leaf) -> Result<Vec<Part>, StoreFault> {
+    fn scan(&mut self, leaf: &Leaf, conds: &Conds) -> Result<Vec<Part>, StoreFault> {
         if self.refuses() {
             return Err(StoreFault::Refused);
         }
-        self.store.scan(leaf)
+        self.store.scan(leaf, conds)
     }
 
-    fn find(&mut self, slot: &Slot) -> Result<Option<Part>, StoreFault> {
+    fn find(&mut self, leaf: &Leaf, key: i64) -> Result<Option<Part>, StoreFault> {
         if self.refuses() {
             return Err(StoreFault::Refused);
         }
-        self.store.find(slot)
+        self.store.find(leaf, key)
     }
 
     fn keep_prepared(&mut self, txn: Txn, ticket: Ticket, changes: Changes) -> Result<(), Unkept> {
@@ -108,6 +108,13 @@ impl SiteStore for Refusing {
             return Err(StoreFault::Refused);
         }
         self.store.next_incarnation()
+    }
+
+    fn rows(&mut self) -> Result<SiteRows, StoreFault> {
+        if self.refuses() {
+            return Err(StoreFault::Refused);
+        }
+        self.store.rows()
     }
 
     fn load(&mut self) -> Result<SiteKept, StoreFault> {
