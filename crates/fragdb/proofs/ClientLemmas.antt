@@ -40,7 +40,7 @@ use Rattle.fragdb.specs.declared.fault.ProgramFault.{ProgramFault}
 use Rattle.fragdb.specs.declared.script.Item.{Item}
 use Rattle.fragdb.specs.Script.{Nothing, Reading, Runs, ShowsLeaf, ShowsRelation, Unreadable, task_of}
 use Rattle.fragdb.specs.Shown.{written_leaf}
-use Rattle.fragdb.specs.Solo.{AnswersTasks, IsRun, IsStretch, no_rows, said_by, said_by_tasks}
+use Rattle.fragdb.specs.Solo.{AnswersTasks, IsNew, IsRun, IsStretch, no_rows, said_by, said_by_tasks}
 use Rattle.fragdb.proofs.SoloLemmas.{clean}
 
 module _ (catalogue : Catalogue) (whole : Relations) (past : List (Deed (language (database catalogue)))) (old new : code.Solo PlainDesk PlainSite) (h : GoesOn catalogue whole past old) where
@@ -169,19 +169,17 @@ tasks_told mode catalogue law (first ∷ others) old new entries so answered =
     (tasks_told mode catalogue law others answered.0 new (entries ++ said) (task_told mode catalogue law first.0 old answered.0 first.1 entries so answered.1) answered.2)
 
 -- a script over a database that was opened has run
-pub ran_from : (mode : Mode) (old new : Option (List ℕ)) (catalogue : Catalogue) (items : List Item) (opened ended : code.Solo PlainDesk PlainSite) (result : Result Bool ProgramFault) → IsServed (database catalogue) (no_rows catalogue) (unrefused desk_kept kept_of opened.machines) [] →
-    Stands (database catalogue) (fits catalogue) opened.current (unrefused desk_kept kept_of opened.machines) [] → catalogue_of opened.machines.desk.catalog ≡ catalogue → OfStores {D = PlainDesk} {S = PlainSite} (λ _. Unit {0}) IsSound opened.machines → (opened.current ≡ None) × (opened.stopped ≡ None) → MovesFollow (database catalogue) →
+pub ran_from : (mode : Mode) (old new : Option (List ℕ)) (catalogue : Catalogue) (items : List Item) (opened ended : code.Solo PlainDesk PlainSite) (result : Result Bool ProgramFault) → IsNew catalogue opened → MovesFollow (database catalogue) →
     ((catalogue : Catalogue) (whole : Relations) (past : List (Deed (language (database catalogue)))) → GoesOn catalogue whole past opened → IfOk result (λ any_refused. (written : List ℕ) × Appends old new written × IsStretch mode catalogue whole (map task_of items) past opened ended written any_refused)) →
     IfOk result (λ any_refused. (written : List ℕ) × Appends old new written × IsRun mode catalogue (map task_of items) written any_refused)
-ran_from mode old new catalogue items opened ended (Ok any_refused) served stands over sound idle law works =
-    let h : GoesOn catalogue (no_rows catalogue) [] opened = record { going = idle.1; catalog = over; sound = sound; served = served; stands = stands } in
-    let work = works catalogue (no_rows catalogue) [] h in
+ran_from mode old new catalogue items opened ended (Ok any_refused) fresh law works =
+    let work = works catalogue (no_rows catalogue) [] fresh.goes_on in
     let stretch = work.2 in (
       work.0,
       work.1,
       record {
         opening = standing_of catalogue opened [];
-        opened = record { served = served; none = refl; idle = idle.0 };
+        opened = record { served = fresh.goes_on.served; none = refl; idle = fresh.idle };
         end = standing_of catalogue ended stretch.later;
         work = stretch.work;
         served = stretch.goes_on.served;
@@ -189,4 +187,4 @@ ran_from mode old new catalogue items opened ended (Ok any_refused) served stand
         serial = law.serial (no_rows catalogue) (unrefused desk_kept kept_of ended.machines) _ stretch.later (tasks_told mode catalogue law stretch.work.answers (standing_of catalogue opened []) (standing_of catalogue ended stretch.later) [] (record { phased = refl; stated = tt; heard = refl }) stretch.work.answered) stretch.goes_on.served;
       },
     )
-ran_from mode old new catalogue items opened ended (Err fault) served stands over sound idle law works = tt
+ran_from mode old new catalogue items opened ended (Err fault) fresh law works = tt

@@ -23,7 +23,7 @@ use Rattle.fragdb.specs.declared.fault.ProgramFault.{ProgramFault}
 use Rattle.fragdb.specs.Client.{GoesOn, IsAnswered, Standing, standing_of}
 use Rattle.fragdb.specs.Reply.{text_of}
 use Rattle.fragdb.specs.Session.{Answer, AnswersEach, Beside, Exchange, IsAsideOf, IsSession, IsTalk, Talks, aside_text, exchange_in, exchanges_in, piece_text, said_by_each}
-use Rattle.fragdb.specs.Solo.{no_rows, said_by}
+use Rattle.fragdb.specs.Solo.{IsNew, no_rows, said_by}
 use Rattle.fragdb.proofs.ClientLemmas.{still_told, task_told}
 use Rattle.fragdb.proofs.SoloLemmas.{Appends-more}
 
@@ -110,18 +110,16 @@ each_told catalogue law (first ∷ others) old new entries so answered =
     (each_told catalogue law others answered.0 new (entries ++ said) (task_told first.mode catalogue law first.task old answered.0 first.told entries so answered.1) answered.2)
 
 -- there was a session over a database that was opened
-pub held_from : (old new : Option (List ℕ)) (catalogue : Catalogue) (opened ended : code.Solo PlainDesk PlainSite) (result : Result Unit ProgramFault) → IsServed (database catalogue) (no_rows catalogue) (unrefused desk_kept kept_of opened.machines) [] →
-    Stands (database catalogue) (fits catalogue) opened.current (unrefused desk_kept kept_of opened.machines) [] → catalogue_of opened.machines.desk.catalog ≡ catalogue → OfStores {D = PlainDesk} {S = PlainSite} (λ _. Unit {0}) IsSound opened.machines → (opened.current ≡ None) × (opened.stopped ≡ None) → MovesFollow (database catalogue) →
+pub held_from : (old new : Option (List ℕ)) (catalogue : Catalogue) (opened ended : code.Solo PlainDesk PlainSite) (result : Result Unit ProgramFault) → IsNew catalogue opened → MovesFollow (database catalogue) →
     OnOk result (Talks old new opened ended) → OnOk result ((written : List ℕ) × Appends old new written × IsSession catalogue written)
-held_from old new catalogue opened ended (Ok done) served stands over sound idle law talks =
-    let h : GoesOn catalogue (no_rows catalogue) [] opened = record { going = idle.1; catalog = over; sound = sound; served = served; stands = stands } in
-    let talk = talks.stretch catalogue (no_rows catalogue) [] h in
+held_from old new catalogue opened ended (Ok done) fresh law talks =
+    let talk = talks.stretch catalogue (no_rows catalogue) [] fresh.goes_on in
     let stretch = talk.2 in (
       talk.0,
       talk.1,
       record {
         opening = standing_of catalogue opened [];
-        opened = record { served = served; none = refl; idle = idle.0 };
+        opened = record { served = fresh.goes_on.served; none = refl; idle = fresh.idle };
         end = standing_of catalogue ended stretch.later;
         pieces = stretch.pieces;
         answered = stretch.answered;
@@ -131,4 +129,4 @@ held_from old new catalogue opened ended (Ok done) served stands over sound idle
         serial = law.serial (no_rows catalogue) (unrefused desk_kept kept_of ended.machines) _ stretch.later (each_told catalogue law (exchanges_in catalogue stretch.pieces) (standing_of catalogue opened []) (standing_of catalogue ended stretch.later) [] (record { phased = refl; stated = tt; heard = refl }) stretch.answered) stretch.goes_on.served;
       },
     )
-held_from old new catalogue opened ended (Err fault) served stands over sound idle law talks = tt
+held_from old new catalogue opened ended (Err fault) fresh law talks = tt

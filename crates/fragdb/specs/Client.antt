@@ -1,5 +1,5 @@
 -- What the commands of a script come to over a database for one client, and what is shown of it.
-use Rattle.std.specs.Prelude.{◌≡◌, ◌⊎◌, ℕ, false, List, ◌++◌, flat_map, Option, Some, None, Ok, Err}
+use Rattle.std.specs.Prelude.{◌≡◌, ◌⊎◌, ℕ, false, IfErr, IfOk, List, ◌++◌, flat_map, Option, Some, None, Result, Ok, Err}
 use Rattle.terms.specs.declared.leaf.Leaf.{Leaf}
 use Rattle.meaning.specs.Whole.{FitsSchema, Relations}
 use Rattle.catalog.specs.Catalogue.{Catalogue}
@@ -128,3 +128,8 @@ pub record IsAnswered (mode : Mode) (catalogue : Catalogue) (whole : Relations) 
 -- a fault that may stop a database, or come while its answers are put together
 abbrev pub IsOfClient : ProgramFault → Type 0
 IsOfClient fault = (fault ≡ Memory) ⊎ ((why : StoreFault) × (fault ≡ Store why))
+
+-- whatever has happened before, a task is answered by what a call gives, or a fault stops the database; told_of: what is told by that
+pub record Serves {T : Type 0} (mode : Mode) (task : Reading) (told_of : T → Told) (old new : code.Solo PlainDesk PlainSite) (result : Result T ProgramFault) : Type 0 where
+  pub answers : (catalogue : Catalogue) (whole : Relations) (past : List (Deed (language (database catalogue)))) → GoesOn catalogue whole past old → IfOk result (λ given. IsAnswered mode catalogue whole task past old new (told_of given))
+  pub err : IfErr result IsOfClient

@@ -81,6 +81,11 @@ pub record IsOpened (catalogue : Catalogue) (standing : Standing catalogue) : Ty
   pub none : standing.past ≡ []
   pub idle : standing.current ≡ None
 
+-- a database was just opened over relations without rows, and goes on
+pub record IsNew (catalogue : Catalogue) (solo : code.Solo PlainDesk PlainSite) : Type 0 where
+  pub goes_on : GoesOn catalogue (no_rows catalogue) [] solo
+  pub idle : solo.current ≡ None
+
 -- A run of tasks from the opening to its end, where all is quiet or the open transaction is ready, and the serial law holds of just what was asked for and heard by them: the committed
 -- transactions, one after another over whole relations, give the answers that were heard, and what the settled fragments rebuild.
 pub record IsRun (mode : Mode) (catalogue : Catalogue) (tasks : List Reading) (written : List ℕ) (any_refused : Bool) : Type 0 where

@@ -2,6 +2,7 @@
 
 ghost use Rattle.std.specs.Prelude.{◌≡◌, ◌++◌, false, List, IfErr, IfOk, OnOk, string_bytes};
 ghost use Rattle.catalog.specs.Catalogue.{Catalogue};
+ghost use Rattle.catalog.specs.Relation.{catalogue_of};
 ghost use Rattle.meaning.specs.Whole.{Relations};
 ghost use Rattle.protocol.specs.Desk.{Deed};
 ghost use Rattle.desk.specs.Database.{language};
@@ -9,16 +10,19 @@ ghost use Rattle.desk.specs.CatalogueDatabase.{database as base};
 ghost use Rattle.world.specs.Stopping.{is_stop};
 ghost use Rattle.shell.specs.Mode.{line_in};
 ghost use Rattle.fragdb.specs.Client as client;
-ghost use Rattle.fragdb.specs.Client.{GoesOn, IsAnswered, IsOfClient, ShowsPartsOf, standing_of};
+ghost use Rattle.fragdb.specs.Client.{GoesOn, IsOfClient, Serves, ShowsPartsOf, standing_of};
 ghost use Rattle.fragdb.specs.PlayText as spec;
 ghost use Rattle.fragdb.specs.Reply.{Answered, Refused, told_by};
 ghost use Rattle.fragdb.specs.Script.{Runs, ShowsLeaf, ShowsRelation, task_of};
+ghost use Rattle.fragdb.specs.Solo.{IsNew};
 
 use crate::fault::ProgramFault;
+use crate::play_load::empty_relations;
 use crate::play_text::{refused_text, reply_text};
 use crate::reply::Reply;
 use crate::script::Item;
 use crate::shown::{leaf_written, no_leaf, parts_text, relation_text};
+use catalog::catalogue::Catalog;
 use desk::refusal::Refusal;
 use desk::reply::{Notice, Reply as Heard};
 use shell::mode::{Mode, put_answer, put_line, show_line};
@@ -30,10 +34,22 @@ use terms::leaf::Leaf;
 use terms::memory::Memory;
 use terms::text::Text;
 use world::fault::Fault;
-use world::solo::Solo;
+use world::solo::{Solo, open};
 
 /// A database over lists.
 pub type Database = Solo<PlainDesk, PlainSite>;
+
+/// A database of this catalogue, whose relations have no row.
+pub fn open_empty(alloc: Global, catalog: &Catalog) -> Result<Database, Memory>
+    ensures { IfOk result (IsNew (catalogue_of catalog.now)) }
+{
+    let whole = empty_relations(alloc, catalog.schema())?;
+    match open(alloc, catalog, &whole) {
+        Ok(database) => Ok(database),
+        // Lists refuse for want of memory alone.
+        Err(_) => Err(Memory),
+    }
+}
 
 /// What an item is answered by.
 pub fn answer<'a>(
@@ -42,8 +58,7 @@ pub fn answer<'a>(
     database: &mut Database,
     item: Item<'_>,
 ) -> Result<Reply, ProgramFault<'a>>
-    ensures answers { (catalogue : Catalogue) (whole : Relations) (past : List (Deed (language (base catalogue)))) → GoesOn catalogue whole past database.old → IfOk result (λ reply. IsAnswered mode catalogue whole (task_of item.entry) past database.old database.new (told_by reply)) }
-    ensures err { IfErr result IsOfClient }
+    ensures { Serves mode (task_of item.entry) told_by database.old database.new result }
 {
     match item {
         Item::Statement(text) => command(alloc, mode, database, text),
@@ -59,8 +74,7 @@ fn command<'a>(
     database: &mut Database,
     text: &str,
 ) -> Result<Reply, ProgramFault<'a>>
-    ensures answers { (catalogue : Catalogue) (whole : Relations) (past : List (Deed (language (base catalogue)))) → GoesOn catalogue whole past database.old → IfOk result (λ reply. IsAnswered mode catalogue whole (Runs text.now) past database.old database.new (told_by reply)) }
-    ensures err { IfErr result IsOfClient }
+    ensures { Serves mode (Runs text.now) told_by database.old database.new result }
 {
     match database.execute(text) {
         Ok(heard) => Ok(Reply::Answer(heard_text(alloc, mode, heard.as_slice())?)),
@@ -114,8 +128,7 @@ fn relation_shown<'a>(
     database: &mut Database,
     name: &str,
 ) -> Result<String, ProgramFault<'a>>
-    ensures shown { (catalogue : Catalogue) (whole : Relations) (past : List (Deed (language (base catalogue)))) → GoesOn catalogue whole past database.old → IfOk result (λ text. IsAnswered mode catalogue whole (ShowsRelation name.now) past database.old database.new (Answered (string_bytes text))) }
-    ensures err { IfErr result IsOfClient }
+    ensures { Serves mode (ShowsRelation name.now) (λ text. Answered (string_bytes text)) database.old database.new result }
 {
     let name = Text::copy_of(alloc, name)?;
     match database.rebuilt(&name) {
@@ -131,8 +144,7 @@ fn leaf_shown<'a>(
     database: &mut Database,
     name: &str,
 ) -> Result<String, ProgramFault<'a>>
-    ensures shown { (catalogue : Catalogue) (whole : Relations) (past : List (Deed (language (base catalogue)))) → GoesOn catalogue whole past database.old → IfOk result (λ text. IsAnswered mode catalogue whole (ShowsLeaf name.now) past database.old database.new (Answered (string_bytes text))) }
-    ensures err { IfErr result IsOfClient }
+    ensures { Serves mode (ShowsLeaf name.now) (λ text. Answered (string_bytes text)) database.old database.new result }
 {
     match leaf_written(alloc, database.catalog().leaves(), name)? {
         Some(leaf) => parts_shown(alloc, mode, database, &leaf, name),

@@ -9,10 +9,9 @@ ghost use Rattle.fragdb.specs.Session as spec;
 ghost use Rattle.fragdb.specs.Solo.{IsOfRun};
 
 use crate::catalog_file::{CatalogFault, read_catalog};
-use crate::client::Database;
+use crate::client::{Database, open_empty};
 use crate::explaining::explain_text;
 use crate::fault::ProgramFault;
-use crate::play_load::empty_relations;
 use crate::script::Item;
 use crate::session_word::{State, Turn, take_item, take_word, tell};
 use crate::typed::{Typed, first_of, is_whole, next_line};
@@ -27,7 +26,6 @@ use std::io;
 use std::io::{BufRead, BufReader, Read, Write};
 use std::time::{Clock, Instant};
 use world::laws::moves_follow;
-use world::solo::open;
 
 /// What a session begins with.
 const GREETING: &str =
@@ -98,11 +96,7 @@ pub fn session<'a, K: Clock, R: BufRead, W: Write, E: Write>(
     ensures err { IfErr result (IsOfSession file.entry) }
 {
     moves_follow(catalog);
-    let whole = empty_relations(alloc, catalog.schema())?;
-    // Lists refuse for want of memory alone.
-    let Ok(mut database) = open(alloc, catalog, &whole) else {
-        return Err(ProgramFault::Memory);
-    };
+    let mut database = open_empty(alloc, catalog)?;
     talk(
         alloc,
         clock,

@@ -13,10 +13,9 @@ ghost use Rattle.fragdb.specs.Script.{task_of};
 ghost use Rattle.fragdb.specs.Solo.{IsOfRead, IsOfRun, IsRun, IsStretch, IsUnrun, RunsFiles, RunsOrStops, RunsScript, longest};
 
 use crate::catalog_file::{CatalogFault, read_catalog};
-use crate::client::{Database, answer};
+use crate::client::{Database, answer, open_empty};
 use crate::fault::ProgramFault;
 use crate::input::read_up_to;
-use crate::play_load::empty_relations;
 use crate::script::{Item, items};
 use catalog::catalogue::Catalog;
 use shell::mode::Mode;
@@ -24,7 +23,6 @@ use std::alloc::Global;
 use std::io;
 use std::io::{Read, Write};
 use world::laws::moves_follow;
-use world::solo::open;
 
 /// How many bytes a script may have.
 pub const SCRIPT_LIMIT: u64 = 1_048_576;
@@ -124,11 +122,7 @@ fn run<'a, W: Write>(
     ensures err { IfErr result IsOfRun }
 {
     moves_follow(&catalog);
-    let whole = empty_relations(alloc, catalog.schema())?;
-    // Lists refuse for want of memory alone.
-    let Ok(mut database) = open(alloc, &catalog, &whole) else {
-        return Err(ProgramFault::Memory);
-    };
+    let mut database = open_empty(alloc, &catalog)?;
     run_items(alloc, mode, &mut database, items, output)
 }
 

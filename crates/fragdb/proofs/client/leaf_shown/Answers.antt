@@ -7,25 +7,31 @@ use Rattle.fragdb.specs.Client.{ShowsLeafAs, standing_of}
 use Rattle.fragdb.specs.Shown.{written_leaf}
 use Rattle.fragdb.proofs.client.leaf_shown.Goals as goal
 
-pub returns-in-Some-clause-shown : goal.returns-in-Some-clause-shown
-returns-in-Some-clause-shown c = λ catalogue whole past h.
-    let over = ap catalogue_of c.catalog.ensures ∙ h.catalog in
-    let is : Some c.in-Some.leaf ≡ written_leaf c.args.name.now (catalogue_leaves catalogue) =
-    sym c.in-Some.is ∙ c.in_ok-leaf.ensures ∙ ap (written_leaf c.args.name.now) (c.leaves.ensures.leaves ∙ ap catalogue_leaves over) in
-    IfOk-weaker c.parts_shown.result _ _ (λ text shown. record {
-      later = past;
-      goes_on = shown.0;
-      answers = subst (λ (found : Option Leaf). ShowsLeafAs c.args.mode catalogue c.args.name.now found (standing_of catalogue c.args.database.now past) (standing_of catalogue c.parts_shown.new.database past) (string_bytes text)) is shown.1;
-    }) (c.parts_shown.ensures.shown catalogue whole past h)
+pub returns-in-Some : goal.returns-in-Some
+returns-in-Some c = record {
+  answers = λ catalogue whole past h.
+      let over = ap catalogue_of c.catalog.ensures ∙ h.catalog in
+      let is : Some c.in-Some.leaf ≡ written_leaf c.args.name.now (catalogue_leaves catalogue) =
+      sym c.in-Some.is ∙ c.in_ok-leaf.ensures ∙ ap (written_leaf c.args.name.now) (c.leaves.ensures.leaves ∙ ap catalogue_leaves over) in
+      IfOk-weaker c.parts_shown.result _ _ (λ text shown. record {
+        later = past;
+        goes_on = shown.0;
+        answers = subst (λ (found : Option Leaf). ShowsLeafAs c.args.mode catalogue c.args.name.now found (standing_of catalogue c.args.database.now past) (standing_of catalogue c.parts_shown.new.database past) (string_bytes text)) is shown.1;
+      }) (c.parts_shown.ensures.shown catalogue whole past h);
+  err = c.parts_shown.ensures.err;
+}
 
-pub returns-in_ok-no_leaf-in-None-clause-shown : goal.returns-in_ok-no_leaf-in-None-clause-shown
-returns-in_ok-no_leaf-in-None-clause-shown c = λ catalogue whole past h.
-    let over = ap catalogue_of c.catalog.ensures ∙ h.catalog in
-    let is : None ≡ written_leaf c.args.name.now (catalogue_leaves catalogue) =
-    sym c.in-None.is ∙ c.in_ok-leaf.ensures ∙ ap (written_leaf c.args.name.now) (c.leaves.ensures.leaves ∙ ap catalogue_leaves over) in
-    let here = standing_of catalogue c.args.database.now past in
-    record {
-      later = past;
-      goes_on = h;
-      answers = subst (λ (found : Option Leaf). ShowsLeafAs c.args.mode catalogue c.args.name.now found here here (string_bytes c.in_ok-no_leaf-in-None.field-0)) is (refl, c.in_ok-no_leaf-in-None.ensures);
-    }
+pub returns-in_ok-no_leaf-in-None : goal.returns-in_ok-no_leaf-in-None
+returns-in_ok-no_leaf-in-None c = record {
+  answers = λ catalogue whole past h.
+      let over = ap catalogue_of c.catalog.ensures ∙ h.catalog in
+      let is : None ≡ written_leaf c.args.name.now (catalogue_leaves catalogue) =
+      sym c.in-None.is ∙ c.in_ok-leaf.ensures ∙ ap (written_leaf c.args.name.now) (c.leaves.ensures.leaves ∙ ap catalogue_leaves over) in
+      let here = standing_of catalogue c.args.database.now past in
+      record {
+        later = past;
+        goes_on = h;
+        answers = subst (λ (found : Option Leaf). ShowsLeafAs c.args.mode catalogue c.args.name.now found here here (string_bytes c.in_ok-no_leaf-in-None.field-0)) is (refl, c.in_ok-no_leaf-in-None.ensures);
+      };
+  err = tt;
+}
