@@ -1,5 +1,5 @@
 -- A life of the coordinator begins: what the rows that its store keeps make of its memory, and what a restart puts out.
-use Rattle.std.specs.Prelude.{◌≡◌, ℕ, nat_eq, Bool, true, false, ◌&&◌, nat_le, List, [], ◌∷◌, map, Option, Some, None}
+use Rattle.std.specs.Prelude.{◌≡◌, ◌⊎◌, ◌≤◌, ◌+◌, ◌^◌, ⊤, ℕ, nat_eq, Bool, true, false, ◌&&◌, nat_le, List, [], ◌∷◌, map, Option, Some, None}
 use Rattle.std.specs.BTreeMap.{insert_entry}
 use Rattle.std.specs.Cmp.Lexicographic.{pointwise}
 use Rattle.std.specs.List.{AllByRecursion, filter_map, find, flat_map, list_all, list_any}
@@ -8,11 +8,14 @@ use Rattle.std.specs.Option.{option_map}
 use Rattle.store.specs.declared.commit.CommitRow.{CommitRow}
 use Rattle.store.specs.declared.commit.DeskKept.{DeskKept}
 use Rattle.store.specs.declared.commit.Voter.{Voter}
+use Rattle.store.specs.declared.fault.StoreFault.TheVariants as store_faults
 use Rattle.store.specs.declared.letter.Letter.{Letter}
 use Rattle.store.specs.declared.name.Txn.{Txn}
 use Rattle.store.specs.DeskContent.{DeskContent, Lists, Voters, by_site, voters_in}
 use Rattle.store.specs.Name.{txn_cmp}
 use Rattle.protocol.specs.Desk as protocol
+use Rattle.desk.specs.declared.refusal.Refusal as refusals
+use Rattle.desk.specs.declared.refusal.Refusal.TheVariants as refusal
 use Rattle.desk.specs.declared.reply.Notice.{Notice}
 use Rattle.desk.specs.declared.reply.Reply.TheVariants as reply
 use Rattle.desk.specs.declared.reply.Why.TheVariants as why
@@ -107,3 +110,12 @@ pub record Restarts (db : Database) (before : VolatileState) (kept : DeskContent
   pub letters : map (sent db) written ≡ flat_map (λ t. (protocol.txn_restarted t ((desk_of db before).txn t)).letters) (desk_of db before).known
   pub again : SendsAgain db.sites kept written
   pub replies : map notice_of notices ≡ filter_map (told db) (flat_map (λ t. (protocol.txn_restarted t ((desk_of db before).txn t)).deeds) (desk_of db before).known)
+
+-- Why the coordinator of these sites doesn't restart: memory ran out, its last life has begun, its store refused or wasn't to be called (kept is false), or the
+-- rows that it keeps can be no coordinator's. Sound: that the store is clean now and was sound; Refused: that the medium has refused meanwhile
+abbrev pub DeskRestartTells : (Sound Refused : Type 0) → Bool → List (List ℕ) → DeskContent → refusals.Refusal → Type 0
+DeskRestartTells Sound Refused kept sites content refusal.Memory = ⊤
+DeskRestartTells Sound Refused kept sites content refusal.Full = Sound → 2 ^ 63 ≤ content.life + 1
+DeskRestartTells Sound Refused kept sites content (refusal.Store store_faults.Refused) = (kept ≡ false) ⊎ Refused
+DeskRestartTells Sound Refused kept sites content (refusal.Store store_faults.Damaged) = Sound → IsStrange sites content
+DeskRestartTells Sound Refused kept sites content other = ⊥

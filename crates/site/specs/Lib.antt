@@ -8,6 +8,7 @@ pub mod PointRead
 pub mod State
 pub mod Moves
 pub mod Recovery
+pub mod Seat
 pub mod Inquiries
 pub mod Youngest
 pub mod Settled

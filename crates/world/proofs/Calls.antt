@@ -17,10 +17,10 @@ use Rattle.desk.specs.OfCatalogue.{IsOfCatalogue}
 use Rattle.world.specs.declared.event.Call as calls
 use Rattle.world.specs.declared.event.Call.TheVariants as call
 use Rattle.world.specs.declared.machines.Machines as code
-use Rattle.world.specs.Commands.{IsCommand, IsLone, IsTakenBack, IsUnreadable, TakesBack, heard_in, is_lone, is_no_command, is_single}
+use Rattle.world.specs.Commands.{IsCommand, IsLone, IsTakenBack, IsUnreadable, TakesBack, heard_in, is_lone, is_no_command, makes_none}
 use Rattle.world.specs.Counted.{counts}
 use Rattle.world.specs.Contents.{OfStores, counted}
-use Rattle.world.specs.Course.{IsTurnedDown, Move, Moves, Refuses}
+use Rattle.world.specs.Course.{IsOne, IsTurnedDown, Move, Moves, Refuses}
 use Rattle.world.specs.Frame.{Blames, ComesTo, HasMade, LeavesMachines, MakesMoves, OverDatabase, StaysServed}
 use Rattle.world.specs.Machines.{Machines}
 use Rattle.world.specs.Stopping.{StopsFor, is_stop}
@@ -44,11 +44,6 @@ goes_for_any before after (told_as.Store fault) goes = cc
 -- which moves are made by a call with this answer
 abbrev pub Kind : Type 0 → Type 1
 Kind T = Database → Result T Refusal → List Move → Type 0
-
--- a call that stands for moves of a client, by what it answers
-abbrev pub IsOne : {T : Type 0} → (T → Move) → calls.Call → Result T Refusal → List Move → Type 0
-IsOne move asked (Ok x) moves = moves ≡ move x ∷ []
-IsOne move asked (Err told) moves = moves ≡ Refuses asked told ∷ []
 
 -- moves that were made, where the answer doesn't stop the database
 pub made_of : {T : Type 0} (db : Database) (before after : Machines) (told : Refusal) (K : Result T Refusal → List Move → Type 0) → is_stop told ≡ false → MakesMoves db before after (Err told) K → HasMade db before after (K (Err told))
@@ -154,7 +149,7 @@ module _ {D S : Type 0} (IsClean IsSound : code.Machines D S → Type 0) (view :
   -- a text is no command's
   pub unread : {T : Type 0} {items : T → List Notice} (machines : code.Machines D S) (told : Refusal) (text : List ℕ) (current : Option Txn) → ((db : Database) → IsOfCatalogue db → db.catalogue ≡ catalogue_of machines.desk.catalog → IsUnreadable db.schemas text told) → StopsFor (view machines).refused (view machines).refused told →
       ComesTo IsClean IsSound view machines machines (Err told) (λ db done moves. IsCommand db.schemas text current current moves (heard_in items done))
-  unread machines told text current none blames = stays machines (Err told) blames (λ db of is. ⊎_elim (λ memory. inl (is_memory told memory)) (λ no. inr (record { moves = []; made = refl; is = is_single (refl, (told, refl, is_no_command no)) })) (none db of is))
+  unread machines told text current none blames = stays machines (Err told) blames (λ db of is. ⊎_elim (λ memory. inl (is_memory told memory)) (λ no. inr (record { moves = []; made = refl; is = makes_none told refl (is_no_command no) refl refl })) (none db of is))
 
 -- a call of the client, by its clauses
 module _ {D S : Type 0} (desk_is_clean : D → Type 0) (site_is_clean : S → Type 0) (desk_is_sound : D → Type 0) (site_is_sound : S → Type 0) (desk_kept : D → DeskContent) (site_kept : S → SiteContent) (desk_refused : D → ℕ) (site_refused : S → ℕ) where

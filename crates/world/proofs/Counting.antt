@@ -13,7 +13,7 @@ use Rattle.protocol.specs.Delivery.{AllKept, Coming}
 use Rattle.site.specs.declared.site.Site.{Site}
 use Rattle.world.specs.declared.machines.Machines as code
 use Rattle.world.specs.Counted.{HaveRefused, KeptUnless, NoFewer, counts, counts_of}
-use Rattle.world.specs.Frame.{CallsNoStore, stores_of}
+use Rattle.world.specs.Frame.{CallsNoStore}
 use Rattle.world.specs.Contents.{held, unrefused}
 use Rattle.world.specs.Machines.{AreFit, Leads, Machines}
 use Rattle.world.specs.Seated.{seats_in}
@@ -124,7 +124,7 @@ same_unrefused of_desk of_site one other same =
     (ap (λ (counts : List ℕ). 0 ∷ counts) (zeros of_site one.sites.items ∙ ap (λ (machines : Machines). map (λ (seat : Seat). 0) machines.seats) same ∙ sym (zeros of_site other.sites.items)))
 
 -- where no store has been called none has refused
-counted_stores : {S : Type 0} (refused : S → ℕ) (sites : List (Site S)) → counts_of refused sites ≡ map refused (stores_of sites)
+counted_stores : {S : Type 0} (refused : S → ℕ) (sites : List (Site S)) → counts_of refused sites ≡ map refused (map (λ site. site.store) sites)
 counted_stores refused [] = refl
 counted_stores refused (site ∷ sites) = ap (λ (counts : List ℕ). refused site.store ∷ counts) (counted_stores refused sites)
 

@@ -217,14 +217,16 @@ module _ (db : Database) (ask : Ask (language db)) (before mid : Machines) (out 
   }
 
   pub call_serves : (after : Machines) (heard : List Notice) → Goes db (λ w. w) (put_out_by mid out) (settled after heard) → Serves db ask before after heard
-  call_serves after heard goes = then_goes db (asked ask) (at_rest before) (put_out_by mid out) called_goes (settled after heard) goes
+  call_serves after heard goes =
+      let all = then_goes db (asked ask) (at_rest before) (put_out_by mid out) called_goes (settled after heard) goes in
+      record { comings = all.comings; deeds = all.deeds; fit = all.fit; is = all.is; founded = all.founded tt; counts = all.counts; kept = all.kept; explained = all.explained; replies = all.replies }
 
   pub call_fails : (after : Machines) → Breaks db (λ w. w) (put_out_by mid out) after → Fails db before after
   call_fails after breaks = inr (ask, then_breaks db (asked ask) (at_rest before) (put_out_by mid out) called_goes after breaks)
 
 -- a call that went well may be said of as one that failed
 pub serves_fails : (db : Database) (ask : Ask (language db)) (before after : Machines) (heard : List Notice) → Serves db ask before after heard → Fails db before after
-serves_fails db ask before after heard serves = inr (ask, goes_breaks db (asked ask) (at_rest before) (settled after heard) serves)
+serves_fails db ask before after heard serves = inr (ask, record { comings = serves.comings; deeds = serves.deeds; left = []; fit = serves.fit; is = serves.is; explained = serves.explained })
 
 -- ---- rounds
 pub all_in_round : (db : Database) (n count : ℕ) (here : Scene) → count ≡ length here.waiting → RanksUnder (suc n) (world_at db here) → IsInRound db n count here

@@ -20,7 +20,7 @@ use Rattle.world.specs.Committed.{committed_of}
 use Rattle.world.specs.Machines.{Machines, world_of}
 use Rattle.world.specs.Posted.{letters_in}
 use Rattle.world.specs.Runs.{AreTexts, IsSerialRun}
-use Rattle.world.specs.Replies.{AreStated, Tells, answer_of, answers_to, committed_in, is_told_committed, is_txn, notices_in, phased_in, says_committed, texts_in, texts_of}
+use Rattle.world.specs.Replies.{AreStated, Tells, answer_of, answers_to, committed_in, is_told_committed, is_txn, notices_in, phased_in, is_commit, texts_in, texts_of}
 
 -- ---- small lemmas
 and_true : (b : Bool) → (b && true) ≡ b
@@ -64,7 +64,7 @@ map_twice g f (x ∷ xs) = ap (λ rest. g (f x) ∷ rest) (map_twice g f xs)
 module _ (db : Database) where
   -- ---- who committed
   abbrev tells_commit : Name → Name × replies.Reply → Bool
-  tells_commit n heard = same heard.0 n && says_committed heard.1
+  tells_commit n heard = same heard.0 n && is_commit heard.1
 
   told_commit : (n : Name) (past : List (Deed (language db))) → list_any (tells_commit n) (filter_map (told db) past) ≡ is_committed past n
   told_commit n [] = refl

@@ -53,5 +53,5 @@ pub mod Outcomes
 pub mod Calls
 pub mod Lone
 pub mod Batches
-pub mod BatchTold
+pub mod BatchCalls
 pub mod BatchRuns

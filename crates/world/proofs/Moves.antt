@@ -1,13 +1,16 @@
 -- The moves of a command, case by case.
-use Rattle.std.proofs.Common.{◌≡◌, sym, subst, ℕ, true, false, List, [], ◌∷◌, ◌++◌, Option, Some, None, Ok, Err}
+use Rattle.std.proofs.Common.{◌≡◌, sym, subst, ℕ, true, false, List, [], ◌∷◌, ◌++◌, Option, Some, None, Result, Ok, Err}
 use Rattle.meaning.specs.declared.schema.RelationSchema.{RelationSchema}
+use Rattle.meaning.specs.declared.statement.Statement.{Statement}
+use Rattle.reader.specs.declared.command.Command.TheVariants.{Run}
+use Rattle.reader.specs.Command.{IsTextOf}
 use Rattle.store.specs.declared.name.Txn.{Txn}
 use Rattle.desk.specs.declared.refusal.Refusal.{Refusal}
 use Rattle.desk.specs.declared.reply.Notice.{Notice}
 use Rattle.world.specs.declared.event.Call as calls
 use Rattle.world.specs.declared.event.Call.TheVariants as call
 use Rattle.world.specs.Client.{autocommit_reply, is_end, still_open, tells}
-use Rattle.world.specs.Commands.{IsCallOf, IsDecided, IsLone, IsMisplaced, IsSingle, IsStated, IsTakenBack, Reply}
+use Rattle.world.specs.Commands.{IsCallOf, IsCommand, IsDecided, IsLone, IsMisplaced, IsStated, IsTakenBack, is_lone, is_turned_down, makes_none, only_begins, only_commits, only_rolls_back, only_states}
 use Rattle.world.specs.Course.{Begins, Commits, Move, Refuses, Rolls_back, States}
 
 -- a transaction is taken back
@@ -27,7 +30,7 @@ module _ (txn : Txn) (P : List Move → Type 0) (rolls_back : (heard : List Noti
   back_cases (Refuses (call.GiveUp t) told ∷ moves) none = absurd none
 
 -- a lone statement of which this was told is decided
-module _ (txn : Txn) (told : List Notice) (reply : Reply) (P : List Move → Type 0) (ended : tells is_end told ≡ true → reply ≡ Ok (autocommit_reply told) → P [])
+module _ (txn : Txn) (told : List Notice) (reply : Result (List Notice) Refusal) (P : List Move → Type 0) (ended : tells is_end told ≡ true → reply ≡ Ok (autocommit_reply told) → P [])
     (commits : (decided : List Notice) → tells is_end told ≡ false → reply ≡ Ok (autocommit_reply (told ++ decided)) → P (Commits txn decided ∷ []))
     (refused : (why : Refusal) (back : List Move) → tells is_end told ≡ false → IsTakenBack txn back → reply ≡ Err why → P (Refuses (call.Commit txn) why ∷ back)) where
   pub decided_cases : (moves : List Move) → IsDecided txn told moves reply → P moves
@@ -44,7 +47,7 @@ module _ (txn : Txn) (told : List Notice) (reply : Reply) (P : List Move → Typ
   decided_cases (Refuses (call.GiveUp t) why ∷ moves) none = absurd none
 
 -- it is stated, after its transaction has begun
-module _ (text : List ℕ) (txn : Txn) (greeted : List Notice) (reply : Reply) (P : List Move → Type 0) (states : (answered : List Notice) (moves : List Move) → IsDecided txn (greeted ++ answered) moves reply → P (States txn text answered ∷ moves))
+module _ (text : List ℕ) (txn : Txn) (greeted : List Notice) (reply : Result (List Notice) Refusal) (P : List Move → Type 0) (states : (answered : List Notice) (moves : List Move) → IsDecided txn (greeted ++ answered) moves reply → P (States txn text answered ∷ moves))
     (refused : (why : Refusal) (back : List Move) → IsTakenBack txn back → reply ≡ Err why → P (Refuses (call.State txn text) why ∷ back)) where
   pub stated_cases : (moves : List Move) → IsStated text txn greeted moves reply → P moves
   stated_cases [] none = absurd none
@@ -59,7 +62,7 @@ module _ (text : List ℕ) (txn : Txn) (greeted : List Notice) (reply : Reply) (
   stated_cases (Refuses (call.GiveUp t) why ∷ moves) none = absurd none
 
 -- a lone statement
-module _ (text : List ℕ) (reply : Reply) (P : List Move → Type 0) (begins : (txn : Txn) (greeted : List Notice) (moves : List Move) → IsStated text txn greeted moves reply → P (Begins txn greeted ∷ moves))
+module _ (text : List ℕ) (reply : Result (List Notice) Refusal) (P : List Move → Type 0) (begins : (txn : Txn) (greeted : List Notice) (moves : List Move) → IsStated text txn greeted moves reply → P (Begins txn greeted ∷ moves))
     (refused : (why : Refusal) → reply ≡ Err why → P (Refuses call.Begin why ∷ [])) where
   pub lone_cases : (moves : List Move) → IsLone text moves reply → P moves
   lone_cases [] none = absurd none
@@ -74,22 +77,19 @@ module _ (text : List ℕ) (reply : Reply) (P : List Move → Type 0) (begins : 
   lone_cases (Refuses (call.Rollback t) why ∷ moves) none = absurd none
   lone_cases (Refuses (call.GiveUp t) why ∷ moves) none = absurd none
 
--- any other command
-module _ (schemas : List RelationSchema) (text : List ℕ) (current later : Option Txn) (reply : Reply) (P : List Move → Type 0) (at_once : later ≡ current → (told : Refusal) → reply ≡ Err told → IsMisplaced schemas text current told → P [])
+-- any command
+module _ (schemas : List RelationSchema) (text : List ℕ) (current later : Option Txn) (reply : Result (List Notice) Refusal) (P : List Move → Type 0) (at_once : later ≡ current → (told : Refusal) → reply ≡ Err told → IsMisplaced schemas text current told → P [])
     (begins : (txn : Txn) (heard : List Notice) → IsCallOf schemas text current call.Begin → later ≡ Some txn → reply ≡ Ok heard → P (Begins txn heard ∷ []))
     (states : (txn : Txn) (stated : List ℕ) (heard : List Notice) → IsCallOf schemas text current (call.State txn stated) → later ≡ still_open current heard → reply ≡ Ok heard → P (States txn stated heard ∷ []))
     (commits : (txn : Txn) (heard : List Notice) → IsCallOf schemas text current (call.Commit txn) → later ≡ None → reply ≡ Ok heard → P (Commits txn heard ∷ []))
     (rolls_back : (txn : Txn) (heard : List Notice) → IsCallOf schemas text current (call.Rollback txn) → later ≡ None → reply ≡ Ok heard → P (Rolls_back txn heard ∷ []))
-    (refuses : (asked : calls.Call) (told : Refusal) → IsCallOf schemas text current asked → later ≡ current → reply ≡ Err told → P (Refuses asked told ∷ [])) where
-  pub single_cases : (moves : List Move) → IsSingle schemas text current later moves reply → P moves
-  single_cases [] is = at_once is.0 is.1.0 is.1.1 is.1.2
-  single_cases (Begins txn heard ∷ []) is = begins txn heard is.0 is.1 is.2
-  single_cases (Begins txn heard ∷ (move ∷ moves)) none = absurd none
-  single_cases (States txn stated heard ∷ []) is = states txn stated heard is.0 is.1 is.2
-  single_cases (States txn stated heard ∷ (move ∷ moves)) none = absurd none
-  single_cases (Commits txn heard ∷ []) is = commits txn heard is.0 is.1 is.2
-  single_cases (Commits txn heard ∷ (move ∷ moves)) none = absurd none
-  single_cases (Rolls_back txn heard ∷ []) is = rolls_back txn heard is.0 is.1 is.2
-  single_cases (Rolls_back txn heard ∷ (move ∷ moves)) none = absurd none
-  single_cases (Refuses asked told ∷ []) is = refuses asked told is.0 is.1 is.2
-  single_cases (Refuses asked told ∷ (move ∷ moves)) none = absurd none
+    (refuses : (asked : calls.Call) (told : Refusal) → IsCallOf schemas text current asked → later ≡ current → reply ≡ Err told → P (Refuses asked told ∷ []))
+    (lone : (moves : List Move) (statement : Statement) → IsTextOf schemas text (Run statement) → current ≡ None → later ≡ None → IsLone text moves reply → P moves) where
+  pub command_cases : (moves : List Move) → IsCommand schemas text current later moves reply → P moves
+  command_cases moves (makes_none told is misplaced still says) = subst P (sym is) (at_once still told says misplaced)
+  command_cases moves (only_begins txn heard is of opens says) = subst P (sym is) (begins txn heard of opens says)
+  command_cases moves (only_states txn stated heard is of still says) = subst P (sym is) (states txn stated heard of still says)
+  command_cases moves (only_commits txn heard is of none says) = subst P (sym is) (commits txn heard of none says)
+  command_cases moves (only_rolls_back txn heard is of none says) = subst P (sym is) (rolls_back txn heard of none says)
+  command_cases moves (is_turned_down asked told is of still says) = subst P (sym is) (refuses asked told of still says)
+  command_cases moves (is_lone statement spelled none after_none of) = lone moves statement spelled none after_none of

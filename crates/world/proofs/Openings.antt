@@ -32,7 +32,7 @@ use Rattle.site.specs.declared.tickets.TicketState as standings
 use Rattle.site.specs.declared.tickets.TicketState.TheVariants as standing
 use Rattle.site.specs.Recovery.{resting}
 use Rattle.site.specs.State.{stands, txn_in, visiting}
-use Rattle.world.specs.Machines.{AreFit, HasItsLeaves, Machines, world_of}
+use Rattle.world.specs.Machines.{AreFit, Machines, world_of}
 use Rattle.world.specs.Placed.{IsPlaced, Opens}
 use Rattle.world.specs.Start.{AllStarted, IsAtRest, IsStarted}
 use Rattle.world.specs.Sites.{Seat, is_called, nobody, seat_of, state_at, states_of}

@@ -23,8 +23,8 @@ use Rattle.desk.specs.State.{notice_of}
 use Rattle.world.specs.declared.event.Call as calls
 use Rattle.world.specs.declared.event.Call.TheVariants as call
 use Rattle.world.specs.Client.{IsServed, autocommit_reply, is_end, still_open, tells}
-use Rattle.world.specs.Commands.{CommandsFollow, Executes, IsCallOf, IsCommand, IsDecided, IsDenied, IsLone, IsSingle, IsStated, IsTakenBack, MovesFollow, Outcome, Reply, UnlessStopped, finds_no_number, has_answered, has_begun, has_committed, has_rolled_back, heard_in, is_hindered, is_lone, is_misplaced, is_refused, is_single, is_too_much, is_too_much_alone}
-use Rattle.world.specs.Course.{Begins, Made, Move, SomeHindered, States, deeds_in, said_in}
+use Rattle.world.specs.Commands.{CommandsFollow, Executes, IsCallOf, IsCommand, IsDecided, IsLone, IsStated, IsTakenBack, MovesFollow, Outcome, UnlessStopped, finds_no_number, has_answered, has_begun, has_committed, has_rolled_back, heard_in, is_hindered, is_misplaced, is_too_much, is_too_much_alone}
+use Rattle.world.specs.Course.{Begins, Made, Move, Refuses, SomeHindered, States, deeds_in, said_in}
 use Rattle.world.specs.Executed.{ObeysUnlessRefused, Stands}
 use Rattle.world.specs.Frame.{MakesMoves}
 use Rattle.world.specs.Machines.{Machines}
@@ -33,12 +33,12 @@ use Rattle.world.specs.Settling.{GrowsQuiet}
 use Rattle.world.proofs.Deeds.{CommitsNone, committed_none, move_served}
 use Rattle.world.proofs.Denials.{is_full, no_commit, no_rollback}
 use Rattle.world.proofs.Executed.{heard_alone, not_ended, still_there, tells_more}
-use Rattle.world.proofs.Moves.{back_cases, decided_cases, lone_cases, single_cases, stated_cases}
+use Rattle.world.proofs.Moves.{back_cases, command_cases, decided_cases, lone_cases, stated_cases}
 use Rattle.world.proofs.RoomToBegin.{numbers_run_out}
 use Rattle.world.proofs.Standing.{begun, command_stands, stands_whenever, stated}
 
 -- ---- a command that is refused commits nothing
-module _ (db : Database) (told : refusals.Refusal) (reply : Reply) (is : reply ≡ Err told) where
+module _ (db : Database) (told : refusals.Refusal) (reply : Result (List Notice) refusals.Refusal) (is : reply ≡ Err told) where
   not_heard : {A : Type 0} (heard : List Notice) → reply ≡ Ok heard → A
   not_heard heard says = let e : Ok heard ≡ Err told = sym says ∙ is in cc
 
@@ -53,12 +53,11 @@ module _ (db : Database) (told : refusals.Refusal) (reply : Reply) (is : reply �
       (λ why says. tt)
 
   pub refused_none : (schemas : _) (text : List ℕ) (current later : Option Txn) (moves : List Move) → IsCommand schemas text current later moves reply → CommitsNone db moves
-  refused_none schemas text current later moves (is_single single) = single_cases schemas text current later reply (CommitsNone db) (λ still why says misplaced. tt) (λ txn heard of some says. tt) (λ txn given heard of still says. tt)
-      (λ txn heard of none says. not_heard heard says) (λ txn heard of none says. tt) (λ asked why of still says. tt) moves single
-  refused_none schemas text current later moves (is_lone statement spelled none after_none lone) = lone_none text moves lone
+  refused_none schemas text current later = command_cases schemas text current later reply (CommitsNone db) (λ still why says misplaced. tt) (λ txn heard of some says. tt) (λ txn given heard of still says. tt)
+      (λ txn heard of none says. not_heard heard says) (λ txn heard of none says. tt) (λ asked why of still says. tt) (λ moves statement spelled none after_none lone. lone_none text moves lone)
 
 -- ---- outcomes
-module _ (db : Database) (fits : Leaf → Content → Bool) (reached : ReachedLaw (language db)) (obeys : ObeysUnlessRefused db fits) (law : GrowsQuiet db fits) (same_schemas : db.schemas ≡ schemas_of db.catalogue) (one : OneCommandOfText) (whole : Relations) (text : List ℕ) (reply : Reply) where
+module _ (db : Database) (fits : Leaf → Content → Bool) (reached : ReachedLaw (language db)) (obeys : ObeysUnlessRefused db fits) (law : GrowsQuiet db fits) (same_schemas : db.schemas ≡ schemas_of db.catalogue) (one : OneCommandOfText) (whole : Relations) (text : List ℕ) (reply : Result (List Notice) refusals.Refusal) where
   -- a lone statement was answered
   pub record IsAnswered (txn : Txn) : Type 0 where
     pub heard : List Notice
@@ -131,23 +130,23 @@ module _ (db : Database) (fits : Leaf → Content → Bool) (reached : ReachedLa
         (λ ended. ⊎_elim
         (λ (is_so : IsAnswered txn). has_answered txn statement is_so.heard is_so.answer is_so.says spelled (after_none ∙ sym none) is_so.hears)
         (λ hindered. is_hindered hindered.heard hindered.says (inr hindered.some)) ended)
-        (λ (limit : MeetsLimit txn made.0). is_refused limit.told limit.says (after_none ∙ sym none) (is_too_much_alone txn made.0 greeted none does limit.full limit.past_limits))
+        (λ (limit : MeetsLimit txn made.0). is_too_much_alone limit.told limit.says (after_none ∙ sym none) limit.full txn made.0 greeted none does limit.past_limits)
         (stated_comes statement spelled more txn greeted made.0 after (move_served db whole reached (Begins txn greeted) before made.0 past served does) (stands_whenever db fits (Some txn) made.0 past more done.0) done.1 moves is made.2))
-        (λ why says made. is_refused why says (after_none ∙ sym none) (finds_no_number none (inr (statement, spelled)) made.1.0.0 (numbers_run_out db before past served.fit (as_open None none) made.1.0.1)))
+        (λ why says made. finds_no_number why says (after_none ∙ sym none) made.1.0.0 none (inr (statement, spelled)) (numbers_run_out db before past served.fit (as_open None none) made.1.0.1))
 
     -- a single call is refused
-    call_refused : (asked : calls.Call) (told : refusals.Refusal) → IsCallOf db.schemas text current asked → IsRefused db before.table asked told → IsDenied db text current before told
-    call_refused call.Begin told is refused = finds_no_number is.1 (inl is.0) refused.0 (numbers_run_out db before past served.fit (as_open None is.1) refused.1)
-    call_refused (call.State txn given) told is refused =
+    call_refused : (moves : List Move) (made : Made db moves before after) (asked : calls.Call) (told : refusals.Refusal) → reply ≡ Err told → later ≡ current → IsCallOf db.schemas text current asked → IsRefused db before.table asked told → Comes moves made
+    call_refused moves made call.Begin told says still is refused = finds_no_number told says still refused.0 is.1 (inl is.0) (numbers_run_out db before past served.fit (as_open None is.1) refused.1)
+    call_refused moves made (call.State txn given) told says still is refused =
         let full = is_full db fits same_schemas one text is.0.0 is.0.1 txn before past told (as_open (Some txn) is.1) (subst (λ (x : List ℕ). IsRefused db before.table (call.State txn x) told) is.2 refused) in
-        is_too_much txn is.1 full.0 full.1
-    call_refused (call.Commit txn) told is refused = absurd (no_commit db fits txn before past told (as_open (Some txn) is.1) refused)
-    call_refused (call.Rollback txn) told is refused = absurd (no_rollback db fits txn before past told (as_open (Some txn) is.1) refused)
-    call_refused (call.GiveUp txn) told is refused = absurd is
+        is_too_much told says still full.0 txn is.1 full.1
+    call_refused moves made (call.Commit txn) told says still is refused = absurd (no_commit db fits txn before past told (as_open (Some txn) is.1) refused)
+    call_refused moves made (call.Rollback txn) told says still is refused = absurd (no_rollback db fits txn before past told (as_open (Some txn) is.1) refused)
+    call_refused moves made (call.GiveUp txn) told says still is refused = absurd is
 
-    single_comes : (moves : List Move) → IsSingle db.schemas text current later moves reply → (made : Made db moves before after) → Comes moves made
-    single_comes = single_cases db.schemas text current later reply (λ moves. (made : Made db moves before after) → Comes moves made)
-        (λ still told says misplaced same. is_refused told says still (is_misplaced misplaced))
+    pub command_comes : (moves : List Move) → IsCommand db.schemas text current later moves reply → (made : Made db moves before after) → Comes moves made
+    command_comes = command_cases db.schemas text current later reply (λ moves. (made : Made db moves before after) → Comes moves made)
+        (λ still told says misplaced same. is_misplaced told says still misplaced)
         (λ txn heard is some says made. has_begun txn heard says is.0 some (begun db fits reached obeys law whole past txn before made.0 heard served (as_open None is.1) made.1).1)
         (λ txn given heard is still says made. ⊎_elim
         (λ done. has_answered txn is.0.0 heard done.1.0 says is.0.1 (still ∙ ap (λ (c : Option Txn). still_open c heard) is.1 ∙ still_there txn heard done.1.0 done.1.1 ∙ sym is.1) done.1.1)
@@ -155,11 +154,8 @@ module _ (db : Database) (fits : Leaf → Content → Bool) (reached : ReachedLa
         (obeys.states whole before made.0 past given txn heard served (as_open (Some txn) is.1) made.1))
         (λ txn heard is none says made. ⊎_elim (λ done. has_committed txn heard says is.0 is.1 done.1) (λ hindered. is_hindered heard says (inl hindered)) (obeys.commits whole before made.0 past txn heard served (as_open (Some txn) is.1) made.1))
         (λ txn heard is none says made. ⊎_elim (λ done. has_rolled_back txn heard says is.0 is.1 done.1) (λ hindered. is_hindered heard says (inl hindered)) (obeys.rolls_back whole before made.0 past txn heard served (as_open (Some txn) is.1) made.1))
-        (λ asked told is still says made. is_refused told says still (call_refused asked told is made.1.0))
-
-    pub command_comes : (moves : List Move) → IsCommand db.schemas text current later moves reply → (made : Made db moves before after) → Comes moves made
-    command_comes moves (is_single is) made = single_comes moves is made
-    command_comes moves (is_lone statement spelled none after_none is) made = lone_comes statement spelled none after_none moves is made
+        (λ asked told is still says made. call_refused (Refuses asked told ∷ []) made asked told says still is made.1.0)
+        (λ moves statement spelled none after_none is. lone_comes statement spelled none after_none moves is)
 
 -- ---- the law
 pub commands_follow : (db : Database) (fits : Leaf → Content → Bool) → ReachedLaw (language db) → ObeysUnlessRefused db fits → GrowsQuiet db fits → db.schemas ≡ schemas_of db.catalogue → OneCommandOfText → MovesFollow db → CommandsFollow db fits

@@ -238,13 +238,13 @@ module _ (db : Database) where
       quiet_after_rollback served serves =
           let within = fit_within db before [] past served.fit in
           let deeds = past ++ Rolled_back txn ∷ [] in
-          let ended = all_ended deeds serves.comings (called here txn choice Rollback) (called_within here txn choice Rollback within) (called_sited here txn choice Rollback (steady_sited txn here ready.steady)) (serves.founded tt past)
+          let ended = all_ended deeds serves.comings (called here txn choice Rollback) (called_within here txn choice Rollback within) (called_sited here txn choice Rollback (steady_sited txn here ready.steady)) (serves.founded past)
           (rollback_ends law once txn past here choice (steady_loose txn here ready.steady) within) in
           ending_quiet law deeds (rests db after (past ++ serves.deeds)) (subst (Ending deeds) (serves.is past) ended) refl
 
       pub quiet_after_commit : (served : IsServed db whole before past) (serves : Serves db (To_do txn Commit_call choice) before after heard) → IsQuiet (rests db after (past ++ serves.deeds))
       quiet_after_commit served serves =
           let within = fit_within db before [] past served.fit in
-          let committing = all_voted txn past serves.comings (called here txn choice Commit_call) (called_within here txn choice Commit_call within) (called_sited here txn choice Commit_call (steady_sited txn here ready.steady)) (serves.founded tt past)
+          let committing = all_voted txn past serves.comings (called here txn choice Commit_call) (called_within here txn choice Commit_call within) (called_sited here txn choice Commit_call (steady_sited txn here ready.steady)) (serves.founded past)
           (commit_starts law once (Unit {0}) txn past here ready.steady choice within refl) in
           (commit_ends law once (Unit {0}) txn past (rests db after (past ++ serves.deeds)) (subst (Committing (Unit {0}) txn past) (serves.is past) committing) refl).0

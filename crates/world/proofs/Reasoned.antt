@@ -14,6 +14,7 @@ use Rattle.store.specs.declared.reply.Reply as replies
 use Rattle.store.specs.declared.reply.Reply.TheVariants as reply_kinds
 use Rattle.meaning.specs.declared.answer.Answer.TheVariants.{Exists}
 use Rattle.protocol.specs.StatementCourse.{passes, passes_to}
+use Rattle.protocol.specs.Delivery.{IsAtLimit}
 use Rattle.protocol.specs.Desk.{Choice, Deed, Desk, Idle, Known, Reading, Row, Stage, Transition, Txn, Unknown, Voting, Writing, are_acked, desk_after, is_desk_within, is_named, is_pair, is_short_txn, is_undecided, on_desk_letter, on_rows}
 use Rattle.protocol.specs.Language.{Lang, Name}
 use Rattle.protocol.specs.Home.{IsAtHome, IsHomed}
@@ -43,13 +44,13 @@ use Rattle.desk.specs.Does.{IsPastLimits}
 use Rattle.desk.specs.State.{desk_of}
 use Rattle.world.specs.declared.fault.Fault as faults
 use Rattle.world.specs.declared.fault.Fault.TheVariants as fault
-use Rattle.world.specs.Machines.{AreFit, HasItsLeaves, Machines, is_of_site, is_order, world_of}
-use Rattle.world.specs.Reasons.{AreAtLimit, AsksElsewhere, DeskTells, SiteTells, Tells, TurnsAway}
+use Rattle.world.specs.Machines.{AreFit, Machines, is_of_site, is_order, world_of}
+use Rattle.world.specs.Reasons.{SiteTells, Tells, TurnsAway}
 use Rattle.world.specs.declared.sites.SiteAction as doing
 use Rattle.world.specs.declared.sites.SiteAction.TheVariants.{Take}
-use Rattle.world.specs.Sites.{AreSeated, IsSeated, Seat, is_called, seat_of, state_at, states_of}
+use Rattle.world.specs.Sites.{IsSeated, Seat, is_called, seat_of, state_at, states_of}
 use Rattle.world.specs.Taking.{stop_of, turns_away}
-use Rattle.world.proofs.Seating.{name_is, seat_has, seat_named, state_there}
+use Rattle.world.proofs.Seating.{HasItsLeaves, name_is, seat_has, seat_named, state_there}
 
 -- any answer, where none is asked for
 abbrev pub no_choice : (db : Database) → Choice (language db)
@@ -66,7 +67,7 @@ order_is db (body.Order (order.Abort ticket)) is = refl
 order_is db (body.Reply reply) is = absurd cc
 
 -- sites that fit are within their limits
-pub seats_within : (db : Database) (seats : List Seat) (name : List ℕ) → AreSeated seats → is_within (states_of (statements db) seats name) ≡ true
+pub seats_within : (db : Database) (seats : List Seat) (name : List ℕ) → AllByRecursion IsSeated seats → is_within (states_of (statements db) seats name) ≡ true
 seats_within db [] name seated = refl
 seats_within db (seat ∷ seats) name seated = go (is_called name seat) (within_same (statements db) (state_of seat.kept seat.table) ∙ fits_within seat.kept seat.table seated.0) (seats_within db seats name seated.1)
   where
@@ -76,6 +77,23 @@ seats_within db (seat ∷ seats) name seated = go (is_called name seat) (within_
     go false here later = later
 
 -- ---- what a site tells
+-- a letter in the world of these machines is at a limit
+abbrev AreAtLimit : Database → Machines → letters.Letter → Type 0
+AreAtLimit db machines letter = IsAtLimit (world_of db machines [] []) (sent db letter)
+
+-- an operation on a leaf that isn't one of these
+abbrev IsElsewhere : List Leaf → orders.Order → Type 0
+IsElsewhere leaves order.Open = ⊥
+IsElsewhere leaves (order.Fetch fetch) = list_any (λ leaf. is_eq (leaf_cmp fetch.leaf leaf)) leaves ≡ false
+IsElsewhere leaves (order.Intend intention) = list_any (λ leaf. is_eq (leaf_cmp (leaf_of intention.write) leaf)) leaves ≡ false
+IsElsewhere leaves (order.Prepare prepare) = ⊥
+IsElsewhere leaves (order.Commit ticket) = ⊥
+IsElsewhere leaves (order.Abort ticket) = ⊥
+
+abbrev AsksElsewhere : List Leaf → bodies.Body → Type 0
+AsksElsewhere leaves (body.Order order) = IsElsewhere leaves order
+AsksElsewhere leaves (body.Reply reply) = ⊥
+
 none_among : (leaf : Leaf) (locks : List Locks) (place : ℕ) → position_from (λ (other : Locks). is_eq (leaf_cmp leaf other.leaf)) place locks ≡ None → list_any (λ other. is_eq (leaf_cmp leaf other)) (leaves_in locks) ≡ false
 none_among leaf [] place none = refl
 none_among leaf (first ∷ locks) place none = go (is_eq (leaf_cmp leaf first.leaf)) none (none_among leaf locks (place + 1))
@@ -101,7 +119,7 @@ site_tells (Ok x) seat locks letter same full strange calls = tt
 site_tells (Err site_fault.Memory) seat locks letter same full strange calls = tt
 site_tells (Err (site_fault.Store why)) seat locks letter same full strange calls = calls why refl
 site_tells (Err site_fault.Full) seat locks letter same full strange calls = λ seated. full seated refl
-site_tells (Err site_fault.Stranger) seat locks letter same full strange calls = subst (λ (leaves : List Leaf). AsksElsewhere leaves letter.body) (sym same) (elsewhere locks letter.body (strange refl))
+site_tells (Err site_fault.Stranger) seat locks letter same full strange calls = (locks, sym same, strange refl)
 
 -- ---- what the coordinator tells
 pub passes_is : (db : Database) (machines : Machines) (letter : letters.Letter) (reply : replies.Reply) → letter.body ≡ body.Reply reply → (kept : Bool) (choice : Choice (language db)) →
@@ -121,7 +139,7 @@ passes_is db machines letter reply is kept choice = ap (λ said. passes (world_o
 
 pub desk_tells : {T : Type 0} (db : Database) (machines : Machines) (letter : letters.Letter) (result : Result T refusals.Refusal) (reply : replies.Reply) → letter.body ≡ body.Reply reply → is_order letter.body ≡ false →
     IfErr result (λ told. (told ≡ refusal.Memory) ⊎ (told ≡ refusal.Full)) →
-    (result ≡ Err refusal.Full → IsPastLimits db machines.table letter.txn (λ choice. on_desk_letter (txn_name letter.txn) letter.site true choice (replied db reply) (txn_in db machines.table letter.txn))) → IfErr result (DeskTells db machines letter)
+    (result ≡ Err refusal.Full → IsPastLimits db machines.table letter.txn (λ choice. on_desk_letter (txn_name letter.txn) letter.site true choice (replied db reply) (txn_in db machines.table letter.txn))) → IfErr result (λ told. Tells db machines letter (fault.Desk told))
 desk_tells db machines letter (Ok x) reply is for_desk own full = tt
 desk_tells db machines letter (Err told) reply is for_desk (inl memory) full = inl memory
 desk_tells db machines letter (Err told) reply is for_desk (inr limit) full =
@@ -196,8 +214,8 @@ module _ (db : Database) (machines : Machines) (letter : letters.Letter) (fit : 
           (sym (reply_within here (txn_name letter.txn) reply) ∙ subst (λ (said : bodies.Body). is_within (site_after here (on_letter here (txn_name letter.txn) true (body_of said))) ≡ false) is past))
 
   -- a site that hasn't the leaf isn't its home
-  astray_at : AsksElsewhere seat.leaves letter.body → IsHomed (sent db letter) → ⊥
-  astray_at strange homed = go letter.body strange homed
+  astray_at : SiteTells seat letter site_fault.Stranger → IsHomed (sent db letter) → ⊥
+  astray_at strange homed = go letter.body (subst (λ (leaves : List Leaf). AsksElsewhere leaves letter.body) strange.1 (elsewhere strange.0 letter.body strange.2)) homed
     where
       here_is : (leaf : Leaf) → db.home leaf ≡ letter.site → list_any (λ other. is_eq (leaf_cmp leaf other)) seat.leaves ≡ false → ⊥
       here_is leaf home none = clash (seat_has (HasItsLeaves db) letter.site machines.seats seat there fit.leaves leaf (home ∙ sym (seat_named letter.site machines.seats seat there))) none

@@ -119,7 +119,7 @@ module _ (Sound : Type 0) (db : Database) (before after : Machines) (entries : L
   place_refused (things.Take letter) kept at seat told is there why = absurd is
   place_refused (things.GiveUp place ticket) kept at seat told is there why = absurd why
   place_refused (things.Inquire place) kept at seat told is there why = subst (λ (e : events.Event). IsRefusedFor Sound db before after entries e (fault.Site told)) (sym is) (inr (inr (ap fault.Site why)))
-  place_refused (things.Restart place) kept at seat told is there why = subst (λ (e : events.Event). IsRefusedFor Sound db before after entries e (fault.Site told)) (sym is) (inr (inr (record { seat = seat; there = there; why = told; is = refl; tells = why })))
+  place_refused (things.Restart place) kept at seat told is there why = subst (λ (e : events.Event). IsRefusedFor Sound db before after entries e (fault.Site told)) (sym is) (inr (inr (seat, there, told, refl, why)))
 
   -- there is no such letter, or no such site
   pub unsent_refused : (sites : List (List ℕ)) (what : events.Event) → db.sites ≡ sites → is_unsent sites entries what ≡ true → IsRefusedFor Sound db before after entries what fault.Unsent
@@ -135,16 +135,16 @@ module _ (Sound : Type 0) (db : Database) (before after : Machines) (entries : L
   pub letter_refused : (number : ℕ) (kept : Bool) (letter : Letter) (result : Result Out Fault) → slice_get (letters_in entries) number ≡ Some letter → IfErr result (Tells db before letter) →
       (kept ≡ true → Sound → IfErr result (λ told. IfSome (stop_of told) (StopsFor before.refused after.refused))) → IfErr result (IsRefusedFor Sound db before after entries (event.Deliver number kept))
   letter_refused number kept letter (Ok out) there tells blames = tt
-  letter_refused number true letter (Err told) there tells blames = inr (inr (record { letter = letter; there = there; tells = tells; blames = λ so. inr (blames refl so) }))
-  letter_refused number false letter (Err told) there tells blames = inr (inr (record { letter = letter; there = there; tells = tells; blames = λ so. inl refl }))
+  letter_refused number true letter (Err told) there tells blames = inr (inr (letter, there, tells, λ so. inr (blames refl so)))
+  letter_refused number false letter (Err told) there tells blames = inr (inr (letter, there, tells, λ so. inl refl))
 
   -- where the stores are clean now and were sound
   own_soundly : (what : events.Event) (told : Fault) → Sound → HasOwnReason Sound db before after entries what told → HasOwnReason ⊤ db before after entries what told
   own_soundly (event.Call asked) told so why = why
-  own_soundly (event.Deliver number kept) told so why = record { letter = why.letter; there = why.there; tells = why.tells; blames = λ any. why.blames so }
+  own_soundly (event.Deliver number kept) told so why = (why.0, why.1, why.2, λ any. why.3 so)
   own_soundly (event.SiteGivesUp place ticket) told so why = why
   own_soundly (event.SiteInquires place) told so why = why
-  own_soundly (event.SiteRestarts place kept) told so why = record { seat = why.seat; there = why.there; why = why.why; is = why.is; tells = restarts_so Sound (HaveRefused before.refused after.refused) ⊤ (HaveRefused before.refused after.refused) (λ any. so) (λ more. more) kept why.seat why.why why.tells }
+  own_soundly (event.SiteRestarts place kept) told so why = (why.0, why.1, why.2, why.3, restarts_so Sound (HaveRefused before.refused after.refused) ⊤ (HaveRefused before.refused after.refused) (λ any. so) (λ more. more) kept why.0 why.2 why.4)
   own_soundly (event.DeskRestarts kept) told so why = (why.0, (why.1.0, go why.0 why.1.1))
     where
       go : (told : Refusal) → DeskRestartTells Sound (HaveRefused before.refused after.refused) kept db.sites before.desk told → DeskRestartTells ⊤ (HaveRefused before.refused after.refused) kept db.sites before.desk told

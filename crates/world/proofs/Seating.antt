@@ -18,8 +18,7 @@ use Rattle.site.specs.State.{Takes, state_of}
 use Rattle.site.proofs.TicketOrder.{same_bool}
 use Rattle.terms.specs.Leaf.{leaf_cmp}
 use Rattle.desk.specs.Database.{Database}
-use Rattle.world.specs.Machines.{HasItsLeaves}
-use Rattle.world.specs.Sites.{AreSeated, IsSeated, Moves, Seat, is_called, reseated, seat_of, state_at, states_of}
+use Rattle.world.specs.Sites.{IsSeated, Moves, Seat, is_called, reseated, seat_of, state_at, states_of}
 
 pub name_is : (a b : List ℕ) → pointwise nat_eq a b ≡ true → a ≡ b
 name_is a b e = (bytes_eq-Decides a b).0 e
@@ -124,10 +123,14 @@ module _ (S : Statements local) where
   states_after name seat new before after moves = ap (states_of S) moves.is ∙ (λ i at. put_at name new seat before moves.named moves.there at i)
 
 -- a step keeps each site fit
-pub seated_after : (name : List ℕ) (seat new : Seat) (before after : List Seat) → Moves name seat new before after → AreSeated before → AreSeated after
-seated_after name seat new before after moves all = subst AreSeated (sym moves.is) (all_kept IsSeated name new before moves.seated all)
+pub seated_after : (name : List ℕ) (seat new : Seat) (before after : List Seat) → Moves name seat new before after → AllByRecursion IsSeated before → AllByRecursion IsSeated after
+seated_after name seat new before after moves all = subst (AllByRecursion IsSeated) (sym moves.is) (all_kept IsSeated name new before moves.seated all)
 
 -- and the leaves that are at home there
+-- a site has each leaf that is at home there
+abbrev pub HasItsLeaves : Database → Seat → Type 0
+HasItsLeaves db seat = (leaf : Leaf) → db.home leaf ≡ seat.name → list_any (λ other. is_eq (leaf_cmp leaf other)) seat.leaves ≡ true
+
 pub leaves_after : (db : Database) (name : List ℕ) (seat new : Seat) (before after : List Seat) → Moves name seat new before after → AllByRecursion (HasItsLeaves db) before → AllByRecursion (HasItsLeaves db) after
 leaves_after db name seat new before after moves all =
     let has = seat_has (HasItsLeaves db) name before seat moves.there all in

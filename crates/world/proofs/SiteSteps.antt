@@ -4,7 +4,7 @@ use Rattle.std.specs.List.{AllByRecursion}
 use Rattle.store.specs.declared.letter.Letter.{Letter}
 use Rattle.store.specs.SiteContent.{IsUnchanged, SiteContent}
 use Rattle.protocol.proofs.Basics.{some_is}
-use Rattle.world.specs.Sites.{AreSeated, IsSeated, Seat, is_called, reseated, seat_of}
+use Rattle.world.specs.Sites.{IsSeated, Seat, is_called, reseated, seat_of}
 use Rattle.site.specs.declared.site.Site.{Site}
 use Rattle.world.specs.Seated.{SeatDoes, SomeSeatDoes, place_of, seat_from, seats_in}
 use Rattle.world.specs.declared.sites.SiteAction.{SiteAction}
@@ -99,11 +99,11 @@ module _ {S T E : Type 0} (content : S → SiteContent) (items : T → List Lett
   other_takes after apart later = if_ok result (λ letters takes. subst (λ (all : List (Site S)). SomeSeatDoes what seat (seats_in content all) (seat_from content first ∷ seats_in content after) (items letters)) (sym is)
       (take_later (seat_from content first) seat (seats_in content rest) (seats_in content after) what (items letters) apart takes)) (later (there_later (place_of what) (seat_from content first) seat (seats_in content rest) apart there_now))
 
-  pub rest_seated : AreSeated (seats_in content sites) → AreSeated (seats_in content rest)
-  rest_seated all = (subst (λ (all : List (Site S)). AreSeated (seats_in content all)) is all).1
+  pub rest_seated : AllByRecursion IsSeated (seats_in content sites) → AllByRecursion IsSeated (seats_in content rest)
+  rest_seated all = (subst (λ (all : List (Site S)). AllByRecursion IsSeated (seats_in content all)) is all).1
 
   pub all_there : (P : Site S → Type 0) → AllByRecursion P sites → P first × AllByRecursion P rest
   all_there P all = subst (AllByRecursion P) is all
 
-  pub first_seated : AreSeated (seats_in content sites) → IsSeated (seat_from content first)
-  first_seated all = (subst (λ (all : List (Site S)). AreSeated (seats_in content all)) is all).0
+  pub first_seated : AllByRecursion IsSeated (seats_in content sites) → IsSeated (seat_from content first)
+  first_seated all = (subst (λ (all : List (Site S)). AllByRecursion IsSeated (seats_in content all)) is all).0

@@ -211,11 +211,11 @@ pub serves_unless_refused : (db : Database) (fits : Leaf → Content → Bool) �
 serves_unless_refused db fits lawful law = record {
   answers = λ whole before after past txn statement choice heard served ready is room serves. ⊎_elim
       (λ smooth. inl (law.answers whole before after past txn statement choice heard served ready is room serves smooth)) (λ refused. inr refused)
-      (all_smooth db lawful _ serves.comings (called (rests db before past) txn choice (State statement)) (called_sited (rests db before past) txn choice (State statement) (steady_sited txn (rests db before past) ready.steady)) (serves.founded tt past) serves.kept);
+      (all_smooth db lawful _ serves.comings (called (rests db before past) txn choice (State statement)) (called_sited (rests db before past) txn choice (State statement) (steady_sited txn (rests db before past) ready.steady)) (serves.founded past) serves.kept);
   commits = λ whole before after past txn choice heard served ready serves. ⊎_elim
       (λ smooth. inl (law.commits whole before after past txn choice heard served ready serves smooth)) (λ refused. inr refused)
-      (all_smooth db lawful _ serves.comings (called (rests db before past) txn choice Commit_call) (called_sited (rests db before past) txn choice Commit_call (steady_sited txn (rests db before past) ready.steady)) (serves.founded tt past) serves.kept);
+      (all_smooth db lawful _ serves.comings (called (rests db before past) txn choice Commit_call) (called_sited (rests db before past) txn choice Commit_call (steady_sited txn (rests db before past) ready.steady)) (serves.founded past) serves.kept);
   rolls_back = λ whole before after past txn choice heard served ready serves. ⊎_elim
       (λ smooth. inl (law.rolls_back whole before after past txn choice heard served ready serves smooth)) (λ refused. inr refused)
-      (all_smooth db lawful _ serves.comings (called (rests db before past) txn choice Rollback) (called_sited (rests db before past) txn choice Rollback (steady_sited txn (rests db before past) ready.steady)) (serves.founded tt past) serves.kept);
+      (all_smooth db lawful _ serves.comings (called (rests db before past) txn choice Rollback) (called_sited (rests db before past) txn choice Rollback (steady_sited txn (rests db before past) ready.steady)) (serves.founded past) serves.kept);
 }

@@ -1,5 +1,5 @@
 -- Where a client's database stands after a command, whatever was refused on the way.
-use Rattle.std.proofs.Common.{◌≡◌, sym, ap, ◌∙◌, subst, ℕ, Bool, true, List, [], ◌∷◌, ◌++◌, map, ◌⊎◌, inl, inr, ⊎_elim, Option, Some, None, if◌then◌else◌}
+use Rattle.std.proofs.Common.{◌≡◌, sym, ap, ◌∙◌, subst, ℕ, Bool, true, List, [], ◌∷◌, ◌++◌, map, ◌⊎◌, inl, inr, ⊎_elim, Option, Some, None, Result, if◌then◌else◌}
 use Rattle.meaning.specs.declared.schema.RelationSchema.{RelationSchema}
 use Rattle.meaning.specs.Whole.{Relations}
 use Rattle.terms.specs.declared.leaf.Leaf.{Leaf}
@@ -11,12 +11,13 @@ use Rattle.protocol.specs.Letters.{txn_name}
 use Rattle.protocol.specs.WithoutRefusal.{Ready}
 use Rattle.protocol.specs.World.{World}
 use Rattle.protocol.proofs.Basics.{clash}
+use Rattle.desk.specs.declared.refusal.Refusal.{Refusal}
 use Rattle.desk.specs.declared.reply.Notice.{Notice}
 use Rattle.desk.specs.declared.reply.Reply.TheVariants.{Answer, Begun}
 use Rattle.desk.specs.Database.{Database, language}
 use Rattle.desk.specs.State.{notice_of}
 use Rattle.world.specs.Client.{DoesBegin, DoesState, IsServed, is_end, still_open, tells}
-use Rattle.world.specs.Commands.{IsCommand, IsDecided, IsLone, IsSingle, IsStated, IsTakenBack, Reply, is_lone, is_single}
+use Rattle.world.specs.Commands.{IsCommand, IsDecided, IsLone, IsStated, IsTakenBack}
 use Rattle.world.specs.Course.{Begins, Made, Move, States}
 use Rattle.world.specs.Executed.{ObeysUnlessRefused, Stands}
 use Rattle.world.specs.Machines.{Machines}
@@ -25,7 +26,7 @@ use Rattle.world.specs.Settling.{GrowsQuiet}
 use Rattle.world.proofs.Deeds.{move_served, still_served}
 use Rattle.world.proofs.Denials.{no_commit, no_rollback}
 use Rattle.world.proofs.Executed.{not_ended, still_there, tells_more}
-use Rattle.world.proofs.Moves.{back_cases, decided_cases, lone_cases, single_cases, stated_cases}
+use Rattle.world.proofs.Moves.{back_cases, command_cases, decided_cases, lone_cases, stated_cases}
 
 -- where a database stands doesn't hang on what happened before
 pub stands_whenever : (db : Database) (fits : Leaf → Content → Bool) (current : Option Txn) (machines : Machines) (past other : List (Deed (language db))) → Stands db fits current machines past → Stands db fits current machines other
@@ -78,7 +79,7 @@ module _ (db : Database) (fits : Leaf → Content → Bool) (reached : ReachedLa
         at_end None made.0 after made.2 (stands_whenever db fits None made.0 (past ++ does.serves.deeds) past (law.rolls_back whole before made.0 past (txn_name txn) does.choice heard served ready does.serves)))
         (λ told made. absurd (no_rollback db fits txn before past told ready made.1.0))
 
-  pub decided_stands : (past : List (Deed (language db))) (txn : Txn) (greeted answered : List Notice) (reply : Reply) (before after : Machines) → IsServed db whole before past → map notice_of greeted ≡ (txn_name txn, Begun) ∷ [] → IsAfterStatement txn before answered past →
+  pub decided_stands : (past : List (Deed (language db))) (txn : Txn) (greeted answered : List Notice) (reply : Result (List Notice) Refusal) (before after : Machines) → IsServed db whole before past → map notice_of greeted ≡ (txn_name txn, Begun) ∷ [] → IsAfterStatement txn before answered past →
       (moves : List Move) → IsDecided txn (greeted ++ answered) moves reply → Made db moves before after → Stands db fits None after past
   decided_stands past txn greeted answered reply before after served is_greeted (inl is) = decided_cases txn (greeted ++ answered) reply (λ moves. Made db moves before after → Stands db fits None after past)
       (λ ended heard same. clash ended (not_ended txn answered is.1.0 is.1.1 greeted is_greeted))
@@ -91,7 +92,7 @@ module _ (db : Database) (fits : Leaf → Content → Bool) (reached : ReachedLa
       (λ decided goes heard made. clash (tells_more greeted answered is.1) goes)
       (λ why back goes taken told made. clash (tells_more greeted answered is.1) goes)
 
-  pub stated_stands : (past : List (Deed (language db))) (text : List ℕ) (txn : Txn) (greeted : List Notice) (reply : Reply) (before after : Machines) → IsServed db whole before past → Stands db fits (Some txn) before past → map notice_of greeted ≡ (txn_name txn, Begun) ∷ [] →
+  pub stated_stands : (past : List (Deed (language db))) (text : List ℕ) (txn : Txn) (greeted : List Notice) (reply : Result (List Notice) Refusal) (before after : Machines) → IsServed db whole before past → Stands db fits (Some txn) before past → map notice_of greeted ≡ (txn_name txn, Begun) ∷ [] →
       (moves : List Move) → IsStated text txn greeted moves reply → Made db moves before after → Stands db fits None after past
   stated_stands past text txn greeted reply before after served ready is_greeted = stated_cases text txn greeted reply (λ moves. Made db moves before after → Stands db fits None after past)
       (λ answered moves decided made.
@@ -101,7 +102,7 @@ module _ (db : Database) (fits : Leaf → Content → Bool) (reached : ReachedLa
       stands_whenever db fits None after more past (decided_stands more txn greeted answered reply made.0 after (move_served db whole reached (States txn text answered) before made.0 past served made.1) is_greeted there_more moves decided made.2))
       (λ why back taken told made. back_stands past txn made.0 after (still_served db whole before made.0 past served made.1.1) (stands_still db fits (Some txn) before made.0 past made.1.1 ready) back taken made.2)
 
-  pub lone_stands : (past : List (Deed (language db))) (text : List ℕ) (reply : Reply) (before after : Machines) → IsServed db whole before past → Stands db fits None before past → (moves : List Move) → IsLone text moves reply → Made db moves before after → Stands db fits None after past
+  pub lone_stands : (past : List (Deed (language db))) (text : List ℕ) (reply : Result (List Notice) Refusal) (before after : Machines) → IsServed db whole before past → Stands db fits None before past → (moves : List Move) → IsLone text moves reply → Made db moves before after → Stands db fits None after past
   lone_stands past text reply before after served quiet = lone_cases text reply (λ moves. Made db moves before after → Stands db fits None after past)
       (λ txn greeted moves is made.
       let more = past ++ made.1.serves.deeds in
@@ -110,12 +111,12 @@ module _ (db : Database) (fits : Leaf → Content → Bool) (reached : ReachedLa
       (λ why told made. at_end past None made.0 after made.2 (stands_still db fits None before made.0 past made.1.1 quiet))
 
   -- ---- any command
-  module _ (past : List (Deed (language db))) (schemas : List RelationSchema) (text : List ℕ) (current later : Option Txn) (reply : Reply) (before after : Machines) (served : IsServed db whole before past) (stands : Stands db fits current before past) where
+  module _ (past : List (Deed (language db))) (schemas : List RelationSchema) (text : List ℕ) (current later : Option Txn) (reply : Result (List Notice) Refusal) (before after : Machines) (served : IsServed db whole before past) (stands : Stands db fits current before past) where
     as_open : (c d : Option Txn) (machines : Machines) → c ≡ d → Stands db fits c machines past → Stands db fits d machines past
     as_open c d machines same on = subst (λ (x : Option Txn). Stands db fits x machines past) same on
 
-    single_stands : (moves : List Move) → IsSingle schemas text current later moves reply → Made db moves before after → Stands db fits later after past
-    single_stands = single_cases schemas text current later reply (λ moves. Made db moves before after → Stands db fits later after past)
+    pub command_stands : (moves : List Move) → IsCommand schemas text current later moves reply → Made db moves before after → Stands db fits later after past
+    command_stands = command_cases schemas text current later reply (λ moves. Made db moves before after → Stands db fits later after past)
         (λ still told is misplaced same. at_end past later before after same (as_open current later before (sym still) stands))
         (λ txn heard is some says made. at_end past later made.0 after made.2 (as_open (Some txn) later made.0 (sym some) (begun past txn before made.0 heard served (as_open current None before is.1 stands) made.1).0))
         (λ txn given heard is still says made.
@@ -134,7 +135,4 @@ module _ (db : Database) (fits : Leaf → Content → Bool) (reached : ReachedLa
         at_end past later made.0 after made.2 (as_open None later made.0 (sym none) (stands_whenever db fits None made.0 (past ++ does.serves.deeds) past
         (law.rolls_back whole before made.0 past (txn_name txn) does.choice heard served (as_open current (Some txn) before is.1 stands) does.serves))))
         (λ asked told is still says made. at_end past later made.0 after made.2 (as_open current later made.0 (sym still) (stands_still db fits current before made.0 past made.1.1 stands)))
-
-    pub command_stands : (moves : List Move) → IsCommand schemas text current later moves reply → Made db moves before after → Stands db fits later after past
-    command_stands moves (is_single is) made = single_stands moves is made
-    command_stands moves (is_lone statement spelled none after_none is) made = as_open None later after (sym after_none) (lone_stands past text reply before after served (as_open current None before none stands) moves is made)
+        (λ moves statement spelled none after_none is made. as_open None later after (sym after_none) (lone_stands past text reply before after served (as_open current None before none stands) moves is made))

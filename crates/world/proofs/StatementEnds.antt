@@ -312,7 +312,7 @@ module _ (db : Database) where
       let tells_end : IsQuiet (rests db after (past ++ serves.deeds)) → tells is_end heard ≡ true = λ quiet. ⊎_elim (λ undecided. clash undecided (quiet.decided txn))
       (λ ended. tells_by is_end heard ∙ ap (list_any (λ (x : Name × Reply). is_end x.1)) serves.replies ∙ end_heard db serves.deeds (subst (λ (deeds : List (Deed D)). list_any ends_it deeds ≡ true) (sym (same_behind past serves.deeds ends.more ends.is)) ended)) ends.says in
       let sited = called_sited here txn choice (State statement) (steady_sited txn here ready.steady) in
-      let stand = all_stand fits law once housed whole txn statement past serves.comings start within sited (serves.founded tt past) reached explained begins in
+      let stand = all_stand fits law once housed whole txn statement past serves.comings start within sited (serves.founded past) reached explained begins in
       ⊎_elim
       (λ answered. inl (answered.0, (answered.1.1.0, heard_of db fits law once housed whole before after past heard served ask serves _ answered.1.2)))
       (λ quiet. inr (quiet, tells_end quiet))

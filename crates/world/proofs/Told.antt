@@ -1,5 +1,6 @@
 -- What the entries of a run tell, event by event.
 use Rattle.std.proofs.Common.{◌≡◌, refl, sym, ap, ◌∙◌, subst, ℕ, Bool, true, false, List, [], ◌∷◌, ◌++◌, map, filter_map, flat_map}
+use Rattle.std.specs.List.{AllZip}
 use Rattle.std.proofs.lemmas.List.{append-nil, map-append}
 use Rattle.std.proofs.lemmas.List.Elements.{filter_map-append}
 use Rattle.std.proofs.lemmas.Grind.{flat_map-append}
@@ -25,7 +26,7 @@ use Rattle.desk.specs.State.{notice_of}
 use Rattle.desk.specs.Transition.{told}
 use Rattle.world.specs.declared.event.Entry.{Entry}
 use Rattle.world.specs.declared.event.Event as events
-use Rattle.world.specs.Events.{AreEvents}
+use Rattle.world.specs.Events.{IsEvent}
 use Rattle.world.specs.Machines.{Asked, Leads, Machines, world_of}
 use Rattle.world.specs.Replies.{AreStated, Shows, Tells, notices_in, phased_by, phased_in, text_by, texts_in}
 use Rattle.world.proofs.Shown.{IsSilent, came_silent, commit_shows, give_up_silent, restarted_silent, rollback_silent, state_shows}
@@ -39,6 +40,10 @@ stated_both db [] us [] vs one other = other
 stated_both db [] us (y ∷ ys) vs one other = absurd one
 stated_both db (x ∷ xs) us [] vs one other = absurd one
 stated_both db (x ∷ xs) us (y ∷ ys) vs one other = (one.0, one.1, stated_both db xs us ys vs one.2 other)
+
+-- entries are these events of the protocol, one by one
+abbrev AreEvents : (db : Database) → List Entry → List (world.Event (language db)) → Type 0
+AreEvents db entries events = AllZip (λ (entry : Entry) (e : world.Event (language db)). IsEvent db entry.event entry.out.kept e) entries events
 
 pub events_both : (db : Database) (xs us : List Entry) (ys vs : List (world.Event (language db))) → AreEvents db xs ys → AreEvents db us vs → AreEvents db (xs ++ us) (ys ++ vs)
 events_both db [] us [] vs one other = other

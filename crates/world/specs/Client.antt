@@ -1,6 +1,5 @@
 -- One client's database: what it has been through, and what its calls do.
-use Rattle.std.specs.Prelude.{◌≡◌, ℕ, Bool, true, false, List, [], ◌++◌, filter, Option, None, if◌then◌else◌}
-use Rattle.std.specs.List.{list_any}
+use Rattle.std.specs.Prelude.{◌≡◌, ℕ, true, List, [], ◌++◌, filter, Option, None, if◌then◌else◌}
 use Rattle.meaning.specs.declared.statement.Statement.{Statement}
 use Rattle.meaning.specs.Statement.{IsStatementOf}
 use Rattle.meaning.specs.Whole.{Relations}
@@ -12,8 +11,7 @@ use Rattle.protocol.specs.Desk as protocol
 use Rattle.protocol.specs.Letters.{txn_name}
 use Rattle.protocol.specs.Serial.{IsSerial}
 use Rattle.desk.specs.declared.reply.Notice.{Notice}
-use Rattle.desk.specs.declared.reply.Reply as replies
-use Rattle.desk.specs.declared.reply.Reply.TheVariants.{Aborted, Answer, Begun, Committed, RolledBack}
+pub use Rattle.desk.specs.Reply.{is_answer, is_commit, is_end, tells}
 use Rattle.desk.specs.Request.{txn_in}
 use Rattle.desk.specs.Database.{Database, language}
 use Rattle.desk.specs.State.{desk_of}
@@ -34,25 +32,6 @@ pub record IsServedOn (db : Database) (whole : Relations) (machines : Machines) 
   pub deeds : List (protocol.Deed (language db))
   pub served : IsServed db whole machines (past ++ deeds)
 
--- whether a reply tells that a transaction has ended, that it was committed, that it aborted
-abbrev pub is_end : replies.Reply → Bool
-is_end Begun = false
-is_end (Answer answer) = false
-is_end Committed = true
-is_end RolledBack = true
-is_end (Aborted why) = true
-
-abbrev pub is_commit : replies.Reply → Bool
-is_commit Begun = false
-is_commit (Answer answer) = false
-is_commit Committed = true
-is_commit RolledBack = false
-is_commit (Aborted why) = false
-
--- whether one of these notices does
-abbrev pub tells : (replies.Reply → Bool) → List Notice → Bool
-tells is notices = list_any (λ notice. is notice.reply) notices
-
 -- the transaction that is open after these notices, if one was
 abbrev pub still_open : Option Txn → List Notice → Option Txn
 still_open current heard = if tells is_end heard then None else current
@@ -69,14 +48,6 @@ pub record DoesAsk (db : Database) (request : protocol.Request (language db)) (t
   pub accepted : protocol.refusal request (txn_in db before.table txn) ≡ None
   pub within : protocol.is_desk_within (protocol.desk_after (desk_of db before.table) (txn_name txn) (protocol.on_request (txn_name txn) choice request (txn_in db before.table txn)).txn) ≡ true
   pub serves : Serves db (To_do (txn_name txn) request choice) before after heard
-
--- whether a reply is a statement's answer
-abbrev pub is_answer : replies.Reply → Bool
-is_answer Begun = false
-is_answer (Answer answer) = true
-is_answer Committed = false
-is_answer RolledBack = false
-is_answer (Aborted why) = false
 
 -- what the client of a lone statement hears of all that was told: the answer where it was committed, and else how it ended
 abbrev pub autocommit_reply : List Notice → List Notice

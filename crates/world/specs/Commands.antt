@@ -1,5 +1,5 @@
 -- The commands of one client: the calls that each makes, and what it comes to.
-use Rattle.std.specs.Prelude.{◌≡◌, ◌≤◌, ◌⊎◌, ◌^◌, ℕ, Bool, suc, true, false, List, [], ◌∷◌, ◌++◌, map, Option, Some, None, Result, Ok, Err}
+use Rattle.std.specs.Prelude.{◌≡◌, ◌≤◌, ◌⊎◌, ◌^◌, ℕ, Bool, suc, true, false, List, [], ◌∷◌, ◌++◌, map, Option, Some, None, Result, Ok, Err, if◌then◌else◌}
 use Rattle.meaning.specs.declared.answer.Answer.{Answer as AnswerNow}
 use Rattle.meaning.specs.declared.schema.RelationSchema.{RelationSchema}
 use Rattle.meaning.specs.declared.statement.Statement.{Statement}
@@ -25,7 +25,7 @@ use Rattle.desk.specs.State.{notice_of}
 use Rattle.world.specs.declared.event.Call as calls
 use Rattle.world.specs.declared.event.Call.TheVariants as call
 use Rattle.world.specs.declared.event.Entry.{Entry}
-use Rattle.world.specs.Client.{DoesBegin, IsServed, autocommit_reply, is_end, still_open, tells}
+use Rattle.world.specs.Client.{DoesBegin, IsServed, autocommit_reply, is_end, tells}
 use Rattle.world.specs.Course.{Begins, Commits, Made, Move, Refuses, Rolls_back, SomeHindered, States, deeds_in, said_in}
 use Rattle.world.specs.Executed.{Stands}
 use Rattle.world.specs.Machines.{Machines}
@@ -33,12 +33,8 @@ use Rattle.world.specs.Replies.{Tells}
 use Rattle.world.specs.Runs.{IsSerialRun}
 use Rattle.world.specs.Stopping.{is_stop}
 
--- what a client is answered: what it hears, or why it is refused
-abbrev pub Reply : Type 0
-Reply = Result (List Notice) refusals.Refusal
-
--- so, of a call of the code
-abbrev pub heard_in : {T : Type 0} → (T → List Notice) → Result T refusals.Refusal → Reply
+-- what a client is answered by a call of the code: what it hears, or why it is refused
+abbrev pub heard_in : {T : Type 0} → (T → List Notice) → Result T refusals.Refusal → Result (List Notice) refusals.Refusal
 heard_in items (Ok heard) = Ok (items heard)
 heard_in items (Err told) = Err told
 
@@ -67,19 +63,19 @@ TakesBack txn refused (Ok x) moves = ⊥
 TakesBack txn refused (Err told) moves = IsTakenBack txn moves × (told ≡ refused)
 
 -- so much was told of it: unless it has ended by itself its commit is asked for. Its client hears the answer where it was committed, and else how it ended
-abbrev pub IsDecided : Txn → List Notice → List Move → Reply → Type 0
+abbrev pub IsDecided : Txn → List Notice → List Move → Result (List Notice) refusals.Refusal → Type 0
 IsDecided txn told [] reply = (tells is_end told ≡ true) × (reply ≡ Ok (autocommit_reply told))
 IsDecided txn told (Commits of decided ∷ []) reply = (of ≡ txn) × (tells is_end told ≡ false) × (reply ≡ Ok (autocommit_reply (told ++ decided)))
 IsDecided txn told (Refuses (call.Commit of) refused ∷ back) reply = (of ≡ txn) × (tells is_end told ≡ false) × IsTakenBack txn back × (reply ≡ Err refused)
 IsDecided txn told other reply = ⊥
 
 -- its transaction has begun: the statement is stated
-abbrev pub IsStated : List ℕ → Txn → List Notice → List Move → Reply → Type 0
+abbrev pub IsStated : List ℕ → Txn → List Notice → List Move → Result (List Notice) refusals.Refusal → Type 0
 IsStated text txn greeted (States of stated answered ∷ moves) reply = (of ≡ txn) × (stated ≡ text) × IsDecided txn (greeted ++ answered) moves reply
 IsStated text txn greeted (Refuses (call.State of stated) refused ∷ back) reply = (of ≡ txn) × (stated ≡ text) × IsTakenBack txn back × (reply ≡ Err refused)
 IsStated text txn greeted other reply = ⊥
 
-abbrev pub IsLone : List ℕ → List Move → Reply → Type 0
+abbrev pub IsLone : List ℕ → List Move → Result (List Notice) refusals.Refusal → Type 0
 IsLone text (Begins txn greeted ∷ moves) reply = IsStated text txn greeted moves reply
 IsLone text (Refuses call.Begin refused ∷ []) reply = reply ≡ Err refused
 IsLone text other reply = ⊥
@@ -99,43 +95,35 @@ IsCallOf schemas text current (call.Commit txn) = IsTextOf schemas text command.
 IsCallOf schemas text current (call.Rollback txn) = IsTextOf schemas text command.Rollback × (current ≡ Some txn)
 IsCallOf schemas text current (call.GiveUp txn) = ⊥
 
--- what comes of that call
-abbrev pub IsSingle : List RelationSchema → List ℕ → (current later : Option Txn) → List Move → Reply → Type 0
-IsSingle schemas text current later [] reply = (later ≡ current) × ((told : refusals.Refusal) × (reply ≡ Err told) × IsMisplaced schemas text current told)
-IsSingle schemas text current later (Begins txn heard ∷ []) reply = IsCallOf schemas text current call.Begin × (later ≡ Some txn) × (reply ≡ Ok heard)
-IsSingle schemas text current later (States txn stated heard ∷ []) reply = IsCallOf schemas text current (call.State txn stated) × (later ≡ still_open current heard) × (reply ≡ Ok heard)
-IsSingle schemas text current later (Commits txn heard ∷ []) reply = IsCallOf schemas text current (call.Commit txn) × (later ≡ None) × (reply ≡ Ok heard)
-IsSingle schemas text current later (Rolls_back txn heard ∷ []) reply = IsCallOf schemas text current (call.Rollback txn) × (later ≡ None) × (reply ≡ Ok heard)
-IsSingle schemas text current later (Refuses asked told ∷ []) reply = IsCallOf schemas text current asked × (later ≡ current) × (reply ≡ Err told)
-IsSingle schemas text current later other reply = ⊥
-
-pub data IsCommand (schemas : List RelationSchema) (text : List ℕ) (current later : Option Txn) (moves : List Move) (reply : Reply) : Type 0 where
-  is_single : IsSingle schemas text current later moves reply → IsCommand schemas text current later moves reply
+-- the moves of a command, and its reply: it makes none; it makes this call, and its client hears what is told of it, or why it is refused; or it is a lone statement
+pub data IsCommand (schemas : List RelationSchema) (text : List ℕ) (current later : Option Txn) (moves : List Move) (reply : Result (List Notice) refusals.Refusal) : Type 0 where
+  makes_none : (told : refusals.Refusal) → moves ≡ [] → IsMisplaced schemas text current told → later ≡ current → reply ≡ Err told → IsCommand schemas text current later moves reply
+  only_begins : (txn : Txn) (heard : List Notice) → moves ≡ Begins txn heard ∷ [] → IsCallOf schemas text current call.Begin → later ≡ Some txn → reply ≡ Ok heard → IsCommand schemas text current later moves reply
+  only_states : (txn : Txn) (stated : List ℕ) (heard : List Notice) → moves ≡ States txn stated heard ∷ [] → IsCallOf schemas text current (call.State txn stated) → later ≡ (if tells is_end heard then None else current) → reply ≡ Ok heard → IsCommand schemas text current later moves reply
+  only_commits : (txn : Txn) (heard : List Notice) → moves ≡ Commits txn heard ∷ [] → IsCallOf schemas text current (call.Commit txn) → later ≡ None → reply ≡ Ok heard → IsCommand schemas text current later moves reply
+  only_rolls_back : (txn : Txn) (heard : List Notice) → moves ≡ Rolls_back txn heard ∷ [] → IsCallOf schemas text current (call.Rollback txn) → later ≡ None → reply ≡ Ok heard → IsCommand schemas text current later moves reply
+  is_turned_down : (asked : calls.Call) (told : refusals.Refusal) → moves ≡ Refuses asked told ∷ [] → IsCallOf schemas text current asked → later ≡ current → reply ≡ Err told → IsCommand schemas text current later moves reply
   is_lone : (statement : Statement) → IsTextOf schemas text (command.Run statement) → current ≡ None → later ≡ None → IsLone text moves reply → IsCommand schemas text current later moves reply
 
 -- ---- what a command comes to, where the database stands
--- why it is refused: at once; a transaction can't begin, since the numbers have run out; or to state the statement would lead past the limits, in
--- the open transaction or in the one that has begun for it alone
-pub data IsDenied (db : Database) (text : List ℕ) (current : Option Txn) (before : Machines) (told : refusals.Refusal) : Type 0 where
-  is_misplaced : IsMisplaced db.schemas text current told → IsDenied db text current before told
-  finds_no_number : current ≡ None → IsTextOf db.schemas text command.Begin ⊎ ((statement : Statement) × IsTextOf db.schemas text (command.Run statement)) → told ≡ refusal.Full → 2 ^ 63 ≤ suc before.table.number → IsDenied db text current before told
-  is_too_much : (txn : Txn) → current ≡ Some txn → told ≡ refusal.Full → StatesPastLimits db before.table txn text → IsDenied db text current before told
-  is_too_much_alone : (txn : Txn) (began : Machines) (greeted : List Notice) → current ≡ None → DoesBegin db before txn began greeted → told ≡ refusal.Full → StatesPastLimits db began.table txn text → IsDenied db text current before told
-
--- its transaction has begun, is committed, is rolled back, or its statement is answered, and its client hears so; or something was refused on the way; or it is refused
-pub data Outcome (db : Database) (text : List ℕ) (current later : Option Txn) (before after : Machines) (past : List (Deed (language db))) (moves : List Move) (made : Made db moves before after) (reply : Reply) : Type 0 where
+-- its transaction has begun, is committed, is rolled back, or its statement is answered, and its client hears so; or something was refused on the way; or it is refused:
+-- at once; a transaction can't begin, since the numbers have run out; or to state the statement would lead past the limits, in the open transaction or in the one that has begun for it alone
+pub data Outcome (db : Database) (text : List ℕ) (current later : Option Txn) (before after : Machines) (past : List (Deed (language db))) (moves : List Move) (made : Made db moves before after) (reply : Result (List Notice) refusals.Refusal) : Type 0 where
   has_begun : (txn : Txn) (heard : List Notice) → reply ≡ Ok heard → IsTextOf db.schemas text command.Begin → later ≡ Some txn → map notice_of heard ≡ (txn_name txn, Begun) ∷ [] → Outcome db text current later before after past moves made reply
   has_committed : (txn : Txn) (heard : List Notice) → reply ≡ Ok heard → IsTextOf db.schemas text command.Commit → current ≡ Some txn → map notice_of heard ≡ (txn_name txn, Committed) ∷ [] → Outcome db text current later before after past moves made reply
   has_rolled_back : (txn : Txn) (heard : List Notice) → reply ≡ Ok heard → IsTextOf db.schemas text command.Rollback → current ≡ Some txn → map notice_of heard ≡ (txn_name txn, RolledBack) ∷ [] → Outcome db text current later before after past moves made reply
   has_answered : (txn : Txn) (statement : Statement) (heard : List Notice) (answer : AnswerNow) → reply ≡ Ok heard → IsTextOf db.schemas text (command.Run statement) → later ≡ current → map notice_of heard ≡ (txn_name txn, Answer answer) ∷ [] → Outcome db text current later before after past moves made reply
   is_hindered : (heard : List Notice) → reply ≡ Ok heard → SomeHindered db moves before after past made → Outcome db text current later before after past moves made reply
-  is_refused : (told : refusals.Refusal) → reply ≡ Err told → later ≡ current → IsDenied db text current before told → Outcome db text current later before after past moves made reply
+  is_misplaced : (told : refusals.Refusal) → reply ≡ Err told → later ≡ current → IsMisplaced db.schemas text current told → Outcome db text current later before after past moves made reply
+  finds_no_number : (told : refusals.Refusal) → reply ≡ Err told → later ≡ current → told ≡ refusal.Full → current ≡ None → IsTextOf db.schemas text command.Begin ⊎ ((statement : Statement) × IsTextOf db.schemas text (command.Run statement)) → 2 ^ 63 ≤ suc before.table.number → Outcome db text current later before after past moves made reply
+  is_too_much : (told : refusals.Refusal) → reply ≡ Err told → later ≡ current → told ≡ refusal.Full → (txn : Txn) → current ≡ Some txn → StatesPastLimits db before.table txn text → Outcome db text current later before after past moves made reply
+  is_too_much_alone : (told : refusals.Refusal) → reply ≡ Err told → later ≡ current → told ≡ refusal.Full → (txn : Txn) (began : Machines) (greeted : List Notice) → current ≡ None → DoesBegin db before txn began greeted → StatesPastLimits db began.table txn text → Outcome db text current later before after past moves made reply
 
 -- A command is executed, or refused, and that stops nothing: these are its moves. What was asked for and heard tells what has happened, so the serial law holds of
 -- it: with all that was before, the committed transactions, one after another over the whole relations, give the answers that were heard and what the settled
 -- fragments rebuild. Where it is refused nothing is committed. A database that stood stands again, and the command comes to its outcome. entries, past: what was
 -- asked for and heard, and what had happened, before it
-pub record Executes (db : Database) (fits : Leaf → Content → Bool) (whole : Relations) (text : List ℕ) (current : Option Txn) (before : Machines) (later : Option Txn) (after : Machines) (past : List (Deed (language db))) (reply : Reply) : Type 0 where
+pub record Executes (db : Database) (fits : Leaf → Content → Bool) (whole : Relations) (text : List ℕ) (current : Option Txn) (before : Machines) (later : Option Txn) (after : Machines) (past : List (Deed (language db))) (reply : Result (List Notice) refusals.Refusal) : Type 0 where
   pub moves : List Move
   pub made : Made db moves before after
   pub command : IsCommand db.schemas text current later moves reply
@@ -147,7 +135,7 @@ pub record Executes (db : Database) (fits : Leaf → Content → Bool) (whole : 
   pub outcome : Stands db fits current before past → Outcome db text current later before after past moves made reply
 
 -- so of an answer of the code, unless it stops the database
-abbrev pub UnlessStopped : {T : Type 0} → (T → List Notice) → (Reply → Type 0) → Result T refusals.Refusal → Type 0
+abbrev pub UnlessStopped : {T : Type 0} → (T → List Notice) → (Result (List Notice) refusals.Refusal → Type 0) → Result T refusals.Refusal → Type 0
 UnlessStopped items P (Ok heard) = P (Ok (items heard))
 UnlessStopped items P (Err told) = (is_stop told ≡ true) ⊎ P (Err told)
 
@@ -160,5 +148,5 @@ pub record MovesFollow (db : Database) : Type 0 where
 
 -- commands of a client's database that is served
 abbrev pub CommandsFollow : (db : Database) → (Leaf → Content → Bool) → Type 0
-CommandsFollow db fits = (whole : Relations) (text : List ℕ) (current later : Option Txn) (before after : Machines) (past : List (Deed (language db))) (reply : Reply) (moves : List Move) → IsServed db whole before past → Made db moves before after →
+CommandsFollow db fits = (whole : Relations) (text : List ℕ) (current later : Option Txn) (before after : Machines) (past : List (Deed (language db))) (reply : Result (List Notice) refusals.Refusal) (moves : List Move) → IsServed db whole before past → Made db moves before after →
     IsCommand db.schemas text current later moves reply → Executes db fits whole text current before later after past reply

@@ -1,5 +1,5 @@
 -- What the machines of the code hold.
-use Rattle.std.specs.Prelude.{ℕ, []}
+use Rattle.std.specs.Prelude.{ℕ, [], map}
 use Rattle.std.specs.List.{AllByRecursion}
 use Rattle.store.specs.DeskContent.{DeskContent}
 use Rattle.store.specs.SiteContent.{SiteContent}
@@ -7,15 +7,16 @@ use Rattle.desk.specs.State.{volatile_of}
 use Rattle.world.specs.declared.machines.Machines as code
 use Rattle.world.specs.Counted.{counts}
 use Rattle.world.specs.Machines.{Machines}
-use Rattle.world.specs.Seated.{seats_in}
+use Rattle.world.specs.Sites.{seat_from}
 
--- the machines; of_desk and of_site: what stores keep
-abbrev pub held : {D S : Type 0} → (D → DeskContent) → (S → SiteContent) → code.Machines D S → Machines
-held of_desk of_site machines = record { desk = of_desk machines.desk.store; table = volatile_of machines.desk.volatile; seats = seats_in of_site machines.sites.items; refused = [] }
-
--- so, with how often the medium of each store has refused
+-- the machines; of_desk and of_site: what stores keep, refused_desk and refused_site: how often the medium of each has refused
 abbrev pub counted : {D S : Type 0} → (D → DeskContent) → (S → SiteContent) → (D → ℕ) → (S → ℕ) → code.Machines D S → Machines
-counted of_desk of_site refused_desk refused_site machines = record (held of_desk of_site machines) { refused = counts refused_desk refused_site machines }
+counted of_desk of_site refused_desk refused_site machines =
+    record { desk = of_desk machines.desk.store; table = volatile_of machines.desk.volatile; seats = map (seat_from of_site) machines.sites.items; refused = counts refused_desk refused_site machines }
+
+-- so, where it doesn't matter how often
+abbrev pub held : {D S : Type 0} → (D → DeskContent) → (S → SiteContent) → code.Machines D S → Machines
+held of_desk of_site machines = record (counted of_desk of_site (λ _. 0) (λ _. 0) machines) { refused = [] }
 
 -- so where the medium of no store ever refuses, as over lists
 abbrev pub unrefused : {D S : Type 0} → (D → DeskContent) → (S → SiteContent) → code.Machines D S → Machines

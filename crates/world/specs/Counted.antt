@@ -1,5 +1,6 @@
 -- How often stores have refused, before something and after it.
-use Rattle.std.specs.Prelude.{◌≤◌, ◌⊎◌, ⊤, ℕ, List, [], ◌∷◌, map}
+use Rattle.std.specs.Prelude.{◌≤◌, ◌⊎◌, ℕ, List, [], ◌∷◌, map}
+use Rattle.std.specs.List.{AllZip}
 use Rattle.store.specs.Fault.{HasRefused}
 use Rattle.protocol.specs.Language.{Lang}
 use Rattle.site.specs.declared.site.Site.{Site}
@@ -12,14 +13,11 @@ counts_of of_site sites = map (λ site. of_site site.store) sites
 
 -- so of the machines' stores, the coordinator's first
 abbrev pub counts : {D S : Type 0} → (D → ℕ) → (S → ℕ) → code.Machines D S → List ℕ
-counts of_desk of_site machines = of_desk machines.desk.store ∷ counts_of of_site machines.sites.items
+counts of_desk of_site machines = of_desk machines.desk.store ∷ map (λ site. of_site site.store) machines.sites.items
 
 -- each count is at most the later one
 abbrev pub NoFewer : List ℕ → List ℕ → Type 0
-NoFewer [] [] = ⊤
-NoFewer [] (now ∷ after) = ⊥
-NoFewer (count ∷ before) [] = ⊥
-NoFewer (count ∷ before) (now ∷ after) = (count ≤ now) × NoFewer before after
+NoFewer before after = AllZip (λ (count now : ℕ). count ≤ now) before after
 
 -- one of the stores has refused
 abbrev pub HaveRefused : List ℕ → List ℕ → Type 0

@@ -1,5 +1,5 @@
 -- What a client asks for and what comes of it, call by call.
-use Rattle.std.specs.Prelude.{◌≡◌, ◌⊎◌, ℕ, true, List, [], ◌∷◌, ◌++◌}
+use Rattle.std.specs.Prelude.{◌≡◌, ◌⊎◌, ℕ, true, List, [], ◌∷◌, ◌++◌, Result, Ok, Err}
 use Rattle.store.specs.declared.name.Txn.{Txn}
 use Rattle.protocol.specs.Desk.{Commit_call, Deed, Rollback}
 use Rattle.desk.specs.declared.refusal.Refusal.{Refusal}
@@ -10,9 +10,8 @@ use Rattle.world.specs.declared.event.Call.TheVariants as call
 use Rattle.world.specs.declared.event.Entry.{Entry}
 use Rattle.world.specs.declared.event.Event.TheVariants as event
 use Rattle.world.specs.Client.{DoesAsk, DoesBegin, DoesState}
-use Rattle.world.specs.Executed.{CommitWasRefused, RollbackWasRefused, StateWasRefused}
 use Rattle.world.specs.Machines.{Machines}
-use Rattle.world.specs.Mailbox.{IsStill}
+use Rattle.world.specs.Mailbox.{IsStill, WasHindered}
 use Rattle.world.specs.Refused.{IsRefused}
 use Rattle.world.specs.Stopping.{is_stop}
 
@@ -23,6 +22,11 @@ pub data Move : Type 0 where
   Commits : (txn : Txn) (heard : List Notice) → Move
   Rolls_back : (txn : Txn) (heard : List Notice) → Move
   Refuses : (asked : calls.Call) (told : Refusal) → Move
+
+-- the one move of a call, by what it answers
+abbrev pub IsOne : {T : Type 0} → (T → Move) → calls.Call → Result T Refusal → List Move → Type 0
+IsOne move asked (Ok x) moves = moves ≡ move x ∷ []
+IsOne move asked (Err told) moves = moves ≡ Refuses asked told ∷ []
 
 -- ---- what was asked for and heard, in the form of the entries of a world
 abbrev pub said : calls.Call → List Notice → Entry
@@ -71,12 +75,12 @@ module _ (db : Database) where
   deeds_in [] before after same = []
   deeds_in (move ∷ moves) before after made = deeds_of move before made.0 made.1 ++ deeds_in moves made.0 after made.2
 
-  -- something was refused on the way of a move: a letter, since its step led past a limit, a write, by a full visit, or a store call. past: what had happened before it
+  -- something was refused on the way of a move. past: what had happened before it
   abbrev pub IsHindered : (move : Move) (before after : Machines) → List (Deed (language db)) → Moves move before after → Type 0
   IsHindered (Begins txn heard) before after past does = ⊥
-  IsHindered (States txn text heard) before after past does = StateWasRefused db text txn before after heard past does
-  IsHindered (Commits txn heard) before after past does = CommitWasRefused db txn before after heard past does
-  IsHindered (Rolls_back txn heard) before after past does = RollbackWasRefused db txn before after heard past does
+  IsHindered (States txn text heard) before after past does = WasHindered past does.asks.serves
+  IsHindered (Commits txn heard) before after past does = WasHindered past does.serves
+  IsHindered (Rolls_back txn heard) before after past does = WasHindered past does.serves
   IsHindered (Refuses asked told) before after past refused = ⊥
 
   -- so of one of these moves

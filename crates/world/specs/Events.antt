@@ -10,36 +10,24 @@ use Rattle.protocol.specs.Desk as protocol
 use Rattle.protocol.specs.Letters.{name_of, txn_name}
 use Rattle.protocol.specs.World as world
 use Rattle.desk.specs.Database.{Database, language}
-use Rattle.world.specs.declared.event.Call as calls
 use Rattle.world.specs.declared.event.Call.TheVariants as call
 use Rattle.world.specs.declared.event.Entry.{Entry}
 use Rattle.world.specs.declared.event.Event as events
 use Rattle.world.specs.declared.event.Event.TheVariants as event
 use Rattle.world.specs.Posted.{letters_in}
 
--- a call of a client; a statement's text is that of the statement
-abbrev pub IsCall : (db : Database) → calls.Call → world.Event (language db) → Type 0
-IsCall db call.Begin e = e ≡ world.Begin
-IsCall db (call.State txn text) e = (statement : Statement) × (choice : protocol.Choice (language db)) × (IsTextOf db.schemas text (command.Run statement) × (e ≡ world.Call (txn_name txn) (protocol.State statement) choice))
-IsCall db (call.Commit txn) e = (choice : protocol.Choice (language db)) × (e ≡ world.Call (txn_name txn) protocol.Commit_call choice)
-IsCall db (call.Rollback txn) e = (choice : protocol.Choice (language db)) × (e ≡ world.Call (txn_name txn) protocol.Rollback choice)
-IsCall db (call.GiveUp txn) e = (choice : protocol.Choice (language db)) × (e ≡ world.Call (txn_name txn) protocol.Give_up choice)
-
--- an event; kept: whether the store did not refuse
+-- an event; a statement's text is that of the statement. kept: whether the store did not refuse
 abbrev pub IsEvent : (db : Database) → events.Event → Bool → world.Event (language db) → Type 0
-IsEvent db (event.Call asked) kept e = IsCall db asked e
+IsEvent db (event.Call call.Begin) kept e = e ≡ world.Begin
+IsEvent db (event.Call (call.State txn text)) kept e = (statement : Statement) × (choice : protocol.Choice (language db)) × (IsTextOf db.schemas text (command.Run statement) × (e ≡ world.Call (txn_name txn) (protocol.State statement) choice))
+IsEvent db (event.Call (call.Commit txn)) kept e = (choice : protocol.Choice (language db)) × (e ≡ world.Call (txn_name txn) protocol.Commit_call choice)
+IsEvent db (event.Call (call.Rollback txn)) kept e = (choice : protocol.Choice (language db)) × (e ≡ world.Call (txn_name txn) protocol.Rollback choice)
+IsEvent db (event.Call (call.GiveUp txn)) kept e = (choice : protocol.Choice (language db)) × (e ≡ world.Call (txn_name txn) protocol.Give_up choice)
 IsEvent db (event.Deliver number whether) kept e = (choice : protocol.Choice (language db)) × (e ≡ world.Deliver number kept choice)
 IsEvent db (event.SiteGivesUp site ticket) kept e = e ≡ world.Site_gives_up site (name_of ticket)
 IsEvent db (event.SiteInquires site) kept e = e ≡ world.Site_inquires site
 IsEvent db (event.SiteRestarts site whether) kept e = e ≡ world.Site_restarts site whether
 IsEvent db (event.DeskRestarts whether) kept e = e ≡ world.Desk_restarts whether
-
--- entries are these events of the protocol, one by one
-abbrev pub AreEvents : (db : Database) → List Entry → List (world.Event (language db)) → Type 0
-AreEvents db [] [] = Unit
-AreEvents db [] (e ∷ es) = ⊥
-AreEvents db (entry ∷ entries) [] = ⊥
-AreEvents db (entry ∷ entries) (e ∷ es) = IsEvent db entry.event entry.out.kept e × AreEvents db entries es
 
 -- whether no site has the name
 abbrev pub is_nowhere : List (List ℕ) → List ℕ → Bool

@@ -1,6 +1,6 @@
 -- What a call leaves of the machines of a database, and of what its clauses speak.
-use Rattle.std.specs.Prelude.{◌≡◌, ◌⊎◌, ℕ, true, List, map, Result, Ok, Err, IfErr, OnErr}
-use Rattle.std.specs.List.{AllByRecursion}
+use Rattle.std.specs.Prelude.{◌≡◌, ◌≤◌, ◌⊎◌, ℕ, true, List, map, Result, Ok, Err, IfErr, IfOk, OnErr}
+use Rattle.std.specs.List.{AllByRecursion, AllZip}
 use Rattle.catalog.specs.Relation.{catalogue_of}
 use Rattle.meaning.specs.Whole.{Relations}
 use Rattle.protocol.specs.Client.{ReachedLaw}
@@ -22,12 +22,8 @@ use Rattle.world.specs.Stopping.{StopsFor, is_stop}
 pub record LeavesMachines {D S : Type 0} (desk_is_clean : D → Type 0) (site_is_clean : S → Type 0) (desk_is_sound : D → Type 0) (site_is_sound : S → Type 0) (desk_refused : D → ℕ) (site_refused : S → ℕ) (old new : code.Machines D S) : Type 0 where
   pub clean : OfStores desk_is_clean site_is_clean new → OfStores desk_is_clean site_is_clean old
   pub sound : OfStores desk_is_clean site_is_clean new → OfStores desk_is_sound site_is_sound old → OfStores desk_is_sound site_is_sound new
-  pub counts : NoFewer (counts desk_refused site_refused old) (counts desk_refused site_refused new)
+  pub counts : AllZip (λ (count now : ℕ). count ≤ now) (counts desk_refused site_refused old) (counts desk_refused site_refused new)
   pub catalog : new.desk.catalog ≡ old.desk.catalog
-
--- the stores of sites
-abbrev pub stores_of : {S : Type 0} → List (Site S) → List S
-stores_of sites = map (λ site. site.store) sites
 
 -- so of the stores of sites
 pub record LeavesSites {S : Type 0} (is_clean is_sound : S → Type 0) (refused : S → ℕ) (old new : List (Site S)) : Type 0 where
@@ -38,7 +34,7 @@ pub record LeavesSites {S : Type 0} (is_clean is_sound : S → Type 0) (refused 
 -- no store has been called: each is what it was
 pub record CallsNoStore {D S : Type 0} (old new : code.Machines D S) : Type 0 where
   pub desk : new.desk.store ≡ old.desk.store
-  pub sites : stores_of new.sites.items ≡ stores_of old.sites.items
+  pub sites : map (λ site. site.store) new.sites.items ≡ map (λ site. site.store) old.sites.items
 
 -- something holds of each database of the catalogue, of the machines before a call and after it, where stores are clean now and were sound, and memory fitted them.
 -- clean, sound: of the stores; view: the machines as the protocol sees them
@@ -83,3 +79,8 @@ pub record ComesTo {D S T : Type 0} (IsClean IsSound : code.Machines D S → Typ
   pub blames : IsClean new → IsSound old → IfErr result (StopsFor (view old).refused (view new).refused)
   pub served : StaysServed IsClean IsSound view old new
   pub moves : OverDatabase IsClean IsSound view old new (λ db before after. MakesMoves db before after result (kind db))
+
+-- so a call that is refused only where it stops the database. kind: which moves these are, by its result
+pub record RunsTo {D S T : Type 0} (IsClean IsSound : code.Machines D S → Type 0) (view : code.Machines D S → Machines) (old new : code.Machines D S) (result : Result T Refusal) (kind : Database → T → List Move → Type 0) : Type 0 where
+  pub comes : ComesTo IsClean IsSound view old new result (λ db done moves. IfOk done (λ x. kind db x moves))
+  pub own : IfErr result (λ told. is_stop told ≡ true)

@@ -27,7 +27,7 @@ use Rattle.desk.specs.State.{Fits, VolatileState, desk_of, notice_of}
 use Rattle.desk.specs.Transition.{told}
 use Rattle.world.specs.declared.sites.SiteAction as doing
 use Rattle.world.specs.declared.sites.SiteAction.TheVariants.{GiveUp, Inquire, Restart, Take}
-use Rattle.world.specs.Sites.{AreSeated, Seat, states_of}
+use Rattle.world.specs.Sites.{IsSeated, Seat, states_of}
 
 -- the coordinator, by what its store keeps and what it has in memory, and the sites. refused: how often the medium of each store has
 -- refused, the coordinator's first; none where that isn't counted
@@ -41,17 +41,13 @@ pub record Machines : Type 0 where
 abbrev pub world_of : (db : Database) → Machines → List (Letter (language db)) → List (Deed (language db)) → World (language db)
 world_of db machines letters past = record { desk = desk_of db machines.table; sites = states_of (statements db) machines.seats; letters = letters; past = past }
 
--- a site has each leaf that is at home there
-abbrev pub HasItsLeaves : Database → Seat → Type 0
-HasItsLeaves db seat = (leaf : Leaf) → db.home leaf ≡ seat.name → list_any (λ other. is_eq (leaf_cmp leaf other)) seat.leaves ≡ true
-
--- what is in memory fits what the stores keep, and the sites are those of the database, each with its leaves
+-- what is in memory fits what the stores keep, and the sites are those of the database, each with the leaves that are at home there
 pub record AreFit (db : Database) (machines : Machines) : Type 0 where
   pub names : map (λ seat. seat.name) machines.seats ≡ db.sites
-  pub leaves : AllByRecursion (HasItsLeaves db) machines.seats
+  pub leaves : AllByRecursion (λ seat. (leaf : Leaf) → db.home leaf ≡ seat.name → list_any (λ other. is_eq (leaf_cmp leaf other)) seat.leaves ≡ true) machines.seats
   pub desk : Fits db machines.desk machines.table
   pub within : is_desk_within (desk_of db machines.table) ≡ true
-  pub sites : AreSeated machines.seats
+  pub sites : AllByRecursion IsSeated machines.seats
 
 -- whether a letter is for a site
 abbrev pub is_order : bodies.Body → Bool

@@ -1,8 +1,9 @@
 -- The letters of one client's machines come, each once, the oldest first.
-use Rattle.std.specs.Prelude.{◌≡◌, ◌⊎◌, List, [], ◌++◌, map}
-use Rattle.std.specs.List.{filter_map}
+use Rattle.std.specs.Prelude.{◌≡◌, ◌≤◌, ◌⊎◌, ℕ, List, [], ◌++◌, map}
+use Rattle.std.specs.List.{AllZip, filter_map}
 use Rattle.store.specs.declared.letter.Letter as letters
-pub use Rattle.protocol.specs.Delivery.{AllFounded, Ask, Coming, Passed_over, Taken, To_begin, To_do, Turned_away, all_come, asked, come, done_with, first_comes}
+pub use Rattle.protocol.specs.Delivery.{AllFounded, AllKept, Ask, Coming, Passed_over, Taken, To_begin, To_do, Turned_away, all_come, asked, come, done_with, first_comes}
+use Rattle.protocol.specs.Delivery.{SomeHinder}
 use Rattle.protocol.specs.Desk.{Deed}
 use Rattle.protocol.specs.Home.{AreHomed}
 use Rattle.protocol.specs.Letter.{Letter}
@@ -12,7 +13,7 @@ use Rattle.desk.specs.declared.reply.Notice.{Notice}
 use Rattle.desk.specs.Database.{Database, language, sent}
 use Rattle.desk.specs.State.{notice_of}
 use Rattle.desk.specs.Transition.{told}
-use Rattle.world.specs.Counted.{KeptUnless, NoFewer}
+use Rattle.world.specs.Counted.{HaveRefused, KeptUnless, NoFewer}
 use Rattle.world.specs.Machines.{AreFit, Machines, world_of}
 
 -- machines, the letters that wait, oldest first, and what the client has heard
@@ -51,9 +52,22 @@ at_rest machines = record { machines = machines; waiting = []; heard = [] }
 abbrev pub settled : Machines → List Notice → Scene
 settled machines notices = record { machines = machines; waiting = []; heard = notices }
 
--- a call of the client, after which all letters come; notices: what the client hears
-abbrev pub Serves : (db : Database) → Ask (language db) → Machines → Machines → List Notice → Type 0
-Serves db ask before after notices = Goes db (asked ask) (at_rest before) (settled after notices)
+-- a call of the client, after which all letters come, each once, the oldest first, until none waits; each for its reason, and each store call is kept unless a store refuses.
+-- Deeds are done, among them no statement that isn't explained, and the client hears of them
+pub record Serves (db : Database) (ask : Ask (language db)) (before after : Machines) (heard : List Notice) : Type 0 where
+  pub comings : List (Coming (language db))
+  pub deeds : List (Deed (language db))
+  pub fit : AreFit db after
+  pub is : (past : List (Deed (language db))) → all_come comings (asked ask (world_of db before [] past)) ≡ world_of db after [] (past ++ deeds)
+  pub founded : (past : List (Deed (language db))) → AllFounded comings (asked ask (world_of db before [] past))
+  pub counts : AllZip (λ (count now : ℕ). count ≤ now) before.refused after.refused
+  pub kept : AllKept comings ⊎ HaveRefused before.refused after.refused
+  pub explained : AllExplained deeds
+  pub replies : map notice_of heard ≡ filter_map (told db) deeds
+
+-- something was refused on the way of a call: a letter, since its step led past a limit, a write, by a full visit, or a store call, which isn't kept only where the medium of a store has refused meanwhile. past: what had happened before it
+abbrev pub WasHindered : {db : Database} {ask : Ask (language db)} {before after : Machines} {heard : List Notice} → List (Deed (language db)) → Serves db ask before after heard → Type 0
+WasHindered {db} {ask} {before} {after} past serves = SomeHinder (HaveRefused before.refused after.refused) serves.comings (asked ask (world_of db before [] past))
 
 -- a call is refused, and nothing has changed, or something is refused on the way
 abbrev pub Fails : Database → Machines → Machines → Type 0

@@ -1,12 +1,11 @@
 -- Why an event is refused: a call of a client by the coordinator, a letter by its machine, a restart by the machine or its store.
-use Rattle.std.specs.Prelude.{◌≡◌, ◌⊎◌, ◌≤◌, ◌+◌, ◌^◌, ⊤, ℕ, Bool, false, true, List, Some, None, IfSome, slice_get}
+pub use Rattle.site.specs.Seat.{SiteRestartTells}
+pub use Rattle.desk.specs.Recovery.{DeskRestartTells}
+use Rattle.std.specs.Prelude.{◌≡◌, ◌⊎◌, ⊤, ℕ, Bool, false, true, List, Some, None, IfSome, slice_get}
 use Rattle.std.specs.Option.{option_map}
-use Rattle.store.specs.declared.fault.StoreFault.TheVariants as store_faults
 use Rattle.store.specs.declared.letter.Letter.{Letter}
-use Rattle.store.specs.DeskContent.{DeskContent}
 use Rattle.site.specs.declared.fault.SiteFault as site_faults
 use Rattle.site.specs.declared.fault.SiteFault.TheVariants as site_fault
-use Rattle.site.specs.Recovery as site
 use Rattle.meaning.specs.declared.statement.Statement.{Statement}
 use Rattle.catalog.specs.FragmentLeaf.{schemas_of}
 use Rattle.protocol.specs.Desk.{Commit_call, Rollback, State, desk_began, is_desk_within, refusal}
@@ -16,7 +15,6 @@ use Rattle.desk.specs.declared.refusal.Refusal.TheVariants.{Full}
 use Rattle.desk.specs.Request.{refused_as, txn_in}
 use Rattle.desk.specs.Database.{Database}
 use Rattle.desk.specs.Does.{IsUnread, StatesPastLimits}
-use Rattle.desk.specs.Recovery as desk
 use Rattle.desk.specs.State.{VolatileState, desk_of}
 use Rattle.world.specs.declared.sites.SiteAction as doing
 use Rattle.world.specs.declared.sites.SiteAction.TheVariants as things
@@ -45,20 +43,6 @@ IsRefused db table (call.Commit txn) told = option_map refused_as (refusal Commi
 IsRefused db table (call.Rollback txn) told = option_map refused_as (refusal Rollback (txn_in db table txn)) ≡ Some told
 IsRefused db table (call.GiveUp txn) told = ⊥
 
--- so, as a world tells it
-abbrev pub IsToldOf : (db : Database) → VolatileState → calls.Call → faults.Fault → Type 0
-IsToldOf db table asked told = (refused : refusals.Refusal) × ((told ≡ fault.Desk refused) × IsRefused db table asked refused)
-
--- Why a site doesn't restart: memory ran out, its store refused or wasn't to be called (kept is false), its last life has begun, or the rows that
--- its store keeps can be no site's. Sound: that stores are clean now and were sound; Refused: that the medium has refused meanwhile
-abbrev pub SiteRestartTells : (Sound Refused : Type 0) → Bool → Seat → site_faults.SiteFault → Type 0
-SiteRestartTells Sound Refused kept seat site_fault.Memory = ⊤
-SiteRestartTells Sound Refused kept seat (site_fault.Store store_faults.Refused) = (kept ≡ false) ⊎ Refused
-SiteRestartTells Sound Refused kept seat (site_fault.Store store_faults.Memory) = ⊤
-SiteRestartTells Sound Refused kept seat (site_fault.Store store_faults.Damaged) = Sound → site.IsStrange seat.leaves seat.kept
-SiteRestartTells Sound Refused kept seat site_fault.Full = Sound → 2 ^ 63 ≤ seat.kept.life + 1
-SiteRestartTells Sound Refused kept seat site_fault.Stranger = ⊥
-
 -- why something isn't done at a site: giving up a visit never fails, and inquiries need memory alone; of letters nothing is said here
 abbrev pub PlaceTells : (Sound Refused : Type 0) → doing.SiteAction → Bool → Seat → site_faults.SiteFault → Type 0
 PlaceTells Sound Refused (things.Take letter) kept seat told = ⊤
@@ -66,36 +50,15 @@ PlaceTells Sound Refused (things.GiveUp place ticket) kept seat told = ⊥
 PlaceTells Sound Refused (things.Inquire place) kept seat told = told ≡ site_fault.Memory
 PlaceTells Sound Refused (things.Restart place) kept seat told = SiteRestartTells Sound Refused kept seat told
 
--- why the coordinator of these sites doesn't restart, as it is with a site; content: what its store keeps
-abbrev pub DeskRestartTells : (Sound Refused : Type 0) → Bool → List (List ℕ) → DeskContent → refusals.Refusal → Type 0
-DeskRestartTells Sound Refused kept sites content refusal_of.Memory = ⊤
-DeskRestartTells Sound Refused kept sites content refusal_of.Full = Sound → 2 ^ 63 ≤ content.life + 1
-DeskRestartTells Sound Refused kept sites content (refusal_of.Store store_faults.Refused) = (kept ≡ false) ⊎ Refused
-DeskRestartTells Sound Refused kept sites content (refusal_of.Store store_faults.Damaged) = Sound → desk.IsStrange sites content
-DeskRestartTells Sound Refused kept sites content other = ⊥
-
--- A letter that was sent isn't taken: its machine says why, and names its store only where that refused or wasn't to be called (kept is false)
-pub record LetterTells (Sound : Type 0) (db : Database) (before after : Machines) (entries : List Entry) (number : ℕ) (kept : Bool) (told : faults.Fault) : Type 0 where
-  pub letter : Letter
-  pub there : slice_get (letters_in entries) number ≡ Some letter
-  pub tells : Tells db before letter told
-  pub blames : Sound → (kept ≡ false) ⊎ IfSome (stop_of told) (StopsFor before.refused after.refused)
-
--- a site of the database doesn't restart
-pub record SiteTellsOfRestart (Sound : Type 0) (before after : Machines) (place : List ℕ) (kept : Bool) (told : faults.Fault) : Type 0 where
-  pub seat : Seat
-  pub there : seat_of place before.seats ≡ Some seat
-  pub why : site_faults.SiteFault
-  pub is : told ≡ fault.Site why
-  pub tells : SiteRestartTells Sound (HaveRefused before.refused after.refused) kept seat why
-
--- the reason of an event's own kind for its refusal
+-- The reason of an event's own kind for its refusal. A letter's machine says why it isn't taken, and names its store only where that refused or wasn't to be called (kept is false)
 abbrev pub HasOwnReason : (Sound : Type 0) (db : Database) (before after : Machines) → List Entry → events.Event → faults.Fault → Type 0
-HasOwnReason Sound db before after entries (event.Call asked) told = IsToldOf db before.table asked told
-HasOwnReason Sound db before after entries (event.Deliver number kept) told = LetterTells Sound db before after entries number kept told
+HasOwnReason Sound db before after entries (event.Call asked) told = (refused : refusals.Refusal) × ((told ≡ fault.Desk refused) × IsRefused db before.table asked refused)
+HasOwnReason Sound db before after entries (event.Deliver number kept) told =
+    (letter : Letter) × (slice_get (letters_in entries) number ≡ Some letter) × Tells db before letter told × (Sound → (kept ≡ false) ⊎ IfSome (stop_of told) (StopsFor before.refused after.refused))
 HasOwnReason Sound db before after entries (event.SiteGivesUp place ticket) told = ⊥
 HasOwnReason Sound db before after entries (event.SiteInquires place) told = told ≡ fault.Site site_fault.Memory
-HasOwnReason Sound db before after entries (event.SiteRestarts place kept) told = SiteTellsOfRestart Sound before after place kept told
+HasOwnReason Sound db before after entries (event.SiteRestarts place kept) told =
+    (seat : Seat) × (seat_of place before.seats ≡ Some seat) × (why : site_faults.SiteFault) × (told ≡ fault.Site why) × SiteRestartTells Sound (HaveRefused before.refused after.refused) kept seat why
 HasOwnReason Sound db before after entries (event.DeskRestarts kept) told = (why : refusals.Refusal) × ((told ≡ fault.Desk why) × DeskRestartTells Sound (HaveRefused before.refused after.refused) kept db.sites before.desk why)
 
 -- Why an event is refused, by machines that were these, and count refusals now as these do: memory ran out, there is no such letter or site, or the reason is of its kind.

@@ -1,6 +1,6 @@
 -- What the entries of a world tell: what clients asked for, and what they heard.
 use Rattle.std.specs.Prelude.{◌≡◌, ℕ, ◌&&◌, Bool, true, false, List, [], ◌∷◌, map, if◌then◌else◌}
-use Rattle.std.specs.List.{filter, filter_map, flat_map, list_any}
+use Rattle.std.specs.List.{AllZip, filter, filter_map, flat_map, list_any}
 use Rattle.meaning.specs.declared.answer.Answer.{Answer}
 use Rattle.meaning.specs.declared.statement.Statement.{Statement}
 use Rattle.reader.specs.declared.command.Command.TheVariants as command
@@ -12,8 +12,7 @@ use Rattle.protocol.specs.Letters.{txn_name}
 use Rattle.protocol.specs.Accepted.{stated_of}
 use Rattle.protocol.specs.Serial.{phases_of}
 use Rattle.desk.specs.declared.reply.Notice.{Notice}
-use Rattle.desk.specs.declared.reply.Reply as replies
-use Rattle.desk.specs.declared.reply.Reply.TheVariants as reply
+pub use Rattle.desk.specs.Reply.{answer_of, is_commit}
 use Rattle.desk.specs.Database.{Database, language}
 use Rattle.desk.specs.State.{notice_of}
 use Rattle.desk.specs.Transition.{told}
@@ -48,38 +47,25 @@ texts_in entries = flat_map (λ entry. text_by entry.event) entries
 abbrev pub is_txn : Txn → Txn → Bool
 is_txn one other = same (txn_name one) (txn_name other)
 
--- whether a reply says that the transaction is committed
-abbrev pub says_committed : replies.Reply → Bool
-says_committed reply.Committed = true
-says_committed other = false
-
 -- whether a transaction's client heard that it is committed
 abbrev pub is_told_committed : List Entry → Txn → Bool
-is_told_committed entries txn = list_any (λ notice. is_txn notice.txn txn && says_committed notice.reply) (notices_in entries)
+is_told_committed entries txn = list_any (λ notice. is_txn notice.txn txn && is_commit notice.reply) (notices_in entries)
 
 -- the committed transactions, in the order in which their commits were asked for
 abbrev pub committed_in : List Entry → List Txn
-committed_in entries = filter (is_told_committed entries) (phased_in entries)
-
--- the answer in a reply
-abbrev pub answer_of : replies.Reply → List Answer
-answer_of (reply.Answer answer) = answer ∷ []
-answer_of other = []
+committed_in entries = filter (λ txn. list_any (λ notice. same (txn_name notice.txn) (txn_name txn) && is_commit notice.reply) (notices_in entries)) (flat_map (λ entry. phased_by entry.event) entries)
 
 -- the answers that a transaction's client heard
 abbrev pub answers_to : List Entry → Txn → List Answer
-answers_to entries txn = flat_map (λ notice. if is_txn notice.txn txn then answer_of notice.reply else []) (notices_in entries)
+answers_to entries txn = flat_map (λ notice. if same (txn_name notice.txn) (txn_name txn) then answer_of notice.reply else []) (notices_in entries)
 
 -- the texts of a transaction's statements
 abbrev pub texts_of : List Entry → Txn → List (List ℕ)
-texts_of entries txn = flat_map (λ text. if is_txn text.0 txn then text.1 ∷ [] else []) (texts_in entries)
+texts_of entries txn = flat_map (λ text. if same (txn_name text.0) (txn_name txn) then text.1 ∷ [] else []) (flat_map (λ entry. text_by entry.event) entries)
 
 -- texts of transactions are those of statements, one by one
 abbrev pub AreStated : (db : Database) → List (Txn × List ℕ) → List (Name × Statement) → Type 0
-AreStated db [] [] = Unit
-AreStated db [] (y ∷ ys) = ⊥
-AreStated db (x ∷ xs) [] = ⊥
-AreStated db (x ∷ xs) (y ∷ ys) = (txn_name x.0 ≡ y.0) × IsTextOf db.schemas x.1 (command.Run y.1) × AreStated db xs ys
+AreStated db texts statements = AllZip (λ (text : Txn × List ℕ) (stated : Name × Statement). (txn_name text.0 ≡ stated.0) × IsTextOf db.schemas text.1 (command.Run stated.1)) texts statements
 
 -- the deeds that an event did: the first phase and the statement that it brings, and no others
 pub record Shows (db : Database) (what : events.Event) (deeds : List (protocol.Deed (language db))) : Type 0 where
@@ -88,6 +74,6 @@ pub record Shows (db : Database) (what : events.Event) (deeds : List (protocol.D
 
 -- entries tell what happened to transactions: their first phases, their statements, and what their clients heard
 pub record Tells (db : Database) (entries : List Entry) (past : List (protocol.Deed (language db))) : Type 0 where
-  pub phased : map txn_name (phased_in entries) ≡ phases_of past
-  pub stated : AreStated db (texts_in entries) (stated_of past)
+  pub phased : map txn_name (flat_map (λ entry. phased_by entry.event) entries) ≡ phases_of past
+  pub stated : AllZip (λ (text : Txn × List ℕ) (stated : Name × Statement). (txn_name text.0 ≡ stated.0) × IsTextOf db.schemas text.1 (command.Run stated.1)) (flat_map (λ entry. text_by entry.event) entries) (stated_of past)
   pub heard : map notice_of (notices_in entries) ≡ filter_map (told db) past

@@ -1,4 +1,5 @@
 -- The machines and the entries of a world are those of a run of the protocol.
+use Rattle.std.specs.List.{AllZip}
 use Rattle.std.specs.Prelude.{◌≡◌, ◌⊎◌, ⊤, ℕ, Bool, true, false, List, ◌++◌, ◌∷◌, [], map}
 use Rattle.terms.specs.declared.leaf.Leaf.{Leaf}
 use Rattle.meaning.specs.declared.statement.Statement.{Statement}
@@ -16,7 +17,7 @@ use Rattle.desk.specs.Database.{Database, language, sent}
 use Rattle.world.specs.declared.event.Entry.{Entry}
 use Rattle.world.specs.declared.event.Event as events
 use Rattle.world.specs.declared.event.Event.TheVariants as event
-use Rattle.world.specs.Events.{AreEvents, IsEvent}
+use Rattle.world.specs.Events.{IsEvent}
 use Rattle.world.specs.Machines.{AreFit, Machines, world_of}
 use Rattle.world.specs.Posted.{letters_in}
 use Rattle.world.specs.Replies.{Tells, answers_to, committed_in, texts_of}
@@ -26,7 +27,7 @@ pub record IsRun (db : Database) (whole : Relations) (machines : Machines) (entr
   pub opening : World (language db)
   pub opens : IsOpening whole opening
   pub events : List (Event (language db))
-  pub are : AreEvents db entries events
+  pub are : AllZip (λ (entry : Entry) (e : Event (language db)). IsEvent db entry.event entry.out.kept e) entries events
   pub is : run events opening ≡ world_of db machines (map (sent db) (letters_in entries)) past
   pub explained : AllExplained past
   pub tells : Tells db entries past
@@ -47,11 +48,6 @@ pub record StepsOn (db : Database) (whole : Relations) (before after : Machines)
   pub deeds : List (Deed (language db))
   pub is : happens (world_of db before (map (sent db) (letters_in entries)) past) step ≡ world_of db after (map (sent db) (letters_in more)) (past ++ deeds)
   pub run_on : IsRun db whole after more (past ++ deeds)
-
--- the run goes on by one event, and in the world that it leads to the invariant holds
-pub record GoesOn (db : Database) (whole : Relations) (before after : Machines) (entries more : List Entry) (past : List (Deed (language db))) : Type 0 where
-  pub on : StepsOn db whole before after entries more past
-  pub holds : Holds whole (world_of db after (map (sent db) (letters_in more)) (past ++ on.deeds))
 
 -- the caller's flag of a delivery is honoured: its step is that of a store call that is kept, unless the flag said that it isn't, or the medium of a store has refused meanwhile
 pub record IsSpared (Refused : Type 0) (db : Database) (before after : Machines) (entries more : List Entry) (past : List (Deed (language db))) (number : ℕ) (whether : Bool) : Type 0 where
@@ -76,15 +72,12 @@ entry_of what out = record { event = what; out = out }
 
 -- texts are those of statements, one by one
 abbrev pub AreTexts : Database → List (List ℕ) → List Statement → Type 0
-AreTexts db [] [] = Unit
-AreTexts db [] (s ∷ ss) = ⊥
-AreTexts db (text ∷ texts) [] = ⊥
-AreTexts db (text ∷ texts) (s ∷ ss) = IsTextOf db.schemas text (command.Run s) × AreTexts db texts ss
+AreTexts db texts statements = AllZip (λ (text : List ℕ) (statement : Statement). IsTextOf db.schemas text (command.Run statement)) texts statements
 
 -- the committed transactions, run one after another over whole relations in the order in which their commits were asked for, give the answers that their clients heard and what the settled fragments rebuild; statements: those of the texts that they stated
 pub record IsSerialRun (db : Database) (whole : Relations) (machines : Machines) (entries : List Entry) : Type 0 where
   pub statements : Txn → List Statement
-  pub spelled : (txn : Txn) → AreTexts db (texts_of entries txn) (statements txn)
+  pub spelled : (txn : Txn) → AllZip (λ (text : List ℕ) (statement : Statement). IsTextOf db.schemas text (command.Run statement)) (texts_of entries txn) (statements txn)
   pub answers : map (answers_to entries) (committed_in entries) ≡ serial_answers (language db) (map statements (committed_in entries)) whole
   pub rebuilt : (leaf : Leaf) → settled (world_of db machines [] []) leaf ≡ db.content leaf (serial_whole (language db) (map statements (committed_in entries)) whole)
 

@@ -6,16 +6,12 @@ use Rattle.store.specs.SiteContent.{SiteContent}
 use Rattle.protocol.specs.Letters.{letter_of, name_of}
 use Rattle.protocol.specs.Site.{inquiries, on_give_up}
 use Rattle.site.specs.declared.site.Site.{Site}
-use Rattle.site.specs.Locks.{leaves_in}
 use Rattle.site.specs.Recovery.{Restarts}
-use Rattle.site.specs.State.{Steps, Takes, state_of, volatile_of}
+use Rattle.site.specs.State.{Steps, Takes, state_of}
 use Rattle.world.specs.declared.sites.SiteAction as doing
 use Rattle.world.specs.declared.sites.SiteAction.TheVariants.{GiveUp, Inquire, Restart, Take}
+pub use Rattle.site.specs.Seat.{seat_from}
 use Rattle.world.specs.Sites.{IsSeated, Moves, Seat}
-
--- a site of the code; content: what its store keeps
-abbrev pub seat_from : {S : Type 0} → (S → SiteContent) → Site S → Seat
-seat_from content site = record { name = site.volatile.name; leaves = leaves_in site.volatile.locks.items; kept = content site.store; table = volatile_of site.volatile }
 
 -- a visit is given up
 abbrev pub GivesUp : Ticket → Seat → Seat → Type 0

@@ -15,9 +15,8 @@ use Rattle.desk.specs.declared.reply.Notice.{Notice}
 use Rattle.desk.specs.declared.reply.Reply.TheVariants.{Answer, Begun, Committed, RolledBack}
 use Rattle.desk.specs.Database.{Database, language}
 use Rattle.desk.specs.State.{desk_of, notice_of}
-use Rattle.world.specs.Counted.{HaveRefused}
-use Rattle.protocol.specs.Delivery.{AllSmooth, SomeHinder}
-use Rattle.world.specs.Mailbox.{Ask, Coming, Serves, To_begin, To_do, asked}
+use Rattle.protocol.specs.Delivery.{AllSmooth}
+use Rattle.world.specs.Mailbox.{Ask, Coming, Serves, To_begin, To_do, WasHindered, asked}
 use Rattle.world.specs.Machines.{Machines, world_of}
 use Rattle.world.specs.Client.{IsServed}
 
@@ -29,10 +28,6 @@ module _ (db : Database) where
   -- so are all letters of a call
   abbrev pub AreSmooth : Ask (language db) → Machines → List (Deed (language db)) → List (Coming (language db)) → Type 0
   AreSmooth ask before past comings = AllSmooth comings (asked ask (rests before past))
-
-  -- something is refused on the way of a call: a store call isn't kept only where the medium of a store has refused in the call
-  abbrev pub WasRefused : Ask (language db) → Machines → Machines → List (Deed (language db)) → List (Coming (language db)) → Type 0
-  WasRefused ask before after past comings = SomeHinder (HaveRefused before.refused after.refused) comings (asked ask (rests before past))
 
 -- served machines, call by call, where all letters come smoothly: a transaction begins where all is quiet, each statement is answered, and a commit is told, after which all is quiet again
 pub record ServesSmoothly (db : Database) (fits : Leaf → Content → Bool) : Type 0 where
@@ -57,10 +52,10 @@ pub record ServesUnlessRefused (db : Database) (fits : Leaf → Content → Bool
       Ready (language db) fits txn (rests db before past) → IsStatementOf db.schemas statement →
       is_desk_within (desk_after (desk_of db before.table) txn (on_request txn choice (State statement) ((desk_of db before.table).txn txn)).txn) ≡ true →
       (serves : Serves db (To_do txn (State statement) choice) before after heard) →
-      (Ready (language db) fits txn (rests db after (past ++ serves.deeds)) × ((answer : AnswerNow) × (map notice_of heard ≡ (txn, Answer answer) ∷ []))) ⊎ WasRefused db (To_do txn (State statement) choice) before after past serves.comings
+      (Ready (language db) fits txn (rests db after (past ++ serves.deeds)) × ((answer : AnswerNow) × (map notice_of heard ≡ (txn, Answer answer) ∷ []))) ⊎ WasHindered past serves
   pub commits : (whole : Relations) (before after : Machines) (past : List (Deed (language db))) (txn : Name) (choice : Choice (language db)) (heard : List Notice) → IsServed db whole before past →
       Ready (language db) fits txn (rests db before past) → (serves : Serves db (To_do txn Commit_call choice) before after heard) →
-      (IsQuiet (rests db after (past ++ serves.deeds)) × (map notice_of heard ≡ (txn, Committed) ∷ [])) ⊎ WasRefused db (To_do txn Commit_call choice) before after past serves.comings
+      (IsQuiet (rests db after (past ++ serves.deeds)) × (map notice_of heard ≡ (txn, Committed) ∷ [])) ⊎ WasHindered past serves
   pub rolls_back : (whole : Relations) (before after : Machines) (past : List (Deed (language db))) (txn : Name) (choice : Choice (language db)) (heard : List Notice) → IsServed db whole before past →
       Ready (language db) fits txn (rests db before past) → (serves : Serves db (To_do txn Rollback choice) before after heard) →
-      (IsQuiet (rests db after (past ++ serves.deeds)) × (map notice_of heard ≡ (txn, RolledBack) ∷ [])) ⊎ WasRefused db (To_do txn Rollback choice) before after past serves.comings
+      (IsQuiet (rests db after (past ++ serves.deeds)) × (map notice_of heard ≡ (txn, RolledBack) ∷ [])) ⊎ WasHindered past serves

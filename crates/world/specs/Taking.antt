@@ -19,18 +19,15 @@ use Rattle.world.specs.Machines.{Came, Leads, Machines, world_of}
 use Rattle.world.specs.Reasons.{HasReason}
 
 -- the refusal that stops one client's machines, if the fault is one that does
-abbrev pub stop_of_desk : Refusal → Option Refusal
-stop_of_desk refusals.NoTransaction = None
-stop_of_desk refusals.Busy = None
-stop_of_desk refusals.Ended = None
-stop_of_desk refusals.Full = None
-stop_of_desk (refusals.Read fault) = None
-stop_of_desk (refusals.Aborted why) = None
-stop_of_desk refusals.Memory = Some refusals.Memory
-stop_of_desk (refusals.Store fault) = Some (refusals.Store fault)
-
 abbrev pub stop_of : Fault → Option Refusal
-stop_of (Desk refusal) = stop_of_desk refusal
+stop_of (Desk refusals.NoTransaction) = None
+stop_of (Desk refusals.Busy) = None
+stop_of (Desk refusals.Ended) = None
+stop_of (Desk refusals.Full) = None
+stop_of (Desk (refusals.Read fault)) = None
+stop_of (Desk (refusals.Aborted why)) = None
+stop_of (Desk refusals.Memory) = Some refusals.Memory
+stop_of (Desk (refusals.Store fault)) = Some (refusals.Store fault)
 stop_of (Site site_faults.Memory) = Some refusals.Memory
 stop_of (Site (site_faults.Store fault)) = Some (refusals.Store fault)
 stop_of (Site site_faults.Full) = None

@@ -10,7 +10,7 @@ ghost use Rattle.world.specs.declared.transaction.End.TheVariants as end;
 ghost use Rattle.world.specs.declared.transaction.Came.TheVariants.{Heard, Refused};
 ghost use Rattle.world.specs.Batch.{Makes, MakesMore, RunsAll, RunsOne, StopsAt, calls_of, calls_of_end, has_ended};
 ghost use Rattle.world.specs.Counted.{counts};
-ghost use Rattle.world.specs.Frame.{Blames, LeavesMachines, OverDatabase, StaysServed};
+ghost use Rattle.world.specs.Frame.{HasMade, LeavesMachines, OverDatabase, RunsTo, StaysServed};
 ghost use Rattle.world.specs.Contents.{OfStores, counted};
 ghost use Rattle.world.specs.Stopping.{StopsFor, is_stop};
 
@@ -98,12 +98,7 @@ fn state_all<D: DeskStore, S: SiteStore>(
     txn: Txn,
     texts: &[Text],
 ) -> Result<Stated, Refusal>
-    ensures leaves { LeavesMachines D.is_clean S.is_clean D.is_sound S.is_sound D.refused S.refused machines.old machines.new }
-    ensures blames { Blames (OfStores D.is_clean S.is_clean) (OfStores D.is_sound S.is_sound) (counts D.refused S.refused) machines.old machines.new result }
-    ensures own { IfErr result (λ refusal. is_stop refusal ≡ true) }
-    ensures ok { OverDatabase (OfStores D.is_clean S.is_clean) (OfStores D.is_sound S.is_sound) (counted D.kept S.kept D.refused S.refused) machines.old machines.new
-        (λ db before after. IfOk result (λ stated. Makes db (map (λ text. call.State txn text) texts.now) stated.came.items stated.ended before after)) }
-    ensures served { StaysServed (OfStores D.is_clean S.is_clean) (OfStores D.is_sound S.is_sound) (counted D.kept S.kept D.refused S.refused) machines.old machines.new }
+    ensures { RunsTo (OfStores D.is_clean S.is_clean) (OfStores D.is_sound S.is_sound) (counted D.kept S.kept D.refused S.refused) machines.old machines.new result (λ db stated moves. Makes (map (λ text. call.State txn text) texts.now) stated.came.items stated.ended moves) }
 {
     let mut came = Vec::new(machines.alloc);
     for text in texts {
@@ -124,12 +119,7 @@ fn ask_rollback<D: DeskStore, S: SiteStore>(
     txn: Txn,
     came: Vec<Came>,
 ) -> Result<Vec<Came>, Refusal>
-    ensures leaves { LeavesMachines D.is_clean S.is_clean D.is_sound S.is_sound D.refused S.refused machines.old machines.new }
-    ensures blames { Blames (OfStores D.is_clean S.is_clean) (OfStores D.is_sound S.is_sound) (counts D.refused S.refused) machines.old machines.new result }
-    ensures own { IfErr result (λ refusal. is_stop refusal ≡ true) }
-    ensures ok { OverDatabase (OfStores D.is_clean S.is_clean) (OfStores D.is_sound S.is_sound) (counted D.kept S.kept D.refused S.refused) machines.old machines.new
-        (λ db before after. IfOk result (λ all. MakesMore db (calls_of_end end.Rollback txn) came.items all.items before after)) }
-    ensures served { StaysServed (OfStores D.is_clean S.is_clean) (OfStores D.is_sound S.is_sound) (counted D.kept S.kept D.refused S.refused) machines.old machines.new }
+    ensures { RunsTo (OfStores D.is_clean S.is_clean) (OfStores D.is_sound S.is_sound) (counted D.kept S.kept D.refused S.refused) machines.old machines.new result (λ db all moves. MakesMore (calls_of_end end.Rollback txn) came.items all.items moves) }
 {
     let mut came = came;
     make_room(&mut came)?;
@@ -144,12 +134,7 @@ fn ask_commit<D: DeskStore, S: SiteStore>(
     txn: Txn,
     came: Vec<Came>,
 ) -> Result<Vec<Came>, Refusal>
-    ensures leaves { LeavesMachines D.is_clean S.is_clean D.is_sound S.is_sound D.refused S.refused machines.old machines.new }
-    ensures blames { Blames (OfStores D.is_clean S.is_clean) (OfStores D.is_sound S.is_sound) (counts D.refused S.refused) machines.old machines.new result }
-    ensures own { IfErr result (λ refusal. is_stop refusal ≡ true) }
-    ensures ok { OverDatabase (OfStores D.is_clean S.is_clean) (OfStores D.is_sound S.is_sound) (counted D.kept S.kept D.refused S.refused) machines.old machines.new
-        (λ db before after. IfOk result (λ all. MakesMore db (calls_of_end end.Commit txn) came.items all.items before after)) }
-    ensures served { StaysServed (OfStores D.is_clean S.is_clean) (OfStores D.is_sound S.is_sound) (counted D.kept S.kept D.refused S.refused) machines.old machines.new }
+    ensures { RunsTo (OfStores D.is_clean S.is_clean) (OfStores D.is_sound S.is_sound) (counted D.kept S.kept D.refused S.refused) machines.old machines.new result (λ db all moves. MakesMore (calls_of_end end.Commit txn) came.items all.items moves) }
 {
     let mut came = came;
     make_room(&mut came)?;
@@ -170,12 +155,7 @@ fn finish<D: DeskStore, S: SiteStore>(
     stated: Stated,
     end: End,
 ) -> Result<Vec<Came>, Refusal>
-    ensures leaves { LeavesMachines D.is_clean S.is_clean D.is_sound S.is_sound D.refused S.refused machines.old machines.new }
-    ensures blames { Blames (OfStores D.is_clean S.is_clean) (OfStores D.is_sound S.is_sound) (counts D.refused S.refused) machines.old machines.new result }
-    ensures own { IfErr result (λ refusal. is_stop refusal ≡ true) }
-    ensures ok { OverDatabase (OfStores D.is_clean S.is_clean) (OfStores D.is_sound S.is_sound) (counted D.kept S.kept D.refused S.refused) machines.old machines.new
-        (λ db before after. (stated.ended ≡ false → IfOk result (λ all. MakesMore db (calls_of_end end txn) stated.came.items all.items before after)) × (stated.ended ≡ true → IfOk result (λ all. (all.items ≡ stated.came.items) × (counted D.kept S.kept D.refused S.refused machines.new ≡ counted D.kept S.kept D.refused S.refused machines.old)))) }
-    ensures served { StaysServed (OfStores D.is_clean S.is_clean) (OfStores D.is_sound S.is_sound) (counted D.kept S.kept D.refused S.refused) machines.old machines.new }
+    ensures { RunsTo (OfStores D.is_clean S.is_clean) (OfStores D.is_sound S.is_sound) (counted D.kept S.kept D.refused S.refused) machines.old machines.new result (λ db all moves. (stated.ended ≡ false → MakesMore (calls_of_end end txn) stated.came.items all.items moves) × (stated.ended ≡ true → (all.items ≡ stated.came.items) × (moves ≡ []))) }
 {
     let Stated { came, ended } = stated;
     if ended {
@@ -193,12 +173,7 @@ fn run_course<D: DeskStore, S: SiteStore>(
     begun: Begun,
     transaction: &Transaction,
 ) -> Result<Course, Refusal>
-    ensures leaves { LeavesMachines D.is_clean S.is_clean D.is_sound S.is_sound D.refused S.refused machines.old machines.new }
-    ensures blames { Blames (OfStores D.is_clean S.is_clean) (OfStores D.is_sound S.is_sound) (counts D.refused S.refused) machines.old machines.new result }
-    ensures own { IfErr result (λ refusal. is_stop refusal ≡ true) }
-    ensures ok { OverDatabase (OfStores D.is_clean S.is_clean) (OfStores D.is_sound S.is_sound) (counted D.kept S.kept D.refused S.refused) machines.old machines.new
-        (λ db before after. IfOk result (λ course. (course.txn ≡ begun.txn) × (course.greeted ≡ begun.heard.items) × ((ended : Bool) × Makes db (calls_of transaction.now begun.txn) course.came ended before after))) }
-    ensures served { StaysServed (OfStores D.is_clean S.is_clean) (OfStores D.is_sound S.is_sound) (counted D.kept S.kept D.refused S.refused) machines.old machines.new }
+    ensures { RunsTo (OfStores D.is_clean S.is_clean) (OfStores D.is_sound S.is_sound) (counted D.kept S.kept D.refused S.refused) machines.old machines.new result (λ db course moves. (course.txn ≡ begun.txn) × (course.greeted ≡ begun.heard.items) × ((ended : Bool) × Makes (calls_of transaction.now begun.txn) course.came ended moves)) }
 {
     let Begun { txn, heard } = begun;
     let stated = state_all(machines, txn, transaction.texts.as_slice())?;
@@ -215,12 +190,7 @@ fn run_one<D: DeskStore, S: SiteStore>(
     machines: &mut Machines<D, S>,
     transaction: &Transaction,
 ) -> Result<Outcome, Refusal>
-    ensures leaves { LeavesMachines D.is_clean S.is_clean D.is_sound S.is_sound D.refused S.refused machines.old machines.new }
-    ensures blames { Blames (OfStores D.is_clean S.is_clean) (OfStores D.is_sound S.is_sound) (counts D.refused S.refused) machines.old machines.new result }
-    ensures own { IfErr result (λ refusal. is_stop refusal ≡ true) }
-    ensures ok { OverDatabase (OfStores D.is_clean S.is_clean) (OfStores D.is_sound S.is_sound) (counted D.kept S.kept D.refused S.refused) machines.old machines.new
-        (λ db before after. IfOk result (λ outcome. RunsOne db transaction.now outcome before after)) }
-    ensures served { StaysServed (OfStores D.is_clean S.is_clean) (OfStores D.is_sound S.is_sound) (counted D.kept S.kept D.refused S.refused) machines.old machines.new }
+    ensures { RunsTo (OfStores D.is_clean S.is_clean) (OfStores D.is_sound S.is_sound) (counted D.kept S.kept D.refused S.refused) machines.old machines.new result (λ db outcome moves. RunsOne transaction.now outcome moves) }
 {
     match begin(machines) {
         Ok(begun) => match run_course(machines, begun, transaction) {
@@ -246,7 +216,7 @@ pub(crate) fn run_all<D: DeskStore, S: SiteStore>(
     ensures blames { OfStores D.is_clean S.is_clean machines.new → OfStores D.is_sound S.is_sound machines.old → IfErr result (λ stop. StopsFor (counts D.refused S.refused machines.old) (counts D.refused S.refused machines.new) stop.refusal) }
     ensures own { IfErr result (λ stop. is_stop stop.refusal ≡ true) }
     ensures ok { OverDatabase (OfStores D.is_clean S.is_clean) (OfStores D.is_sound S.is_sound) (counted D.kept S.kept D.refused S.refused) machines.old machines.new
-        (λ db before after. IfOk result (λ outcomes. RunsAll db transactions.now outcomes.items before after)) }
+        (λ db before after. IfOk result (λ outcomes. HasMade db before after (RunsAll transactions.now outcomes.items))) }
     ensures stops { OverDatabase (OfStores D.is_clean S.is_clean) (OfStores D.is_sound S.is_sound) (counted D.kept S.kept D.refused S.refused) machines.old machines.new
         (λ db before after. ReachedLaw (language db) → IfErr result (λ stop. StopsAt db transactions.now stop.done before after)) }
     ensures served { StaysServed (OfStores D.is_clean S.is_clean) (OfStores D.is_sound S.is_sound) (counted D.kept S.kept D.refused S.refused) machines.old machines.new }

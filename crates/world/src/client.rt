@@ -2,15 +2,13 @@
 
 ghost use Rattle.std.specs.Prelude.{◌≡◌, [], Some, slice_get, IfErr, IfOk, OnErr};
 ghost use Rattle.std.specs.Option.{option_map};
-ghost use Rattle.protocol.specs.Desk.{Commit_call, Rollback};
 ghost use Rattle.desk.specs.declared.refusal.Refusal.TheVariants as refusals;
 ghost use Rattle.world.specs.declared.event.Call.TheVariants as call;
 ghost use Rattle.world.specs.Counted.{counts};
-ghost use Rattle.world.specs.Course.{IsTurnedDown};
+ghost use Rattle.world.specs.Course.{Begins, Commits, IsOne, IsTurnedDown, Rolls_back, States};
 ghost use Rattle.world.specs.Mailbox.{Serves, To_begin};
-ghost use Rattle.world.specs.Frame.{Blames, LeavesMachines, OverDatabase, StaysServed};
+ghost use Rattle.world.specs.Frame.{Blames, ComesTo, LeavesMachines, OverDatabase, StaysServed};
 ghost use Rattle.world.specs.Contents.{OfStores, counted};
-ghost use Rattle.world.specs.Client.{DoesAsk, DoesBegin, DoesState};
 
 use crate::machines::Machines;
 use crate::mailbox::deliver_all;
@@ -63,13 +61,7 @@ fn greet<D: DeskStore, S: SiteStore>(machines: &mut Machines<D, S>) -> Result<Ve
 pub(crate) fn begin<D: DeskStore, S: SiteStore>(
     machines: &mut Machines<D, S>,
 ) -> Result<Begun, Refusal>
-    ensures leaves { LeavesMachines D.is_clean S.is_clean D.is_sound S.is_sound D.refused S.refused machines.old machines.new }
-    ensures blames { Blames (OfStores D.is_clean S.is_clean) (OfStores D.is_sound S.is_sound) (counts D.refused S.refused) machines.old machines.new result }
-    ensures ok { OverDatabase (OfStores D.is_clean S.is_clean) (OfStores D.is_sound S.is_sound) (counted D.kept S.kept D.refused S.refused) machines.old machines.new
-        (λ db before after. IfOk result (λ begun. DoesBegin db before begun.txn after begun.heard.items)) }
-    ensures denied { OverDatabase (OfStores D.is_clean S.is_clean) (OfStores D.is_sound S.is_sound) (counted D.kept S.kept D.refused S.refused) machines.old machines.new
-        (λ db before after. IfErr result (IsTurnedDown db call.Begin before after)) }
-    ensures served { StaysServed (OfStores D.is_clean S.is_clean) (OfStores D.is_sound S.is_sound) (counted D.kept S.kept D.refused S.refused) machines.old machines.new }
+    ensures { ComesTo (OfStores D.is_clean S.is_clean) (OfStores D.is_sound S.is_sound) (counted D.kept S.kept D.refused S.refused) machines.old machines.new result (λ db. IsOne (λ begun. Begins begun.txn begun.heard.items) call.Begin) }
 {
     match greet(machines) {
         Ok(heard) => named(heard),
@@ -83,13 +75,7 @@ pub(crate) fn state<D: DeskStore, S: SiteStore>(
     txn: Txn,
     text: &str,
 ) -> Result<Vec<Notice>, Refusal>
-    ensures leaves { LeavesMachines D.is_clean S.is_clean D.is_sound S.is_sound D.refused S.refused machines.old machines.new }
-    ensures blames { Blames (OfStores D.is_clean S.is_clean) (OfStores D.is_sound S.is_sound) (counts D.refused S.refused) machines.old machines.new result }
-    ensures ok { OverDatabase (OfStores D.is_clean S.is_clean) (OfStores D.is_sound S.is_sound) (counted D.kept S.kept D.refused S.refused) machines.old machines.new
-        (λ db before after. IfOk result (λ heard. DoesState db text.now txn before after heard.items)) }
-    ensures denied { OverDatabase (OfStores D.is_clean S.is_clean) (OfStores D.is_sound S.is_sound) (counted D.kept S.kept D.refused S.refused) machines.old machines.new
-        (λ db before after. IfErr result (IsTurnedDown db (call.State txn text.now) before after)) }
-    ensures served { StaysServed (OfStores D.is_clean S.is_clean) (OfStores D.is_sound S.is_sound) (counted D.kept S.kept D.refused S.refused) machines.old machines.new }
+    ensures { ComesTo (OfStores D.is_clean S.is_clean) (OfStores D.is_sound S.is_sound) (counted D.kept S.kept D.refused S.refused) machines.old machines.new result (λ db. IsOne (λ heard. States txn text.now heard.items) (call.State txn text.now)) }
 {
     match machines.statement(txn, text) {
         Ok(out) => deliver_all(machines, out),
@@ -102,13 +88,7 @@ pub(crate) fn commit<D: DeskStore, S: SiteStore>(
     machines: &mut Machines<D, S>,
     txn: Txn,
 ) -> Result<Vec<Notice>, Refusal>
-    ensures leaves { LeavesMachines D.is_clean S.is_clean D.is_sound S.is_sound D.refused S.refused machines.old machines.new }
-    ensures blames { Blames (OfStores D.is_clean S.is_clean) (OfStores D.is_sound S.is_sound) (counts D.refused S.refused) machines.old machines.new result }
-    ensures ok { OverDatabase (OfStores D.is_clean S.is_clean) (OfStores D.is_sound S.is_sound) (counted D.kept S.kept D.refused S.refused) machines.old machines.new
-        (λ db before after. IfOk result (λ heard. DoesAsk db Commit_call txn before after heard.items)) }
-    ensures denied { OverDatabase (OfStores D.is_clean S.is_clean) (OfStores D.is_sound S.is_sound) (counted D.kept S.kept D.refused S.refused) machines.old machines.new
-        (λ db before after. IfErr result (IsTurnedDown db (call.Commit txn) before after)) }
-    ensures served { StaysServed (OfStores D.is_clean S.is_clean) (OfStores D.is_sound S.is_sound) (counted D.kept S.kept D.refused S.refused) machines.old machines.new }
+    ensures { ComesTo (OfStores D.is_clean S.is_clean) (OfStores D.is_sound S.is_sound) (counted D.kept S.kept D.refused S.refused) machines.old machines.new result (λ db. IsOne (λ heard. Commits txn heard.items) (call.Commit txn)) }
 {
     match machines.commit(txn) {
         Ok(out) => deliver_all(machines, out),
@@ -121,13 +101,7 @@ pub(crate) fn roll_back<D: DeskStore, S: SiteStore>(
     machines: &mut Machines<D, S>,
     txn: Txn,
 ) -> Result<Vec<Notice>, Refusal>
-    ensures leaves { LeavesMachines D.is_clean S.is_clean D.is_sound S.is_sound D.refused S.refused machines.old machines.new }
-    ensures blames { Blames (OfStores D.is_clean S.is_clean) (OfStores D.is_sound S.is_sound) (counts D.refused S.refused) machines.old machines.new result }
-    ensures ok { OverDatabase (OfStores D.is_clean S.is_clean) (OfStores D.is_sound S.is_sound) (counted D.kept S.kept D.refused S.refused) machines.old machines.new
-        (λ db before after. IfOk result (λ heard. DoesAsk db Rollback txn before after heard.items)) }
-    ensures denied { OverDatabase (OfStores D.is_clean S.is_clean) (OfStores D.is_sound S.is_sound) (counted D.kept S.kept D.refused S.refused) machines.old machines.new
-        (λ db before after. IfErr result (IsTurnedDown db (call.Rollback txn) before after)) }
-    ensures served { StaysServed (OfStores D.is_clean S.is_clean) (OfStores D.is_sound S.is_sound) (counted D.kept S.kept D.refused S.refused) machines.old machines.new }
+    ensures { ComesTo (OfStores D.is_clean S.is_clean) (OfStores D.is_sound S.is_sound) (counted D.kept S.kept D.refused S.refused) machines.old machines.new result (λ db. IsOne (λ heard. Rolls_back txn heard.items) (call.Rollback txn)) }
 {
     match machines.rollback(txn) {
         Ok(out) => deliver_all(machines, out),

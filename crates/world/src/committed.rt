@@ -2,7 +2,7 @@
 
 ghost use Rattle.std.specs.Prelude.{◌≡◌, ◌++◌, ◌&&◌, List, [], map, IfOk, OnOk, if◌then◌else◌};
 ghost use Rattle.std.specs.List.{flat_map, list_any};
-ghost use Rattle.world.specs.Replies.{answer_of, answers_to, committed_in, is_told_committed, is_txn, says_committed, texts_of};
+ghost use Rattle.world.specs.Replies.{answer_of, answers_to, committed_in, is_told_committed, is_txn, is_commit, texts_of};
 ghost use Rattle.world.specs.Committed.{committed_of};
 
 use crate::event::{Call, Entry, Event};
@@ -25,7 +25,7 @@ pub struct Committed {
 
 /// Whether one of these replies tells a transaction's client that it is committed.
 fn say_committed(notices: &[Notice], txn: &Txn) -> bool
-    ensures { result ≡ list_any (λ notice. is_txn notice.txn txn.now && says_committed notice.reply) notices.now }
+    ensures { result ≡ list_any (λ notice. is_txn notice.txn txn.now && is_commit notice.reply) notices.now }
 {
     for notice in notices {
         if notice.txn == *txn && matches!(notice.reply, Reply::Committed) {

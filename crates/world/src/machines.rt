@@ -65,7 +65,7 @@ impl<D: DeskStore, S: SiteStore> Machines<D, S> {
     ghost use Rattle.protocol.specs.StatementCourse.{passes};
     ghost use Rattle.desk.specs.Database.{sent};
     ghost use Rattle.protocol.specs.Delivery.{CallKept};
-    ghost use Rattle.world.specs.Reasons.{DeskTells, SiteTells, Tells};
+    ghost use Rattle.world.specs.Reasons.{SiteTells, Tells};
     ghost use Rattle.world.specs.Refused.{DeskRestartTells, IsRefused, PlaceTells};
     ghost use Rattle.protocol.specs.World.{begins, desk_restarts};
     ghost use Rattle.desk.specs.Request.{IsOver};
@@ -170,7 +170,7 @@ impl<D: DeskStore, S: SiteStore> Machines<D, S> {
         ensures ok { (db : Database) → IsOfCatalogue db → db.catalogue ≡ catalogue_of self.old.desk.catalog → OfStores D.is_clean S.is_clean self.new → OfStores D.is_sound S.is_sound self.old → AreFit db (held D.kept S.kept self.old) → is_order letter.now.body ≡ false → is_of_site db letter.now ≡ true
             → IfOk result (λ out. Came db letter.now out.kept (held D.kept S.kept self.old) (held D.kept S.kept self.new) out.letters out.replies) }
         ensures told { (db : Database) → IsOfCatalogue db → db.catalogue ≡ catalogue_of self.old.desk.catalog → AreFit db (held D.kept S.kept self.old) → is_order letter.now.body ≡ false → is_of_site db letter.now ≡ true
-            → IfErr result (DeskTells db (held D.kept S.kept self.old) letter.now) }
+            → IfErr result (λ told. Tells db (held D.kept S.kept self.old) letter.now (faults.Desk told)) }
         ensures refusal { IfOk result (λ out. out.kept ≡ false → (kept ≡ false) ⊎ HaveRefused (counts D.refused S.refused self.old) (counts D.refused S.refused self.new)) }
         ensures own { IfErr result (λ told. (told ≡ refusals.Memory) ⊎ (told ≡ refusals.Full)) }
         ensures uncalled { kept ≡ false → CallsNoStore self.old self.new }

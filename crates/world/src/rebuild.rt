@@ -15,7 +15,7 @@ ghost use Rattle.world.specs.Frame.{LeavesMachines, LeavesSites, StaysAsItIs};
 ghost use Rattle.store.specs.Frame.{LeavesStore};
 ghost use Rattle.world.specs.Contents.{OfStores, held};
 ghost use Rattle.world.specs.Machines.{AreFit};
-ghost use Rattle.world.specs.Sites.{AreSeated, IsSeated, Seat, seat_of};
+ghost use Rattle.world.specs.Sites.{IsSeated, Seat, seat_of};
 ghost use Rattle.world.specs.Seated.{seat_from, seats_in};
 ghost use Rattle.world.specs.Settled.{AreDecided, parts_kept, settled_at, settled_in, AreThoseOf, brought_of, everything, rows_shown};
 ghost use Rattle.terms.specs.declared.value.Value.{Value};
@@ -92,7 +92,7 @@ fn settled_among<S: SiteStore>(
     leaf: &Leaf,
 ) -> Result<Vec<Part>, SiteFault>
     ensures leaves { LeavesSites S.is_clean S.is_sound S.refused sites.old sites.new }
-    ensures parts { AllByRecursion (λ site. S.is_clean site.store) sites.new → AllByRecursion (λ site. S.is_sound site.store) sites.old → AreSeated (seats_in S.kept sites.old)
+    ensures parts { AllByRecursion (λ site. S.is_clean site.store) sites.new → AllByRecursion (λ site. S.is_sound site.store) sites.old → AllByRecursion IsSeated (seats_in S.kept sites.old)
         → IfOk result (λ parts. option_map (λ content. fin.values content) (settled_at decided.now leaf.now (seats_in S.kept sites.old) place.now) ≡ Some parts.items) }
     ensures same { AllByRecursion (λ site. S.is_clean site.store) sites.new → AllByRecursion (λ site. S.is_sound site.store) sites.old → seats_in S.kept sites.new ≡ seats_in S.kept sites.old }
     ensures fails { (seat : Seat) → AllByRecursion (λ site. S.is_clean site.store) sites.new → AllByRecursion (λ site. S.is_sound site.store) sites.old → seat_of place.now (seats_in S.kept sites.old) ≡ Some seat
@@ -149,7 +149,7 @@ pub(crate) fn settled_parts<D: DeskStore, S: SiteStore>(
 ) -> Result<Option<Vec<Part>>, Fault>
     ensures sent { result ≢ Err faults.Unsent }
     ensures leaves { LeavesMachines D.is_clean S.is_clean D.is_sound S.is_sound D.refused S.refused machines.old machines.new }
-    ensures parts { OfStores D.is_clean S.is_clean machines.new → OfStores D.is_sound S.is_sound machines.old → AreSeated (held D.kept S.kept machines.old).seats
+    ensures parts { OfStores D.is_clean S.is_clean machines.new → OfStores D.is_sound S.is_sound machines.old → AllByRecursion IsSeated (held D.kept S.kept machines.old).seats
         → IfOk result (λ found. option_map (λ parts. parts.items) found ≡ option_and_then (λ place. option_map (λ content. fin.values content) (settled_at decided.now leaf.now (held D.kept S.kept machines.old).seats place)) (site_in (catalogue_of machines.old.desk.catalog) leaf.now)) }
     ensures same { StaysAsItIs (OfStores D.is_clean S.is_clean) (OfStores D.is_sound S.is_sound) (held D.kept S.kept) machines.old machines.new }
     ensures fails { OfStores D.is_clean S.is_clean machines.new → OfStores D.is_sound S.is_sound machines.old → AreFit (database (catalogue_of machines.old.desk.catalog)) (held D.kept S.kept machines.old) → IfErr result (FailsFor (counts D.refused S.refused machines.old) (counts D.refused S.refused machines.new)) }

@@ -7,7 +7,7 @@ ghost use Rattle.store.specs.Fault.{HasRefused};
 ghost use Rattle.protocol.specs.Letters.{kept_in};
 ghost use Rattle.site.specs.Refusals.{AsksToKeep};
 ghost use Rattle.world.specs.EventApplied.{may_call_at};
-ghost use Rattle.world.specs.Frame.{LeavesSites, stores_of};
+ghost use Rattle.world.specs.Frame.{LeavesSites};
 ghost use Rattle.store.specs.Frame.{LeavesStore};
 ghost use Rattle.world.specs.Counted.{HaveRefused, counts_of};
 ghost use Rattle.world.specs.declared.sites.SiteAction.TheVariants as things;
@@ -15,7 +15,7 @@ ghost use Rattle.world.specs.declared.fault.Fault.TheVariants as faults;
 ghost use Rattle.std.specs.List.{AllByRecursion};
 ghost use Rattle.world.specs.Reasons.{SiteTells};
 ghost use Rattle.world.specs.Refused.{PlaceTells};
-ghost use Rattle.world.specs.Sites.{AreSeated, IsSeated, Seat, is_called, seat_of};
+ghost use Rattle.world.specs.Sites.{IsSeated, Seat, is_called, seat_of};
 ghost use Rattle.world.specs.Stopping.{StopsFor};
 ghost use Rattle.world.specs.Taking.{stop_of};
 
@@ -108,13 +108,13 @@ fn act_at<S: SiteStore>(
         → IfErr result (λ fault. IfSome (stop_of (faults.Site fault)) (StopsFor (counts_of S.refused sites.old) (counts_of S.refused sites.new))) }
     ensures vote { (letter : LetterNow) (seat : Seat) → what ≡ things.Take letter → seat_of letter.site (seats_in S.kept sites.old) ≡ Some seat → AsksToKeep seat.table letter.body
         → IfOk result (λ letters. kept_in letters.items ≡ false → (kept ≡ false) ⊎ HaveRefused (counts_of S.refused sites.old) (counts_of S.refused sites.new)) }
-    ensures ok { (seat : Seat) → AllByRecursion (λ site. S.is_clean site.store) sites.new → AllByRecursion (λ site. S.is_sound site.store) sites.old → AreSeated (seats_in S.kept sites.old) → seat_of (place_of what) (seats_in S.kept sites.old) ≡ Some seat
+    ensures ok { (seat : Seat) → AllByRecursion (λ site. S.is_clean site.store) sites.new → AllByRecursion (λ site. S.is_sound site.store) sites.old → AllByRecursion IsSeated (seats_in S.kept sites.old) → seat_of (place_of what) (seats_in S.kept sites.old) ≡ Some seat
         → IfOk result (λ letters. SomeSeatDoes what seat (seats_in S.kept sites.old) (seats_in S.kept sites.new) letters.items) }
     ensures called { (site : List ℕ) → what ≡ things.Restart site → OnOk result (kept ≡ true) }
     ensures told { (letter : LetterNow) (seat : Seat) → what ≡ things.Take letter → seat_of letter.site (seats_in S.kept sites.old) ≡ Some seat → IfErr result (SiteTells seat letter) }
     ensures fails { (seat : Seat) → seat_of (place_of what) (seats_in S.kept sites.old) ≡ Some seat
         → IfErr result (PlaceTells (AllByRecursion (λ site. S.is_clean site.store) sites.new × AllByRecursion (λ site. S.is_sound site.store) sites.old) (HaveRefused (counts_of S.refused sites.old) (counts_of S.refused sites.new)) what kept seat) }
-    ensures uncalled { may_call_at what kept ≡ false → stores_of sites.new ≡ stores_of sites.old }
+    ensures uncalled { may_call_at what kept ≡ false → map (λ site. site.store) sites.new ≡ map (λ site. site.store) sites.old }
     ensures err { AllByRecursion (λ site. S.is_clean site.store) sites.new → AllByRecursion (λ site. S.is_sound site.store) sites.old → OnErr result (seats_in S.kept sites.new ≡ seats_in S.kept sites.old) }
 {
     let Some((site, rest)) = sites.split_first_mut() else {
@@ -138,13 +138,13 @@ pub(crate) fn act_among<S: SiteStore>(
         → IfErr result (λ fault. IfSome (stop_of (faults.Site fault)) (StopsFor (counts_of S.refused sites.old.items) (counts_of S.refused sites.new.items))) }
     ensures vote { (letter : LetterNow) (seat : Seat) → what ≡ things.Take letter → seat_of letter.site (seats_in S.kept sites.old.items) ≡ Some seat → AsksToKeep seat.table letter.body
         → IfOk result (λ letters. kept_in letters.items ≡ false → (kept ≡ false) ⊎ HaveRefused (counts_of S.refused sites.old.items) (counts_of S.refused sites.new.items)) }
-    ensures ok { (seat : Seat) → AllByRecursion (λ site. S.is_clean site.store) sites.new.items → AllByRecursion (λ site. S.is_sound site.store) sites.old.items → AreSeated (seats_in S.kept sites.old.items) → seat_of (place_of what) (seats_in S.kept sites.old.items) ≡ Some seat
+    ensures ok { (seat : Seat) → AllByRecursion (λ site. S.is_clean site.store) sites.new.items → AllByRecursion (λ site. S.is_sound site.store) sites.old.items → AllByRecursion IsSeated (seats_in S.kept sites.old.items) → seat_of (place_of what) (seats_in S.kept sites.old.items) ≡ Some seat
         → IfOk result (λ letters. SomeSeatDoes what seat (seats_in S.kept sites.old.items) (seats_in S.kept sites.new.items) letters.items) }
     ensures called { (site : List ℕ) → what ≡ things.Restart site → OnOk result (kept ≡ true) }
     ensures told { (letter : LetterNow) (seat : Seat) → what ≡ things.Take letter → seat_of letter.site (seats_in S.kept sites.old.items) ≡ Some seat → IfErr result (SiteTells seat letter) }
     ensures fails { (seat : Seat) → seat_of (place_of what) (seats_in S.kept sites.old.items) ≡ Some seat
         → IfErr result (PlaceTells (AllByRecursion (λ site. S.is_clean site.store) sites.new.items × AllByRecursion (λ site. S.is_sound site.store) sites.old.items) (HaveRefused (counts_of S.refused sites.old.items) (counts_of S.refused sites.new.items)) what kept seat) }
-    ensures uncalled { may_call_at what kept ≡ false → stores_of sites.new.items ≡ stores_of sites.old.items }
+    ensures uncalled { may_call_at what kept ≡ false → map (λ site. site.store) sites.new.items ≡ map (λ site. site.store) sites.old.items }
     ensures err { AllByRecursion (λ site. S.is_clean site.store) sites.new.items → AllByRecursion (λ site. S.is_sound site.store) sites.old.items → OnErr result (seats_in S.kept sites.new.items ≡ seats_in S.kept sites.old.items) }
 {
     act_at(alloc, sites.as_mut_slice(), what, kept)

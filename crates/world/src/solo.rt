@@ -1,6 +1,6 @@
 //! A database for one client at a time.
 
-ghost use Rattle.std.specs.Prelude.{◌≡◌, ◌≢◌, ◌⊎◌, ℕ, true, List, [], None, Some, Err, IfErr, IfOk, OnErr, OnOk, is_some};
+ghost use Rattle.std.specs.Prelude.{◌≡◌, ◌≢◌, ◌⊎◌, ℕ, true, List, [], None, Some, Err, IfErr, IfOk, OnErr, OnOk, ◌++◌, is_some, if◌then◌else◌};
 ghost use Rattle.std.specs.Option.{option_map};
 ghost use Rattle.meaning.specs.Whole.{FitsSchema, Relations};
 ghost use Rattle.catalog.specs.FragmentLeaf.{schemas_of};
@@ -9,7 +9,7 @@ ghost use Rattle.reader.specs.declared.command.Command.TheVariants.{Begin, Commi
 ghost use Rattle.reader.specs.declared.command.Command.{Command as CommandNow};
 ghost use Rattle.meaning.specs.declared.statement.Statement.{Statement};
 ghost use Rattle.store.specs.declared.name.Txn.{Txn as TxnNow};
-ghost use Rattle.world.specs.Commands.{Executes, IsCommand, IsUnreadable, UnlessStopped, heard_in};
+ghost use Rattle.world.specs.Commands.{Executes, IsCommand, IsNoCommand, IsUnreadable, UnlessStopped, heard_in};
 ghost use Rattle.reader.specs.Command.{IsTextOf};
 ghost use Rattle.protocol.specs.Desk.{Deed};
 ghost use Rattle.store.specs.PlainDesk.{kept_of as desk_kept};
@@ -26,7 +26,7 @@ ghost use Rattle.world.specs.Frame.{ComesTo, LeavesMachines, StaysAsItIs};
 ghost use Rattle.world.specs.Contents.{OfStores, counted, held, unrefused};
 ghost use Rattle.world.specs.Machines.{AreFit};
 ghost use Rattle.world.specs.Executed.{Stands};
-ghost use Rattle.world.specs.Client.{IsServed, IsServedOn, still_open};
+ghost use Rattle.world.specs.Client.{IsServed, still_open};
 ghost use Rattle.world.specs.Settled.{AreThoseOf, after_committed, parts_kept, rows_shown};
 ghost use Rattle.world.specs.Stopping.{StopsFor, is_stop, stopped_by};
 ghost use Rattle.world.specs.Replies.{Tells};
@@ -267,13 +267,14 @@ impl<D: DeskStore, S: SiteStore> Solo<D, S> {
             → IsServed (database (catalogue_of self.old.machines.desk.catalog)) whole (counted D.kept S.kept D.refused S.refused self.old.machines) past
             → UnlessStopped (λ heard. heard.items) (Executes (database (catalogue_of self.old.machines.desk.catalog)) (fits (catalogue_of self.old.machines.desk.catalog)) whole text.now self.old.current (counted D.kept S.kept D.refused S.refused self.old.machines) self.new.current (counted D.kept S.kept D.refused S.refused self.new.machines) past) result }
         ensures served { (whole : Relations) (past : List (Deed (language (database (catalogue_of self.old.machines.desk.catalog))))) → OfStores D.is_clean S.is_clean self.new.machines → OfStores D.is_sound S.is_sound self.old.machines
-            → IsServed (database (catalogue_of self.old.machines.desk.catalog)) whole (counted D.kept S.kept D.refused S.refused self.old.machines) past → IsServedOn (database (catalogue_of self.old.machines.desk.catalog)) whole (counted D.kept S.kept D.refused S.refused self.new.machines) past }
+            → IsServed (database (catalogue_of self.old.machines.desk.catalog)) whole (counted D.kept S.kept D.refused S.refused self.old.machines) past → (deeds : List (Deed (language (database (catalogue_of self.old.machines.desk.catalog))))) × IsServed (database (catalogue_of self.old.machines.desk.catalog)) whole (counted D.kept S.kept D.refused S.refused self.new.machines) (past ++ deeds) }
         ensures blames { self.old.stopped ≡ None → OfStores D.is_clean S.is_clean self.new.machines → OfStores D.is_sound S.is_sound self.old.machines → IfErr result (StopsFor (counts D.refused S.refused self.old.machines) (counts D.refused S.refused self.new.machines)) }
         ensures inside { (txn : TxnNow) → self.old.stopped ≡ None → self.old.current ≡ Some txn → IsTextOf (schemas_of (catalogue_of self.old.machines.desk.catalog)) text.now Begin → (result ≡ Err refusals.Busy) ⊎ (result ≡ Err refusals.Memory) }
         ensures outside { self.old.stopped ≡ None → self.old.current ≡ None → IsTextOf (schemas_of (catalogue_of self.old.machines.desk.catalog)) text.now Commit ⊎ IsTextOf (schemas_of (catalogue_of self.old.machines.desk.catalog)) text.now Rollback → (result ≡ Err refusals.NoTransaction) ⊎ (result ≡ Err refusals.Memory) }
-        ensures reader_refusal { self.old.stopped ≡ None → ((given : CommandNow) → IsTextOf (schemas_of (catalogue_of self.old.machines.desk.catalog)) text.now given → ⊥) → OnOk result ⊥ × IfErr result (IsUnreadable (schemas_of (catalogue_of self.old.machines.desk.catalog)) text.now) }
+        ensures reader_refusal { self.old.stopped ≡ None → ((given : CommandNow) → IsTextOf (schemas_of (catalogue_of self.old.machines.desk.catalog)) text.now given → ⊥)
+            → OnOk result ⊥ × IfErr result (λ told. (told ≡ refusals.Memory) ⊎ IsNoCommand (schemas_of (catalogue_of self.old.machines.desk.catalog)) text.now told) }
         ensures still { OnErr result (self.new.current ≡ self.old.current) }
-        ensures stops { self.old.stopped ≡ None → self.new.stopped ≡ stopped_by result }
+        ensures stops { self.old.stopped ≡ None → OnOk result (self.new.stopped ≡ None) × IfErr result (λ told. self.new.stopped ≡ (if is_stop told then Some told else None)) }
         ensures stopped { (refusal : RefusalNow) → self.old.stopped ≡ Some refusal → (result ≡ Err refusal) × (self.new ≡ self.old) }
     {
         if let Some(refusal) = self.stopped {
@@ -301,7 +302,7 @@ impl<D: DeskStore, S: SiteStore> Solo<D, S> {
             → WasStopped (database (catalogue_of self.old.machines.desk.catalog)) (fits (catalogue_of self.old.machines.desk.catalog)) whole transactions.now stop.done (counted D.kept S.kept D.refused S.refused self.old.machines) (counted D.kept S.kept D.refused S.refused self.new.machines) entries past }
         ensures blames { (stop : StopNow) → OfStores D.is_clean S.is_clean self.new.machines → OfStores D.is_sound S.is_sound self.old.machines → result ≡ Err (Stopped stop) → StopsFor (counts D.refused S.refused self.old.machines) (counts D.refused S.refused self.new.machines) stop.refusal }
         ensures served { (whole : Relations) (past : List (Deed (language (database (catalogue_of self.old.machines.desk.catalog))))) → OfStores D.is_clean S.is_clean self.new.machines → OfStores D.is_sound S.is_sound self.old.machines
-            → IsServed (database (catalogue_of self.old.machines.desk.catalog)) whole (counted D.kept S.kept D.refused S.refused self.old.machines) past → IsServedOn (database (catalogue_of self.old.machines.desk.catalog)) whole (counted D.kept S.kept D.refused S.refused self.new.machines) past }
+            → IsServed (database (catalogue_of self.old.machines.desk.catalog)) whole (counted D.kept S.kept D.refused S.refused self.old.machines) past → (deeds : List (Deed (language (database (catalogue_of self.old.machines.desk.catalog))))) × IsServed (database (catalogue_of self.old.machines.desk.catalog)) whole (counted D.kept S.kept D.refused S.refused self.new.machines) (past ++ deeds) }
         ensures busy { (txn : TxnNow) → self.old.stopped ≡ None → self.old.current ≡ Some txn → (result ≡ Err (Unstarted refusals.Busy)) × (self.new ≡ self.old) }
         ensures stopped { (refusal : RefusalNow) → self.old.stopped ≡ Some refusal → (result ≡ Err (Unstarted refusal)) × (self.new ≡ self.old) }
         ensures starts { self.old.stopped ≡ None → self.old.current ≡ None → IfErr result (λ told. (stop : StopNow) × (told ≡ Stopped stop) × (is_stop stop.refusal ≡ true) × (self.new.stopped ≡ Some stop.refusal)) }

@@ -2,20 +2,22 @@
 
 ghost use Rattle.std.specs.Borrow.{follows_so, sem};
 ghost use mathlib.Core.Option.{none};
-ghost use Rattle.std.specs.Prelude.{⊤, ◌≡◌, ◌≢◌, ◌⊎◌, ◌++◌, ◌∷◌, [], true, false, List, Err, OnOk, OnErr, IfOk, IfErr, length, map, slice_get, take, ◌<◌};
+ghost use Rattle.std.specs.Prelude.{⊤, ◌≡◌, ◌≢◌, ◌⊎◌, ◌++◌, ◌∷◌, [], ℕ, Bool, true, false, List, Err, OnOk, OnErr, IfOk, IfErr, length, map, slice_get, take, ◌<◌};
 ghost use Rattle.std.specs.Option.{option_copied, option_map};
 ghost use Rattle.meaning.specs.Whole.{FitsSchema, Relations};
 ghost use Rattle.catalog.specs.FragmentLeaf.{schemas_of};
 ghost use Rattle.catalog.specs.Relation.{catalogue_of};
+ghost use Rattle.protocol.specs.Accepted.{Holds};
 ghost use Rattle.protocol.specs.Desk.{Deed};
 ghost use Rattle.protocol.specs.Letters.{txn_name};
 ghost use Rattle.protocol.specs.Serial.{committed};
 ghost use Rattle.store.specs.PlainDesk.{kept_of as desk_kept};
 ghost use Rattle.store.specs.PlainSite.{IsSound, kept_of};
-ghost use Rattle.desk.specs.Database.{language};
+ghost use Rattle.desk.specs.Database.{language, sent};
 ghost use Rattle.desk.specs.CatalogueDatabase.{database};
 ghost use Rattle.desk.specs.declared.refusal.Refusal.TheVariants as refusals;
 ghost use Rattle.world.specs.declared.event.Entry.{Entry as EntryNow};
+ghost use Rattle.world.specs.declared.event.Event.TheVariants as events;
 ghost use Rattle.world.specs.declared.fault.Fault.TheVariants as faults;
 ghost use Rattle.world.specs.EventApplied.{may_call};
 ghost use Rattle.world.specs.Events.{is_unsent};
@@ -25,10 +27,10 @@ ghost use Rattle.world.specs.Following.{Follows, FollowsAtLeast, Happens};
 ghost use Rattle.world.specs.Frame.{CallsNoStore, LeavesMachines, StaysAsItIs, StaysOnErr};
 ghost use Rattle.world.specs.Contents.{OfStores, counted, held};
 ghost use Rattle.world.specs.Committed.{AnswerInTurn, committed_of};
-ghost use Rattle.world.specs.Machines.{AreFit};
+ghost use Rattle.world.specs.Machines.{AreFit, world_of};
 ghost use Rattle.world.specs.Posted.{letters_in};
 ghost use Rattle.world.specs.Refused.{IsRefusedFor};
-ghost use Rattle.world.specs.Runs.{GoesOn, IsRun, RunsOn, Spares};
+ghost use Rattle.world.specs.Runs.{IsRun, IsSpared, RunsOn, StepsOn};
 ghost use Rattle.world.specs.Steps.{Steps, answer_of};
 ghost use Rattle.world.specs.contracts.world.World.{the_row};
 ghost use Rattle.world.specs.Settled.{AreThoseOf, ShowsSerial, parts_kept, rows_shown};
@@ -99,7 +101,7 @@ impl<D: DeskStore, S: SiteStore> World<D, S> {
     /// memory.
     pub fn step(&mut self, event: Event) -> Result<&Entry, &Fault>
         ensures* steps { sem 𝓛 (follows_so (the_row D.row S.row) (the_row D.row S.row) self.entry.ghost_name none (λ _ _. ⊤)
-            (λ new. Steps (OfStores D.is_clean S.is_clean) (OfStores D.is_sound S.is_sound) (held D.kept S.kept) (counted D.kept S.kept D.refused S.refused) event (answer_of result) self.old new)) }
+            (λ new. Steps (database (catalogue_of self.old.machines.desk.catalog)) (OfStores D.is_clean S.is_clean) (OfStores D.is_sound S.is_sound) (held D.kept S.kept) (counted D.kept S.kept D.refused S.refused) event (answer_of result) self.old new)) }
         ensures event { IfOk result (λ entry. entry.now.event ≡ event) }
     {
         match self.happens(event) {
@@ -121,11 +123,12 @@ impl<D: DeskStore, S: SiteStore> World<D, S> {
         ensures goes_on { (whole : Relations) (past : List (Deed (language (database (catalogue_of self.old.machines.desk.catalog)))))
             → OfStores D.is_clean S.is_clean self.new.machines → OfStores D.is_sound S.is_sound self.old.machines
             → IsRun (database (catalogue_of self.old.machines.desk.catalog)) whole (held D.kept S.kept self.old.machines) self.old.entries.items past
-            → OnOk result (GoesOn (database (catalogue_of self.old.machines.desk.catalog)) whole (held D.kept S.kept self.old.machines) (held D.kept S.kept self.new.machines) self.old.entries.items self.new.entries.items past) }
+            → OnOk result ((on : StepsOn (database (catalogue_of self.old.machines.desk.catalog)) whole (held D.kept S.kept self.old.machines) (held D.kept S.kept self.new.machines) self.old.entries.items self.new.entries.items past)
+                × Holds whole (world_of (database (catalogue_of self.old.machines.desk.catalog)) (held D.kept S.kept self.new.machines) (map (sent (database (catalogue_of self.old.machines.desk.catalog))) (letters_in self.new.entries.items)) (past ++ on.deeds))) }
         ensures spared { (whole : Relations) (past : List (Deed (language (database (catalogue_of self.old.machines.desk.catalog)))))
             → OfStores D.is_clean S.is_clean self.new.machines → OfStores D.is_sound S.is_sound self.old.machines
             → IsRun (database (catalogue_of self.old.machines.desk.catalog)) whole (held D.kept S.kept self.old.machines) self.old.entries.items past
-            → OnOk result (Spares (HaveRefused (counts D.refused S.refused self.old.machines) (counts D.refused S.refused self.new.machines)) (database (catalogue_of self.old.machines.desk.catalog)) (held D.kept S.kept self.old.machines) (held D.kept S.kept self.new.machines) self.old.entries.items self.new.entries.items past event) }
+            → OnOk result ((number : ℕ) (whether : Bool) → event ≡ events.Deliver number whether → IsSpared (HaveRefused (counts D.refused S.refused self.old.machines) (counts D.refused S.refused self.new.machines)) (database (catalogue_of self.old.machines.desk.catalog)) (held D.kept S.kept self.old.machines) (held D.kept S.kept self.new.machines) self.old.entries.items self.new.entries.items past number whether) }
         ensures entry { OnOk result ((entry : EntryNow) × ((entry.event ≡ event) × (self.new.entries.items ≡ self.old.entries.items ++ entry ∷ []))) }
         ensures uncalled { may_call event ≡ false → CallsNoStore self.old.machines self.new.machines }
         ensures unsent { result ≡ Err faults.Unsent → is_unsent self.old.machines.desk.catalog.0 self.old.entries.items event ≡ true }

@@ -1,9 +1,9 @@
 -- Why `run_autocommit` meets its contract.
 use Rattle.std.proofs.Common.{refl, sym, subst, inl, inr, ⊎_elim, Err, ◌++◌}
-use Rattle.world.proofs.Calls.{IsOne, as_kind, one_call, then_too}
+use Rattle.world.proofs.Calls.{as_kind, then_too}
 use Rattle.world.specs.Commands.{IsLone, heard_in}
 use Rattle.world.specs.Contents.{OfStores, counted}
-use Rattle.world.specs.Course.{Begins}
+use Rattle.world.specs.Course.{Begins, IsOne}
 use Rattle.world.specs.Frame.{ComesTo}
 use Rattle.world.specs.declared.event.Call.TheVariants as call
 use Rattle.world.proofs.autocommit.run_autocommit.Goals as goal
@@ -16,7 +16,7 @@ returns-in-Ok g c =
     let old = c.args.machines.now in
     let mid = c.begin.new.machines in
     let new = c.run_begun.new.machines in
-    let first = subst (λ r. ComesTo clean sound view old mid r (λ db. IsOne (λ begun. Begins begun.txn begun.heard.items) (call.Begin))) c.in-Ok.is (one_call g.D.DeskStore.is_clean g.S.SiteStore.is_clean g.D.DeskStore.is_sound g.S.SiteStore.is_sound g.D.DeskStore.kept g.S.SiteStore.kept g.D.DeskStore.refused g.S.SiteStore.refused (λ begun. Begins begun.txn begun.heard.items) (call.Begin) old mid c.begin.result c.begin.ensures.leaves c.begin.ensures.blames c.begin.ensures.served c.begin.ensures.ok c.begin.ensures.denied) in
+    let first = subst (λ r. ComesTo clean sound view old mid r (λ db. IsOne (λ begun. Begins begun.txn begun.heard.items) (call.Begin))) c.in-Ok.is c.begin.ensures in
     then_too clean sound view old mid new _ c.run_begun.result
     (λ db one more is stated. subst (λ ms. IsLone c.args.text.now (ms ++ more) (heard_in (λ heard. heard.items) c.run_begun.result)) (sym is) stated) first c.run_begun.ensures
 
@@ -27,6 +27,6 @@ returns-in-Err g c =
     let view = counted g.D.DeskStore.kept g.S.SiteStore.kept g.D.DeskStore.refused g.S.SiteStore.refused in
     let old = c.args.machines.now in
     let new = c.begin.new.machines in
-    let first = subst (λ r. ComesTo clean sound view old new r (λ db. IsOne (λ begun. Begins begun.txn begun.heard.items) (call.Begin))) c.in-Err.is (one_call g.D.DeskStore.is_clean g.S.SiteStore.is_clean g.D.DeskStore.is_sound g.S.SiteStore.is_sound g.D.DeskStore.kept g.S.SiteStore.kept g.D.DeskStore.refused g.S.SiteStore.refused (λ begun. Begins begun.txn begun.heard.items) (call.Begin) old new c.begin.result c.begin.ensures.leaves c.begin.ensures.blames c.begin.ensures.served c.begin.ensures.ok c.begin.ensures.denied) in
+    let first = subst (λ r. ComesTo clean sound view old new r (λ db. IsOne (λ begun. Begins begun.txn begun.heard.items) (call.Begin))) c.in-Err.is c.begin.ensures in
     as_kind clean sound view old new _ _ (λ blamed. blamed)
     (λ db of is makes. ⊎_elim (λ stops. inl stops) (λ made. inr (record { moves = made.moves; made = made.made; is = subst (λ ms. IsLone c.args.text.now ms (Err c.in-Err.refusal)) (sym made.is) refl })) makes) first

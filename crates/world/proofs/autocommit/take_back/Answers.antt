@@ -1,9 +1,9 @@
 -- Why `take_back` meets its contract.
 use Rattle.std.proofs.Common.{refl, sym, subst, inr, ◌∙◌}
-use Rattle.world.proofs.Calls.{IsOne, as_kind, goes_for_any, left_behind, one_call, stops_as}
+use Rattle.world.proofs.Calls.{as_kind, goes_for_any, left_behind, stops_as}
 use Rattle.world.specs.Commands.{IsTakenBack}
 use Rattle.world.specs.Contents.{OfStores, counted}
-use Rattle.world.specs.Course.{Rolls_back}
+use Rattle.world.specs.Course.{IsOne, Rolls_back}
 use Rattle.world.specs.Frame.{ComesTo}
 use Rattle.world.specs.declared.event.Call.TheVariants as call
 use Rattle.world.proofs.autocommit.take_back.Goals as goal
@@ -15,7 +15,7 @@ returns-in-Ok g c =
     let view = counted g.D.DeskStore.kept g.S.SiteStore.kept g.D.DeskStore.refused g.S.SiteStore.refused in
     let old = c.args.machines.now in
     let new = c.roll_back.new.machines in
-    let first = subst (λ r. ComesTo clean sound view old new r (λ db. IsOne (λ heard. Rolls_back c.args.txn heard.items) (call.Rollback c.args.txn))) c.in-Ok.is (one_call g.D.DeskStore.is_clean g.S.SiteStore.is_clean g.D.DeskStore.is_sound g.S.SiteStore.is_sound g.D.DeskStore.kept g.S.SiteStore.kept g.D.DeskStore.refused g.S.SiteStore.refused (λ heard. Rolls_back c.args.txn heard.items) (call.Rollback c.args.txn) old new c.roll_back.result c.roll_back.ensures.leaves c.roll_back.ensures.blames c.roll_back.ensures.served c.roll_back.ensures.ok c.roll_back.ensures.denied) in
+    let first = subst (λ r. ComesTo clean sound view old new r (λ db. IsOne (λ heard. Rolls_back c.args.txn heard.items) (call.Rollback c.args.txn))) c.in-Ok.is c.roll_back.ensures in
     as_kind clean sound view old new _ _ (λ blamed. goes_for_any (view old).refused (view new).refused c.args.refusal c.requires)
     (λ db of is made. inr (record { moves = made.moves; made = made.made; is = (subst (IsTakenBack c.args.txn) (sym made.is) refl, refl) })) first
 
@@ -26,7 +26,7 @@ returns-then-is_stop g c =
     let view = counted g.D.DeskStore.kept g.S.SiteStore.kept g.D.DeskStore.refused g.S.SiteStore.refused in
     let old = c.args.machines.now in
     let new = c.roll_back.new.machines in
-    let first = subst (λ r. ComesTo clean sound view old new r (λ db. IsOne (λ heard. Rolls_back c.args.txn heard.items) (call.Rollback c.args.txn))) c.in-Err.is (one_call g.D.DeskStore.is_clean g.S.SiteStore.is_clean g.D.DeskStore.is_sound g.S.SiteStore.is_sound g.D.DeskStore.kept g.S.SiteStore.kept g.D.DeskStore.refused g.S.SiteStore.refused (λ heard. Rolls_back c.args.txn heard.items) (call.Rollback c.args.txn) old new c.roll_back.result c.roll_back.ensures.leaves c.roll_back.ensures.blames c.roll_back.ensures.served c.roll_back.ensures.ok c.roll_back.ensures.denied) in
+    let first = subst (λ r. ComesTo clean sound view old new r (λ db. IsOne (λ heard. Rolls_back c.args.txn heard.items) (call.Rollback c.args.txn))) c.in-Err.is c.roll_back.ensures in
     stops_as clean sound view old new c.in-Err.other (sym c.is_stop.ensures ∙ c.if-is_stop.true) first
 
 pub returns-else-is_stop : goal.returns-else-is_stop
@@ -36,5 +36,5 @@ returns-else-is_stop g c =
     let view = counted g.D.DeskStore.kept g.S.SiteStore.kept g.D.DeskStore.refused g.S.SiteStore.refused in
     let old = c.args.machines.now in
     let new = c.roll_back.new.machines in
-    let first = subst (λ r. ComesTo clean sound view old new r (λ db. IsOne (λ heard. Rolls_back c.args.txn heard.items) (call.Rollback c.args.txn))) c.in-Err.is (one_call g.D.DeskStore.is_clean g.S.SiteStore.is_clean g.D.DeskStore.is_sound g.S.SiteStore.is_sound g.D.DeskStore.kept g.S.SiteStore.kept g.D.DeskStore.refused g.S.SiteStore.refused (λ heard. Rolls_back c.args.txn heard.items) (call.Rollback c.args.txn) old new c.roll_back.result c.roll_back.ensures.leaves c.roll_back.ensures.blames c.roll_back.ensures.served c.roll_back.ensures.ok c.roll_back.ensures.denied) in
+    let first = subst (λ r. ComesTo clean sound view old new r (λ db. IsOne (λ heard. Rolls_back c.args.txn heard.items) (call.Rollback c.args.txn))) c.in-Err.is c.roll_back.ensures in
     left_behind clean sound view c.args.txn _ old new c.in-Err.other c.args.refusal (sym c.is_stop.ensures ∙ c.if-is_stop.false) c.requires first

@@ -1,5 +1,5 @@
 -- Why `roll_back` meets its contract.
-use Rattle.std.proofs.Common.{rules, List, ◌∙◌, sym, ap, inl}
+use Rattle.std.proofs.Common.{rules, List, ◌∙◌, sym, ap, inl, Err}
 use Rattle.catalog.specs.Relation.{catalogue_of}
 use Rattle.protocol.specs.Desk.{Rollback}
 use Rattle.protocol.specs.Letters.{txn_name}
@@ -7,9 +7,11 @@ use Rattle.desk.specs.Database.{language}
 use Rattle.desk.specs.declared.reply.Notice.{Notice}
 use Rattle.world.specs.Counted.{counts}
 use Rattle.world.specs.declared.event.Call.TheVariants as call
+use Rattle.world.specs.Course.{Rolls_back}
 use Rattle.world.specs.Mailbox.{Ask, Goes, Serves, To_do, asked, settled}
 use Rattle.world.specs.Contents.{counted, held}
 use Rattle.world.specs.Taking.{put_out_by}
+use Rattle.world.proofs.Calls.{one_call}
 use Rattle.world.proofs.Counting.{fit_uncounted, leads_counted, none_fewer, same_counted, with_counts, no_fewer_then, uncounted}
 use Rattle.world.proofs.Deliveries.{call_serves}
 use Rattle.world.proofs.Denials.{still_denied}
@@ -21,22 +23,16 @@ use Rattle.world.proofs.Running.{over_of}
 use Rattle.world.proofs.Stops.{call_since}
 use Rattle.world.proofs.client.roll_back.Goals as goal
 
-pub returns-in-Ok-clause-ok : goal.returns-in-Ok-clause-ok
-returns-in-Ok-clause-ok g c = λ db of is clean sound fit.
-    let before = held g.D.DeskStore.kept g.S.SiteStore.kept c.args.machines.now in
-    let mid = held g.D.DeskStore.kept g.S.SiteStore.kept c.rollback.new.self in
-    let old = counts g.D.DeskStore.refused g.S.SiteStore.refused c.args.machines.now in
-    let new = counts g.D.DeskStore.refused g.S.SiteStore.refused c.rollback.new.self in
-    let after = counted g.D.DeskStore.kept g.S.SiteStore.kept g.D.DeskStore.refused g.S.SiteStore.refused c.deliver_all.new.machines in
-    let made = c.in-Ok.ensures.ok db (no_choice db) (over_of db c.args.machines.now.desk.catalog of is) (fit_uncounted db before old fit) in
-    let ask : Ask (language db) = To_do (txn_name c.args.txn) Rollback (no_choice db) in
-    let leads = leads_counted db (asked ask) before mid old new c.in-Ok.out.letters c.in-Ok.out.replies made.leads in
-    let serves : (heard : List Notice) → Goes db (λ w. w) (put_out_by (with_counts mid new) c.in-Ok.out) (settled after heard) → Serves db ask (with_counts before old) after heard = λ heard goes. call_serves db ask (with_counts before old) (with_counts mid new) c.in-Ok.out leads (none_fewer old new (uncounted g.D.DeskStore.refused g.S.SiteStore.refused c.rollback.ensures.uncalled)) after heard goes in
-    if_ok c.deliver_all.result (λ heard goes. record { choice = no_choice db; accepted = made.accepted; within = made.within; serves = serves heard.items goes })
-    (c.deliver_all.ensures.ok db of (is ∙ ap catalogue_of (sym c.rollback.ensures.leaves.catalog)) clean (c.rollback.ensures.leaves.sound (c.deliver_all.ensures.leaves.clean clean) sound) leads.fit)
-
-pub returns-in-Ok-clause-served : goal.returns-in-Ok-clause-served
-returns-in-Ok-clause-served g c = λ db whole past of law is clean sound served.
+pub returns-in-Ok : goal.returns-in-Ok
+returns-in-Ok g c = one_call g.D.DeskStore.is_clean g.S.SiteStore.is_clean g.D.DeskStore.is_sound g.S.SiteStore.is_sound g.D.DeskStore.kept g.S.SiteStore.kept g.D.DeskStore.refused g.S.SiteStore.refused (λ heard. Rolls_back c.args.txn heard.items) (call.Rollback c.args.txn) c.args.machines.now c.deliver_all.new.machines c.deliver_all.result
+    (record {
+  clean = search rules;
+  sound = search rules;
+  counts = no_fewer_then (counts g.D.DeskStore.refused g.S.SiteStore.refused c.args.machines.now) (counts g.D.DeskStore.refused g.S.SiteStore.refused c.rollback.new.self) (counts g.D.DeskStore.refused g.S.SiteStore.refused c.deliver_all.new.machines) (none_fewer (counts g.D.DeskStore.refused g.S.SiteStore.refused c.args.machines.now) (counts g.D.DeskStore.refused g.S.SiteStore.refused c.rollback.new.self) (uncounted g.D.DeskStore.refused g.S.SiteStore.refused c.rollback.ensures.uncalled)) c.deliver_all.ensures.leaves.counts;
+  catalog = search rules;
+})
+    (λ clean sound. call_since c.deliver_all.result (counts g.D.DeskStore.refused g.S.SiteStore.refused c.args.machines.now) (counts g.D.DeskStore.refused g.S.SiteStore.refused c.rollback.new.self) (counts g.D.DeskStore.refused g.S.SiteStore.refused c.deliver_all.new.machines) (none_fewer (counts g.D.DeskStore.refused g.S.SiteStore.refused c.args.machines.now) (counts g.D.DeskStore.refused g.S.SiteStore.refused c.rollback.new.self) (uncounted g.D.DeskStore.refused g.S.SiteStore.refused c.rollback.ensures.uncalled)) (c.deliver_all.ensures.blames clean (c.rollback.ensures.leaves.sound (c.deliver_all.ensures.leaves.clean clean) sound)))
+    (λ db whole past of law is clean sound served.
     let before = held g.D.DeskStore.kept g.S.SiteStore.kept c.args.machines.now in
     let mid = held g.D.DeskStore.kept g.S.SiteStore.kept c.rollback.new.self in
     let old = counts g.D.DeskStore.refused g.S.SiteStore.refused c.args.machines.now in
@@ -49,42 +45,40 @@ returns-in-Ok-clause-served g c = λ db whole past of law is clean sound served.
     let is_mid = is ∙ ap catalogue_of (sym c.rollback.ensures.leaves.catalog) in
     let sound_mid = c.rollback.ensures.leaves.sound (c.deliver_all.ensures.leaves.clean clean) sound in
     call_served db law whole ask (with_counts before old) (with_counts mid new) after c.in-Ok.out past c.deliver_all.result (λ heard. heard.items) served leads (none_fewer old new (uncounted g.D.DeskStore.refused g.S.SiteStore.refused c.rollback.ensures.uncalled))
-    (c.deliver_all.ensures.ok db of is_mid clean sound_mid leads.fit) (c.deliver_all.ensures.err db of is_mid clean sound_mid leads.fit)
-
-pub returns-in-Err-clause-served : goal.returns-in-Err-clause-served
-returns-in-Err-clause-served g c = λ db whole past of law is clean sound served.
+    (c.deliver_all.ensures.ok db of is_mid clean sound_mid leads.fit) (c.deliver_all.ensures.err db of is_mid clean sound_mid leads.fit))
+    (λ db of is clean sound fit.
     let before = held g.D.DeskStore.kept g.S.SiteStore.kept c.args.machines.now in
     let mid = held g.D.DeskStore.kept g.S.SiteStore.kept c.rollback.new.self in
     let old = counts g.D.DeskStore.refused g.S.SiteStore.refused c.args.machines.now in
     let new = counts g.D.DeskStore.refused g.S.SiteStore.refused c.rollback.new.self in
-    same_on db law whole (with_counts before old) (with_counts mid new) past served (same_counted before mid old new c.in-Err.ensures.err (uncounted g.D.DeskStore.refused g.S.SiteStore.refused c.rollback.ensures.uncalled))
+    let after = counted g.D.DeskStore.kept g.S.SiteStore.kept g.D.DeskStore.refused g.S.SiteStore.refused c.deliver_all.new.machines in
+    let made = c.in-Ok.ensures.ok db (no_choice db) (over_of db c.args.machines.now.desk.catalog of is) (fit_uncounted db before old fit) in
+    let ask : Ask (language db) = To_do (txn_name c.args.txn) Rollback (no_choice db) in
+    let leads = leads_counted db (asked ask) before mid old new c.in-Ok.out.letters c.in-Ok.out.replies made.leads in
+    let serves : (heard : List Notice) → Goes db (λ w. w) (put_out_by (with_counts mid new) c.in-Ok.out) (settled after heard) → Serves db ask (with_counts before old) after heard = λ heard goes. call_serves db ask (with_counts before old) (with_counts mid new) c.in-Ok.out leads (none_fewer old new (uncounted g.D.DeskStore.refused g.S.SiteStore.refused c.rollback.ensures.uncalled)) after heard goes in
+    if_ok c.deliver_all.result (λ heard goes. record { choice = no_choice db; accepted = made.accepted; within = made.within; serves = serves heard.items goes })
+    (c.deliver_all.ensures.ok db of (is ∙ ap catalogue_of (sym c.rollback.ensures.leaves.catalog)) clean (c.rollback.ensures.leaves.sound (c.deliver_all.ensures.leaves.clean clean) sound) leads.fit))
+    (λ db of is clean sound fit. if_err c.deliver_all.result (λ told stops. inl stops) c.deliver_all.ensures.own)
 
-pub returns-in-Ok-clause-denied : goal.returns-in-Ok-clause-denied
-returns-in-Ok-clause-denied g c = λ db of is clean sound fit. if_err c.deliver_all.result (λ told stops. inl stops) c.deliver_all.ensures.own
-
-pub returns-in-Err-clause-denied : goal.returns-in-Err-clause-denied
-returns-in-Err-clause-denied g c = λ db of is clean sound fit.
-    let before = held g.D.DeskStore.kept g.S.SiteStore.kept c.args.machines.now in
-    let mid = held g.D.DeskStore.kept g.S.SiteStore.kept c.rollback.new.self in
-    let old = counts g.D.DeskStore.refused g.S.SiteStore.refused c.args.machines.now in
-    let new = counts g.D.DeskStore.refused g.S.SiteStore.refused c.rollback.new.self in
-    still_denied db (with_counts before old) (with_counts mid new) (call.Rollback c.args.txn) c.in-Err.refusal fit (same_counted before mid old new c.in-Err.ensures.err (uncounted g.D.DeskStore.refused g.S.SiteStore.refused c.rollback.ensures.uncalled)) (c.in-Err.ensures.told db)
-
-pub returns-in-Ok-clause-leaves : goal.returns-in-Ok-clause-leaves
-returns-in-Ok-clause-leaves g c = record {
-  clean = search rules;
-  sound = search rules;
-  counts = no_fewer_then (counts g.D.DeskStore.refused g.S.SiteStore.refused c.args.machines.now) (counts g.D.DeskStore.refused g.S.SiteStore.refused c.rollback.new.self) (counts g.D.DeskStore.refused g.S.SiteStore.refused c.deliver_all.new.machines) (none_fewer (counts g.D.DeskStore.refused g.S.SiteStore.refused c.args.machines.now) (counts g.D.DeskStore.refused g.S.SiteStore.refused c.rollback.new.self) (uncounted g.D.DeskStore.refused g.S.SiteStore.refused c.rollback.ensures.uncalled)) c.deliver_all.ensures.leaves.counts;
-  catalog = search rules;
-}
-
-pub returns-in-Ok-clause-blames : goal.returns-in-Ok-clause-blames
-returns-in-Ok-clause-blames g c = λ clean sound. call_since c.deliver_all.result (counts g.D.DeskStore.refused g.S.SiteStore.refused c.args.machines.now) (counts g.D.DeskStore.refused g.S.SiteStore.refused c.rollback.new.self) (counts g.D.DeskStore.refused g.S.SiteStore.refused c.deliver_all.new.machines) (none_fewer (counts g.D.DeskStore.refused g.S.SiteStore.refused c.args.machines.now) (counts g.D.DeskStore.refused g.S.SiteStore.refused c.rollback.new.self) (uncounted g.D.DeskStore.refused g.S.SiteStore.refused c.rollback.ensures.uncalled)) (c.deliver_all.ensures.blames clean (c.rollback.ensures.leaves.sound (c.deliver_all.ensures.leaves.clean clean) sound))
-
-pub returns-in-Err-clause-leaves : goal.returns-in-Err-clause-leaves
-returns-in-Err-clause-leaves g c = record {
+pub returns-in-Err : goal.returns-in-Err
+returns-in-Err g c = one_call g.D.DeskStore.is_clean g.S.SiteStore.is_clean g.D.DeskStore.is_sound g.S.SiteStore.is_sound g.D.DeskStore.kept g.S.SiteStore.kept g.D.DeskStore.refused g.S.SiteStore.refused (λ heard. Rolls_back c.args.txn heard.items) (call.Rollback c.args.txn) c.args.machines.now c.rollback.new.self (Err c.in-Err.refusal)
+    (record {
   clean = search rules;
   sound = search rules;
   counts = none_fewer (counts g.D.DeskStore.refused g.S.SiteStore.refused c.args.machines.now) (counts g.D.DeskStore.refused g.S.SiteStore.refused c.rollback.new.self) (uncounted g.D.DeskStore.refused g.S.SiteStore.refused c.rollback.ensures.uncalled);
   catalog = search rules;
-}
+})
+    (λ clean sound. c.in-Err.ensures.blames)
+    (λ db whole past of law is clean sound served.
+    let before = held g.D.DeskStore.kept g.S.SiteStore.kept c.args.machines.now in
+    let mid = held g.D.DeskStore.kept g.S.SiteStore.kept c.rollback.new.self in
+    let old = counts g.D.DeskStore.refused g.S.SiteStore.refused c.args.machines.now in
+    let new = counts g.D.DeskStore.refused g.S.SiteStore.refused c.rollback.new.self in
+    same_on db law whole (with_counts before old) (with_counts mid new) past served (same_counted before mid old new c.in-Err.ensures.err (uncounted g.D.DeskStore.refused g.S.SiteStore.refused c.rollback.ensures.uncalled)))
+    (λ db of is clean sound fit. tt)
+    (λ db of is clean sound fit.
+    let before = held g.D.DeskStore.kept g.S.SiteStore.kept c.args.machines.now in
+    let mid = held g.D.DeskStore.kept g.S.SiteStore.kept c.rollback.new.self in
+    let old = counts g.D.DeskStore.refused g.S.SiteStore.refused c.args.machines.now in
+    let new = counts g.D.DeskStore.refused g.S.SiteStore.refused c.rollback.new.self in
+    still_denied db (with_counts before old) (with_counts mid new) (call.Rollback c.args.txn) c.in-Err.refusal fit (same_counted before mid old new c.in-Err.ensures.err (uncounted g.D.DeskStore.refused g.S.SiteStore.refused c.rollback.ensures.uncalled)) (c.in-Err.ensures.told db))

@@ -1,11 +1,10 @@
 -- Why `begins` meets its contract.
 use Rattle.std.proofs.Common.{refl, sym, subst, Some, inl, inr, ⊎_elim, Err, Ok, []}
-use Rattle.world.proofs.Calls.{IsOne, as_kind, one_call, stays}
-use Rattle.world.specs.Commands.{IsSingle, is_single}
-use Rattle.world.specs.Commands.{is_inside}
+use Rattle.world.proofs.Calls.{as_kind, stays}
+use Rattle.world.specs.Commands.{is_inside, is_turned_down, makes_none, only_begins}
 use Rattle.desk.specs.declared.refusal.Refusal.TheVariants.{Busy}
 use Rattle.world.specs.Contents.{OfStores, counted}
-use Rattle.world.specs.Course.{Begins}
+use Rattle.world.specs.Course.{Begins, IsOne}
 use Rattle.world.specs.Frame.{ComesTo}
 use Rattle.world.specs.declared.event.Call.TheVariants as call
 use Rattle.world.proofs.solo.Solo.begins.Goals as goal
@@ -18,9 +17,9 @@ returns-in-Ok-clause-comes g c =
     let old = c.args.self.now.machines in
     let new = c.begin.new.machines in
     let txn = c.in-Ok.begun.txn in
-    let first = subst (λ r. ComesTo clean sound view old new r (λ db. IsOne (λ begun. Begins begun.txn begun.heard.items) (call.Begin))) c.in-Ok.is (one_call g.D.DeskStore.is_clean g.S.SiteStore.is_clean g.D.DeskStore.is_sound g.S.SiteStore.is_sound g.D.DeskStore.kept g.S.SiteStore.kept g.D.DeskStore.refused g.S.SiteStore.refused (λ begun. Begins begun.txn begun.heard.items) (call.Begin) old new c.begin.result c.begin.ensures.leaves c.begin.ensures.blames c.begin.ensures.served c.begin.ensures.ok c.begin.ensures.denied) in
+    let first = subst (λ r. ComesTo clean sound view old new r (λ db. IsOne (λ begun. Begins begun.txn begun.heard.items) (call.Begin))) c.in-Ok.is c.begin.ensures in
     as_kind clean sound view old new _ _ (λ blamed. tt)
-    (λ db of is made. record { moves = made.moves; made = made.made; is = λ text spelled. is_single (subst (λ ms. IsSingle db.schemas text c.args.self.now.current (Some txn) ms (Ok c.in-Ok.begun.heard.items)) (sym made.is) ((spelled, c.in-None.is), refl, refl)) }) first
+    (λ db of is made. record { moves = made.moves; made = made.made; is = λ text spelled. only_begins txn c.in-Ok.begun.heard.items made.is (spelled, c.in-None.is) refl refl }) first
 
 pub returns-in-Err-clause-comes : goal.returns-in-Err-clause-comes
 returns-in-Err-clause-comes g c =
@@ -30,9 +29,9 @@ returns-in-Err-clause-comes g c =
     let old = c.args.self.now.machines in
     let new = c.begin.new.machines in
     let told = c.in-Err.refusal in
-    let first = subst (λ r. ComesTo clean sound view old new r (λ db. IsOne (λ begun. Begins begun.txn begun.heard.items) (call.Begin))) c.in-Err.is (one_call g.D.DeskStore.is_clean g.S.SiteStore.is_clean g.D.DeskStore.is_sound g.S.SiteStore.is_sound g.D.DeskStore.kept g.S.SiteStore.kept g.D.DeskStore.refused g.S.SiteStore.refused (λ begun. Begins begun.txn begun.heard.items) (call.Begin) old new c.begin.result c.begin.ensures.leaves c.begin.ensures.blames c.begin.ensures.served c.begin.ensures.ok c.begin.ensures.denied) in
+    let first = subst (λ r. ComesTo clean sound view old new r (λ db. IsOne (λ begun. Begins begun.txn begun.heard.items) (call.Begin))) c.in-Err.is c.begin.ensures in
     as_kind clean sound view old new _ _ (λ blamed. blamed)
-    (λ db of is makes. ⊎_elim (λ stops. inl stops) (λ made. inr (record { moves = made.moves; made = made.made; is = λ text spelled. is_single (subst (λ ms. IsSingle db.schemas text c.args.self.now.current c.args.self.now.current ms (Err told)) (sym made.is) ((spelled, c.in-None.is), refl, refl)) })) makes) first
+    (λ db of is makes. ⊎_elim (λ stops. inl stops) (λ made. inr (record { moves = made.moves; made = made.made; is = λ text spelled. is_turned_down call.Begin told made.is (spelled, c.in-None.is) refl refl })) makes) first
 
 pub returns-in-Some-clause-comes : goal.returns-in-Some-clause-comes
 returns-in-Some-clause-comes g c =
@@ -40,4 +39,4 @@ returns-in-Some-clause-comes g c =
     let sound = OfStores g.D.DeskStore.is_sound g.S.SiteStore.is_sound in
     let view = counted g.D.DeskStore.kept g.S.SiteStore.kept g.D.DeskStore.refused g.S.SiteStore.refused in
     let old = c.args.self.now.machines in
-    stays clean sound view old _ tt (λ db of is. inr (record { moves = []; made = refl; is = λ text spelled. is_single (refl, (Busy, refl, is_inside _ c.in-Some.is spelled refl)) }))
+    stays clean sound view old _ tt (λ db of is. inr (record { moves = []; made = refl; is = λ text spelled. makes_none Busy refl (is_inside _ c.in-Some.is spelled refl) refl refl }))

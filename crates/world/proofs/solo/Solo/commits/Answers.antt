@@ -1,11 +1,10 @@
 -- Why `commits` meets its contract.
 use Rattle.desk.specs.declared.refusal.Refusal.TheVariants.{NoTransaction}
 use Rattle.std.proofs.Common.{refl, sym, subst, None, inl, inr, ⊎_elim, Err, Ok, []}
-use Rattle.world.proofs.Calls.{IsOne, as_kind, one_call, stays}
-use Rattle.world.specs.Commands.{IsSingle, is_single}
-use Rattle.world.specs.Commands.{is_outside}
+use Rattle.world.proofs.Calls.{as_kind, stays}
+use Rattle.world.specs.Commands.{is_outside, is_turned_down, makes_none, only_commits}
 use Rattle.world.specs.Contents.{OfStores, counted}
-use Rattle.world.specs.Course.{Commits}
+use Rattle.world.specs.Course.{Commits, IsOne}
 use Rattle.world.specs.Frame.{ComesTo}
 use Rattle.world.specs.declared.event.Call.TheVariants as call
 use Rattle.world.proofs.solo.Solo.commits.Goals as goal
@@ -18,9 +17,9 @@ returns-in-Ok-clause-comes g c =
     let old = c.args.self.now.machines in
     let new = c.commit.new.machines in
     let txn = c.in-Some.txn in
-    let first = subst (λ r. ComesTo clean sound view old new r (λ db. IsOne (λ heard. Commits txn heard.items) (call.Commit txn))) c.in-Ok.is (one_call g.D.DeskStore.is_clean g.S.SiteStore.is_clean g.D.DeskStore.is_sound g.S.SiteStore.is_sound g.D.DeskStore.kept g.S.SiteStore.kept g.D.DeskStore.refused g.S.SiteStore.refused (λ heard. Commits txn heard.items) (call.Commit txn) old new c.commit.result c.commit.ensures.leaves c.commit.ensures.blames c.commit.ensures.served c.commit.ensures.ok c.commit.ensures.denied) in
+    let first = subst (λ r. ComesTo clean sound view old new r (λ db. IsOne (λ heard. Commits txn heard.items) (call.Commit txn))) c.in-Ok.is c.commit.ensures in
     as_kind clean sound view old new _ _ (λ blamed. tt)
-    (λ db of is made. record { moves = made.moves; made = made.made; is = λ text spelled. is_single (subst (λ ms. IsSingle db.schemas text c.args.self.now.current None ms (Ok c.in-Ok.heard.items)) (sym made.is) ((spelled, c.in-Some.is), refl, refl)) }) first
+    (λ db of is made. record { moves = made.moves; made = made.made; is = λ text spelled. only_commits c.in-Some.txn c.in-Ok.heard.items made.is (spelled, c.in-Some.is) refl refl }) first
 
 pub returns-in-Err-clause-comes : goal.returns-in-Err-clause-comes
 returns-in-Err-clause-comes g c =
@@ -31,9 +30,9 @@ returns-in-Err-clause-comes g c =
     let new = c.commit.new.machines in
     let txn = c.in-Some.txn in
     let told = c.in-Err.refusal in
-    let first = subst (λ r. ComesTo clean sound view old new r (λ db. IsOne (λ heard. Commits txn heard.items) (call.Commit txn))) c.in-Err.is (one_call g.D.DeskStore.is_clean g.S.SiteStore.is_clean g.D.DeskStore.is_sound g.S.SiteStore.is_sound g.D.DeskStore.kept g.S.SiteStore.kept g.D.DeskStore.refused g.S.SiteStore.refused (λ heard. Commits txn heard.items) (call.Commit txn) old new c.commit.result c.commit.ensures.leaves c.commit.ensures.blames c.commit.ensures.served c.commit.ensures.ok c.commit.ensures.denied) in
+    let first = subst (λ r. ComesTo clean sound view old new r (λ db. IsOne (λ heard. Commits txn heard.items) (call.Commit txn))) c.in-Err.is c.commit.ensures in
     as_kind clean sound view old new _ _ (λ blamed. blamed)
-    (λ db of is makes. ⊎_elim (λ stops. inl stops) (λ made. inr (record { moves = made.moves; made = made.made; is = λ text spelled. is_single (subst (λ ms. IsSingle db.schemas text c.args.self.now.current c.args.self.now.current ms (Err told)) (sym made.is) ((spelled, c.in-Some.is), refl, refl)) })) makes) first
+    (λ db of is makes. ⊎_elim (λ stops. inl stops) (λ made. inr (record { moves = made.moves; made = made.made; is = λ text spelled. is_turned_down (call.Commit c.in-Some.txn) told made.is (spelled, c.in-Some.is) refl refl })) makes) first
 
 pub returns-in_default-clause-comes : goal.returns-in_default-clause-comes
 returns-in_default-clause-comes g c =
@@ -41,4 +40,4 @@ returns-in_default-clause-comes g c =
     let sound = OfStores g.D.DeskStore.is_sound g.S.SiteStore.is_sound in
     let view = counted g.D.DeskStore.kept g.S.SiteStore.kept g.D.DeskStore.refused g.S.SiteStore.refused in
     let old = c.args.self.now.machines in
-    stays clean sound view old _ tt (λ db of is. inr (record { moves = []; made = refl; is = λ text spelled. is_single (refl, (NoTransaction, refl, is_outside c.in_default.is (inl spelled) refl)) }))
+    stays clean sound view old _ tt (λ db of is. inr (record { moves = []; made = refl; is = λ text spelled. makes_none NoTransaction refl (is_outside c.in_default.is (inl spelled) refl) refl refl }))

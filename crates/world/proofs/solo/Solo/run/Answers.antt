@@ -29,7 +29,8 @@ returns-in-Ok-clause-ran g c = λ whole entries past clean sound served so.
     let follow = subst (λ (x : List (List ℕ) × List SplitRelation). MovesFollow (database (catalogue_of x))) c.catalog-3.ensures c.moves_follow.ensures in
     let obeys = subst (λ (x : List (List ℕ) × List SplitRelation). ObeysUnlessRefused (database (catalogue_of x)) (fits (catalogue_of x))) c.catalog-5.ensures c.obeyed_unless_refused.ensures in
     let quiet = subst (λ (x : List (List ℕ) × List SplitRelation). GrowsQuiet (database (catalogue_of x)) (fits (catalogue_of x))) c.catalog-6.ensures c.grows_quiet.ensures in
-    has_run (database catalogue) (fits catalogue) reached obeys quiet whole follow c.args.transactions.now c.in-Ok.outcomes.items before after entries past served so (c.in-Ok.ensures.ok (database catalogue) of refl clean sound served.fit)
+    let ran = c.in-Ok.ensures.ok (database catalogue) of refl clean sound served.fit in
+    has_run (database catalogue) (fits catalogue) reached obeys quiet whole follow c.args.transactions.now c.in-Ok.outcomes.items before after entries past served so ran.moves ran.is ran.made
 
 pub returns-in-Err-clause-broke : goal.returns-in-Err-clause-broke
 returns-in-Err-clause-broke g c = λ whole entries past stop clean sound served so is.
@@ -49,17 +50,19 @@ returns-in-Err-clause-broke g c = λ whole entries past stop clean sound served 
 
 pub returns-in-Ok-clause-served : goal.returns-in-Ok-clause-served
 returns-in-Ok-clause-served g c = λ whole past clean sound served.
-    c.run_all.ensures.served (database (catalogue_of c.args.self.now.machines.desk.catalog)) whole past
-    (subst (λ (x : List (List ℕ) × List SplitRelation). IsOfCatalogue (database (catalogue_of x))) c.catalog.ensures c.database_is_of_catalogue.ensures.of_catalogue)
-    (subst (λ (x : List (List ℕ) × List SplitRelation). ReachedLaw (language (database (catalogue_of x)))) c.catalog-2.ensures c.one_client_is_a_run.ensures)
-    refl clean sound served
+    let on = c.run_all.ensures.served (database (catalogue_of c.args.self.now.machines.desk.catalog)) whole past
+        (subst (λ (x : List (List ℕ) × List SplitRelation). IsOfCatalogue (database (catalogue_of x))) c.catalog.ensures c.database_is_of_catalogue.ensures.of_catalogue)
+        (subst (λ (x : List (List ℕ) × List SplitRelation). ReachedLaw (language (database (catalogue_of x)))) c.catalog-2.ensures c.one_client_is_a_run.ensures)
+        refl clean sound served in
+    (on.deeds, on.served)
 
 pub returns-in-Err-clause-served : goal.returns-in-Err-clause-served
 returns-in-Err-clause-served g c = λ whole past clean sound served.
-    c.run_all.ensures.served (database (catalogue_of c.args.self.now.machines.desk.catalog)) whole past
-    (subst (λ (x : List (List ℕ) × List SplitRelation). IsOfCatalogue (database (catalogue_of x))) c.catalog.ensures c.database_is_of_catalogue.ensures.of_catalogue)
-    (subst (λ (x : List (List ℕ) × List SplitRelation). ReachedLaw (language (database (catalogue_of x)))) c.catalog-2.ensures c.one_client_is_a_run.ensures)
-    refl clean sound served
+    let on = c.run_all.ensures.served (database (catalogue_of c.args.self.now.machines.desk.catalog)) whole past
+        (subst (λ (x : List (List ℕ) × List SplitRelation). IsOfCatalogue (database (catalogue_of x))) c.catalog.ensures c.database_is_of_catalogue.ensures.of_catalogue)
+        (subst (λ (x : List (List ℕ) × List SplitRelation). ReachedLaw (language (database (catalogue_of x)))) c.catalog-2.ensures c.one_client_is_a_run.ensures)
+        refl clean sound served in
+    (on.deeds, on.served)
 
 pub returns-in-Err-clause-blames : goal.returns-in-Err-clause-blames
 returns-in-Err-clause-blames g c = λ stop clean sound is.

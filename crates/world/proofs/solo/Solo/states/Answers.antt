@@ -1,10 +1,10 @@
 -- Why `states` meets its contract.
 use Rattle.std.proofs.Common.{refl, sym, subst, ◌∙◌, inl, inr, ⊎_elim, Err, Ok}
-use Rattle.world.proofs.Calls.{IsOne, as_kind, lone_command, one_call}
+use Rattle.world.proofs.Calls.{as_kind, lone_command}
 use Rattle.world.specs.Client.{still_open}
-use Rattle.world.specs.Commands.{IsSingle, is_single}
+use Rattle.world.specs.Commands.{is_turned_down, only_states}
 use Rattle.world.specs.Contents.{OfStores, counted}
-use Rattle.world.specs.Course.{States}
+use Rattle.world.specs.Course.{IsOne, States}
 use Rattle.world.specs.Frame.{ComesTo}
 use Rattle.world.specs.declared.event.Call.TheVariants as call
 use Rattle.world.proofs.solo.Solo.states.Goals as goal
@@ -17,9 +17,9 @@ returns-in-Ok-clause-comes g c =
     let old = c.args.self.now.machines in
     let new = c.state.new.machines in
     let txn = c.in-Some.txn in
-    let first = subst (λ r. ComesTo clean sound view old new r (λ db. IsOne (λ heard. States txn c.args.text.now heard.items) (call.State txn c.args.text.now))) c.in-Ok.is (one_call g.D.DeskStore.is_clean g.S.SiteStore.is_clean g.D.DeskStore.is_sound g.S.SiteStore.is_sound g.D.DeskStore.kept g.S.SiteStore.kept g.D.DeskStore.refused g.S.SiteStore.refused (λ heard. States txn c.args.text.now heard.items) (call.State txn c.args.text.now) old new c.state.result c.state.ensures.leaves c.state.ensures.blames c.state.ensures.served c.state.ensures.ok c.state.ensures.denied) in
+    let first = subst (λ r. ComesTo clean sound view old new r (λ db. IsOne (λ heard. States txn c.args.text.now heard.items) (call.State txn c.args.text.now))) c.in-Ok.is c.state.ensures in
     as_kind clean sound view old new _ _ (λ blamed. tt)
-    (λ db of is made. record { moves = made.moves; made = made.made; is = λ statement spelled. is_single (subst (λ ms. IsSingle db.schemas c.args.text.now c.args.self.now.current c.still_open-self.result ms (Ok c.in-Ok.heard.items)) (sym made.is) (((statement, spelled), c.in-Some.is, refl), c.still_open-self.ensures ∙ (λ i. still_open (sym c.in-Some.is i) (c.as_slice.ensures.value i)), refl)) }) first
+    (λ db of is made. record { moves = made.moves; made = made.made; is = λ statement spelled. only_states txn c.args.text.now c.in-Ok.heard.items made.is ((statement, spelled), c.in-Some.is, refl) (c.still_open-self.ensures ∙ (λ i. still_open (sym c.in-Some.is i) (c.as_slice.ensures.value i))) refl }) first
 
 pub returns-in-Err-clause-comes : goal.returns-in-Err-clause-comes
 returns-in-Err-clause-comes g c =
@@ -30,9 +30,9 @@ returns-in-Err-clause-comes g c =
     let new = c.state.new.machines in
     let txn = c.in-Some.txn in
     let told = c.in-Err.refusal in
-    let first = subst (λ r. ComesTo clean sound view old new r (λ db. IsOne (λ heard. States txn c.args.text.now heard.items) (call.State txn c.args.text.now))) c.in-Err.is (one_call g.D.DeskStore.is_clean g.S.SiteStore.is_clean g.D.DeskStore.is_sound g.S.SiteStore.is_sound g.D.DeskStore.kept g.S.SiteStore.kept g.D.DeskStore.refused g.S.SiteStore.refused (λ heard. States txn c.args.text.now heard.items) (call.State txn c.args.text.now) old new c.state.result c.state.ensures.leaves c.state.ensures.blames c.state.ensures.served c.state.ensures.ok c.state.ensures.denied) in
+    let first = subst (λ r. ComesTo clean sound view old new r (λ db. IsOne (λ heard. States txn c.args.text.now heard.items) (call.State txn c.args.text.now))) c.in-Err.is c.state.ensures in
     as_kind clean sound view old new _ _ (λ blamed. blamed)
-    (λ db of is makes. ⊎_elim (λ stops. inl stops) (λ made. inr (record { moves = made.moves; made = made.made; is = λ statement spelled. is_single (subst (λ ms. IsSingle db.schemas c.args.text.now c.args.self.now.current c.args.self.now.current ms (Err told)) (sym made.is) (((statement, spelled), c.in-Some.is, refl), refl, refl)) })) makes) first
+    (λ db of is makes. ⊎_elim (λ stops. inl stops) (λ made. inr (record { moves = made.moves; made = made.made; is = λ statement spelled. is_turned_down (call.State txn c.args.text.now) told made.is ((statement, spelled), c.in-Some.is, refl) refl refl })) makes) first
 
 pub returns-in_default-clause-comes : goal.returns-in_default-clause-comes
 returns-in_default-clause-comes g c =

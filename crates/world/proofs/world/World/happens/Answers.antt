@@ -8,7 +8,8 @@ use Rattle.desk.specs.CatalogueDatabase.{database}
 use Rattle.world.specs.Contents.{OfStores, counted, held}
 use Rattle.world.specs.Refused.{IsRefusedFor}
 use Rattle.world.specs.Counted.{HaveRefused, counts}
-use Rattle.world.specs.Runs.{IsRun, RunsHold, entry_of}
+use Rattle.world.specs.declared.event.Event.{Event}
+use Rattle.world.specs.Runs.{IsRun, RunsHold, Spares, entry_of}
 use Rattle.world.proofs.Running.{spares_pushed, step_pushed}
 use Rattle.world.proofs.world.World.happens.Goals as goal
 
@@ -32,7 +33,7 @@ returns-in-Ok-clause-goes_on g c = λ whole past clean sound run.
     let law = subst (λ x. RunsHold (database (catalogue_of x))) c.catalog-2.ensures c.runs_hold.ensures in
     let with_room = subst (λ (entries : List Entry). IsRun db whole before entries past) (sym c.in_ok-make_room.ensures.items) run in
     let on = step_pushed db whole before after _ _ _ past (entry_of c.args.event c.in-Ok.out) c.in_ok-make_room.ensures.items c.push.ensures (c.in-Ok.ensures.ok db whole past of refl clean sound with_room) in
-    record { on = on; holds = law whole after c.push.new.self.items (past ++ on.deeds) on.run_on }
+    (on, law whole after c.push.new.self.items (past ++ on.deeds) on.run_on)
 
 pub returns-in-Ok-clause-ok : goal.returns-in-Ok-clause-ok
 returns-in-Ok-clause-ok g c = λ whole past clean sound run.
@@ -51,8 +52,10 @@ returns-in-Ok-clause-spared g c = λ whole past clean sound run.
     let after = held g.D.DeskStore.kept g.S.SiteStore.kept c.apply_event.new.machines in
     let of = subst (λ x. IsOfCatalogue (database (catalogue_of x))) c.catalog.ensures c.database_is_of_catalogue.ensures.of_catalogue in
     let with_room = subst (λ (entries : List Entry). IsRun db whole before entries past) (sym c.in_ok-make_room.ensures.items) run in
-    spares_pushed (HaveRefused (counts g.D.DeskStore.refused g.S.SiteStore.refused c.args.self.now.machines) (counts g.D.DeskStore.refused g.S.SiteStore.refused c.apply_event.new.machines)) db before after _ _ _ past (entry_of c.args.event c.in-Ok.out) c.args.event c.in_ok-make_room.ensures.items c.push.ensures
-    (c.in-Ok.ensures.spared db whole past of refl clean sound with_room)
+    let refused = HaveRefused (counts g.D.DeskStore.refused g.S.SiteStore.refused c.args.self.now.machines) (counts g.D.DeskStore.refused g.S.SiteStore.refused c.apply_event.new.machines) in
+    let spares = spares_pushed refused db before after _ _ _ past (entry_of c.args.event c.in-Ok.out) c.args.event c.in_ok-make_room.ensures.items c.push.ensures
+        (c.in-Ok.ensures.spared db whole past of refl clean sound with_room) in
+    λ number whether is. subst (λ (what : Event). Spares refused db before after c.args.self.now.entries.items c.push.new.self.items past what) is spares
 
 pub returns-in_err-make_room-clause-leaves : goal.returns-in_err-make_room-clause-leaves
 returns-in_err-make_room-clause-leaves g c = leaves_still g.D.DeskStore.is_clean g.S.SiteStore.is_clean g.D.DeskStore.is_sound g.S.SiteStore.is_sound g.D.DeskStore.refused g.S.SiteStore.refused c.args.self.now.machines
