@@ -110,7 +110,7 @@ module _ (db : Database) where
       let turn = on_request (txn_name txn) does.asks.choice (State does.statement) (txn_in db before.table txn) in
       let shown = state_shows (txn_name txn) does.statement does.asks.choice (txn_in db before.table txn) does.asks.accepted in
       with_letters (To_do (txn_name txn) (State does.statement) does.asks.choice) (call.State txn text) before after heard does.asks.serves turn.deeds (turned_past before (txn_name txn) turn does.asks.within) (sym shown.0)
-      (subst (AreStated db ((txn, text) ∷ [])) (sym shown.1) (refl, does.spelled, tt))
+      (subst (AreStated db ((txn, text) ∷ [])) (sym shown.1) ((refl, does.spelled), tt))
 
   -- a call more is told
   pub told_more : (entries : List Entry) (past : List (Deed (language db))) → Tells db entries past → (what : calls.Call) (ask : Ask (language db)) (before after : Machines) (heard : List Notice) (serves : Serves db ask before after heard) → Shows db (event.Call what) serves.deeds →

@@ -1,6 +1,5 @@
 -- Calls of transactions that are run one after another: what came of each.
 use Rattle.std.proofs.Common.{◌≡◌, sym, ap, ◌∙◌, subst, true, false, List, [], ◌∷◌, ◌++◌, ◌⊎◌, inl, inr, Result, Ok, Err, IfErr, IfOk}
-use Rattle.std.specs.Prelude.{Unit}
 use Rattle.std.specs.Result.{IsErrAnd}
 use Rattle.desk.specs.declared.refusal.Refusal.{Refusal}
 use Rattle.desk.specs.declared.refusal.Refusal.TheVariants.{Memory}
@@ -35,7 +34,7 @@ stop_of_memory (Err now) memory = is_memory now memory
 module _ {D S : Type 0} (IsClean IsSound : code.Machines D S → Type 0) (view : code.Machines D S → Machines) where
   -- calls have gone well: they made moves of this kind
   abbrev pub GoWell : (old new : code.Machines D S) → (List Move → Type 0) → Type 0
-  GoWell old new kind = ComesTo IsClean IsSound view old new {T = Unit {0}} (Ok tt) (λ db done moves. kind moves)
+  GoWell old new kind = ComesTo {T = Unit {0}} IsClean IsSound view old new (Ok tt) (λ db done moves. kind moves)
 
   -- what came of a call that didn't stop the database is its move
   pub came_of : {T : Type 0} (items : T → List Notice) (asked : calls.Call) (move : T → Move) (old new : code.Machines D S) (done : Result T Refusal) (result : Result cames.Came Refusal) (came : cames.Came) → result ≡ Ok came →
@@ -60,14 +59,14 @@ module _ {D S : Type 0} (IsClean IsSound : code.Machines D S → Type 0) (view :
   stopped_by items old new (Ok x) result why K M was is others comes = let e : Err why ≡ Ok (Heard (items x)) = sym was ∙ is in absurd (cc)
   stopped_by {U = U} items old new (Err told) result why K M was is (inl stops) comes =
       let same : told ≡ why = cc in
-      (subst (λ (r : Refusal). is_stop r ≡ true) same stops.0, subst (λ (r : Refusal). ComesTo IsClean IsSound view old new {T = U} (Err r) M) same (stops_as IsClean IsSound view old new told stops.0 comes))
+      (subst (λ (r : Refusal). is_stop r ≡ true) same stops.0, subst (λ (r : Refusal). ComesTo {T = U} IsClean IsSound view old new (Err r) M) same (stops_as IsClean IsSound view old new told stops.0 comes))
   stopped_by items old new (Err told) result why K M was is (inr goes) comes = let e : Err why ≡ Ok (Refused told) = sym was ∙ goes.1 in absurd (cc)
 
   -- what stopped it is told on
   pub passed_on : {T U : Type 0} {K : Database → Result T Refusal → List Move → Type 0} {M : Database → Result U Refusal → List Move → Type 0} (old new : code.Machines D S) (told : Refusal) (result : Result U Refusal) → IsErrAnd result (λ now. now ≡ told) → is_stop told ≡ true →
-      ComesTo IsClean IsSound view old new {T = T} (Err told) K → ComesTo IsClean IsSound view old new result M
+      ComesTo {T = T} IsClean IsSound view old new (Err told) K → ComesTo IsClean IsSound view old new result M
   passed_on old new told (Ok x) is stops comes = absurd is
-  passed_on {T = T} {U = U} {M = M} old new told (Err now) is stops comes = subst (λ (r : Refusal). ComesTo IsClean IsSound view old new {T = U} (Err r) M) (sym is) (stops_as IsClean IsSound view old new told stops comes)
+  passed_on {T = T} {U = U} {M = M} old new told (Err now) is stops comes = subst (λ (r : Refusal). ComesTo {T = U} IsClean IsSound view old new (Err r) M) (sym is) (stops_as IsClean IsSound view old new told stops comes)
 
   -- ---- calls that are refused only where they stop the database
   module _ {U : Type 0} (kind : Database → U → List Move → Type 0) where
@@ -85,7 +84,7 @@ module _ {D S : Type 0} (IsClean IsSound : code.Machines D S → Type 0) (view :
 
     -- another call stopped the database behind them
     pub runs_into : {T : Type 0} {L : Database → Result T Refusal → List Move → Type 0} (old mid new : code.Machines D S) (K : List Move → Type 0) (result : Result U Refusal) (told : Refusal) → IsErrAnd result (λ now. now ≡ told) → is_stop told ≡ true →
-        GoWell old mid K → ComesTo IsClean IsSound view mid new {T = T} (Err told) L → RunsTo IsClean IsSound view old new result kind
+        GoWell old mid K → ComesTo {T = T} IsClean IsSound view mid new (Err told) L → RunsTo IsClean IsSound view old new result kind
     runs_into old mid new K result told is stops one two = record {
       comes = then_too IsClean IsSound view old mid new tt result (λ db first more k none. if_ok result (λ x no. absurd no) none) one
           (passed_on {M = λ db done moves. IfOk done (λ x. ⊥)} mid new told result is stops two);
@@ -93,7 +92,7 @@ module _ {D S : Type 0} (IsClean IsSound : code.Machines D S → Type 0) (view :
     }
 
     -- another one goes on from there
-    pub runs_on : {T : Type 0} (old mid new : code.Machines D S) (K : List Move → Type 0) (result : Result U Refusal) (more : Database → U → List Move → Type 0) → ((db : Database) (x : U) (one two : List Move) → K one → more db x two → kind db x (one ++ two)) →
+    pub runs_on : (old mid new : code.Machines D S) (K : List Move → Type 0) (result : Result U Refusal) (more : Database → U → List Move → Type 0) → ((db : Database) (x : U) (one two : List Move) → K one → more db x two → kind db x (one ++ two)) →
         GoWell old mid K → RunsTo IsClean IsSound view mid new result more → RunsTo IsClean IsSound view old new result kind
     runs_on old mid new K result more so one two = record {
       comes = then_too IsClean IsSound view old mid new tt result (λ db first rest k later. if_ok result (λ x m. so db x first rest k m) later) one two.comes;

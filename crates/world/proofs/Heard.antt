@@ -113,12 +113,12 @@ module _ (db : Database) where
   spelled_by txn [] (y ∷ ys) so = absurd so
   spelled_by txn (x ∷ xs) [] so = absurd so
   spelled_by txn (x ∷ xs) (y ∷ ys) so =
-      subst (λ n. AreTexts db ((if is_txn x.0 txn then x.1 ∷ [] else []) ++ flat_map (λ x. if is_txn x.0 txn then x.1 ∷ [] else []) xs) ((if same n (txn_name txn) then y.1 ∷ [] else []) ++ flat_map (of_statement (txn_name txn)) ys)) so.0
-      (go (same (txn_name x.0) (txn_name txn)) (spelled_by txn xs ys so.2))
+      subst (λ n. AreTexts db ((if is_txn x.0 txn then x.1 ∷ [] else []) ++ flat_map (λ x. if is_txn x.0 txn then x.1 ∷ [] else []) xs) ((if same n (txn_name txn) then y.1 ∷ [] else []) ++ flat_map (of_statement (txn_name txn)) ys)) so.0.0
+      (go (same (txn_name x.0) (txn_name txn)) (spelled_by txn xs ys so.1))
     where
       go : (b : Bool) → AreTexts db (flat_map (λ x. if is_txn x.0 txn then x.1 ∷ [] else []) xs) (flat_map (of_statement (txn_name txn)) ys) →
           AreTexts db ((if b then x.1 ∷ [] else []) ++ flat_map (λ x. if is_txn x.0 txn then x.1 ∷ [] else []) xs) ((if b then y.1 ∷ [] else []) ++ flat_map (of_statement (txn_name txn)) ys)
-      go true later = (so.1, later)
+      go true later = (so.0.1, later)
       go false later = later
 
   -- ---- so of entries that tell what happened

@@ -1,7 +1,7 @@
 -- Why a letter isn't taken, from what the machines tell.
 use Rattle.std.proofs.Common.{◌≡◌, ◌≢◌, ◌≤◌, refl, sym, ap, ◌∙◌, subst, ℕ, ◌+◌, ◌&&◌, ◌||◌, not, Bool, true, false, cond, List, [], ◌∷◌, ◌++◌, if◌then◌else◌, inl, inr, ◌⊎◌, ⊎_elim, Some, None, Result, Ok, Err, IfErr, arith}
 use Rattle.std.specs.Ordering.{is_eq}
-use Rattle.std.specs.List.{list_any, position_from}
+use Rattle.std.specs.List.{AllByRecursion, list_any, position_from}
 use Rattle.terms.specs.declared.leaf.Leaf.{Leaf}
 use Rattle.terms.specs.Leaf.{leaf_cmp}
 use Rattle.store.specs.declared.letter.Body as bodies

@@ -16,6 +16,7 @@ use Rattle.protocol.proofs.Basics.{some_is}
 use Rattle.protocol.proofs.OtherStatements.{act_same, after_same, said_same}
 use Rattle.site.specs.State.{Takes, state_of}
 use Rattle.site.proofs.TicketOrder.{same_bool}
+use Rattle.terms.specs.declared.leaf.Leaf.{Leaf}
 use Rattle.terms.specs.Leaf.{leaf_cmp}
 use Rattle.desk.specs.Database.{Database}
 use Rattle.world.specs.Sites.{IsSeated, Moves, Seat, is_called, reseated, seat_of, state_at, states_of}

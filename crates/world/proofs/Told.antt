@@ -39,7 +39,7 @@ stated_both : (db : Database) (xs us : List (names.Txn × List ℕ)) (ys vs : Li
 stated_both db [] us [] vs one other = other
 stated_both db [] us (y ∷ ys) vs one other = absurd one
 stated_both db (x ∷ xs) us [] vs one other = absurd one
-stated_both db (x ∷ xs) us (y ∷ ys) vs one other = (one.0, one.1, stated_both db xs us ys vs one.2 other)
+stated_both db (x ∷ xs) us (y ∷ ys) vs one other = (one.0, stated_both db xs us ys vs one.1 other)
 
 -- entries are these events of the protocol, one by one
 abbrev AreEvents : (db : Database) → List Entry → List (world.Event (language db)) → Type 0
@@ -131,5 +131,5 @@ state_step db before after out notices txn text statement choice what asked spel
     let shown = state_shows (txn_name txn) statement choice (txn_in db before.table txn) asked.accepted in
     record {
       phased = ap (map txn_name) no_phase ∙ sym shown.0 ∙ ap phases_of (sym asked.all);
-      stated = subst (λ texts. AreStated db texts (stated_of asked.leads.deeds)) (sym is) (subst (AreStated db ((txn, text) ∷ [])) (sym (ap stated_of asked.all ∙ shown.1)) (refl, spelled, tt));
+      stated = subst (λ texts. AreStated db texts (stated_of asked.leads.deeds)) (sym is) (subst (AreStated db ((txn, text) ∷ [])) (sym (ap stated_of asked.all ∙ shown.1)) ((refl, spelled), tt));
     }

@@ -1,6 +1,6 @@
 -- Why a letter isn't taken: its step leads past a limit, its site doesn't have the leaf that it is for, or there is no such site.
 pub use Rattle.site.specs.Seat.{SiteTells}
-use Rattle.std.specs.Prelude.{◌≡◌, ◌⊎◌, true, false, Some}
+use Rattle.std.specs.Prelude.{◌≡◌, ◌⊎◌, true, false, [], Some}
 use Rattle.store.specs.declared.letter.Letter as letters
 use Rattle.protocol.specs.Delivery.{CallKept, Coming, IsAtLimit, Passed_over, Taken, Turned_away}
 use Rattle.protocol.specs.Home.{IsHomed}

@@ -1,6 +1,6 @@
 //! The sites of a database, each under its name, and what is done at one.
 
-ghost use Rattle.std.specs.Prelude.{◌≡◌, ◌≤◌, ◌⊎◌, ◌∷◌, [], ℕ, List, Some, IfErr, IfOk, IfSome, OnErr, OnOk, false, true};
+ghost use Rattle.std.specs.Prelude.{◌≡◌, ◌≤◌, ◌⊎◌, ◌∷◌, [], ℕ, List, Some, IfErr, IfOk, IfSome, OnErr, OnOk, map, false, true};
 ghost use Rattle.world.specs.Seated.{place_of, SeatDoes, SomeSeatDoes, seat_from, seats_in};
 ghost use Rattle.store.specs.declared.letter.Letter.{Letter as LetterNow};
 ghost use Rattle.store.specs.Fault.{HasRefused};

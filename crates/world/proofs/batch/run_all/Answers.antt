@@ -1,6 +1,6 @@
 -- Why `run_all` meets its contract.
 use Rattle.std.proofs.Common.{◌∙◌, ◌+◌, ◌++◌, ◌∷◌, List, [], refl, sym, ap, subst, take, arith, Ok, Err, ◌≡◌}
-use Rattle.std.specs.Prelude.{Unit, ⊤}
+use Rattle.std.specs.Prelude.{⊤}
 use Rattle.std.proofs.lemmas.List.{take_all}
 use Rattle.catalog.specs.Relation.{catalogue_of}
 use Rattle.world.specs.declared.transaction.Outcome as outcomes

@@ -1,6 +1,6 @@
 -- Why `state_all` meets its contract.
 use Rattle.std.proofs.Common.{◌∙◌, ◌+◌, ◌++◌, ◌∷◌, [], List, ℕ, false, true, refl, sym, ap, subst, map, take, arith, Ok, ◌≡◌}
-use Rattle.std.specs.Prelude.{Unit, ⊤}
+use Rattle.std.specs.Prelude.{⊤}
 use Rattle.std.proofs.lemmas.List.{take_all}
 use Rattle.world.specs.declared.event.Call.TheVariants as call
 use Rattle.world.specs.declared.transaction.Came as cames
