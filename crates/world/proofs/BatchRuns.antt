@@ -62,14 +62,14 @@ module _ (db : Database) (fits : Leaf → Content → Bool) (reached : ReachedLa
   abbrev Ends : (end_of : ends.End) (came : List cames.Came) (before after : Machines) (past : List (Deed (language db))) (moves : List Move) → Made db moves before after → Type 0
   Ends end_of came before after past moves made = Stands db fits None after past × ((list_any tells_commit came ≡ is_to_commit end_of) ⊎ SomeHindered db moves before after past made)
 
-  as_moves : {end_of : ends.End} {came : List cames.Came} {before after : Machines} {past : List (Deed (language db))} (moves all : List Move) → all ≡ moves → ((made : Made db moves before after) → Ends end_of came before after past moves made) → (made : Made db all before after) → Ends end_of came before after past all made
-  as_moves {end_of} {came} {before} {after} {past} moves all is so = subst (λ (ms : List Move). (made : Made db ms before after) → Ends end_of came before after past ms made) (sym is) so
+  as_moves : (end_of : ends.End) (came : List cames.Came) (before after : Machines) (past : List (Deed (language db))) (moves all : List Move) → all ≡ moves → ((made : Made db moves before after) → Ends end_of came before after past moves made) → (made : Made db all before after) → Ends end_of came before after past all made
+  as_moves end_of came before after past moves all is so = subst (λ (ms : List Move). (made : Made db ms before after) → Ends end_of came before after past ms made) (sym is) so
 
   rollback_fares : (txn : Txn) (came : List cames.Came) (ended : Bool) (before after : Machines) (past : List (Deed (language db))) → IsServed db whole before past → Stands db fits (Some txn) before past → (moves : List Move) → Makes (calls_of_end end.Rollback txn) came ended moves →
       (made : Made db moves before after) → Ends end.Rollback came before after past moves made
   rollback_fares txn [] ended before after past served ready moves makes = absurd makes
-  rollback_fares txn (Refused refusal ∷ others) ended before after past served ready moves makes = as_moves (Refuses (call.Rollback txn) refusal ∷ makes.0) moves makes.1 (λ made. absurd (no_rollback db fits txn before past refusal ready made.1.0))
-  rollback_fares txn (Heard heard ∷ others) ended before after past served ready moves makes = as_moves (Rolls_back txn heard ∷ makes.0) moves makes.1 (λ made.
+  rollback_fares txn (Refused refusal ∷ others) ended before after past served ready moves makes = as_moves end.Rollback (Refused refusal ∷ others) before after past (Refuses (call.Rollback txn) refusal ∷ makes.0) moves makes.1 (λ made. absurd (no_rollback db fits txn before past refusal ready made.1.0))
+  rollback_fares txn (Heard heard ∷ others) ended before after past served ready moves makes = as_moves end.Rollback (Heard heard ∷ others) before after past (Rolls_back txn heard ∷ makes.0) moves makes.1 (λ made.
       let does = made.1 in
       let rests = stands_whenever db fits None made.0 (past ++ does.serves.deeds) past (quiet.rolls_back whole before made.0 past (txn_name txn) does.choice heard served ready does.serves) in
       ⊎_elim
@@ -86,8 +86,8 @@ module _ (db : Database) (fits : Leaf → Content → Bool) (reached : ReachedLa
   commit_fares : (txn : Txn) (came : List cames.Came) (ended : Bool) (before after : Machines) (past : List (Deed (language db))) → IsServed db whole before past → Stands db fits (Some txn) before past → (moves : List Move) → Makes (calls_of_end end.Commit txn) came ended moves →
       (made : Made db moves before after) → Ends end.Commit came before after past moves made
   commit_fares txn [] ended before after past served ready moves makes = absurd makes
-  commit_fares txn (Refused refusal ∷ others) ended before after past served ready moves makes = as_moves (Refuses (call.Commit txn) refusal ∷ makes.0) moves makes.1 (λ made. absurd (no_commit db fits txn before past refusal ready made.1.0))
-  commit_fares txn (Heard heard ∷ others) ended before after past served ready moves makes = as_moves (Commits txn heard ∷ makes.0) moves makes.1 (λ made.
+  commit_fares txn (Refused refusal ∷ others) ended before after past served ready moves makes = as_moves end.Commit (Refused refusal ∷ others) before after past (Refuses (call.Commit txn) refusal ∷ makes.0) moves makes.1 (λ made. absurd (no_commit db fits txn before past refusal ready made.1.0))
+  commit_fares txn (Heard heard ∷ others) ended before after past served ready moves makes = as_moves end.Commit (Heard heard ∷ others) before after past (Commits txn heard ∷ makes.0) moves makes.1 (λ made.
       let does = made.1 in
       let rests = stands_whenever db fits None made.0 (past ++ does.serves.deeds) past (quiet.commits whole before made.0 past (txn_name txn) does.choice heard served ready does.serves) in
       ⊎_elim
@@ -113,7 +113,7 @@ module _ (db : Database) (fits : Leaf → Content → Bool) (reached : ReachedLa
       Makes (states txn texts ++ calls_of_end end_of txn) came ended moves → (made : Made db moves before after) → Ends end_of came before after past moves made
   course_fares end_of txn [] came ended before after past served ready moves makes made = end_fares end_of txn came ended before after past served ready moves makes made
   course_fares end_of txn (text ∷ texts) [] ended before after past served ready moves makes made = absurd makes
-  course_fares end_of txn (text ∷ texts) (Refused refusal ∷ others) ended before after past served ready moves makes made = as_moves (Refuses (call.State txn text) refusal ∷ makes.0) moves makes.1
+  course_fares end_of txn (text ∷ texts) (Refused refusal ∷ others) ended before after past served ready moves makes made = as_moves end_of (Refused refusal ∷ others) before after past (Refuses (call.State txn text) refusal ∷ makes.0) moves makes.1
       (λ first. ⊎_elim
       (λ last. clash last.0 (goes_on (call.State txn text) refusal))
       (λ goes.
@@ -122,7 +122,7 @@ module _ (db : Database) (fits : Leaf → Content → Bool) (reached : ReachedLa
       (stands_whenever db fits (Some txn) first.0 past more (stands_still db fits (Some txn) before first.0 past first.1.1 ready)) makes.0 goes.1 first.2 in
       (stands_whenever db fits None after more past rest.0, ⊎_elim (λ same. inl same) (λ hindered. inr (inr hindered)) rest.1))
       makes.2) made
-  course_fares end_of txn (text ∷ texts) (Heard heard ∷ others) ended before after past served ready moves makes made = as_moves (States txn text heard ∷ makes.0) moves makes.1
+  course_fares end_of txn (text ∷ texts) (Heard heard ∷ others) ended before after past served ready moves makes made = as_moves end_of (Heard heard ∷ others) before after past (States txn text heard ∷ makes.0) moves makes.1
       (λ first.
       let does = first.1 in
       let more = past ++ does.asks.serves.deeds in
@@ -210,7 +210,7 @@ module _ (db : Database) (fits : Leaf → Content → Bool) (reached : ReachedLa
         WasStopped db fits whole transactions done before after entries past
     was_stopped serial transactions done before after entries past served so stops =
         let ran = has_run stops.front done before stops.middle entries past served so stops.ran.moves stops.ran.is stops.ran.made in
-        let more = past ++ deeds_in db stops.ran.moves before stops.middle stops.ran.made in
+        let more = past ++ deeds_in db ran.moves before stops.middle ran.made in
         let on = stops.on whole more ran.served in
         record {
           front = stops.front;

@@ -37,7 +37,7 @@ use Rattle.world.specs.Placed.{IsPlaced, Opens}
 use Rattle.world.specs.Start.{AllStarted, IsAtRest, IsStarted}
 use Rattle.world.specs.Sites.{Seat, is_called, nobody, seat_of, state_at, states_of}
 use Rattle.world.proofs.FilledLeaves.{leaf_filled, none_filled, same_test}
-use Rattle.world.proofs.Seating.{name_is, name_self, state_there}
+use Rattle.world.proofs.Seating.{HasItsLeaves, name_is, name_self, state_there}
 
 -- what holds of each started site holds of each
 started_all : (P : Seat → Type 0) (c : Catalogue) (whole : Relations) (place : ℕ) (names : List (List ℕ)) (seats : List Seat) → ((at : ℕ) (name : List ℕ) (seat : Seat) → IsStarted c whole at name seat → P seat) → AllStarted c whole place names seats → AllByRecursion P seats
