@@ -56,8 +56,8 @@ module _ (L : Lang) where
     turned_low c x turn (counts_ack voters acked a kept k) = stays_low t false 1 (Row voters (acked ++ (a, k) ∷ [])) refl
     turned_low c x turn (lets_row_go voters acked a kept k all) = stays_low t false 1 Unknown refl
 
-    pub desk_low : (a : L.Site) (kept : Bool) (b : Body L) (x : Txn L) → Lower t (is_reading x) (rank (is_reading x) b) (on_desk_letter t a kept choice b x)
-    desk_low a kept b x = turned_low (came a kept b) x _ (letter_turned t choice a kept b x)
+  pub desk_low : (t : Name) (a : L.Site) (kept : Bool) (choice : Choice L) (b : Body L) (x : Txn L) → Lower t (is_reading x) (rank (is_reading x) b) (on_desk_letter t a kept choice b x)
+  desk_low t a kept choice b x = turned_low t choice (came a kept b) x _ (letter_turned t choice a kept b x)
 
   -- ---- what a request makes of a transaction
   module _ (t : Name) (choice : Choice L) where

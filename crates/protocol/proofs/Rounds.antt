@@ -82,7 +82,7 @@ module _ {L : Lang} where
         (every_more (λ c. suc (rank (is_reading (w.desk.txn l.txn)) c) ≤ rank_in w.desk.txn l) (λ c. suc (rank (is_reading (w.desk.txn l.txn)) c) ≤ suc n) (said (w.sites l.site) act) (λ c h. omega arith) (site_lowers (w.sites l.site) l.txn (is_reading (w.desk.txn l.txn)) kept l.body)))
     comes_brings n w kept choice l true low =
         let turn = on_desk_letter l.txn l.site kept choice l.body (w.desk.txn l.txn) in
-        let lower = desk_low L l.txn choice l.site kept l.body (w.desk.txn l.txn) in
+        let lower = desk_low L l.txn l.site kept choice l.body (w.desk.txn l.txn) in
         turn_brings n w l.txn turn lower.falls
         (every_more (λ x. (x.txn ≡ l.txn) × (suc (rank (is_reading turn.txn) x.body) ≤ rank_in w.desk.txn l)) (λ x. rank_in (put same l.txn turn.txn w.desk.txn) x ≤ n) turn.letters
         (λ x h. under_put w.desk.txn l.txn turn.txn n x (h.0, (let g = h.1 in omega arith))) lower.under)
