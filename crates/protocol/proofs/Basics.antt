@@ -46,6 +46,10 @@ pub or_none_right : (a b : Bool) → (a || b) ≡ false → b ≡ false
 or_none_right true b e = cc
 or_none_right false b e = e
 
+pub or_false : (b : Bool) → (b || false) ≡ b
+or_false true = refl
+or_false false = refl
+
 pub or_cases : (a b : Bool) → (a || b) ≡ true → (a ≡ true) ⊎ (b ≡ true)
 or_cases true b e = inl refl
 or_cases false b e = inr e

@@ -63,7 +63,9 @@ module _ {L : Lang} (law : IsLawful L) (o : L.Site → Name → Name) (ops : L.S
       no_unknown v f = cc
 
       decided_booked : ((y : Undecided L) → w.desk.txn t ≡ Known y → is_voting y.stage ≡ true) → (v : Undecided L) (kept : Bool) (xs : List (L.Site × Name)) → Booked o ops w t (decides t v kept xs)
-      decided_booked already v kept [] = plain_booked o ops w t (decides t v kept []) refl refl refl (refl, tt) (gone_phase w t (decides t v kept []) refl no_unknown) (λ y f. absurd (no_unknown y f)) (λ done. (told_now, λ y f. inl (already y f))) tt
+      decided_booked already v kept [] = either (Booked o ops w t) (kept || not v.moves) _ _
+          (plain_booked o ops w t (record { txn = Unknown; letters = []; deeds = Committed t ∷ [] }) refl refl refl (refl, tt) (gone_phase w t (record { txn = Unknown; letters = []; deeds = Committed t ∷ [] }) refl no_unknown) (λ y f. absurd (no_unknown y f)) (λ done. (told_now, λ y f. inl (already y f))) tt)
+          (aborted_booked v By_store)
       decided_booked already v true (x ∷ xs) = plain_booked o ops w t (decides t v true (x ∷ xs)) refl refl refl (refl, tt) (gone_phase w t (decides t v true (x ∷ xs)) refl (no_row (x ∷ xs) [])) (λ y f. absurd (no_row (x ∷ xs) [] y f)) (λ done. (told_now, λ y f. inl (already y f))) (commits_tell (x ∷ xs))
         where
           commits_tell : (ys : List (L.Site × Name)) → Every (Plain ops w.sites) (commits t ys)
@@ -126,20 +128,20 @@ module _ {L : Lang} (law : IsLawful L) (o : L.Site → Name → Name) (ops : L.S
       -- with the rows of a fetch
       module _ (k : Name) (n : ℕ) (rows : L.Rows) (s : L.Statement) (asks : List (Ask L)) (own : Own a k u) (f : u.stage ≡ Reading s asks) (here : In (record { site = a; txn = t; body = Rows k n rows }) w.letters) where
         abbrev with_these : Undecided L
-        with_these = record u { stage = Reading s (map (with_rows a n rows) asks) }
+        with_these = record u { stage = Reading s (map (with_rows s a n rows) asks) }
 
         book_rows : BookAt o ops w.sites w.letters w.past t with_these
         book_rows =
             let told = subst (Told w.past t) f book.told in
             book_stage o w.sites t ops w.letters w.past u with_these refl refl (ap unsent_of (sym f))
-            (rows_came law o w.sites t ops w.letters (own_of (works w.past t)) u.ticket a k n rows own here asks (subst (λ x. Every (AskAt t u.ticket ops w.letters (own_of (works w.past t))) (asks_of x)) f book.asks))
+            (rows_came law o w.sites t s ops w.letters (own_of (works w.past t)) u.ticket a k n rows own here asks (subst (λ x. Every (AskAt t u.ticket ops w.letters (own_of (works w.past t))) (asks_of x)) f book.asks))
             (record { statements = told.statements; answers = told.answers }) book
 
-        evaluates_booked : (choice : Choice L) → list_all (λ (q : Ask L). is_some q.rows) (map (with_rows a n rows) asks) ≡ true → Booked o ops w t (Rattle.protocol.specs.Desk.works t u s (map (with_rows a n rows) asks) choice)
+        evaluates_booked : (choice : Choice L) → list_all (λ (q : Ask L). is_some q.rows) (map (with_rows s a n rows) asks) ≡ true → Booked o ops w t (Rattle.protocol.specs.Desk.works t u s (map (with_rows s a n rows) asks) choice)
         evaluates_booked choice all =
             let leaves = map (λ (x : L.Leaf × L.Write). x.0) choice.1 in
-            writes_booked o ops w t law u e (ap is_voting f) u (mine_of u e) (visits u leaves).visited (opens t u leaves) (opens_first o ops w t u leaves) choice.0 choice.1 (Worked t s (map (with_rows a n rows) asks) choice ∷ []) (refl, tt) (λ ds n. n) (λ ds no_ done. no_ done)
-            (book_worked o w.sites t ops w.letters w.past with_these s (map (with_rows a n rows) asks) choice refl all book_rows)
+            writes_booked o ops w t law u e (ap is_voting f) u (mine_of u e) (visits u leaves).visited (opens t u leaves) (opens_first o ops w t u leaves) choice.0 choice.1 (Worked t s (map (with_rows s a n rows) asks) choice ∷ []) (refl, tt) (λ ds n. n) (λ ds no_ done. no_ done)
+            (book_worked o w.sites t ops w.letters w.past with_these s (map (with_rows s a n rows) asks) choice refl all book_rows)
 
         waits_booked : Booked o ops w t (stays (Known with_these))
         waits_booked = plain_booked o ops w t (stays (Known with_these)) refl refl refl tt (quiet_phase w t with_these [] [] refl refl)

@@ -12,7 +12,7 @@ use Rattle.protocol.specs.Client.{IsReached}
 use Rattle.protocol.specs.AfterAbort.{Fruitless}
 use Rattle.protocol.specs.Parts.{Work}
 use Rattle.protocol.specs.ClientLaw.{log}
-use Rattle.protocol.proofs.Basics.{Every, In, every_more, by_test, same_law, same_refl, if_true, if_false}
+use Rattle.protocol.proofs.Basics.{Every, In, every_more, by_test, same_law, same_refl, if_true, if_false, or_false}
 use Rattle.protocol.proofs.Locks.{from_filter}
 use Rattle.protocol.proofs.Fits.{Born}
 use Rattle.protocol.proofs.Works.{txn_of, view_other}
@@ -93,10 +93,6 @@ module _ {L : Lang} where
 
     others_committed : (j : Name) → In j (phases_of past) → is_committed (past ++ deeds) j ≡ is_committed past j
     others_committed j here = list_any-append (commits_it j) past deeds ∙ ap (λ b. is_committed past j || b) (no_commits t j deeds (apart j here) own) ∙ or_false (is_committed past j)
-      where
-        or_false : (b : Bool) → (b || false) ≡ b
-        or_false true = refl
-        or_false false = refl
 
     -- the committed ones before, and those of these deeds
     pub committed_more : committed (past ++ deeds) ≡ committed past ++ filter (is_committed (past ++ deeds)) (phases_of deeds)

@@ -1,5 +1,5 @@
 -- What the coordinator puts out ranks below what it was told.
-use Rattle.std.proofs.Common.{◌≡◌, refl, sym, subst, suc, ◌≤◌, ◌&&◌, Bool, true, false, List, [], ◌∷◌, ◌++◌, map, Option, Some, None, arith}
+use Rattle.std.proofs.Common.{◌≡◌, refl, sym, subst, suc, ◌≤◌, ◌&&◌, Bool, true, false, List, [], ◌∷◌, ◌++◌, map, Option, Some, None, arith, ◌||◌, not}
 use Rattle.protocol.specs.Language.{Lang, Name, put}
 use Rattle.protocol.specs.Letter.{Vote, No, Body, Abort, Ticket, Rows}
 use Rattle.protocol.specs.Desk.{Choice, Stage, Idle, Reading, Writing, Voting, Undecided, Txn, Unknown, Known, Row, Deed, Aborted, Rolled_back, By_refusal, By_vote, By_store, Transition, when, to_prepare, ends_by, commits, decides, voters_of, are_all_in, votes_go, on_commit_call, on_rollback, to_abort, may_hold, vote_at, with_rows, on_desk_letter}
@@ -14,7 +14,7 @@ module _ (L : Lang) where
     commits_low voters = every_map (λ l. (l.txn ≡ t) × (suc (rank false l.body) ≤ 3)) _ voters (λ v. (refl, omega arith))
 
     decides_low : (r : Bool) (u : Undecided L) (kept : Bool) (voters : List (L.Site × Name)) → Lower t r 3 (decides t u kept voters)
-    decides_low r u kept [] = record { falls = λ is. cc; under = tt }
+    decides_low r u kept [] = either (Lower t r 3) (kept || not u.moves) _ _ (record { falls = λ is. cc; under = tt }) (ends_low t r 3 u (Aborted t By_store) (omega arith))
     decides_low r u kept (v ∷ vs) = either (Lower t r 3) kept _ _ (record { falls = λ is. cc; under = commits_low (v ∷ vs) }) (ends_low t r 3 u (Aborted t By_store) (omega arith))
 
     votes_low : (r : Bool) (u : Undecided L) (votes : L.Site → Option Vote) (kept : Bool) → Lower t r 3 (votes_go t u votes kept)
@@ -45,8 +45,8 @@ module _ (L : Lang) where
     turned_low c x turn (fetches u a kept k s asks free stage) = of_stage u (Reading s asks) (Ticket k) _ stage (asks_low t (ticketed u a k) s asks)
     turned_low c x turn (writes u a kept k answer ws free stage) = of_stage u (Writing answer ws) (Ticket k) _ stage (writes_low t false 4 (ticketed u a k) answer ws (omega arith))
     turned_low c x turn (turns_away u a kept k j own other) = record { falls = λ is. is; under = ((refl, abort_low (is_stage_reading u.stage) k), tt) }
-    turned_low c x turn (takes_rows u a kept k n rows s asks own stage) = of_stage u (Reading s asks) (Rows k n rows) _ stage (stays_low t true 6 (Known (record u { stage = Reading s (map (with_rows a n rows) asks) })) refl)
-    turned_low c x turn (evaluates u a kept k n rows s asks own stage all) = of_stage u (Reading s asks) (Rows k n rows) _ stage (works_low t true 6 u s (map (with_rows a n rows) asks) choice (omega arith))
+    turned_low c x turn (takes_rows u a kept k n rows s asks own stage) = of_stage u (Reading s asks) (Rows k n rows) _ stage (stays_low t true 6 (Known (record u { stage = Reading s (map (with_rows s a n rows) asks) })) refl)
+    turned_low c x turn (evaluates u a kept k n rows s asks own stage all) = of_stage u (Reading s asks) (Rows k n rows) _ stage (works_low t true 6 u s (map (with_rows s a n rows) asks) choice (omega arith))
     turned_low c x turn (is_refused u a kept k reason own calm) = ends_low t _ 2 u (Aborted t By_refusal) (omega arith)
     turned_low c x turn (counts_no u a kept k votes own stage) = ends_low t _ 3 (record u { stage = Voting (put L.same_site a (Some No) votes) }) (Aborted t By_vote) (omega arith)
     turned_low c x turn (counts_vote u a kept k v votes own stage not_no) = votes_low t (is_stage_reading u.stage) u (put L.same_site a (Some v) votes) kept

@@ -107,9 +107,9 @@ module _ {L : Lang} where
               },
             )
 
-        rows_good : (n : ℕ) (rows : L.Rows) (s : L.Statement) (asks : List (Ask L)) → u.stage ≡ Reading s asks → Good o w t (stays (Known (record u { stage = Reading s (map (with_rows a n rows) asks) })))
+        rows_good : (n : ℕ) (rows : L.Rows) (s : L.Statement) (asks : List (Ask L)) → u.stage ≡ Reading s asks → Good o w t (stays (Known (record u { stage = Reading s (map (with_rows s a n rows) asks) })))
         rows_good n rows s asks f =
-            let more = map (with_rows a n rows) asks in
+            let more = map (with_rows s a n rows) asks in
             record {
               fine = goes_fine o w t fit u (record u { stage = Reading s more }) [] [] e (grows_to law o w t fit u e (ap is_voting f) u (grows_same u) (fit.known t u e) u.visited u.sent (Reading s more) (λ b is. is))
                   (known_at law o w t fit u e (ap is_voting f) u (grows_same u) (fit.known t u e) u.visited u.sent (Reading s more) (λ b is. is) refl) (λ j. refl);
@@ -224,7 +224,7 @@ module _ {L : Lang} where
     turned_good choice c x turn e comes (turns_away u a kept k j own other) = still_good (Known u) (record { site = a; txn = t; body = Abort k } ∷ []) e
         ((fit.born t u e, (comes.1.0, comes.1.1, (λ v g. (j, subst (λ x. x.ticket a ≡ Some j) (known_is u v (sym e ∙ g)) own, other)), λ done. absurd (not_yet o w t fit u e done))), tt)
     turned_good choice c x turn e comes (takes_rows u a kept k n rows s asks own stage) = rows_good a u e n rows s asks stage
-    turned_good choice c x turn e comes (evaluates u a kept k n rows s asks own stage all) = works_good a u e s (map (with_rows a n rows) asks) choice (ap is_voting stage)
+    turned_good choice c x turn e comes (evaluates u a kept k n rows s asks own stage all) = works_good a u e s (map (with_rows s a n rows) asks) choice (ap is_voting stage)
     turned_good choice c x turn e comes (is_refused u a kept k reason own calm) = ends_good u e u (Aborted t By_refusal) (λ b k is. is) (λ j. refl)
     turned_good choice c x turn e comes (counts_no u a kept k votes own stage) = ends_good u e (record u { stage = Voting (put L.same_site a (Some No) votes) }) (Aborted t By_vote) (λ b j is. is) (λ j. refl)
     turned_good choice c x turn e comes (counts_vote u a kept k v votes own stage not_no) = votes_good a u e votes stage k own kept v (vote_at_site a k u e v comes.1 not_no) not_no comes.2

@@ -32,9 +32,9 @@ pub data Turned {L : Lang} (t : Name) (choice : Choice L) : Cause L → Txn L �
   writes : (u : Undecided L) (a : L.Site) (kept : Bool) (k : Name) (answer : L.Answer) (ws : List (L.Leaf × L.Write)) → u.ticket a ≡ None → u.stage ≡ Writing answer ws → Turned t choice (came a kept (Ticket k)) (Known u) (writes_go t (ticketed u a k) answer ws)
   turns_away : (u : Undecided L) (a : L.Site) (kept : Bool) (k j : Name) → u.ticket a ≡ Some j → same j k ≡ false → Turned t choice (came a kept (Ticket k)) (Known u) (record { txn = Known u; letters = record { site = a; txn = t; body = Abort k } ∷ []; deeds = [] })
   takes_rows : (u : Undecided L) (a : L.Site) (kept : Bool) (k : Name) (n : ℕ) (rows : L.Rows) (s : L.Statement) (asks : List (Ask L)) → u.ticket a ≡ Some k → u.stage ≡ Reading s asks →
-      Turned t choice (came a kept (Rows k n rows)) (Known u) (stays (Known (record u { stage = Reading s (map (with_rows a n rows) asks) })))
-  evaluates : (u : Undecided L) (a : L.Site) (kept : Bool) (k : Name) (n : ℕ) (rows : L.Rows) (s : L.Statement) (asks : List (Ask L)) → u.ticket a ≡ Some k → u.stage ≡ Reading s asks → list_all (λ q. is_some q.rows) (map (with_rows a n rows) asks) ≡ true →
-      Turned t choice (came a kept (Rows k n rows)) (Known u) (works t u s (map (with_rows a n rows) asks) choice)
+      Turned t choice (came a kept (Rows k n rows)) (Known u) (stays (Known (record u { stage = Reading s (map (with_rows s a n rows) asks) })))
+  evaluates : (u : Undecided L) (a : L.Site) (kept : Bool) (k : Name) (n : ℕ) (rows : L.Rows) (s : L.Statement) (asks : List (Ask L)) → u.ticket a ≡ Some k → u.stage ≡ Reading s asks → list_all (λ q. is_some q.rows) (map (with_rows s a n rows) asks) ≡ true →
+      Turned t choice (came a kept (Rows k n rows)) (Known u) (works t u s (map (with_rows s a n rows) asks) choice)
   is_refused : (u : Undecided L) (a : L.Site) (kept : Bool) (k : Name) (reason : Reason) → u.ticket a ≡ Some k → is_voting u.stage ≡ false → Turned t choice (came a kept (Refused k reason)) (Known u) (ends_by t u (Aborted t By_refusal))
   counts_no : (u : Undecided L) (a : L.Site) (kept : Bool) (k : Name) (votes : L.Site → Option Vote) → u.ticket a ≡ Some k → u.stage ≡ Voting votes →
       Turned t choice (came a kept (Voted k No)) (Known u) (ends_by t (record u { stage = Voting (put L.same_site a (Some No) votes) }) (Aborted t By_vote))
@@ -97,7 +97,7 @@ module _ {L : Lang} (t : Name) (choice : Choice L) where
 
       rows_came : (k : Name) (n : ℕ) (rows : L.Rows) (stage : Stage L) → u.ticket a ≡ Some k → u.stage ≡ stage → Turned t choice (came a kept (Rows k n rows)) (Known u) (on_rows t u a n rows choice stage)
       rows_came k n rows Idle own e = same_ (Rows k n rows)
-      rows_came k n rows (Reading s asks) own e = either_if (Turned t choice (came a kept (Rows k n rows)) (Known u)) (list_all (λ q. is_some q.rows) (map (with_rows a n rows) asks)) _ _
+      rows_came k n rows (Reading s asks) own e = either_if (Turned t choice (came a kept (Rows k n rows)) (Known u)) (list_all (λ q. is_some q.rows) (map (with_rows s a n rows) asks)) _ _
           (λ all. evaluates u a kept k n rows s asks own e all) (λ some. takes_rows u a kept k n rows s asks own e)
       rows_came k n rows (Writing answer ws) own e = same_ (Rows k n rows)
       rows_came k n rows (Voting votes) own e = same_ (Rows k n rows)

@@ -1,5 +1,5 @@
 -- Contents that fit stay so through each step of one client.
-use Rattle.std.proofs.Common.{◌≡◌, sym, ap, ◌∙◌, subst, ℕ, suc, ◌&&◌, Bool, true, false, List, [], ◌∷◌, map, Option, Some, None}
+use Rattle.std.proofs.Common.{◌≡◌, sym, ap, ◌∙◌, subst, ℕ, suc, ◌&&◌, Bool, true, false, List, [], ◌∷◌, map, Option, Some, None, ◌||◌, not}
 use Rattle.protocol.specs.Language.{Lang, IsLawful, Name, same, put}
 use Rattle.protocol.specs.Letter.{Vote, No, Body, Open, Fetch, Write, Prepare, Commit, Abort, Ticket, Rows, Refused, Voted, Ack, Inquire, Letter, is_for_desk}
 use Rattle.protocol.specs.Site.{on_letter, site_after, said, is_within}
@@ -76,7 +76,7 @@ module _ {L : Lang} (law : IsLawful L) (fits : L.Leaf → L.Content → Bool) wh
     commits_fit (v ∷ voters) = (tt, commits_fit voters)
 
     decides_fit : (u : Undecided L) (kept : Bool) (voters : List (L.Site × Name)) → TurnFits (decides t u kept voters)
-    decides_fit u kept [] = (tt, tt)
+    decides_fit u kept [] = either TurnFits (kept || not u.moves) _ _ (tt, tt) (ends_fit t u (Aborted t By_store))
     decides_fit u kept (v ∷ voters) = either TurnFits kept _ _ (tt, commits_fit (v ∷ voters)) (ends_fit t u (Aborted t By_store))
 
     votes_fit : (u : Undecided L) (votes : L.Site → Option Vote) (kept : Bool) → TurnFits (votes_go t u votes kept)
@@ -96,7 +96,7 @@ module _ {L : Lang} (law : IsLawful L) (fits : L.Leaf → L.Content → Bool) wh
     turned_fit c x turn fit (writes u a kept k answer ws free stage) = writes_go_fit t (ticketed u a k) answer ws (subst (StageFits L fits) stage fit)
     turned_fit c x turn fit (turns_away u a kept k j own other) = (fit, (tt, tt))
     turned_fit c x turn fit (takes_rows u a kept k n rows s asks own stage) = (tt, tt)
-    turned_fit c x turn fit (evaluates u a kept k n rows s asks own stage all) = works_fit u s (map (with_rows a n rows) asks)
+    turned_fit c x turn fit (evaluates u a kept k n rows s asks own stage all) = works_fit u s (map (with_rows s a n rows) asks)
     turned_fit c x turn fit (is_refused u a kept k reason own calm) = ends_fit t u (Aborted t By_refusal)
     turned_fit c x turn fit (counts_no u a kept k votes own stage) = ends_fit t (record u { stage = Voting (put L.same_site a (Some No) votes) }) (Aborted t By_vote)
     turned_fit c x turn fit (counts_vote u a kept k v votes own stage not_no) = votes_fit u (put L.same_site a (Some v) votes) kept
@@ -143,7 +143,7 @@ module _ {L : Lang} (law : IsLawful L) (fits : L.Leaf → L.Content → Bool) wh
       go (l ∷ q) all = at_ (is_for_desk l.body) l q all
 
   begins_fits : (w : World L) → Fitting L fits w → Fitting L fits (begins w)
-  begins_fits w fit = either (Fitting L fits) (is_desk_within (desk_began w.desk)) (begun w) w (record {
+  begins_fits w fit = either (Fitting L fits) (is_desk_within (desk_began w.desk)) (begun false w) w (record {
     sites = fit.sites;
     letters = fit.letters;
     txns = put_all same same_law (next_txn w.desk) (Known fresh) w.desk.txn (λ j x. TxnFits L fits x) tt (λ j other. fit.txns j);
@@ -166,10 +166,10 @@ module _ {L : Lang} (law : IsLawful L) (fits : L.Leaf → L.Content → Bool) wh
     txns = λ t. subst (TxnFits L fits) (sym (opening.undecided t)) tt;
   }
 
-  rows_are_fit : (w : World L) (l : Letter L) → ((g : L.Leaf) (q : L.Query) (c : L.Content) → fits g c ≡ true → L.well_formed g (L.parts q c) ≡ true) → Fitting L fits w → RowsFit l.site (w.sites l.site) l.body
-  rows_are_fit w l formed fit = go l.body
+  rows_are_fit : (y : L.Statement) (w : World L) (l : Letter L) → ((g : L.Leaf) (q : L.Query) (c : L.Content) → fits g c ≡ true → L.well_formed y g (L.parts q c) ≡ true) → Fitting L fits w → RowsFit y l.site (w.sites l.site) l.body
+  rows_are_fit y w l formed fit = go l.body
     where
-      go : (c : Body L) → RowsFit l.site (w.sites l.site) c
+      go : (c : Body L) → RowsFit y l.site (w.sites l.site) c
       go (Fetch k op g q) = λ home v active. formed g q _ (subst (StatusFits L fits) active ((fit.sites l.site).status k) g ((w.sites l.site).kept g) ((fit.sites l.site).kept g home))
       go Open = tt
       go (Write k op g x) = tt

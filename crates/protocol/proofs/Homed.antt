@@ -1,5 +1,5 @@
 -- Whatever the coordinator and the sites put out, operations go to the sites that keep their leaves.
-use Rattle.std.proofs.Common.{refl, subst, ℕ, suc, ◌==◌, Bool, true, false, List, [], ◌∷◌, map, Option, Some, None}
+use Rattle.std.proofs.Common.{refl, subst, ℕ, suc, ◌==◌, Bool, true, false, List, [], ◌∷◌, map, Option, Some, None, ◌||◌, not}
 use Rattle.protocol.specs.Desk.{Aborted, Ask, By_refusal, By_store, By_vote, Choice, Deed, Given_up, Request, Rolled_back, Transition, Txn, Undecided, Voting, after_letters, are_all_in, asks_go, commits, decides, desk_after, desk_began, ends_by, is_desk_within, opening, opens, phases, states, to_abort, to_prepare, visits, voters_of, votes_go, when, with_rows, works, writes_go, writes_out, writing}
 use Rattle.protocol.specs.Home.{IsAtHome, IsHomed, AreHomed}
 use Rattle.protocol.specs.Language.{Lang, Name, put}
@@ -131,7 +131,7 @@ module _ {L : Lang} where
     ends_homed u d = said_homed t _ L.sites (λ a. when_homed a _ _ (to_abort_homed L a (u.ticket a)))
 
     decides_homed : (u : Undecided L) (kept : Bool) (voters : List (L.Site × Name)) → PutsHomed (decides t u kept voters)
-    decides_homed u kept [] = tt
+    decides_homed u kept [] = either PutsHomed (kept || not u.moves) _ _ tt (ends_homed u (Aborted t By_store))
     decides_homed u kept (v ∷ voters) = either PutsHomed kept _ _ (commits_homed L t (v ∷ voters)) (ends_homed u (Aborted t By_store))
 
     votes_homed : (u : Undecided L) (votes : L.Site → Option Vote) (kept : Bool) → PutsHomed (votes_go t u votes kept)
@@ -152,7 +152,7 @@ module _ {L : Lang} where
     turned_homed choice c x turn (writes u a kept k answer ws free stage) = writes_homed (ticketed u a k) answer ws
     turned_homed choice c x turn (turns_away u a kept k j own other) = (tt, tt)
     turned_homed choice c x turn (takes_rows u a kept k n rows s asks own stage) = tt
-    turned_homed choice c x turn (evaluates u a kept k n rows s asks own stage all) = works_homed u s (map (with_rows a n rows) asks) choice
+    turned_homed choice c x turn (evaluates u a kept k n rows s asks own stage all) = works_homed u s (map (with_rows s a n rows) asks) choice
     turned_homed choice c x turn (is_refused u a kept k reason own calm) = ends_homed u (Aborted t By_refusal)
     turned_homed choice c x turn (counts_no u a kept k votes own stage) = ends_homed (record u { stage = Voting (put L.same_site a (Some No) votes) }) (Aborted t By_vote)
     turned_homed choice c x turn (counts_vote u a kept k v votes own stage not_no) = votes_homed u _ kept
@@ -172,7 +172,7 @@ module _ {L : Lang} where
 
   -- a transaction begins
   pub begins_homed : (w : World L) → AreHomed w.letters → AreHomed (begins w).letters
-  begins_homed w so_far = either (λ (x : World L). AreHomed x.letters) (is_desk_within (desk_began w.desk)) (begun w) w so_far so_far
+  begins_homed w so_far = either (λ (x : World L). AreHomed x.letters) (is_desk_within (desk_began w.desk)) (begun false w) w so_far so_far
 
   comes_to_homed : (b : Bool) (w : World L) (kept : Bool) (c : Choice L) (l : Letter L) → AreHomed w.letters → AreHomed (comes_to b w kept c l).letters
   comes_to_homed true w kept c l so_far = turns_homed w l.txn _ (turned_homed l.txn c _ _ _ (letter_turned l.txn c l.site kept l.body (w.desk.txn l.txn))) so_far

@@ -3,7 +3,7 @@ use Rattle.std.proofs.Common.{◌≡◌, refl, sym, ap, ◌∙◌, subst, ℕ, s
 use Rattle.protocol.specs.Language.{Lang, Name}
 use Rattle.protocol.specs.Letter.{Body, Open, Fetch, Write, Prepare, Commit, Abort, Ticket, Rows, Refused, Voted, Ack, Inquire, Letter, is_for_desk}
 use Rattle.protocol.specs.Site.{SiteState, Status, Dead, Active, Prepared, Act, is_within, on_letter, on_fetch, on_write, on_commit, on_abort, others_exclusive, said, site_after}
-use Rattle.protocol.specs.Desk.{Ask, Choice, Undecided, Txn, Known, Deed, Began, Stated, Worked, Answered, Phased, Committed, Aborted, Rolled_back, By_refusal, Given_up, State, Commit_call, Rollback, Give_up, Transition, when, ends_by, stays, to_abort, may_hold, vote_at, with_rows, desk_after, desk_began, is_desk_within, next_txn, asks_go, writing, writes_go, writes_out, works, states, opens, visits, is_new}
+use Rattle.protocol.specs.Desk.{Ask, Choice, Undecided, Txn, Known, Deed, Began, Stated, Worked, Answered, Phased, Committed, Aborted, Rolled_back, By_refusal, Given_up, State, Commit_call, Rollback, Give_up, Transition, when, ends_by, on_state, stays, to_abort, may_hold, vote_at, with_rows, desk_after, desk_began, is_desk_within, next_txn, asks_go, writing, writes_go, writes_out, works, states, opens, visits, is_new, Idle}
 use Rattle.protocol.specs.World.{World, addressed, begins, begun, called, comes, comes_to, turned, turns}
 use Rattle.protocol.specs.Serial.{commits_it, committed, is_committed, phases_of}
 use Rattle.protocol.specs.NothingCommits.{AreInVain, is_of_commit}
@@ -142,6 +142,10 @@ module _ {L : Lang} where
       let mild = asks_mild t (visits u leaves) s (q ∷ qs) in
       record { letters = every_append (λ l. is_ballot l.body ≡ false) (opens t u leaves) (asks_go t (visits u leaves) s (q ∷ qs)).letters (opens_calm t u leaves) mild.letters; deeds = mild.deeds }
 
+  -- a statement commits nobody
+  pub state_commits_none : (t : Name) (u : Undecided L) (s : L.Statement) (choice : Choice L) (j : Name) → is_committed (on_state t u s choice Idle).deeds j ≡ false
+  state_commits_none t u s choice j = none_commits (states t u s _ choice).deeds j (states_mild t u s _ choice).deeds
+
   -- whether a turn comes of a ballot, or of a client that asks for a commit
   abbrev is_of_phase : Cause L → Bool
   is_of_phase (asked Commit_call) = true
@@ -159,7 +163,7 @@ module _ {L : Lang} where
   turned_mild t choice c x turn none (writes u a kept k answer ws free stage) = writes_mild t (ticketed u a k) answer ws
   turned_mild t choice c x turn none (turns_away u a kept k j own other) = record { letters = (refl, tt); deeds = tt }
   turned_mild t choice c x turn none (takes_rows u a kept k n rows s asks own stage) = stays_mild _
-  turned_mild t choice c x turn none (evaluates u a kept k n rows s asks own stage all) = works_mild t u s (map (with_rows a n rows) asks) choice
+  turned_mild t choice c x turn none (evaluates u a kept k n rows s asks own stage all) = works_mild t u s (map (with_rows s a n rows) asks) choice
   turned_mild t choice c x turn none (is_refused u a kept k reason own calm) = ends_mild t u (Aborted t By_refusal) refl
   turned_mild t choice c x turn none (counts_no u a kept k votes own stage) = let e : true ≡ false = none in cc
   turned_mild t choice c x turn none (counts_vote u a kept k v votes own stage not_no) = let e : true ≡ false = none in cc
@@ -192,7 +196,7 @@ module _ {L : Lang} where
       (record { more = turn.deeds; vain = mild.deeds; is = refl; calm = every_append (λ l. is_ballot l.body ≡ false) w.letters turn.letters calm mild.letters }) (vainly_none w calm)
 
   pub begins_vainly : (w : World L) → AreCalm w.letters → Vainly w (begins w)
-  begins_vainly w calm = either (Vainly w) (is_desk_within (desk_began w.desk)) (begun w) w (record { more = Began (next_txn w.desk) ∷ []; vain = (refl, tt); is = refl; calm = calm }) (vainly_none w calm)
+  begins_vainly w calm = either (Vainly w) (is_desk_within (desk_began w.desk)) (begun false w) w (record { more = Began (next_txn w.desk) ∷ []; vain = (refl, tt); is = refl; calm = calm }) (vainly_none w calm)
 
   module _ (w : World L) (calm : AreCalm w.letters) (t : Name) (choice : Choice L) where
     pub state_vainly : (s : L.Statement) → Vainly w (called w t choice (State s))

@@ -34,7 +34,7 @@ module _ {L : Lang} where
 
   -- a transaction begins
   pub begins_steady : (w : World L) → IsQuiet w → is_desk_within (desk_began w.desk) ≡ true → Steady (next_txn w.desk) (begins w)
-  begins_steady w quiet within = subst (Steady (next_txn w.desk)) (sym (if_true (is_desk_within (desk_began w.desk)) (begun w) w within)) (record {
+  begins_steady w quiet within = subst (Steady (next_txn w.desk)) (sym (if_true (is_desk_within (desk_began w.desk)) (begun false w) w within)) (record {
     u = fresh;
     known = put_here same same_law (next_txn w.desk) (Known fresh) w.desk.txn;
     idle = refl;

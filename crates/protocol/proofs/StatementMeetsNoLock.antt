@@ -11,7 +11,7 @@ use Rattle.protocol.proofs.AtDesk.{Stands, Goes, turn_stands}
 
 module _ {L : Lang} where
   -- a transaction begins
-  pub begins_stands : (w : World L) → IsQuiet w → Stands (next_txn w.desk) fresh (begun w)
+  pub begins_stands : (w : World L) → IsQuiet w → Stands (next_txn w.desk) fresh (begun false w)
   begins_stands w quiet = record {
     alone = subst (Every (λ l. l.txn ≡ next_txn w.desk)) (sym quiet.silent) tt;
     others = put_all same same_law (next_txn w.desk) (Known fresh) w.desk.txn (λ j x. same j (next_txn w.desk) ≡ false → is_undecided x ≡ false) (λ other. clash ((same_law (next_txn w.desk) (next_txn w.desk)).1 refl) other) (λ j apart other. quiet.decided j);

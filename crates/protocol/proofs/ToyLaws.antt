@@ -64,8 +64,9 @@ toy_lawful = record {
   touches_none = touch_none;
   touches_add = touch_add;
   empty_touches = empty_touch;
-  keeps_whole = λ s before is fits. tt;
-  writes_right = λ s before g is fits. wrote g before (toy_meaning s before).1;
+  keeps_whole = λ s before is fits tag. tt;
+  writes_right = λ s before g is fits tag. wrote g before (toy_meaning s before).1;
+  counts = λ s before is fits tag. refl;
 }
 
 pub toy_once : Once toy.sites

@@ -8,7 +8,7 @@ use Rattle.protocol.specs.Desk.{Ask, Choice, Stage, Idle, Reading, Writing, Voti
 use Rattle.protocol.specs.World.{World, called, comes_to, turned, turns}
 use Rattle.protocol.specs.Client.{IsQuiet, IsReached, first, next}
 use Rattle.protocol.specs.VisitPlaces.{VisitPlace, Unlocked, at, away, asked, offered, works as is_working}
-use Rattle.protocol.specs.StatementCourse.{AtSites, InStatement, Room, RoomOr, Stands, passes, passes_to}
+use Rattle.protocol.specs.StatementCourse.{AtSites, InStatement, Room, RoomOr, Stands, passes, passes_to, Far, reads, writes, is_answered}
 use Rattle.protocol.specs.AfterAbort.{Within}
 use Rattle.protocol.specs.Parts.{Work, In, work_in}
 use Rattle.protocol.specs.Fitting.{Fitting, StatusFits, Suits, TxnFits}
@@ -18,6 +18,8 @@ use Rattle.protocol.proofs.Locks.{Once}
 use Rattle.protocol.proofs.Data.{untouched}
 use Rattle.protocol.proofs.Works as deeds
 use Rattle.protocol.proofs.OneClient.{quiet_rebuilt}
+use Rattle.protocol.proofs.ForgottenLetters.{reached_serial}
+use Rattle.protocol.proofs.SerialLaw.{serial_law}
 use Rattle.protocol.proofs.Meant.{IsMeant, now_whole, reached_deep, works_meant}
 use Rattle.protocol.proofs.Overflow.{went_on}
 use Rattle.protocol.proofs.OneStatement.{statement_starts, statement_ends}
@@ -36,32 +38,35 @@ none_touched true b e = cc
 none_touched false b e = e
 
 module _ {L : Lang} where
-  -- whether a turn evaluates its statement with a choice: else it is the turn without writes
-  data Uses (t : Name) (u : Undecided L) (c : Choice L) (turn other : Transition L) : Type 0 where
-    uses_none : turn ≡ other → Uses t u c turn other
-    uses_it : (s : L.Statement) (asks : List (Ask L)) (v : Undecided L) → turn.txn ≡ Known v → v.ticket ≡ u.ticket → In (Worked t s asks c) turn.deeds → Uses t u c turn other
+  -- whether a turn evaluates its statement, y, with a choice: else it is the turn without writes
+  data Uses (y : L.Statement) (t : Name) (u : Undecided L) (c : Choice L) (turn other : Transition L) : Type 0 where
+    uses_none : turn ≡ other → Uses y t u c turn other
+    uses_it : (asks : List (Ask L)) (v : Undecided L) → turn.txn ≡ Known v → v.ticket ≡ u.ticket → In (Worked t y asks c) turn.deeds → Uses y t u c turn other
+
+  of_stage : (r s : L.Statement) (xs ys : List (Ask L)) → (let x : Stage L = Reading r xs in x ≡ Reading s ys) → r ≡ s
+  of_stage r s xs ys e = cc
 
   writing_known : (t : Name) (u : Undecided L) (answer : L.Answer) (sent : L.Site → ℕ) (left : List (L.Leaf × L.Write)) (letters : List (Letter L)) → (v : Undecided L) × (((writing t u answer sent left letters).txn ≡ Known v) × (v.ticket ≡ u.ticket))
   writing_known t u answer sent [] letters = (_, (refl, refl))
   writing_known t u answer sent (x ∷ left) letters = (_, (refl, refl))
 
-  works_use : (t : Name) (u : Undecided L) (s : L.Statement) (asks : List (Ask L)) (c : Choice L) (other : Transition L) → Uses t u c (works t u s asks c) other
-  works_use t u s asks c other = let known = writing_known t (visits u (map (λ w. w.0) c.1)) c.0 _ _ _ in uses_it s asks known.0 known.1.0 known.1.1 (inl refl)
+  works_use : (t : Name) (u : Undecided L) (y : L.Statement) (asks : List (Ask L)) (c : Choice L) (other : Transition L) → Uses y t u c (works t u y asks c) other
+  works_use t u y asks c other = let known = writing_known t (visits u (map (λ w. w.0) c.1)) c.0 _ _ _ in uses_it asks known.0 known.1.0 known.1.1 (inl refl)
 
   module _ (t : Name) (u : Undecided L) (c : Choice L) where
-    states_use : (s : L.Statement) (asks : List (Ask L)) → Uses t u c (after_deed (Stated t s) (states t u s asks c)) (after_deed (Stated t s) (states t u s asks (bare L c)))
-    states_use s [] = go (works_use t u s [] c (works t u s [] (bare L c)))
+    states_use : (y : L.Statement) (asks : List (Ask L)) → Uses y t u c (after_deed (Stated t y) (states t u y asks c)) (after_deed (Stated t y) (states t u y asks (bare L c)))
+    states_use y [] = go (works_use t u y [] c (works t u y [] (bare L c)))
       where
-        go : Uses t u c (works t u s [] c) (works t u s [] (bare L c)) → Uses t u c (after_deed (Stated t s) (works t u s [] c)) (after_deed (Stated t s) (works t u s [] (bare L c)))
-        go (uses_none is) = uses_none (ap (after_deed (Stated t s)) is)
-        go (uses_it r asks v is ticket here) = uses_it r asks v is ticket (inr here)
-    states_use s (q ∷ qs) = uses_none refl
+        go : Uses y t u c (works t u y [] c) (works t u y [] (bare L c)) → Uses y t u c (after_deed (Stated t y) (works t u y [] c)) (after_deed (Stated t y) (works t u y [] (bare L c)))
+        go (uses_none is) = uses_none (ap (after_deed (Stated t y)) is)
+        go (uses_it asks v is ticket here) = uses_it asks v is ticket (inr here)
+    states_use y (q ∷ qs) = uses_none refl
 
-    state_uses : (s : L.Statement) (stage : Stage L) → Uses t u c (on_state t u s c stage) (on_state t u s (bare L c) stage)
-    state_uses s Idle = states_use s _
-    state_uses s (Reading r asks) = uses_none refl
-    state_uses s (Writing answer ws) = uses_none refl
-    state_uses s (Voting votes) = uses_none refl
+    state_uses : (y : L.Statement) (stage : Stage L) → Uses y t u c (on_state t u y c stage) (on_state t u y (bare L c) stage)
+    state_uses y Idle = states_use y _
+    state_uses y (Reading r asks) = uses_none refl
+    state_uses y (Writing answer ws) = uses_none refl
+    state_uses y (Voting votes) = uses_none refl
 
     ticket_uses : (v : Undecided L) (stage : Stage L) → ticket_goes t v c stage ≡ ticket_goes t v (bare L c) stage
     ticket_uses v Idle = refl
@@ -73,33 +78,33 @@ module _ {L : Lang} where
     first_ticket_uses a k None = ticket_uses _ u.stage
     first_ticket_uses a k (Some j) = refl
 
-    rows_use : (b : Bool) (s : L.Statement) (asks : List (Ask L)) (none : Transition L) → Uses t u c (if b then works t u s asks c else none) (if b then works t u s asks (bare L c) else none)
-    rows_use true s asks none = works_use t u s asks c _
-    rows_use false s asks none = uses_none refl
+    rows_use : (b : Bool) (y : L.Statement) (asks : List (Ask L)) (none : Transition L) → Uses y t u c (if b then works t u y asks c else none) (if b then works t u y asks (bare L c) else none)
+    rows_use true y asks none = works_use t u y asks c _
+    rows_use false y asks none = uses_none refl
 
-    reads_use : (a : L.Site) (n : ℕ) (rows : L.Rows) (stage : Stage L) → Uses t u c (on_rows t u a n rows c stage) (on_rows t u a n rows (bare L c) stage)
-    reads_use a n rows (Reading s asks) = rows_use (list_all (λ q. is_some q.rows) (map (with_rows a n rows) asks)) s (map (with_rows a n rows) asks) _
-    reads_use a n rows Idle = uses_none refl
-    reads_use a n rows (Writing answer ws) = uses_none refl
-    reads_use a n rows (Voting votes) = uses_none refl
+    reads_use : (y : L.Statement) (a : L.Site) (n : ℕ) (rows : L.Rows) (stage : Stage L) → ((r : L.Statement) (asks : List (Ask L)) → stage ≡ Reading r asks → r ≡ y) → Uses y t u c (on_rows t u a n rows c stage) (on_rows t u a n rows (bare L c) stage)
+    reads_use y a n rows (Reading s asks) of = subst (λ z. Uses z t u c (on_rows t u a n rows c (Reading s asks)) (on_rows t u a n rows (bare L c) (Reading s asks))) (of s asks refl) (rows_use (list_all (λ q. is_some q.rows) (map (with_rows s a n rows) asks)) s (map (with_rows s a n rows) asks) _)
+    reads_use y a n rows Idle of = uses_none refl
+    reads_use y a n rows (Writing answer ws) of = uses_none refl
+    reads_use y a n rows (Voting votes) of = uses_none refl
 
-    named_use : (b : Bool) (turn other none : Transition L) → Uses t u c turn other → Uses t u c (if b then turn else none) (if b then other else none)
-    named_use true turn other none uses = uses
-    named_use false turn other none uses = uses_none refl
+    named_use : (y : L.Statement) (b : Bool) (turn other none : Transition L) → Uses y t u c turn other → Uses y t u c (if b then turn else none) (if b then other else none)
+    named_use y true turn other none uses = uses
+    named_use y false turn other none uses = uses_none refl
 
-    letter_uses : (a : L.Site) (kept : Bool) (body : Body L) → Uses t u c (on_known t u a kept c body) (on_known t u a kept (bare L c) body)
-    letter_uses a kept (Ticket k) = uses_none (first_ticket_uses a k (u.ticket a))
-    letter_uses a kept (Rows k n rows) = named_use (is_named (u.ticket a) k) _ _ _ (reads_use a n rows u.stage)
-    letter_uses a kept (Refused k reason) = uses_none refl
-    letter_uses a kept (Voted k vote) = uses_none refl
-    letter_uses a kept (Inquire k) = uses_none refl
-    letter_uses a kept (Ack k) = uses_none refl
-    letter_uses a kept Open = uses_none refl
-    letter_uses a kept (Fetch k op g q) = uses_none refl
-    letter_uses a kept (Write k op g x) = uses_none refl
-    letter_uses a kept (Prepare k n) = uses_none refl
-    letter_uses a kept (Commit k) = uses_none refl
-    letter_uses a kept (Abort k) = uses_none refl
+    letter_uses : (y : L.Statement) → ((r : L.Statement) (asks : List (Ask L)) → u.stage ≡ Reading r asks → r ≡ y) → (a : L.Site) (kept : Bool) (body : Body L) → Uses y t u c (on_known t u a kept c body) (on_known t u a kept (bare L c) body)
+    letter_uses y of a kept (Ticket k) = uses_none (first_ticket_uses a k (u.ticket a))
+    letter_uses y of a kept (Rows k n rows) = named_use y (is_named (u.ticket a) k) _ _ _ (reads_use y a n rows u.stage of)
+    letter_uses y of a kept (Refused k reason) = uses_none refl
+    letter_uses y of a kept (Voted k vote) = uses_none refl
+    letter_uses y of a kept (Inquire k) = uses_none refl
+    letter_uses y of a kept (Ack k) = uses_none refl
+    letter_uses y of a kept Open = uses_none refl
+    letter_uses y of a kept (Fetch k op g q) = uses_none refl
+    letter_uses y of a kept (Write k op g x) = uses_none refl
+    letter_uses y of a kept (Prepare k n) = uses_none refl
+    letter_uses y of a kept (Commit k) = uses_none refl
+    letter_uses y of a kept (Abort k) = uses_none refl
 
   -- a deed that shows a work
   in_works : (t : Name) (s : L.Statement) (asks : List (Ask L)) (c : Choice L) (past : List (Deed L)) → In (Worked t s asks c) past → In (record { statement = s; asks = asks; choice = c }) (deeds.works past t)
@@ -132,7 +137,7 @@ module _ {L : Lang} where
   room_or s (Ack k) room = tt
   room_or s (Inquire k) room = tt
 
-module _ {L : Lang} (law : IsLawful L) (once : Once L.sites) (fits : L.Leaf → L.Content → Bool) (housed : IsHoused L fits) where
+module _ {L : Lang} (law : IsLawful L) (once : Once L.sites) (n : ℕ) (fits : L.Leaf → L.Content → Bool) (housed : IsHoused L n fits) where
   -- what is written is at the sites, and keeps contents fitting
   abbrev AreHoused : Choice L → Type 0
   AreHoused c = AtSites L (map (λ x. x.0) c.1) × Every (Suits L fits) c.1
@@ -140,78 +145,88 @@ module _ {L : Lang} (law : IsLawful L) (once : Once L.sites) (fits : L.Leaf → 
   none_housed : (c : Choice L) → AreHoused (bare L c)
   none_housed c = (λ g here. absurd here, tt)
 
-  meant_housed : (x : Work L) → IsMeant law x → AreHoused x.choice
-  meant_housed x is = (
-    subst (λ ws. AtSites L (map (λ y. y.0) ws)) (sym is.writes) (housed.written x.statement is.whole is.is_statement is.is_whole),
-    subst (Every (Suits L fits)) (sym is.writes) (housed.suits x.statement is.whole is.is_statement is.is_whole),
+  meant_housed : (x : Work L) → L.tag x.statement ≡ n → L.raises x.statement ≡ false → IsMeant law x → AreHoused x.choice
+  meant_housed x tag low is = (
+    subst (λ ws. AtSites L (map (λ y. y.0) ws)) (sym is.writes) (housed.written x.statement is.whole is.is_statement is.is_whole is.in_force),
+    subst (Every (Suits L fits)) (sym is.writes) (housed.suits x.statement is.whole is.is_statement is.is_whole is.in_force (sym is.in_force ∙ tag) low),
   )
 
   module _ (whole : L.Whole) where
     -- a turn is that without writes, or its choice is housed
-    turn_housed : (w : World L) (t : Name) (u : Undecided L) (c : Choice L) (turn other : Transition L) → ((a : L.Site) (k : Name) → u.ticket a ≡ Some k → (v : Visit L) × ((w.sites a).status k ≡ Active v)) →
-        is_desk_within (desk_after w.desk t turn.txn) ≡ true → Uses t u c turn other → IsReached whole (turns w t turn) → (turn ≡ other) ⊎ AreHoused c
-    turn_housed w t u c turn other active within (uses_none is) reached = inl is
-    turn_housed w t u c turn other active within (uses_it s asks v known ticket here) reached =
+    turn_housed : (y : L.Statement) → L.tag y ≡ n → L.raises y ≡ false → (w : World L) (t : Name) (u : Undecided L) (c : Choice L) (turn other : Transition L) → ((a : L.Site) (k : Name) → u.ticket a ≡ Some k → (v : Visit L) × ((w.sites a).status k ≡ Active v)) →
+        is_desk_within (desk_after w.desk t turn.txn) ≡ true → Uses y t u c turn other → IsReached whole (turns w t turn) → (turn ≡ other) ⊎ AreHoused c
+    turn_housed y tag low w t u c turn other active within (uses_none is) reached = inl is
+    turn_housed y tag low w t u c turn other active within (uses_it asks v known ticket here) reached =
         let there : IsReached whole (turned w t turn) = subst (IsReached whole) (if_true (is_desk_within (desk_after w.desk t turn.txn)) (turned w t turn) w within) reached in
-        let x : Work L = record { statement = s; asks = asks; choice = c } in
+        let x : Work L = record { statement = y; asks = asks; choice = c } in
         let meant = works_meant law whole (turned w t turn) there t v (put_here same same_law t turn.txn w.desk.txn ∙ known) (λ a k own. active a k (ap (λ (f : L.Site → Option Name). f a) (sym ticket) ∙ own)) in
-        inr (meant_housed x (every_in (IsMeant law) (deeds.works (turned w t turn).past t) x meant (in_works t s asks c (turned w t turn).past (in_right (Worked t s asks c) w.past turn.deeds here))))
+        inr (meant_housed x tag low (every_in (IsMeant law) (deeds.works (turned w t turn).past t) x meant (in_works t y asks c (turned w t turn).past (in_right (Worked t y asks c) w.past turn.deeds here))))
 
     stands_alive : (t : Name) (u : Undecided L) (w : World L) → Stands t u w → (a : L.Site) (k : Name) → u.ticket a ≡ Some k → (v : Visit L) × ((w.sites a).status k ≡ Active v)
     stands_alive t u w stands a k own = spot_alive (w.sites a).status (u.visited a) (u.ticket a) (u.sent a) (at a w.letters) k (stands.spots a) own
 
     -- a statement is accepted
-    module _ (w : World L) (t : Name) (s : L.Statement) (ready : Ready L fits t w) (is : L.IsStatement s) where
-      with_choice : (c : Choice L) → AreHoused c → is_desk_within (desk_after w.desk t (on_request t c (State s) (w.desk.txn t)).txn) ≡ true → InCourse L fits t s w.past (called w t c (State s))
+    module _ (w : World L) (t : Name) (s : L.Statement) (ready : Ready L n fits t w) (is : L.IsStatement s) (tag : L.tag s ≡ n) (low : L.raises s ≡ false) where
+      with_choice : (c : Choice L) → AreHoused c → is_desk_within (desk_after w.desk t (on_request t c (State s) (w.desk.txn t)).txn) ≡ true → InCourse L n fits t s w.past (called w t c (State s))
       with_choice c good within = record {
         course = statement_starts law once t s w c ready.steady (housed.fetched s is) good.0 within;
         fitting = (fitting_law law fits).asked w t c (State s) good.1 ready.fitting;
+        tag = tag;
+        low = low;
       }
 
-      stated : (c : Choice L) → is_desk_within (desk_after w.desk t (on_request t c (State s) (w.desk.txn t)).txn) ≡ true → IsReached whole (called w t c (State s)) → InCourse L fits t s w.past (called w t c (State s))
+      stated : (c : Choice L) → is_desk_within (desk_after w.desk t (on_request t c (State s) (w.desk.txn t)).txn) ≡ true → IsReached whole (called w t c (State s)) → InCourse L n fits t s w.past (called w t c (State s))
       stated c within reached = ⊎_elim
-          (λ same_. subst (λ (turn : Transition L). InCourse L fits t s w.past (turns w t turn)) (sym same_) (with_choice (bare L c) (none_housed c) (subst (λ (turn : Transition L). is_desk_within (desk_after w.desk t turn.txn) ≡ true) same_ within)))
+          (λ same_. subst (λ (turn : Transition L). InCourse L n fits t s w.past (turns w t turn)) (sym same_) (with_choice (bare L c) (none_housed c) (subst (λ (turn : Transition L). is_desk_within (desk_after w.desk t turn.txn) ≡ true) same_ within)))
           (λ good. with_choice c good within)
-          (turn_housed w t ready.steady.u c (on_request t c (State s) (w.desk.txn t)) (on_request t (bare L c) (State s) (w.desk.txn t)) (stands_alive t ready.steady.u w ready.steady.stands) within
-          (subst (λ (x : Txn L). Uses t ready.steady.u c (on_request t c (State s) x) (on_request t (bare L c) (State s) x)) (sym ready.steady.known) (state_uses t ready.steady.u c s ready.steady.u.stage)) reached)
+          (turn_housed s tag low w t ready.steady.u c (on_request t c (State s) (w.desk.txn t)) (on_request t (bare L c) (State s) (w.desk.txn t)) (stands_alive t ready.steady.u w ready.steady.stands) within
+          (subst (λ (x : Txn L). Uses s t ready.steady.u c (on_request t c (State s) x) (on_request t (bare L c) (State s) x)) (sym ready.steady.known) (state_uses t ready.steady.u c s ready.steady.u.stage)) reached)
 
     -- a letter of a statement comes
-    module _ (w : World L) (t : Name) (s : L.Statement) (before : List (Deed L)) (kept : Bool) (l : Letter L) (q : List (Letter L)) (e : w.letters ≡ l ∷ q) (within : Within w) (here : InCourse L fits t s before w) where
+    module _ (w : World L) (t : Name) (s : L.Statement) (before : List (Deed L)) (kept : Bool) (l : Letter L) (q : List (Letter L)) (e : w.letters ≡ l ∷ q) (within : Within w) (here : InCourse L n fits t s before w) where
       abbrev behind_it : World L
       behind_it = record w { letters = q }
 
       next_is : (c : Choice L) → next w kept c ≡ comes_to (is_for_desk l.body) behind_it kept c l
       next_is c = ap (first w kept c) e
 
-      comes_with : (c : Choice L) → AreHoused c → Smooth w kept c l → InCourse L fits t s before (next w kept c)
+      comes_with : (c : Choice L) → AreHoused c → Smooth w kept c l → InCourse L n fits t s before (next w kept c)
       comes_with c good smooth = record {
         course = ⊎_elim (λ (at_ : InStatement t s before (next w kept c)). at_) (λ none. absurd none.0) (went_on law once ⊥ t s before w within kept c l q e (record {
           is_kept = smooth.is_kept;
           within = smooth.within;
           room = room_or (w.sites l.site) l.body smooth.room;
-          fit = (fitting_law law fits).rows w l housed.rows here.fitting;
+          fit = (fitting_law law fits).rows s w l (housed.rows s here.tag) here.fitting;
           homes = good.0;
         }) (inl here.course));
         fitting = (fitting_law law fits).came w kept c good.1 here.fitting;
+        tag = here.tag;
+        low = here.low;
       }
 
       -- where the choice isn't used it may be that without writes
-      comes_bare : (c : Choice L) → comes_to (is_for_desk l.body) behind_it kept c l ≡ comes_to (is_for_desk l.body) behind_it kept (bare L c) l → passes w kept (bare L c) l ≡ true → Smooth w kept c l → InCourse L fits t s before (next w kept c)
-      comes_bare c same_ passes_ smooth = subst (InCourse L fits t s before) (sym (next_is c ∙ same_ ∙ sym (next_is (bare L c)))) (comes_with (bare L c) (none_housed c) (record { is_kept = smooth.is_kept; within = passes_; room = smooth.room }))
+      comes_bare : (c : Choice L) → comes_to (is_for_desk l.body) behind_it kept c l ≡ comes_to (is_for_desk l.body) behind_it kept (bare L c) l → passes w kept (bare L c) l ≡ true → Smooth w kept c l → InCourse L n fits t s before (next w kept c)
+      comes_bare c same_ passes_ smooth = subst (InCourse L n fits t s before) (sym (next_is c ∙ same_ ∙ sym (next_is (bare L c)))) (comes_with (bare L c) (none_housed c) (record { is_kept = smooth.is_kept; within = passes_; room = smooth.room }))
 
-      came : (c : Choice L) → Smooth w kept c l → IsReached whole (next w kept c) → InCourse L fits t s before (next w kept c)
+      came : (c : Choice L) → Smooth w kept c l → IsReached whole (next w kept c) → InCourse L n fits t s before (next w kept c)
       came c smooth reached = go (is_for_desk l.body) refl (subst (IsReached whole) (next_is c) reached)
         where
           own : l.txn ≡ t
           own = (subst (Every (λ (x : Letter L). x.txn ≡ t)) e here.course.stands.alone).0
 
+          -- a statement that reads is the one in course
+          read_is : Far t s before here.course.u w.letters w.past → (r : L.Statement) (asks : List (Ask L)) → here.course.u.stage ≡ Reading r asks → r ≡ s
+          read_is (reads asks is missing all deeds) r others e = of_stage r s others asks (sym e ∙ is)
+          read_is (writes asks choice x ws is all deeds) r others e = let f : Reading r others ≡ Writing choice.0 (x ∷ ws) = sym e ∙ is in cc
+          read_is (is_answered asks choice is deeds) r others e = let f : Reading r others ≡ Idle = sym e ∙ is in cc
+
           turn_of : Choice L → Transition L
           turn_of d = on_desk_letter l.txn l.site kept d l.body (w.desk.txn l.txn)
 
-          uses : Uses l.txn here.course.u c (turn_of c) (turn_of (bare L c))
-          uses = subst (λ (x : Txn L). Uses l.txn here.course.u c (on_desk_letter l.txn l.site kept c l.body x) (on_desk_letter l.txn l.site kept (bare L c) l.body x)) (sym (ap w.desk.txn own ∙ here.course.known)) (letter_uses l.txn here.course.u c l.site kept l.body)
+          uses : Uses s l.txn here.course.u c (turn_of c) (turn_of (bare L c))
+          uses = subst (λ (x : Txn L). Uses s l.txn here.course.u c (on_desk_letter l.txn l.site kept c l.body x) (on_desk_letter l.txn l.site kept (bare L c) l.body x)) (sym (ap w.desk.txn own ∙ here.course.known)) (letter_uses l.txn here.course.u c s (read_is here.course.far) l.site kept l.body)
 
-          go : (b : Bool) → is_for_desk l.body ≡ b → IsReached whole (comes_to (is_for_desk l.body) behind_it kept c l) → InCourse L fits t s before (next w kept c)
+          go : (b : Bool) → is_for_desk l.body ≡ b → IsReached whole (comes_to (is_for_desk l.body) behind_it kept c l) → InCourse L n fits t s before (next w kept c)
           go false to_site there = comes_bare c (ap (λ b. comes_to b behind_it kept c l) to_site ∙ sym (ap (λ b. comes_to b behind_it kept (bare L c) l) to_site))
               (ap (λ b. passes_to b w kept (bare L c) l) to_site ∙ sym (ap (λ b. passes_to b w kept c l) to_site) ∙ smooth.within) smooth
           go true to_desk there =
@@ -220,14 +235,14 @@ module _ {L : Lang} (law : IsLawful L) (once : Once L.sites) (fits : L.Leaf → 
               (λ (same_ : turn_of c ≡ turn_of (bare L c)). comes_bare c (ap (λ b. comes_to b behind_it kept c l) to_desk ∙ ap (turns behind_it l.txn) same_ ∙ sym (ap (λ b. comes_to b behind_it kept (bare L c) l) to_desk))
               (ap (λ b. passes_to b w kept (bare L c) l) to_desk ∙ ap (λ (x : Transition L). is_desk_within (desk_after w.desk l.txn x.txn)) (sym same_) ∙ fits_in) smooth)
               (λ good. comes_with c good smooth)
-              (turn_housed behind_it l.txn here.course.u c (turn_of c) (turn_of (bare L c)) (stands_alive t here.course.u w here.course.stands) fits_in uses
+              (turn_housed s here.tag here.low behind_it l.txn here.course.u c (turn_of c) (turn_of (bare L c)) (stands_alive t here.course.u w here.course.stands) fits_in uses
               (subst (λ b. IsReached whole (comes_to b behind_it kept c l)) to_desk there))
 
     -- where all is quiet contents fit
-    quiet_fits : (w : World L) → IsReached whole w → IsQuiet w → Fitting L fits w
-    quiet_fits w reached quiet = record {
+    quiet_fits : (w : World L) → IsReached whole w → IsQuiet w → w.version ≡ n → Fitting L fits w
+    quiet_fits w reached quiet version = record {
       sites = λ a. record {
-        kept = λ g home. subst (λ b. fits g ((w.sites b).kept g) ≡ true) home (ap (fits g) (quiet_rebuilt law whole w reached quiet g) ∙ housed.contents _ (now_whole law whole w reached) g);
+        kept = λ g home. subst (λ b. fits g ((w.sites b).kept g) ≡ true) home (ap (fits g) (quiet_rebuilt law whole w reached quiet g) ∙ housed.contents _ (now_whole law whole w reached) ((reached_serial whole w reached (serial_law law)).in_force ∙ version) g);
         status = λ k. unlocked_fits a k ((w.sites a).status k) refl (quiet.calm a k);
       };
       letters = subst (Every _) (sym quiet.silent) tt;
@@ -247,10 +262,10 @@ module _ {L : Lang} (law : IsLawful L) (once : Once L.sites) (fits : L.Leaf → 
         decided_fits (Known u) is = cc
         decided_fits (Row voters acked) is = tt
 
-  pub smooth_law : SmoothLaw L fits
+  pub smooth_law : SmoothLaw L n fits
   smooth_law = record {
-    begun = λ whole w reached quiet room. record { steady = begins_steady w quiet room; fitting = (fitting_law law fits).begun w (quiet_fits whole w reached quiet) };
-    stated = λ whole w t s choice ready is within reached. stated whole w t s ready is choice within reached;
+    begun = λ whole w reached quiet version room. record { steady = begins_steady w quiet room; fitting = (fitting_law law fits).begun w (quiet_fits whole w reached quiet version) };
+    stated = λ whole w t s choice ready is tag low within reached. stated whole w t s ready is tag low choice within reached;
     came = λ whole w t s before kept choice l q e within smooth reached here. came whole w t s before kept l q e within here choice smooth reached;
     answered = λ w t s before here silent. let done = statement_ends law once t s before w here.course silent in (record { steady = done.0; fitting = here.fitting }, done.1);
     asked = λ w t choice ready within. commit_starts law once ⊥ t w.past w ready.steady choice within refl;

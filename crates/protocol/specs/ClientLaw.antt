@@ -48,7 +48,7 @@ module _ {L : Lang} where
     pub fetched : AtSites L (map (λ f. f.0) (L.fetches x.statement))
     pub written : AtSites L (map (λ y. y.0) x.choice.1)
     pub within : is_desk_within (desk_after w.desk t (on_request t x.choice (State x.statement) (w.desk.txn t)).txn) ≡ true
-    pub all : AllTaken (Well ⊥) x.takes (called w t x.choice (State x.statement))
+    pub all : AllTaken (Well ⊥ x.statement) x.takes (called w t x.choice (State x.statement))
 
   -- so are all
   abbrev pub AllDone : Name → World L → List (Doing L) → Type 0
@@ -86,7 +86,7 @@ pub record CourseLaw (L : Lang) (E : Type 0) : Type 0 where
   pub begun : (w : World L) → IsQuiet w → is_desk_within (desk_began w.desk) ≡ true → Steady (next_txn w.desk) (begins w)
   -- a statement is accepted, its letters come, and it is answered, or failed
   pub stated : (w : World L) (t : Name) (s : L.Statement) (choice : Choice L) → Steady t w → AtSites L (map (λ f. f.0) (L.fetches s)) → AtSites L (map (λ x. x.0) choice.1) → is_desk_within (desk_after w.desk t (on_request t choice (State s) (w.desk.txn t)).txn) ≡ true → Went E t s w.past (called w t choice (State s))
-  pub came : (w : World L) (t : Name) (s : L.Statement) (before : List (Deed L)) (kept : Bool) (choice : Choice L) (l : Letter L) (q : List (Letter L)) → w.letters ≡ l ∷ q → Within w → Well E w kept choice l → Went E t s before w → Went E t s before (next w kept choice)
+  pub came : (w : World L) (t : Name) (s : L.Statement) (before : List (Deed L)) (kept : Bool) (choice : Choice L) (l : Letter L) (q : List (Letter L)) → w.letters ≡ l ∷ q → Within w → Well E s w kept choice l → Went E t s before w → Went E t s before (next w kept choice)
   pub answered : (w : World L) (t : Name) (s : L.Statement) (before : List (Deed L)) → Went E t s before w → w.letters ≡ [] →
       (Steady t w × ((asks : List (Ask L)) × (choice : Choice L) × (w.past ≡ before ++ Stated t s ∷ Worked t s asks choice ∷ Answered t choice.0 ∷ []))) ⊎ (E × (IsQuiet w × Since t before w.past))
   -- whatever becomes of a letter of a statement, the transaction can be given up

@@ -111,5 +111,5 @@ pub fn contents_stay_fitting()
 /// leaves at the sites, and that rows fit, is no premise: where all that is evaluated is explained it follows,
 /// since what the statements wrote is what they mean over the whole database.
 pub fn one_client_smoothly()
-    ensures { SmoothLaw toy (λ leaf content. true) }
+    ensures { SmoothLaw toy 1 (λ leaf content. true) }
 {}
