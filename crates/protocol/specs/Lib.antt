@@ -8,6 +8,7 @@ pub mod World
 pub mod Serial
 pub mod Parts
 pub mod Applied
+pub mod Alone
 pub mod Refusing
 pub mod Premise
 pub mod Client
