@@ -26,4 +26,5 @@ pub mod WithoutRefusal
 pub mod Delivery
 pub mod Accepted
 pub mod Toy
+pub mod TwoSplits
 pub mod NothingCommits
