@@ -13,6 +13,7 @@ pub mod Refusing
 pub mod Premise
 pub mod Client
 pub mod Statements
+pub mod Catalogues
 pub mod Rounds
 pub mod VisitPlaces
 pub mod StatementCourse
