@@ -1,14 +1,13 @@
 -- While a refragmentation is undecided nobody else is, no commit row stands, and what is settled is kept.
-use Rattle.std.proofs.Common.{◌≡◌, refl, sym, ap, ◌∙◌, subst, true, false, ⊎_elim, ◌&&◌, Bool, ℕ}
+use Rattle.std.proofs.Common.{◌≡◌, refl, sym, ap, subst, true, false, ⊎_elim, ◌&&◌, Bool, ℕ}
 use Rattle.protocol.specs.Language.{Lang, IsLawful, Name}
 use Rattle.protocol.specs.Site.{Status, Dead, Active, Prepared}
-use Rattle.protocol.specs.Desk.{Txn, Known, Row, is_moving, is_unknown}
+use Rattle.protocol.specs.Desk.{is_moving, is_unknown}
 use Rattle.protocol.specs.World.{World, run}
 use Rattle.protocol.specs.Serial.{is_committed}
 use Rattle.protocol.specs.Alone.{IsAlone, RefragmentsAlone}
 use Rattle.protocol.proofs.Basics.{by_test, clash}
 use Rattle.protocol.proofs.Settled.{changes_it, settled_none}
-use Rattle.protocol.proofs.Invariant.{Deep}
 use Rattle.protocol.proofs.InvariantSites.{IsDeep}
 use Rattle.protocol.proofs.InvariantEvents.{run_deep, opening_deep}
 use Rattle.protocol.proofs.Versions.{Versions}

@@ -1,10 +1,10 @@
 -- The serial law over a list of catalogues: the language of a lawful list is lawful, and its law says nothing of numbers.
-use Rattle.std.proofs.Common.{◌≡◌, refl, sym, ap, ap₂, ◌∙◌, subst, ◌↔◌, ℕ, suc, ◌&&◌, Bool, true, false, List, [], ◌∷◌, map, if◌then◌else◌, ⊎_elim}
+use Rattle.std.proofs.Common.{◌≡◌, refl, sym, ap, ap₂, ◌∙◌, subst, ◌↔◌, ℕ, ◌&&◌, true, false, List, [], ◌∷◌, map, if◌then◌else◌, ⊎_elim}
 use Rattle.protocol.specs.Language.{Lang, IsLawful, Name, put, written}
 use Rattle.protocol.specs.Desk.{Deed}
-use Rattle.protocol.specs.World.{World, Event, run}
-use Rattle.protocol.specs.Serial.{committed, statements_of, answers_of, settled, whole_after, answers_in_turn, serial_whole, serial_answers, IsOpening}
-use Rattle.protocol.specs.Catalogues.{Catalogues, Intended_at, Nothing, Some_at, same_place, only_at, add_at, is_nothing, touches_at, changed_at, then_in_force, listed, whole_then, answers_then, serial_then, serial_answers_then, stated, IsSerialList, ListLaw, IsLawfulList}
+use Rattle.protocol.specs.World.{run}
+use Rattle.protocol.specs.Serial.{committed, statements_of, whole_after, answers_in_turn, serial_whole, serial_answers}
+use Rattle.protocol.specs.Catalogues.{Catalogues, Intended_at, Nothing, Some_at, same_place, add_at, is_nothing, touches_at, changed_at, then_in_force, listed, whole_then, answers_then, serial_then, serial_answers_then, stated, ListLaw, IsLawfulList}
 use Rattle.protocol.proofs.Basics.{left_true, right_true, both_true, by_test, put_all, clash}
 use Rattle.protocol.proofs.SerialLaw.{serial_law}
 

@@ -1,9 +1,9 @@
 -- Runs over two catalogues, each computed: a refragmentation is alone, brings the next catalogue into force by its decision, and moves the row.
-use Rattle.std.proofs.Common.{◌≡◌, refl, sym, ap, ◌∙◌, subst, ℕ, suc, Bool, true, false, List, [], ◌∷◌, ◌++◌, map, length, drop, if◌then◌else◌, Some}
+use Rattle.std.proofs.Common.{◌≡◌, refl, ap, subst, ℕ, suc, Bool, true, false, List, [], ◌∷◌, ◌++◌, map, drop, if◌then◌else◌, Some}
 use Rattle.protocol.specs.Language.{IsLawful, Name, written}
-use Rattle.protocol.specs.Letter.{Body, Open, Fetch, Write, Prepare, Commit, Abort, Ticket, Rows, Refused, Voted, Ack, Inquire, Yes, No, Read}
+use Rattle.protocol.specs.Letter.{Body, Open, Fetch, Write, Prepare, Ticket, Rows, Voted, Yes, Read}
 use Rattle.protocol.specs.Site.{Dead}
-use Rattle.protocol.specs.Desk.{Unknown, State, Commit_call, Ask, By_store, By_restart, Choice, Deed, Began, Stated, Worked, Answered, Phased, Committed, Aborted}
+use Rattle.protocol.specs.Desk.{Unknown, State, Commit_call, Choice, Began, Worked}
 use Rattle.protocol.specs.World.{World, Event, Begin, Refragment, Call, Deliver, Desk_restarts, run}
 use Rattle.protocol.specs.Serial.{committed, settled, Explained, AllExplained, IsOpening, IsSerial}
 use Rattle.protocol.specs.TwoSplits.{two_splits, Placed_row, Split_statement, Look_at, Set_row, Move_south, row_at, pair_of, brings_next}

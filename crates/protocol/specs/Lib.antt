@@ -28,4 +28,5 @@ pub mod Delivery
 pub mod Accepted
 pub mod Toy
 pub mod TwoSplits
+pub mod TwoSites
 pub mod NothingCommits

@@ -1,5 +1,5 @@
 -- A toy of two catalogues: one row, in the north under the first, in the south under the second; it is looked at, set, and moved by the refragmentation from the one to the other.
-use Rattle.std.specs.Prelude.{⊤, ℕ, suc, ◌==◌, not, Bool, true, false, List, [], ◌∷◌, if◌then◌else◌}
+use Rattle.std.specs.Prelude.{⊤, ℕ, suc, ◌==◌, not, Bool, true, false, [], ◌∷◌, if◌then◌else◌}
 use Rattle.protocol.specs.Language.{Lang}
 use Rattle.protocol.specs.Toy.{toy, Pair, is_same}
 
