@@ -63,7 +63,7 @@ at_sites leaves false here = inl refl
 
 -- every letter of the toy language finds room, and all rows fit
 taken_well : (w : World toy) (l : Letter toy) → passes w true moves l ≡ true → Well ⊥ Move w true moves l
-taken_well w l within = record { is_kept = refl; within = within; room = room l.body; fit = fit l.body; homes = at_sites (false ∷ true ∷ []) }
+taken_well w l within = record { is_kept = refl; within = within; room = room l.body; fit = λ reading. fit l.body; homes = at_sites (false ∷ true ∷ []) }
   where
     room : (c : Body toy) → RoomOr ⊥ (w.sites l.site) c
     room (Write k op g x) = λ v active. inl refl

@@ -43,7 +43,7 @@ module _ {L : Lang} where
   })
 
   -- a refragmentation begins as a transaction does, and states its one statement
-  moves_steady : (w : World L) → IsQuiet w → Steady (next_txn w.desk) (begun true w)
+  pub moves_steady : (w : World L) → IsQuiet w → Steady (next_txn w.desk) (begun true w)
   moves_steady w quiet = record {
     u = fresh_as true;
     known = put_here same same_law (next_txn w.desk) (Known (fresh_as true)) w.desk.txn;
@@ -52,7 +52,7 @@ module _ {L : Lang} where
     silent = quiet.silent;
   }
 
-  moves_called : (w : World L) (s : L.Statement) (choice : Choice L) → is_desk_within (begun true w).desk ≡ true → is_desk_within (desk_after (begun true w).desk (next_txn w.desk) (first_turn w s choice).txn) ≡ true → refragments w s choice ≡ called (begun true w) (next_txn w.desk) choice (State s)
+  pub moves_called : (w : World L) (s : L.Statement) (choice : Choice L) → is_desk_within (begun true w).desk ≡ true → is_desk_within (desk_after (begun true w).desk (next_txn w.desk) (first_turn w s choice).txn) ≡ true → refragments w s choice ≡ called (begun true w) (next_txn w.desk) choice (State s)
   moves_called w s choice within room =
       let t = next_txn w.desk in
       let v = begun true w in

@@ -8,6 +8,7 @@ use Rattle.protocol.specs.Desk.{Ask, Choice, Idle, Reading, Writing, Undecided, 
 use Rattle.protocol.specs.World.{World}
 use Rattle.protocol.specs.Parts.{In}
 use Rattle.protocol.specs.VisitPlaces.{at, VisitPlace}
+use Rattle.protocol.specs.Rounds.{is_reading}
 
 -- each of these leaves is at one of the sites
 abbrev pub AtSites : (L : Lang) → List L.Leaf → Type 0
@@ -85,10 +86,10 @@ module _ {L : Lang} where
   abbrev pub passes : World L → Bool → Choice L → Letter L → Bool
   passes w kept choice l = passes_to (is_for_desk l.body) w kept choice l
 
-  -- a letter of statement s is taken as it should be: the store keeps what it is asked for, no limit is met, rows fit, writes are of leaves at the sites; where a visit has no room there is an excuse E
+  -- a letter of statement s is taken as it should be: the store keeps what it is asked for, no limit is met, rows fit while they are waited for, writes are of leaves at the sites; where a visit has no room there is an excuse E
   pub record Well (E : Type 0) (s : L.Statement) (w : World L) (kept : Bool) (choice : Choice L) (l : Letter L) : Type 0 where
     pub is_kept : kept ≡ true
     pub within : passes w kept choice l ≡ true
     pub room : RoomOr E (w.sites l.site) l.body
-    pub fit : RowsFit s l.site (w.sites l.site) l.body
+    pub fit : is_reading (w.desk.txn l.txn) ≡ true → RowsFit s l.site (w.sites l.site) l.body
     pub homes : AtSites L (map (λ x. x.0) choice.1)

@@ -136,3 +136,9 @@ pub fn contents_stay_fitting()
 pub fn one_client_smoothly()
     ensures { SmoothLaw toy 1 (λ leaf content. true) }
 {}
+
+/// So for a refragmentation: one that begins in a quiet world and whose letters come smoothly is answered, and
+/// committed where its client asks for that.
+pub fn one_refragmentation_smoothly()
+    ensures { SmoothLaw two_splits 1 (λ leaf content. true) }
+{}
