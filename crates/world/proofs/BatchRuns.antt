@@ -71,7 +71,7 @@ module _ (db : Database) (fits : Leaf → Content → Bool) (reached : ReachedLa
   }
 
   still_ready : (txn : Txn) (before after : Machines) (past : List (Deed (language db))) → Stands db fits (Some txn) before past → IsStill db before after → Stands db fits (Some txn) after past
-  still_ready txn before after past ready still = subst (Ready (language db) fits (txn_name txn)) (sym (ap (λ (w : World (language db)). record w { past = past }) still.same)) ready
+  still_ready txn before after past ready still = subst (Ready (language db) 1 fits (txn_name txn)) (sym (ap (λ (w : World (language db)). record w { past = past }) still.same)) ready
 
   -- ---- the calls of a transaction that is ready: all is quiet again, and it has ended as asked unless something was refused
   abbrev Ends : (end_of : ends.End) (asked : List calls.Call) (came : List cames.Came) (before after : Machines) → List (Deed (language db)) → Type 0
