@@ -49,6 +49,7 @@ fresh_is db sites = λ i. desk.Known (record {
   ticket = λ j. ap (λ s. option_map name_of s.ticket) (none_visited j sites) i;
   sent = λ j. ap (λ s. s.sent) (none_visited j sites) i;
   stage = desk.Idle;
+  moves = false;
 })
 
 its_sites : (sites : List (List ℕ)) → sites_of (nowhere_yet sites) ≡ sites

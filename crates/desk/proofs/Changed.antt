@@ -92,6 +92,7 @@ module _ (db : Database) (participants : List Participant) (a : List ℕ) (at : 
     ticket = λ j. (ap (λ s. option_map name_of s.ticket) (vote_there vote j) ∙ either (λ s. option_map name_of s.ticket ≡ option_map name_of (participant_in j participants).ticket) (pointwise nat_eq j a) (with_vote (Some vote) (participant_in j participants)) (participant_in j participants) refl refl) i;
     sent = λ j. (ap (λ s. s.sent) (vote_there vote j) ∙ either (λ s. s.sent ≡ (participant_in j participants).sent) (pointwise nat_eq j a) (with_vote (Some vote) (participant_in j participants)) (participant_in j participants) refl refl) i;
     stage = desk.Voting (votes_put vote i);
+    moves = false;
   }
 
   -- the ticket of a site has come
@@ -121,6 +122,7 @@ module _ (db : Database) (participants : List Participant) (a : List ℕ) (at : 
     ticket = λ j. (ap (λ s. option_map name_of s.ticket) (ticket_there ticket j) ∙ one_ticket ticket (participant_in j participants) (pointwise nat_eq j a)) i;
     sent = λ j. (ap (λ s. s.sent) (ticket_there ticket j) ∙ either (λ s. s.sent ≡ (participant_in j participants).sent) (pointwise nat_eq j a) (with_ticket (Some ticket) (participant_in j participants)) (participant_in j participants) refl refl) i;
     stage = same_stage ticket st i;
+    moves = false;
   }
 
 -- no vote is counted
@@ -130,6 +132,7 @@ votes_gone db participants st = λ i. record {
   ticket = λ j. ap (λ s. option_map name_of s.ticket) (there j) i;
   sent = λ j. ap (λ s. s.sent) (there j) i;
   stage = desk.Voting (λ j. ap (λ s. option_map vote_of s.vote) (there j) i);
+  moves = false;
 }
   where
     there : (j : List ℕ) → participant_in j (map (with_vote None) participants) ≡ with_vote None (participant_in j participants)

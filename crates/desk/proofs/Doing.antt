@@ -201,7 +201,7 @@ module _ (db : Database) (txn : Txn) (u : Undecided) (site : List ℕ) (rows : R
     turn_is choice =
         let all = known db of unique reading.statement reading.plan reading.asks.items planned in
         rowed_is choice true (stage.Reading reading) first here
-        ∙ ap (λ (list : List (desk.Ask (language db))). desk.rows_go {L = language db} (txn_name txn) (undecided_of db u) reading.statement list choice) (sym (rows_are db of site rows.op rows.parts all.need all.other reading.asks.items reading.plan.fetches.items planned.in_order all.each home))
+        ∙ ap (λ (list : List (desk.Ask (language db))). desk.rows_go {L = language db} (txn_name txn) (undecided_of db u) reading.statement list choice) (sym (rows_are db of reading.statement site rows.op rows.parts all.need all.other reading.asks.items reading.plan.fetches.items planned.in_order all.each home))
 
     abbrev go_if : desk.Choice (language db) → Bool → desk.Transition (language db)
     go_if choice b = if b then desk.works {L = language db} (txn_name txn) (undecided_of db u) reading.statement (map (ask_of db) given) choice else desk.stays (desk.Known (record (undecided_of db u) { stage = desk.Reading reading.statement (map (ask_of db) given) }))

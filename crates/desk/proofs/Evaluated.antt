@@ -1,5 +1,5 @@
 -- A statement that is evaluated is the protocol's.
-use Rattle.std.proofs.Common.{◌≡◌, refl, sym, ap, ◌∙◌, ℕ, List, [], ◌∷◌, ◌++◌, map, Some, None}
+use Rattle.std.proofs.Common.{◌≡◌, refl, sym, ap, ◌∙◌, ℕ, List, [], ◌∷◌, ◌++◌, map, Some, None, false}
 use Rattle.std.proofs.lemmas.List.{map-append}
 use Rattle.std.specs.List.{filter_map}
 use Rattle.std.specs.Option.{option_map}
@@ -59,6 +59,7 @@ module _ (db : Database) (txn : Txn) (u new : Undecided) (began : Writing) (s : 
     ticket = λ j. option_map name_of (kept_by_visits (write_sites ws) u.participants (λ x. x.ticket) (λ x. refl) j i);
     sent = λ j. kept_by_visits (write_sites ws) u.participants (λ x. x.sent) (λ x. refl) j i;
     stage = stage_of db opened st;
+    moves = false;
   }
 
   -- the writes that go out, from either

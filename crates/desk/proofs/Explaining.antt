@@ -127,7 +127,7 @@ module _ (db : Database) (of : IsOfCatalogue db) (unique : LeafNamesAreUnique) (
       Explained {L = language db} (desk.Worked t stated (map (ask_of db) asks) (answer, map write_of (map (unsent_from db.catalogue) list)))
   explained t answer list answers writes = (
     planned.statement,
-    λ whole fits gives.
+    λ whole fits tag gives.
         let there = subst (λ schemas. FitsSchema schemas whole) of.schemas fits in
         let are = are_brought whole fits gives in (
           answers whole there are,

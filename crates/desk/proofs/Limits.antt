@@ -1,5 +1,5 @@
 -- What the protocol's steps keep: how many operations were sent, and that what is decided stays so.
-use Rattle.std.proofs.Common.{◌≡◌, refl, ℕ, Bool, true, false, not, ◌&&◌, List, [], ◌∷◌, ◌++◌, Option, Some, None, is_none, is_some}
+use Rattle.std.proofs.Common.{◌≡◌, refl, ℕ, Bool, true, false, not, ◌&&◌, List, [], ◌∷◌, ◌++◌, Option, Some, None, is_none, is_some, ◌||◌}
 use Rattle.std.specs.List.{list_any}
 use Rattle.std.specs.Option.{option_map}
 use Rattle.store.specs.declared.name.Ticket.{Ticket}
@@ -28,7 +28,7 @@ module _ {L : Lang} where
   short_ends t u d = refl
 
   short_decides : (t : Name) (u : desk.Undecided L) (kept : Bool) (voters : List (L.Site × Name)) → IsShort (desk.decides t u kept voters).txn
-  short_decides t u kept [] = refl
+  short_decides t u kept [] = either (λ (turn : desk.Transition L). IsShort turn.txn) (kept || not u.moves) _ _ refl refl
   short_decides t u kept (v ∷ vs) = either (λ (turn : desk.Transition L). IsShort turn.txn) kept _ _ refl refl
 
   short_votes : (t : Name) (u : desk.Undecided L) (votes : L.Site → Option letter.Vote) (kept : Bool) → IsShort (desk.Known u) → IsShort (desk.votes_go t u votes kept).txn

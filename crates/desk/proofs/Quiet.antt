@@ -1,5 +1,5 @@
 -- Letters by which no statement goes on need no explanation.
-use Rattle.std.proofs.Common.{◌≡◌, ◌⊎◌, inl, IfErr, ℕ, Bool, true, false, ◌&&◌, not, List, [], ◌∷◌, ◌++◌, Option, Some, None, is_none, Result, Ok, Err, IfOk, nat_eq, subst, sym, ap, ◌∙◌}
+use Rattle.std.proofs.Common.{◌≡◌, ◌⊎◌, inl, IfErr, ℕ, Bool, true, false, ◌&&◌, not, List, [], ◌∷◌, ◌++◌, Option, Some, None, is_none, Result, Ok, Err, IfOk, nat_eq, subst, sym, ap, ◌∙◌, ◌||◌}
 use Rattle.std.specs.Cmp.Lexicographic.{pointwise}
 use Rattle.std.specs.List.{list_any}
 use Rattle.std.specs.Option.{option_map}
@@ -36,7 +36,7 @@ module _ {L : Lang} where
   IsPlain turn = AllExplained turn.deeds
 
   plain_decides : (t : Name) (u : desk.Undecided L) (kept : Bool) (voters : List (L.Site × Name)) → IsPlain (desk.decides t u kept voters)
-  plain_decides t u kept [] = (tt, tt)
+  plain_decides t u kept [] = either IsPlain (kept || not u.moves) _ _ (tt, tt) (tt, tt)
   plain_decides t u kept (v ∷ vs) = either IsPlain kept _ _ (tt, tt) (tt, tt)
 
   plain_votes : (t : Name) (u : desk.Undecided L) (votes : L.Site → Option letter.Vote) (kept : Bool) → IsPlain (desk.votes_go t u votes kept)

@@ -1,4 +1,5 @@
 -- Rows that come are put where the protocol puts them.
+use Rattle.meaning.specs.declared.statement.Statement.{Statement}
 use Rattle.std.proofs.Common.{◌≡◌, refl, ap, ap₂, ◌∙◌, ℕ, nat_eq, Bool, true, false, ◌&&◌, List, [], ◌∷◌, map, length, Option, Some, None, is_some, is_none, if◌then◌else◌}
 use Rattle.std.specs.Cmp.Lexicographic.{pointwise}
 use Rattle.std.specs.List.{AllByRecursion, list_all}
@@ -38,11 +39,11 @@ module _ (db : Database) (of : IsOfCatalogue db) where
       ∙ same_bool (parts_climb (length leaf.columns) None rows) (db.well_formed leaf.name rows) (λ t. tells.1 (climbs.0 t)) (λ t. climbs.1 (tells.0 t))
       ∙ ap (λ (n : Leaf). db.well_formed n rows) (one_name leaf.name name found.1)
 
-  module _ (site : List ℕ) (number : ℕ) (rows : List (List Value)) where
-    awaits_is : (ask : Ask) (leaf : FragmentLeaf) → ask.site ≡ db.home ask.leaf → leaf_named ask.leaf all ≡ Some leaf → awaits db.catalogue site number rows ask ≡ desk.awaits {L = language db} site number rows (ask_of db ask)
+  module _ (stated : Statement) (site : List ℕ) (number : ℕ) (rows : List (List Value)) where
+    awaits_is : (ask : Ask) (leaf : FragmentLeaf) → ask.site ≡ db.home ask.leaf → leaf_named ask.leaf all ≡ Some leaf → awaits db.catalogue site number rows ask ≡ desk.awaits {L = language db} stated site number rows (ask_of db ask)
     awaits_is ask leaf home is = λ i. pointwise nat_eq (home i) site && desk.is_numbered ask.number number && is_none ask.rows && fits_is ask.leaf leaf rows is i
 
-    one_is : (ask : Ask) (leaf : FragmentLeaf) → ask.site ≡ db.home ask.leaf → leaf_named ask.leaf all ≡ Some leaf → ask_of db (with_rows db.catalogue site number rows ask) ≡ desk.with_rows {L = language db} site number rows (ask_of db ask)
+    one_is : (ask : Ask) (leaf : FragmentLeaf) → ask.site ≡ db.home ask.leaf → leaf_named ask.leaf all ≡ Some leaf → ask_of db (with_rows db.catalogue site number rows ask) ≡ desk.with_rows {L = language db} stated site number rows (ask_of db ask)
     one_is ask leaf home is = go (awaits db.catalogue site number rows ask) ∙ ap (λ b. if b then record (ask_of db ask) { rows = Some rows } else ask_of db ask) (awaits_is ask leaf home is)
       where
         go : (b : Bool) → ask_of db (if b then record ask { rows = Some rows } else ask) ≡ (if b then record (ask_of db ask) { rows = Some rows } else ask_of db ask)
@@ -51,7 +52,7 @@ module _ (db : Database) (of : IsOfCatalogue db) where
 
     -- so all fetches of a plan
     pub rows_are : (need other : Need) (asks : List Ask) (list : List Fetch) → map asked asks ≡ map fetched list → AllByRecursion (IsEither all need other) list → AsksAtHome db asks →
-        map (ask_of db) (map (with_rows db.catalogue site number rows) asks) ≡ map (desk.with_rows {L = language db} site number rows) (map (ask_of db) asks)
+        map (ask_of db) (map (with_rows db.catalogue site number rows) asks) ≡ map (desk.with_rows {L = language db} stated site number rows) (map (ask_of db) asks)
     rows_are need other [] list same each home = refl
     rows_are need other (ask ∷ asks) [] same each home = cc
     rows_are need other (ask ∷ asks) (fetch ∷ list) same each home =

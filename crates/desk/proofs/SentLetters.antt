@@ -40,6 +40,7 @@ module _ (db : Database) (txn : Txn) (participants after : List Participant) (le
     ticket = λ j. option_map name_of (same.ticket j i);
     sent = sent i;
     stage = is i;
+    moves = false;
   }
 
   -- fetches went out

@@ -1,5 +1,5 @@
 -- A statement that begins is the protocol's.
-use Rattle.std.proofs.Common.{◌≡◌, refl, sym, ap, ◌∙◌, subst, List, [], ◌∷◌, ◌++◌, map, None}
+use Rattle.std.proofs.Common.{◌≡◌, refl, sym, ap, ◌∙◌, subst, List, [], ◌∷◌, ◌++◌, map, None, false}
 use Rattle.std.proofs.lemmas.List.{map-append}
 use Rattle.std.specs.Option.{option_map}
 use Rattle.terms.specs.declared.leaf.Leaf.{Leaf}
@@ -56,6 +56,7 @@ module _ (db : Database) (txn : Txn) (choice : desk.Choice (language db)) (u new
     ticket = λ j. option_map name_of (kept_by_visits (ask_sites asks) u.participants (λ x. x.ticket) (λ x. refl) j i);
     sent = λ j. kept_by_visits (ask_sites asks) u.participants (λ x. x.sent) (λ x. refl) j i;
     stage = stage_of db opened st;
+    moves = false;
   }
 
   pub reads_is : (reading : Reading) → reading.statement ≡ began.statement → reading.asks.items ≡ (asks_go txn asks opened).left → new.participants ≡ (asks_go txn asks opened).participants → new.stage ≡ stage.Reading reading →

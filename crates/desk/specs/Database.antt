@@ -1,5 +1,5 @@
 -- The language of a database: the leaves of a catalogue at its sites, and statements over whole relations.
-use Rattle.std.specs.Prelude.{ℕ, Bool, List}
+use Rattle.std.specs.Prelude.{ℕ, Bool, false, List}
 use Rattle.terms.specs.declared.cond.Cond.{Cond}
 use Rattle.terms.specs.declared.leaf.Leaf.{Leaf}
 use Rattle.terms.specs.declared.value.Value.{Value}
@@ -35,7 +35,7 @@ pub record Database : Type 0 where
   pub fetches : Statement → List (Leaf × List Cond)
   pub writes : Relations → Relations → List (Leaf × AtKey)
 
--- its statements
+-- its statements, all for the one catalogue, which is in force from the beginning on
 abbrev pub statements : Database → Statements local
 statements db = record {
   Statement = Statement;
@@ -43,9 +43,12 @@ statements db = record {
   Whole = Relations;
   sites = db.sites;
   home = db.home;
-  well_formed = db.well_formed;
+  well_formed = λ statement. db.well_formed;
   IsStatement = IsStatementOf db.schemas;
   IsWhole = FitsSchema db.schemas;
+  tag = λ statement. 1;
+  version = λ whole. 1;
+  raises = λ statement. false;
   meaning = meaning;
   content = db.content;
   fetches = db.fetches;

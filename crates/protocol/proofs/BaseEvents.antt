@@ -1,17 +1,17 @@
 -- A new transaction, a restart of the coordinator, inquiries and the opening: facts of a world but its line.
-use Rattle.std.proofs.Common.{◌≡◌, refl, sym, ap, ap₂, ◌∙◌, subst, true, false, List, [], ◌∷◌, ◌++◌, map, None, append-nil, flat_map}
+use Rattle.std.proofs.Common.{◌≡◌, refl, sym, ap, ap₂, ◌∙◌, subst, true, false, List, [], ◌∷◌, ◌++◌, map, None, append-nil, flat_map, Bool}
 use Rattle.std.proofs.lemmas.Grind.{flat_map-append}
 use Rattle.protocol.specs.Parts.{op_of, operations}
 use Rattle.protocol.specs.Language.{Lang, IsLawful, Name, same}
 use Rattle.protocol.specs.Letter.{Letter}
 use Rattle.protocol.specs.Site.{Status, Dead, Active, Prepared, is_dead, has_exclusive, inquiries, inquiry_of}
-use Rattle.protocol.specs.Desk.{Undecided, fresh, Txn, Unknown, Known, Row, Deed, Began, commits, next_txn, txn_restarted}
+use Rattle.protocol.specs.Desk.{Undecided, fresh_as, Txn, Unknown, Known, Row, Deed, Began, commits, next_txn, txn_restarted}
 use Rattle.protocol.specs.World.{World, begun, inquires, desk_lives}
 use Rattle.protocol.specs.Serial.{is_committed, phases_of, phased_of, statement_in, answer_in, IsOpening}
 use Rattle.protocol.proofs.Basics.{Every, every_append, every_flat, In, put_all, clash, same_law}
 use Rattle.protocol.proofs.Fits.{Born, Und, is_voting}
 use Rattle.protocol.proofs.SiteEvents.{inquire_fit}
-use Rattle.protocol.proofs.AppliedOnce.{not_born, born_next, born_restarted, was_before, begun_fit, none_known, lives_before, lives_fit, opening_fit}
+use Rattle.protocol.proofs.FitEvents.{not_born, born_next, born_restarted, was_before, begun_fit, none_known, lives_before, lives_fit, opening_fit}
 use Rattle.protocol.proofs.Locks.{Once}
 use Rattle.protocol.proofs.Ops.{Op, on}
 use Rattle.protocol.proofs.Data.{TellsBody}
@@ -60,12 +60,12 @@ module _ {L : Lang} (o : L.Site → Name → Name) (ops : L.Site → Name → Li
       one k (Active v) = tt
       one k (Prepared t i) = (tt, tt)
 
-  -- a new transaction
+  -- a new transaction, or a new refragmentation
   pub began_view : (t : Name) → SameView w.past (w.past ++ Began (next_txn w.desk) ∷ []) t
   began_view t = view_plain w.past (Began (next_txn w.desk) ∷ []) t refl refl refl
 
-  fresh_book : (view : SameView [] (begun w).past (next_txn w.desk)) → BookAt o ops w.sites w.letters (begun w).past (next_txn w.desk) fresh
-  fresh_book view = record {
+  fresh_book : (moves : Bool) (view : SameView [] (begun moves w).past (next_txn w.desk)) → BookAt o ops w.sites w.letters (begun moves w).past (next_txn w.desk) (fresh_as moves)
+  fresh_book moves view = record {
     sent = λ a k e. cc;
     unsent = λ a e. refl;
     free = λ a k drawn owner none. base.unowned a k (λ born. not_born w.desk (subst (Born w.desk) owner born));
@@ -78,8 +78,8 @@ module _ {L : Lang} (o : L.Site → Name → Name) (ops : L.Site → Name → Li
     };
   }
 
-  pub begun_base : Base o ops (begun w)
-  begun_base =
+  pub begun_base : (moves : Bool) → Base o ops (begun moves w)
+  begun_base moves =
       let new = next_txn w.desk in
       let later = w.past ++ Began new ∷ [] in
       let same_phases : phases_of later ≡ phases_of w.past = flat_map-append phased_of w.past (Began new ∷ []) ∙ append-nil (phases_of w.past) in
@@ -87,24 +87,24 @@ module _ {L : Lang} (o : L.Site → Name → Name) (ops : L.Site → Name → Li
       let was = base.unborn t not_ in let more = began_view t in
       record { works_same = more.works_same ∙ was.works_same; statements_same = more.statements_same ∙ was.statements_same; answers_same = more.answers_same ∙ was.answers_same } in
       record {
-        fit = begun_fit o w base.fit;
+        fit = begun_fit o w base.fit moves;
         locked = base.locked;
         data_at = base.data_at;
         tells = base.tells;
         is_sent = base.is_sent;
-        book = put_all same same_law new (Known fresh) w.desk.txn (λ j x. (u : Undecided L) → x ≡ Known u → BookAt o ops w.sites w.letters later j u)
-            (λ u e. subst (BookAt o ops w.sites w.letters later new) (fresh_is u e) (fresh_book (unborn new (not_born w.desk))))
+        book = put_all same same_law new (Known (fresh_as moves)) w.desk.txn (λ j x. (u : Undecided L) → x ≡ Known u → BookAt o ops w.sites w.letters later j u)
+            (λ u e. subst (BookAt o ops w.sites w.letters later new) (fresh_is u e) (fresh_book moves (unborn new (not_born w.desk))))
             (λ j other u e. subst (λ l. BookAt o ops w.sites l later j u) (append-nil w.letters) (books_more [] later j u e (began_view j)));
         told = λ t done. told_view w.past later t (began_view t) (base.told t (was_before o w base.fit t done));
-        unborn = λ t not_. unborn t (λ born. not_ (born_next w.desk t born));
-        unowned = λ a k not_. base.unowned a k (λ born. not_ (born_next w.desk (o a k) born));
+        unborn = λ t not_. unborn t (λ born. not_ (born_next moves w.desk t born));
+        unowned = λ a k not_. base.unowned a k (λ born. not_ (born_next moves w.desk (o a k) born));
         phased = λ t here. let was = base.phased t (subst (In t) same_phases here) in
-            (born_next w.desk t was.0, λ u e. put_all same same_law new (Known fresh) w.desk.txn (λ j x. Born w.desk j → Und w.desk j (λ u. is_voting u.stage ≡ true) → x ≡ Known u → is_voting u.stage ≡ true) (λ born votes f. absurd (not_born w.desk born)) (λ j other born votes f. votes u f) t was.0 was.1 e);
-        voting = λ t u e votes. subst (In t) (sym same_phases) (put_all same same_law new (Known fresh) w.desk.txn (λ j x. x ≡ Known u → In j (phases_of w.past)) (λ f. clash votes (ap (λ (z : Undecided L). is_voting z.stage) (sym (fresh_is u f)))) (λ j other f. base.voting j u f votes) t e);
+            (born_next moves w.desk t was.0, λ u e. put_all same same_law new (Known (fresh_as moves)) w.desk.txn (λ j x. Born w.desk j → Und w.desk j (λ u. is_voting u.stage ≡ true) → x ≡ Known u → is_voting u.stage ≡ true) (λ born votes f. absurd (not_born w.desk born)) (λ j other born votes f. votes u f) t was.0 was.1 e);
+        voting = λ t u e votes. subst (In t) (sym same_phases) (put_all same same_law new (Known (fresh_as moves)) w.desk.txn (λ j x. x ≡ Known u → In j (phases_of w.past)) (λ f. clash votes (ap (λ (z : Undecided L). is_voting z.stage) (sym (fresh_is u f)))) (λ j other f. base.voting j u f votes) t e);
         once = subst Once (sym same_phases) base.once;
       }
     where
-      fresh_is : (u : Undecided L) → (let x : Txn L = Known fresh in x ≡ Known u) → fresh ≡ u
+      fresh_is : (u : Undecided L) → (let x : Txn L = Known (fresh_as moves) in x ≡ Known u) → fresh_as moves ≡ u
       fresh_is u e = cc
 
   -- a restart of the coordinator
@@ -184,7 +184,7 @@ module _ {L : Lang} (o : L.Site → Name → Name) (ops : L.Site → Name → Li
 module _ {L : Lang} (law : IsLawful L) where
   pub opening_base : (whole : L.Whole) (w : World L) → IsOpening whole w → Base (λ a k. k) (λ a k. []) w
   opening_base whole w opening = record {
-    fit = opening_fit law whole w opening;
+    fit = opening_fit whole w opening;
     locked = λ a. record {
       known = λ k e. clash (ap is_dead (opening.visits a k)) e;
       lives = λ k here. absurd (subst (In k) (opening.tickets a) here);

@@ -1,5 +1,5 @@
 -- Small lemmas on tests, lists, names and functions changed at one place.
-use Rattle.std.proofs.Common.{◌≡◌, refl, sym, ap, ◌∙◌, subst, ℕ, suc, ◌==◌, ◌&&◌, ◌||◌, not, Bool, true, false, List, [], ◌∷◌, ◌++◌, map, if◌then◌else◌, Option, Some, None, slice_get, ◌⊎◌, inl, inr, ◌↔◌, true≢false, ⊎_elim, filter, filter_map, flat_map, zero}
+use Rattle.std.proofs.Common.{ap₂, ◌≡◌, refl, sym, ap, ◌∙◌, subst, ℕ, suc, ◌==◌, ◌&&◌, ◌||◌, not, Bool, true, false, List, [], ◌∷◌, ◌++◌, map, if◌then◌else◌, Option, Some, None, slice_get, ◌⊎◌, inl, inr, ◌↔◌, true≢false, ⊎_elim, filter, filter_map, flat_map, zero}
 use Rattle.std.proofs.lemmas.Bool.{eqb-true, eq-eqb}
 use Rattle.std.specs.List.{list_any, list_all, AllByRecursion, cons_option}
 pub use Rattle.protocol.specs.Parts.{In}
@@ -45,6 +45,10 @@ or_none_left false b e = refl
 pub or_none_right : (a b : Bool) → (a || b) ≡ false → b ≡ false
 or_none_right true b e = cc
 or_none_right false b e = e
+
+pub or_false : (b : Bool) → (b || false) ≡ b
+or_false true = refl
+or_false false = refl
 
 pub or_cases : (a b : Bool) → (a || b) ≡ true → (a ≡ true) ⊎ (b ≡ true)
 or_cases true b e = inl refl
@@ -187,3 +191,21 @@ every_said {A} {B} P f (x ∷ xs) all = go (f x) refl (every_said P f xs (λ z y
     go : (o : Option B) → f x ≡ o → Every P (filter_map f xs) → Every P (cons_option o (filter_map f xs))
     go None e rest = rest
     go (Some y) e rest = (all x y (inl refl) e, rest)
+
+-- tests that agree on each item agree on the list
+pub any_same : {A : Type 0} (p q : A → Bool) → ((x : A) → p x ≡ q x) → (xs : List A) → list_any p xs ≡ list_any q xs
+any_same p q same [] = refl
+any_same p q same (x ∷ xs) = ap₂ (λ (a b : Bool). a || b) (same x) (any_same p q same xs)
+
+pub all_same : {A : Type 0} (p q : A → Bool) → ((x : A) → p x ≡ q x) → (xs : List A) → list_all p xs ≡ list_all q xs
+all_same p q same [] = refl
+all_same p q same (x ∷ xs) = ap₂ (λ (a b : Bool). a && b) (same x) (all_same p q same xs)
+
+pub filter_same : {A : Type 0} (p q : A → Bool) (xs : List A) → ((x : A) → In x xs → p x ≡ q x) → filter p xs ≡ filter q xs
+filter_same p q [] same = refl
+filter_same p q (x ∷ xs) same = ap₂ (λ b ys. if b then x ∷ ys else ys) (same x (inl refl)) (filter_same p q xs (λ y here. same y (inr here)))
+
+-- a choice of what is made of both
+pub if_with : {A B : Type 0} (f : A → B) (b : Bool) (x y : A) → f (if b then x else y) ≡ (if b then f x else f y)
+if_with f true x y = refl
+if_with f false x y = refl

@@ -91,12 +91,12 @@ module _ {L : Lang} (law : IsLawful L) (o : L.Site → Name → Name) (sites : L
       told_writing past answer ws left told = record { statements = told.statements; answers = told.answers }
 
   -- rows come
-  pub rows_came : (ops : L.Site → Name → List (Op L)) (letters : List (Letter L)) (own : List (L.Leaf × L.Write)) (ticket : L.Site → Option Name) (a : L.Site) (k : Name) (n : ℕ) (rows : L.Rows) → ticket a ≡ Some k → In (record { site = a; txn = t; body = Rows k n rows }) letters →
-      (asks : List (Ask L)) → Every (AskAt t ticket ops letters own) asks → Every (AskAt t ticket ops letters own) (map (with_rows a n rows) asks)
-  rows_came ops letters own ticket a k n rows mine here [] all = tt
-  rows_came ops letters own ticket a k n rows mine here (q ∷ qs) all = (
-    either_if (AskAt t ticket ops letters own) (awaits a n rows q) (record q { rows = Some rows }) q
-        (λ is. let both = left_true (L.same_site (L.home q.leaf) a && is_numbered q.number n) (is_none q.rows) (left_true (L.same_site (L.home q.leaf) a && is_numbered q.number n && is_none q.rows) (L.well_formed q.leaf rows) is) in
+  pub rows_came : (y : L.Statement) (ops : L.Site → Name → List (Op L)) (letters : List (Letter L)) (own : List (L.Leaf × L.Write)) (ticket : L.Site → Option Name) (a : L.Site) (k : Name) (n : ℕ) (rows : L.Rows) → ticket a ≡ Some k → In (record { site = a; txn = t; body = Rows k n rows }) letters →
+      (asks : List (Ask L)) → Every (AskAt t ticket ops letters own) asks → Every (AskAt t ticket ops letters own) (map (with_rows y a n rows) asks)
+  rows_came y ops letters own ticket a k n rows mine here [] all = tt
+  rows_came y ops letters own ticket a k n rows mine here (q ∷ qs) all = (
+    either_if (AskAt t ticket ops letters own) (awaits y a n rows q) (record q { rows = Some rows }) q
+        (λ is. let both = left_true (L.same_site (L.home q.leaf) a && is_numbered q.number n) (is_none q.rows) (left_true (L.same_site (L.home q.leaf) a && is_numbered q.number n && is_none q.rows) (L.well_formed y q.leaf rows) is) in
         let one = left_true (L.same_site (L.home q.leaf) a) (is_numbered q.number n) both in
         let number = numbered q.number (right_true (L.same_site (L.home q.leaf) a) (is_numbered q.number n) both) in
         record {
@@ -111,7 +111,7 @@ module _ {L : Lang} (law : IsLawful L) (o : L.Site → Name → Name) (sites : L
           );
         })
         (λ other. all.0),
-    rows_came ops letters own ticket a k n rows mine here qs all.1,
+    rows_came y ops letters own ticket a k n rows mine here qs all.1,
   )
     where
       numbered : (m : Option ℕ) → is_numbered m n ≡ true → m ≡ Some n

@@ -5,14 +5,14 @@ use Rattle.protocol.specs.Language.{Lang, IsLawful, Name, same, put}
 use Rattle.protocol.specs.Letter.{Vote, Yes, No, Read, Body, Open, Fetch, Write, Prepare, Commit, Abort, Ticket, Rows, Refused, Voted, Ack, Inquire, Letter, letters_to, is_for_desk}
 use Rattle.protocol.specs.Site.{Visit, Status, Active, on_letter, site_after, said, is_within}
 use Rattle.protocol.specs.Desk.{Choice, Voting, Undecided, Txn, Unknown, Known, Row, Deed, Phased, Committed, Aborted, By_vote, By_store, Why, Commit_call, Transition, stays, is_named, is_undecided, is_short_txn, when, to_prepare, voter_at, voters_of, are_all_in, commits, decides, votes_go, phases, on_commit_call, counts, on_vote, on_request, on_desk_letter, desk_after, is_desk_within, ends_by}
-use Rattle.protocol.specs.World.{World, turned, turns, with_site, addressed, comes, comes_to, called}
+use Rattle.protocol.specs.World.{World, turned, turns, with_site, addressed, comes, comes_to, called, version_after}
 use Rattle.protocol.specs.Client.{first, next, IsQuiet}
 use Rattle.protocol.specs.Parts.{In}
 use Rattle.protocol.specs.VisitPlaces.{at, Unlocked}
 use Rattle.protocol.specs.StatementCourse.{Steady}
 use Rattle.protocol.specs.AfterAbort.{Closed, is_free, LeavingAt, Ending, EndKept, Within}
 use Rattle.protocol.specs.Committing.{VotedBy, Ballot, is_aside, is_asked, has_voted, is_counted, InVote, Committing, in_vote, is_done, is_undone, CommitKept}
-use Rattle.protocol.proofs.Basics.{Every, every_append, every_map, either, either_if, put_all, put_here, same_law, same_refl, if_true, clash, all_in}
+use Rattle.protocol.proofs.Basics.{Every, every_append, every_map, either, either_if, put_all, put_here, same_law, same_refl, if_true, clash, all_in, or_none_left}
 use Rattle.protocol.proofs.Locks.{Once}
 use Rattle.protocol.proofs.Turns.{every_letter}
 use Rattle.protocol.proofs.Queue.{at_append, at_here, at_away}
@@ -71,13 +71,18 @@ module _ {L : Lang} (law : IsLawful L) (once : Once L.sites) (E : Type 0) (t : N
         more : (d : Deed L) → w.past ++ d ∷ [] ≡ before ++ Phased t ∷ d ∷ []
         more d = ap (λ x. x ++ d ∷ []) past ∙ append_assoc before (Phased t ∷ []) (d ∷ [])
 
+        unkept : kept ≡ false → Committing E t before (turned w t (ends_by t (record u { stage = Voting votes }) (Aborted t By_store)))
+        unkept refused = ⊎_elim (λ is. clash is refused) (λ because. is_undone because By_store
+            (subst (λ x. Ending x (turned w t (ends_by t (record u { stage = Voting votes }) (Aborted t By_store)))) (more (Aborted t By_store))
+            (abort_ends u votes w (Aborted t By_store) counted.others counted.among (λ a. ballot_leaving E (w.sites a).status (u.visited a) (u.ticket a) (votes a) (at a w.letters) (counted.ballots a))))) excuse
+
         go : (voters : List (L.Site × Name)) → voters_of u votes ≡ voters → Committing E t before (turned w t (decides t (record u { stage = Voting votes }) kept voters))
-        go [] are = is_done (record { decided = decided_others Unknown refl; leaving = commit_ends_at [] are; past = more (Committed t) })
+        go [] are = either_if (λ turn. Committing E t before (turned w t turn)) (kept || not u.moves) _ _
+            (λ is. is_done (record { decided = decided_others Unknown refl; leaving = commit_ends_at [] are; past = more (Committed t) }))
+            (λ refused. unkept (or_none_left kept (not u.moves) refused))
         go (v ∷ voters) are = either_if (λ turn. Committing E t before (turned w t turn)) kept _ _
             (λ is. is_done (record { decided = decided_others (Row (v ∷ voters) []) refl; leaving = commit_ends_at (v ∷ voters) are; past = more (Committed t) }))
-            (λ refused. ⊎_elim (λ is. clash is refused) (λ because. is_undone because By_store
-            (subst (λ x. Ending x (turned w t (ends_by t (record u { stage = Voting votes }) (Aborted t By_store)))) (more (Aborted t By_store))
-            (abort_ends u votes w (Aborted t By_store) counted.others counted.among (λ a. ballot_leaving E (w.sites a).status (u.visited a) (u.ticket a) (votes a) (at a w.letters) (counted.ballots a))))) excuse)
+            unkept
 
   -- the first phase goes on
   module _ (u : Undecided L) (votes : L.Site → Option Vote) (w : World L) (counted : Counted u votes w) where
@@ -102,7 +107,7 @@ module _ {L : Lang} (law : IsLawful L) (once : Once L.sites) (E : Type 0) (t : N
     votes_within kept within = turn_within w.desk t (votes_go t u votes kept).txn (λ was. now_short (counted.short was) kept) (λ is. counted.is_known) within
       where
         decided_short : (kept : Bool) (voters : List (L.Site × Name)) → is_short_txn (decides t (record u { stage = Voting votes }) kept voters).txn ≡ true
-        decided_short kept [] = refl
+        decided_short kept [] = either (λ (turn : Transition L). is_short_txn turn.txn ≡ true) (kept || not u.moves) _ _ refl refl
         decided_short true (v ∷ voters) = refl
         decided_short false (v ∷ voters) = refl
 
@@ -159,8 +164,8 @@ module _ {L : Lang} (law : IsLawful L) (once : Once L.sites) (E : Type 0) (t : N
     asked_world : (P : World L → Type 0) → P (turned asking t (votes_go t u (λ a. None) true)) → P (turned w t (phases t u))
     asked_world P holds =
         let turn = votes_go t u (λ a. None) true in
-        subst (λ x. P (record { desk = desk_after w.desk t turn.txn; sites = w.sites; letters = x; past = w.past ++ (Phased t ∷ turn.deeds) })) (ap (λ x. (w.letters ++ out) ++ x) (none_out u) ∙ append-nil (w.letters ++ out))
-        (subst (λ x. P (record { desk = desk_after w.desk t turn.txn; sites = w.sites; letters = (w.letters ++ out) ++ turn.letters; past = x })) (append_assoc w.past (Phased t ∷ []) turn.deeds) holds)
+        subst (λ x. P (record { desk = desk_after w.desk t turn.txn; sites = w.sites; letters = x; past = w.past ++ (Phased t ∷ turn.deeds); version = version_after w.version (w.desk.txn t) t (Phased t ∷ turn.deeds) })) (ap (λ x. (w.letters ++ out) ++ x) (none_out u) ∙ append-nil (w.letters ++ out))
+        (subst (λ x. P (record { desk = desk_after w.desk t turn.txn; sites = w.sites; letters = (w.letters ++ out) ++ turn.letters; past = x; version = version_after w.version (w.desk.txn t) t turn.deeds })) (append_assoc w.past (Phased t ∷ []) turn.deeds) holds)
 
     pub commit_starts : Within w → w.past ≡ before → Committing E t before (called w t choice Commit_call)
     commit_starts within past =

@@ -130,13 +130,16 @@ module _ {L : Lang} (law : IsLawful L) where
           not_same : (j : Name) → same j t ≡ false → same t j ≡ false
           not_same j other = ⊎_elim (λ is. clash ((same_law j t).1 (sym ((same_law t j).0 is))) other) (λ no_. no_) (by_test (same t j))
 
+      unkept_fine : (letters : List (Letter L)) (before : List (Deed L)) → ((j : Name) → is_committed before j ≡ false) → TurnFine o w t (record { txn = Unknown; letters = letters; deeds = before ++ Aborted t By_store ∷ [] })
+      unkept_fine letters before none = ends_fine o w t fit u letters (before ++ Aborted t By_store ∷ []) e (λ j. list_any-append (commits_it j) before (Aborted t By_store ∷ []) ∙ ap (λ b. b || false) (none j))
+
       commits_or_ends : (kept : Bool) (letters : List (Letter L)) (before : List (Deed L)) → ((j : Name) → is_committed before j ≡ false) → ((a : L.Site) (k : Name) → Own a k u → Own a k v) → are_all_in v votes ≡ true →
           (xs : List (L.Site × Name)) → voters_of v votes ≡ xs → TurnFine o w t (record { txn = (decides t v kept xs).txn; letters = letters; deeds = before ++ (decides t v kept xs).deeds })
-      commits_or_ends kept letters before none own all [] f = commit_fine Unknown letters before none own all (λ z g. cc) (λ ws acked g. cc) (λ y here. absurd (subst (In y) f here))
+      commits_or_ends kept letters before none own all [] f = either (λ (turn : Transition L). TurnFine o w t (record { txn = turn.txn; letters = letters; deeds = before ++ turn.deeds })) (kept || not v.moves) _ _
+          (commit_fine Unknown letters before none own all (λ z g. cc) (λ ws acked g. cc) (λ y here. absurd (subst (In y) f here))) (unkept_fine letters before none)
       commits_or_ends true letters before none own all (x ∷ xs) f = commit_fine (Row (x ∷ xs) []) letters before none own all (λ z g. cc)
           (λ ws acked g. (voters_is ws acked (x ∷ xs) [] g ∙ sym f, acked_is ws acked (x ∷ xs) [] g)) (λ y here. (x ∷ xs, [], refl, subst (In y) f here))
-      commits_or_ends false letters before none own all (x ∷ xs) f = ends_fine o w t fit u letters (before ++ Aborted t By_store ∷ []) e
-          (λ j. list_any-append (commits_it j) before (Aborted t By_store ∷ []) ∙ ap (λ b. b || false) (none j))
+      commits_or_ends false letters before none own all (x ∷ xs) f = unkept_fine letters before none
 
   -- a vote more, or the first phase that begins
   module _ (o : L.Site → Name → Name) (w : World L) (t : Name) (fit : Fit o w) (u : Undecided L) (e : w.desk.txn t ≡ Known u) (v : Undecided L) (votes : L.Site → Option Vote) (known : KnownAt o w.sites w.letters t (record v { stage = Voting votes })) where
@@ -149,7 +152,8 @@ module _ {L : Lang} (law : IsLawful L) where
     -- the letters of a decision
     decided_letters : (kept : Bool) → are_all_in v votes ≡ true → ((a : L.Site) (k : Name) → Own a k v → Own a k u) → (xs : List (L.Site × Name)) → voters_of v votes ≡ xs →
         Every (Fits o (desk_after w.desk t (decides t (record v { stage = Voting votes }) kept xs).txn) (w.past ++ (decides t (record v { stage = Voting votes }) kept xs).deeds) w.sites) (decides t (record v { stage = Voting votes }) kept xs).letters
-    decided_letters kept all own [] f = tt
+    decided_letters kept all own [] f = either (λ (turn : Transition L). Every (Fits o (desk_after w.desk t turn.txn) (w.past ++ turn.deeds) w.sites) turn.letters) (kept || not v.moves) _ _ tt
+        (ends_letters o w t fit u e (record v { stage = Voting votes }) (Aborted t By_store) own (λ j. refl))
     decided_letters true all own (x ∷ xs) f =
         let d = desk_after w.desk t (Row (x ∷ xs) []) in
         let are = subst (Every (λ y. (votes y.0 ≡ Some Yes) × Own y.0 y.1 v)) f (voters_are o w t fit u e (record v { stage = Voting votes }) votes known refl) in

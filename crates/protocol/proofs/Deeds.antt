@@ -1,5 +1,5 @@
 -- What the deeds of one more transaction add to those that were committed, to statements and to answers.
-use Rattle.std.proofs.Common.{◌≡◌, refl, sym, ap, ap₂, ◌∙◌, subst, ◌||◌, Bool, true, false, List, [], ◌∷◌, ◌++◌, map, filter, if◌then◌else◌, inl, inr, ⊎_elim, append-nil, arith}
+use Rattle.std.proofs.Common.{◌≡◌, refl, sym, ap, ap₂, ◌∙◌, subst, ◌||◌, Bool, true, false, List, [], ◌∷◌, ◌++◌, map, filter, inl, inr, ⊎_elim, append-nil, arith}
 use Rattle.std.proofs.lemmas.Grind.{flat_map-append}
 use Rattle.std.proofs.lemmas.List.Elements.{filter-append}
 use Rattle.std.proofs.lemmas.List.Folds.{list_any-append}
@@ -12,7 +12,7 @@ use Rattle.protocol.specs.Client.{IsReached}
 use Rattle.protocol.specs.AfterAbort.{Fruitless}
 use Rattle.protocol.specs.Parts.{Work}
 use Rattle.protocol.specs.ClientLaw.{log}
-use Rattle.protocol.proofs.Basics.{Every, In, every_more, by_test, same_law, same_refl, if_true, if_false}
+use Rattle.protocol.proofs.Basics.{Every, In, every_more, by_test, same_law, same_refl, if_true, if_false, or_false, filter_same}
 use Rattle.protocol.proofs.Locks.{from_filter}
 use Rattle.protocol.proofs.Fits.{Born}
 use Rattle.protocol.proofs.Works.{txn_of, view_other}
@@ -21,10 +21,6 @@ use Rattle.protocol.proofs.InvariantEvents.{run_deep, opening_deep}
 use Rattle.protocol.proofs.ForgottenLetters.{behind}
 
 -- filters that agree on a list
-filter_same : {A : Type 0} (p q : A → Bool) (xs : List A) → ((x : A) → In x xs → p x ≡ q x) → filter p xs ≡ filter q xs
-filter_same p q [] same_ = refl
-filter_same p q (x ∷ xs) same_ = ap₂ (λ b ys. if b then x ∷ ys else ys) (same_ x (inl refl)) (filter_same p q xs (λ y here. same_ y (inr here)))
-
 filter_none : {A : Type 0} (p : A → Bool) (xs : List A) → Every (λ x. p x ≡ false) xs → filter p xs ≡ []
 filter_none p [] none = refl
 filter_none p (x ∷ xs) none = if_false (p x) (x ∷ filter p xs) (filter p xs) none.0 ∙ filter_none p xs none.1
@@ -93,10 +89,6 @@ module _ {L : Lang} where
 
     others_committed : (j : Name) → In j (phases_of past) → is_committed (past ++ deeds) j ≡ is_committed past j
     others_committed j here = list_any-append (commits_it j) past deeds ∙ ap (λ b. is_committed past j || b) (no_commits t j deeds (apart j here) own) ∙ or_false (is_committed past j)
-      where
-        or_false : (b : Bool) → (b || false) ≡ b
-        or_false true = refl
-        or_false false = refl
 
     -- the committed ones before, and those of these deeds
     pub committed_more : committed (past ++ deeds) ≡ committed past ++ filter (is_committed (past ++ deeds)) (phases_of deeds)

@@ -1,23 +1,20 @@
 -- Each request and each letter at the coordinator keeps what letters, prepared rows and transactions say.
-use Rattle.std.proofs.Common.{◌≡◌, refl, sym, ap, ◌∙◌, subst, ℕ, Bool, true, false, List, [], ◌∷◌, ◌++◌, map, inl, ⊎_elim, Option, Some, None, is_some, is_none, not, ◌&&◌}
-use Rattle.std.specs.List.{list_any, list_all}
+use Rattle.std.proofs.Common.{◌≡◌, refl, sym, ap, ◌∙◌, subst, ℕ, Bool, true, false, List, [], ◌∷◌, ◌++◌, map, inl, ⊎_elim, Option, Some, None}
+use Rattle.std.specs.List.{list_any}
 use Rattle.protocol.specs.Language.{Lang, IsLawful, Name, same, put}
-use Rattle.protocol.specs.Letter.{Yes, No, Read, Vote, Body, Open, Fetch, Write, Prepare, Commit, Abort, Ticket, Rows, Refused, Voted, Ack, Inquire, Letter}
+use Rattle.protocol.specs.Letter.{Yes, No, Read, Vote, Body, Prepare, Commit, Abort, Ticket, Voted, Ack, Letter}
 use Rattle.protocol.specs.Site.{is_dead}
-use Rattle.protocol.specs.Desk.{Ask, Stage, Idle, Reading, Writing, Voting, Undecided, Txn, Unknown, Known, Row, Choice, Deed, Stated, Worked, Phased, Aborted, Rolled_back, By_vote, By_refusal, Given_up, Transition, Request, State, Commit_call, Rollback, Give_up, desk_after, stays, is_named, states, ends_by, phases, votes_go, decides, voters_of, are_all_in, when, to_prepare, on_state, on_commit_call, on_rollback, on_request, ticket_goes, on_ticket, with_rows, on_rows, on_refused, counts, on_vote, on_known, on_unknown, is_pair, are_acked, on_ack, on_row, on_desk_letter}
+use Rattle.protocol.specs.Desk.{Ask, Stage, Idle, Reading, Voting, Undecided, Txn, Unknown, Known, Row, Choice, Deed, Stated, Worked, Phased, Aborted, Rolled_back, By_vote, By_refusal, Given_up, Transition, Request, desk_after, stays, states, works, ends_by, phases, votes_go, decides, voters_of, are_all_in, when, to_prepare, on_request, with_rows, is_pair, are_acked, on_desk_letter}
 use Rattle.protocol.specs.World.{World, is_site}
 use Rattle.protocol.specs.Serial.{is_committed}
-use Rattle.protocol.proofs.Basics.{every_append, Every, In, put_all, every_in, clash, same_law, either, either_if, some_is, found, all_in, left_true, right_true}
+use Rattle.protocol.proofs.DeskTable.{Cause, asked, came, Turned, ticketed, rests, accepts, begins_phase, rolls_back, is_given_up, takes_ticket, fetches, writes, turns_away, takes_rows, evaluates, is_refused, counts_no, counts_vote, presumes_abort, tells_abort, tells_commit, counts_ack, lets_row_go, request_turned, letter_turned}
+use Rattle.protocol.proofs.Basics.{every_append, Every, In, put_all, every_in, clash, same_law, either, some_is, found, all_in, left_true, right_true}
 use Rattle.protocol.proofs.Fits.{Drawn, Born, is_voting, Own, OwnVoting, IsCommitted, FitsBody, Fits, VoteAt, KnownAt, Gone, Votes, Fit}
 use Rattle.protocol.proofs.SiteFits.{not_prepared}
 use Rattle.protocol.proofs.DeskFits.{Grows, grows_same, TurnFine, turn_later, letters_desk, split}
 use Rattle.protocol.proofs.Turns.{known_is, und_put, still_fine, goes_fine, ends_fine, not_yet, every_letter}
 use Rattle.protocol.proofs.Deciding.{voters_is, acked_is, ends_letters, votes_fine, votes_letters}
 use Rattle.protocol.proofs.Going.{Good, known_at, grows_to, first_none, first_opens, asks_good, writes_good}
-
-pub named_is : (m : Option Name) (k : Name) → is_named m k ≡ true → m ≡ Some k
-named_is None k e = cc
-named_is (Some j) k e = ap Some ((same_law j k).0 e)
 
 module _ {L : Lang} where
   pub votes_is : (f g : L.Site → Option Vote) → (let s : Stage L = Voting f in s ≡ Voting g) → f ≡ g
@@ -54,12 +51,6 @@ module _ {L : Lang} where
       state_good s choice [] quiet = let own = fit.known t u e in let leaves = map (λ (x : L.Leaf × L.Write). x.0) choice.1 in writes_good law o w t fit u e quiet u (grows_same u) own _ _ (first_opens law o w t fit u e quiet u (grows_same u) own leaves) choice.0 choice.1 (λ deeds. Stated t s ∷ Worked t s [] choice ∷ deeds) (λ j. refl) (λ j. refl)
       state_good s choice (q ∷ qs) quiet = let own = fit.known t u e in let leaves = map (λ (q : Ask L). q.leaf) (q ∷ qs) in asks_good law o w t fit u e quiet u (grows_same u) own _ _ (first_opens law o w t fit u e quiet u (grows_same u) own leaves) s (q ∷ qs) (Stated t s ∷ []) (λ j. refl)
 
-      on_state_good : (s : L.Statement) (choice : Choice L) (stage : Stage L) → u.stage ≡ stage → Good o w t (on_state t u s choice stage)
-      on_state_good s choice Idle f = state_good s choice _ (ap is_voting f)
-      on_state_good s choice (Reading r asks) f = same_good
-      on_state_good s choice (Writing answer ws) f = same_good
-      on_state_good s choice (Voting votes) f = same_good
-
       none_known : KnownAt o w.sites w.letters t (record u { stage = Voting (λ a. None) })
       none_known = record {
         tickets = (fit.known t u e).tickets;
@@ -93,36 +84,6 @@ module _ {L : Lang} where
                 ));
           }
 
-      rollback_good : (stage : Stage L) → u.stage ≡ stage → Good o w t (on_rollback t u stage)
-      rollback_good Idle f = ends_good u (Rolled_back t) (λ a k is. is) (λ j. refl)
-      rollback_good (Reading s asks) f = ends_good u (Rolled_back t) (λ a k is. is) (λ j. refl)
-      rollback_good (Writing answer ws) f = ends_good u (Rolled_back t) (λ a k is. is) (λ j. refl)
-      rollback_good (Voting votes) f = same_good
-
-      commit_call_good : (stage : Stage L) → u.stage ≡ stage → Good o w t (on_commit_call t u stage)
-      commit_call_good Idle f = phases_good f
-      commit_call_good (Reading s asks) f = same_good
-      commit_call_good (Writing answer ws) f = same_good
-      commit_call_good (Voting votes) f = same_good
-
-      known_request : (choice : Choice L) (request : Request L) → Good o w t (on_request t choice request (Known u))
-      known_request choice (State s) = on_state_good s choice u.stage refl
-      known_request choice Commit_call = commit_call_good u.stage refl
-      known_request choice Rollback = rollback_good u.stage refl
-      known_request choice Give_up = ends_good u (Aborted t Given_up) (λ a k is. is) (λ j. refl)
-
-    -- a request
-    pub request_good : (choice : Choice L) (request : Request L) (x : Txn L) → w.desk.txn t ≡ x → Good o w t (on_request t choice request x)
-    request_good choice request (Known u) e = known_request u e choice request
-    request_good choice (State s) Unknown e = still_good Unknown [] e tt
-    request_good choice Commit_call Unknown e = still_good Unknown [] e tt
-    request_good choice Rollback Unknown e = still_good Unknown [] e tt
-    request_good choice Give_up Unknown e = still_good Unknown [] e tt
-    request_good choice (State s) (Row vs acked) e = still_good (Row vs acked) [] e tt
-    request_good choice Commit_call (Row vs acked) e = still_good (Row vs acked) [] e tt
-    request_good choice Rollback (Row vs acked) e = still_good (Row vs acked) [] e tt
-    request_good choice Give_up (Row vs acked) e = still_good (Row vs acked) [] e tt
-
     module _ (a : L.Site) where
       module _ (u : Undecided L) (e : w.desk.txn t ≡ Known u) where
         -- with a first ticket
@@ -146,37 +107,20 @@ module _ {L : Lang} where
               },
             )
 
-        ticket_goes_good : (v : Undecided L) (choice : Choice L) → Grows u v → KnownAt o w.sites w.letters t v → (stage : Stage L) → u.stage ≡ stage → Good o w t (ticket_goes t v choice stage)
-        ticket_goes_good v choice grows known Idle f = record { fine = goes_fine o w t fit u v [] [] e grows known (λ j. refl); letters = tt }
-        ticket_goes_good v choice grows known (Reading s asks) f = asks_good law o w t fit u e (ap is_voting f) v grows known v.visited [] (first_none law o w t fit u e (ap is_voting f) v grows known) s asks [] (λ j. refl)
-        ticket_goes_good v choice grows known (Writing answer ws) f = writes_good law o w t fit u e (ap is_voting f) v grows known v.visited [] (first_none law o w t fit u e (ap is_voting f) v grows known) answer ws (λ deeds. deeds) (λ j. refl) (λ j. refl)
-        ticket_goes_good v choice grows known (Voting votes) f = record { fine = goes_fine o w t fit u v [] [] e grows known (λ j. refl); letters = tt }
-
-        ticket_good : (k : Name) (choice : Choice L) → FitsBody o w.desk w.past a (w.sites a) t (Ticket k) → (m : Option Name) → u.ticket a ≡ m → Good o w t (on_ticket t u a k choice m)
-        ticket_good k choice here None f = let both = with_ticket k f here in ticket_goes_good (record u { ticket = put L.same_site a (Some k) u.ticket }) choice both.0 both.1 u.stage refl
-        ticket_good k choice here (Some j) f = either_if (Good o w t) (same j k) _ _ (λ is. same_good u e)
-            (λ other. still_good (Known u) (record { site = a; txn = t; body = Abort k } ∷ []) e
-            ((fit.born t u e, (here.0, here.1, (λ v g. (j, subst (λ x. x.ticket a ≡ Some j) (known_is u v (sym e ∙ g)) f, other)), λ done. absurd (not_yet o w t fit u e done))), tt))
-
-        rows_good : (n : ℕ) (rows : L.Rows) (choice : Choice L) (stage : Stage L) → u.stage ≡ stage → Good o w t (on_rows t u a n rows choice stage)
-        rows_good n rows choice Idle f = same_good u e
-        rows_good n rows choice (Writing answer ws) f = same_good u e
-        rows_good n rows choice (Voting votes) f = same_good u e
-        rows_good n rows choice (Reading s asks) f =
-            let more = map (with_rows a n rows) asks in
-            either (Good o w t) (list_all (λ (q : Ask L). is_some q.rows) more) _ _
-            (let own = fit.known t u e in let leaves = map (λ (x : L.Leaf × L.Write). x.0) choice.1 in writes_good law o w t fit u e (ap is_voting f) u (grows_same u) own _ _ (first_opens law o w t fit u e (ap is_voting f) u (grows_same u) own leaves) choice.0 choice.1 (λ deeds. Worked t s more choice ∷ deeds) (λ j. refl) (λ j. refl))
-            (record {
+        rows_good : (n : ℕ) (rows : L.Rows) (s : L.Statement) (asks : List (Ask L)) → u.stage ≡ Reading s asks → Good o w t (stays (Known (record u { stage = Reading s (map (with_rows s a n rows) asks) })))
+        rows_good n rows s asks f =
+            let more = map (with_rows s a n rows) asks in
+            record {
               fine = goes_fine o w t fit u (record u { stage = Reading s more }) [] [] e (grows_to law o w t fit u e (ap is_voting f) u (grows_same u) (fit.known t u e) u.visited u.sent (Reading s more) (λ b is. is))
                   (known_at law o w t fit u e (ap is_voting f) u (grows_same u) (fit.known t u e) u.visited u.sent (Reading s more) (λ b is. is) refl) (λ j. refl);
               letters = tt;
-            })
+            }
 
-        refused_good : (stage : Stage L) → Good o w t (on_refused t u stage)
-        refused_good Idle = ends_good u e u (Aborted t By_refusal) (λ b k is. is) (λ j. refl)
-        refused_good (Reading s asks) = ends_good u e u (Aborted t By_refusal) (λ b k is. is) (λ j. refl)
-        refused_good (Writing answer ws) = ends_good u e u (Aborted t By_refusal) (λ b k is. is) (λ j. refl)
-        refused_good (Voting votes) = same_good u e
+        works_good : (s : L.Statement) (asks : List (Ask L)) (choice : Choice L) → is_voting u.stage ≡ false → Good o w t (works t u s asks choice)
+        works_good s asks choice quiet =
+            let own = fit.known t u e in
+            let leaves = map (λ (x : L.Leaf × L.Write). x.0) choice.1 in
+            writes_good law o w t fit u e quiet u (grows_same u) own _ _ (first_opens law o w t fit u e quiet u (grows_same u) own leaves) choice.0 choice.1 (λ deeds. Worked t s asks choice ∷ deeds) (λ j. refl) (λ j. refl)
 
         module _ (votes : L.Site → Option Vote) (stage : u.stage ≡ Voting votes) (k : Name) (own : Own a k u) where
           voted_known : (x : Vote) → VoteAt (w.sites a) t k x → ((x ≡ No) → ⊥) → In (record { site = a; txn = t; body = Voted k x }) w.letters → KnownAt o w.sites w.letters t (record u { stage = Voting (put L.same_site a (Some x) votes) })
@@ -203,31 +147,6 @@ module _ {L : Lang} where
                 letters = votes_letters law o w t fit u e u (put L.same_site a (Some x) votes) known kept (λ b j is. is);
               }
 
-          counts_good : (kept : Bool) (x : Vote) → FitsBody o w.desk w.past a (w.sites a) t (Voted k x) → In (record { site = a; txn = t; body = Voted k x }) w.letters → Good o w t (counts t u a votes kept x)
-          counts_good kept Yes here there = votes_good kept Yes (here.2.1 u e) (λ is. cc) there
-          counts_good kept No here there = ends_good u e (record u { stage = Voting (put L.same_site a (Some No) votes) }) (Aborted t By_vote) (λ b j is. is) (λ j. refl)
-          counts_good kept Read here there = votes_good kept Read here.2.0 (λ is. cc) there
-
-        vote_good : (kept : Bool) (k : Name) (x : Vote) → Own a k u → FitsBody o w.desk w.past a (w.sites a) t (Voted k x) → In (record { site = a; txn = t; body = Voted k x }) w.letters → (stage : Stage L) → u.stage ≡ stage → Good o w t (on_vote t u a kept x stage)
-        vote_good kept k x own here there Idle f = same_good u e
-        vote_good kept k x own here there (Reading s asks) f = same_good u e
-        vote_good kept k x own here there (Writing answer ws) f = same_good u e
-        vote_good kept k x own here there (Voting votes) f = either (Good o w t) (is_none (votes a)) _ _ (counts_good votes f k own kept x here there) (same_good u e)
-
-        known_good : (kept : Bool) (choice : Choice L) (b : Body L) → FitsBody o w.desk w.past a (w.sites a) t b → In (record { site = a; txn = t; body = b }) w.letters → Good o w t (on_known t u a kept choice b)
-        known_good kept choice Open here there = same_good u e
-        known_good kept choice (Fetch k op g q) here there = same_good u e
-        known_good kept choice (Write k op g x) here there = same_good u e
-        known_good kept choice (Prepare k n) here there = same_good u e
-        known_good kept choice (Commit k) here there = same_good u e
-        known_good kept choice (Abort k) here there = same_good u e
-        known_good kept choice (Ticket k) here there = ticket_good k choice here (u.ticket a) refl
-        known_good kept choice (Rows k n rows) here there = either (Good o w t) (is_named (u.ticket a) k) _ _ (rows_good n rows choice u.stage refl) (same_good u e)
-        known_good kept choice (Refused k reason) here there = either (Good o w t) (is_named (u.ticket a) k) _ _ (refused_good u.stage) (same_good u e)
-        known_good kept choice (Voted k x) here there = either_if (Good o w t) (is_named (u.ticket a) k) _ _ (λ is. vote_good kept k x (named_is (u.ticket a) k is) here there u.stage refl) (λ other. same_good u e)
-        known_good kept choice (Ack k) here there = same_good u e
-        known_good kept choice (Inquire k) here there = same_good u e
-
       -- an unknown transaction hears Abort; nothing of it is prepared if it was committed
       abort_unknown : (k : Name) → w.desk.txn t ≡ Unknown → Born w.desk t → Drawn (w.sites a) k → o a k ≡ t → Fits o w.desk w.past w.sites (record { site = a; txn = t; body = Abort k })
       abort_unknown k e born drawn owner = (
@@ -243,20 +162,6 @@ module _ {L : Lang} where
               let g : Unknown ≡ Row v.0 v.1 = sym e ∙ subst (λ n. w.desk.txn n ≡ Row v.0 v.1) is v.2 in cc),
         ),
       )
-
-      unknown_good : (b : Body L) → w.desk.txn t ≡ Unknown → Born w.desk t → FitsBody o w.desk w.past a (w.sites a) t b → Good o w t (on_unknown t a b)
-      unknown_good Open e born here = still_good Unknown [] e tt
-      unknown_good (Fetch k op g q) e born here = still_good Unknown [] e tt
-      unknown_good (Write k op g x) e born here = still_good Unknown [] e tt
-      unknown_good (Prepare k n) e born here = still_good Unknown [] e tt
-      unknown_good (Commit k) e born here = still_good Unknown [] e tt
-      unknown_good (Abort k) e born here = still_good Unknown [] e tt
-      unknown_good (Ticket k) e born here = still_good Unknown (record { site = a; txn = t; body = Abort k } ∷ []) e (abort_unknown k e born here.0 here.1, tt)
-      unknown_good (Rows k n rows) e born here = still_good Unknown [] e tt
-      unknown_good (Refused k reason) e born here = still_good Unknown [] e tt
-      unknown_good (Voted k x) e born here = still_good Unknown [] e tt
-      unknown_good (Ack k) e born here = still_good Unknown [] e tt
-      unknown_good (Inquire k) e born here = still_good Unknown (record { site = a; txn = t; body = Abort k } ∷ []) e (abort_unknown k e born here.0 here.1, tt)
 
       module _ (vs acked : List (L.Site × Name)) (e : w.desk.txn t ≡ Row vs acked) where
         row_acks : (new : List (L.Site × Name)) → Every (Gone w.sites) new → TurnFine o w t (stays (Row vs new))
@@ -289,34 +194,50 @@ module _ {L : Lang} where
               clash (subst (λ n. is_dead ((w.sites b).status n) ≡ true) name (subst (λ c. is_dead ((w.sites c).status x.0.1) ≡ true) site dead.1)) (ap is_dead row);
         }
 
-        row_same : Good o w t (stays (Row vs acked))
-        row_same = still_good (Row vs acked) [] e tt
+        more_acked : (k : Name) → FitsBody o w.desk w.past a (w.sites a) t (Ack k) → Every (Gone w.sites) (acked ++ (a, k) ∷ [])
+        more_acked k here = every_append (Gone w.sites) acked ((a, k) ∷ []) (fit.rows t vs acked e).1 ((here.0, here.2), tt)
 
-        ack_good : (kept : Bool) (k : Name) → FitsBody o w.desk w.past a (w.sites a) t (Ack k) → Good o w t (on_ack vs acked (a, k) kept)
-        ack_good kept k here =
-            let more : Every (Gone w.sites) (acked ++ (a, k) ∷ []) = every_append (Gone w.sites) acked ((a, k) ∷ []) (fit.rows t vs acked e).1 ((here.0, here.2), tt) in
-            either (Good o w t) (list_any (is_pair L a k) vs && not (list_any (is_pair L a k) acked)) _ _
-            (either_if (Good o w t) (are_acked L vs (acked ++ (a, k) ∷ [])) _ _
-            (λ all. either (Good o w t) kept _ _ (record { fine = row_goes (acked ++ (a, k) ∷ []) more all; letters = tt }) row_same)
-            (λ some. record { fine = row_acks (acked ++ (a, k) ∷ []) more; letters = tt }))
-            row_same
+    -- a vote fits a voting transaction's site
+    vote_at_site : (a : L.Site) (k : Name) (u : Undecided L) → w.desk.txn t ≡ Known u → (v : Vote) → FitsBody o w.desk w.past a (w.sites a) t (Voted k v) → ((v ≡ No) → ⊥) → VoteAt (w.sites a) t k v
+    vote_at_site a k u e Yes here not_no = here.2.1 u e
+    vote_at_site a k u e No here not_no = absurd (not_no refl)
+    vote_at_site a k u e Read here not_no = here.2.0
 
-        row_good : (kept : Bool) (b : Body L) → Born w.desk t → FitsBody o w.desk w.past a (w.sites a) t b → Good o w t (on_row t vs acked a kept b)
-        row_good kept Open born here = row_same
-        row_good kept (Fetch k op g q) born here = row_same
-        row_good kept (Write k op g x) born here = row_same
-        row_good kept (Prepare k n) born here = row_same
-        row_good kept (Commit k) born here = row_same
-        row_good kept (Abort k) born here = row_same
-        row_good kept (Ticket k) born here = row_same
-        row_good kept (Rows k n rows) born here = row_same
-        row_good kept (Refused k reason) born here = row_same
-        row_good kept (Voted k x) born here = row_same
-        row_good kept (Ack k) born here = ack_good kept k here
-        row_good kept (Inquire k) born here = still_good (Row vs acked) (record { site = a; txn = t; body = Commit k } ∷ []) e ((born, (here.0, here.1, (fit.rows t vs acked e).0, here.2)), tt)
+    -- what is known of what a turn comes of
+    abbrev Comes : Cause L → Type 0
+    Comes (asked request) = Unit {0}
+    Comes (came a kept b) = Born w.desk t × FitsBody o w.desk w.past a (w.sites a) t b × In (record { site = a; txn = t; body = b }) w.letters
 
-      -- a letter from a site
-      pub letter_good : (kept : Bool) (choice : Choice L) (b : Body L) (x : Txn L) → w.desk.txn t ≡ x → Born w.desk t → FitsBody o w.desk w.past a (w.sites a) t b → In (record { site = a; txn = t; body = b }) w.letters → Good o w t (on_desk_letter t a kept choice b x)
-      letter_good kept choice b Unknown e born here there = unknown_good b e born here
-      letter_good kept choice b (Known u) e born here there = known_good u e kept choice b here there
-      letter_good kept choice b (Row vs acked) e born here there = row_good vs acked e kept b born here
+    turned_good : (choice : Choice L) (c : Cause L) (x : Txn L) (turn : Transition L) → w.desk.txn t ≡ x → Comes c → Turned t choice c x turn → Good o w t turn
+    turned_good choice c x turn e comes (rests d y) = still_good y [] e tt
+    turned_good choice c x turn e comes (accepts u s idle) = state_good u e s choice _ (ap is_voting idle)
+    turned_good choice c x turn e comes (begins_phase u idle) = phases_good u e idle
+    turned_good choice c x turn e comes (rolls_back u calm) = ends_good u e u (Rolled_back t) (λ a k is. is) (λ j. refl)
+    turned_good choice c x turn e comes (is_given_up u) = ends_good u e u (Aborted t Given_up) (λ a k is. is) (λ j. refl)
+    turned_good choice c x turn e comes (takes_ticket u a kept k free) = let both = with_ticket a u e k free comes.1 in record { fine = goes_fine o w t fit u (ticketed u a k) [] [] e both.0 both.1 (λ j. refl); letters = tt }
+    turned_good choice c x turn e comes (fetches u a kept k s asks free stage) =
+        let both = with_ticket a u e k free comes.1 in
+        asks_good law o w t fit u e (ap is_voting stage) (ticketed u a k) both.0 both.1 u.visited [] (first_none law o w t fit u e (ap is_voting stage) (ticketed u a k) both.0 both.1) s asks [] (λ j. refl)
+    turned_good choice c x turn e comes (writes u a kept k answer ws free stage) =
+        let both = with_ticket a u e k free comes.1 in
+        writes_good law o w t fit u e (ap is_voting stage) (ticketed u a k) both.0 both.1 u.visited [] (first_none law o w t fit u e (ap is_voting stage) (ticketed u a k) both.0 both.1) answer ws (λ deeds. deeds) (λ j. refl) (λ j. refl)
+    turned_good choice c x turn e comes (turns_away u a kept k j own other) = still_good (Known u) (record { site = a; txn = t; body = Abort k } ∷ []) e
+        ((fit.born t u e, (comes.1.0, comes.1.1, (λ v g. (j, subst (λ x. x.ticket a ≡ Some j) (known_is u v (sym e ∙ g)) own, other)), λ done. absurd (not_yet o w t fit u e done))), tt)
+    turned_good choice c x turn e comes (takes_rows u a kept k n rows s asks own stage) = rows_good a u e n rows s asks stage
+    turned_good choice c x turn e comes (evaluates u a kept k n rows s asks own stage all) = works_good a u e s (map (with_rows s a n rows) asks) choice (ap is_voting stage)
+    turned_good choice c x turn e comes (is_refused u a kept k reason own calm) = ends_good u e u (Aborted t By_refusal) (λ b k is. is) (λ j. refl)
+    turned_good choice c x turn e comes (counts_no u a kept k votes own stage) = ends_good u e (record u { stage = Voting (put L.same_site a (Some No) votes) }) (Aborted t By_vote) (λ b j is. is) (λ j. refl)
+    turned_good choice c x turn e comes (counts_vote u a kept k v votes own stage not_no) = votes_good a u e votes stage k own kept v (vote_at_site a k u e v comes.1 not_no) not_no comes.2
+    turned_good choice c x turn e comes (presumes_abort a kept k) = still_good Unknown (record { site = a; txn = t; body = Abort k } ∷ []) e (abort_unknown a k e comes.0 comes.1.0 comes.1.1, tt)
+    turned_good choice c x turn e comes (tells_abort a kept k) = still_good Unknown (record { site = a; txn = t; body = Abort k } ∷ []) e (abort_unknown a k e comes.0 comes.1.0 comes.1.1, tt)
+    turned_good choice c x turn e comes (tells_commit vs acked a kept k) = still_good (Row vs acked) (record { site = a; txn = t; body = Commit k } ∷ []) e ((comes.0, (comes.1.0, comes.1.1, (fit.rows t vs acked e).0, comes.1.2)), tt)
+    turned_good choice c x turn e comes (counts_ack vs acked a kept k) = record { fine = row_acks a vs acked e (acked ++ (a, k) ∷ []) (more_acked a vs acked e k comes.1); letters = tt }
+    turned_good choice c x turn e comes (lets_row_go vs acked a kept k all) = record { fine = row_goes a vs acked e (acked ++ (a, k) ∷ []) (more_acked a vs acked e k comes.1) all; letters = tt }
+
+    -- a request
+    pub request_good : (choice : Choice L) (request : Request L) (x : Txn L) → w.desk.txn t ≡ x → Good o w t (on_request t choice request x)
+    request_good choice request x e = turned_good choice (asked request) x _ e tt (request_turned t choice request x)
+
+    -- a letter from a site
+    pub letter_good : (a : L.Site) (kept : Bool) (choice : Choice L) (b : Body L) (x : Txn L) → w.desk.txn t ≡ x → Born w.desk t → FitsBody o w.desk w.past a (w.sites a) t b → In (record { site = a; txn = t; body = b }) w.letters → Good o w t (on_desk_letter t a kept choice b x)
+    letter_good a kept choice b x e born here there = turned_good choice (came a kept b) x _ e (born, here, there) (letter_turned t choice a kept b x)

@@ -1,14 +1,14 @@
 -- After its end a transaction of one client is left behind: whatever letters and stores answer, no lock stays where no letter waits.
-use Rattle.std.proofs.Common.{◌≡◌, refl, sym, ap, ◌∙◌, subst, ◌&&◌, not, Bool, true, false, List, [], ◌∷◌, ◌++◌, ◌⊎◌, inl, inr, ⊎_elim, append-nil}
-use Rattle.std.specs.List.{list_any}
+use Rattle.std.proofs.Common.{◌≡◌, refl, sym, ap, ◌∙◌, subst, Bool, true, false, List, [], ◌∷◌, ◌++◌, ◌⊎◌, inl, inr, ⊎_elim, append-nil}
 use Rattle.protocol.specs.Language.{Lang, IsLawful, Name, same}
 use Rattle.protocol.specs.Letter.{Body, Open, Fetch, Write, Prepare, Commit, Abort, Ticket, Rows, Refused, Voted, Ack, Inquire, Letter, is_for_desk}
 use Rattle.protocol.specs.Site.{Status, on_letter, site_after, said, is_within}
-use Rattle.protocol.specs.Desk.{Choice, Txn, Unknown, Known, Row, Deed, Transition, stays, is_undecided, is_pair, are_acked, on_unknown, on_row, on_desk_letter, desk_after, is_desk_within}
+use Rattle.protocol.specs.Desk.{Choice, Txn, Deed, Transition, is_undecided, on_desk_letter, desk_after, is_desk_within}
 use Rattle.protocol.specs.World.{World, addressed, with_site, turned, comes_to}
 use Rattle.protocol.specs.Client.{first, next, IsQuiet}
 use Rattle.protocol.specs.VisitPlaces.{at, Unlocked}
 use Rattle.protocol.specs.AfterAbort.{Leaves, is_free, is_own, hears_abort, hears_commit, LeavingAt, Ending, EndKept, Within}
+use Rattle.protocol.proofs.DeskTable.{Cause, came, Turned, rests, accepts, begins_phase, rolls_back, is_given_up, takes_ticket, fetches, writes, turns_away, takes_rows, evaluates, is_refused, counts_no, counts_vote, presumes_abort, tells_abort, tells_commit, counts_ack, lets_row_go, letter_turned}
 use Rattle.protocol.proofs.Basics.{Every, In, either, either_if, put_all, same_law, if_true, if_false, clash, by_test}
 use Rattle.protocol.proofs.Queue.{at_append, at_here, at_away}
 use Rattle.protocol.proofs.Limits.{OfTheEnd, end_within}
@@ -26,41 +26,29 @@ module _ {L : Lang} where
     pub none : Every (λ l. NoOp l.body) turn.letters
     pub deeds : turn.deeds ≡ []
 
-  unknown_idles : (t : Name) (a : L.Site) (c : Body L) → Idles (on_unknown t a c)
-  unknown_idles t a (Ticket k) = record { decided = refl; none = (tt, tt); deeds = refl }
-  unknown_idles t a (Inquire k) = record { decided = refl; none = (tt, tt); deeds = refl }
-  unknown_idles t a Open = record { decided = refl; none = tt; deeds = refl }
-  unknown_idles t a (Fetch k op g q) = record { decided = refl; none = tt; deeds = refl }
-  unknown_idles t a (Write k op g x) = record { decided = refl; none = tt; deeds = refl }
-  unknown_idles t a (Prepare k n) = record { decided = refl; none = tt; deeds = refl }
-  unknown_idles t a (Commit k) = record { decided = refl; none = tt; deeds = refl }
-  unknown_idles t a (Abort k) = record { decided = refl; none = tt; deeds = refl }
-  unknown_idles t a (Rows k n rows) = record { decided = refl; none = tt; deeds = refl }
-  unknown_idles t a (Refused k reason) = record { decided = refl; none = tt; deeds = refl }
-  unknown_idles t a (Voted k x) = record { decided = refl; none = tt; deeds = refl }
-  unknown_idles t a (Ack k) = record { decided = refl; none = tt; deeds = refl }
-
-  row_idles : (t : Name) (voters acked : List (L.Site × Name)) (a : L.Site) (kept : Bool) (c : Body L) → Idles (on_row t voters acked a kept c)
-  row_idles t voters acked a kept (Ack k) =
-      let still : Idles (stays (Row voters acked)) = record { decided = refl; none = tt; deeds = refl } in
-      either Idles (list_any (is_pair L a k) voters && not (list_any (is_pair L a k) acked)) _ _
-      (either Idles (are_acked L voters (acked ++ (a, k) ∷ [])) _ _ (either Idles kept _ _ (record { decided = refl; none = tt; deeds = refl }) still) (record { decided = refl; none = tt; deeds = refl })) still
-  row_idles t voters acked a kept (Inquire k) = record { decided = refl; none = (tt, tt); deeds = refl }
-  row_idles t voters acked a kept (Ticket k) = record { decided = refl; none = tt; deeds = refl }
-  row_idles t voters acked a kept Open = record { decided = refl; none = tt; deeds = refl }
-  row_idles t voters acked a kept (Fetch k op g q) = record { decided = refl; none = tt; deeds = refl }
-  row_idles t voters acked a kept (Write k op g x) = record { decided = refl; none = tt; deeds = refl }
-  row_idles t voters acked a kept (Prepare k n) = record { decided = refl; none = tt; deeds = refl }
-  row_idles t voters acked a kept (Commit k) = record { decided = refl; none = tt; deeds = refl }
-  row_idles t voters acked a kept (Abort k) = record { decided = refl; none = tt; deeds = refl }
-  row_idles t voters acked a kept (Rows k n rows) = record { decided = refl; none = tt; deeds = refl }
-  row_idles t voters acked a kept (Refused k reason) = record { decided = refl; none = tt; deeds = refl }
-  row_idles t voters acked a kept (Voted k x) = record { decided = refl; none = tt; deeds = refl }
+  turned_idles : (t : Name) (choice : Choice L) (c : Cause L) (x : Txn L) (turn : Transition L) → is_undecided x ≡ false → Turned t choice c x turn → Idles turn
+  turned_idles t choice c x turn none (rests d y) = record { decided = none; none = tt; deeds = refl }
+  turned_idles t choice c x turn none (presumes_abort a kept k) = record { decided = refl; none = (tt, tt); deeds = refl }
+  turned_idles t choice c x turn none (tells_abort a kept k) = record { decided = refl; none = (tt, tt); deeds = refl }
+  turned_idles t choice c x turn none (tells_commit voters acked a kept k) = record { decided = refl; none = (tt, tt); deeds = refl }
+  turned_idles t choice c x turn none (counts_ack voters acked a kept k) = record { decided = refl; none = tt; deeds = refl }
+  turned_idles t choice c x turn none (lets_row_go voters acked a kept k all) = record { decided = refl; none = tt; deeds = refl }
+  turned_idles t choice c x turn none (accepts u s idle) = let e : true ≡ false = none in cc
+  turned_idles t choice c x turn none (begins_phase u idle) = let e : true ≡ false = none in cc
+  turned_idles t choice c x turn none (rolls_back u calm) = let e : true ≡ false = none in cc
+  turned_idles t choice c x turn none (is_given_up u) = let e : true ≡ false = none in cc
+  turned_idles t choice c x turn none (takes_ticket u a kept k free) = let e : true ≡ false = none in cc
+  turned_idles t choice c x turn none (fetches u a kept k s asks free stage) = let e : true ≡ false = none in cc
+  turned_idles t choice c x turn none (writes u a kept k answer ws free stage) = let e : true ≡ false = none in cc
+  turned_idles t choice c x turn none (turns_away u a kept k j own other) = let e : true ≡ false = none in cc
+  turned_idles t choice c x turn none (takes_rows u a kept k n rows s asks own stage) = let e : true ≡ false = none in cc
+  turned_idles t choice c x turn none (evaluates u a kept k n rows s asks own stage all) = let e : true ≡ false = none in cc
+  turned_idles t choice c x turn none (is_refused u a kept k reason own calm) = let e : true ≡ false = none in cc
+  turned_idles t choice c x turn none (counts_no u a kept k votes own stage) = let e : true ≡ false = none in cc
+  turned_idles t choice c x turn none (counts_vote u a kept k v votes own stage not_no) = let e : true ≡ false = none in cc
 
   pub letter_idles : (t : Name) (a : L.Site) (kept : Bool) (choice : Choice L) (c : Body L) (x : Txn L) → is_undecided x ≡ false → Idles (on_desk_letter t a kept choice c x)
-  letter_idles t a kept choice c Unknown none = unknown_idles t a c
-  letter_idles t a kept choice c (Row voters acked) none = row_idles t voters acked a kept c
-  letter_idles t a kept choice c (Known u) none = let e : true ≡ false = none in cc
+  letter_idles t a kept choice c x none = turned_idles t choice (came a kept c) x _ none (letter_turned t choice a kept c x)
 
   pub desk_no_end : (c : Body L) → is_for_desk c ≡ true → NoEnd c
   desk_no_end (Commit k) e = let f : false ≡ true = e in absurd (cc)

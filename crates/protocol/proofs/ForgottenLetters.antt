@@ -1,13 +1,13 @@
 -- A world without its delivered letters stays that of a run, through every step of one client.
-use Rattle.std.proofs.Common.{◌≡◌, refl, sym, ap, ◌∙◌, subst, Bool, true, false, List, [], ◌∷◌, ◌++◌, length, map, if◌then◌else◌, Some, slice_get, append_assoc}
+use Rattle.std.proofs.Common.{◌≡◌, refl, sym, ap, ◌∙◌, subst, Bool, true, false, List, [], ◌∷◌, ◌++◌, length, map, if◌then◌else◌, Some, slice_get, append_assoc, ◌&&◌}
 use Rattle.protocol.specs.Language.{Lang, IsLawful, Name}
 use Rattle.protocol.specs.Letter.{Letter, is_for_desk}
 use Rattle.protocol.specs.Site.{SiteState, is_within, on_letter, site_after, said}
-use Rattle.protocol.specs.Desk.{Choice, Began, Request, Transition, desk_after, desk_began, is_desk_within, next_txn}
-use Rattle.protocol.specs.World.{World, Event, Begin, Call, Deliver, begins, begun, called, comes, comes_to, delivered, happens, run, turns, turned, site_steps, with_site, addressed}
+use Rattle.protocol.specs.Desk.{Choice, Began, Request, Transition, desk_after, desk_began, is_desk_within, next_txn, on_request}
+use Rattle.protocol.specs.World.{World, Event, Begin, Call, Deliver, begins, begun, called, comes, comes_to, delivered, happens, run, turns, turned, site_steps, with_site, addressed, refragments, may_begin, may_move, may_ask, first_turn, Refragment}
 use Rattle.protocol.specs.Serial.{Explained, AllExplained, IsOpening, IsSerial, SerialLaw, committed, serial_whole, statements_of}
 use Rattle.protocol.specs.Client.{first, next, rest_of, loses, IsReached, ReachedLaw}
-use Rattle.protocol.proofs.Basics.{every_append}
+use Rattle.protocol.proofs.Basics.{every_append, if_true}
 use Rattle.protocol.proofs.SerialLaw.{run_whole, serial_law}
 
 module _ {L : Lang} where
@@ -49,8 +49,18 @@ module _ {L : Lang} where
   begins_behind : (gone : List (Letter L)) (w : World L) → begins (behind gone w) ≡ behind gone (begins w)
   begins_behind gone w = go (is_desk_within (desk_began w.desk))
     where
-      go : (b : Bool) → (if b then begun (behind gone w) else behind gone w) ≡ behind gone (if b then begun w else w)
+      go : (b : Bool) → (if b then begun false (behind gone w) else behind gone w) ≡ behind gone (if b then begun false w else w)
       go true = refl
+      go false = refl
+
+  moves_behind : (gone : List (Letter L)) (w : World L) (s : L.Statement) (choice : Choice L) → refragments (behind gone w) s choice ≡ behind gone (refragments w s choice)
+  moves_behind gone w s choice = go (is_desk_within (begun true w).desk && is_desk_within (desk_after (begun true w).desk (next_txn w.desk) (first_turn w s choice).txn))
+    where
+      after : World L
+      after = turned (begun true w) (next_txn w.desk) (first_turn w s choice)
+
+      go : (b : Bool) → (if b then turned (begun true (behind gone w)) (next_txn w.desk) (first_turn w s choice) else behind gone w) ≡ behind gone (if b then after else w)
+      go true = ap (with_letters after) (append_assoc gone w.letters (first_turn w s choice).letters)
       go false = refl
 
   module _ (whole : L.Whole) (w : World L) (reached : IsReached whole w) where
@@ -65,15 +75,18 @@ module _ {L : Lang} where
       explained = explained;
     }
 
-    began_explained : (b : Bool) → AllExplained (if b then begun w else w).past
+    began_explained : (b : Bool) → AllExplained (if b then begun false w else w).past
     began_explained true = every_append Explained w.past (Began (next_txn w.desk) ∷ []) reached.explained (tt, tt)
     began_explained false = reached.explained
 
-    pub begin_reached : IsReached whole (begins w)
-    begin_reached = goes_on Begin (begins w) reached.gone (begins_behind reached.gone w) (began_explained (is_desk_within (desk_began w.desk)))
+    pub begin_reached : may_begin w ≡ true → IsReached whole (begins w)
+    begin_reached may = goes_on Begin (begins w) reached.gone (if_true (may_begin w) (begins (behind reached.gone w)) (behind reached.gone w) may ∙ begins_behind reached.gone w) (began_explained (is_desk_within (desk_began w.desk)))
 
-    pub call_reached : (t : Name) (choice : Choice L) (request : Request L) → AllExplained (called w t choice request).past → IsReached whole (called w t choice request)
-    call_reached t choice request explained = goes_on (Call t request choice) (called w t choice request) reached.gone (turns_behind reached.gone w t _) explained
+    pub move_reached : (s : L.Statement) (choice : Choice L) → may_move w s ≡ true → AllExplained (refragments w s choice).past → IsReached whole (refragments w s choice)
+    move_reached s choice may explained = goes_on (Refragment s choice) (refragments w s choice) reached.gone (if_true (may_move w s) (refragments (behind reached.gone w) s choice) (behind reached.gone w) may ∙ moves_behind reached.gone w s choice) explained
+
+    pub call_reached : (t : Name) (choice : Choice L) (request : Request L) → may_ask w t request ≡ true → AllExplained (called w t choice request).past → IsReached whole (called w t choice request)
+    call_reached t choice request may explained = goes_on (Call t request choice) (called w t choice request) reached.gone (if_true (may_ask w t request) (called (behind reached.gone w) t choice request) (behind reached.gone w) may ∙ turns_behind reached.gone w t (on_request t choice request (w.desk.txn t))) explained
 
     pub next_reached : (kept : Bool) (choice : Choice L) → AllExplained (next w kept choice).past → IsReached whole (next w kept choice)
     next_reached kept choice = go w.letters refl
@@ -110,7 +123,7 @@ module _ {L : Lang} where
     pub reached_serial : SerialLaw L → IsSerial whole w
     reached_serial law =
         let serial : IsSerial whole (behind reached.gone w) = subst (IsSerial whole) reached.is (law whole reached.opening reached.events reached.opens (subst (λ v. AllExplained v.past) (sym reached.is) reached.explained)) in
-        record { answers = serial.answers; rebuilt = serial.rebuilt }
+        record { answers = serial.answers; rebuilt = serial.rebuilt; in_force = serial.in_force }
 
     pub reached_whole : IsLawful L → L.IsWhole (serial_whole L (map (statements_of w.past) (committed w.past)) whole)
     reached_whole law =
@@ -124,6 +137,7 @@ module _ {L : Lang} where
 pub reached_law : {L : Lang} → IsLawful L → ReachedLaw L
 reached_law law = record {
   begun = begin_reached;
+  refragmented = λ whole w s choice reached. move_reached whole w reached s choice;
   asked = λ whole w t choice request reached. call_reached whole w reached t choice request;
   came = λ whole w kept choice reached. next_reached whole w reached kept choice;
   lost = lost_reached;

@@ -1,14 +1,14 @@
 -- Whatever the coordinator and the sites put out, operations go to the sites that keep their leaves.
-use Rattle.std.proofs.Common.{◌≡◌, refl, subst, ℕ, suc, ◌==◌, ◌&&◌, not, Bool, true, false, List, [], ◌∷◌, ◌++◌, map, Option, Some, None, is_some, is_none}
-use Rattle.std.specs.List.{list_all, list_any}
-use Rattle.protocol.specs.Desk.{Aborted, Ask, By_refusal, By_store, By_vote, Choice, Commit_call, Deed, Give_up, Given_up, Idle, Known, Reading, Request, Rollback, Rolled_back, Row, Stage, State, Transition, Txn, Undecided, Unknown, Voting, Writing, after_letters, are_acked, are_all_in, asks_go, commits, counts, decides, desk_after, desk_began, ends_by, is_desk_within, is_named, is_pair, on_commit_call, on_desk_letter, on_known, on_refused, on_request, on_rollback, on_row, on_rows, on_state, on_ticket, on_unknown, on_vote, opening, opens, phases, states, ticket_goes, to_abort, to_prepare, visits, voters_of, votes_go, when, with_rows, works, writes_go, writes_out, writing}
+use Rattle.std.proofs.Common.{refl, subst, ℕ, suc, ◌==◌, Bool, true, false, List, [], ◌∷◌, map, Option, Some, None, ◌||◌, not}
+use Rattle.protocol.specs.Desk.{Aborted, Ask, By_refusal, By_store, By_vote, Choice, Deed, Given_up, Request, Rolled_back, Transition, Txn, Undecided, Voting, after_letters, are_all_in, asks_go, commits, decides, desk_after, desk_began, ends_by, is_desk_within, opening, opens, phases, states, to_abort, to_prepare, visits, voters_of, votes_go, when, with_rows, works, writes_go, writes_out, writing}
 use Rattle.protocol.specs.Home.{IsAtHome, IsHomed, AreHomed}
-use Rattle.protocol.specs.Language.{Lang, Name, put, same}
-use Rattle.protocol.specs.Letter.{Body, Letter, Vote, Yes, No, Read, Open, Fetch, Write, Prepare, Commit, Abort, Ticket, Rows, Refused, Voted, Ack, Inquire, letters_to}
+use Rattle.protocol.specs.Language.{Lang, Name, put}
+use Rattle.protocol.specs.Letter.{Body, Letter, Vote, No, Open, Fetch, Write, Prepare, Commit, Abort, Ticket, Rows, Refused, Voted, Ack, Inquire, letters_to}
 use Rattle.protocol.specs.Site.{Act, Active, Dead, Prepared, SiteState, Status, is_within, on_abort, on_commit, on_fetch, on_letter, on_prepare, on_write, others_exclusive, said, site_after}
 use Rattle.protocol.specs.World.{World, addressed, begins, begun, called, comes, comes_to, turned, turns, with_site}
 use Rattle.protocol.specs.Letter.{is_for_desk}
 use Rattle.protocol.proofs.Basics.{Every, either, every_append}
+use Rattle.protocol.proofs.DeskTable.{Cause, Turned, ticketed, rests, accepts, begins_phase, rolls_back, is_given_up, takes_ticket, fetches, writes, turns_away, takes_rows, evaluates, is_refused, counts_no, counts_vote, presumes_abort, tells_abort, tells_commit, counts_ack, lets_row_go, request_turned, letter_turned}
 use Rattle.protocol.proofs.Going.{asks_each, writes_each}
 use Rattle.protocol.proofs.Turns.{every_letter}
 
@@ -127,17 +127,11 @@ module _ {L : Lang} where
         let leaves = map (λ (x : Ask L). x.leaf) (q ∷ qs) in
         behind (opens t u leaves) (asks_go t (visits u leaves) s (q ∷ qs)) (opens_homed u leaves) (asks_homed (visits u leaves) s (q ∷ qs))
 
-    state_homed : (u : Undecided L) (s : L.Statement) (c : Choice L) (stage : Stage L) → PutsHomed (on_state t u s c stage)
-    state_homed u s c Idle = states_homed u s _ c
-    state_homed u s c (Reading r asks) = tt
-    state_homed u s c (Writing answer ws) = tt
-    state_homed u s c (Voting votes) = tt
-
     ends_homed : (u : Undecided L) (d : Deed L) → PutsHomed (ends_by t u d)
     ends_homed u d = said_homed t _ L.sites (λ a. when_homed a _ _ (to_abort_homed L a (u.ticket a)))
 
     decides_homed : (u : Undecided L) (kept : Bool) (voters : List (L.Site × Name)) → PutsHomed (decides t u kept voters)
-    decides_homed u kept [] = tt
+    decides_homed u kept [] = either PutsHomed (kept || not u.moves) _ _ tt (ends_homed u (Aborted t By_store))
     decides_homed u kept (v ∷ voters) = either PutsHomed kept _ _ (commits_homed L t (v ∷ voters)) (ends_homed u (Aborted t By_store))
 
     votes_homed : (u : Undecided L) (votes : L.Site → Option Vote) (kept : Bool) → PutsHomed (votes_go t u votes kept)
@@ -146,115 +140,27 @@ module _ {L : Lang} where
     phases_homed : (u : Undecided L) → PutsHomed (phases t u)
     phases_homed u = said_homed t _ L.sites (λ a. when_homed a _ _ (to_prepare_homed u a (u.ticket a)))
 
-    commit_homed : (u : Undecided L) (stage : Stage L) → PutsHomed (on_commit_call t u stage)
-    commit_homed u Idle = phases_homed u
-    commit_homed u (Reading s asks) = tt
-    commit_homed u (Writing answer ws) = tt
-    commit_homed u (Voting votes) = tt
-
-    rollback_homed : (u : Undecided L) (stage : Stage L) → PutsHomed (on_rollback t u stage)
-    rollback_homed u Idle = ends_homed u (Rolled_back t)
-    rollback_homed u (Reading s asks) = ends_homed u (Rolled_back t)
-    rollback_homed u (Writing answer ws) = ends_homed u (Rolled_back t)
-    rollback_homed u (Voting votes) = tt
-
-    -- whatever is asked for
-    request_homed : (c : Choice L) (request : Request L) (x : Txn L) → PutsHomed (on_request t c request x)
-    request_homed c (State s) (Known u) = state_homed u s c u.stage
-    request_homed c Commit_call (Known u) = commit_homed u u.stage
-    request_homed c Rollback (Known u) = rollback_homed u u.stage
-    request_homed c Give_up (Known u) = ends_homed u (Aborted t Given_up)
-    request_homed c (State s) Unknown = tt
-    request_homed c Commit_call Unknown = tt
-    request_homed c Rollback Unknown = tt
-    request_homed c Give_up Unknown = tt
-    request_homed c (State s) (Row voters acked) = tt
-    request_homed c Commit_call (Row voters acked) = tt
-    request_homed c Rollback (Row voters acked) = tt
-    request_homed c Give_up (Row voters acked) = tt
-
-  -- ---- a letter comes to the coordinator
-  module _ (t : Name) (a : L.Site) (kept : Bool) (c : Choice L) where
-    ticket_homed : (u : Undecided L) (stage : Stage L) → PutsHomed (ticket_goes t u c stage)
-    ticket_homed u Idle = tt
-    ticket_homed u (Reading s asks) = asks_homed t u s asks
-    ticket_homed u (Writing answer ws) = writes_homed t u answer ws
-    ticket_homed u (Voting votes) = tt
-
-    first_homed : (u : Undecided L) (k : Name) (tk : Option Name) → PutsHomed (on_ticket t u a k c tk)
-    first_homed u k None = ticket_homed (record u { ticket = put L.same_site a (Some k) u.ticket }) u.stage
-    first_homed u k (Some j) = either PutsHomed (same j k) _ _ tt (tt, tt)
-
-    rows_homed : (u : Undecided L) (n : ℕ) (rows : L.Rows) (stage : Stage L) → PutsHomed (on_rows t u a n rows c stage)
-    rows_homed u n rows Idle = tt
-    rows_homed u n rows (Writing answer ws) = tt
-    rows_homed u n rows (Voting votes) = tt
-    rows_homed u n rows (Reading s asks) = either PutsHomed (list_all (λ (q : Ask L). is_some q.rows) (map (with_rows a n rows) asks)) _ _ (works_homed t u s (map (with_rows a n rows) asks) c) tt
-
-    refused_homed : (u : Undecided L) (stage : Stage L) → PutsHomed (on_refused t u stage)
-    refused_homed u Idle = ends_homed t u (Aborted t By_refusal)
-    refused_homed u (Reading s asks) = ends_homed t u (Aborted t By_refusal)
-    refused_homed u (Writing answer ws) = ends_homed t u (Aborted t By_refusal)
-    refused_homed u (Voting votes) = tt
-
-    counts_homed : (u : Undecided L) (votes : L.Site → Option Vote) (x : Vote) → PutsHomed (counts t u a votes kept x)
-    counts_homed u votes Yes = votes_homed t u _ kept
-    counts_homed u votes Read = votes_homed t u _ kept
-    counts_homed u votes No = ends_homed t (record u { stage = Voting (put L.same_site a (Some No) votes) }) (Aborted t By_vote)
-
-    vote_homed : (u : Undecided L) (x : Vote) (stage : Stage L) → PutsHomed (on_vote t u a kept x stage)
-    vote_homed u x Idle = tt
-    vote_homed u x (Reading s asks) = tt
-    vote_homed u x (Writing answer ws) = tt
-    vote_homed u x (Voting votes) = either PutsHomed (is_none (votes a)) _ _ (counts_homed u votes x) tt
-
-    known_homed : (u : Undecided L) (b : Body L) → PutsHomed (on_known t u a kept c b)
-    known_homed u (Ticket k) = first_homed u k (u.ticket a)
-    known_homed u (Rows k n rows) = either PutsHomed (is_named (u.ticket a) k) _ _ (rows_homed u n rows u.stage) tt
-    known_homed u (Refused k reason) = either PutsHomed (is_named (u.ticket a) k) _ _ (refused_homed u u.stage) tt
-    known_homed u (Voted k x) = either PutsHomed (is_named (u.ticket a) k) _ _ (vote_homed u x u.stage) tt
-    known_homed u Open = tt
-    known_homed u (Fetch k n g q) = tt
-    known_homed u (Write k n g x) = tt
-    known_homed u (Prepare k n) = tt
-    known_homed u (Commit k) = tt
-    known_homed u (Abort k) = tt
-    known_homed u (Ack k) = tt
-    known_homed u (Inquire k) = tt
-
-    unknown_homed : (b : Body L) → PutsHomed (on_unknown t a b)
-    unknown_homed (Ticket k) = (tt, tt)
-    unknown_homed (Inquire k) = (tt, tt)
-    unknown_homed Open = tt
-    unknown_homed (Fetch k n g q) = tt
-    unknown_homed (Write k n g x) = tt
-    unknown_homed (Prepare k n) = tt
-    unknown_homed (Commit k) = tt
-    unknown_homed (Abort k) = tt
-    unknown_homed (Rows k n rows) = tt
-    unknown_homed (Refused k reason) = tt
-    unknown_homed (Voted k x) = tt
-    unknown_homed (Ack k) = tt
-
-    row_homed : (voters acked : List (L.Site × Name)) (b : Body L) → PutsHomed (on_row t voters acked a kept b)
-    row_homed voters acked (Ack k) = either PutsHomed (list_any (is_pair L a k) voters && not (list_any (is_pair L a k) acked)) _ _
-        (either PutsHomed (are_acked L voters (acked ++ (a, k) ∷ [])) _ _ (either PutsHomed kept _ _ tt tt) tt) tt
-    row_homed voters acked (Inquire k) = (tt, tt)
-    row_homed voters acked (Ticket k) = tt
-    row_homed voters acked Open = tt
-    row_homed voters acked (Fetch k n g q) = tt
-    row_homed voters acked (Write k n g x) = tt
-    row_homed voters acked (Prepare k n) = tt
-    row_homed voters acked (Commit k) = tt
-    row_homed voters acked (Abort k) = tt
-    row_homed voters acked (Rows k n rows) = tt
-    row_homed voters acked (Refused k reason) = tt
-    row_homed voters acked (Voted k x) = tt
-
-    desk_homed : (b : Body L) (x : Txn L) → PutsHomed (on_desk_letter t a kept c b x)
-    desk_homed b (Known u) = known_homed u b
-    desk_homed b Unknown = unknown_homed b
-    desk_homed b (Row voters acked) = row_homed voters acked b
+    -- whatever the turn
+    turned_homed : (choice : Choice L) (c : Cause L) (x : Txn L) (turn : Transition L) → Turned t choice c x turn → PutsHomed turn
+    turned_homed choice c x turn (rests d y) = tt
+    turned_homed choice c x turn (accepts u s idle) = states_homed u s _ choice
+    turned_homed choice c x turn (begins_phase u idle) = phases_homed u
+    turned_homed choice c x turn (rolls_back u calm) = ends_homed u (Rolled_back t)
+    turned_homed choice c x turn (is_given_up u) = ends_homed u (Aborted t Given_up)
+    turned_homed choice c x turn (takes_ticket u a kept k free) = tt
+    turned_homed choice c x turn (fetches u a kept k s asks free stage) = asks_homed (ticketed u a k) s asks
+    turned_homed choice c x turn (writes u a kept k answer ws free stage) = writes_homed (ticketed u a k) answer ws
+    turned_homed choice c x turn (turns_away u a kept k j own other) = (tt, tt)
+    turned_homed choice c x turn (takes_rows u a kept k n rows s asks own stage) = tt
+    turned_homed choice c x turn (evaluates u a kept k n rows s asks own stage all) = works_homed u s (map (with_rows s a n rows) asks) choice
+    turned_homed choice c x turn (is_refused u a kept k reason own calm) = ends_homed u (Aborted t By_refusal)
+    turned_homed choice c x turn (counts_no u a kept k votes own stage) = ends_homed (record u { stage = Voting (put L.same_site a (Some No) votes) }) (Aborted t By_vote)
+    turned_homed choice c x turn (counts_vote u a kept k v votes own stage not_no) = votes_homed u _ kept
+    turned_homed choice c x turn (presumes_abort a kept k) = (tt, tt)
+    turned_homed choice c x turn (tells_abort a kept k) = (tt, tt)
+    turned_homed choice c x turn (tells_commit voters acked a kept k) = (tt, tt)
+    turned_homed choice c x turn (counts_ack voters acked a kept k) = tt
+    turned_homed choice c x turn (lets_row_go voters acked a kept k all) = tt
 
   -- ---- worlds
   turns_homed : (w : World L) (t : Name) (turn : Transition L) → PutsHomed turn → AreHomed w.letters → AreHomed (turns w t turn).letters
@@ -262,14 +168,14 @@ module _ {L : Lang} where
 
   -- a call of a client
   pub called_homed : (w : World L) (t : Name) (c : Choice L) (request : Request L) → AreHomed w.letters → AreHomed (called w t c request).letters
-  called_homed w t c request so_far = turns_homed w t _ (request_homed t c request (w.desk.txn t)) so_far
+  called_homed w t c request so_far = turns_homed w t _ (turned_homed t c _ _ _ (request_turned t c request (w.desk.txn t))) so_far
 
   -- a transaction begins
   pub begins_homed : (w : World L) → AreHomed w.letters → AreHomed (begins w).letters
-  begins_homed w so_far = either (λ (x : World L). AreHomed x.letters) (is_desk_within (desk_began w.desk)) (begun w) w so_far so_far
+  begins_homed w so_far = either (λ (x : World L). AreHomed x.letters) (is_desk_within (desk_began w.desk)) (begun false w) w so_far so_far
 
   comes_to_homed : (b : Bool) (w : World L) (kept : Bool) (c : Choice L) (l : Letter L) → AreHomed w.letters → AreHomed (comes_to b w kept c l).letters
-  comes_to_homed true w kept c l so_far = turns_homed w l.txn _ (desk_homed l.txn l.site kept c l.body (w.desk.txn l.txn)) so_far
+  comes_to_homed true w kept c l so_far = turns_homed w l.txn _ (turned_homed l.txn c _ _ _ (letter_turned l.txn c l.site kept l.body (w.desk.txn l.txn))) so_far
   comes_to_homed false w kept c l so_far =
       let s = w.sites l.site in
       let act = on_letter s l.txn kept l.body in

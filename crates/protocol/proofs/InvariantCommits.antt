@@ -1,12 +1,12 @@
 -- A decision to commit goes into the middle of the line and keeps the whole invariant.
-use Rattle.std.proofs.Common.{◌≡◌, refl, sym, ap, ◌∙◌, subst, Bool, true, false, ◌||◌, List, [], ◌++◌, ◌⊎◌, inl, inr, ⊎_elim, append-nil}
+use Rattle.std.proofs.Common.{◌≡◌, refl, sym, ap, ◌∙◌, subst, true, false, ◌||◌, List, [], ◌++◌, ◌⊎◌, inl, inr, ⊎_elim, append-nil}
 use Rattle.protocol.specs.Language.{Lang, IsLawful, Name, same, put, written}
 use Rattle.protocol.specs.Letter.{Read, Voted}
 use Rattle.protocol.specs.Site.{Status, Dead, Active, Prepared, is_dead, is_active, has_exclusive}
 use Rattle.protocol.specs.Desk.{Undecided, Known, Deed, Transition}
 use Rattle.protocol.specs.World.{World, turned}
 use Rattle.protocol.specs.Serial.{is_committed, phases_of, settled}
-use Rattle.protocol.proofs.Basics.{every_in, In, put_here, clash, same_law, by_test, left_true, right_true, both_true}
+use Rattle.protocol.proofs.Basics.{every_in, In, put_here, clash, same_law, by_test, left_true, right_true, both_true, or_false}
 use Rattle.protocol.proofs.Fits.{is_voting, Own, IsCommitted}
 use Rattle.protocol.proofs.DeskFits.{split, was_committed, now_committed}
 use Rattle.protocol.proofs.Turns.{known_is}
@@ -146,10 +146,6 @@ module _ {L : Lang} (law : IsLawful L) (o : L.Site → Name → Name) (ops : L.S
     where
       not_committed : is_committed w.past t ≡ false
       not_committed = ⊎_elim (λ was. absurd (not_before was)) (λ none. none) (by_test (is_committed w.past t))
-
-      or_false : (b : Bool) → (b || false) ≡ b
-      or_false true = refl
-      or_false false = refl
 
       same_others : (x : Name) → ((x ≡ t) → ⊥) → is_committed later x ≡ is_committed w.past x
       same_others x other = committed_join law o ops whole w t turn deep good booked x ∙ ap (λ b. is_committed w.past x || b) (good.fine.only x (⊎_elim (λ is. absurd (other ((same_law x t).0 is))) (λ none. none) (by_test (same x t)))) ∙ or_false (is_committed w.past x)

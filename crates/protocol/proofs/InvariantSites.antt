@@ -1,9 +1,10 @@
 -- Each event of a site keeps the whole invariant.
-use Rattle.std.proofs.Common.{◌≡◌, refl, sym, ap, ◌∙◌, subst, Bool, List, [], ◌∷◌, ⊎_elim}
-use Rattle.protocol.specs.Parts.{op_of, In, Viable}
+use Rattle.std.proofs.Common.{◌≡◌, refl, sym, ap, ◌∙◌, subst, Bool, List, [], ◌∷◌, ◌⊎◌, inl, ⊎_elim}
+use Rattle.protocol.specs.Desk.{Undecided, Known}
+use Rattle.protocol.specs.Parts.{op_of, In, Untouched, Viable}
 use Rattle.protocol.proofs.Booked.{NoOps}
 use Rattle.protocol.specs.Language.{Lang, IsLawful, Name, same, put}
-use Rattle.protocol.specs.Letter.{Read, Body, Open, Commit, Voted}
+use Rattle.protocol.specs.Letter.{Read, Body, Letter, Open, Commit, Voted}
 use Rattle.protocol.specs.Site.{Status, Dead, Active, Prepared, SiteState, Act, Opens, Applies, Ends, is_dead, is_prepared, sees, next_ticket, new_visit, on_letter, site_after, said, restarted, site_restarted, on_give_up, is_within}
 use Rattle.protocol.specs.Serial.{phases_of}
 use Rattle.protocol.specs.World.{World, with_site, site_steps, addressed, gives_up, restarts}
@@ -26,12 +27,20 @@ module _ {L : Lang} (law : IsLawful L) (whole : L.Whole) where
   abbrev pub IsDeep : World L → Type 0
   IsDeep w = (o : L.Site → Name → Name) × (ops : L.Site → Name → List (Op L)) × Deep o ops whole w
 
-  -- the invariant after an event, and that what is viable then was so before
+  -- who is committed then was so before, or might be
+  abbrev pub Commits : (L.Site → Name → List (Op L)) → World L → World L → Type 0
+  Commits ops w v = (t : Name) → IsCommitted v.past t → (IsCommitted w.past t) ⊎ (Viable ops w t ⊎ ((u : Undecided L) × (w.desk.txn t ≡ Known u) × Untouched u))
+
+  -- the invariant after an event, that what is viable then was so before, and who may be committed
   abbrev pub Next : (L.Site → Name → List (Op L)) → World L → World L → Type 0
-  Next ops w v = (p : L.Site → Name → Name) × (opt : L.Site → Name → List (Op L)) × Deep p opt whole v × ((t : Name) → In t (phases_of w.past) → Viable opt v t → Viable ops w t)
+  Next ops w v = (p : L.Site → Name → Name) × (opt : L.Site → Name → List (Op L)) × Deep p opt whole v × ((t : Name) → In t (phases_of w.past) → Viable opt v t → Viable ops w t) × Commits ops w v
 
   pub no_event : (o : L.Site → Name → Name) (ops : L.Site → Name → List (Op L)) (w : World L) → Deep o ops whole w → Next ops w w
-  no_event o ops w deep = (o, ops, deep, λ t here viable. viable)
+  no_event o ops w deep = (o, ops, deep, (λ t here viable. viable), λ t done. inl done)
+
+  -- a step of a site commits nobody
+  pub site_commits : (ops : L.Site → Name → List (Op L)) (w : World L) (a : L.Site) (s : SiteState L) (letters : List (Letter L)) → Commits ops w (site_steps w a s letters)
+  site_commits ops w a s letters = either (Commits ops w) (is_within s) (with_site w a s letters) w (λ t done. inl done) (λ t done. inl done)
 
   module _ (o : L.Site → Name → Name) (ops : L.Site → Name → List (Op L)) (w : World L) (a : L.Site) (deep : Deep o ops whole w) where
     -- a decided row stays unless it is applied
@@ -150,13 +159,13 @@ module _ {L : Lang} (law : IsLawful L) (whole : L.Whole) where
         (λ c k n there. let r = in_addressed a c t n (Voted k Read) (said (w.sites a) act) there in (r.0, read_was law (ops a) (w.sites a) t b act tells row k r.1)) j
 
     steps_deep : (t : Name) (b : Body L) (act : Act L) → Born w.desk t → FitsBody o w.desk w.past a (w.sites a) t b → TellsBody (ops a) (w.sites a) b → Acted (w.sites a) t b act → ((b ≡ Open) → ⊥) → Next ops w (site_steps w a (site_after (w.sites a) act) (addressed a t (said (w.sites a) act)))
-    steps_deep t b act born fits tells row no_open = either (Next ops w) (is_within (site_after (w.sites a) act)) (with_site w a (site_after (w.sites a) act) (addressed a t (said (w.sites a) act))) w (let d = acted_deep t b act born fits tells row no_open in (d.0, ops, d.1, letter_was t b act tells row)) (no_event o ops w deep)
+    steps_deep t b act born fits tells row no_open = either (Next ops w) (is_within (site_after (w.sites a) act)) (with_site w a (site_after (w.sites a) act) (addressed a t (said (w.sites a) act))) w (let d = acted_deep t b act born fits tells row no_open in (d.0, ops, d.1, letter_was t b act tells row, λ j done. inl done)) (no_event o ops w deep)
 
     -- a letter comes to its site
     pub comes_deep : (t : Name) (kept : Bool) (b : Body L) → Born w.desk t → FitsBody o w.desk w.past a (w.sites a) t b → TellsBody (ops a) (w.sites a) b →
         Next ops w (site_steps w a (site_after (w.sites a) (on_letter (w.sites a) t kept b)) (addressed a t (said (w.sites a) (on_letter (w.sites a) t kept b))))
     comes_deep t kept Open born fits tells = either (Next ops w) (is_within (site_after (w.sites a) Opens)) (with_site w a (site_after (w.sites a) Opens) (addressed a t (said (w.sites a) Opens))) w
-        (owned L a (next_ticket (w.sites a)) t o, ops, open_deep t born fits, letter_was t Open Opens tt opens) (no_event o ops w deep)
+        (owned L a (next_ticket (w.sites a)) t o, ops, open_deep t born fits, letter_was t Open Opens tt opens, λ j done. inl done) (no_event o ops w deep)
     comes_deep t kept b born fits tells = steps_deep t b (on_letter (w.sites a) t kept b) born fits tells (acted (w.sites a) t kept b) (not_open law b refl)
 
     -- a restart

@@ -1,5 +1,5 @@
 -- Each turn of the coordinator keeps the whole invariant: a quiet one, the beginning of a first phase, and the commit.
-use Rattle.std.proofs.Common.{◌≡◌, refl, sym, ap, ◌∙◌, subst, Bool, true, false, ◌||◌, List, [], ◌∷◌, ◌++◌, inl, inr, ⊎_elim, append-nil, if◌then◌else◌}
+use Rattle.std.proofs.Common.{◌≡◌, refl, sym, ap, ◌∙◌, subst, true, false, ◌||◌, List, [], ◌∷◌, ◌++◌, inl, inr, ⊎_elim, append-nil, if◌then◌else◌}
 use Rattle.std.proofs.lemmas.List.Folds.{list_any-append}
 use Rattle.protocol.specs.Language.{Lang, IsLawful, Name, same, written}
 use Rattle.protocol.specs.Letter.{Read, Voted}
@@ -7,7 +7,7 @@ use Rattle.protocol.specs.Site.{Visit, Status, Dead, Active, Prepared, is_dead, 
 use Rattle.protocol.specs.Desk.{Idle, Reading, Writing, Voting, Stage, Undecided, Known, Deed, Transition}
 use Rattle.protocol.specs.World.{World, turned}
 use Rattle.protocol.specs.Serial.{is_committed, commits_it, phases_of, settled}
-use Rattle.protocol.proofs.Basics.{every_in, In, in_append, put_here, put_there, clash, same_law, by_test, left_true, right_true, both_true, if_true, if_false}
+use Rattle.protocol.proofs.Basics.{every_in, In, in_append, put_here, put_there, clash, same_law, by_test, left_true, right_true, both_true, if_true, if_false, or_false}
 use Rattle.protocol.proofs.Fits.{is_voting, Own, IsCommitted, Fits}
 use Rattle.protocol.proofs.DeskFits.{split, was_committed}
 use Rattle.protocol.proofs.Turns.{known_is}
@@ -95,10 +95,6 @@ module _ {L : Lang} (law : IsLawful L) (o : L.Site → Name → Name) (ops : L.S
   module _ (none : is_committed turn.deeds t ≡ false) where
     committed_same : (j : Name) → is_committed later j ≡ is_committed w.past j
     committed_same j = committed_join j ∙ ap (λ b. is_committed w.past j || b) (⊎_elim (λ is. ap (is_committed turn.deeds) ((same_law j t).0 is) ∙ none) (λ other. good.fine.only j other) (by_test (same j t))) ∙ or_false (is_committed w.past j)
-      where
-        or_false : (b : Bool) → (b || false) ≡ b
-        or_false true = refl
-        or_false false = refl
 
     settled_still : (g : L.Leaf) → settled next g ≡ settled w g
     settled_still g = settled_same law o o ops booked.new w next base base_next g refl
@@ -132,10 +128,6 @@ module _ {L : Lang} (law : IsLawful L) (o : L.Site → Name → Name) (ops : L.S
 
     committed_old : (j : Name) → In j (phases_of w.past) → is_committed later j ≡ is_committed w.past j
     committed_old j here = committed_join j ∙ ap (λ b. is_committed w.past j || b) (good.fine.only j (other_than j here)) ∙ or_false (is_committed w.past j)
-      where
-        or_false : (b : Bool) → (b || false) ≡ b
-        or_false true = refl
-        or_false false = refl
 
     works_own : works later t ≡ works w.past t
     works_own = view.works_same

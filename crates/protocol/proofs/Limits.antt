@@ -119,7 +119,7 @@ module _ {L : Lang} where
   turns_within w t turn within = either_if Within (is_desk_within (desk_after w.desk t turn.txn)) (turned w t turn) w (λ is. record { desk = is; sites = within.sites }) (λ full. within)
 
   pub begins_within : (w : World L) → Within w → Within (begins w)
-  begins_within w within = either_if Within (is_desk_within (desk_began w.desk)) (begun w) w (λ is. record { desk = is; sites = within.sites }) (λ full. within)
+  begins_within w within = either_if Within (is_desk_within (desk_began w.desk)) (begun false w) w (λ is. record { desk = is; sites = within.sites }) (λ full. within)
 
   pub called_within : (w : World L) (t : Name) (choice : Choice L) (request : Request L) → Within w → Within (called w t choice request)
   called_within w t choice request within = turns_within w t (on_request t choice request (w.desk.txn t)) within

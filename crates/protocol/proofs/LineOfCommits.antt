@@ -7,7 +7,6 @@ use Rattle.protocol.specs.Serial.{is_committed, phases_of, settled}
 use Rattle.protocol.specs.Parts.{sets, works, writes_to, operations, Viable, Counts, Two, Line, AreApart, PartsOneAndTwo, PartThree}
 use Rattle.protocol.proofs.Viable.{alone_at}
 use Rattle.protocol.proofs.InvariantSites.{IsDeep}
-use Rattle.protocol.proofs.MayCommit.{commits_before}
 use Rattle.protocol.proofs.InvariantEvents.{happens_deep, run_deep, opening_deep}
 
 module _ {L : Lang} (law : IsLawful L) where
@@ -23,7 +22,7 @@ module _ {L : Lang} (law : IsLawful L) where
         (next.3 t (deep.2.base.voting t u known votes) (subst (λ q. Viable q (happens w e) t) (sym (shown whole (happens w e) (next.0, next.1, next.2))) viable));
     commits = λ e t done. ⊎_elim (λ was. inl was)
         (λ now. inr (⊎_elim (λ viable. inl (subst (λ q. Viable q w t) (shown whole w deep) viable)) (λ untouched. inr untouched) now))
-        (commits_before law whole deep.0 deep.1 w deep.2 e t done);
+        ((happens_deep law whole deep.0 deep.1 w deep.2 e).4 t done);
     alone = subst (λ q. (t : Name) (viable : Viable q w t) (a : L.Site) (k j : Name) (g : L.Leaf) → viable.u.ticket a ≡ Some k → writes_to L g (sets (q a k)) ≡ true → same j k ≡ false → has_lock g ((w.sites a).status j) ≡ false) (shown whole w deep)
         (λ t viable a k j g own writes apart. alone_at law deep.0 deep.1 w t deep.2.base viable a k own g writes j apart);
     two = subst (λ q. Two (works w.past) (is_committed w.past) (Counts q w) (Viable q w) (phases_of w.past)) (shown whole w deep) deep.2.two;

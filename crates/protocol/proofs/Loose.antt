@@ -151,7 +151,7 @@ module _ {L : Lang} where
   pub statement_loose : (t : Name) (s : L.Statement) (before : List (Deed L)) (w : World L) → InStatement t s before w → Loose t before w
   statement_loose t s before w at_ = go at_.far
     where
-      read_seen : (asks : List (Ask L)) → Every (AskStands at_.u w.letters) asks → AreVisited at_.u (map (λ q. q.leaf) asks)
+      read_seen : (asks : List (Ask L)) → Every (AskStands s at_.u w.letters) asks → AreVisited at_.u (map (λ q. q.leaf) asks)
       read_seen [] all g here = absurd here
       read_seen (x ∷ asks) all g (inl e) = subst (λ h. at_.u.visited (L.home h) ≡ true) (sym e) all.0.visited
       read_seen (x ∷ asks) all g (inr below) = read_seen asks all.1 g below

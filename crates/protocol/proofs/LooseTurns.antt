@@ -203,20 +203,20 @@ module _ {L : Lang} where
     goes_loose choice (Writing answer ws) calm now seen = writes_loose u.visited [] first_none answer ws seen
     goes_loose choice (Voting votes) calm now seen = loose_stays t u calm now
 
-    rows_seen : (a : L.Site) (n : ℕ) (rows : L.Rows) (asks : List (Ask L)) → AreVisited u (map (λ q. q.leaf) asks) → AreVisited u (map (λ q. q.leaf) (map (with_rows a n rows) asks))
-    rows_seen a n rows [] homes g here = absurd here
-    rows_seen a n rows (q ∷ asks) homes g (inl e) = subst (λ h. u.visited (L.home h) ≡ true) (sym (e ∙ same_place (awaits a n rows q))) (homes q.leaf (inl refl))
+    rows_seen : (s : L.Statement) (a : L.Site) (n : ℕ) (rows : L.Rows) (asks : List (Ask L)) → AreVisited u (map (λ q. q.leaf) asks) → AreVisited u (map (λ q. q.leaf) (map (with_rows s a n rows) asks))
+    rows_seen s a n rows [] homes g here = absurd here
+    rows_seen s a n rows (q ∷ asks) homes g (inl e) = subst (λ h. u.visited (L.home h) ≡ true) (sym (e ∙ same_place (awaits s a n rows q))) (homes q.leaf (inl refl))
       where
         same_place : (b : Bool) → (if b then record q { rows = Some rows } else q).leaf ≡ q.leaf
         same_place true = refl
         same_place false = refl
-    rows_seen a n rows (q ∷ asks) homes g (inr below) = rows_seen a n rows asks (λ h there. homes h (inr there)) g below
+    rows_seen s a n rows (q ∷ asks) homes g (inr below) = rows_seen s a n rows asks (λ h there. homes h (inr there)) g below
 
     pub rows_loose : (a : L.Site) (n : ℕ) (rows : L.Rows) (choice : Choice L) (stage : Stage L) → is_voting u.stage ≡ false → AreVisited u (leaves_of u.stage) → AreVisited u (leaves_of stage) → AtSites L (map (λ x. x.0) choice.1) → LooseTurn t u (on_rows t u a n rows choice stage)
     rows_loose a n rows choice Idle calm now homes written = loose_stays t u calm now
     rows_loose a n rows choice (Writing answer ws) calm now homes written = loose_stays t u calm now
     rows_loose a n rows choice (Voting votes) calm now homes written = loose_stays t u calm now
     rows_loose a n rows choice (Reading s asks) calm now homes written =
-        let new = map (with_rows a n rows) asks in
+        let new = map (with_rows s a n rows) asks in
         either (LooseTurn t u) (list_all (λ (q : Ask L). is_some q.rows) new) (works t u s new choice) (stays (Known (record u { stage = Reading s new }))) (works_loose s new choice written)
-        (record { new = record u { stage = Reading s new }; is = refl; calm = refl; seen = rows_seen a n rows asks homes; own = tt; among = λ old. old; visited = λ b is. is; ticket = λ b k is. is; sends = tt; deeds = tt })
+        (record { new = record u { stage = Reading s new }; is = refl; calm = refl; seen = rows_seen s a n rows asks homes; own = tt; among = λ old. old; visited = λ b is. is; ticket = λ b k is. is; sends = tt; deeds = tt })

@@ -1,14 +1,14 @@
 -- Where no ballot is on its way and no commit is asked for, nothing is committed.
-use Rattle.std.proofs.Common.{◌≡◌, refl, sym, ap, ◌∙◌, subst, ℕ, suc, ◌==◌, ◌&&◌, ◌||◌, not, Bool, true, false, List, [], ◌∷◌, ◌++◌, map, filter, Option, Some, None, is_some, append_assoc, append-nil}
-use Rattle.std.specs.List.{list_all, list_any}
-use Rattle.protocol.specs.Language.{Lang, Name, same, put}
+use Rattle.std.proofs.Common.{◌≡◌, refl, sym, ap, ◌∙◌, subst, ℕ, suc, ◌==◌, ◌&&◌, ◌||◌, Bool, true, false, List, [], ◌∷◌, ◌++◌, map, filter, Option, Some, None, append_assoc, append-nil}
+use Rattle.protocol.specs.Language.{Lang, Name}
 use Rattle.protocol.specs.Letter.{Body, Open, Fetch, Write, Prepare, Commit, Abort, Ticket, Rows, Refused, Voted, Ack, Inquire, Letter, is_for_desk}
 use Rattle.protocol.specs.Site.{SiteState, Status, Dead, Active, Prepared, Act, is_within, on_letter, on_fetch, on_write, on_commit, on_abort, others_exclusive, said, site_after}
-use Rattle.protocol.specs.Desk.{Ask, Choice, Stage, Idle, Reading, Writing, Voting, Undecided, Txn, Unknown, Known, Row, Deed, Began, Stated, Worked, Answered, Phased, Committed, Aborted, Rolled_back, By_refusal, Given_up, State, Rollback, Give_up, Transition, when, ends_by, stays, to_abort, may_hold, vote_at, ticket_goes, on_ticket, with_rows, on_rows, on_refused, on_known, on_unknown, is_pair, are_acked, on_row, on_desk_letter, on_request, on_rollback, on_state, is_named, desk_after, desk_began, is_desk_within, next_txn, asks_go, writing, writes_go, writes_out, works, states, opens, visits, is_new}
+use Rattle.protocol.specs.Desk.{Ask, Choice, Undecided, Txn, Known, Deed, Began, Stated, Worked, Answered, Phased, Committed, Aborted, Rolled_back, By_refusal, Given_up, State, Commit_call, Rollback, Give_up, Transition, when, ends_by, on_state, stays, to_abort, may_hold, vote_at, with_rows, desk_after, desk_began, is_desk_within, next_txn, asks_go, writing, writes_go, writes_out, works, states, opens, visits, is_new, Idle}
 use Rattle.protocol.specs.World.{World, addressed, begins, begun, called, comes, comes_to, turned, turns}
 use Rattle.protocol.specs.Serial.{commits_it, committed, is_committed, phases_of}
 use Rattle.protocol.specs.NothingCommits.{AreInVain, is_of_commit}
 use Rattle.protocol.proofs.Basics.{Every, every_append, either, some_is}
+use Rattle.protocol.proofs.DeskTable.{Cause, asked, came, Turned, ticketed, rests, accepts, begins_phase, rolls_back, is_given_up, takes_ticket, fetches, writes, turns_away, takes_rows, evaluates, is_refused, counts_no, counts_vote, presumes_abort, tells_abort, tells_commit, counts_ack, lets_row_go, request_turned, letter_turned}
 use Rattle.protocol.proofs.Turns.{every_letter}
 use Rattle.protocol.proofs.Going.{asks_each, first_written, opening_is, writes_each}
 
@@ -142,106 +142,36 @@ module _ {L : Lang} where
       let mild = asks_mild t (visits u leaves) s (q ∷ qs) in
       record { letters = every_append (λ l. is_ballot l.body ≡ false) (opens t u leaves) (asks_go t (visits u leaves) s (q ∷ qs)).letters (opens_calm t u leaves) mild.letters; deeds = mild.deeds }
 
-  state_mild : (t : Name) (u : Undecided L) (s : L.Statement) (choice : Choice L) (stage : Stage L) → Mild (on_state t u s choice stage)
-  state_mild t u s choice Idle = let mild = states_mild t u s _ choice in record { letters = mild.letters; deeds = (refl, mild.deeds) }
-  state_mild t u s choice (Reading r asks) = stays_mild (Known u)
-  state_mild t u s choice (Writing answer ws) = stays_mild (Known u)
-  state_mild t u s choice (Voting votes) = stays_mild (Known u)
+  -- a statement commits nobody
+  pub state_commits_none : (t : Name) (u : Undecided L) (s : L.Statement) (choice : Choice L) (j : Name) → is_committed (on_state t u s choice Idle).deeds j ≡ false
+  state_commits_none t u s choice j = none_commits (states t u s _ choice).deeds j (states_mild t u s _ choice).deeds
 
-  rollback_mild : (t : Name) (u : Undecided L) (stage : Stage L) → Mild (on_rollback t u stage)
-  rollback_mild t u Idle = ends_mild t u (Rolled_back t) refl
-  rollback_mild t u (Reading r asks) = ends_mild t u (Rolled_back t) refl
-  rollback_mild t u (Writing answer ws) = ends_mild t u (Rolled_back t) refl
-  rollback_mild t u (Voting votes) = stays_mild (Known u)
+  -- whether a turn comes of a ballot, or of a client that asks for a commit
+  abbrev is_of_phase : Cause L → Bool
+  is_of_phase (asked Commit_call) = true
+  is_of_phase (asked request) = false
+  is_of_phase (came a kept b) = is_ballot b
 
-  module _ (t : Name) (choice : Choice L) where
-    asks_state : (s : L.Statement) (x : Txn L) → Mild (on_request t choice (State s) x)
-    asks_state s (Known u) = state_mild t u s choice u.stage
-    asks_state s Unknown = stays_mild Unknown
-    asks_state s (Row voters acked) = stays_mild (Row voters acked)
-
-    asks_rollback : (x : Txn L) → Mild (on_request t choice Rollback x)
-    asks_rollback (Known u) = rollback_mild t u u.stage
-    asks_rollback Unknown = stays_mild Unknown
-    asks_rollback (Row voters acked) = stays_mild (Row voters acked)
-
-    gives_up : (x : Txn L) → Mild (on_request t choice Give_up x)
-    gives_up (Known u) = ends_mild t u (Aborted t Given_up) refl
-    gives_up Unknown = stays_mild Unknown
-    gives_up (Row voters acked) = stays_mild (Row voters acked)
-
-    module _ (a : L.Site) (kept : Bool) where
-      ticket_mild : (u : Undecided L) (stage : Stage L) → Mild (ticket_goes t u choice stage)
-      ticket_mild u Idle = stays_mild (Known u)
-      ticket_mild u (Reading s asks) = asks_mild t u s asks
-      ticket_mild u (Writing answer ws) = writes_mild t u answer ws
-      ticket_mild u (Voting votes) = stays_mild (Known u)
-
-      first_mild : (u : Undecided L) (k : Name) (tk : Option Name) → Mild (on_ticket t u a k choice tk)
-      first_mild u k None = ticket_mild (record u { ticket = put L.same_site a (Some k) u.ticket }) u.stage
-      first_mild u k (Some j) = either Mild (same j k) _ _ (stays_mild (Known u)) (record { letters = (refl, tt); deeds = tt })
-
-      rows_mild : (u : Undecided L) (n : ℕ) (rows : L.Rows) (stage : Stage L) → Mild (on_rows t u a n rows choice stage)
-      rows_mild u n rows Idle = stays_mild (Known u)
-      rows_mild u n rows (Writing answer ws) = stays_mild (Known u)
-      rows_mild u n rows (Voting votes) = stays_mild (Known u)
-      rows_mild u n rows (Reading s asks) = either Mild (list_all (λ (q : Ask L). is_some q.rows) (map (with_rows a n rows) asks)) _ _ (works_mild t u s (map (with_rows a n rows) asks) choice) (stays_mild (Known (record u { stage = Reading s (map (with_rows a n rows) asks) })))
-
-      refused_mild : (u : Undecided L) (stage : Stage L) → Mild (on_refused t u stage)
-      refused_mild u Idle = ends_mild t u (Aborted t By_refusal) refl
-      refused_mild u (Reading s asks) = ends_mild t u (Aborted t By_refusal) refl
-      refused_mild u (Writing answer ws) = ends_mild t u (Aborted t By_refusal) refl
-      refused_mild u (Voting votes) = stays_mild (Known u)
-
-      known_mild : (u : Undecided L) (b : Body L) → is_ballot b ≡ false → Mild (on_known t u a kept choice b)
-      known_mild u (Ticket k) none = first_mild u k (u.ticket a)
-      known_mild u (Rows k n rows) none = either Mild (is_named (u.ticket a) k) _ _ (rows_mild u n rows u.stage) (stays_mild (Known u))
-      known_mild u (Refused k reason) none = either Mild (is_named (u.ticket a) k) _ _ (refused_mild u u.stage) (stays_mild (Known u))
-      known_mild u (Voted k vote) none = let e : true ≡ false = none in cc
-      known_mild u Open none = stays_mild (Known u)
-      known_mild u (Fetch k n g q) none = stays_mild (Known u)
-      known_mild u (Write k n g x) none = stays_mild (Known u)
-      known_mild u (Prepare k n) none = stays_mild (Known u)
-      known_mild u (Commit k) none = stays_mild (Known u)
-      known_mild u (Abort k) none = stays_mild (Known u)
-      known_mild u (Ack k) none = stays_mild (Known u)
-      known_mild u (Inquire k) none = stays_mild (Known u)
-
-      row_mild : (voters acked : List (L.Site × Name)) (b : Body L) → Mild (on_row t voters acked a kept b)
-      row_mild voters acked (Ack k) =
-          either Mild (list_any (is_pair L a k) voters && not (list_any (is_pair L a k) acked)) _ _
-          (either Mild (are_acked L voters (acked ++ (a, k) ∷ [])) _ _ (either Mild kept _ _ (stays_mild Unknown) (stays_mild (Row voters acked))) (stays_mild (Row voters (acked ++ (a, k) ∷ []))))
-          (stays_mild (Row voters acked))
-      row_mild voters acked (Inquire k) = record { letters = (refl, tt); deeds = tt }
-      row_mild voters acked Open = stays_mild (Row voters acked)
-      row_mild voters acked (Fetch k n g q) = stays_mild (Row voters acked)
-      row_mild voters acked (Write k n g x) = stays_mild (Row voters acked)
-      row_mild voters acked (Prepare k n) = stays_mild (Row voters acked)
-      row_mild voters acked (Commit k) = stays_mild (Row voters acked)
-      row_mild voters acked (Abort k) = stays_mild (Row voters acked)
-      row_mild voters acked (Ticket k) = stays_mild (Row voters acked)
-      row_mild voters acked (Rows k n rows) = stays_mild (Row voters acked)
-      row_mild voters acked (Refused k reason) = stays_mild (Row voters acked)
-      row_mild voters acked (Voted k x) = stays_mild (Row voters acked)
-
-      unknown_mild : (b : Body L) → Mild (on_unknown t a b)
-      unknown_mild (Ticket k) = record { letters = (refl, tt); deeds = tt }
-      unknown_mild (Inquire k) = record { letters = (refl, tt); deeds = tt }
-      unknown_mild Open = stays_mild Unknown
-      unknown_mild (Fetch k n g q) = stays_mild Unknown
-      unknown_mild (Write k n g x) = stays_mild Unknown
-      unknown_mild (Prepare k n) = stays_mild Unknown
-      unknown_mild (Commit k) = stays_mild Unknown
-      unknown_mild (Abort k) = stays_mild Unknown
-      unknown_mild (Rows k n rows) = stays_mild Unknown
-      unknown_mild (Refused k reason) = stays_mild Unknown
-      unknown_mild (Voted k x) = stays_mild Unknown
-      unknown_mild (Ack k) = stays_mild Unknown
-
-      letter_mild : (b : Body L) (x : Txn L) → is_ballot b ≡ false → Mild (on_desk_letter t a kept choice b x)
-      letter_mild b (Known u) none = known_mild u b none
-      letter_mild b Unknown none = unknown_mild b
-      letter_mild b (Row voters acked) none = row_mild voters acked b
+  turned_mild : (t : Name) (choice : Choice L) (c : Cause L) (x : Txn L) (turn : Transition L) → is_of_phase c ≡ false → Turned t choice c x turn → Mild turn
+  turned_mild t choice c x turn none (rests d y) = stays_mild y
+  turned_mild t choice c x turn none (accepts u s idle) = let mild = states_mild t u s _ choice in record { letters = mild.letters; deeds = (refl, mild.deeds) }
+  turned_mild t choice c x turn none (begins_phase u idle) = let e : true ≡ false = none in cc
+  turned_mild t choice c x turn none (rolls_back u calm) = ends_mild t u (Rolled_back t) refl
+  turned_mild t choice c x turn none (is_given_up u) = ends_mild t u (Aborted t Given_up) refl
+  turned_mild t choice c x turn none (takes_ticket u a kept k free) = stays_mild (Known (ticketed u a k))
+  turned_mild t choice c x turn none (fetches u a kept k s asks free stage) = asks_mild t (ticketed u a k) s asks
+  turned_mild t choice c x turn none (writes u a kept k answer ws free stage) = writes_mild t (ticketed u a k) answer ws
+  turned_mild t choice c x turn none (turns_away u a kept k j own other) = record { letters = (refl, tt); deeds = tt }
+  turned_mild t choice c x turn none (takes_rows u a kept k n rows s asks own stage) = stays_mild _
+  turned_mild t choice c x turn none (evaluates u a kept k n rows s asks own stage all) = works_mild t u s (map (with_rows s a n rows) asks) choice
+  turned_mild t choice c x turn none (is_refused u a kept k reason own calm) = ends_mild t u (Aborted t By_refusal) refl
+  turned_mild t choice c x turn none (counts_no u a kept k votes own stage) = let e : true ≡ false = none in cc
+  turned_mild t choice c x turn none (counts_vote u a kept k v votes own stage not_no) = let e : true ≡ false = none in cc
+  turned_mild t choice c x turn none (presumes_abort a kept k) = record { letters = (refl, tt); deeds = tt }
+  turned_mild t choice c x turn none (tells_abort a kept k) = record { letters = (refl, tt); deeds = tt }
+  turned_mild t choice c x turn none (tells_commit voters acked a kept k) = record { letters = (refl, tt); deeds = tt }
+  turned_mild t choice c x turn none (counts_ack voters acked a kept k) = stays_mild _
+  turned_mild t choice c x turn none (lets_row_go voters acked a kept k all) = stays_mild _
 
   -- ---- worlds: what happens from one to another is in vain, and no ballot waits
   pub record Vainly (w v : World L) : Type 0 where
@@ -266,17 +196,17 @@ module _ {L : Lang} where
       (record { more = turn.deeds; vain = mild.deeds; is = refl; calm = every_append (λ l. is_ballot l.body ≡ false) w.letters turn.letters calm mild.letters }) (vainly_none w calm)
 
   pub begins_vainly : (w : World L) → AreCalm w.letters → Vainly w (begins w)
-  begins_vainly w calm = either (Vainly w) (is_desk_within (desk_began w.desk)) (begun w) w (record { more = Began (next_txn w.desk) ∷ []; vain = (refl, tt); is = refl; calm = calm }) (vainly_none w calm)
+  begins_vainly w calm = either (Vainly w) (is_desk_within (desk_began w.desk)) (begun false w) w (record { more = Began (next_txn w.desk) ∷ []; vain = (refl, tt); is = refl; calm = calm }) (vainly_none w calm)
 
   module _ (w : World L) (calm : AreCalm w.letters) (t : Name) (choice : Choice L) where
     pub state_vainly : (s : L.Statement) → Vainly w (called w t choice (State s))
-    state_vainly s = turns_vainly w t _ calm (asks_state t choice s (w.desk.txn t))
+    state_vainly s = turns_vainly w t _ calm (turned_mild t choice _ _ _ refl (request_turned t choice (State s) (w.desk.txn t)))
 
     pub rollback_vainly : Vainly w (called w t choice Rollback)
-    rollback_vainly = turns_vainly w t _ calm (asks_rollback t choice (w.desk.txn t))
+    rollback_vainly = turns_vainly w t _ calm (turned_mild t choice _ _ _ refl (request_turned t choice Rollback (w.desk.txn t)))
 
     pub give_up_vainly : Vainly w (called w t choice Give_up)
-    give_up_vainly = turns_vainly w t _ calm (gives_up t choice (w.desk.txn t))
+    give_up_vainly = turns_vainly w t _ calm (turned_mild t choice _ _ _ refl (request_turned t choice Give_up (w.desk.txn t)))
 
   pub comes_vainly : (w : World L) (kept : Bool) (choice : Choice L) (l : Letter L) → is_ballot l.body ≡ false → AreCalm w.letters → Vainly w (comes w kept choice l)
   comes_vainly w kept choice l none calm = go (is_for_desk l.body)
@@ -292,6 +222,6 @@ module _ {L : Lang} where
           every_bodies (b ∷ bs) all = (all.0, every_bodies bs all.1)
 
       go : (b : Bool) → Vainly w (comes_to b w kept choice l)
-      go true = turns_vainly w l.txn _ calm (letter_mild l.txn choice l.site kept l.body (w.desk.txn l.txn) none)
+      go true = turns_vainly w l.txn _ calm (turned_mild l.txn choice _ _ _ none (letter_turned l.txn choice l.site kept l.body (w.desk.txn l.txn)))
       go false = either (Vainly w) (is_within (site_after (w.sites l.site) (on_letter (w.sites l.site) l.txn kept l.body))) _ w
           (record { more = []; vain = tt; is = sym (append-nil w.past); calm = every_append (λ m. is_ballot m.body ≡ false) w.letters out calm said_calm }) (vainly_none w calm)

@@ -20,6 +20,7 @@ start = record {
   sites = λ a. record { kept = λ g. part_of g (record { north = 7; south = 0 }); status = λ k. Dead; known = []; life = 1; number = 0 };
   letters = [];
   past = [];
+  version = 1;
 }
 
 abbrev one : Name
@@ -61,8 +62,8 @@ at_sites leaves true here = inr (inl refl)
 at_sites leaves false here = inl refl
 
 -- every letter of the toy language finds room, and all rows fit
-taken_well : (w : World toy) (l : Letter toy) → passes w true moves l ≡ true → Well ⊥ w true moves l
-taken_well w l within = record { is_kept = refl; within = within; room = room l.body; fit = fit l.body; homes = at_sites (false ∷ true ∷ []) }
+taken_well : (w : World toy) (l : Letter toy) → passes w true moves l ≡ true → Well ⊥ Move w true moves l
+taken_well w l within = record { is_kept = refl; within = within; room = room l.body; fit = λ reading. fit l.body; homes = at_sites (false ∷ true ∷ []) }
   where
     room : (c : Body toy) → RoomOr ⊥ (w.sites l.site) c
     room (Write k op g x) = λ v active. inl refl
@@ -78,7 +79,7 @@ taken_well w l within = record { is_kept = refl; within = within; room = room l.
     room (Ack k) = tt
     room (Inquire k) = tt
 
-    fit : (c : Body toy) → RowsFit l.site (w.sites l.site) c
+    fit : (c : Body toy) → RowsFit Move l.site (w.sites l.site) c
     fit (Fetch k op g q) = λ home v active. refl
     fit Open = tt
     fit (Write k op g x) = tt
@@ -106,7 +107,7 @@ move_is_done = record {
   all = (well 0 _ refl, (well 1 _ refl, (well 2 _ refl, (well 3 _ refl, (well 4 _ refl, (well 5 _ refl, (well 6 _ refl, (well 7 _ refl, (well 8 _ refl, (well 9 _ refl, refl))))))))));
 }
   where
-    well : (n : ℕ) (l : Letter toy) → passes (after n) true moves l ≡ true → Well ⊥ (after n) true moves l
+    well : (n : ℕ) (l : Letter toy) → passes (after n) true moves l ≡ true → Well ⊥ Move (after n) true moves l
     well n l within = taken_well (after n) l within
 
 quiet_again : IsQuiet (taken (replicate 8 (true, (0, []))) (called (does one (move ∷ []) (begins start)) one (0, []) Commit_call))

@@ -10,6 +10,7 @@ use Rattle.protocol.specs.World.{World, addressed, with_site, turned, called, co
 use Rattle.protocol.specs.Client.{first, next}
 use Rattle.protocol.specs.VisitPlaces.{at, VisitPlace, Works, Flow, away, asked, offered, works}
 use Rattle.protocol.specs.StatementCourse.{AtSites, Stands, AskWaits, came, unsent, sent, told, AskStands, Far, reads, writes, is_answered, InStatement, Steady, RowsFit, Room, passes_to, Well}
+use Rattle.protocol.specs.Rounds.{is_reading, is_stage_reading}
 use Rattle.protocol.proofs.Basics.{Every, In, every_more, in_right, if_true, same_refl, clash}
 use Rattle.protocol.proofs.Locks.{Once}
 use Rattle.protocol.proofs.Queue.{at_append, at_here}
@@ -50,33 +51,33 @@ module _ {L : Lang} where
   spot_head f b tk n c bs (works k s) = flow_head k s.visit.done n c bs s.flow
 
   -- what a fetch brings
-  fetch_said : (s : SiteState L) (t : Name) (b : Bool) (tk : Option Name) (n : ℕ) (k : Name) (op : ℕ) (g : L.Leaf) (q : L.Query) (bs : List (Body L)) (a : L.Site) → L.home g ≡ a → RowsFit a s (Fetch k op g q) → VisitPlace s.status b tk n (Fetch k op g q ∷ bs) →
-      (rows : L.Rows) × (L.well_formed g rows ≡ true) × (said s (on_letter s t true (Fetch k op g q)) ≡ Rows k op rows ∷ [])
-  fetch_said s t b tk n k op g q bs a home fit (away p) = let e : Fetch k op g q ∷ bs ≡ [] = p.silent in cc
-  fetch_said s t b tk n k op g q bs a home fit (asked p) = let e : Fetch k op g q ∷ bs ≡ Open ∷ [] = p.waits in cc
-  fetch_said s t b tk n k op g q bs a home fit (offered j p) = let e : Fetch k op g q ∷ bs ≡ Ticket j ∷ [] = p.waits in cc
-  fetch_said s t b tk n k op g q bs a home fit (works j p) =
+  fetch_said : (y : L.Statement) (s : SiteState L) (t : Name) (b : Bool) (tk : Option Name) (n : ℕ) (k : Name) (op : ℕ) (g : L.Leaf) (q : L.Query) (bs : List (Body L)) (a : L.Site) → L.home g ≡ a → RowsFit y a s (Fetch k op g q) → VisitPlace s.status b tk n (Fetch k op g q ∷ bs) →
+      (rows : L.Rows) × (L.well_formed y g rows ≡ true) × (said s (on_letter s t true (Fetch k op g q)) ≡ Rows k op rows ∷ [])
+  fetch_said y s t b tk n k op g q bs a home fit (away p) = let e : Fetch k op g q ∷ bs ≡ [] = p.silent in cc
+  fetch_said y s t b tk n k op g q bs a home fit (asked p) = let e : Fetch k op g q ∷ bs ≡ Open ∷ [] = p.waits in cc
+  fetch_said y s t b tk n k op g q bs a home fit (offered j p) = let e : Fetch k op g q ∷ bs ≡ Ticket j ∷ [] = p.waits in cc
+  fetch_said y s t b tk n k op g q bs a home fit (works j p) =
       let w : Works k s.status b tk n (Fetch k op g q ∷ bs) = subst (λ i. Works i s.status b tk n (Fetch k op g q ∷ bs)) (sym p.flow.0) p in
       (L.parts q (L.changed g w.visit.changes (s.kept g)), fit home w.visit w.active, ap (said s) (fetch_acts s b tk n k bs op g q w))
 
   -- a letter comes to its site: what is awaited is on its way still
-  module _ (law : IsLawful L) (t : Name) (s : L.Statement) (before : List (Deed L)) (u : Undecided L) (w : World L) (l : Letter L) (q : List (Letter L)) (e : w.letters ≡ l ∷ q) (stands : Stands t u w) (fit : RowsFit l.site (w.sites l.site) l.body) (to_site : is_for_desk l.body ≡ false) where
+  module _ (law : IsLawful L) (t : Name) (s : L.Statement) (before : List (Deed L)) (u : Undecided L) (w : World L) (l : Letter L) (q : List (Letter L)) (e : w.letters ≡ l ∷ q) (stands : Stands t u w) (fit : is_stage_reading u.stage ≡ true → RowsFit s l.site (w.sites l.site) l.body) (to_site : is_for_desk l.body ≡ false) where
     abbrev out : List (Letter L)
     out = addressed l.site l.txn (said (w.sites l.site) (on_letter (w.sites l.site) l.txn true l.body))
 
     front : VisitPlace (w.sites l.site).status (u.visited l.site) (u.ticket l.site) (u.sent l.site) (l.body ∷ at l.site q)
     front = subst (VisitPlace (w.sites l.site).status (u.visited l.site) (u.ticket l.site) (u.sent l.site)) (ap (at l.site) e ∙ if_true (L.same_site l.site l.site) (l.body ∷ at l.site q) (at l.site q) ((law.sites l.site l.site).1 refl)) (stands.spots l.site)
 
-    answered_here : (x : Ask L) (k : Name) (n : ℕ) → x.number ≡ Some n → L.same_site (L.home x.leaf) l.site ≡ true → Fetch k n x.leaf x.query ≡ l.body → AskWaits u (q ++ out) x
-    answered_here x k n number here is =
+    answered_here : is_stage_reading u.stage ≡ true → (x : Ask L) (k : Name) (n : ℕ) → x.number ≡ Some n → L.same_site (L.home x.leaf) l.site ≡ true → Fetch k n x.leaf x.query ≡ l.body → AskWaits s u (q ++ out) x
+    answered_here reading x k n number here is =
         let a = l.site in
-        let told_ = fetch_said (w.sites a) l.txn (u.visited a) (u.ticket a) (u.sent a) k n x.leaf x.query (at a q) a ((law.sites (L.home x.leaf) a).0 here) (subst (RowsFit a (w.sites a)) (sym is) fit) (subst (λ c. VisitPlace (w.sites a).status (u.visited a) (u.ticket a) (u.sent a) (c ∷ at a q)) (sym is) front) in
+        let told_ = fetch_said s (w.sites a) l.txn (u.visited a) (u.ticket a) (u.sent a) k n x.leaf x.query (at a q) a ((law.sites (L.home x.leaf) a).0 here) (subst (RowsFit s a (w.sites a)) (sym is) (fit reading)) (subst (λ c. VisitPlace (w.sites a).status (u.visited a) (u.ticket a) (u.sent a) (c ∷ at a q)) (sym is) front) in
         told k n told_.0 number told_.1
         (subst (In (Rows k n told_.0)) (sym (at_append (L.home x.leaf) q out)) (in_right (Rows k n told_.0) (at (L.home x.leaf) q) (at (L.home x.leaf) out)
         (subst (In (Rows k n told_.0)) (sym (at_here (L.home x.leaf) a l.txn _ here ∙ ap (λ c. said (w.sites a) (on_letter (w.sites a) l.txn true c)) (sym is) ∙ told_.2)) (inl refl))))
 
-    still_waits : (x : Ask L) → AskWaits u w.letters x → AskWaits u (q ++ out) x
-    still_waits x waits = go (subst (λ z. AskWaits u z x) e waits)
+    still_waits : is_stage_reading u.stage ≡ true → (x : Ask L) → AskWaits s u w.letters x → AskWaits s u (q ++ out) x
+    still_waits reading x waits = go (subst (λ z. AskWaits s u z x) e waits)
       where
         rest : (c : Body L) → In c (at (L.home x.leaf) q) → In c (at (L.home x.leaf) (q ++ out))
         rest c here = in_at (L.home x.leaf) c q out here
@@ -86,14 +87,14 @@ module _ {L : Lang} where
         found c true (inr below) = inr below
         found c false here = inr here
 
-        go : AskWaits u (l ∷ q) x → AskWaits u (q ++ out) x
+        go : AskWaits s u (l ∷ q) x → AskWaits s u (q ++ out) x
         go (came is) = came is
         go (unsent number visited none) = unsent number visited none
-        go (sent k n number here) = ⊎_elim (λ f. answered_here x k n number f.0 f.1) (λ below. sent k n number (rest (Fetch k n x.leaf x.query) below)) (found (Fetch k n x.leaf x.query) (L.same_site (L.home x.leaf) l.site) here)
+        go (sent k n number here) = ⊎_elim (λ f. answered_here reading x k n number f.0 f.1) (λ below. sent k n number (rest (Fetch k n x.leaf x.query) below)) (found (Fetch k n x.leaf x.query) (L.same_site (L.home x.leaf) l.site) here)
         go (told k n rows number fits here) = ⊎_elim (λ f. clash (ap is_for_desk (sym f.1)) to_site) (λ below. told k n rows number fits (rest (Rows k n rows) below)) (found (Rows k n rows) (L.same_site (L.home x.leaf) l.site) here)
 
     pub site_far : (past : List (Deed L)) → Far t s before u w.letters past → Far t s before u (q ++ out) past
-    site_far past (reads asks is missing all deeds) = reads asks is missing (every_more (AskStands u w.letters) (AskStands u (q ++ out)) asks (λ x a. record { home = a.home; visited = a.visited; waits = still_waits x a.waits }) all) deeds
+    site_far past (reads asks is missing all deeds) = reads asks is missing (every_more (AskStands s u w.letters) (AskStands s u (q ++ out)) asks (λ x a. record { home = a.home; visited = a.visited; waits = still_waits (ap is_stage_reading is) x a.waits }) all) deeds
     site_far past (writes asks choice x ws is all deeds) = writes asks choice x ws is all deeds
     site_far past (is_answered asks choice is deeds) = is_answered asks choice is deeds
 
@@ -132,7 +133,7 @@ module _ {L : Lang} where
       known_step (Inquire k) to_desk of e = absurd of
 
     -- a letter that waits comes, and is taken as it should be
-    module _ (bare : (g : L.Leaf) → L.touches g L.none ≡ false) (before : List (Deed L)) (w : World L) (at_ : InStatement t s before w) (kept : Bool) (choice : Choice L) (l : Letter L) (q : List (Letter L)) (e : w.letters ≡ l ∷ q) (E : Type 0) (well : Well E w kept choice l) (room : Room (w.sites l.site) l.body) where
+    module _ (bare : (g : L.Leaf) → L.touches g L.none ≡ false) (before : List (Deed L)) (w : World L) (at_ : InStatement t s before w) (kept : Bool) (choice : Choice L) (l : Letter L) (q : List (Letter L)) (e : w.letters ≡ l ∷ q) (E : Type 0) (well : Well E s w kept choice l) (room : Room (w.sites l.site) l.body) where
       own : l.txn ≡ t
       own = (subst (Every (λ x. x.txn ≡ t)) e at_.stands.alone).0
 
@@ -150,7 +151,7 @@ module _ {L : Lang} where
         u = at_.u;
         known = at_.known;
         stands = site_stands law bare t at_.u w l q e at_.stands to_site room;
-        far = site_far law t s before at_.u w l q e at_.stands well.fit to_site w.past at_.far;
+        far = site_far law t s before at_.u w l q e at_.stands (λ r. well.fit (ap (λ j. is_reading (w.desk.txn j)) own ∙ ap is_reading at_.known ∙ r)) to_site w.past at_.far;
       }
 
       go : (b : Bool) → is_for_desk l.body ≡ b → passes_to b w kept choice l ≡ true → InStatement t s before (comes_to b (record w { letters = q }) kept choice l)
@@ -178,6 +179,6 @@ module _ {L : Lang} where
         none_missing (x ∷ asks) all = rw all.0 (none_missing asks all.1)
 
         go : Far t s before at_.u w.letters w.past → Steady t w × ((asks : List (Ask L)) × (choice : Choice L) × (w.past ≡ before ++ Stated t s ∷ Worked t s asks choice ∷ Answered t choice.0 ∷ []))
-        go (reads asks is missing all deeds) = clash (none_missing asks (all_came w t at_.u at_.stands silent asks (every_more (AskStands at_.u w.letters) (AskWaits at_.u w.letters) asks (λ x a. a.waits) all))) missing
+        go (reads asks is missing all deeds) = clash (none_missing asks (all_came w t at_.u at_.stands silent s asks (every_more (AskStands s at_.u w.letters) (AskWaits s at_.u w.letters) asks (λ x a. a.waits) all))) missing
         go (writes asks choice x ws is all deeds) = let e : x ∷ ws ≡ [] = none_unsent w t at_.u at_.stands silent (x ∷ ws) all in cc
         go (is_answered asks choice is deeds) = (record { u = at_.u; known = at_.known; idle = is; stands = at_.stands; silent = silent }, (asks, choice, deeds))

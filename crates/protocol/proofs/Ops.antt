@@ -2,7 +2,7 @@
 use Rattle.std.proofs.Common.{◌≡◌, refl, sym, ap, ap₂, ◌∙◌, ◌+◌, Bool, true, false, ◌||◌, List, [], ◌∷◌, ◌++◌, length, ⊎_elim, if◌then◌else◌, arith, filter}
 pub use Rattle.protocol.specs.Parts.{Op, Get, Set, sets, writes_to}
 use Rattle.protocol.specs.Language.{Lang, IsLawful, written}
-use Rattle.protocol.proofs.Basics.{if_true, if_false, by_test, clash, or_left, or_none_left, or_none_right}
+use Rattle.protocol.proofs.Basics.{if_true, if_false, by_test, clash, or_left, or_none_left, or_none_right, or_false}
 
 -- ---- lists
 pub split_same : {A : Type 0} (xs xs' ys ys' : List A) → xs ++ ys ≡ xs' ++ ys' → length xs ≡ length xs' → (xs ≡ xs') × (ys ≡ ys')
@@ -112,10 +112,6 @@ module _ (L : Lang) where
 
     pub touches_by : (g : L.Leaf) (ws : List (L.Leaf × L.Write)) → L.touches g (adds ws L.none) ≡ writes_to L g ws
     touches_by g ws = touches_adds g ws L.none ∙ ap (λ b. writes_to L g ws || b) (law.touches_none g) ∙ or_false (writes_to L g ws)
-      where
-        or_false : (b : Bool) → (b || false) ≡ b
-        or_false true = refl
-        or_false false = refl
 
     -- intentions that are none are those of no write
     pub empty_by : (ws : List (L.Leaf × L.Write)) → L.is_empty (adds ws L.none) ≡ true → ws ≡ []

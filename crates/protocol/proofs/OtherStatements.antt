@@ -1,29 +1,12 @@
 -- A site's machine takes the same steps whatever the statements are.
-use Rattle.std.proofs.Common.{◌≡◌, refl, sym, ap, ap₂, ◌∙◌, suc, ◌==◌, ◌&&◌, ◌||◌, not, Bool, true, false, List, [], ◌∷◌, ◌++◌, map, length, if◌then◌else◌, ◌^◌, nat_lt, nat_le}
-use Rattle.std.specs.List.{filter, list_any, list_all, flat_map}
+use Rattle.std.proofs.Common.{◌≡◌, refl, sym, ap, ap₂, ◌∙◌, suc, ◌==◌, ◌&&◌, not, Bool, true, false, List, [], ◌∷◌, ◌++◌, map, length, if◌then◌else◌, ◌^◌, nat_lt, nat_le}
+use Rattle.std.specs.List.{flat_map}
 use Rattle.std.proofs.lemmas.List.{map-append}
 use Rattle.protocol.specs.Language.{Lang, Name, same, put}
+use Rattle.protocol.proofs.Basics.{any_same, all_same, filter_same, if_with}
 use Rattle.protocol.specs.Letter.{Body, Letter, No, Read, Lock, Full, Open, Fetch, Write, Prepare, Commit, Abort, Ticket, Rows, Refused, Voted, Ack, Inquire}
 use Rattle.protocol.specs.Site.{Visit, Status, Dead, Active, Prepared, SiteState, Act, Says, Opens, Locks, Prepares, Applies, Ends, on_fetch, on_write, on_prepare, on_commit, on_abort, is_dead, is_active, has_exclusive, has_lock, others_exclusive, others_lock, next_ticket, new_visit, with_status, on_letter, on_give_up, site_after, said, sees, restarted, site_restarted, inquiry_of, inquiries, is_short, is_within}
 use Rattle.protocol.specs.Statements.{Statements, with_statements, body_with, letter_with, visit_with, status_with, site_with, act_with}
-
--- tests that agree on each item agree on the list
-any_same : {A : Type 0} (p q : A → Bool) → ((x : A) → p x ≡ q x) → (xs : List A) → list_any p xs ≡ list_any q xs
-any_same p q same [] = refl
-any_same p q same (x ∷ xs) = ap₂ (λ (a b : Bool). a || b) (same x) (any_same p q same xs)
-
-all_same : {A : Type 0} (p q : A → Bool) → ((x : A) → p x ≡ q x) → (xs : List A) → list_all p xs ≡ list_all q xs
-all_same p q same [] = refl
-all_same p q same (x ∷ xs) = ap₂ (λ (a b : Bool). a && b) (same x) (all_same p q same xs)
-
-filter_same : {A : Type 0} (p q : A → Bool) → ((x : A) → p x ≡ q x) → (xs : List A) → filter p xs ≡ filter q xs
-filter_same p q same [] = refl
-filter_same {A} p q same (x ∷ xs) = ap₂ (λ (b : Bool) (rest : List A). if b then x ∷ rest else rest) (same x) (filter_same p q same xs)
-
--- a choice of what is made of both
-if_with : {A B : Type 0} (f : A → B) (b : Bool) (x y : A) → f (if b then x else y) ≡ (if b then f x else f y)
-if_with f true x y = refl
-if_with f false x y = refl
 
 module _ {L : Lang} (S : Statements L) where
   dead_same : (st : Status L) → is_dead (status_with S st) ≡ is_dead st
@@ -131,7 +114,7 @@ module _ {L : Lang} (S : Statements L) where
   with_same s status other agree names i = record {
     kept = s.kept;
     status = λ j. agree j i;
-    known = filter_same (λ j. not (is_dead (status j))) (λ j. not (is_dead (other j))) (λ j. ap not (sym (dead_same (status j)) ∙ ap is_dead (agree j))) names i;
+    known = filter_same (λ j. not (is_dead (status j))) (λ j. not (is_dead (other j))) names (λ j here. ap not (sym (dead_same (status j)) ∙ ap is_dead (agree j))) i;
     life = s.life;
     number = s.number;
   }
@@ -204,4 +187,4 @@ module _ {L : Lang} (S : Statements L) where
   within_same s =
       ap₂ (λ (a b : Bool). nat_lt s.life (2 ^ 63) && nat_lt s.number (2 ^ 63) && a && b)
       (all_same (λ k. is_short (status_with S (s.status k))) (λ k. is_short (s.status k)) (λ k. short_same (s.status k)) s.known)
-      (ap (λ (names : List Name). nat_le (length names) 1024) (filter_same (λ k. is_active (status_with S (s.status k))) (λ k. is_active (s.status k)) (λ k. alive_same (s.status k)) s.known))
+      (ap (λ (names : List Name). nat_le (length names) 1024) (filter_same (λ k. is_active (status_with S (s.status k))) (λ k. is_active (s.status k)) s.known (λ k here. alive_same (s.status k))))

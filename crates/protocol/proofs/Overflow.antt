@@ -30,7 +30,7 @@ module _ {L : Lang} where
       ∙ if_true (L.is_full g x v.changes) (Ends k (Refused k Full ∷ [])) new full)
 
   module _ (law : IsLawful L) (once : Once L.sites) (E : Type 0) (t : Name) (s : L.Statement) (before : List (Deed L)) (w : World L) where
-    module _ (at_ : InStatement t s before w) (kept : Bool) (choice : Choice L) (l : Letter L) (q : List (Letter L)) (e : w.letters ≡ l ∷ q) (well : Well E w kept choice l) where
+    module _ (at_ : InStatement t s before w) (kept : Bool) (choice : Choice L) (l : Letter L) (q : List (Letter L)) (e : w.letters ≡ l ∷ q) (well : Well E s w kept choice l) where
       abbrev here : L.Site
       here = l.site
 
@@ -123,7 +123,7 @@ module _ {L : Lang} where
           go (Inquire k) is = goes (subst (Room (w.sites here)) (sym is) tt)
 
     -- a letter comes while the statement works or fails
-    pub went_on : Within w → (kept : Bool) (choice : Choice L) (l : Letter L) (q : List (Letter L)) → w.letters ≡ l ∷ q → Well E w kept choice l → Went E t s before w → Went E t s before (next w kept choice)
+    pub went_on : Within w → (kept : Bool) (choice : Choice L) (l : Letter L) (q : List (Letter L)) → w.letters ≡ l ∷ q → Well E s w kept choice l → Went E t s before w → Went E t s before (next w kept choice)
     went_on within kept choice l q e well (inl at_) = works_on at_ kept choice l q e well
     went_on within kept choice l q e well (inr failing) = inr (failing.0, failing_goes_on law once t before w l q e within kept choice (kept_end kept l.body well.is_kept) well.homes failing.1)
 

@@ -19,6 +19,7 @@ opening p = record {
   sites = λ a. record { kept = λ g. part_of g p; status = λ k. Dead; known = []; life = 1; number = 0 };
   letters = [];
   past = [];
+  version = 1;
 }
 
 -- a row of 7 in the north
@@ -185,7 +186,7 @@ applied_once = refl
 
 -- what the moved row was answered and wrote is explained: over every whole database that gives the rows received the move means just that
 move_explained : Explained (Worked one Move (came_of false 7 ∷ came_of true 0 ∷ []) moves)
-move_explained = (tt, λ whole fits gives. (refl, wrote whole.north whole.south (some_is gives.0) (some_is gives.1.0)))
+move_explained = (tt, λ whole fits tag gives. (refl, wrote whole.north whole.south (some_is gives.0) (some_is gives.1.0)))
   where
     between : ℕ → ℕ → List (Bool × ℕ)
     between north south = toy.writes (record { north = north; south = south }) (record { north = south; south = north })
@@ -194,7 +195,7 @@ move_explained = (tt, λ whole fits gives. (refl, wrote whole.north whole.south 
     wrote north south n s = subst₂ (λ a b. between 7 0 ≡ between a b) n s refl
 
 start_opens : IsOpening (record { north = 7; south = 0 }) start
-start_opens = record { is_whole = tt; letters = refl; past = refl; visits = λ a k. refl; tickets = λ a. refl; undecided = λ t. refl; names = refl; rebuilt = rebuilt }
+start_opens = record { is_whole = tt; letters = refl; past = refl; visits = λ a k. refl; tickets = λ a. refl; undecided = λ t. refl; names = refl; rebuilt = rebuilt; in_force = refl }
   where
     rebuilt : (g : Bool) → part_of g (record { north = 7; south = 0 }) ≡ part_of g (record { north = 7; south = 0 })
     rebuilt g = refl
@@ -327,7 +328,7 @@ read_hears_no_abort = refl
 
 -- the language whose rows fit a leaf where they are below 7
 abbrev below_seven : Lang
-below_seven = record toy { well_formed = λ g rows. nat_lt rows 7 }
+below_seven = record toy { well_formed = λ s g rows. nat_lt rows 7 }
 
 -- a part 9 in the north, which doesn't fit
 abbrev misfit : World below_seven
@@ -336,6 +337,7 @@ misfit = record {
   sites = λ a. record { kept = λ g. 9; status = λ k. Dead; known = []; life = 1; number = 0 };
   letters = [];
   past = [];
+  version = 1;
 }
 
 -- rows that don't fit their leaf are passed over: the statement waits

@@ -1,9 +1,9 @@
 -- One client letter by letter: each step of a transaction leads from fact to fact.
-use Rattle.std.proofs.Common.{◌≡◌, refl, sym, ap, ◌∙◌, subst, Bool, true, false, List, [], ◌∷◌, ◌++◌, map, inl, inr, append-nil}
+use Rattle.std.proofs.Common.{◌≡◌, refl, sym, ap, ◌∙◌, subst, Bool, true, false, List, [], ◌∷◌, ◌++◌, map, inl, inr, append-nil, ◌&&◌}
 use Rattle.protocol.specs.Language.{Lang, IsLawful, Name, same}
 use Rattle.protocol.specs.Letter.{Letter}
-use Rattle.protocol.specs.Desk.{Choice, Txn, Unknown, Known, Row, Deed, Aborted, Given_up, Give_up, fresh, stays, is_undecided, next_txn, desk_began, desk_after, on_request, is_desk_within}
-use Rattle.protocol.specs.World.{World, begun, begins, called, turned, turns}
+use Rattle.protocol.specs.Desk.{Choice, Txn, Unknown, Known, Row, Deed, Aborted, Given_up, Give_up, fresh, stays, is_undecided, next_txn, desk_began, desk_after, on_request, is_desk_within, fresh_as, State}
+use Rattle.protocol.specs.World.{World, begun, begins, called, turned, turns, first_turn, refragments}
 use Rattle.protocol.specs.Serial.{IsOpening}
 use Rattle.protocol.specs.Client.{next, IsQuiet}
 use Rattle.protocol.specs.VisitPlaces.{Unlocked}
@@ -11,7 +11,7 @@ use Rattle.protocol.specs.StatementCourse.{AtSites, Steady}
 use Rattle.protocol.specs.AfterAbort.{LeavingAt, EndKept, Within, Since, Ending, doomed, has_ended, Failing, Went, Lost, may_end, has_gone}
 use Rattle.protocol.specs.ClientLaw.{CourseLaw}
 use Rattle.protocol.specs.VisitPlaces.{at}
-use Rattle.protocol.proofs.Basics.{either, put_all, put_here, same_law, if_true}
+use Rattle.protocol.proofs.Basics.{either, put_all, put_here, same_law, if_true, both_true}
 use Rattle.protocol.proofs.Locks.{Once}
 use Rattle.protocol.proofs.StatementMeetsNoLock.{begins_stands}
 use Rattle.protocol.proofs.Limits.{begins_within, called_within, next_within}
@@ -34,13 +34,31 @@ module _ {L : Lang} where
 
   -- a transaction begins
   pub begins_steady : (w : World L) → IsQuiet w → is_desk_within (desk_began w.desk) ≡ true → Steady (next_txn w.desk) (begins w)
-  begins_steady w quiet within = subst (Steady (next_txn w.desk)) (sym (if_true (is_desk_within (desk_began w.desk)) (begun w) w within)) (record {
+  begins_steady w quiet within = subst (Steady (next_txn w.desk)) (sym (if_true (is_desk_within (desk_began w.desk)) (begun false w) w within)) (record {
     u = fresh;
     known = put_here same same_law (next_txn w.desk) (Known fresh) w.desk.txn;
     idle = refl;
-    stands = begins_stands w quiet;
+    stands = begins_stands false w quiet;
     silent = quiet.silent;
   })
+
+  -- a refragmentation begins as a transaction does, and states its one statement
+  pub moves_steady : (w : World L) → IsQuiet w → Steady (next_txn w.desk) (begun true w)
+  moves_steady w quiet = record {
+    u = fresh_as true;
+    known = put_here same same_law (next_txn w.desk) (Known (fresh_as true)) w.desk.txn;
+    idle = refl;
+    stands = begins_stands true w quiet;
+    silent = quiet.silent;
+  }
+
+  pub moves_called : (w : World L) (s : L.Statement) (choice : Choice L) → is_desk_within (begun true w).desk ≡ true → is_desk_within (desk_after (begun true w).desk (next_txn w.desk) (first_turn w s choice).txn) ≡ true → refragments w s choice ≡ called (begun true w) (next_txn w.desk) choice (State s)
+  moves_called w s choice within room =
+      let t = next_txn w.desk in
+      let v = begun true w in
+      if_true (is_desk_within v.desk && is_desk_within (desk_after v.desk t (first_turn w s choice).txn)) (turned v t (first_turn w s choice)) w (both_true (is_desk_within v.desk) (is_desk_within (desk_after v.desk t (first_turn w s choice).txn)) within room)
+      ∙ sym (if_true (is_desk_within (desk_after v.desk t (first_turn w s choice).txn)) (turned v t (first_turn w s choice)) v room)
+      ∙ ap (λ x. turns v t (on_request t choice (State s) x)) (sym (put_here same same_law t (Known (fresh_as true)) w.desk.txn))
 
   -- whatever becomes of a letter, a transaction that may be given up still may, or has ended
   pub went_lost : (E : Type 0) (t : Name) (s : L.Statement) (before : List (Deed L)) (w : World L) → Went E t s before w → Lost t before w
@@ -86,6 +104,8 @@ module _ {L : Lang} where
       limits = λ w within. (begins_within w within, λ t choice request. called_within w t choice request within, λ kept choice. next_within law w kept choice within);
       opened = opening_quiet;
       begun = begins_steady;
+      moves_steady = moves_steady;
+      moves_called = moves_called;
       stated = λ w t s choice steady fetched written within. inl (statement_starts law once t s w choice steady fetched written within);
       came = λ w t s before kept choice l q e within well went. went_on law once E t s before w within kept choice l q e well went;
       answered = λ w t s before went silent. went_ends law once E t s before w went silent;

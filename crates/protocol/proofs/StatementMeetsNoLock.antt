@@ -2,7 +2,7 @@
 use Rattle.std.proofs.Common.{◌≡◌, refl, sym, ap, ◌∙◌, subst, ℕ, Bool, true, false, List, [], ◌∷◌, Some, None, append-nil}
 use Rattle.protocol.specs.Language.{Lang, IsLawful, Name, same, put}
 use Rattle.protocol.specs.Letter.{Ticket, Rows, Letter}
-use Rattle.protocol.specs.Desk.{Stage, Undecided, Known, Transition, fresh, next_txn, is_undecided, stays}
+use Rattle.protocol.specs.Desk.{Stage, Undecided, Known, Transition, fresh_as, next_txn, is_undecided, stays}
 use Rattle.protocol.specs.World.{World, begun, turned}
 pub use Rattle.protocol.specs.Client.{IsQuiet}
 use Rattle.protocol.proofs.Basics.{Every, put_all, same_law, if_true, if_false, clash}
@@ -10,11 +10,11 @@ use Rattle.protocol.proofs.Queue.{at, VisitPlace, away, spot_ticket, spot_rows}
 use Rattle.protocol.proofs.AtDesk.{Stands, Goes, turn_stands}
 
 module _ {L : Lang} where
-  -- a transaction begins
-  pub begins_stands : (w : World L) → IsQuiet w → Stands (next_txn w.desk) fresh (begun w)
-  begins_stands w quiet = record {
+  -- a transaction begins, or a refragmentation
+  pub begins_stands : (moves : Bool) (w : World L) → IsQuiet w → Stands (next_txn w.desk) (fresh_as moves) (begun moves w)
+  begins_stands moves w quiet = record {
     alone = subst (Every (λ l. l.txn ≡ next_txn w.desk)) (sym quiet.silent) tt;
-    others = put_all same same_law (next_txn w.desk) (Known fresh) w.desk.txn (λ j x. same j (next_txn w.desk) ≡ false → is_undecided x ≡ false) (λ other. clash ((same_law (next_txn w.desk) (next_txn w.desk)).1 refl) other) (λ j apart other. quiet.decided j);
+    others = put_all same same_law (next_txn w.desk) (Known (fresh_as moves)) w.desk.txn (λ j x. same j (next_txn w.desk) ≡ false → is_undecided x ≡ false) (λ other. clash ((same_law (next_txn w.desk) (next_txn w.desk)).1 refl) other) (λ j apart other. quiet.decided j);
     among = λ a is. cc;
     spots = λ a. away (record { unvisited = refl; no_ticket = refl; nothing_sent = refl; silent = ap (at a) quiet.silent; free = quiet.calm a });
   }

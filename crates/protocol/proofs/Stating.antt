@@ -67,28 +67,28 @@ module _ {L : Lang} where
   -- ---- turns
   module _ (law : IsLawful L) (once : Once L.sites) (t : Name) (s : L.Statement) (before : List (Deed L)) (u : Undecided L) (q : List (Letter L)) where
     -- fetches go out
-    pub asks_on : (visited : L.Site → Bool) (letters : List (Letter L)) → First law t u visited letters → (asks : List (Ask L)) (past : List (Deed L)) → Every (λ x. In (L.home x.leaf) L.sites × (visited (L.home x.leaf) ≡ true)) asks → Every (AskReady (record u { visited = visited }) q) asks → list_all (λ x. is_some x.rows) asks ≡ false → past ≡ before ++ Stated t s ∷ [] →
+    pub asks_on : (visited : L.Site → Bool) (letters : List (Letter L)) → First law t u visited letters → (asks : List (Ask L)) (past : List (Deed L)) → Every (λ x. In (L.home x.leaf) L.sites × (visited (L.home x.leaf) ≡ true)) asks → Every (AskReady s (record u { visited = visited }) q) asks → list_all (λ x. is_some x.rows) asks ≡ false → past ≡ before ++ Stated t s ∷ [] →
         GoesOn t s before u q past (after_letters letters (asks_go t (record u { visited = visited }) s asks))
     asks_on visited letters first asks past homes ready missing deeds =
         let out = asks_out t u.ticket asks u.sent in
         let v : Undecided L = record u { visited = visited; sent = out.sent; stage = Reading s out.left } in
         let seen : Every (λ (x : Ask L). In (L.home x.leaf) L.sites × (v.visited (L.home x.leaf) ≡ true)) out.left = left_leaves (λ g. In (L.home g) L.sites × (visited (L.home g) ≡ true)) t u.ticket asks u.sent homes in
-        let waits : Every (AskWaits v (q ++ (letters ++ out.letters))) out.left =
-        subst (λ x. Every (AskWaits v x) out.left) (append_assoc q letters out.letters) (asks_wait law t v (q ++ letters) asks u.sent (every_more (AskReady (record u { visited = visited }) q) (AskReady v (q ++ letters)) asks (λ x r. ready_more out.sent (Reading s out.left) x r) ready)) in
+        let waits : Every (AskWaits s v (q ++ (letters ++ out.letters))) out.left =
+        subst (λ x. Every (AskWaits s v x) out.left) (append_assoc q letters out.letters) (asks_wait law t s v (q ++ letters) asks u.sent (every_more (AskReady s (record u { visited = visited }) q) (AskReady s v (q ++ letters)) asks (λ x r. ready_more out.sent (Reading s out.left) x r) ready)) in
         record {
           to = record { new = v; is = refl; goes = asks_goes law t u visited letters first asks (Reading s out.left) };
           far = reads out.left refl (left_came t u.ticket asks u.sent ∙ missing)
-              (two_facts (λ (x : Ask L). In (L.home x.leaf) L.sites × (v.visited (L.home x.leaf) ≡ true)) (AskWaits v (q ++ (letters ++ out.letters))) (AskStands v (q ++ (letters ++ out.letters))) out.left (λ x p r. record { home = p.0; visited = p.1; waits = r }) seen waits)
+              (two_facts (λ (x : Ask L). In (L.home x.leaf) L.sites × (v.visited (L.home x.leaf) ≡ true)) (AskWaits s v (q ++ (letters ++ out.letters))) (AskStands s v (q ++ (letters ++ out.letters))) out.left (λ x p r. record { home = p.0; visited = p.1; waits = r }) seen waits)
               (append-nil past ∙ deeds);
         }
       where
-        waits_still : (counts : L.Site → ℕ) (stage : Stage L) (x : Ask L) → AskWaits (record u { visited = visited }) q x → AskWaits (record u { visited = visited; sent = counts; stage = stage }) (q ++ letters) x
+        waits_still : (counts : L.Site → ℕ) (stage : Stage L) (x : Ask L) → AskWaits s (record u { visited = visited }) q x → AskWaits s (record u { visited = visited; sent = counts; stage = stage }) (q ++ letters) x
         waits_still counts stage x (came is) = came is
         waits_still counts stage x (unsent number visited none) = unsent number visited none
         waits_still counts stage x (sent k n number here) = sent k n number (in_at (L.home x.leaf) (Fetch k n x.leaf x.query) q letters here)
         waits_still counts stage x (told k n rows number fits here) = told k n rows number fits (in_at (L.home x.leaf) (Rows k n rows) q letters here)
 
-        ready_more : (counts : L.Site → ℕ) (stage : Stage L) (x : Ask L) → AskReady (record u { visited = visited }) q x → AskReady (record u { visited = visited; sent = counts; stage = stage }) (q ++ letters) x
+        ready_more : (counts : L.Site → ℕ) (stage : Stage L) (x : Ask L) → AskReady s (record u { visited = visited }) q x → AskReady s (record u { visited = visited; sent = counts; stage = stage }) (q ++ letters) x
         ready_more counts stage x (new_ask number visited) = new_ask number visited
         ready_more counts stage x (old_ask m number waits) = old_ask m number (waits_still counts stage x waits)
 
@@ -143,16 +143,16 @@ module _ {L : Lang} where
       abbrev pub new : Undecided L
       new = with_ticket u a k
 
-      waits_on : (x : Ask L) (m : ℕ) → x.number ≡ Some m → AskWaits u (record { site = a; txn = t; body = Ticket k } ∷ q) x → AskWaits new q x
+      waits_on : (x : Ask L) (m : ℕ) → x.number ≡ Some m → AskWaits s u (record { site = a; txn = t; body = Ticket k } ∷ q) x → AskWaits s new q x
       waits_on x m e (came rows) = came rows
       waits_on x m e (unsent number visited none) = let f : Some m ≡ None = sym e ∙ number in cc
       waits_on x m e (sent j n number here) = sent j n number (behind (L.home x.leaf) (Fetch j n x.leaf x.query) (Ticket k) (λ f. cc) here)
       waits_on x m e (told j n rows number fits here) = told j n rows number fits (behind (L.home x.leaf) (Rows j n rows) (Ticket k) (λ f. cc) here)
 
-      ready : (x : Ask L) → AskStands u (record { site = a; txn = t; body = Ticket k } ∷ q) x → AskReady new q x
+      ready : (x : Ask L) → AskStands s u (record { site = a; txn = t; body = Ticket k } ∷ q) x → AskReady s new q x
       ready x stands = go x.number refl
         where
-          go : (m : Option ℕ) → x.number ≡ m → AskReady new q x
+          go : (m : Option ℕ) → x.number ≡ m → AskReady s new q x
           go None e = new_ask e stands.visited
           go (Some m) e = old_ask m e (waits_on x m e stands.waits)
 
@@ -160,8 +160,8 @@ module _ {L : Lang} where
       pub ticket_on : Far t s before u (record { site = a; txn = t; body = Ticket k } ∷ q) past → GoesOn t s before new q past (ticket_goes t new choice u.stage)
       ticket_on (reads asks e missing all deeds) = subst (λ st. GoesOn t s before new q past (ticket_goes t new choice st)) (sym e)
           (asks_on law once t s before new q new.visited [] (first_none law t new) asks past
-          (every_more (AskStands u (record { site = a; txn = t; body = Ticket k } ∷ q)) (λ x. In (L.home x.leaf) L.sites × (new.visited (L.home x.leaf) ≡ true)) asks (λ x stands. (stands.home, stands.visited)) all)
-          (every_more (AskStands u (record { site = a; txn = t; body = Ticket k } ∷ q)) (AskReady new q) asks ready all) missing deeds)
+          (every_more (AskStands s u (record { site = a; txn = t; body = Ticket k } ∷ q)) (λ x. In (L.home x.leaf) L.sites × (new.visited (L.home x.leaf) ≡ true)) asks (λ x stands. (stands.home, stands.visited)) all)
+          (every_more (AskStands s u (record { site = a; txn = t; body = Ticket k } ∷ q)) (AskReady s new q) asks ready all) missing deeds)
       ticket_on (writes asks done x ws e all deeds) = subst (λ st. GoesOn t s before new q past (ticket_goes t new choice st)) (sym e)
           (writes_on law once t s before new q new.visited [] (first_none law t new) asks done (x ∷ ws) past (every_more (WriteWaits u) (λ y. In (L.home y.0) L.sites × (new.visited (L.home y.0) ≡ true)) (x ∷ ws) (λ y waits. (waits.home, waits.visited)) all) deeds)
       ticket_on (is_answered asks done e deeds) = subst (λ st. GoesOn t s before new q past (ticket_goes t new choice st)) (sym e)
@@ -172,32 +172,32 @@ module _ {L : Lang} where
       l = record { site = a; txn = t; body = Rows k n rows }
 
       -- the fetch that waits for these rows gets them
-      fetch_came : (v : Undecided L) → ((b : L.Site) → v.visited b ≡ u.visited b) → ((b : L.Site) → v.ticket b ≡ u.ticket b) → (x : Ask L) → AskStands u (l ∷ q) x → AskStands v q (with_rows a n rows x)
-      fetch_came v visited ticket x stands = by_awaits (awaits a n rows x) refl
+      fetch_came : (v : Undecided L) → ((b : L.Site) → v.visited b ≡ u.visited b) → ((b : L.Site) → v.ticket b ≡ u.ticket b) → (x : Ask L) → AskStands s u (l ∷ q) x → AskStands s v q (with_rows s a n rows x)
+      fetch_came v visited ticket x stands = by_awaits (awaits s a n rows x) refl
         where
-          in_front : (m : ℕ) (others : L.Rows) → awaits a n rows x ≡ false → L.same_site (L.home x.leaf) a ≡ true → x.number ≡ Some m → m ≡ n → others ≡ rows → L.well_formed x.leaf others ≡ true → AskWaits v q x
+          in_front : (m : ℕ) (others : L.Rows) → awaits s a n rows x ≡ false → L.same_site (L.home x.leaf) a ≡ true → x.number ≡ Some m → m ≡ n → others ≡ rows → L.well_formed s x.leaf others ≡ true → AskWaits s v q x
           in_front m others none here number is are fits = by_rows x.rows refl
             where
-              by_rows : (r : Option L.Rows) → x.rows ≡ r → AskWaits v q x
-              by_rows None e = clash (both_true (L.same_site (L.home x.leaf) a && is_numbered x.number n && is_none x.rows) (L.well_formed x.leaf rows) (both_true (L.same_site (L.home x.leaf) a && is_numbered x.number n) (is_none x.rows) (both_true (L.same_site (L.home x.leaf) a) (is_numbered x.number n) here (ap (λ y. is_numbered y n) number ∙ eq-eqb m n is)) (ap is_none e)) (ap (L.well_formed x.leaf) (sym are) ∙ fits)) none
+              by_rows : (r : Option L.Rows) → x.rows ≡ r → AskWaits s v q x
+              by_rows None e = clash (both_true (L.same_site (L.home x.leaf) a && is_numbered x.number n && is_none x.rows) (L.well_formed s x.leaf rows) (both_true (L.same_site (L.home x.leaf) a && is_numbered x.number n) (is_none x.rows) (both_true (L.same_site (L.home x.leaf) a) (is_numbered x.number n) here (ap (λ y. is_numbered y n) number ∙ eq-eqb m n is)) (ap is_none e)) (ap (L.well_formed s x.leaf) (sym are) ∙ fits)) none
               by_rows (Some r) e = came (ap is_some e)
 
-          missed : (j : Name) (m : ℕ) (others : L.Rows) → x.number ≡ Some m → L.well_formed x.leaf others ≡ true → awaits a n rows x ≡ false → (b : Bool) → L.same_site (L.home x.leaf) a ≡ b → In (Rows j m others) (if b then Rows k n rows ∷ at (L.home x.leaf) q else at (L.home x.leaf) q) → AskWaits v q x
+          missed : (j : Name) (m : ℕ) (others : L.Rows) → x.number ≡ Some m → L.well_formed s x.leaf others ≡ true → awaits s a n rows x ≡ false → (b : Bool) → L.same_site (L.home x.leaf) a ≡ b → In (Rows j m others) (if b then Rows k n rows ∷ at (L.home x.leaf) q else at (L.home x.leaf) q) → AskWaits s v q x
           missed j m others number fits none true e (inl is) = in_front m others none e number (let f : Rows j m others ≡ Rows k n rows = is in cc) (let f : Rows j m others ≡ Rows k n rows = is in cc) fits
           missed j m others number fits none true e (inr below) = told j m others number fits below
           missed j m others number fits none false e here = told j m others number fits here
 
-          waits : awaits a n rows x ≡ false → AskWaits u (l ∷ q) x → AskWaits v q x
+          waits : awaits s a n rows x ≡ false → AskWaits s u (l ∷ q) x → AskWaits s v q x
           waits none (came is) = came is
           waits none (unsent number seen no_ticket) = unsent number (visited (L.home x.leaf) ∙ seen) (ticket (L.home x.leaf) ∙ no_ticket)
           waits none (sent j m number here) = sent j m number (behind (L.home x.leaf) (Fetch j m x.leaf x.query) (Rows k n rows) (λ f. cc) here)
           waits none (told j m others number fits here) = missed j m others number fits none (L.same_site (L.home x.leaf) a) refl here
 
-          by_awaits : (b : Bool) → awaits a n rows x ≡ b → AskStands v q (if b then record x { rows = Some rows } else x)
+          by_awaits : (b : Bool) → awaits s a n rows x ≡ b → AskStands s v q (if b then record x { rows = Some rows } else x)
           by_awaits true e = record { home = stands.home; visited = visited (L.home x.leaf) ∙ stands.visited; waits = came refl }
           by_awaits false e = record { home = stands.home; visited = visited (L.home x.leaf) ∙ stands.visited; waits = waits e stands.waits }
 
-      all_came : (v : Undecided L) → ((b : L.Site) → v.visited b ≡ u.visited b) → ((b : L.Site) → v.ticket b ≡ u.ticket b) → (asks : List (Ask L)) → Every (AskStands u (l ∷ q)) asks → Every (AskStands v q) (map (with_rows a n rows) asks)
+      all_came : (v : Undecided L) → ((b : L.Site) → v.visited b ≡ u.visited b) → ((b : L.Site) → v.ticket b ≡ u.ticket b) → (asks : List (Ask L)) → Every (AskStands s u (l ∷ q)) asks → Every (AskStands s v q) (map (with_rows s a n rows) asks)
       all_came v visited ticket [] all = tt
       all_came v visited ticket (x ∷ asks) all = (fetch_came v visited ticket x all.0, all_came v visited ticket asks all.1)
 
@@ -206,7 +206,7 @@ module _ {L : Lang} where
       rows_on choice homes (reads asks e missing all deeds) = subst (λ st. GoesOn t s before u q past (on_rows t u a n rows choice st)) (sym e) (by_test_of (list_all (λ (x : Ask L). is_some x.rows) new) refl)
         where
           new : List (Ask L)
-          new = map (with_rows a n rows) asks
+          new = map (with_rows s a n rows) asks
 
           v : Undecided L
           v = record u { stage = Reading s new }
@@ -215,14 +215,14 @@ module _ {L : Lang} where
           by_test_of true is = works_on law once t s before u q new choice past homes deeds
           by_test_of false is = record {
             to = record { new = v; is = refl; goes = stage_goes t u (Reading s new) };
-            far = reads new refl is (subst (λ x. Every (AskStands v x) new) (sym (append-nil q)) (all_came v (λ b. refl) (λ b. refl) asks all)) (append-nil past ∙ deeds);
+            far = reads new refl is (subst (λ x. Every (AskStands s v x) new) (sym (append-nil q)) (all_came v (λ b. refl) (λ b. refl) asks all)) (append-nil past ∙ deeds);
           }
       rows_on choice homes (writes asks done x ws e all deeds) = subst (λ st. GoesOn t s before u q past (on_rows t u a n rows choice st)) (sym e) (record { to = stays_goes t u; far = writes asks done x ws e all (append-nil past ∙ deeds) })
       rows_on choice homes (is_answered asks done e deeds) = subst (λ st. GoesOn t s before u q past (on_rows t u a n rows choice st)) (sym e) (record { to = stays_goes t u; far = is_answered asks done e (append-nil past ∙ deeds) })
 
   -- ---- a statement is accepted
   module _ (law : IsLawful L) (once : Once L.sites) (t : Name) (s : L.Statement) (u : Undecided L) (choice : Choice L) where
-    new_asks : (leaves : List L.Leaf) (fs : List (L.Leaf × L.Query)) → ((g : L.Leaf) → In g (map (λ x. x.leaf) (map (ask_of {L = L}) fs)) → In g leaves) → Every (AskReady (visits u leaves) []) (map (ask_of {L = L}) fs)
+    new_asks : (leaves : List L.Leaf) (fs : List (L.Leaf × L.Query)) → ((g : L.Leaf) → In g (map (λ x. x.leaf) (map (ask_of {L = L}) fs)) → In g leaves) → Every (AskReady s (visits u leaves) []) (map (ask_of {L = L}) fs)
     new_asks leaves [] all = tt
     new_asks leaves (f ∷ fs) all = (new_ask refl (not_false ((visits u leaves).visited (L.home f.0)) (all_visited law u leaves f.0 (all f.0 (inl refl)))), new_asks leaves fs (λ g here. all g (inr here)))
 

@@ -41,7 +41,7 @@ empty_touch true i e = (none_is i.north i.south e).1
 empty_touch false i e = (none_is i.north i.south e).0
 
 -- writing where the values differ leads to the new values
-wrote : (g : Bool) (before after : Pair) → written toy g (toy.writes before after) (part_of g before) ≡ part_of g after
+pub wrote : (g : Bool) (before after : Pair) → written toy g (toy.writes before after) (part_of g before) ≡ part_of g after
 wrote g before after = go g (before.north == after.north) (before.south == after.south) (eqb-true before.north after.north) (eqb-true before.south after.south)
   where
     go : (g n s : Bool) → (n ≡ true → before.north ≡ after.north) → (s ≡ true → before.south ≡ after.south) →
@@ -64,8 +64,9 @@ toy_lawful = record {
   touches_none = touch_none;
   touches_add = touch_add;
   empty_touches = empty_touch;
-  keeps_whole = λ s before is fits. tt;
-  writes_right = λ s before g is fits. wrote g before (toy_meaning s before).1;
+  keeps_whole = λ s before is fits tag. tt;
+  writes_right = λ s before g is fits tag. wrote g before (toy_meaning s before).1;
+  counts = λ s before is fits tag. refl;
 }
 
 pub toy_once : Once toy.sites

@@ -1,5 +1,5 @@
 -- A whole transaction of one client: from a quiet world to a quiet world.
-use Rattle.std.proofs.Common.{◌≡◌, refl, sym, ap, ◌∙◌, subst, Bool, true, List, [], ◌∷◌, ◌++◌, map, ◌⊎◌, inl, inr, ⊎_elim, append-nil, append_assoc}
+use Rattle.std.proofs.Common.{◌≡◌, refl, sym, ap, ◌∙◌, subst, Bool, true, List, [], ◌∷◌, ◌++◌, map, ◌⊎◌, inl, inr, ⊎_elim, append-nil, append_assoc, false}
 use Rattle.protocol.specs.Language.{Lang, IsLawful, Name}
 use Rattle.protocol.specs.Letter.{Body, Letter, Open, Fetch, Write, Prepare, Commit, Abort, Ticket, Rows, Refused, Voted, Ack, Inquire}
 use Rattle.protocol.specs.Desk.{Choice, Deed, Began, Stated, Worked, Answered, Phased, Committed, Aborted, Rolled_back, Why, State, Commit_call, Rollback, next_txn, desk_began, is_desk_within}
@@ -44,7 +44,7 @@ module _ {L : Lang} (law : IsLawful L) where
         let s = x.statement in
         let one = all.0 in
         let asked = called w t x.choice (State s) in
-        let came = all_taken (InStatement t s w.past) (Well ⊥) (λ v l q e inside kept choice well at_. still_works t s w.past (next v kept choice) (went_on law once ⊥ t s w.past v inside kept choice l q e well (inl at_))) x.takes asked (called_within w t x.choice (State s) within) (statement_starts law once t s w x.choice steady one.fetched one.written one.within) one.all in
+        let came = all_taken (InStatement t s w.past) (Well ⊥ s) (λ v l q e inside kept choice well at_. still_works t s w.past (next v kept choice) (went_on law once ⊥ t s w.past v inside kept choice l q e well (inl at_))) x.takes asked (called_within w t x.choice (State s) within) (statement_starts law once t s w x.choice steady one.fetched one.written one.within) one.all in
         let done = statement_ends law once t s w.past (does_one t w x) came.0 came.1.1 in
         let rest = all_done t xs (does_one t w x) done.0 came.1.0 all.1 in
         let entry : Work L = record { statement = s; asks = done.1.0; choice = done.1.1 } in (
@@ -63,7 +63,7 @@ module _ {L : Lang} (law : IsLawful L) where
 
     -- the deeds of a transaction up to its last request
     opened_past : (w : World L) → is_desk_within (desk_began w.desk) ≡ true → (begins w).past ≡ w.past ++ Began (next_txn w.desk) ∷ []
-    opened_past w room = ap (λ (v : World L). v.past) (if_true (is_desk_within (desk_began w.desk)) (begun w) w room)
+    opened_past w room = ap (λ (v : World L). v.past) (if_true (is_desk_within (desk_began w.desk)) (begun false w) w room)
 
     module _ (w : World L) (xs : List (Doing L)) (quiet : IsQuiet w) (within : Within w) (room : is_desk_within (desk_began w.desk) ≡ true) (all : AllDone (next_txn w.desk) (begins w) xs) where
       abbrev t : Name

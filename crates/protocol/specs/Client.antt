@@ -1,10 +1,10 @@
 -- One client alone: a world whose letters are those that wait, each delivered once in the order in which they wait.
-use Rattle.std.specs.Prelude.{◌≡◌, ℕ, zero, suc, Bool, false, List, [], ◌∷◌, ◌++◌, length}
+use Rattle.std.specs.Prelude.{◌≡◌, ℕ, zero, suc, Bool, true, false, List, [], ◌∷◌, ◌++◌, length}
 use Rattle.protocol.specs.Language.{Lang, Name}
 use Rattle.protocol.specs.Letter.{Letter}
 use Rattle.protocol.specs.Desk.{Choice, Request, Commit_call, Rollback, Give_up, is_undecided}
 use Rattle.protocol.specs.VisitPlaces.{Unlocked}
-use Rattle.protocol.specs.World.{World, Event, begins, called, comes, run}
+use Rattle.protocol.specs.World.{World, Event, begins, called, comes, may_begin, may_ask, may_move, refragments, run}
 use Rattle.protocol.specs.Serial.{AllExplained, IsOpening, IsSerial, committed_whole}
 
 module _ {L : Lang} where
@@ -57,8 +57,9 @@ module _ {L : Lang} where
 
 -- what one client does with a world leads from reached worlds to reached worlds, and those are serial
 pub record ReachedLaw (L : Lang) : Type 0 where
-  pub begun : (whole : L.Whole) (w : World L) → IsReached whole w → IsReached whole (begins w)
-  pub asked : (whole : L.Whole) (w : World L) (t : Name) (choice : Choice L) (request : Request L) → IsReached whole w → AllExplained (called w t choice request).past → IsReached whole (called w t choice request)
+  pub begun : (whole : L.Whole) (w : World L) → IsReached whole w → may_begin w ≡ true → IsReached whole (begins w)
+  pub refragmented : (whole : L.Whole) (w : World L) (s : L.Statement) (choice : Choice L) → IsReached whole w → may_move w s ≡ true → AllExplained (refragments w s choice).past → IsReached whole (refragments w s choice)
+  pub asked : (whole : L.Whole) (w : World L) (t : Name) (choice : Choice L) (request : Request L) → IsReached whole w → may_ask w t request ≡ true → AllExplained (called w t choice request).past → IsReached whole (called w t choice request)
   pub came : (whole : L.Whole) (w : World L) (kept : Bool) (choice : Choice L) → IsReached whole w → AllExplained (next w kept choice).past → IsReached whole (next w kept choice)
   pub lost : (whole : L.Whole) (w : World L) → IsReached whole w → IsReached whole (loses w)
   pub serial : (whole : L.Whole) (w : World L) → IsReached whole w → IsSerial whole w

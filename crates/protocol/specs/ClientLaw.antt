@@ -3,7 +3,8 @@ use Rattle.std.specs.Prelude.{◌≡◌, ◌⊎◌, ⊤, Bool, true, List, [], �
 use Rattle.protocol.specs.Language.{Lang, Name}
 use Rattle.protocol.specs.Letter.{Letter}
 use Rattle.protocol.specs.Desk.{Ask, Choice, Deed, Began, Stated, Worked, Answered, Phased, Committed, Aborted, Rolled_back, Why, State, Commit_call, Rollback, Give_up, Request, next_txn, desk_began, desk_after, on_request, is_desk_within}
-use Rattle.protocol.specs.World.{World, begins, called}
+use Rattle.protocol.specs.World as world
+use Rattle.protocol.specs.World.{World, begins, called, first_turn, refragments}
 use Rattle.protocol.specs.Serial.{IsOpening}
 use Rattle.protocol.specs.Parts.{Work}
 use Rattle.protocol.specs.Client.{next, IsQuiet}
@@ -48,7 +49,7 @@ module _ {L : Lang} where
     pub fetched : AtSites L (map (λ f. f.0) (L.fetches x.statement))
     pub written : AtSites L (map (λ y. y.0) x.choice.1)
     pub within : is_desk_within (desk_after w.desk t (on_request t x.choice (State x.statement) (w.desk.txn t)).txn) ≡ true
-    pub all : AllTaken (Well ⊥) x.takes (called w t x.choice (State x.statement))
+    pub all : AllTaken (Well ⊥ x.statement) x.takes (called w t x.choice (State x.statement))
 
   -- so are all
   abbrev pub AllDone : Name → World L → List (Doing L) → Type 0
@@ -84,9 +85,13 @@ pub record CourseLaw (L : Lang) (E : Type 0) : Type 0 where
   pub opened : (whole : L.Whole) (w : World L) → IsOpening whole w → IsQuiet w
   -- a transaction begins
   pub begun : (w : World L) → IsQuiet w → is_desk_within (desk_began w.desk) ≡ true → Steady (next_txn w.desk) (begins w)
+  -- a refragmentation begins as one, and what follows is its one statement
+  pub moves_steady : (w : World L) → IsQuiet w → Steady (next_txn w.desk) (world.begun true w)
+  pub moves_called : (w : World L) (s : L.Statement) (choice : Choice L) → is_desk_within (world.begun true w).desk ≡ true → is_desk_within (desk_after (world.begun true w).desk (next_txn w.desk) (first_turn w s choice).txn) ≡ true →
+      refragments w s choice ≡ called (world.begun true w) (next_txn w.desk) choice (State s)
   -- a statement is accepted, its letters come, and it is answered, or failed
   pub stated : (w : World L) (t : Name) (s : L.Statement) (choice : Choice L) → Steady t w → AtSites L (map (λ f. f.0) (L.fetches s)) → AtSites L (map (λ x. x.0) choice.1) → is_desk_within (desk_after w.desk t (on_request t choice (State s) (w.desk.txn t)).txn) ≡ true → Went E t s w.past (called w t choice (State s))
-  pub came : (w : World L) (t : Name) (s : L.Statement) (before : List (Deed L)) (kept : Bool) (choice : Choice L) (l : Letter L) (q : List (Letter L)) → w.letters ≡ l ∷ q → Within w → Well E w kept choice l → Went E t s before w → Went E t s before (next w kept choice)
+  pub came : (w : World L) (t : Name) (s : L.Statement) (before : List (Deed L)) (kept : Bool) (choice : Choice L) (l : Letter L) (q : List (Letter L)) → w.letters ≡ l ∷ q → Within w → Well E s w kept choice l → Went E t s before w → Went E t s before (next w kept choice)
   pub answered : (w : World L) (t : Name) (s : L.Statement) (before : List (Deed L)) → Went E t s before w → w.letters ≡ [] →
       (Steady t w × ((asks : List (Ask L)) × (choice : Choice L) × (w.past ≡ before ++ Stated t s ∷ Worked t s asks choice ∷ Answered t choice.0 ∷ []))) ⊎ (E × (IsQuiet w × Since t before w.past))
   -- whatever becomes of a letter of a statement, the transaction can be given up

@@ -18,12 +18,13 @@ pub data Stage (L : Lang) : Type 0 where
   Writing : (answer : L.Answer) (unsent : List (L.Leaf × L.Write)) → Stage L
   Voting : (votes : L.Site → Option Vote) → Stage L
 
--- an undecided transaction: the sites visited, their first tickets, the operations sent to each
+-- an undecided transaction: the sites visited, their first tickets, the operations sent to each; moves: whether it is a refragmentation
 pub record Undecided (L : Lang) : Type 0 where
   pub visited : L.Site → Bool
   pub ticket : L.Site → Option Name
   pub sent : L.Site → ℕ
   pub stage : Stage L
+  pub moves : Bool
 
 -- a transaction is unknown, undecided, or has a commit row with the acknowledgements counted so far, as they came
 pub data Txn (L : Lang) : Type 0 where
@@ -114,9 +115,12 @@ module _ {L : Lang} where
   abbrev pub stays : Txn L → Transition L
   stays x = record { txn = x; letters = []; deeds = [] }
 
-  -- a new transaction
+  -- a new transaction, or a new refragmentation
+  abbrev pub fresh_as : Bool → Undecided L
+  fresh_as moves = record { visited = λ a. false; ticket = λ a. None; sent = λ a. 0; stage = Idle; moves = moves }
+
   abbrev pub fresh : Undecided L
-  fresh = record { visited = λ a. false; ticket = λ a. None; sent = λ a. 0; stage = Idle }
+  fresh = fresh_as false
 
   -- a fetch that has not gone out
   abbrev pub ask_of : L.Leaf × L.Query → Ask L
@@ -235,9 +239,12 @@ module _ {L : Lang} where
   abbrev pub commits : Name → List (L.Site × Name) → List (Letter L)
   commits t voters = map (λ v. record { site = v.0; txn = t; body = Commit v.1 }) voters
 
-  -- all votes are in, none is No: committed at once where none is Yes, else where the commit row is kept
+  -- all votes are in, none is No: committed at once where none is Yes, else where the commit row is kept. With a refragmentation the next catalogue's number is kept too, also where none is Yes
   abbrev pub decides : Name → Undecided L → Bool → List (L.Site × Name) → Transition L
-  decides t u kept [] = record { txn = Unknown; letters = []; deeds = Committed t ∷ [] }
+  decides t u kept [] =
+      if kept || not u.moves
+      then record { txn = Unknown; letters = []; deeds = Committed t ∷ [] }
+      else ends_by t u (Aborted t By_store)
   decides t u kept (v ∷ vs) =
       if kept
       then record { txn = Row (v ∷ vs) []; letters = commits t (v ∷ vs); deeds = Committed t ∷ [] }
@@ -321,12 +328,12 @@ module _ {L : Lang} where
       else record { txn = Known u; letters = record { site = a; txn = t; body = Abort k } ∷ []; deeds = [] }
 
   -- whether these rows are those that the fetch waits for
-  abbrev pub awaits : L.Site → ℕ → L.Rows → Ask L → Bool
-  awaits a n rows q = L.same_site (L.home q.leaf) a && is_numbered q.number n && is_none q.rows && L.well_formed q.leaf rows
+  abbrev pub awaits : L.Statement → L.Site → ℕ → L.Rows → Ask L → Bool
+  awaits s a n rows q = L.same_site (L.home q.leaf) a && is_numbered q.number n && is_none q.rows && L.well_formed s q.leaf rows
 
   -- the fetch with its rows, if these are they
-  abbrev pub with_rows : L.Site → ℕ → L.Rows → Ask L → Ask L
-  with_rows a n rows q = if awaits a n rows q then record q { rows = Some rows } else q
+  abbrev pub with_rows : L.Statement → L.Site → ℕ → L.Rows → Ask L → Ask L
+  with_rows s a n rows q = if awaits s a n rows q then record q { rows = Some rows } else q
 
   -- rows come; when all are in, the statement is evaluated
   abbrev pub rows_go : Name → Undecided L → L.Statement → List (Ask L) → Choice L → Transition L
@@ -337,7 +344,7 @@ module _ {L : Lang} where
 
   -- rows are waited for while a statement reads
   abbrev pub on_rows : Name → Undecided L → L.Site → ℕ → L.Rows → Choice L → Stage L → Transition L
-  on_rows t u a n rows choice (Reading s asks) = rows_go t u s (map (with_rows a n rows) asks) choice
+  on_rows t u a n rows choice (Reading s asks) = rows_go t u s (map (with_rows s a n rows) asks) choice
   on_rows t u a n rows choice stage = stays (Known u)
 
   -- a refused operation ends the transaction, but not one in its first phase
@@ -414,9 +421,17 @@ module _ {L : Lang} where
   abbrev pub next_txn : Desk L → Name
   next_txn d = record { life = d.life; number = suc d.number }
 
-  -- a new transaction
+  -- whether it is an undecided refragmentation
+  abbrev pub is_moving : Txn L → Bool
+  is_moving (Known u) = u.moves
+  is_moving txn = false
+
+  -- a new transaction, or a new refragmentation
+  abbrev pub began_as : Bool → Desk L → Desk L
+  began_as moves d = record (with_txns d (put same (next_txn d) (Known (fresh_as moves)) d.txn) (d.known ++ next_txn d ∷ [])) { number = suc d.number }
+
   abbrev pub desk_began : Desk L → Desk L
-  desk_began d = record (with_txns d (put same (next_txn d) (Known fresh) d.txn) (d.known ++ next_txn d ∷ [])) { number = suc d.number }
+  desk_began d = began_as false d
 
   -- a restart aborts the undecided ones and sends the commits again
   abbrev pub txn_restarted : Name → Txn L → Transition L
@@ -436,3 +451,12 @@ module _ {L : Lang} where
   -- the limits of the coordinator: 256 undecided transactions, numbers below 2^63. A step that would lead past them is refused as Full
   abbrev pub is_desk_within : Desk L → Bool
   is_desk_within d = nat_lt d.life (2 ^ 63) && nat_lt d.number (2 ^ 63) && list_all (λ t. is_short_txn (d.txn t)) d.known && nat_le (length (filter (λ t. is_undecided (d.txn t)) d.known)) 256
+
+  -- whether the deed commits this transaction
+  abbrev pub commits_it : Name → Deed L → Bool
+  commits_it t (Committed u) = same u t
+  commits_it t deed = false
+
+  -- whether the transaction was committed
+  abbrev pub is_committed : List (Deed L) → Name → Bool
+  is_committed past t = list_any (commits_it t) past

@@ -59,7 +59,7 @@ pub record FittingLaw (L : Lang) (fits : L.Leaf → L.Content → Bool) : Type 0
   pub asked : (w : World L) (t : Name) (choice : Choice L) (request : Request L) → AllByRecursion (Suits L fits) choice.1 → Fitting L fits w → Fitting L fits (called w t choice request)
   pub came : (w : World L) (kept : Bool) (choice : Choice L) → AllByRecursion (Suits L fits) choice.1 → Fitting L fits w → Fitting L fits (next w kept choice)
   pub lost : (w : World L) → Fitting L fits w → Fitting L fits (loses w)
-  pub rows : (w : World L) (l : Letter L) → ((g : L.Leaf) (q : L.Query) (c : L.Content) → fits g c ≡ true → L.well_formed g (L.parts q c) ≡ true) → Fitting L fits w → RowsFit l.site (w.sites l.site) l.body
+  pub rows : (y : L.Statement) (w : World L) (l : Letter L) → ((g : L.Leaf) (q : L.Query) (c : L.Content) → fits g c ≡ true → L.well_formed y g (L.parts q c) ≡ true) → Fitting L fits w → RowsFit y l.site (w.sites l.site) l.body
 
 -- whatever it is to fit
 abbrev pub StaysFitting : Lang → Type 0

@@ -1,5 +1,5 @@
 -- A language of statements over leaves at sites: all that the commit protocol knows of a database.
-use Rattle.std.specs.Prelude.{◌≡◌, ℕ, ◌==◌, ◌&&◌, Bool, true, false, List, [], ◌∷◌, ◌↔◌, if◌then◌else◌}
+use Rattle.std.specs.Prelude.{◌≡◌, ℕ, suc, ◌==◌, ◌&&◌, Bool, true, false, List, [], ◌∷◌, ◌↔◌, if◌then◌else◌}
 
 -- the name of a transaction, or of a ticket at its site: an incarnation and a number in it
 pub record Name : Type 0 where
@@ -34,8 +34,8 @@ pub record Lang : Type 1 where
   -- what a write makes of its leaf's content, and what a query brings of one
   pub put_in : Write → Content → Content
   pub parts : Query → Content → Rows
-  -- whether the rows fit the leaf's columns and their keys ascend
-  pub well_formed : Leaf → Rows → Bool
+  -- whether the rows fit the columns that the leaf has for the statement, and their keys ascend
+  pub well_formed : Statement → Leaf → Rows → Bool
   -- intentions: none, one more, whether they are none, those of a leaf, what they make of a leaf's content
   pub none : Intentions
   pub add : Leaf → Write → Intentions → Intentions
@@ -47,6 +47,10 @@ pub record Lang : Type 1 where
   -- what a statement over these relations is, and what a whole database of them is
   pub IsStatement : Statement → Type 0
   pub IsWhole : Whole → Type 0
+  -- the number of the catalogue that a statement was made for, and of the one in force over a whole database; whether a statement brings the next one into force
+  pub tag : Statement → ℕ
+  pub version : Whole → ℕ
+  pub raises : Statement → Bool
   -- the serial meaning of a statement, the content of a leaf, what a statement reads, the writes that lead from one whole database to another
   pub meaning : Statement → Whole → Answer × Whole
   pub content : Leaf → Whole → Content
@@ -68,6 +72,8 @@ pub record IsLawful (L : Lang) : Type 0 where
   pub touches_none : (g : L.Leaf) → L.touches g L.none ≡ false
   pub touches_add : (g h : L.Leaf) (x : L.Write) (i : L.Intentions) → L.touches g (L.add h x i) ≡ (if L.same_leaf h g then true else L.touches g i)
   pub empty_touches : (g : L.Leaf) (i : L.Intentions) → L.is_empty i ≡ true → L.touches g i ≡ false
-  -- a statement makes a whole database of a whole database, and its writes lead from the contents before to the contents after
-  pub keeps_whole : (s : L.Statement) (whole : L.Whole) → L.IsStatement s → L.IsWhole whole → L.IsWhole (L.meaning s whole).1
-  pub writes_right : (s : L.Statement) (whole : L.Whole) (g : L.Leaf) → L.IsStatement s → L.IsWhole whole → written L g (L.writes whole (L.meaning s whole).1) (L.content g whole) ≡ L.content g (L.meaning s whole).1
+  -- a statement for the catalogue in force makes a whole database of a whole database, and its writes lead from the contents before to the contents after
+  pub keeps_whole : (s : L.Statement) (whole : L.Whole) → L.IsStatement s → L.IsWhole whole → L.tag s ≡ L.version whole → L.IsWhole (L.meaning s whole).1
+  pub writes_right : (s : L.Statement) (whole : L.Whole) (g : L.Leaf) → L.IsStatement s → L.IsWhole whole → L.tag s ≡ L.version whole → written L g (L.writes whole (L.meaning s whole).1) (L.content g whole) ≡ L.content g (L.meaning s whole).1
+  -- the catalogue in force changes by the statements that bring the next one, and by no other
+  pub counts : (s : L.Statement) (whole : L.Whole) → L.IsStatement s → L.IsWhole whole → L.tag s ≡ L.version whole → L.version (L.meaning s whole).1 ≡ (if L.raises s then suc (L.version whole) else L.version whole)

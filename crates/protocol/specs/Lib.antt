@@ -8,10 +8,12 @@ pub mod World
 pub mod Serial
 pub mod Parts
 pub mod Applied
+pub mod Alone
 pub mod Refusing
 pub mod Premise
 pub mod Client
 pub mod Statements
+pub mod Catalogues
 pub mod Rounds
 pub mod VisitPlaces
 pub mod StatementCourse
@@ -25,4 +27,6 @@ pub mod WithoutRefusal
 pub mod Delivery
 pub mod Accepted
 pub mod Toy
+pub mod TwoSplits
+pub mod TwoSites
 pub mod NothingCommits

@@ -1,5 +1,5 @@
 -- The language of one site's machine: leaves, parts, conditions and changes as stores have them. It has no statements: a site knows of none.
-use Rattle.std.specs.Prelude.{⊤, ℕ, ℤ, Bool, true, List, [], Option, is_none, ◌&&◌, nat_le, nat_eq}
+use Rattle.std.specs.Prelude.{⊤, ℕ, ℤ, Bool, true, false, List, [], Option, is_none, ◌&&◌, nat_le, nat_eq}
 use Rattle.std.specs.Cmp.Lexicographic.{pointwise}
 use Rattle.std.specs.FinMap as map
 use Rattle.std.specs.Ordering.{is_eq}
@@ -38,7 +38,7 @@ local = record {
   home = λ leaf. [];
   put_in = λ at content. set_at at.0 at.1 content;
   parts = parts;
-  well_formed = λ leaf rows. true;
+  well_formed = λ statement leaf rows. true;
   none = map.empty;
   add = λ leaf at changes. map.insert changes (slot_of leaf at.0) at.1;
   is_empty = λ changes. nat_eq (map.len changes) 0;
@@ -47,6 +47,9 @@ local = record {
   is_full = is_full;
   IsStatement = λ statement. ⊤;
   IsWhole = λ whole. ⊤;
+  tag = λ statement. 1;
+  version = λ whole. 1;
+  raises = λ statement. false;
   meaning = λ statement whole. (tt, tt);
   content = λ leaf whole. map.empty;
   fetches = λ statement. [];

@@ -1,9 +1,10 @@
 -- The serial law: what was committed, what the stored fragments come to, and that both are those of a serial run.
-use Rattle.std.specs.Prelude.{◌≡◌, ⊤, Bool, false, List, [], ◌∷◌, map, if◌then◌else◌, Some}
-use Rattle.std.specs.List.{filter, list_any, flat_map, AllByRecursion}
+use Rattle.std.specs.Prelude.{◌≡◌, ⊤, List, [], ◌∷◌, map, if◌then◌else◌, Some}
+use Rattle.std.specs.List.{filter, flat_map, AllByRecursion}
 use Rattle.protocol.specs.Language.{Lang, Name, same}
 use Rattle.protocol.specs.Site.{Status, Dead, Prepared}
-use Rattle.protocol.specs.Desk.{Ask, Txn, Unknown, Row, Deed, Stated, Worked, Answered, Phased, Committed, Desk}
+pub use Rattle.protocol.specs.Desk.{commits_it, is_committed}
+use Rattle.protocol.specs.Desk.{Ask, Txn, Unknown, Row, Deed, Stated, Worked, Answered, Phased, Desk}
 use Rattle.protocol.specs.World.{World, Event, run}
 
 module _ {L : Lang} where
@@ -15,15 +16,6 @@ module _ {L : Lang} where
   -- the first phases, in their order
   abbrev pub phases_of : List (Deed L) → List Name
   phases_of past = flat_map phased_of past
-
-  -- whether the deed commits this transaction
-  abbrev pub commits_it : Name → Deed L → Bool
-  commits_it t (Committed u) = same u t
-  commits_it t deed = false
-
-  -- whether the transaction was committed
-  abbrev pub is_committed : List (Deed L) → Name → Bool
-  is_committed past t = list_any (commits_it t) past
 
   -- the committed transactions, in the order in which their first phases began
   abbrev pub committed : List (Deed L) → List Name
@@ -72,9 +64,9 @@ module _ {L : Lang} where
   abbrev pub Gives : L.Whole → List (Ask L) → Type 0
   Gives whole asks = AllByRecursion (λ q. q.rows ≡ Some (L.parts q.query (L.content q.leaf whole))) asks
 
-  -- it is a statement over these relations, and whatever the whole database was that gave these rows, its meaning over it has this answer and makes these writes
+  -- it is a statement over these relations, and whatever the whole database was that gave these rows, under the catalogue that the statement was made for, its meaning over it has this answer and makes these writes
   abbrev pub Explained : Deed L → Type 0
-  Explained (Worked t s asks choice) = L.IsStatement s × ((whole : L.Whole) → L.IsWhole whole → Gives whole asks → (choice.0 ≡ (L.meaning s whole).0) × (choice.1 ≡ L.writes whole (L.meaning s whole).1))
+  Explained (Worked t s asks choice) = L.IsStatement s × ((whole : L.Whole) → L.IsWhole whole → L.tag s ≡ L.version whole → Gives whole asks → (choice.0 ≡ (L.meaning s whole).0) × (choice.1 ≡ L.writes whole (L.meaning s whole).1))
   Explained deed = ⊤
 
   -- each evaluated statement was explained
@@ -115,11 +107,15 @@ pub record IsOpening {L : Lang} (whole : L.Whole) (w : World L) : Type 0 where
   pub undecided : (t : Name) → w.desk.txn t ≡ Unknown
   pub names : w.desk.known ≡ []
   pub rebuilt : (g : L.Leaf) → (w.sites (L.home g)).kept g ≡ L.content g whole
+  -- the catalogue in force is that of the whole database
+  pub in_force : w.version ≡ L.version whole
 
 -- the committed transactions, run one after another over whole relations in the order of their first phases, give the answers that were given and what the settled fragments rebuild
 pub record IsSerial {L : Lang} (whole : L.Whole) (w : World L) : Type 0 where
   pub answers : map (answers_of w.past) (committed w.past) ≡ serial_answers L (map (statements_of w.past) (committed w.past)) whole
   pub rebuilt : (g : L.Leaf) → settled w g ≡ L.content g (committed_whole whole w.past)
+  -- and the catalogue in force is that of the serial run
+  pub in_force : L.version (committed_whole whole w.past) ≡ w.version
 
 -- the serial law of a language: whatever happens after an opening
 abbrev pub SerialLaw : (L : Lang) → Type 0

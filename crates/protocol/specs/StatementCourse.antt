@@ -8,6 +8,7 @@ use Rattle.protocol.specs.Desk.{Ask, Choice, Idle, Reading, Writing, Undecided, 
 use Rattle.protocol.specs.World.{World}
 use Rattle.protocol.specs.Parts.{In}
 use Rattle.protocol.specs.VisitPlaces.{at, VisitPlace}
+use Rattle.protocol.specs.Rounds.{is_reading}
 
 -- each of these leaves is at one of the sites
 abbrev pub AtSites : (L : Lang) → List L.Leaf → Type 0
@@ -22,17 +23,17 @@ module _ {L : Lang} where
     pub spots : (a : L.Site) → VisitPlace (w.sites a).status (u.visited a) (u.ticket a) (u.sent a) (at a w.letters)
 
   -- a fetch has its rows, or waits for the ticket of a visited site, or is on its way, or its rows are
-  pub data AskWaits (u : Undecided L) (letters : List (Letter L)) (q : Ask L) : Type 0 where
-    came : is_some q.rows ≡ true → AskWaits u letters q
-    unsent : q.number ≡ None → u.visited (L.home q.leaf) ≡ true → u.ticket (L.home q.leaf) ≡ None → AskWaits u letters q
-    sent : (k : Name) (n : ℕ) → q.number ≡ Some n → In (Fetch k n q.leaf q.query) (at (L.home q.leaf) letters) → AskWaits u letters q
-    told : (k : Name) (n : ℕ) (rows : L.Rows) → q.number ≡ Some n → L.well_formed q.leaf rows ≡ true → In (Rows k n rows) (at (L.home q.leaf) letters) → AskWaits u letters q
+  pub data AskWaits (s : L.Statement) (u : Undecided L) (letters : List (Letter L)) (q : Ask L) : Type 0 where
+    came : is_some q.rows ≡ true → AskWaits s u letters q
+    unsent : q.number ≡ None → u.visited (L.home q.leaf) ≡ true → u.ticket (L.home q.leaf) ≡ None → AskWaits s u letters q
+    sent : (k : Name) (n : ℕ) → q.number ≡ Some n → In (Fetch k n q.leaf q.query) (at (L.home q.leaf) letters) → AskWaits s u letters q
+    told : (k : Name) (n : ℕ) (rows : L.Rows) → q.number ≡ Some n → L.well_formed s q.leaf rows ≡ true → In (Rows k n rows) (at (L.home q.leaf) letters) → AskWaits s u letters q
 
   -- so at a visited site
-  pub record AskStands (u : Undecided L) (letters : List (Letter L)) (q : Ask L) : Type 0 where
+  pub record AskStands (s : L.Statement) (u : Undecided L) (letters : List (Letter L)) (q : Ask L) : Type 0 where
     pub home : In (L.home q.leaf) L.sites
     pub visited : u.visited (L.home q.leaf) ≡ true
-    pub waits : AskWaits u letters q
+    pub waits : AskWaits s u letters q
 
   -- a write waits for the ticket of a visited site
   pub record WriteWaits (u : Undecided L) (x : L.Leaf × L.Write) : Type 0 where
@@ -42,7 +43,7 @@ module _ {L : Lang} where
 
   -- how far statement s of transaction t has come: some rows are awaited, some writes wait for a ticket, or it is answered. before: the deeds before it
   pub data Far (t : Name) (s : L.Statement) (before : List (Deed L)) (u : Undecided L) (letters : List (Letter L)) (past : List (Deed L)) : Type 0 where
-    reads : (asks : List (Ask L)) → u.stage ≡ Reading s asks → list_all (λ q. is_some q.rows) asks ≡ false → AllByRecursion (AskStands u letters) asks → past ≡ before ++ Stated t s ∷ [] → Far t s before u letters past
+    reads : (asks : List (Ask L)) → u.stage ≡ Reading s asks → list_all (λ q. is_some q.rows) asks ≡ false → AllByRecursion (AskStands s u letters) asks → past ≡ before ++ Stated t s ∷ [] → Far t s before u letters past
     writes : (asks : List (Ask L)) (choice : Choice L) (x : L.Leaf × L.Write) (ws : List (L.Leaf × L.Write)) → u.stage ≡ Writing choice.0 (x ∷ ws) → AllByRecursion (WriteWaits u) (x ∷ ws) → past ≡ before ++ Stated t s ∷ Worked t s asks choice ∷ [] → Far t s before u letters past
     is_answered : (asks : List (Ask L)) (choice : Choice L) → u.stage ≡ Idle → past ≡ before ++ Stated t s ∷ Worked t s asks choice ∷ Answered t choice.0 ∷ [] → Far t s before u letters past
 
@@ -71,10 +72,10 @@ module _ {L : Lang} where
   RoomOr E s (Write k op g x) = (v : Visit L) → s.status k ≡ Active v → (L.is_full g x v.changes ≡ false) ⊎ E
   RoomOr E s body = ⊤
 
-  -- the rows that a fetch brings of a leaf of site a fit it
-  abbrev pub RowsFit : L.Site → SiteState L → Body L → Type 0
-  RowsFit a s (Fetch k op g q) = L.home g ≡ a → (v : Visit L) → s.status k ≡ Active v → L.well_formed g (L.parts q (L.changed g v.changes (s.kept g))) ≡ true
-  RowsFit a s body = ⊤
+  -- the rows that a fetch of statement y brings of a leaf of site a fit it
+  abbrev pub RowsFit : L.Statement → L.Site → SiteState L → Body L → Type 0
+  RowsFit y a s (Fetch k op g q) = L.home g ≡ a → (v : Visit L) → s.status k ≡ Active v → L.well_formed y g (L.parts q (L.changed g v.changes (s.kept g))) ≡ true
+  RowsFit y a s body = ⊤
 
   -- the step that a letter makes is within the limits
   abbrev pub passes_to : Bool → World L → Bool → Choice L → Letter L → Bool
@@ -85,10 +86,10 @@ module _ {L : Lang} where
   abbrev pub passes : World L → Bool → Choice L → Letter L → Bool
   passes w kept choice l = passes_to (is_for_desk l.body) w kept choice l
 
-  -- a letter of a statement is taken as it should be: the store keeps what it is asked for, no limit is met, rows fit, writes are of leaves at the sites; where a visit has no room there is an excuse E
-  pub record Well (E : Type 0) (w : World L) (kept : Bool) (choice : Choice L) (l : Letter L) : Type 0 where
+  -- a letter of statement s is taken as it should be: the store keeps what it is asked for, no limit is met, rows fit while they are waited for, writes are of leaves at the sites; where a visit has no room there is an excuse E
+  pub record Well (E : Type 0) (s : L.Statement) (w : World L) (kept : Bool) (choice : Choice L) (l : Letter L) : Type 0 where
     pub is_kept : kept ≡ true
     pub within : passes w kept choice l ≡ true
     pub room : RoomOr E (w.sites l.site) l.body
-    pub fit : RowsFit l.site (w.sites l.site) l.body
+    pub fit : is_reading (w.desk.txn l.txn) ≡ true → RowsFit s l.site (w.sites l.site) l.body
     pub homes : AtSites L (map (λ x. x.0) choice.1)

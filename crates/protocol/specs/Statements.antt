@@ -1,5 +1,5 @@
 -- A language with other statements: what a site's machine knows of it is the same, so the machine is.
-use Rattle.std.specs.Prelude.{Bool, List, map}
+use Rattle.std.specs.Prelude.{ℕ, Bool, List, map}
 use Rattle.protocol.specs.Language.{Lang}
 use Rattle.protocol.specs.Letter.{Body, Open, Fetch, Write, Prepare, Commit, Abort, Ticket, Rows, Refused, Voted, Ack, Inquire, Letter}
 use Rattle.protocol.specs.Site.{Visit, Status, Dead, Active, Prepared, SiteState, Act, Says, Opens, Locks, Prepares, Applies, Ends}
@@ -11,9 +11,12 @@ pub record Statements (L : Lang) : Type 1 where
   pub Whole : Type 0
   pub sites : List L.Site
   pub home : L.Leaf → L.Site
-  pub well_formed : L.Leaf → L.Rows → Bool
+  pub well_formed : Statement → L.Leaf → L.Rows → Bool
   pub IsStatement : Statement → Type 0
   pub IsWhole : Whole → Type 0
+  pub tag : Statement → ℕ
+  pub version : Whole → ℕ
+  pub raises : Statement → Bool
   pub meaning : Statement → Whole → Answer × Whole
   pub content : L.Leaf → Whole → L.Content
   pub fetches : Statement → List (L.Leaf × L.Query)
@@ -47,6 +50,9 @@ with_statements L S = record {
   is_full = L.is_full;
   IsStatement = S.IsStatement;
   IsWhole = S.IsWhole;
+  tag = S.tag;
+  version = S.version;
+  raises = S.raises;
   meaning = S.meaning;
   content = S.content;
   fetches = S.fetches;

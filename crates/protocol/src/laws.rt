@@ -1,7 +1,9 @@
 //! The laws of the protocol, each as the contract of a function that does nothing.
 
 ghost use Rattle.std.specs.Prelude.{true};
+ghost use Rattle.protocol.specs.Alone.{RefragmentsAlone};
 ghost use Rattle.protocol.specs.Applied.{AppliedWholeAndOnce};
+ghost use Rattle.protocol.specs.Catalogues.{ListLaw};
 ghost use Rattle.protocol.specs.Client.{ReachedLaw, RoundsLaw};
 ghost use Rattle.protocol.specs.ClientLaw.{ClientLaw, LetterByLetter};
 ghost use Rattle.protocol.specs.Fitting.{StaysFitting};
@@ -13,12 +15,33 @@ ghost use Rattle.protocol.specs.Rounds.{RoundByLetter};
 ghost use Rattle.protocol.specs.Serial.{SerialLaw};
 ghost use Rattle.protocol.specs.WithoutRefusal.{SmoothLaw};
 ghost use Rattle.protocol.specs.Toy.{toy};
+ghost use Rattle.protocol.specs.TwoSites.{one_leaf, two_sites};
+ghost use Rattle.protocol.specs.TwoSplits.{two_splits};
 
 /// The serial law: after every list of events the committed transactions, run one after another over
 /// whole relations in the order of their first phases, give the answers that were given and what the
 /// settled fragments rebuild.
 pub fn serial_law()
     ensures { SerialLaw toy }
+{}
+
+/// The serial law where a statement brings the next catalogue into force: it and all before it are for the one
+/// catalogue, all after it for the next, and the catalogue in force at the end is that of the serial run.
+pub fn serial_law_of_two_splits()
+    ensures { SerialLaw two_splits }
+{}
+
+/// The same over a list of catalogues, said without their numbers: after every list of events the committed
+/// transactions, run one after another over whole relations, give the answers that were given and, under the
+/// catalogue in force, what the settled fragments rebuild at every leaf of every site.
+pub fn serial_law_of_a_list()
+    ensures { ListLaw one_leaf two_sites }
+{}
+
+/// While a refragmentation is undecided nobody else is, no commit row stands, no prepared row is of a
+/// committed transaction, and what is settled is kept; so after every list of events.
+pub fn refragmentations_are_alone()
+    ensures { RefragmentsAlone two_splits }
 {}
 
 /// The premise of the serial law is met by runs with every end: in each a row was moved as the move means it,
@@ -111,5 +134,11 @@ pub fn contents_stay_fitting()
 /// leaves at the sites, and that rows fit, is no premise: where all that is evaluated is explained it follows,
 /// since what the statements wrote is what they mean over the whole database.
 pub fn one_client_smoothly()
-    ensures { SmoothLaw toy (λ leaf content. true) }
+    ensures { SmoothLaw toy 1 (λ leaf content. true) }
+{}
+
+/// So for a refragmentation: one that begins in a quiet world and whose letters come smoothly is answered, and
+/// committed where its client asks for that.
+pub fn one_refragmentation_smoothly()
+    ensures { SmoothLaw two_splits 1 (λ leaf content. true) }
 {}

@@ -1,6 +1,7 @@
 //! The commit protocol, Presumed Abort: both machines, worlds and runs as definitions (`specs/`), and the
 //! proof of the serial law over every run (`proofs/`), for every language of statements over leaves. For one
-//! client alone it is followed letter by letter to its end.
+//! client alone it is followed letter by letter to its end. A statement may bring another catalogue into
+//! force, and over a list of catalogues the law is said without their numbers (`Catalogues`).
 //!
 //! Stands on `terms` and `store`, for the language of stores (`Local`) and the letters in it (`Letters`); the
 //! theory itself needs neither. The crates above state their machines by these definitions and cite the

@@ -1,5 +1,5 @@
 -- The language of stores is lawful, whatever statements are put over it, where their writes lead from the contents before to the contents after.
-use Rattle.std.proofs.Common.{◌≡◌, ◌↔◌, refl, sym, ap, ◌∙◌, subst, ℕ, Bool, true, false, ◌||◌, if◌then◌else◌, List, [], ◌∷◌, length, map, Option}
+use Rattle.std.proofs.Common.{◌≡◌, ◌↔◌, refl, sym, ap, ◌∙◌, subst, ℕ, suc, Bool, true, false, ◌||◌, if◌then◌else◌, List, [], ◌∷◌, length, map, Option}
 use Rattle.std.specs.Cmp.Lexicographic.{pointwise}
 use Rattle.std.specs.FinMap as fin
 use Rattle.std.specs.List.{list_any}
@@ -36,9 +36,10 @@ or_if true b = refl
 or_if false b = refl
 
 pub lawful : NothingChanges → OneChangeMore → OneTouchMore → (S : Statements local) →
-    ((s : S.Statement) (whole : S.Whole) → S.IsStatement s → S.IsWhole whole → S.IsWhole (S.meaning s whole).1) →
-    ((s : S.Statement) (whole : S.Whole) (leaf : Leaf) → S.IsStatement s → S.IsWhole whole → written (with_statements local S) leaf (S.writes whole (S.meaning s whole).1) (S.content leaf whole) ≡ S.content leaf (S.meaning s whole).1) → IsLawful (with_statements local S)
-lawful nothing more touched S keeps right = record {
+    ((s : S.Statement) (whole : S.Whole) → S.IsStatement s → S.IsWhole whole → S.tag s ≡ S.version whole → S.IsWhole (S.meaning s whole).1) →
+    ((s : S.Statement) (whole : S.Whole) (leaf : Leaf) → S.IsStatement s → S.IsWhole whole → S.tag s ≡ S.version whole → written (with_statements local S) leaf (S.writes whole (S.meaning s whole).1) (S.content leaf whole) ≡ S.content leaf (S.meaning s whole).1) →
+    ((s : S.Statement) (whole : S.Whole) → S.IsStatement s → S.IsWhole whole → S.tag s ≡ S.version whole → S.version (S.meaning s whole).1 ≡ (if S.raises s then suc (S.version whole) else S.version whole)) → IsLawful (with_statements local S)
+lawful nothing more touched S keeps right count = record {
   leaves = λ a b. (leaf_is a b, λ same. subst (λ (c : Leaf). is_eq (leaf_cmp a c) ≡ true) same (leaf_self a));
   sites = bytes_same;
   changed_none = λ leaf content. (nothing leaf content).0;
@@ -48,4 +49,5 @@ lawful nothing more touched S keeps right = record {
   empty_touches = none_touched;
   keeps_whole = keeps;
   writes_right = right;
+  counts = count;
 }

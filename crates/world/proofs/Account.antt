@@ -91,7 +91,7 @@ module _ (db : Database) where
   begin_shows : (before after : Machines) (txn : Txn) (heard : List Notice) (does : DoesBegin db before txn after heard) → Shows db (event.Call call.Begin) does.serves.deeds
   begin_shows before after txn heard does =
       with_letters To_begin call.Begin before after heard does.serves (Began (next_txn (desk_of db before.table)) ∷ [])
-      (ap (λ (b : Bool). (if b then begun (world_of db before [] []) else world_of db before [] []).past) does.within) refl tt
+      (ap (λ (b : Bool). (if b then begun false (world_of db before [] []) else world_of db before [] []).past) does.within) refl tt
 
   pub commit_shown : (before after : Machines) (txn : Txn) (heard : List Notice) (does : DoesAsk db Commit_call txn before after heard) → Shows db (event.Call (call.Commit txn)) does.serves.deeds
   commit_shown before after txn heard does =
@@ -157,5 +157,5 @@ moves_follow db reached law = record {
   tells = λ moves before after entries past so made. made_told db moves before after entries past so made;
   serial = λ whole machines entries past so served.
       let serial = law whole machines past served in
-      serial_run db whole machines entries past so (record { answers = serial.answers; rebuilt = serial.rebuilt });
+      serial_run db whole machines entries past so (record { answers = serial.answers; rebuilt = serial.rebuilt; in_force = serial.in_force });
 }

@@ -39,7 +39,7 @@ module _ (db : Database) (before after : Machines) (heard : List Notice) (serves
   abbrev here : World (language db)
   here = world_of db before [] []
 
-  still_silent : (b : Bool) → (if b then begun here else here).letters ≡ []
+  still_silent : (b : Bool) → (if b then begun false here else here).letters ≡ []
   still_silent true = refl
   still_silent false = refl
 
@@ -49,14 +49,14 @@ module _ (db : Database) (before after : Machines) (heard : List Notice) (serves
   pub begin_names : (notice : Notice) → slice_get heard 0 ≡ Some notice → txn_name notice.txn ≡ next_txn (desk_of db before.table)
   begin_names notice there = go (is_desk_within (desk_began here.desk)) done
     where
-      go : (b : Bool) → (if b then begun here else here).past ≡ serves.deeds → txn_name notice.txn ≡ next_txn (desk_of db before.table)
+      go : (b : Bool) → (if b then begun false here else here).past ≡ serves.deeds → txn_name notice.txn ≡ next_txn (desk_of db before.table)
       go true e = named_first heard notice (next_txn here.desk) _ there (serves.replies ∙ ap (filter_map (told db)) (sym e))
       go false e = absurd (none_first heard notice there (serves.replies ∙ ap (filter_map (told db)) (sym e)))
 
   begin_room : (notice : Notice) → slice_get heard 0 ≡ Some notice → is_desk_within (desk_began (desk_of db before.table)) ≡ true
   begin_room notice there = go (is_desk_within (desk_began here.desk)) done
     where
-      go : (b : Bool) → (if b then begun here else here).past ≡ serves.deeds → b ≡ true
+      go : (b : Bool) → (if b then begun false here else here).past ≡ serves.deeds → b ≡ true
       go true e = refl
       go false e = absurd (none_first heard notice there (serves.replies ∙ ap (filter_map (told db)) (sym e)))
 
@@ -67,14 +67,14 @@ module _ (db : Database) (before after : Machines) (heard : List Notice) (serves
   pub begin_unheard : heard ≡ [] → is_desk_within (desk_began (desk_of db before.table)) ≡ false
   begin_unheard none = go (is_desk_within (desk_began here.desk)) done
     where
-      go : (b : Bool) → (if b then begun here else here).past ≡ serves.deeds → b ≡ false
+      go : (b : Bool) → (if b then begun false here else here).past ≡ serves.deeds → b ≡ false
       go true e = absurd (first_there heard (ap (map notice_of) none) _ (serves.replies ∙ ap (filter_map (told db)) (sym e)))
       go false e = refl
 
   -- and nothing has been done
   pub begin_still : heard ≡ [] → IsStill db before after
   begin_still none =
-      let none_begun : begins here ≡ here = if_false (is_desk_within (desk_began here.desk)) (begun here) here (begin_unheard none) in
+      let none_begun : begins here ≡ here = if_false (is_desk_within (desk_began here.desk)) (begun false here) here (begin_unheard none) in
       let came : world_of db after [] ([] ++ serves.deeds) ≡ here = sym (serves.is []) ∙ all_silent serves.comings (begins here) (still_silent (is_desk_within (desk_began here.desk))) ∙ none_begun in
       record { fit = serves.fit; same = ap (λ (w : World (language db)). record w { past = [] }) came }
 

@@ -271,8 +271,8 @@ module _ (catalogue : Catalogue) (formed : IsFormed catalogue) (unique : LeafNam
           let are = found_has _ name leaf (catalogue_leaves catalogue) (ascend catalogue whole formed is) there in
           ap (list_all (is_part (length leaf.columns))) (entries_stored parts are.ascends) ∙ under_are_in (length leaf.columns) parts are.long
 
-  rows : (name : Leaf) (conds : List Cond) (kept : Content) → fit name kept ≡ true → L.well_formed name (L.parts conds kept) ≡ true
-  rows name conds kept is = they_climb (width_of (found catalogue name)) (conds_hold conds) None (fin.entries kept) is (true_of _ (fin.entries_sorted kept)) tt
+  pub parts_fit : (name : Leaf) (conds : List Cond) (kept : Content) → fit name kept ≡ true → (database catalogue).well_formed name (L.parts conds kept) ≡ true
+  parts_fit name conds kept is = they_climb (width_of (found catalogue name)) (conds_hold conds) None (fin.entries kept) is (true_of _ (fin.entries_sorted kept)) tt
 
   -- writes keep them fitting
   one_suits : (before after : Relations) (leaf : FragmentLeaf) → found catalogue leaf.name ≡ Some leaf → AllByRecursion (λ part. length part ≡ length leaf.columns) (content (unnamed leaf) (rows_of after leaf.name.relation)) →
@@ -291,11 +291,11 @@ module _ (catalogue : Catalogue) (formed : IsFormed catalogue) (unique : LeafNam
       (λ write. Suits L fit (at_leaf write)) (writes before after) (catalogue_leaves catalogue) (λ leaf both. one_suits before after leaf both.0 both.1.long)
       (all_two (λ leaf. found catalogue leaf.name ≡ Some leaf) _ (catalogue_leaves catalogue) (unique catalogue formed) (ascend catalogue after formed is)))
 
-  pub housed : IsHoused L fit
+  pub housed : IsHoused L 1 fit
   housed = record {
     fetched = λ statement is. fetched statement;
-    written = λ statement whole is fits. written whole _;
-    suits = λ statement whole is fits. suits whole _ (meaning_fits (schemas_of catalogue) statement whole is fits);
-    contents = contents;
-    rows = rows;
+    written = λ statement whole is fits tag. written whole _;
+    suits = λ statement whole is fits tag version low. suits whole _ (meaning_fits (schemas_of catalogue) statement whole is fits);
+    contents = λ whole is version. contents whole is;
+    rows = λ statement tag. parts_fit;
   }

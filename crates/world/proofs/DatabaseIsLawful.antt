@@ -74,5 +74,6 @@ module _ (catalogue : Catalogue) (formed : IsFormed catalogue) (unique : LeafNam
 
 pub lawful_base : (catalogue : Catalogue) → IsFormed catalogue → contents.ContentsAscend → WritesLead → NothingChanges → OneChangeMore → OneTouchMore → IsLawful (language (database catalogue))
 lawful_base catalogue formed ascend lead nothing more touched = lawful nothing more touched (statements (database catalogue))
-    (λ statement whole is fits. meaning_fits (schemas_of catalogue) statement whole is fits)
-    (λ statement whole name is fits. writes_right lead ascend catalogue formed whole _ name fits (meaning_fits (schemas_of catalogue) statement whole is fits))
+    (λ statement whole is fits tag. meaning_fits (schemas_of catalogue) statement whole is fits)
+    (λ statement whole name is fits tag. writes_right lead ascend catalogue formed whole _ name fits (meaning_fits (schemas_of catalogue) statement whole is fits))
+    (λ statement whole is fits tag. refl)

@@ -52,7 +52,7 @@ if_errs (Ok x) to p q = tt
 if_errs (Err e) to p q = to e p q
 
 -- ---- a ready transaction is refused nothing
-at_rest : (db : Database) (fits : Leaf → Content → Bool) (txn : Txn) (machines : Machines) (past : List (Deed (language db))) (request : Request (language db)) → refusal_at request Idle ≡ None → Ready (language db) fits (txn_name txn) (rests db machines past) →
+at_rest : (db : Database) (fits : Leaf → Content → Bool) (txn : Txn) (machines : Machines) (past : List (Deed (language db))) (request : Request (language db)) → refusal_at request Idle ≡ None → Ready (language db) 1 fits (txn_name txn) (rests db machines past) →
     refusal request (txn_in db machines.table txn) ≡ None
 at_rest db fits txn machines past request none ready = ap (refusal request) ready.steady.known ∙ ap (refusal_at request) ready.steady.idle ∙ none
 
@@ -60,7 +60,7 @@ no_refusal : {A B : Type 0} (f : A → B) (found : Option A) (told : B) → foun
 no_refusal f None told none is = cc
 no_refusal f (Some x) told none is = cc
 
-module _ (db : Database) (fits : Leaf → Content → Bool) (txn : Txn) (machines : Machines) (past : List (Deed (language db))) (told : refusals.Refusal) (ready : Ready (language db) fits (txn_name txn) (rests db machines past)) where
+module _ (db : Database) (fits : Leaf → Content → Bool) (txn : Txn) (machines : Machines) (past : List (Deed (language db))) (told : refusals.Refusal) (ready : Ready (language db) 1 fits (txn_name txn) (rests db machines past)) where
   pub no_commit : IsRefused db machines.table (call.Commit txn) told → ⊥
   no_commit refused = no_refusal refused_as (refusal Commit_call (txn_in db machines.table txn)) told (at_rest db fits txn machines past Commit_call refl ready) refused
 
@@ -91,7 +91,7 @@ module _ (db : Database) (fits : Leaf → Content → Bool) (same_schemas : db.s
       not_rollback e = cc
 
   -- the statement of a ready transaction meets a limit
-  pub is_full : (statement : Statement) → IsTextOf db.schemas text (Run statement) → (txn : Txn) (machines : Machines) (past : List (Deed (language db))) (told : refusals.Refusal) → Ready (language db) fits (txn_name txn) (rests db machines past) →
+  pub is_full : (statement : Statement) → IsTextOf db.schemas text (Run statement) → (txn : Txn) (machines : Machines) (past : List (Deed (language db))) (told : refusals.Refusal) → Ready (language db) 1 fits (txn_name txn) (rests db machines past) →
       IsRefused db machines.table (call.State txn text) told → (told ≡ told_as.Full) × StatesPastLimits db machines.table txn text
   is_full statement spelled txn machines past told ready refused = ⊎_elim
       (λ stays. absurd (no_refusal refused_as (refusal (State statement) (txn_in db machines.table txn)) told (at_rest db fits txn machines past (State statement) refl ready) stays))

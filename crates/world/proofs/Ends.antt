@@ -1,13 +1,17 @@
 -- What a client asks for, statements aside, evaluates nothing; so each statement that it evaluates is explained.
-use Rattle.std.proofs.Common.{◌≡◌, refl, Bool, true, false, List, [], ◌∷◌, Option, None, if◌then◌else◌}
+use Rattle.std.proofs.Common.{◌≡◌, refl, Bool, true, false, List, [], ◌∷◌, Option, None, if◌then◌else◌, ◌||◌, not}
 use Rattle.protocol.specs.Language.{Lang, Name}
-use Rattle.protocol.specs.Desk.{Choice, Commit_call, Give_up, Idle, Known, Reading, Rollback, Row, Stage, Txn, Undecided, Unknown, Voting, Writing, are_all_in, decides, on_commit_call, on_request, on_rollback, refusal, refusal_at, stays, voters_of, votes_go}
+use Rattle.protocol.specs.Desk.{Choice, Commit_call, Give_up, Idle, Known, Reading, Rollback, Row, Stage, Txn, Undecided, Unknown, Voting, Writing, are_all_in, decides, on_commit_call, on_request, on_rollback, refusal, refusal_at, stays, voters_of, votes_go, By_store, ends_by, Committed, Aborted}
 use Rattle.protocol.specs.Letter.{Vote}
 use Rattle.protocol.specs.Serial.{AllExplained}
 
 module _ {L : Lang} (t : Name) (choice : Choice L) where
   decided : (u : Undecided L) (kept : Bool) (voters : List (L.Site × Name)) → AllExplained (decides t u kept voters).deeds
-  decided u kept [] = (tt, tt)
+  decided u kept [] = go (kept || not u.moves)
+    where
+      go : (b : Bool) → AllExplained (if b then record { txn = Unknown; letters = []; deeds = Committed t ∷ [] } else ends_by t u (Aborted t By_store)).deeds
+      go true = (tt, tt)
+      go false = (tt, tt)
   decided u true (v ∷ vs) = (tt, tt)
   decided u false (v ∷ vs) = (tt, tt)
 

@@ -1,5 +1,5 @@
 -- A transaction that has ended since a call told its client so.
-use Rattle.std.proofs.Common.{◌≡◌, refl, sym, ap, ◌∙◌, subst, ◌||◌, Bool, true, false, List, [], ◌∷◌, ◌++◌, map, ◌⊎◌, inl, inr, ⊎_elim, ℕ, Option, Some, None, is_some, is_none, append-nil, append_assoc}
+use Rattle.std.proofs.Common.{◌≡◌, refl, sym, ap, ◌∙◌, subst, ◌||◌, Bool, true, false, List, [], ◌∷◌, ◌++◌, map, ◌⊎◌, inl, inr, ⊎_elim, ℕ, Option, Some, None, is_some, is_none, append-nil, append_assoc, not}
 use Rattle.std.specs.List.{filter_map, list_all, list_any}
 use Rattle.protocol.specs.Desk.{Aborted, Answered, Ask, Began, Choice, Committed, Deed, Give_up, Idle, Known, Phased, Reading, Rolled_back, Row, Stage, State, Stated, Transition, Txn, Undecided, Unknown, Voting, Worked, Writing, are_all_in, ask_of, counts, decides, desk_after, is_desk_within, is_named, is_undecided, on_desk_letter, on_known, on_refused, on_request, on_rows, on_state, on_ticket, on_vote, states, ticket_goes, visits, voters_of, votes_go, with_rows, works, writes_out, writing}
 use Rattle.protocol.specs.Language.{Lang, Name, put, same}
@@ -81,7 +81,7 @@ module _ {L : Lang} where
     rows_say a n rows Idle = inl refl
     rows_say a n rows (Writing answer ws) = inl refl
     rows_say a n rows (Voting votes) = inl refl
-    rows_say a n rows (Reading s asks) = either Says (list_all (λ (q : Ask L). is_some q.rows) (map (with_rows a n rows) asks)) _ _ (works_says t u s (map (with_rows a n rows) asks) c) (inl refl)
+    rows_say a n rows (Reading s asks) = either Says (list_all (λ (q : Ask L). is_some q.rows) (map (with_rows s a n rows) asks)) _ _ (works_says t u s (map (with_rows s a n rows) asks) c) (inl refl)
 
   module _ (t : Name) (a : L.Site) (kept : Bool) (c : Choice L) where
     first_says : (u : Undecided L) (k : Name) (tk : Option Name) → Says (on_ticket t u a k c tk)
@@ -95,7 +95,7 @@ module _ {L : Lang} where
     refused_says u (Voting votes) = inl refl
 
     decides_say : (u : Undecided L) (voters : List (L.Site × Name)) → Says (decides t u kept voters)
-    decides_say u [] = inr refl
+    decides_say u [] = either Says (kept || not u.moves) _ _ (inr refl) (inr refl)
     decides_say u (v ∷ voters) = either Says kept _ _ (inr refl) (inr refl)
 
     votes_say : (u : Undecided L) (votes : L.Site → Option Vote) → Says (votes_go t u votes kept)

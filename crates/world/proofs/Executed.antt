@@ -68,10 +68,10 @@ module _ (db : Database) (fits : Leaf → Content → Bool) (reached : ReachedLa
   served_on ask before after past heard served serves = serves_past db reached whole ask before after heard past served serves
 
   begins : (before after : Machines) (past : List (Deed (language db))) (txn : Txn) (heard : List Notice) → IsServed db whole before past → Stands db fits None before past → (does : DoesBegin db before txn after heard) →
-      Ready (language db) fits (txn_name txn) (rests db after (past ++ does.serves.deeds)) × (map notice_of heard ≡ (txn_name txn, Begun) ∷ [])
+      Ready (language db) 1 fits (txn_name txn) (rests db after (past ++ does.serves.deeds)) × (map notice_of heard ≡ (txn_name txn, Begun) ∷ [])
   begins before after past txn heard served quiet does =
       let done = smooth.begins whole before after past heard served quiet does.within does.serves in (
-        subst (λ (t : Name). Ready (language db) fits t (rests db after (past ++ does.serves.deeds))) (sym does.named) done.0,
+        subst (λ (t : Name). Ready (language db) 1 fits t (rests db after (past ++ does.serves.deeds))) (sym does.named) done.0,
         done.1 ∙ ap (λ (t : Name). (t, Begun) ∷ []) (sym does.named),
       )
 

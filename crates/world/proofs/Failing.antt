@@ -1,5 +1,5 @@
 -- Why what is kept can't be shown: what is said of a call holds of the calls that it is part of.
-use Rattle.std.proofs.Common.{◌≡◌, sym, ap, ◌∙◌, subst, ℕ, List, [], ◌∷◌, map, Some, Result, Ok, Err, IfErr, inl, inr, ⊎_elim}
+use Rattle.std.proofs.Common.{◌≡◌, sym, ap, ◌∙◌, subst, ℕ, List, [], ◌∷◌, map, Some, Result, Ok, Err, IfErr, inl, inr, ⊎_elim, refl}
 use Rattle.std.specs.Result.{IsErrAnd}
 use Rattle.std.specs.List.{AllByRecursion}
 use Rattle.terms.specs.declared.leaf.Leaf.{Leaf}
@@ -33,7 +33,7 @@ use Rattle.world.specs.Counted.{HaveRefused, NoFewer}
 use Rattle.world.specs.Fault.{FailsFor, is_memory}
 use Rattle.world.specs.Machines.{AreFit, Machines}
 use Rattle.world.specs.Settled.{AreDecided, AreThoseOf, brought_of}
-use Rattle.world.proofs.DatabaseIsHoused.{housed}
+use Rattle.world.proofs.DatabaseIsHoused.{housed, parts_fit}
 use Rattle.world.proofs.Counting.{refused_since}
 
 -- where refusals of some counts are refusals of others
@@ -77,7 +77,7 @@ module _ (catalogue : Catalogue) (base : IsBase (database catalogue)) (unique : 
       let there : leaf_named fetch.leaf all ≡ Some leaf = ap (λ (f : Fetch). leaf_named f.leaf all) is.is ∙ is.here.unique in
       let has = (found_so (HasContent db whole) (is_name_of fetch.leaf) all leaf (base.of_catalogue.content whole fits) there).0 in
       let forms = (found_so (FormsParts db) (is_name_of fetch.leaf) all leaf base.of_catalogue.well_formed there).0 in
-      let well = house.rows leaf.name fetch.conds (db.content leaf.name whole) (house.contents whole fits leaf.name) in
+      let well = parts_fit catalogue base.of_catalogue.formed unique ascend leaf.name fetch.conds (db.content leaf.name whole) (house.contents whole fits refl leaf.name) in
       subst (λ (columns : List ℕ). AreParts columns (brought whole fetch (leaf_named fetch.leaf all))) (sym (ap (λ (f : Fetch). f.columns) is.is))
       (subst (AreParts leaf.columns) (ap (met fetch.conds) has ∙ sym (ap (brought whole fetch) there)) ((forms (parts fetch.conds (db.content leaf.name whole))).0 well))
 

@@ -1,5 +1,5 @@
 -- The relations that a serial run makes, and what is shown of them.
-use Rattle.std.proofs.Common.{◌≡◌, ℕ, List, [], ◌∷◌, map, Option, Result, Ok, Err, IfOk}
+use Rattle.std.proofs.Common.{◌≡◌, refl, ℕ, List, [], ◌∷◌, map, Option, Result, Ok, Err, IfOk}
 use Rattle.std.specs.List.{AllByRecursion}
 use Rattle.terms.specs.declared.value.Value.{Value}
 use Rattle.meaning.specs.declared.statement.Statement.{Statement}
@@ -29,7 +29,7 @@ module _ (db : Database) (lawful : IsLawful (language db)) where
   -- they lead from whole relations to whole relations, one after another
   after_fits : (statements : List Statement) (whole : Relations) → AllByRecursion (IsStatementOf db.schemas) statements → FitsSchema db.schemas whole → FitsSchema db.schemas (whole_after (language db) statements whole)
   after_fits [] whole all fits = fits
-  after_fits (s ∷ statements) whole all fits = after_fits statements _ all.1 (lawful.keeps_whole s whole all.0 fits)
+  after_fits (s ∷ statements) whole all fits = after_fits statements _ all.1 (lawful.keeps_whole s whole all.0 fits refl)
 
   serial_fits : (txns : List Txn) (texts : Txn → List (List ℕ)) (statements : Txn → List Statement) (whole : Relations) → ((txn : Txn) → AreTexts db (texts txn) (statements txn)) → FitsSchema db.schemas whole →
       FitsSchema db.schemas (serial_whole (language db) (map statements txns) whole)

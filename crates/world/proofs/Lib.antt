@@ -3,6 +3,7 @@ pub mod Seating
 pub mod SiteSteps
 pub mod Reasoned
 pub mod SettledSites
+pub mod InForce
 pub mod Machinery
 pub mod Ends
 pub mod Filled

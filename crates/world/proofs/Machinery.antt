@@ -32,6 +32,7 @@ use Rattle.world.specs.Seated.{SomeSeatDoes}
 use Rattle.world.specs.declared.sites.SiteAction as doing
 use Rattle.world.specs.declared.sites.SiteAction.TheVariants.{GiveUp, Inquire, Restart, Take}
 use Rattle.world.specs.Sites.{Moves, Seat, state_at, states_of}
+use Rattle.world.proofs.InForce.{stays_in_force}
 use Rattle.world.proofs.Reasoned.{order_is, passes_is}
 use Rattle.world.proofs.Seating.{leaves_after, letter_said, letter_state, names_after, reseated_same, seat_named, seated_after, state_there, states_after}
 use Rattle.protocol.proofs.OtherStatements.{after_same, give_up_same, inquiries_same, restart_same, within_same}
@@ -46,7 +47,7 @@ module _ (db : Database) (before : Machines) (kept : DeskContent) (after : Volat
   turn_is waiting past =
       let w = world_of db before waiting past in
       if_true (is_desk_within (desk_after w.desk (txn_name txn) wanted.txn)) (turned w (txn_name txn) wanted) w (ap is_desk_within (sym steps.state) ∙ steps.within) ∙
-      (λ i. record { desk = sym steps.state i; sites = (world_of db before waiting past).sites; letters = waiting ++ sym steps.letters i; past = past ++ wanted.deeds })
+      (λ i. record { desk = sym steps.state i; sites = (world_of db before waiting past).sites; letters = waiting ++ sym steps.letters i; past = past ++ wanted.deeds; version = stays_in_force db before waiting past (txn_name txn) wanted i })
 
   still_fit : AreFit db (with_desk before kept after)
   still_fit = record { names = fit.names; leaves = fit.leaves; desk = steps.fits; within = steps.within; sites = fit.sites }
@@ -81,8 +82,8 @@ module _ (db : Database) (before : Machines) (kept : DeskContent) (after : Volat
     fit = record { names = fit.names; leaves = fit.leaves; desk = begun_so.fits; within = begun_so.within; sites = fit.sites };
     is = λ waiting past.
         let w = world_of db before waiting past in
-        if_true (is_desk_within (desk_began w.desk)) (begun w) w (ap is_desk_within (sym begun_so.state) ∙ begun_so.within) ∙
-        (λ i. record { desk = sym begun_so.state i; sites = w.sites; letters = (sym (append-nil waiting) ∙ ap (λ (l : List letters.Letter). waiting ++ map (sent db) l) (sym begun_so.letters)) i; past = w.past ++ Began (next_txn w.desk) ∷ [] });
+        if_true (is_desk_within (desk_began w.desk)) (begun false w) w (ap is_desk_within (sym begun_so.state) ∙ begun_so.within) ∙
+        (λ i. record { desk = sym begun_so.state i; sites = w.sites; letters = (sym (append-nil waiting) ∙ ap (λ (l : List letters.Letter). waiting ++ map (sent db) l) (sym begun_so.letters)) i; past = w.past ++ Began (next_txn w.desk) ∷ []; version = 1 });
     explained = (tt, tt);
     replies = begun_so.replies;
   }
@@ -107,7 +108,7 @@ module _ (db : Database) (before : Machines) (kept : DeskContent) (after : Volat
         is = λ waiting past.
             let w = world_of db before waiting past in
             if_true (is_desk_within (desk_restarted w.desk)) (desk_lives w) w (ap is_desk_within (sym restarted.state) ∙ restarted.within) ∙
-            (λ i. record { desk = sym restarted.state i; sites = w.sites; letters = waiting ++ sym restarted.letters i; past = past ++ flat_map (λ t. (txn_restarted t (d.txn t)).deeds) d.known });
+            (λ i. record { desk = sym restarted.state i; sites = w.sites; letters = waiting ++ sym restarted.letters i; past = past ++ flat_map (λ t. (txn_restarted t (d.txn t)).deeds) d.known; version = 1 });
         explained = restarted_explained db d d.known;
         replies = restarted.replies;
       }
@@ -157,7 +158,7 @@ module _ (db : Database) (before : Machines) (seat : Seat) (after : List Seat) (
         let S = statements db in
         let w = world_of db before waiting past in
         if_true (is_within (state_at S new)) (with_site w name (state_at S new) put) w (within_same S (state_of new.kept new.table) ∙ fits_within new.kept new.table moves.seated) ∙
-        (λ i. record { desk = w.desk; sites = sym (states_after S name seat new before.seats after moves) i; letters = waiting ++ put; past = sym (append-nil past) i })
+        (λ i. record { desk = w.desk; sites = sym (states_after S name seat new before.seats after moves) i; letters = waiting ++ put; past = sym (append-nil past) i; version = 1 })
 
     now_fit : AreFit db (with_seats before after)
     now_fit = record { names = names_after name seat new before.seats after moves ∙ fit.names; leaves = leaves_after db name seat new before.seats after moves fit.leaves; desk = fit.desk; within = fit.within; sites = seated_after name seat new before.seats after moves fit.sites }
@@ -205,6 +206,7 @@ module _ (db : Database) (before : Machines) (seat : Seat) (after : List Seat) (
           sites = states_of S before.seats;
           letters = waiting ++ (ap (inquiries site) (state_there S site before.seats seat did.moves.there) ∙ sym (inquiries_same S site s) ∙ ap (λ name. map (letter_with S) (inquiries name s)) (sym (seat_named site before.seats seat did.moves.there)) ∙ ap (map (letter_with S)) (sym did.does.1) ∙ put_out out) i;
           past = sym (append-nil past) i;
+          version = 1;
         };
         explained = tt;
         replies = refl;

@@ -1,5 +1,5 @@
 -- While a statement reads no write is on its way, and once it doesn't read, no letter makes it read again.
-use Rattle.std.proofs.Common.{◌≡◌, refl, sym, ap, ◌∙◌, subst, ℕ, suc, ◌==◌, Bool, true, false, List, [], ◌∷◌, map, if◌then◌else◌, Option, Some, None, is_some, is_none}
+use Rattle.std.proofs.Common.{◌≡◌, refl, sym, ap, ◌∙◌, subst, ℕ, suc, ◌==◌, Bool, true, false, List, [], ◌∷◌, map, if◌then◌else◌, Option, Some, None, is_some, is_none, ◌||◌, not}
 use Rattle.std.specs.List.{list_all}
 use Rattle.protocol.specs.Client.{first, next}
 use Rattle.protocol.specs.Desk.{Ask, Choice, Idle, Known, Reading, Row, Stage, State, Transition, Txn, Undecided, Unknown, Voting, Writing, are_all_in, asks_go, counts, decides, desk_after, is_desk_within, is_named, is_new, on_desk_letter, on_known, on_refused, on_request, on_rows, on_ticket, on_vote, opens, states, stays, ticket_goes, visits, voters_of, votes_go, with_rows, works, writing, on_state, writes_out}
@@ -119,7 +119,7 @@ module _ {L : Lang} where
     rows_read a n rows Idle = no_letters (Known u)
     rows_read a n rows (Writing answer ws) = no_letters (Known u)
     rows_read a n rows (Voting votes) = no_letters (Known u)
-    rows_read a n rows (Reading s asks) = either Reads (list_all (λ (q : Ask L). is_some q.rows) (map (with_rows a n rows) asks)) _ _ (λ is. absurd (works_read t u s (map (with_rows a n rows) asks) c is)) (no_letters (Known (record u { stage = Reading s (map (with_rows a n rows) asks) })))
+    rows_read a n rows (Reading s asks) = either Reads (list_all (λ (q : Ask L). is_some q.rows) (map (with_rows s a n rows) asks)) _ _ (λ is. absurd (works_read t u s (map (with_rows s a n rows) asks) c is)) (no_letters (Known (record u { stage = Reading s (map (with_rows s a n rows) asks) })))
 
   module _ (t : Name) (a : L.Site) (kept : Bool) (c : Choice L) where
     first_read : (u : Undecided L) (k : Name) (tk : Option Name) → Reads (on_ticket t u a k c tk)
@@ -133,7 +133,7 @@ module _ {L : Lang} where
     refused_read u (Voting votes) = no_letters (Known u)
 
     decides_read : (u : Undecided L) (voters : List (L.Site × Name)) → Reads (decides t u kept voters)
-    decides_read u [] = λ is. tt
+    decides_read u [] = either Reads (kept || not u.moves) _ _ (λ is. tt) (λ is. (let e : false ≡ true = is in cc))
     decides_read u (v ∷ voters) = either Reads kept _ _ (λ is. (let e : false ≡ true = is in cc)) (λ is. (let e : false ≡ true = is in cc))
 
     votes_read : (u : Undecided L) (votes : L.Site → Option Vote) → Reads (votes_go t u votes kept)

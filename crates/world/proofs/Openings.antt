@@ -212,6 +212,7 @@ module _ (db : Database) (whole : Relations) (machines : Machines) (is_whole : (
     undecided = λ t. ap (txn_of db) (nothing_stands (txn_at t));
     names = no_names machines.table.txns rises.fits.lives;
     rebuilt = keeps;
+    in_force = refl;
   }
 
   pub opens_at_rest : Opens db whole machines

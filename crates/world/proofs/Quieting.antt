@@ -1,5 +1,5 @@
 -- After a commit or a rollback of one client all is quiet again, whatever becomes of its letters.
-use Rattle.std.proofs.Common.{◌≡◌, refl, sym, ap, ◌∙◌, subst, Bool, true, false, List, [], ◌∷◌, ◌++◌, inr, append-nil, Option, is_none}
+use Rattle.std.proofs.Common.{◌≡◌, refl, sym, ap, ◌∙◌, subst, Bool, true, false, List, [], ◌∷◌, ◌++◌, inr, append-nil, Option, is_none, ◌||◌, not}
 use Rattle.terms.specs.declared.leaf.Leaf.{Leaf}
 use Rattle.store.specs.Content.{Content}
 use Rattle.protocol.specs.Client.{IsQuiet, first}
@@ -63,7 +63,7 @@ module _ {L : Lang} where
     stays_calm = (λ is. is, λ is. is)
 
     decided_calm : (votes : L.Site → Option Vote) (voters : List (L.Site × Name)) → Calm (decides t (record u { stage = Voting votes }) kept voters)
-    decided_calm votes [] = (λ is. refl, λ is. refl)
+    decided_calm votes [] = either Calm (kept || not u.moves) _ _ (λ is. refl, λ is. refl) (λ is. refl, λ is. refl)
     decided_calm votes (v ∷ voters) = either Calm kept _ _ (λ is. refl, λ is. refl) (λ is. refl, λ is. refl)
 
     votes_calm : (votes : L.Site → Option Vote) → Calm (votes_go t u votes kept)
@@ -230,7 +230,7 @@ module _ (db : Database) where
           all_voted cs (come w c) one.0 (come_sited law w c w.letters refl sited) founded.1 one.1
 
     -- ---- calls
-    module _ (fits : Leaf → Content → Bool) (whole : Relations) (before after : Machines) (past : List (Deed L)) (txn : Name) (choice : Choice L) (heard : List Notice) (ready : Ready L fits txn (rests db before past)) where
+    module _ (fits : Leaf → Content → Bool) (whole : Relations) (before after : Machines) (past : List (Deed L)) (txn : Name) (choice : Choice L) (heard : List Notice) (ready : Ready L 1 fits txn (rests db before past)) where
       abbrev here : World L
       here = rests db before past
 

@@ -12,6 +12,7 @@ use Rattle.protocol.specs.World.{World, addressed, comes_to, site_steps, turned,
 use Rattle.desk.specs.declared.reply.Notice.{Notice}
 use Rattle.desk.specs.declared.reply.Out.{Out}
 use Rattle.desk.specs.Database.{Database, language}
+use Rattle.world.proofs.InForce.{asks_in_force, begins_in_force}
 use Rattle.world.specs.Counted.{NoFewer}
 use Rattle.world.specs.Mailbox.{Ask, Breaks, Coming, Fails, Goes, Passed_over, Serves, Taken, To_begin, To_do, Turned_away, all_come, asked, come, first_comes, settled}
 use Rattle.world.specs.Machines.{AreFit, Leads, Machines, world_of}
@@ -64,7 +65,7 @@ module _ {L : Lang} where
         go : (c : Coming L) (letters : List (Letter L)) → w.letters ≡ letters → AllExplained (first_comes w c letters).past → IsReached whole (first_comes w c letters)
         go c [] e all = reached
         go (Taken kept choice) (l ∷ q) e all = subst (λ (ls : List (Letter L)). AllExplained (first w kept choice ls).past → IsReached whole (first w kept choice ls)) e (law.came whole w kept choice reached) all
-        go (Turned_away choice) (l ∷ q) e all = law.asked whole (record w { letters = q }) l.txn choice Give_up (lost_first w l q e reached) all
+        go (Turned_away choice) (l ∷ q) e all = law.asked whole (record w { letters = q }) l.txn choice Give_up (lost_first w l q e reached) refl all
         go Passed_over (l ∷ q) e all = lost_first w l q e reached
 
     pub all_reached : (cs : List (Coming L)) (w : World L) → IsReached whole w → AllExplained (all_come cs w).past → IsReached whole (all_come cs w)
@@ -78,9 +79,9 @@ module _ {L : Lang} where
 
 -- ---- machines that serve
 module _ (db : Database) (law : ReachedLaw (language db)) (whole : Relations) where
-  pub asked_reached : (w : World (language db)) (ask : Ask (language db)) → IsReached whole w → AllExplained (asked ask w).past → IsReached whole (asked ask w)
-  asked_reached w To_begin reached all = law.begun whole w reached
-  asked_reached w (To_do t request choice) reached all = law.asked whole w t choice request reached all
+  pub asked_reached : (machines : Machines) (past : List (Deed (language db))) (ask : Ask (language db)) → IsReached whole (world_of db machines [] past) → AllExplained (asked ask (world_of db machines [] past)).past → IsReached whole (asked ask (world_of db machines [] past))
+  asked_reached machines past To_begin reached all = law.begun whole (world_of db machines [] past) reached (begins_in_force db machines [] past)
+  asked_reached machines past (To_do t request choice) reached all = law.asked whole (world_of db machines [] past) t choice request reached (asks_in_force db machines [] past t request) all
 
   -- a call, whatever letters have come since
   pub on_ask : (ask : Ask (language db)) (before after : Machines) (past deeds : List (Deed (language db))) (comings : List (Coming (language db))) (left : List (Letter (language db))) → IsServed db whole before past → AllExplained deeds →
@@ -89,7 +90,7 @@ module _ (db : Database) (law : ReachedLaw (language db)) (whole : Relations) wh
       let w = world_of db before [] past in
       let all : AllExplained (past ++ deeds) = all_both Explained past deeds served.reached.explained explained in
       let all_here : AllExplained (all_come comings (asked ask w)).past = subst (λ (v : World (language db)). AllExplained v.past) (sym is) all in
-      let here : IsReached whole (asked ask w) = asked_reached w ask served.reached (all_explained comings (asked ask w) all_here) in
+      let here : IsReached whole (asked ask w) = asked_reached before past ask served.reached (all_explained comings (asked ask w) all_here) in
       record {
         reached = emptied law whole (world_of db after left (past ++ deeds)) left refl (subst (IsReached whole) is (all_reached law whole comings (asked ask w) here all_here));
         fit = fit;

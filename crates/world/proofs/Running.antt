@@ -17,7 +17,7 @@ use Rattle.protocol.specs.Letters.{name_of, txn_name}
 use Rattle.protocol.specs.Serial.{Explained}
 use Rattle.protocol.specs.Site.{on_give_up, site_after, site_restarted}
 use Rattle.protocol.specs.World as world
-use Rattle.protocol.specs.World.{World, called, comes, delivered, gives_up, happens, inquires, restarts, run}
+use Rattle.protocol.specs.World.{World, called, comes, delivered, gives_up, happens, inquires, may_ask, restarts, run}
 use Rattle.desk.specs.Request.{IsOver}
 use Rattle.desk.specs.Database.{Database, language, sent}
 use Rattle.desk.specs.OfCatalogue.{IsOfCatalogue}
@@ -37,6 +37,7 @@ use Rattle.world.specs.Posted.{letters_in}
 use Rattle.protocol.specs.Accepted.{IsAccepted}
 use Rattle.world.specs.Runs.{IsRun, IsSpared, Spares, StepsOn, entry_of}
 use Rattle.world.specs.Taking.{CameUnless}
+use Rattle.world.proofs.InForce.{asks_in_force}
 use Rattle.world.proofs.Reasoned.{same_passes}
 use Rattle.world.specs.Seated.{place_of}
 use Rattle.world.specs.Replies.{Shows}
@@ -121,7 +122,10 @@ over_of db catalog of is =
 pub called_on : (db : Database) (whole : Relations) (before after : Machines) (entries : List Entry) (past : List (Deed (language db))) (what : events.Event) (out : Out) (txn : names.Txn) (choice : Choice (language db)) (request : Request (language db)) →
     IsRun db whole before entries past → (asked : Asked db txn choice request before after out.letters out.replies) → IsEvent db what out.kept (world.Call (txn_name txn) request choice) → Shows db what asked.leads.deeds → StepsOn db whole before after entries (entries ++ entry_of what out ∷ []) past
 called_on db whole before after entries past what out txn choice request so asked is shows =
-    runs_on db whole before after entries past what out (λ w. called w (txn_name txn) choice request) (world.Call (txn_name txn) request choice) so asked.leads refl is (asked.accepted, asked.within) shows
+    let w = world_of db before (map (sent db) (letters_in entries)) past in
+    let may = asks_in_force db before (map (sent db) (letters_in entries)) past (txn_name txn) request in
+    runs_on db whole before after entries past what out (λ w. called w (txn_name txn) choice request) (world.Call (txn_name txn) request choice) so asked.leads
+    (if_true (may_ask w (txn_name txn) request) (called w (txn_name txn) choice request) w may) is (may, asked.accepted, asked.within) shows
 
 -- ---- what happens at a site
 pub done_on : (db : Database) (whole : Relations) (before after : Machines) (entries : List Entry) (past : List (Deed (language db))) (what : doing.SiteAction) (at : events.Event) (kept : Bool) (out : Out) (choice : Choice (language db)) →

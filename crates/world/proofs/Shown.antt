@@ -1,9 +1,9 @@
 -- Which steps show a first phase, and which a statement.
-use Rattle.std.proofs.Common.{◌≡◌, refl, ap, ℕ, Bool, true, false, List, [], ◌∷◌, ◌++◌, Option, Some, None, is_some, is_none, if◌then◌else◌, map, not, ◌&&◌}
+use Rattle.std.proofs.Common.{◌≡◌, refl, ap, ℕ, Bool, true, false, List, [], ◌∷◌, ◌++◌, Option, Some, None, is_some, is_none, if◌then◌else◌, map, not, ◌&&◌, ◌||◌}
 use Rattle.std.specs.List.{flat_map, list_any, list_all}
 use Rattle.protocol.specs.Accepted.{stated_of}
 use Rattle.protocol.specs.Language.{Lang, Name, put, same}
-use Rattle.protocol.specs.Desk.{Ask, Choice, Deed, Stated, Worked, Answered, Began, Phased, Committed, Aborted, Rolled_back, Desk, State, Commit_call, Give_up, Rollback, Idle, Known, Reading, Row, Stage, Transition, Txn, Undecided, Unknown, Voting, Writing, are_acked, are_all_in, ask_of, counts, decides, is_named, is_pair, on_ack, on_commit_call, on_desk_letter, on_known, on_refused, on_request, on_rollback, on_row, on_rows, on_state, on_ticket, on_unknown, on_vote, refusal, refusal_at, states, stays, ticket_goes, txn_restarted, visits, voters_of, votes_go, with_rows, works, writes_go, writes_out, writing}
+use Rattle.protocol.specs.Desk.{Ask, Choice, Deed, Stated, Worked, Answered, Began, Phased, Committed, Aborted, Rolled_back, Desk, State, Commit_call, Give_up, Rollback, Idle, Known, Reading, Row, Stage, Transition, Txn, Undecided, Unknown, Voting, Writing, are_acked, are_all_in, ask_of, counts, decides, is_named, is_pair, on_ack, on_commit_call, on_desk_letter, on_known, on_refused, on_request, on_rollback, on_row, on_rows, on_state, on_ticket, on_unknown, on_vote, refusal, refusal_at, states, stays, ticket_goes, txn_restarted, visits, voters_of, votes_go, with_rows, works, writes_go, writes_out, writing, By_store, ends_by}
 use Rattle.protocol.specs.Letter.{Vote, Yes, No, Read, Body, Open, Fetch, Write, Prepare, Commit, Abort, Ticket, Rows, Refused, Voted, Ack, Inquire, Letter}
 use Rattle.protocol.specs.Serial.{phases_of}
 use Rattle.protocol.proofs.Basics.{either}
@@ -34,7 +34,7 @@ module _ {L : Lang} (t : Name) where
   worked u s asks choice = writes_gone (visits u (map (λ w. w.0) choice.1)) choice.0 choice.1
 
   decided : (u : Undecided L) (kept : Bool) (voters : List (L.Site × Name)) → IsSilent (decides t u kept voters).deeds
-  decided u kept [] = (refl, refl)
+  decided u kept [] = either (λ (turn : Transition L). IsSilent turn.deeds) (kept || not u.moves) (record { txn = Unknown; letters = []; deeds = Committed t ∷ [] }) (ends_by t u (Aborted t By_store)) (refl, refl) (refl, refl)
   decided u true (v ∷ vs) = (refl, refl)
   decided u false (v ∷ vs) = (refl, refl)
 
@@ -56,7 +56,7 @@ module _ {L : Lang} (t : Name) where
   came_rows u a n rows choice (Writing answer ws) = (refl, refl)
   came_rows u a n rows choice (Voting votes) = (refl, refl)
   came_rows u a n rows choice (Reading s asks) =
-      let now = map (with_rows a n rows) asks in
+      let now = map (with_rows s a n rows) asks in
       either (λ (turn : Transition L). IsSilent turn.deeds) (list_all (λ q. is_some q.rows) now) (works t u s now choice) (stays (Known (record u { stage = Reading s now }))) (worked u s now choice) (refl, refl)
 
   came_refused : (u : Undecided L) (stage : Stage L) → IsSilent (on_refused t u stage).deeds

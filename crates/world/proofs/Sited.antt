@@ -1,5 +1,5 @@
 -- Each letter that waits is to or from one of the sites, so that none is passed over.
-use Rattle.std.proofs.Common.{◌≡◌, refl, sym, ◌∙◌, subst, ℕ, ◌&&◌, not, Bool, true, false, List, [], ◌∷◌, ◌++◌, map, flat_map, Option, Some, None, is_some, is_none, inl, inr, ⊎_elim}
+use Rattle.std.proofs.Common.{◌≡◌, refl, sym, ◌∙◌, subst, ℕ, ◌&&◌, not, Bool, true, false, List, [], ◌∷◌, ◌++◌, map, flat_map, Option, Some, None, is_some, is_none, inl, inr, ⊎_elim, ◌||◌}
 use Rattle.std.specs.List.{list_all, list_any}
 use Rattle.protocol.specs.StatementCourse.{Steady}
 use Rattle.protocol.specs.Desk.{Aborted, Ask, By_refusal, By_store, By_vote, Choice, Commit_call, Deed, Give_up, Given_up, Idle, Known, Reading, Request, Rollback, Rolled_back, Row, Stage, State, Transition, Txn, Undecided, Unknown, Voting, Writing, after_letters, are_acked, are_all_in, asks_go, commits, counts, decides, desk_after, ends_by, is_desk_within, is_named, is_pair, is_undecided, on_commit_call, on_desk_letter, on_known, on_refused, on_request, on_rollback, on_row, on_rows, on_state, on_ticket, on_unknown, on_vote, opens, phases, states, ticket_goes, visits, voter_at, voters_of, votes_go, with_rows, works, writes_go, writes_out, writing}
@@ -107,7 +107,7 @@ module _ {L : Lang} where
     ends_sited u d = (tt, every_letter IsSited t _ L.sites (λ a b here e. here))
 
     decides_sited : (u : Undecided L) (kept : Bool) (voters : List (L.Site × Name)) → Every (VoterSited L) voters → TurnSited (decides t u kept voters)
-    decides_sited u kept [] all = (tt, tt)
+    decides_sited u kept [] all = either TurnSited (kept || not u.moves) _ _ (tt, tt) (ends_sited u (Aborted t By_store))
     decides_sited u kept (v ∷ voters) all = either TurnSited kept _ _ (tt, commits_sited L t (v ∷ voters) all) (ends_sited u (Aborted t By_store))
 
     votes_sited : (u : Undecided L) (votes : L.Site → Option Vote) (kept : Bool) → HasSited (Known u) → TurnSited (votes_go t u votes kept)
@@ -160,7 +160,7 @@ module _ {L : Lang} where
     rows_sited u n rows Idle have = (have, tt)
     rows_sited u n rows (Writing answer ws) have = (have, tt)
     rows_sited u n rows (Voting votes) have = (have, tt)
-    rows_sited u n rows (Reading s asks) have = either TurnSited (list_all (λ (q : Ask L). is_some q.rows) (map (with_rows a n rows) asks)) _ _ (works_sited t u s (map (with_rows a n rows) asks) c have) (have, tt)
+    rows_sited u n rows (Reading s asks) have = either TurnSited (list_all (λ (q : Ask L). is_some q.rows) (map (with_rows s a n rows) asks)) _ _ (works_sited t u s (map (with_rows s a n rows) asks) c have) (have, tt)
 
     refused_sited : (u : Undecided L) (stage : Stage L) → HasSited (Known u) → TurnSited (on_refused t u stage)
     refused_sited u Idle have = ends_sited t u (Aborted t By_refusal)

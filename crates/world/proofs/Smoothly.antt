@@ -51,24 +51,24 @@ same_behind (x ∷ past) one other e = same_behind past one other (tails x x (pa
     tails : {A : Type 0} (a b : A) (xs ys : List A) → a ∷ xs ≡ b ∷ ys → xs ≡ ys
     tails a b xs ys e = cc
 
-module _ (db : Database) (fits : Leaf → Content → Bool) (law : IsLawful (language db)) (once : Once db.sites) (housed : IsHoused (language db) fits) (whole : Relations) where
-  abbrev smooth : SmoothLaw (language db) fits
-  smooth = smooth_law law once fits housed
+module _ (db : Database) (fits : Leaf → Content → Bool) (law : IsLawful (language db)) (once : Once db.sites) (housed : IsHoused (language db) 1 fits) (whole : Relations) where
+  abbrev smooth : SmoothLaw (language db) 1 fits
+  smooth = smooth_law law once 1 fits housed
 
   -- the letters of a statement come
   module _ (txn : Name) (statement : (language db).Statement) (before : List (Deed (language db))) where
-    one_comes : (w : World (language db)) (c : Coming (language db)) (letters : List (Letter (language db))) → w.letters ≡ letters → Within w → FirstIsSmooth w c letters → IsReached whole (first_comes w c letters) → InCourse (language db) fits txn statement before w →
-        Within (first_comes w c letters) × InCourse (language db) fits txn statement before (first_comes w c letters)
+    one_comes : (w : World (language db)) (c : Coming (language db)) (letters : List (Letter (language db))) → w.letters ≡ letters → Within w → FirstIsSmooth w c letters → IsReached whole (first_comes w c letters) → InCourse (language db) 1 fits txn statement before w →
+        Within (first_comes w c letters) × InCourse (language db) 1 fits txn statement before (first_comes w c letters)
     one_comes w c [] e within is reached here = (within, here)
     one_comes w (Taken kept choice) (l ∷ q) e within is reached here = (
       subst (λ (letters : List (Letter (language db))). Within (first w kept choice letters)) e (next_within law w kept choice within),
-      subst (λ (letters : List (Letter (language db))). InCourse (language db) fits txn statement before (first w kept choice letters)) e
+      subst (λ (letters : List (Letter (language db))). InCourse (language db) 1 fits txn statement before (first w kept choice letters)) e
           (smooth.came whole w txn statement before kept choice l q e within is (subst (λ (letters : List (Letter (language db))). IsReached whole (first w kept choice letters)) (sym e) reached) here),
     )
     one_comes w (Turned_away choice) (l ∷ q) e within is reached here = absurd is
     one_comes w Passed_over (l ∷ q) e within is reached here = absurd is
 
-    all_course : (cs : List (Coming (language db))) (w : World (language db)) → Within w → AllSmooth cs w → IsReached whole w → AllExplained (all_come cs w).past → InCourse (language db) fits txn statement before w → InCourse (language db) fits txn statement before (all_come cs w)
+    all_course : (cs : List (Coming (language db))) (w : World (language db)) → Within w → AllSmooth cs w → IsReached whole w → AllExplained (all_come cs w).past → InCourse (language db) 1 fits txn statement before w → InCourse (language db) 1 fits txn statement before (all_come cs w)
     all_course [] w within is reached explained here = here
     all_course (c ∷ cs) w within is reached explained here =
         let there : IsReached whole (come w c) = all_reached (reached_law law) whole (c ∷ []) w reached (all_explained cs (come w c) explained) in
@@ -115,23 +115,23 @@ module _ (db : Database) (fits : Leaf → Content → Bool) (law : IsLawful (lan
       all_here = subst (λ (v : World (language db)). AllExplained v.past) (sym (serves.is past)) (all_both Explained past serves.deeds served.reached.explained serves.explained)
 
       pub asked_here : IsReached whole (asked ask here)
-      asked_here = asked_reached db (reached_law law) whole here ask served.reached (all_explained serves.comings (asked ask here) all_here)
+      asked_here = asked_reached db (reached_law law) whole before past ask served.reached (all_explained serves.comings (asked ask here) all_here)
 
       pub heard_of : (deeds : List (Deed (language db))) → past ++ serves.deeds ≡ past ++ deeds → map notice_of heard ≡ filter_map (told db) deeds
       heard_of deeds e = serves.replies ∙ ap (filter_map (told db)) (same_behind past serves.deeds deeds e)
 
     began : IsQuiet here → is_desk_within (desk_began (desk_of db before.table)) ≡ true → (serves : Serves db To_begin before after heard) →
-        Ready (language db) fits (next_txn (desk_of db before.table)) (rests db after (past ++ serves.deeds)) × (map notice_of heard ≡ (next_txn (desk_of db before.table), Begun) ∷ [])
+        Ready (language db) 1 fits (next_txn (desk_of db before.table)) (rests db after (past ++ serves.deeds)) × (map notice_of heard ≡ (next_txn (desk_of db before.table), Begun) ∷ [])
     began quiet room serves =
-        let is_begun = if_true (is_desk_within (desk_began here.desk)) (begun here) here room in
-        let silent : (begins here).letters ≡ [] = ap (λ (v : World (language db)). v.letters) (if_true (is_desk_within (desk_began here.desk)) (begun here) here room) in
+        let is_begun = if_true (is_desk_within (desk_began here.desk)) (begun false here) here room in
+        let silent : (begins here).letters ≡ [] = ap (λ (v : World (language db)). v.letters) (if_true (is_desk_within (desk_began here.desk)) (begun false here) here room) in
         let same = sym (all_silent serves.comings (begins here) silent) ∙ serves.is past in (
-          subst (Ready (language db) fits (next_txn (desk_of db before.table))) same (smooth.begun whole here served.reached quiet room),
+          subst (Ready (language db) 1 fits (next_txn (desk_of db before.table))) same (smooth.begun whole here served.reached quiet refl room),
           heard_of To_begin serves (Began (next_txn here.desk) ∷ []) (sym (ap (λ (v : World (language db)). v.past) same) ∙ ap (λ (v : World (language db)). v.past) is_begun),
         )
 
     -- a rollback
-    rolled_back : (txn : Name) (choice : Choice (language db)) → Ready (language db) fits txn here → (serves : Serves db (To_do txn Rollback choice) before after heard) → AllSmooth serves.comings (called here txn choice Rollback) →
+    rolled_back : (txn : Name) (choice : Choice (language db)) → Ready (language db) 1 fits txn here → (serves : Serves db (To_do txn Rollback choice) before after heard) → AllSmooth serves.comings (called here txn choice Rollback) →
         IsQuiet (rests db after (past ++ serves.deeds)) × (past ++ serves.deeds ≡ past ++ Rolled_back txn ∷ [])
     rolled_back txn choice ready serves is =
         let within = fit_within db before [] past served.fit in
@@ -139,14 +139,14 @@ module _ (db : Database) (fits : Leaf → Content → Bool) (law : IsLawful (lan
         let ending = subst (Ending (past ++ Rolled_back txn ∷ [])) (serves.is past) (all_ended (past ++ Rolled_back txn ∷ []) serves.comings (called here txn choice Rollback) (called_within here txn choice Rollback within) is ended) in
         (ending_quiet law (past ++ Rolled_back txn ∷ []) (rests db after (past ++ serves.deeds)) ending refl, ending.past)
 
-    committed : (txn : Name) (choice : Choice (language db)) → Ready (language db) fits txn here → (serves : Serves db (To_do txn Commit_call choice) before after heard) → AllSmooth serves.comings (called here txn choice Commit_call) →
+    committed : (txn : Name) (choice : Choice (language db)) → Ready (language db) 1 fits txn here → (serves : Serves db (To_do txn Commit_call choice) before after heard) → AllSmooth serves.comings (called here txn choice Commit_call) →
         IsQuiet (rests db after (past ++ serves.deeds)) × (past ++ serves.deeds ≡ past ++ Phased txn ∷ Committed txn ∷ [])
     committed txn choice ready serves is =
         let within = fit_within db before [] past served.fit in
         smooth.committed (rests db after (past ++ serves.deeds)) txn past
-        (subst (Committing ⊥ txn past) (serves.is past) (all_voted txn past serves.comings (called here txn choice Commit_call) (called_within here txn choice Commit_call within) is (smooth.asked here txn choice ready within))) refl
+        (subst (Committing ⊥ txn past) (serves.is past) (all_voted txn past serves.comings (called here txn choice Commit_call) (called_within here txn choice Commit_call within) is (smooth.asked here txn choice ready.steady within))) refl
 
-pub serves_smoothly : (db : Database) (fits : Leaf → Content → Bool) → IsLawful (language db) → Once db.sites → IsHoused (language db) fits → ServesSmoothly db fits
+pub serves_smoothly : (db : Database) (fits : Leaf → Content → Bool) → IsLawful (language db) → Once db.sites → IsHoused (language db) 1 fits → ServesSmoothly db fits
 serves_smoothly db fits law once housed = record {
   begins = λ whole before after past heard served quiet room serves. began db fits law once housed whole before after past heard served quiet room serves;
   answers = λ whole before after past txn statement choice heard served ready is room serves smooth_.
@@ -155,10 +155,10 @@ serves_smoothly db fits law once housed = record {
       let ask = To_do txn (State statement) choice in
       let reached = asked_here db fits law once housed whole before after past heard served ask serves in
       let explained = all_here db fits law once housed whole before after past heard served ask serves in
-      let law_of : SmoothLaw L fits = smooth_law law once fits housed in
+      let law_of : SmoothLaw L 1 fits = smooth_law law once 1 fits housed in
       let within = called_within here txn choice (State statement) (fit_within db before [] past served.fit) in
-      let came = all_course db fits law once housed whole txn statement past serves.comings (called here txn choice (State statement)) within smooth_ reached explained (law_of.stated whole here txn statement choice ready is room reached) in
-      let done = law_of.answered (rests db after (past ++ serves.deeds)) txn statement past (subst (InCourse L fits txn statement past) (serves.is past) came) refl in
+      let came = all_course db fits law once housed whole txn statement past serves.comings (called here txn choice (State statement)) within smooth_ reached explained (law_of.stated whole here txn statement choice ready is refl refl room reached) in
+      let done = law_of.answered (rests db after (past ++ serves.deeds)) txn statement past (subst (InCourse L 1 fits txn statement past) (serves.is past) came) refl refl in
       (done.0, (done.1.1.0, heard_of db fits law once housed whole before after past heard served ask serves _ done.1.2));
   commits = λ whole before after past txn choice heard served ready serves smooth_.
       let done = committed db fits law once housed whole before after past heard served txn choice ready serves smooth_ in

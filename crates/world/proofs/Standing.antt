@@ -48,7 +48,7 @@ stands_whenever db fits (Some txn) machines past other ready =
 -- nothing has been done
 pub stands_still : (db : Database) (fits : Leaf → Content → Bool) (current : Option Txn) (before after : Machines) (past : List (Deed (language db))) → IsStill db before after → Stands db fits current before past → Stands db fits current after past
 stands_still db fits None before after past still quiet = subst IsQuiet (sym (ap (λ (w : World (language db)). record w { past = past }) still.same)) quiet
-stands_still db fits (Some txn) before after past still ready = subst (Ready (language db) fits (txn_name txn)) (sym (ap (λ (w : World (language db)). record w { past = past }) still.same)) ready
+stands_still db fits (Some txn) before after past still ready = subst (Ready (language db) 1 fits (txn_name txn)) (sym (ap (λ (w : World (language db)). record w { past = past }) still.same)) ready
 
 module _ (db : Database) (fits : Leaf → Content → Bool) (reached : ReachedLaw (language db)) (obeys : ObeysUnlessRefused db fits) (law : GrowsQuiet db fits) (whole : Relations) where
   -- what a client's transaction may be answered: it stays ready, or it has ended and its client hears so

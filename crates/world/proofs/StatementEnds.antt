@@ -180,13 +180,13 @@ module _ (db : Database) where
   for_site (Ack k) is = let e : false ≡ true = is in cc
   for_site (Inquire k) is = let e : false ≡ true = is in cc
 
-  module _ (fits : Leaf → Content → Bool) (law : IsLawful D) (once : Once D.sites) (housed : IsHoused D fits) (whole : Relations) (t : Name) (s : D.Statement) (before : List (Deed D)) where
-    abbrev smooth : SmoothLaw D fits
-    smooth = smooth_law law once fits housed
+  module _ (fits : Leaf → Content → Bool) (law : IsLawful D) (once : Once D.sites) (housed : IsHoused D 1 fits) (whole : Relations) (t : Name) (s : D.Statement) (before : List (Deed D)) where
+    abbrev smooth : SmoothLaw D 1 fits
+    smooth = smooth_law law once 1 fits housed
 
     -- where a statement stands: it works as it should; it is doomed, reads no more, and the coordinator will hear of it; or its transaction has ended
     data Stand (w : World D) : Type 0 where
-      in_course : InCourse D fits t s before w → (is_reading (w.desk.txn t) ≡ true → NoWrites w.letters) → Stand w
+      in_course : InCourse D 1 fits t s before w → (is_reading (w.desk.txn t) ≡ true → NoWrites w.letters) → Stand w
       is_doomed : Doomed t before w → is_reading (w.desk.txn t) ≡ false → Stand w
       has_left : (deeds : List (Deed D)) → Ending deeds w → Stand w
 
@@ -209,7 +209,7 @@ module _ (db : Database) where
           (λ none. none) (by_test (is_reading ((next w kept choice).desk.txn t)))
 
       -- a letter comes in the course of a statement
-      module _ (here : InCourse D fits t s before w) (none : is_reading (w.desk.txn t) ≡ true → NoWrites w.letters) (kept : Bool) (choice : Choice D) (keeps : FetchKept kept l.body) (goes : passes w kept choice l ≡ true) (reached : IsReached whole (next w kept choice)) where
+      module _ (here : InCourse D 1 fits t s before w) (none : is_reading (w.desk.txn t) ≡ true → NoWrites w.letters) (kept : Bool) (choice : Choice D) (keeps : FetchKept kept l.body) (goes : passes w kept choice l ≡ true) (reached : IsReached whole (next w kept choice)) where
         of : OfStatement l.body
         of = spot_front _ _ _ _ l.body (at l.site q) (subst (VisitPlace (w.sites l.site).status (here.course.u.visited l.site) (here.course.u.ticket l.site) (here.course.u.sent l.site)) (ap (at l.site) e ∙ in_front law l q) (here.course.stands.spots l.site))
 
@@ -237,13 +237,13 @@ module _ (db : Database) where
             let passes_bare : passes w true c l ≡ true = ap (λ b. passes_to b w true c l) to_site ∙ sym (ap (λ b. passes_to b w true choice l) to_site) ∙ goes_true in
             let idle : is_reading (w.desk.txn t) ≡ false = ⊎_elim (λ reads. clash write (subst NoWrites e (none reads)).0) (λ is. is) (by_test (is_reading (w.desk.txn t))) in
             subst Stand (sym same_bare) (⊎_elim
-            (λ (on : InStatement t s before (next w true c)). in_course (record { course = on; fitting = (fitting_law law fits).came w true c tt here.fitting }) (reads_no_write c))
+            (λ (on : InStatement t s before (next w true c)). in_course (record { course = on; tag = here.tag; fitting = λ case. (fitting_law law fits).came w true c tt (here.fitting (inl refl)) }) (reads_no_write c))
             (λ failing. of_failing (next w true c) (idle_on true c own idle) failing.1)
             (went_on law once (Unit {0}) t s before w within true c l q e (record {
               is_kept = refl;
               within = passes_bare;
               room = room_anyhow (w.sites l.site) l.body;
-              fit = (fitting_law law fits).rows w l housed.rows here.fitting;
+              fit = λ reading. (fitting_law law fits).rows s w l (housed.rows s here.tag) (here.fitting (inl refl));
               homes = λ g there. absurd there;
             }) (inl here.course)))
 
@@ -290,16 +290,16 @@ module _ (db : Database) where
         all_stand cs (come w c) one.0 (come_sited law w c w.letters refl sited) founded.1 there explained one.1
 
     -- no letter waits
-    stand_ends : (w : World D) → Stand w → w.letters ≡ [] → (Ready D fits t w × ((asks : List (Ask D)) × (choice : Choice D) × (w.past ≡ before ++ Stated t s ∷ Worked t s asks choice ∷ Answered t choice.0 ∷ []))) ⊎ IsQuiet w
-    stand_ends w (in_course here none) silent = inl (smooth.answered w t s before here silent)
+    stand_ends : (w : World D) → Stand w → w.letters ≡ [] → (Ready D 1 fits t w × ((asks : List (Ask D)) × (choice : Choice D) × (w.past ≡ before ++ Stated t s ∷ Worked t s asks choice ∷ Answered t choice.0 ∷ []))) ⊎ IsQuiet w
+    stand_ends w (in_course here none) silent = inl (smooth.answered w t s before here silent refl)
     stand_ends w (is_doomed d idle) silent = inr (failing_ends law once t before w (doomed d) silent).0
     stand_ends w (has_left deeds ending) silent = inr (ending_quiet law deeds w ending silent)
 
   -- a statement, and all its letters
-  pub quiet_or_ready : (fits : Leaf → Content → Bool) (law : IsLawful D) (once : Once D.sites) (housed : IsHoused D fits) (whole : Relations) (before after : Machines) (past : List (Deed D)) (txn : Name) (statement : Statement) (choice : Choice D) (heard : List Notice) → (served : IsServed db whole before past) →
-      Ready D fits txn (rests db before past) → IsStatementOf db.schemas statement →
+  pub quiet_or_ready : (fits : Leaf → Content → Bool) (law : IsLawful D) (once : Once D.sites) (housed : IsHoused D 1 fits) (whole : Relations) (before after : Machines) (past : List (Deed D)) (txn : Name) (statement : Statement) (choice : Choice D) (heard : List Notice) → (served : IsServed db whole before past) →
+      Ready D 1 fits txn (rests db before past) → IsStatementOf db.schemas statement →
       is_desk_within (desk_after (desk_of db before.table) txn (on_request txn choice (State statement) ((desk_of db before.table).txn txn)).txn) ≡ true → (serves : Serves db (To_do txn (State statement) choice) before after heard) →
-      (Ready D fits txn (rests db after (past ++ serves.deeds)) × ((answer : AnswerNow) × (map notice_of heard ≡ (txn, Answer answer) ∷ []))) ⊎ (IsQuiet (rests db after (past ++ serves.deeds)) × (tells is_end heard ≡ true))
+      (Ready D 1 fits txn (rests db after (past ++ serves.deeds)) × ((answer : AnswerNow) × (map notice_of heard ≡ (txn, Answer answer) ∷ []))) ⊎ (IsQuiet (rests db after (past ++ serves.deeds)) × (tells is_end heard ≡ true))
   quiet_or_ready fits law once housed whole before after past txn statement choice heard served ready is room serves =
       let here = rests db before past in
       let ask = To_do txn (State statement) choice in
@@ -307,7 +307,7 @@ module _ (db : Database) where
       let reached = asked_here db fits law once housed whole before after past heard served ask serves in
       let explained = all_here db fits law once housed whole before after past heard served ask serves in
       let within = called_within here txn choice (State statement) (fit_within db before [] past served.fit) in
-      let begins : Stand fits law once housed whole txn statement past start = in_course ((smooth_law law once fits housed).stated whole here txn statement choice ready is room reached) (state_reads here txn choice statement refl) in
+      let begins : Stand fits law once housed whole txn statement past start = in_course ((smooth_law law once 1 fits housed).stated whole here txn statement choice ready is refl refl room reached) (state_reads here txn choice statement refl) in
       let ends : Told txn past (rests db after (past ++ serves.deeds)) = subst (Told txn past) (serves.is past) (all_told txn past serves.comings start (state_told here txn choice statement ready.steady.u ready.steady.known)) in
       let tells_end : IsQuiet (rests db after (past ++ serves.deeds)) → tells is_end heard ≡ true = λ quiet. ⊎_elim (λ undecided. clash undecided (quiet.decided txn))
       (λ ended. tells_by is_end heard ∙ ap (list_any (λ (x : Name × Reply). is_end x.1)) serves.replies ∙ end_heard db serves.deeds (subst (λ (deeds : List (Deed D)). list_any ends_it deeds ≡ true) (sym (same_behind past serves.deeds ends.more ends.is)) ended)) ends.says in

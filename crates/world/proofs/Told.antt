@@ -82,7 +82,7 @@ module _ {L : Lang} where
       go true = turn_silent w l.txn (on_desk_letter l.txn l.site kept choice l.body (w.desk.txn l.txn)) none (came_silent l.txn l.site kept choice l.body (w.desk.txn l.txn))
 
   pub begins_silent : (w : World L) → w.past ≡ [] → IsSilent (begins w).past
-  begins_silent w none = either (λ (v : World L). IsSilent v.past) (is_desk_within (desk_began w.desk)) (begun w) w (subst (λ past. IsSilent (past ++ Began (next_txn w.desk) ∷ [])) (sym none) (refl, refl)) (subst IsSilent (sym none) (refl, refl))
+  begins_silent w none = either (λ (v : World L). IsSilent v.past) (is_desk_within (desk_began w.desk)) (begun false w) w (subst (λ past. IsSilent (past ++ Began (next_txn w.desk) ∷ [])) (sym none) (refl, refl)) (subst IsSilent (sym none) (refl, refl))
 
   pub desk_restarts_silent : (w : World L) → w.past ≡ [] → IsSilent (desk_restarts w).past
   desk_restarts_silent w none = either (λ (v : World L). IsSilent v.past) (is_desk_within (desk_restarted w.desk)) (desk_lives w) w (subst (λ past. IsSilent (past ++ (desk_lives w_bare).past)) (sym none) (restarted_silent w.desk w.desk.known)) (subst IsSilent (sym none) (refl, refl))

@@ -21,7 +21,7 @@ module _ (db : Database) (fits : Leaf → Content → Bool) where
   -- where a client's database stands between commands: all is quiet, or its open transaction is ready
   abbrev pub Stands : Option Txn → Machines → List (Deed (language db)) → Type 0
   Stands None machines past = IsQuiet (world_of db machines [] past)
-  Stands (Some txn) machines past = Ready (language db) fits (txn_name txn) (world_of db machines [] past)
+  Stands (Some txn) machines past = Ready (language db) 1 fits (txn_name txn) (world_of db machines [] past)
 
   -- it is served, and stands so, once more has been done
   pub record StandsOn (whole : Relations) (current : Option Txn) (machines : Machines) (past : List (Deed (language db))) : Type 0 where

@@ -37,9 +37,9 @@ pub record Machines : Type 0 where
   pub seats : List Seat
   pub refused : List ℕ
 
--- the world of the machines; letters: those that wait, or all that were sent, past: what happened to transactions
+-- the world of the machines, with the one catalogue in force; letters: those that wait, or all that were sent, past: what happened to transactions
 abbrev pub world_of : (db : Database) → Machines → List (Letter (language db)) → List (Deed (language db)) → World (language db)
-world_of db machines letters past = record { desk = desk_of db machines.table; sites = states_of (statements db) machines.seats; letters = letters; past = past }
+world_of db machines letters past = record { desk = desk_of db machines.table; sites = states_of (statements db) machines.seats; letters = letters; past = past; version = 1 }
 
 -- what is in memory fits what the stores keep, and the sites are those of the database, each with the leaves that are at home there
 pub record AreFit (db : Database) (machines : Machines) : Type 0 where

@@ -23,13 +23,13 @@ use Rattle.world.specs.Smoothly.{rests}
 -- or the transaction has ended, its client hears so, and all is quiet; and after a commit or a rollback all is quiet
 pub record GrowsQuiet (db : Database) (fits : Leaf → Content → Bool) : Type 0 where
   pub states : (whole : Relations) (before after : Machines) (past : List (Deed (language db))) (txn : Name) (statement : Statement) (choice : Choice (language db)) (heard : List Notice) → IsServed db whole before past →
-      Ready (language db) fits txn (rests db before past) → IsStatementOf db.schemas statement →
+      Ready (language db) 1 fits txn (rests db before past) → IsStatementOf db.schemas statement →
       is_desk_within (desk_after (desk_of db before.table) txn (on_request txn choice (State statement) ((desk_of db before.table).txn txn)).txn) ≡ true →
       (serves : Serves db (To_do txn (State statement) choice) before after heard) →
-      (Ready (language db) fits txn (rests db after (past ++ serves.deeds)) × ((answer : AnswerNow) × (map notice_of heard ≡ (txn, Answer answer) ∷ []))) ⊎ (IsQuiet (rests db after (past ++ serves.deeds)) × (tells is_end heard ≡ true))
+      (Ready (language db) 1 fits txn (rests db after (past ++ serves.deeds)) × ((answer : AnswerNow) × (map notice_of heard ≡ (txn, Answer answer) ∷ []))) ⊎ (IsQuiet (rests db after (past ++ serves.deeds)) × (tells is_end heard ≡ true))
   pub commits : (whole : Relations) (before after : Machines) (past : List (Deed (language db))) (txn : Name) (choice : Choice (language db)) (heard : List Notice) → IsServed db whole before past →
-      Ready (language db) fits txn (rests db before past) → (serves : Serves db (To_do txn Commit_call choice) before after heard) →
+      Ready (language db) 1 fits txn (rests db before past) → (serves : Serves db (To_do txn Commit_call choice) before after heard) →
       IsQuiet (rests db after (past ++ serves.deeds))
   pub rolls_back : (whole : Relations) (before after : Machines) (past : List (Deed (language db))) (txn : Name) (choice : Choice (language db)) (heard : List Notice) → IsServed db whole before past →
-      Ready (language db) fits txn (rests db before past) → (serves : Serves db (To_do txn Rollback choice) before after heard) →
+      Ready (language db) 1 fits txn (rests db before past) → (serves : Serves db (To_do txn Rollback choice) before after heard) →
       IsQuiet (rests db after (past ++ serves.deeds))

@@ -33,29 +33,29 @@ module _ (db : Database) where
 pub record ServesSmoothly (db : Database) (fits : Leaf → Content → Bool) : Type 0 where
   pub begins : (whole : Relations) (before after : Machines) (past : List (Deed (language db))) (heard : List Notice) → IsServed db whole before past → IsQuiet (rests db before past) →
       is_desk_within (desk_began (desk_of db before.table)) ≡ true → (serves : Serves db To_begin before after heard) →
-      Ready (language db) fits (next_txn (desk_of db before.table)) (rests db after (past ++ serves.deeds)) × (map notice_of heard ≡ (next_txn (desk_of db before.table), Begun) ∷ [])
+      Ready (language db) 1 fits (next_txn (desk_of db before.table)) (rests db after (past ++ serves.deeds)) × (map notice_of heard ≡ (next_txn (desk_of db before.table), Begun) ∷ [])
   pub answers : (whole : Relations) (before after : Machines) (past : List (Deed (language db))) (txn : Name) (statement : Statement) (choice : Choice (language db)) (heard : List Notice) → IsServed db whole before past →
-      Ready (language db) fits txn (rests db before past) → IsStatementOf db.schemas statement →
+      Ready (language db) 1 fits txn (rests db before past) → IsStatementOf db.schemas statement →
       is_desk_within (desk_after (desk_of db before.table) txn (on_request txn choice (State statement) ((desk_of db before.table).txn txn)).txn) ≡ true →
       (serves : Serves db (To_do txn (State statement) choice) before after heard) → AreSmooth db (To_do txn (State statement) choice) before past serves.comings →
-      Ready (language db) fits txn (rests db after (past ++ serves.deeds)) × ((answer : AnswerNow) × (map notice_of heard ≡ (txn, Answer answer) ∷ []))
+      Ready (language db) 1 fits txn (rests db after (past ++ serves.deeds)) × ((answer : AnswerNow) × (map notice_of heard ≡ (txn, Answer answer) ∷ []))
   pub commits : (whole : Relations) (before after : Machines) (past : List (Deed (language db))) (txn : Name) (choice : Choice (language db)) (heard : List Notice) → IsServed db whole before past →
-      Ready (language db) fits txn (rests db before past) → (serves : Serves db (To_do txn Commit_call choice) before after heard) → AreSmooth db (To_do txn Commit_call choice) before past serves.comings →
+      Ready (language db) 1 fits txn (rests db before past) → (serves : Serves db (To_do txn Commit_call choice) before after heard) → AreSmooth db (To_do txn Commit_call choice) before past serves.comings →
       IsQuiet (rests db after (past ++ serves.deeds)) × (map notice_of heard ≡ (txn, Committed) ∷ [])
   pub rolls_back : (whole : Relations) (before after : Machines) (past : List (Deed (language db))) (txn : Name) (choice : Choice (language db)) (heard : List Notice) → IsServed db whole before past →
-      Ready (language db) fits txn (rests db before past) → (serves : Serves db (To_do txn Rollback choice) before after heard) → AreSmooth db (To_do txn Rollback choice) before past serves.comings →
+      Ready (language db) 1 fits txn (rests db before past) → (serves : Serves db (To_do txn Rollback choice) before after heard) → AreSmooth db (To_do txn Rollback choice) before past serves.comings →
       IsQuiet (rests db after (past ++ serves.deeds)) × (map notice_of heard ≡ (txn, RolledBack) ∷ [])
 
 -- so whatever comes: a statement is answered, and a commit told, unless something was refused on the way
 pub record ServesUnlessRefused (db : Database) (fits : Leaf → Content → Bool) : Type 0 where
   pub answers : (whole : Relations) (before after : Machines) (past : List (Deed (language db))) (txn : Name) (statement : Statement) (choice : Choice (language db)) (heard : List Notice) → IsServed db whole before past →
-      Ready (language db) fits txn (rests db before past) → IsStatementOf db.schemas statement →
+      Ready (language db) 1 fits txn (rests db before past) → IsStatementOf db.schemas statement →
       is_desk_within (desk_after (desk_of db before.table) txn (on_request txn choice (State statement) ((desk_of db before.table).txn txn)).txn) ≡ true →
       (serves : Serves db (To_do txn (State statement) choice) before after heard) →
-      (Ready (language db) fits txn (rests db after (past ++ serves.deeds)) × ((answer : AnswerNow) × (map notice_of heard ≡ (txn, Answer answer) ∷ []))) ⊎ WasHindered past serves
+      (Ready (language db) 1 fits txn (rests db after (past ++ serves.deeds)) × ((answer : AnswerNow) × (map notice_of heard ≡ (txn, Answer answer) ∷ []))) ⊎ WasHindered past serves
   pub commits : (whole : Relations) (before after : Machines) (past : List (Deed (language db))) (txn : Name) (choice : Choice (language db)) (heard : List Notice) → IsServed db whole before past →
-      Ready (language db) fits txn (rests db before past) → (serves : Serves db (To_do txn Commit_call choice) before after heard) →
+      Ready (language db) 1 fits txn (rests db before past) → (serves : Serves db (To_do txn Commit_call choice) before after heard) →
       (IsQuiet (rests db after (past ++ serves.deeds)) × (map notice_of heard ≡ (txn, Committed) ∷ [])) ⊎ WasHindered past serves
   pub rolls_back : (whole : Relations) (before after : Machines) (past : List (Deed (language db))) (txn : Name) (choice : Choice (language db)) (heard : List Notice) → IsServed db whole before past →
-      Ready (language db) fits txn (rests db before past) → (serves : Serves db (To_do txn Rollback choice) before after heard) →
+      Ready (language db) 1 fits txn (rests db before past) → (serves : Serves db (To_do txn Rollback choice) before after heard) →
       (IsQuiet (rests db after (past ++ serves.deeds)) × (map notice_of heard ≡ (txn, RolledBack) ∷ [])) ⊎ WasHindered past serves

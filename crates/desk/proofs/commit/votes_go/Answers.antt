@@ -1,12 +1,13 @@
 -- Why `votes_go` meets its contract.
 use Rattle.std.proofs.Common.{◌==◌, length, None, Some, [], sym, ap, ◌∙◌, subst}
 use Rattle.std.specs.List.{list_all}
-use Rattle.protocol.specs.Desk.{stays}
+use Rattle.protocol.specs.Desk.{decides, stays}
 use Rattle.protocol.specs.Letters.{txn_name}
 use Rattle.desk.specs.declared.transaction.TxnState.TheVariants as standing
 use Rattle.desk.specs.Participants.{is_in, sites_of}
-use Rattle.desk.specs.Transaction.{txn_of}
-use Rattle.desk.specs.Transition.{AreParticipants, after_of}
+use Rattle.desk.specs.Database.{language}
+use Rattle.desk.specs.Transaction.{txn_of, undecided_of}
+use Rattle.desk.specs.Transition.{AreParticipants, after_of, voting}
 use Rattle.desk.specs.Acknowledge.{AreInOrder, Keeps, kept_voters, voters_among}
 use Rattle.desk.proofs.Acknowledged.{keeps_same, turn_as, unchanged}
 use Rattle.desk.proofs.Called.{decides_all, steps_as}
@@ -30,7 +31,8 @@ pub returns-then-are_none-clause-turn : goal.returns-then-are_none-clause-turn
 returns-then-are_none-clause-turn g c = λ db old are.
     turn_as db c.args.txn old c.commits_at_once.result _ _
     (votes_decide db c.args.participants.items are (txn_name c.args.txn) c.commits_at_once.result.kept [] (sym (c.are_all_in.ensures ∙ ap (list_all is_in) c.deref.ensures.value) ∙ c.if-not-are_all_in.false)
-    (sym (nobody c.in_ok-voters.voters.items (ap (λ vs. length vs == 0) (sym c.deref-3.ensures.value) ∙ sym c.are_none.ensures ∙ c.if-are_none.true)) ∙ c.in_ok-voters.ensures ∙ ap voters_among c.deref-2.ensures.value))
+    (sym (nobody c.in_ok-voters.voters.items (ap (λ vs. length vs == 0) (sym c.deref-3.ensures.value) ∙ sym c.are_none.ensures ∙ c.if-are_none.true)) ∙ c.in_ok-voters.ensures ∙ ap voters_among c.deref-2.ensures.value)
+    ∙ ap (λ kept. decides {L = language db} (txn_name c.args.txn) (undecided_of db (voting c.args.participants.items)) kept []) c.commits_at_once.ensures.kept)
     (c.commits_at_once.ensures.turn db c.args.txn old)
 
 pub returns-then-are_none-clause-keeps : goal.returns-then-are_none-clause-keeps

@@ -12,14 +12,14 @@ suits : (xs : List (toy.Leaf × toy.Write)) → AllByRecursion (Suits toy (λ le
 suits [] = tt
 suits (x ∷ xs) = (λ content fits. refl, suits xs)
 
-housed : IsHoused toy (λ leaf content. true)
+housed : IsHoused toy 1 (λ leaf content. true)
 housed = record {
   fetched = λ s is. at_sites _;
-  written = λ s whole is fits. at_sites _;
-  suits = λ s whole is fits. suits _;
-  contents = λ whole is leaf. refl;
-  rows = λ leaf query content fits. refl;
+  written = λ s whole is fits tag. at_sites _;
+  suits = λ s whole is fits tag version low. suits _;
+  contents = λ whole is version leaf. refl;
+  rows = λ statement tag leaf query content fits. refl;
 }
 
 pub returns : goal.returns
-returns c = smooth_law toy_lawful toy_once (λ leaf content. true) housed
+returns c = smooth_law toy_lawful toy_once 1 (λ leaf content. true) housed

@@ -1,9 +1,13 @@
 -- Why `call` meets its contract.
-use Rattle.std.proofs.Common.{◌≡◌, ◌⊎◌, ◌++◌, ◌∷◌, [], refl, sym, subst, IfErr, IfOk}
+use Rattle.std.proofs.Common.{◌≡◌, ◌⊎◌, ◌++◌, ◌∷◌, [], map, refl, sym, subst, IfErr, IfOk}
+use Rattle.desk.specs.Database.{sent}
 use Rattle.reader.specs.declared.command.Command.TheVariants.{Run}
 use Rattle.reader.specs.Command.{IsTextOf}
 use Rattle.protocol.specs.Desk.{Commit_call, Give_up, Rollback, State}
-use Rattle.protocol.specs.World.{Begin, begins}
+use Rattle.protocol.specs.World.{Begin, begins, may_begin}
+use Rattle.protocol.proofs.Basics.{if_true}
+use Rattle.world.proofs.InForce.{begins_in_force}
+use Rattle.world.specs.Posted.{letters_in}
 use Rattle.desk.specs.declared.refusal.Refusal.TheVariants as refusals
 use Rattle.desk.specs.State.{volatile_of}
 use Rattle.world.specs.declared.event.Call as calls
@@ -24,7 +28,10 @@ returns-in-Begin-clause-ok g c = λ db whole entries past of is so.
     let before = held g.D.DeskStore.kept g.S.SiteStore.kept c.args.machines.now in
     let after = held g.D.DeskStore.kept g.S.SiteStore.kept c.begin.new.self in
     subst (λ (asked : calls.Call). IfOk c.begin.result (λ out. StepsOn db whole before after entries (entries ++ entry_of (event.Call asked) out ∷ []) past)) (sym c.in-Begin.is)
-    (if_both c.begin.result (λ out leads within. runs_on db whole before after entries past (event.Call call.Begin) out begins Begin so leads refl refl within
+    (if_both c.begin.result (λ out leads within.
+    let w = world_of db before (map (sent db) (letters_in entries)) past in
+    let may = begins_in_force db before (map (sent db) (letters_in entries)) past in
+    runs_on db whole before after entries past (event.Call call.Begin) out begins Begin so leads (if_true (may_begin w) (begins w) w may) refl (may, within)
     (silent_step db before after out.letters out.replies (event.Call call.Begin) begins leads refl refl (begins_silent (world_of db before [] []) refl))) (c.begin.ensures.ok db (over_of db c.args.machines.now.desk.catalog of is) so.fit) (c.begin.ensures.within db (over_of db c.args.machines.now.desk.catalog of is) so.fit))
 
 pub returns-in-Commit-clause-ok : goal.returns-in-Commit-clause-ok

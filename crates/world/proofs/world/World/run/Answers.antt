@@ -91,6 +91,9 @@ returns-in-Err-clause-some g c = λ whole past clean sound run.
       counts = c.in-Err.ensures.leaves.counts;
     })
 
+pub returns-clause-runs : goal.returns-clause-runs
+returns-clause-runs g c = λ whole past clean sound run. (c.loop-event.invariant.2 whole past clean sound run).0
+
 pub returns-clause-all : goal.returns-clause-all
 returns-clause-all g c = λ whole past clean sound run.
     let D = g.D.DeskStore in
