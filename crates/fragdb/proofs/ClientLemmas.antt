@@ -1,5 +1,5 @@
 -- Lemmas on a database for one client.
-use Rattle.std.proofs.Common.{◌≡◌, ◌++◌, ◌∷◌, [], IfOk, OnOk, map, ℕ, List, Option, None, Some, append_assoc, Bool, true, false, inl, inr, ◌⊎◌, Result, Ok, Err, ap, refl, subst, sym, ◌∙◌}
+use Rattle.std.proofs.Common.{◌≡◌, ◌++◌, ◌∷◌, [], if◌then◌else◌, IfErr, IfOk, OnOk, map, ℕ, List, Option, None, Some, append_assoc, Bool, true, false, inl, inr, ◌⊎◌, Result, Ok, Err, ap, refl, subst, sym, ◌∙◌}
 use Rattle.std.proofs.lemmas.List.{append-nil}
 use Rattle.terms.specs.declared.leaf.Leaf.{Leaf}
 use Rattle.terms.specs.declared.value.Value.{Value}
@@ -18,7 +18,7 @@ use Rattle.desk.specs.declared.reply.Notice.{Notice}
 use Rattle.desk.specs.Database.{language}
 use Rattle.world.specs.declared.solo.Solo as code
 use Rattle.world.specs.declared.event.Entry.{Entry}
-use Rattle.world.specs.Commands.{Executes, MovesFollow, Reply}
+use Rattle.world.specs.Commands.{Executes, MovesFollow}
 use Rattle.world.specs.Course.{deeds_in, said_in}
 use Rattle.desk.specs.CatalogueDatabase.{database, fits}
 use Rattle.world.specs.Contents.{OfStores, held, unrefused}
@@ -26,7 +26,7 @@ use Rattle.world.specs.Machines.{AreFit, Machines}
 use Rattle.world.specs.Executed.{Stands}
 use Rattle.world.specs.Client.{IsServed}
 use Rattle.world.specs.Settled.{AreThoseOf, parts_kept, rows_shown}
-use Rattle.world.specs.Stopping.{is_stop, stopped_by}
+use Rattle.world.specs.Stopping.{is_stop}
 use Rattle.world.specs.Replies.{Tells}
 use Rattle.world.proofs.Counting.{same_unrefused}
 use Rattle.shell.specs.declared.mode.Mode.{Mode}
@@ -79,17 +79,17 @@ module _ (catalogue : Catalogue) (whole : Relations) (past : List (Deed (languag
   stands_still still keeps = rw (still.0, same_machines (keeps (clean new.machines) h.sound)) refl
 
   -- a command is executed, unless that stops the database
-  abbrev ExecutesNext : List ℕ → Reply → Catalogue → Type 0
+  abbrev ExecutesNext : List ℕ → Result (List Notice) Refusal → Catalogue → Type 0
   ExecutesNext text reply c = (whole : Relations) (past : List (Deed (language (database c)))) → old.stopped ≡ None → Clean → Sound → IsServed (database c) whole before past → Executes (database c) (fits c) whole text old.current before new.current after past reply
 
-  does_next : (text : List ℕ) (reply : Reply) → ExecutesNext text reply own → Executes (database catalogue) (fits catalogue) whole text old.current before new.current after past reply
+  does_next : (text : List ℕ) (reply : Result (List Notice) Refusal) → ExecutesNext text reply own → Executes (database catalogue) (fits catalogue) whole text old.current before new.current after past reply
   does_next text reply next = subst (ExecutesNext text reply) h.catalog next whole past h.going (clean new.machines) h.sound h.served
 
-  is_done : (text : List ℕ) (reply : Reply) (does : Executes (database catalogue) (fits catalogue) whole text old.current before new.current after past reply) →
+  is_done : (text : List ℕ) (reply : Result (List Notice) Refusal) (does : Executes (database catalogue) (fits catalogue) whole text old.current before new.current after past reply) →
       IsDone catalogue text (standing_of catalogue old past) (standing_of catalogue new (past ++ deeds_in (database catalogue) does.moves before after does.made)) reply
   is_done text reply does = record { moves = does.moves; made = does.made; command = does.command; outcome = does.outcome h.stands; happened = refl }
 
-  goes_next : (text : List ℕ) (reply : Reply) (does : Executes (database catalogue) (fits catalogue) whole text old.current before new.current after past reply) → new.stopped ≡ None → new.machines.desk.catalog ≡ old.machines.desk.catalog → (Clean → Sound → OfStores {D = PlainDesk} {S = PlainSite} (λ _. Unit {0}) IsSound new.machines) →
+  goes_next : (text : List ℕ) (reply : Result (List Notice) Refusal) (does : Executes (database catalogue) (fits catalogue) whole text old.current before new.current after past reply) → new.stopped ≡ None → new.machines.desk.catalog ≡ old.machines.desk.catalog → (Clean → Sound → OfStores {D = PlainDesk} {S = PlainSite} (λ _. Unit {0}) IsSound new.machines) →
       GoesOn catalogue whole (past ++ deeds_in (database catalogue) does.moves before after does.made) new
   goes_next text reply does going same sound = goes_on (past ++ deeds_in (database catalogue) does.moves before after does.made) going same sound does.served (does.stands h.stands)
 
@@ -134,8 +134,8 @@ module _ (catalogue : Catalogue) (whole : Relations) (past : List (Deed (languag
   parts_of_own leaf shown parts = subst (λ (c : Catalogue). shown ≡ parts_kept (database c) before leaf) h.catalog (parts (clean new.machines) h.sound own_fit)
 
 -- what does not stop the database
-pub not_stopped : {T : Type 0} (result : Result T Refusal) (refusal : Refusal) (stopped : Option Refusal) → stopped ≡ stopped_by result → result ≡ Err refusal → is_stop refusal ≡ false → stopped ≡ None
-not_stopped result refusal stopped is here goes = is ∙ ap (λ done. stopped_by done) here ∙ rw (goes) refl
+pub not_stopped : {T : Type 0} (result : Result T Refusal) (refusal : Refusal) (stopped : Option Refusal) → IfErr result (λ told. stopped ≡ (if is_stop told then Some told else None)) → result ≡ Err refusal → is_stop refusal ≡ false → stopped ≡ None
+not_stopped result refusal stopped is here goes = subst (λ done. IfErr done (λ told. stopped ≡ (if is_stop told then Some told else None))) here is ∙ rw (goes) refl
 
 -- where nothing has happened the same is told
 pub still_told : (catalogue : Catalogue) (old new : Standing catalogue) (entries : List Entry) → Tells (database catalogue) entries old.past → new ≡ old → Tells (database catalogue) (entries ++ []) new.past
@@ -146,7 +146,7 @@ leaf_still mode catalogue name None old new told shows = shows.0
 leaf_still mode catalogue name (Some leaf) old new told shows = shows.0
 
 -- what a command and tasks asked for and heard tells what has happened
-done_told : (catalogue : Catalogue) (law : MovesFollow (database catalogue)) (text : List ℕ) (old new : Standing catalogue) (reply : Reply) (entries : List Entry) → Tells (database catalogue) entries old.past → (does : IsDone catalogue text old new reply) → Tells (database catalogue) (entries ++ said_in does.moves) new.past
+done_told : (catalogue : Catalogue) (law : MovesFollow (database catalogue)) (text : List ℕ) (old new : Standing catalogue) (reply : Result (List Notice) Refusal) (entries : List Entry) → Tells (database catalogue) entries old.past → (does : IsDone catalogue text old new reply) → Tells (database catalogue) (entries ++ said_in does.moves) new.past
 done_told catalogue law text old new reply entries so does = subst (Tells (database catalogue) (entries ++ said_in does.moves)) (sym does.happened) (law.tells does.moves old.machines new.machines entries old.past so does.made)
 
 pub task_told : (mode : Mode) (catalogue : Catalogue) (law : MovesFollow (database catalogue)) (task : Reading) (old new : Standing catalogue) (told : Told) (entries : List Entry) → Tells (database catalogue) entries old.past → (answers : AnswersTask mode catalogue task old new told) →

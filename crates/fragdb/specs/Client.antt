@@ -20,7 +20,7 @@ use Rattle.desk.specs.declared.reply.Reply.TheVariants as reply
 use Rattle.desk.specs.Database.{language}
 use Rattle.world.specs.declared.solo.Solo as code
 use Rattle.desk.specs.CatalogueDatabase.{database, fits}
-use Rattle.world.specs.Commands.{IsCommand, Outcome, Reply}
+use Rattle.world.specs.Commands.{IsCommand, Outcome}
 use Rattle.world.specs.Course.{Made, Move, deeds_in}
 use Rattle.world.specs.Contents.{OfStores, unrefused}
 use Rattle.world.specs.Machines.{Machines}
@@ -65,7 +65,7 @@ heard_text mode heard = flat_map (λ notice. reply_in mode notice.reply) heard
 
 -- a command makes its calls, and they come to its outcome: it has done what it asks for, or something was refused on the way, or it is refused for its reason alone. What has
 -- happened is what its calls did
-pub record IsDone (catalogue : Catalogue) (text : List ℕ) (before after : Standing catalogue) (reply : Reply) : Type 0 where
+pub record IsDone (catalogue : Catalogue) (text : List ℕ) (before after : Standing catalogue) (reply : Result (List Notice) Refusal) : Type 0 where
   pub moves : List Move
   pub made : Made (database catalogue) moves before.machines after.machines
   pub command : IsCommand (database catalogue).schemas text before.current after.current moves reply
