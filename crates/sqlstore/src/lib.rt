@@ -1,0 +1,8 @@
+//! Stores of sites and of the coordinator, kept in SQLite.
+//!
+//! Stands on `terms`, `store` and the kit's `sqlite`.
+#![tactic(auto)]
+
+pub mod param;
+pub mod steps;
+pub mod visit;
