@@ -5,3 +5,4 @@ pub mod Deleting
 pub mod Inserting
 pub mod Statements
 pub mod Stepping
+pub mod Composed

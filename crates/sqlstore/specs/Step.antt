@@ -1,5 +1,6 @@
 -- What a statement within a transaction does, and what calls leave.
-use Rattle.std.specs.Prelude.{◌≡◌, ℕ, ℤ, true, List, [], ◌∷◌, Result, OnOk}
+use Rattle.std.specs.Prelude.{◌≡◌, ℕ, ℤ, Bool, true, List, [], ◌∷◌, Result, OnOk}
+use Rattle.std.specs.List.{list_any}
 use Rattle.sqlite.specs.Effect.{Database}
 use Rattle.sqlite.specs.Order.{Row, column}
 use Rattle.sqlite.specs.State.{State, Shows, KeepsCommit}
@@ -70,3 +71,23 @@ EndsLife = Rewrites 6 (Loses (λ row. true))
 -- an incarnation is kept
 abbrev pub StartsLife : ℤ → Database → Database → Type 0
 StartsLife life = Rewrites 6 (Gains (λ cells. cells ≡ Null ∷ Int life ∷ []))
+
+-- one statement after another
+abbrev pub Follows : (Database → Database → Type 0) → (Database → Database → Type 0) → Database → Database → Type 0
+Follows First Second old new = (mid : Database) × First old mid × Second mid new
+
+-- whether a part stands at one of these slots
+abbrev pub is_at_some : List Row → Row → Bool
+is_at_some slots part = list_any (λ slot. passes at_slot (slot_params slot) part) slots
+
+-- a ticket's prepared row goes, and the parts at these slots
+abbrev pub Empties : Visit → List Row → Database → Database → Type 0
+Empties visit slots = Follows (Forgets visit) (Rewrites 0 (Loses (is_at_some slots)))
+
+-- the parts that a ticket's intents put are put in, and the intents go
+abbrev pub Fills : Visit → Database → Database → Type 0
+Fills visit = Follows (Gives visit) (Clears visit)
+
+-- a ticket's prepared row and its intents go
+abbrev pub Drops : Visit → Database → Database → Type 0
+Drops visit = Follows (Forgets visit) (Clears visit)

@@ -3,6 +3,7 @@
 //! Stands on `terms`, `store` and the kit's `sqlite`.
 #![tactic(auto)]
 
+pub mod calls;
 pub mod param;
 pub mod steps;
 pub mod visit;
