@@ -6,3 +6,5 @@ pub mod Inserting
 pub mod Statements
 pub mod Stepping
 pub mod Composed
+pub mod Showing
+pub mod Committing

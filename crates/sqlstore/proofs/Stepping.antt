@@ -24,10 +24,10 @@ use Rattle.sqlstore.proofs.Querying.{answered}
 use Rattle.sqlstore.proofs.Statements.{deletes, inserts}
 use Rattle.sqlstore.proofs.Texts.{take_text, take_is, take_plain, give_text, give_is, give_plain, clear_text, clear_is, clear_plain, forget_text, forget_is, forget_plain, promise_text, promise_is, promise_plain, intend_text, intend_is, intend_plain, end_life_text, end_life_is, end_life_plain, begin_life_text, begin_life_is, begin_life_plain}
 
-unchanged_keeps : (old new : State) → IsUnchanged old new → KeepsCommit old new
+pub unchanged_keeps : (old new : State) → IsUnchanged old new → KeepsCommit old new
 unchanged_keeps old new same = record { was_open = λ _. same.0.was_open; committed = λ _. same.0.committed_is }
 
-undone_keeps : (old new : State) → IsRolledBack old new → KeepsCommit old new
+pub undone_keeps : (old new : State) → IsRolledBack old new → KeepsCommit old new
 undone_keeps old new undone = record { was_open = undone.was_open; committed = λ is_open. (undone.undone is_open).1 }
 
 -- a statement within a transaction steps by what it does where it answers

@@ -3,3 +3,4 @@ pub mod Tables
 pub mod Tests
 pub mod Rows
 pub mod Step
+pub mod Query

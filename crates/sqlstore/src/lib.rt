@@ -5,5 +5,6 @@
 
 pub mod calls;
 pub mod param;
+pub mod reading;
 pub mod steps;
 pub mod visit;

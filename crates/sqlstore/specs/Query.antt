@@ -1,0 +1,30 @@
+-- What a query leaves, and what it shows.
+use Rattle.std.specs.Prelude.{Result, IfOk, OnOk, IsTrue, List, [], ◌∷◌}
+use Rattle.sqlite.specs.Effect.{Database}
+use Rattle.sqlite.specs.Order.{Row}
+use Rattle.sqlite.specs.State.{State, KeepsCommit, Shows}
+use Rattle.sqlite.specs.Term.{Term, col}
+use Rattle.sqlite.specs.declared.error.Error.{Error}
+use Rattle.sqlstore.specs.Rows.{AreTables, Finds}
+use Rattle.sqlstore.specs.Step.{visit_params, Follows, Empties, Fills}
+use Rattle.sqlstore.specs.Tests.{passes, shown, of_visit}
+use Rattle.sqlstore.specs.declared.visit.Visit.{Visit}
+
+-- a query: it opens nothing and commits nothing, and where it answers nothing has changed, and this is shown of the tables
+pub record Queries {A : Type 0} (P : Database → A → Type 0) (old new : State) (result : Result A Error) : Type 0 where
+  pub was_open : IsTrue new.is_open → IsTrue old.is_open
+  pub kept : AreTables old.now → KeepsCommit old new
+  pub same : AreTables old.now → OnOk result (Shows old new old.now old.committed old.in_transaction)
+  pub shows : AreTables old.now → IfOk result (P old.now)
+
+-- the leaf and the key of an intent
+abbrev pub slot_terms : List Term
+slot_terms = col 1 3 ∷ col 1 4 ∷ []
+
+-- the slots of a ticket's intents
+abbrev pub AreSlots : Visit → List Row → List Row → Type 0
+AreSlots visit intents = Finds (shown slot_terms (visit_params visit)) (passes of_visit (visit_params visit)) intents
+
+-- the parts at the slots of a ticket's intents go, those that the intents put are put in, and the ticket's rows go
+abbrev pub Makes : Visit → Database → Database → Type 0
+Makes visit old new = (slots : List Row) × AreSlots visit (old.trees 4) slots × Follows (Empties visit slots) (Fills visit) old new

@@ -1,0 +1,22 @@
+//! Queries, outside of a transaction.
+
+ghost use Rattle.std.specs.Prelude.{◌≡◌, false};
+ghost use Rattle.sqlite.specs.Held.{state};
+ghost use Rattle.sqlite.specs.State.{HasCleanDisk};
+ghost use Rattle.sqlstore.specs.Query.{Queries, AreSlots};
+
+use crate::param::number;
+use crate::visit::Visit;
+use sqlite::{Alter, Connection, Error, Row};
+
+/// The slots of a ticket's intents: for each its leaf and its key.
+pub fn slots_of<S: Alter>(conn: &mut Connection<S>, visit: &Visit) -> Result<Vec<Row>, Error>
+    ensures does { HasCleanDisk (state S.Store conn.new) → Queries (λ db rows. AreSlots visit.now (db.trees 4) rows.items) (state S.Store conn.old) (state S.Store conn.new) result }
+    ensures clean { HasCleanDisk (state S.Store conn.new) → HasCleanDisk (state S.Store conn.old) }
+    ensures mode { conn.old.in_transaction ≡ false → conn.new.in_transaction ≡ false }
+{
+    conn.query_all(
+        "SELECT leaf, id FROM intent WHERE life = ?1 AND visit = ?2",
+        &[number(&visit.life), number(&visit.visit)],
+    )
+}
