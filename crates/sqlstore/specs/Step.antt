@@ -1,5 +1,5 @@
 -- What a statement within a transaction does, and what calls leave.
-use Rattle.std.specs.Prelude.{◌≡◌, ℕ, ℤ, Bool, true, List, [], ◌∷◌, Result, OnOk}
+use Rattle.std.specs.Prelude.{◌≡◌, ℕ, ℤ, Bool, true, List, [], ◌∷◌, Result, OnOk, string_bytes}
 use Rattle.std.specs.List.{list_any}
 use Rattle.sqlite.specs.Effect.{Database}
 use Rattle.sqlite.specs.Order.{Row, column}
@@ -7,6 +7,7 @@ use Rattle.sqlite.specs.State.{State, Shows, KeepsCommit}
 use Rattle.sqlite.specs.Values.{bound_value}
 use Rattle.sqlite.specs.declared.error.Error.{Error}
 use Rattle.sqlite.specs.declared.types.Value.TheVariants.{Null, Int, Text, Blob}
+use Rattle.sqlstore.specs.declared.intent.Intent.{Intent}
 use Rattle.sqlstore.specs.declared.visit.Visit.{Visit}
 use Rattle.sqlstore.specs.Rows.{AreTables, Rewrites, Loses, Gains}
 use Rattle.sqlstore.specs.Tests.{at_slot, of_visit, puts_of_visit, passes}
@@ -91,3 +92,15 @@ Fills visit = Follows (Gives visit) (Clears visit)
 -- a ticket's prepared row and its intents go
 abbrev pub Drops : Visit → Database → Database → Type 0
 Drops visit = Follows (Forgets visit) (Clears visit)
+
+-- the incarnation is this
+abbrev pub LivesOn : ℤ → Database → Database → Type 0
+LivesOn life = Follows EndsLife (StartsLife life)
+
+-- a ticket intends these
+abbrev pub IntendsAll : Visit → List Intent → Database → Database → Type 0
+IntendsAll visit intents = Rewrites 4 (Gains (λ cells. (intent : Intent) × Has intents intent × (cells ≡ intend_params visit (string_bytes intent.leaf) intent.key intent.body.items)))
+
+-- a ticket is prepared for a transaction, and intends these
+abbrev pub Keeps : Visit → Visit → List Intent → Database → Database → Type 0
+Keeps visit txn intents = Follows (Promises visit txn) (IntendsAll visit intents)

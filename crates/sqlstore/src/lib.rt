@@ -4,6 +4,9 @@
 #![tactic(auto)]
 
 pub mod calls;
+pub mod intent;
+pub mod keep;
+pub mod life;
 pub mod param;
 pub mod reading;
 pub mod steps;

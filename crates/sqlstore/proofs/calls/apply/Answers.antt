@@ -23,4 +23,4 @@ returns-clause-done g c clean tables =
     let settled = c.is_autocommit-settled.ensures.settled (c.is_autocommit-settled.ensures.value ∙ ap not c.requires) in
     subst (λ h. OnOk c.commit.result (Makes visit old.committed (state g.S.Store h).committed)) same
     (asked_committed (λ db rows. AreSlots visit (db.trees 4) rows.items) (λ rows. Follows (Empties visit rows.items) (Fills visit)) (Makes visit) old asked last (state g.S.Store end) c.in_ok-slots.slots c.in_ok-make.field-0 c.commit.result
-      (λ db after found made. (_, found, made)) settled tables (c.in_ok-slots.ensures.does asked_clean) steps (ended_as last (state g.S.Store end) c.commit.result _ _ _ (c.commit.ensures.ok late)))
+    (λ db after found made. (_, found, made)) settled tables (c.in_ok-slots.ensures.does asked_clean) steps (ended_as last (state g.S.Store end) c.commit.result _ _ _ (c.commit.ensures.ok late)))
