@@ -17,7 +17,7 @@ use Rattle.sqlite_value.proofs.OrderLemmas.{value_cmp_total, value_cmp-Int}
 use Rattle.sqlstore.specs.Rows.{AreKeyed, Loses, Finds}
 use Rattle.sqlstore.proofs.Querying.{mapped_has, has_mapped}
 
-is_equal : (order : Ordering) → is_eq order ≡ true → order ≡ Equal
+pub is_equal : (order : Ordering) → is_eq order ≡ true → order ≡ Equal
 is_equal Equal h = refl
 is_equal _ h = absurd cc
 

@@ -8,3 +8,7 @@ pub mod Stepping
 pub mod Composed
 pub mod Showing
 pub mod Committing
+pub mod Typed
+pub mod Bridge
+pub mod Contents
+pub mod Applying

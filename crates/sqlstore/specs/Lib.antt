@@ -1,5 +1,9 @@
 -- What the tables hold, in reading order.
 pub mod Tables
+pub mod Cells
+pub mod Content
+pub mod Sound
+-- What statements make of rows.
 pub mod Tests
 pub mod Rows
 pub mod Step
