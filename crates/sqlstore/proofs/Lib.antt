@@ -12,3 +12,4 @@ pub mod Typed
 pub mod Bridge
 pub mod Contents
 pub mod Applying
+pub mod Forgetting

@@ -188,6 +188,17 @@ module _ (db : Database) (sound : IsDatabase db) (tables : AreTables db) where
       (and_from _ _ (equal_same (column one 1) (column other 1) (a.leaf ∙ ap Text leaf ∙ sym b.leaf) (null_not (column other 1) _ b.leaf refl))
       (and_from _ _ (equal_same (column one 2) (column other 2) (a.key ∙ ap Int key ∙ sym b.key) (null_not (column other 2) _ b.key refl)) refl))
 
+  -- a ticket has one prepared row
+  pub prepared_once : (one other : Row) → Has (db.trees 2) one → Has (db.trees 2) other → int_at one 1 ≡ int_at other 1 → int_at one 2 ≡ int_at other 2 → one ≡ other
+  unfolding first_key
+  prepared_once one other h k life visit =
+      let a = prepared_typed one h in
+      let b = prepared_typed other k in
+      let free = test_has (λ i. not (guards i (record prepared_table { tree = 2 }) && clashes i.order i.columns (db.trees 2) other)) site_schema.indexes _ (rule_holds Unique _ (inr (inl refl)) other k) (inr (inl refl)) in
+      apart_or_one (db.trees 2) plain (1 ∷ 2 ∷ []) one other (tables.keyed _ (inr (inl refl))) h k (not-true _ free)
+      (and_from _ _ (equal_same (column one 1) (column other 1) (a.life ∙ ap Int life ∙ sym b.life) (null_not (column other 1) _ b.life refl))
+      (and_from _ _ (equal_same (column one 2) (column other 2) (a.visit ∙ ap Int visit ∙ sym b.visit) (null_not (column other 2) _ b.visit refl)) refl))
+
   -- a ticket has one intent at a leaf and a key
   pub intent_once : (one other : Row) → Has (db.trees 4) one → Has (db.trees 4) other → int_at one 1 ≡ int_at other 1 → int_at one 2 ≡ int_at other 2 → text_at one 3 ≡ text_at other 3 → int_at one 4 ≡ int_at other 4 → one ≡ other
   unfolding first_key
