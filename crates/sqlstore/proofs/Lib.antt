@@ -13,3 +13,4 @@ pub mod Bridge
 pub mod Contents
 pub mod Applying
 pub mod Forgetting
+pub mod Sites

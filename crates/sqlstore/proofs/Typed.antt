@@ -1,5 +1,5 @@
 -- What the schema says of the cells of rows: their types, and which rows differ.
-use Rattle.std.proofs.Common.{◌≡◌, ℕ, ℤ, zero, suc, ◌+◌, Ordering, Less, Equal, Greater, Bool, true, false, not, ◌&&◌, ◌||◌, cond, List, [], ◌∷◌, drop, slice_get, Option, Some, None, refl, sym, ap, ◌∙◌, subst, inl, inr}
+use Rattle.std.proofs.Common.{◌≡◌, ℕ, ℤ, pos, zero, suc, ◌+◌, Ordering, Less, Equal, Greater, Bool, true, false, not, ◌&&◌, ◌||◌, cond, List, [], ◌∷◌, drop, slice_get, Option, Some, None, refl, sym, ap, ◌∙◌, subst, inl, inr}
 use Rattle.std.specs.Ordering.{is_eq, is_ne}
 use Rattle.std.proofs.lemmas.Cmp.{tied_itself}
 use Rattle.std.specs.List.{list_all, list_any, AllByRecursion}
@@ -9,7 +9,9 @@ use Rattle.sqlite.specs.Edit.{id_in}
 use Rattle.sqlite.specs.Kind.{Kind}
 use Rattle.sqlite.specs.Kind.TheVariants as kinds
 use Rattle.sqlite.specs.Order.{Row, column, bytes, value_cmp}
-use Rattle.sqlite.specs.Ops.{is_null, binary, is_true, from_truth}
+use Rattle.sqlite.specs.Ops.{is_null, binary, is_true, is_false, from_truth}
+use Rattle.sqlite_sql.specs.declared.ops.BinaryOp.TheVariants.{Compare}
+use Rattle.sqlite_sql.specs.declared.ops.CompareOp.TheVariants.{Eq}
 use Rattle.sqlite.specs.Schema.{Schema}
 use Rattle.sqlite.specs.Table.{Table}
 use Rattle.sqlite.specs.Tree.{Trees, rowid}
@@ -19,7 +21,7 @@ use Rattle.sqlite_rules.specs.Lists.{Has}
 use Rattle.sqlite_rules.proofs.ListLemmas.{all_has, test_has, some_from}
 use Rattle.sqlite_schema.specs.declared.schema.Column.{Column}
 use Rattle.sqlite_schema.specs.declared.schema.Constraint.{Constraint}
-use Rattle.sqlite_schema.specs.declared.schema.Constraint.TheVariants.{Datatype, NotNull, Unique}
+use Rattle.sqlite_schema.specs.declared.schema.Constraint.TheVariants.{Datatype, NotNull, Check, Unique}
 use Rattle.sqlite_schema.specs.Rules.{Keeps, passes, is_of, are_typed, are_present, suits, has_affinity, equal, differ, agree, clashes, guards}
 use Rattle.sqlite_value.specs.declared.keys.Order.{Order}
 use Rattle.sqlite_value.specs.Keys.{first_key, plain}
@@ -114,6 +116,16 @@ differ_same m n alike = same_int m n (go (value_cmp (Int m) (Int n)) alike)
 
 null_not : (v w : Value) → v ≡ w → is_null w ≡ false → is_null v ≡ false
 null_not v w same there = ap is_null same ∙ there
+
+-- a number that a CHECK finds equal is that number
+equal_checked : (m n : ℤ) → not (is_false (binary (Compare Eq Binary) (Int m) (Int n))) ≡ true → m ≡ n
+unfolding binary
+equal_checked m n passed = same_int m n (go (value_cmp (Int m) (Int n)) passed)
+  where
+    go : (order : Ordering) → not (is_false (from_truth (Some (is_eq order)))) ≡ true → is_eq order ≡ true
+    go Less h = absurd cc
+    go Equal h = refl
+    go Greater h = absurd cc
 
 module _ (db : Database) (sound : IsDatabase db) (tables : AreTables db) where
   -- a rule of the schema holds of each row
@@ -211,3 +223,13 @@ module _ (db : Database) (sound : IsDatabase db) (tables : AreTables db) where
       (and_from _ _ (equal_same (column one 2) (column other 2) (a.visit ∙ ap Int visit ∙ sym b.visit) (null_not (column other 2) _ b.visit refl))
       (and_from _ _ (equal_same (column one 3) (column other 3) (a.leaf ∙ ap Text leaf ∙ sym b.leaf) (null_not (column other 3) _ b.leaf refl))
       (and_from _ _ (equal_same (column one 4) (column other 4) (a.key ∙ ap Int key ∙ sym b.key) (null_not (column other 4) _ b.key refl)) refl))))
+
+  -- one row at most says the incarnation, since its number is 1
+  pub state_once : (one other : Row) → Has (db.trees 6) one → Has (db.trees 6) other → one ≡ other
+  state_once one other h k =
+      let keyed = tables.keyed _ (inr (inr (inr (inl refl)))) in
+      let number = λ (row : Row) (there : Has (db.trees 6) row).
+      let int = number_is (rowid row) (keyed.ints row there) in
+      let checks = and_parts _ true (rule_holds Check _ (inr (inr (inr (inl refl)))) row there) in
+      int ∙ ap Int (equal_checked (id_in (rowid row)) (pos 1) (subst (λ v. not (is_false (binary (Compare Eq Binary) v (Int (pos 1)))) ≡ true) int checks.0)) in
+      keyed.apart one other h k (number one h ∙ sym (number other k))

@@ -48,6 +48,5 @@ pub record IsStored (leaves : List Leaf) (db : Database) : Type 0 where
   -- each prepared row has an intent, and each intent its prepared row
   pub intended : (row : Row) → Has (db.trees 2) row → (intent : Row) × Has (db.trees 4) intent × AreOfOne row intent
   pub promised : (intent : Row) → Has (db.trees 4) intent → (row : Row) × Has (db.trees 2) row × AreOfOne row intent
-  -- at most one row says the incarnation, which isn't below zero
-  pub one : (row other : Row) → Has (db.trees 6) row → Has (db.trees 6) other → row ≡ other
+  -- no incarnation is below zero
   pub begun : (row : Row) → Has (db.trees 6) row → pos 0 ≤ℤ int_at row 2
