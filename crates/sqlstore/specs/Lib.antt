@@ -8,3 +8,5 @@ pub mod Tests
 pub mod Rows
 pub mod Step
 pub mod Query
+-- What a store is to its callers.
+pub mod Site

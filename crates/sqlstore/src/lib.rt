@@ -3,11 +3,13 @@
 //! Stands on `terms`, `store` and the kit's `sqlite`.
 #![tactic(auto)]
 
+pub mod blame;
 pub mod calls;
 pub mod intent;
 pub mod keep;
 pub mod life;
 pub mod param;
 pub mod reading;
+pub mod site;
 pub mod steps;
 pub mod visit;

@@ -1,0 +1,44 @@
+//! A site's store in SQLite.
+
+ghost use Rattle.std.specs.Prelude.{◌≡◌, ◌+◌, ◌<◌, ◌^◌, ◌≤◌, false, None, Some, OnOk, OnErr, IfOk, List};
+ghost use Rattle.store.specs.Frame.{LeavesStore, ChangesOrFails};
+ghost use Rattle.store.specs.SiteContent.{IsUnchanged, Applies, Discards, BeginsLife};
+ghost use Rattle.store.specs.declared.prepared.Prepared.{Prepared as Row};
+ghost use Rattle.sqlstore.specs.Site.{IsClean, IsSound, kept_by};
+
+use crate::blame::{blame, refuse};
+use crate::calls;
+use crate::visit::visit_of;
+use sqlite::{Alter, Connection};
+use store::fault::StoreFault;
+use store::name::Ticket;
+use terms::leaf::Leaf;
+
+/// A store of a site in a SQLite database of its own.
+pub struct SqlSite<S: Alter> {
+    conn: Connection<S>,
+    leaves: Vec<Leaf>,
+    refusals: u64,
+    ghost settled: { conn.in_transaction ≡ false },
+}
+
+impl<S: Alter> SqlSite<S> {
+    /// Makes the changes of a ticket's row, which goes.
+    fn make(&mut self, ticket: Ticket) -> Result<(), StoreFault>
+        ensures leaves { LeavesStore (λ s. IsClean S.Store s.conn) (λ s. IsSound S.Store s.leaves.items s.conn) (λ s. s.refusals) self.old self.new }
+        ensures ok { IsClean S.Store self.new.conn → IsSound S.Store self.old.leaves.items self.old.conn → (row : Row) → (kept_by S.Store self.old.leaves.items self.old.conn).prepared ticket ≡ Some row
+            → OnOk result (Applies ticket row.changes (kept_by S.Store self.old.leaves.items self.old.conn) (kept_by S.Store self.new.leaves.items self.new.conn)) }
+        ensures none { IsClean S.Store self.new.conn → IsSound S.Store self.old.leaves.items self.old.conn → (kept_by S.Store self.old.leaves.items self.old.conn).prepared ticket ≡ None
+            → IsUnchanged (kept_by S.Store self.old.leaves.items self.old.conn) (kept_by S.Store self.new.leaves.items self.new.conn) }
+        ensures fails { ChangesOrFails (λ s. IsClean S.Store s.conn) (λ s. IsSound S.Store s.leaves.items s.conn) (λ s. kept_by S.Store s.leaves.items s.conn) IsUnchanged (λ s. s.refusals) self.old self.new result }
+    {
+        let _live = self.conn.schema();
+        let Some(visit) = visit_of(ticket) else {
+            return Err(refuse(&mut self.refusals));
+        };
+        match calls::apply(&mut self.conn, &visit) {
+            Ok(()) => Ok(()),
+            Err(error) => Err(blame(&mut self.refusals, error)),
+        }
+    }
+}
