@@ -153,3 +153,11 @@ slots_plain = (refl, refl)
 pub slots_unlisted : reads_listing site_schema slots_text ≡ false
 unfolding understood everything
 slots_unlisted = refl
+
+pub life_plain : IsPlain (understood site_schema life_text)
+unfolding understood everything
+life_plain = (refl, refl)
+
+pub life_unlisted : reads_listing site_schema life_text ≡ false
+unfolding understood everything
+life_unlisted = refl

@@ -1,12 +1,13 @@
 -- What a query leaves, and what it shows.
-use Rattle.std.specs.Prelude.{Result, IfOk, OnOk, IsTrue, List, [], ◌∷◌}
+use Rattle.std.specs.Prelude.{◌≡◌, ℤ, pos, ◌+ℤ◌, ◌≤ℤ◌, Result, IfOk, OnOk, IsTrue, List, [], ◌∷◌}
+use Rattle.sqlite.specs.Edit.{id_in}
 use Rattle.sqlite.specs.Effect.{Database}
-use Rattle.sqlite.specs.Order.{Row}
+use Rattle.sqlite.specs.Order.{Row, column}
 use Rattle.sqlite.specs.State.{State, KeepsCommit, Shows}
 use Rattle.sqlite.specs.Term.{Term, col}
 use Rattle.sqlite.specs.declared.error.Error.{Error}
 use Rattle.sqlstore.specs.Rows.{AreTables, Finds}
-use Rattle.sqlstore.specs.Step.{visit_params, Follows, Empties, Fills}
+use Rattle.sqlstore.specs.Step.{visit_params, Follows, Empties, Fills, LivesOn}
 use Rattle.sqlstore.specs.Tests.{passes, shown, of_visit}
 use Rattle.sqlstore.specs.declared.visit.Visit.{Visit}
 
@@ -28,3 +29,19 @@ AreSlots visit intents = Finds (shown slot_terms (visit_params visit)) (passes o
 -- the parts at the slots of a ticket's intents go, those that the intents put are put in, and the ticket's rows go
 abbrev pub Makes : Visit → Database → Database → Type 0
 Makes visit old new = (slots : List Row) × AreSlots visit (old.trees 4) slots × Follows (Empties visit slots) (Fills visit) old new
+
+-- what the table of incarnations says
+abbrev pub life_terms : List Term
+life_terms = col 1 2 ∷ []
+
+abbrev pub AreLives : List Row → List Row → Type 0
+AreLives = Finds (shown life_terms []) (passes [] [])
+
+-- the incarnation that these say: none has begun where they say nothing
+abbrev pub first_life : List Row → ℤ
+first_life [] = pos 0
+first_life (row ∷ rows) = id_in (column row 0)
+
+-- the incarnation after the one that is kept begins
+abbrev pub LivesNext : ℤ → Database → Database → Type 0
+LivesNext next old new = (rows : List Row) × AreLives (old.trees 6) rows × (pos 0 ≤ℤ first_life rows) × (next ≡ first_life rows +ℤ pos 1) × LivesOn next old new

@@ -1,13 +1,16 @@
 //! The incarnation changes in one transaction.
 
-ghost use Rattle.std.specs.Prelude.{◌≡◌, IsTrue, OnOk, OnErr, false};
+ghost use Rattle.std.specs.Prelude.{◌≡◌, ◌+ℤ◌, ◌≤ℤ◌, pos, IsTrue, IfOk, IfSome, OnOk, OnErr, None, false, FitsSigned};
+ghost use Rattle.std.specs.Int.{w64};
+ghost use Rattle.sqlstore.specs.Query.{first_life, LivesNext};
 ghost use Rattle.sqlite.specs.Held.{state};
 ghost use Rattle.sqlite.specs.State.{HasCleanDisk, Survives};
 ghost use Rattle.sqlstore.specs.Rows.{AreTables};
 ghost use Rattle.sqlstore.specs.Step.{Steps, LivesOn};
 
+use crate::reading::lives;
 use crate::steps::{begin_life, end_life};
-use sqlite::{Alter, Connection, Error, Transaction};
+use sqlite::{Alter, Connection, Error, Row, Transaction};
 
 /// Puts an incarnation in place of another.
 fn live_on<S: Alter>(tx: &mut Transaction<'_, S>, life: &i64) -> Result<usize, Error>
@@ -32,4 +35,45 @@ pub fn live<S: Alter>(conn: &mut Connection<S>, life: &i64) -> Result<(), Error>
     let mut tx = conn.transaction();
     live_on(&mut tx, life)?;
     tx.commit()
+}
+
+/// The incarnation that rows of the query for it say.
+fn first_life(rows: &[Row]) -> Result<i64, Error>
+    ensures life { IfOk result (λ life. life ≡ first_life rows.now) }
+    ensures range { IfOk result (FitsSigned w64) }
+{
+    match rows.first() {
+        Some(row) => {
+            let life: i64 = row.get(0)?;
+            Ok(life)
+        }
+        None => Ok(0),
+    }
+}
+
+/// The incarnation after this one, if a table holds it, and this one isn't below zero.
+fn after(life: i64) -> Option<i64>
+    ensures { IfSome result (λ next. (pos 0 ≤ℤ life) × (next ≡ life +ℤ pos 1) × FitsSigned w64 next) }
+{
+    if life < 0 { None } else { life.checked_add(1) }
+}
+
+/// Begins the incarnation after the one that is kept, and answers it, if a table holds it.
+pub fn live_next<S: Alter>(conn: &mut Connection<S>) -> Result<Option<i64>, Error>
+    requires { conn.old.in_transaction ≡ false }
+    ensures done { HasCleanDisk (state S.Store conn.new) → IsTrue (state S.Store conn.new).is_open → AreTables (state S.Store conn.old).committed → IfOk result (λ found. IfSome found (λ next. LivesNext next (state S.Store conn.old).committed (state S.Store conn.new).committed)) }
+    ensures none { HasCleanDisk (state S.Store conn.new) → IsTrue (state S.Store conn.new).is_open → AreTables (state S.Store conn.old).committed → IfOk result (λ found. found ≡ None → (state S.Store conn.new).committed ≡ (state S.Store conn.old).committed) }
+    ensures unchanged { HasCleanDisk (state S.Store conn.new) → IsTrue (state S.Store conn.new).is_open → AreTables (state S.Store conn.old).committed → OnErr result ((state S.Store conn.new).committed ≡ (state S.Store conn.old).committed) }
+    ensures clean { HasCleanDisk (state S.Store conn.new) → HasCleanDisk (state S.Store conn.old) }
+    ensures was_open { HasCleanDisk (state S.Store conn.new) → IsTrue (state S.Store conn.new).is_open → IsTrue (state S.Store conn.old).is_open }
+    ensures mode { conn.new.in_transaction ≡ false }
+{
+    let _settled = conn.is_autocommit();
+    let rows = lives(conn)?;
+    let life = first_life(&rows)?;
+    let Some(next) = after(life) else {
+        return Ok(None);
+    };
+    live(conn, &next)?;
+    Ok(Some(next))
 }

@@ -3,7 +3,7 @@
 ghost use Rattle.std.specs.Prelude.{◌≡◌, false};
 ghost use Rattle.sqlite.specs.Held.{state};
 ghost use Rattle.sqlite.specs.State.{HasCleanDisk};
-ghost use Rattle.sqlstore.specs.Query.{Queries, AreSlots};
+ghost use Rattle.sqlstore.specs.Query.{Queries, AreSlots, AreLives};
 
 use crate::param::number;
 use crate::visit::Visit;
@@ -19,4 +19,13 @@ pub fn slots_of<S: Alter>(conn: &mut Connection<S>, visit: &Visit) -> Result<Vec
         "SELECT leaf, id FROM intent WHERE life = ?1 AND visit = ?2",
         &[number(&visit.life), number(&visit.visit)],
     )
+}
+
+/// What the table of incarnations says.
+pub fn lives<S: Alter>(conn: &mut Connection<S>) -> Result<Vec<Row>, Error>
+    ensures does { HasCleanDisk (state S.Store conn.new) → Queries (λ db rows. AreLives (db.trees 6) rows.items) (state S.Store conn.old) (state S.Store conn.new) result }
+    ensures clean { HasCleanDisk (state S.Store conn.new) → HasCleanDisk (state S.Store conn.old) }
+    ensures mode { conn.old.in_transaction ≡ false → conn.new.in_transaction ≡ false }
+{
+    conn.query_all("SELECT life FROM state", &[])
 }

@@ -41,4 +41,21 @@ impl<S: Alter> SqlSite<S> {
             Err(error) => Err(blame(&mut self.refusals, error)),
         }
     }
+
+    /// Drops a ticket's row, if it has one.
+    fn forget(&mut self, ticket: Ticket) -> Result<(), StoreFault>
+        ensures leaves { LeavesStore (λ s. IsClean S.Store s.conn) (λ s. IsSound S.Store s.leaves.items s.conn) (λ s. s.refusals) self.old self.new }
+        ensures ok { IsClean S.Store self.new.conn → IsSound S.Store self.old.leaves.items self.old.conn
+            → OnOk result (Discards ticket (kept_by S.Store self.old.leaves.items self.old.conn) (kept_by S.Store self.new.leaves.items self.new.conn)) }
+        ensures fails { ChangesOrFails (λ s. IsClean S.Store s.conn) (λ s. IsSound S.Store s.leaves.items s.conn) (λ s. kept_by S.Store s.leaves.items s.conn) IsUnchanged (λ s. s.refusals) self.old self.new result }
+    {
+        let _live = self.conn.schema();
+        let Some(visit) = visit_of(ticket) else {
+            return Err(refuse(&mut self.refusals));
+        };
+        match calls::discard(&mut self.conn, &visit) {
+            Ok(()) => Ok(()),
+            Err(error) => Err(blame(&mut self.refusals, error)),
+        }
+    }
 }

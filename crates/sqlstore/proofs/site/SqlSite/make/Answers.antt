@@ -17,7 +17,7 @@ returns-in-Ok-clause-leaves g c =
       clean = λ now. (c.in-Ok.ensures.clean now.0, c.in-Ok.ensures.was_open now.0 now.1);
       counts = omega arith;
       sound = λ now stored.
-        stored_applied leaves c.args.ticket c.in-Some.visit stands old new (c.schema-live.ensures.live (c.in-Ok.ensures.was_open now.0 now.1)).1 stored (applied c.in-Some.visit old new (c.in-Ok.ensures.done now.0 stored.tables));
+          stored_applied leaves c.args.ticket c.in-Some.visit stands old new (c.schema-live.ensures.live (c.in-Ok.ensures.was_open now.0 now.1)).1 stored (applied c.in-Some.visit old new (c.in-Ok.ensures.done now.0 stored.tables));
     }
 
 pub returns-in-Ok-clause-ok : goal.returns-in-Ok-clause-ok
