@@ -14,3 +14,4 @@ pub mod Contents
 pub mod Applying
 pub mod Forgetting
 pub mod Sites
+pub mod Living

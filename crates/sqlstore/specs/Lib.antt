@@ -3,6 +3,7 @@ pub mod Tables
 pub mod Cells
 pub mod Content
 pub mod Sound
+pub mod Intents
 -- What statements make of rows.
 pub mod Tests
 pub mod Rows

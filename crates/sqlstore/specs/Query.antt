@@ -1,5 +1,5 @@
 -- What a query leaves, and what it shows.
-use Rattle.std.specs.Prelude.{◌≡◌, ℤ, pos, ◌+ℤ◌, ◌≤ℤ◌, Result, IfOk, OnOk, IsTrue, List, [], ◌∷◌}
+use Rattle.std.specs.Prelude.{◌≡◌, ℕ, ◌+◌, ℤ, pos, Result, IfOk, OnOk, IsTrue, List, [], ◌∷◌}
 use Rattle.sqlite.specs.Edit.{id_in}
 use Rattle.sqlite.specs.Effect.{Database}
 use Rattle.sqlite.specs.Order.{Row, column}
@@ -43,5 +43,5 @@ first_life [] = pos 0
 first_life (row ∷ rows) = id_in (column row 0)
 
 -- the incarnation after the one that is kept begins
-abbrev pub LivesNext : ℤ → Database → Database → Type 0
-LivesNext next old new = (rows : List Row) × AreLives (old.trees 6) rows × (pos 0 ≤ℤ first_life rows) × (next ≡ first_life rows +ℤ pos 1) × LivesOn next old new
+abbrev pub LivesNext : ℕ → Database → Database → Type 0
+LivesNext next old new = (rows : List Row) × AreLives (old.trees 6) rows × (life : ℕ) × (first_life rows ≡ pos life) × (next ≡ life + 1) × LivesOn (pos next) old new

@@ -1,6 +1,6 @@
 //! The incarnation changes in one transaction.
 
-ghost use Rattle.std.specs.Prelude.{◌≡◌, ◌+ℤ◌, ◌≤ℤ◌, pos, IsTrue, IfOk, IfSome, OnOk, OnErr, None, false, FitsSigned};
+ghost use Rattle.std.specs.Prelude.{◌≡◌, ◌+◌, ◌<◌, ◌^◌, pos, IsTrue, IfOk, IfSome, OnOk, OnErr, None, false, FitsSigned};
 ghost use Rattle.std.specs.Int.{w64};
 ghost use Rattle.sqlstore.specs.Query.{first_life, LivesNext};
 ghost use Rattle.sqlite.specs.Held.{state};
@@ -10,6 +10,7 @@ ghost use Rattle.sqlstore.specs.Step.{Steps, LivesOn};
 
 use crate::reading::lives;
 use crate::steps::{begin_life, end_life};
+use crate::visit::GREATEST;
 use sqlite::{Alter, Connection, Error, Row, Transaction};
 
 /// Puts an incarnation in place of another.
@@ -38,28 +39,28 @@ pub fn live<S: Alter>(conn: &mut Connection<S>, life: &i64) -> Result<(), Error>
 }
 
 /// The incarnation that rows of the query for it say.
-fn first_life(rows: &[Row]) -> Result<i64, Error>
-    ensures life { IfOk result (λ life. life ≡ first_life rows.now) }
-    ensures range { IfOk result (FitsSigned w64) }
+fn first_life(rows: &[Row]) -> Result<u64, Error>
+    ensures { IfOk result (λ life. first_life rows.now ≡ pos life) }
 {
     match rows.first() {
-        Some(row) => {
-            let life: i64 = row.get(0)?;
-            Ok(life)
-        }
+        Some(row) => row.get(0),
         None => Ok(0),
     }
 }
 
-/// The incarnation after this one, if a table holds it, and this one isn't below zero.
-fn after(life: i64) -> Option<i64>
-    ensures { IfSome result (λ next. (pos 0 ≤ℤ life) × (next ≡ life +ℤ pos 1) × FitsSigned w64 next) }
+/// The incarnation after this one, if a table holds it.
+fn after(life: u64) -> Option<i64>
+    ensures { IfSome result (λ next. (next ≡ pos (life + 1)) × FitsSigned w64 next × (life + 1 < 2 ^ 64)) }
 {
-    if life < 0 { None } else { life.checked_add(1) }
+    if life < GREATEST {
+        Some((life + 1) as i64)
+    } else {
+        None
+    }
 }
 
 /// Begins the incarnation after the one that is kept, and answers it, if a table holds it.
-pub fn live_next<S: Alter>(conn: &mut Connection<S>) -> Result<Option<i64>, Error>
+pub fn live_next<S: Alter>(conn: &mut Connection<S>) -> Result<Option<u64>, Error>
     requires { conn.old.in_transaction ≡ false }
     ensures done { HasCleanDisk (state S.Store conn.new) → IsTrue (state S.Store conn.new).is_open → AreTables (state S.Store conn.old).committed → IfOk result (λ found. IfSome found (λ next. LivesNext next (state S.Store conn.old).committed (state S.Store conn.new).committed)) }
     ensures none { HasCleanDisk (state S.Store conn.new) → IsTrue (state S.Store conn.new).is_open → AreTables (state S.Store conn.old).committed → IfOk result (λ found. found ≡ None → (state S.Store conn.new).committed ≡ (state S.Store conn.old).committed) }
@@ -75,5 +76,5 @@ pub fn live_next<S: Alter>(conn: &mut Connection<S>) -> Result<Option<i64>, Erro
         return Ok(None);
     };
     live(conn, &next)?;
-    Ok(Some(next))
+    Ok(Some(life + 1))
 }

@@ -8,6 +8,7 @@ ghost use Rattle.sqlstore.specs.Site.{IsClean, IsSound, kept_by};
 
 use crate::blame::{blame, refuse};
 use crate::calls;
+use crate::life::live_next;
 use crate::visit::visit_of;
 use sqlite::{Alter, Connection};
 use store::fault::StoreFault;
@@ -55,6 +56,22 @@ impl<S: Alter> SqlSite<S> {
         };
         match calls::discard(&mut self.conn, &visit) {
             Ok(()) => Ok(()),
+            Err(error) => Err(blame(&mut self.refusals, error)),
+        }
+    }
+
+    /// Begins the next incarnation, and answers it.
+    fn live(&mut self) -> Result<u64, StoreFault>
+        ensures leaves { LeavesStore (λ s. IsClean S.Store s.conn) (λ s. IsSound S.Store s.leaves.items s.conn) (λ s. s.refusals) self.old self.new }
+        ensures ok { IsClean S.Store self.new.conn → IsSound S.Store self.old.leaves.items self.old.conn → (kept_by S.Store self.old.leaves.items self.old.conn).life + 1 < 2 ^ 63
+            → OnOk result (BeginsLife (kept_by S.Store self.old.leaves.items self.old.conn) (kept_by S.Store self.new.leaves.items self.new.conn)) }
+        ensures life { IsClean S.Store self.new.conn → IsSound S.Store self.old.leaves.items self.old.conn → IfOk result (λ life. life ≡ (kept_by S.Store self.new.leaves.items self.new.conn).life) }
+        ensures fails { ChangesOrFails (λ s. IsClean S.Store s.conn) (λ s. IsSound S.Store s.leaves.items s.conn) (λ s. kept_by S.Store s.leaves.items s.conn) IsUnchanged (λ s. s.refusals) self.old self.new result }
+    {
+        let _live = self.conn.schema();
+        match live_next(&mut self.conn) {
+            Ok(Some(life)) => Ok(life),
+            Ok(None) => Err(refuse(&mut self.refusals)),
             Err(error) => Err(blame(&mut self.refusals, error)),
         }
     }

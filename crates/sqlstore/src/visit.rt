@@ -5,7 +5,7 @@ ghost use Rattle.std.specs.Prelude.{◌≡◌, ◌<◌, ◌≤◌, ◌⊎◌, �
 use store::name::{Ticket, Txn};
 
 /// The most that a number in a table may be.
-const GREATEST: u64 = 9223372036854775807;
+pub const GREATEST: u64 = 9223372036854775807;
 
 /// A ticket, or a transaction, as its two numbers in a table.
 #[derive(Clone, Copy, Debug)]
