@@ -15,3 +15,5 @@ pub mod Applying
 pub mod Forgetting
 pub mod Sites
 pub mod Living
+pub mod Names
+pub mod Promising

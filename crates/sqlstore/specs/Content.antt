@@ -1,5 +1,5 @@
 -- What the tables of a site mean.
-use Rattle.std.specs.Prelude.{◌≡◌, ℕ, ℤ, pos, Bool, false, ◌&&◌, List, [], ◌∷◌, Option, Some, None, Result, Ok, Err, if◌then◌else◌, unsigned_abs}
+use Rattle.std.specs.Prelude.{◌≡◌, ℕ, ℤ, pos, Bool, true, false, ◌&&◌, List, [], ◌∷◌, Option, Some, None, Result, Ok, Err, if◌then◌else◌, unsigned_abs}
 use Rattle.std.specs.FinMap as map
 use Rattle.std.specs.List.{list_any}
 use Rattle.std.specs.Ordering.{is_eq}
@@ -88,3 +88,7 @@ kept_of leaves db = record {
   prepared = λ ticket. prepared_in (db.trees 2) (changes_in leaves (db.trees 4) ticket) ticket;
   life = life_in (db.trees 6);
 }
+
+-- each leaf of a site goes by its own name
+abbrev pub AreNamed : List Leaf → Type 0
+AreNamed leaves = (leaf : Leaf) → has_leaf leaves leaf ≡ true → leaf_named leaves (leaf_text leaf) ≡ Some leaf
