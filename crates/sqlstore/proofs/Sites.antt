@@ -62,11 +62,11 @@ module _ (leaves : List Leaf) (ticket : Ticket) (numbers : Visit) (stands : Stan
   }
 
   -- a ticket that has no prepared row has no intents
-  no_row : (found : Option Prepared) → LooksUp (is_of ticket) (λ r. row_as r (changes_in leaves (old.trees 4) ticket)) (old.trees 2) found → found ≡ None → (row : Row) → Has (old.trees 2) row → is_of ticket row ≡ false
+  pub no_row : (found : Option Prepared) → LooksUp (is_of ticket) (λ r. row_as r (changes_in leaves (old.trees 4) ticket)) (old.trees 2) found → found ≡ None → (row : Row) → Has (old.trees 2) row → is_of ticket row ≡ false
   no_row found (at_row r there mine shows) none = absurd cc
   no_row found (nowhere idle nothing) none = idle
 
-  no_intent : IsStored leaves old → (kept_of leaves old).prepared ticket ≡ None → (intent : Row) → Has (old.trees 4) intent → is_of ticket intent ≡ false
+  pub no_intent : IsStored leaves old → (kept_of leaves old).prepared ticket ≡ None → (intent : Row) → Has (old.trees 4) intent → is_of ticket intent ≡ false
   no_intent stored none intent there =
       let its = stored.promised intent there in
       sym (of_one ticket its.0 intent its.2) ∙ no_row _ (look_prepared (changes_in leaves (old.trees 4) ticket) ticket (old.trees 2)) none its.0 its.1
