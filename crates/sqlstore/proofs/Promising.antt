@@ -1,7 +1,7 @@
 -- A ticket is prepared with its changes.
 use Rattle.std.proofs.Common.{◌≡◌, ◌≢◌, ◌⊎◌, ℕ, ℤ, pos, ◌≤ℤ◌, Bool, true, false, ◌&&◌, T, cond, List, [], ◌∷◌, length, drop, Option, Some, None, Ok, IsSome, IfSome, string_bytes, unsigned_abs, refl, sym, ap, ◌∙◌, subst, inl, inr, arith, Ordering, Less, Equal, Greater}
 use Rattle.std.specs.FinMap as map
-use Rattle.std.specs.List.{AllByRecursion}
+use Rattle.std.specs.List.{AllByRecursion, list_any}
 use Rattle.std.specs.Ordering.{is_eq, is_lt}
 use Rattle.std.proofs.lemmas.Bool.{and_parts, and_from, both_ways, cases_Bool, false_from_ne_true}
 use Rattle.std.proofs.lemmas.Cmp.{tied_itself}
@@ -10,12 +10,14 @@ use Rattle.sqlite.specs.Edit.{id_in}
 use Rattle.sqlite.specs.Effect.{Database, IsDatabase}
 use Rattle.sqlite.specs.Order.{Row, column, bytes}
 use Rattle.sqlite_rules.specs.Lists.{Has}
-use Rattle.sqlite_rules.proofs.ListLemmas.{all_has}
+use Rattle.sqlite_rules.proofs.ListLemmas.{all_has, test_has, some_has, some_from}
 use Rattle.store.specs.declared.name.Ticket.{Ticket}
 use Rattle.store.specs.declared.name.Txn.{Txn}
 use Rattle.store.specs.declared.prepared.Prepared.{Prepared}
 use Rattle.store.specs.declared.slot.Slot.{Slot}
-use Rattle.store.specs.Content.{Changes, AreKeyed}
+use Rattle.store.specs.Content.{Changes, AreKeyed, are_within, is_of as is_its}
+use Rattle.terms.proofs.Spelled.{spelled_is_read}
+use Rattle.sqlstore.specs.declared.promise.Promise.{Promise}
 use Rattle.store.specs.Orders.{slot_cmp_total, slot_cmp-IsAntisymmetric, leaf_cmp_total, leaf_cmp-IsAntisymmetric}
 use Rattle.store.specs.SiteContent.{MayPrepare, Prepares, is_ticket}
 use Rattle.store.specs.Slot.{slot_of, slot_cmp}
@@ -28,7 +30,7 @@ use Rattle.sqlstore.specs.declared.intent.Intent.{Intent}
 use Rattle.sqlstore.specs.declared.visit.Visit.{Visit}
 use Rattle.sqlstore.specs.Cells.{text_at, int_at, is_int}
 use Rattle.sqlstore.specs.Content.{decoded, part_or_none, leaf_named, is_leaf, is_called, content_in, is_of, put_of, changes_in, row_as, prepared_in, life_in, has_leaf, kept_of, AreNamed}
-use Rattle.sqlstore.specs.Intents.{AreIntents, HasBody, body_of, seen, wanted}
+use Rattle.sqlstore.specs.Intents.{AreIntents, IsPromiseOf, HasBody, body_of, seen, wanted}
 use Rattle.sqlstore.specs.Rows.{AreTables, Gains}
 use Rattle.sqlstore.specs.Sound.{IsStored, SpellsAt, AreOfOne}
 use Rattle.sqlstore.specs.Step.{Keeps, promise_params, intend_params}
@@ -357,3 +359,35 @@ module _ (again : SpelledIsRead) (leaves : List Leaf) (named : AreNamed leaves) 
         ];
         begun = λ row there. stored.begun row (subst (λ rows. Has rows row) keeps_state there);
       }
+
+-- ---- what is put into the tables
+
+-- a site has each leaf that is changed
+within_has : (leaves : List Leaf) (changes : Changes) → are_within leaves changes ≡ true → (slot : Slot) → IsSome (map.get changes slot) → has_leaf leaves slot.leaf ≡ true
+within_has leaves changes within slot some = go (map.get changes slot) refl some
+  where
+    turned : (one : List Leaf) → list_any (λ leaf. is_its leaf slot) one ≡ true → has_leaf one slot.leaf ≡ true
+    turned one any =
+        let found = some_has (λ leaf. is_its leaf slot) one any in
+        let same : slot.leaf ≡ found.0 = sym (leaf_cmp-IsAntisymmetric found.0 slot.leaf (is_equal _ found.2)) in
+        some_from (λ leaf. is_eq (leaf_cmp slot.leaf leaf)) one found.0 found.1 (ap (λ leaf. is_eq (leaf_cmp leaf found.0)) same ∙ ap is_eq (tied_itself leaf_cmp_total found.0))
+
+    go : (p : Option (Option (List Value))) → map.get changes slot ≡ p → IsSome p → has_leaf leaves slot.leaf ≡ true
+    go None is some = absurd cc
+    go (Some p) is some =
+        let key : Has (map.keys changes) slot = has_mapped (λ (entry : Entry). entry.0) (map.entries changes) (slot, p) (changed_has changes slot p is) in
+        turned leaves (test_has (λ (s : Slot). list_any (λ leaf. is_its leaf s) leaves) (map.keys changes) slot within key)
+
+module _ (leaves : List Leaf) (named : AreNamed leaves) (ticket : Ticket) (txn : Txn) (changes : Changes) (promise : Promise) (is : IsPromiseOf leaves txn ticket changes promise) (old new : Database) (was_sound : IsDatabase old) (stored : IsStored leaves old)
+    (made : Keeps promise.visit promise.txn promise.intents.items old new) where
+  ticket_stands : Stands promise.visit ticket
+  ticket_stands = record { life = is.life; visit = is.visit }
+
+  txn_stands : StandsFor promise.txn txn
+  txn_stands = record { life = is.txn_life; number = is.txn_number }
+
+  pub promise_prepares : (kept_of leaves old).prepared ticket ≡ None → Prepares ticket (record { txn = txn; changes = changes }) (kept_of leaves old) (kept_of leaves new)
+  promise_prepares = prepares spelled_is_read leaves named ticket promise.visit ticket_stands txn promise.txn txn_stands promise.intents.items changes is.intents old new was_sound stored (within_has leaves changes is.within) made
+
+  pub promise_stored : AreKeyed changes → IsStored leaves new
+  promise_stored keyed = stored_kept spelled_is_read leaves named ticket promise.visit ticket_stands txn promise.txn txn_stands promise.intents.items changes is.intents old new was_sound stored (within_has leaves changes is.within) made keyed is.some

@@ -9,6 +9,7 @@ pub mod intent;
 pub mod keep;
 pub mod life;
 pub mod param;
+pub mod promise;
 pub mod reading;
 pub mod site;
 pub mod steps;

@@ -2,17 +2,21 @@
 
 ghost use Rattle.std.specs.Prelude.{◌≡◌, ◌+◌, ◌<◌, ◌^◌, ◌≤◌, false, None, Some, OnOk, OnErr, IfOk, List};
 ghost use Rattle.store.specs.Frame.{LeavesStore, ChangesOrFails};
-ghost use Rattle.store.specs.SiteContent.{IsUnchanged, Applies, Discards, BeginsLife};
+ghost use Rattle.store.specs.SiteContent.{IsUnchanged, MayPrepare, Prepares, Applies, Discards, BeginsLife};
 ghost use Rattle.store.specs.declared.prepared.Prepared.{Prepared as Row};
+ghost use Rattle.sqlstore.specs.Content.{AreNamed};
 ghost use Rattle.sqlstore.specs.Site.{IsClean, IsSound, kept_by};
 
 use crate::blame::{blame, refuse};
 use crate::calls;
+use crate::keep::keep;
 use crate::life::live_next;
+use crate::promise::promise_of;
 use crate::visit::visit_of;
 use sqlite::{Alter, Connection};
+use store::changes::Changes;
 use store::fault::StoreFault;
-use store::name::Ticket;
+use store::name::{Ticket, Txn};
 use terms::leaf::Leaf;
 
 /// A store of a site in a SQLite database of its own.
@@ -21,6 +25,7 @@ pub struct SqlSite<S: Alter> {
     leaves: Vec<Leaf>,
     refusals: u64,
     ghost settled: { conn.in_transaction ≡ false },
+    ghost named: { AreNamed leaves.items },
 }
 
 impl<S: Alter> SqlSite<S> {
@@ -72,6 +77,32 @@ impl<S: Alter> SqlSite<S> {
         match live_next(&mut self.conn) {
             Ok(Some(life)) => Ok(life),
             Ok(None) => Err(refuse(&mut self.refusals)),
+            Err(error) => Err(blame(&mut self.refusals, error)),
+        }
+    }
+
+    /// Keeps what a visit is to do, until it is made or dropped.
+    fn keep(&mut self, txn: Txn, ticket: Ticket, changes: &Changes) -> Result<(), StoreFault>
+        ensures leaves { LeavesStore (λ s. IsClean S.Store s.conn) (λ s. IsSound S.Store s.leaves.items s.conn) (λ s. s.refusals) self.old self.new }
+        ensures ok { IsClean S.Store self.new.conn → IsSound S.Store self.old.leaves.items self.old.conn → MayPrepare ticket changes.now (kept_by S.Store self.old.leaves.items self.old.conn)
+            → OnOk result (Prepares ticket (record { txn = txn; changes = changes.now }) (kept_by S.Store self.old.leaves.items self.old.conn) (kept_by S.Store self.new.leaves.items self.new.conn)) }
+        ensures fails { ChangesOrFails (λ s. IsClean S.Store s.conn) (λ s. IsSound S.Store s.leaves.items s.conn) (λ s. kept_by S.Store s.leaves.items s.conn) IsUnchanged (λ s. s.refusals) self.old self.new result }
+    {
+        let _live = self.conn.schema();
+        let _keyed = changes.len();
+        let alloc = *self.leaves.allocator();
+        let promise = match promise_of(alloc, self.leaves.as_slice(), txn, ticket, changes) {
+            Ok(Some(promise)) => promise,
+            Ok(None) => return Err(refuse(&mut self.refusals)),
+            Err(_) => return Err(StoreFault::Memory),
+        };
+        match keep(
+            &mut self.conn,
+            &promise.visit,
+            &promise.txn,
+            &promise.intents,
+        ) {
+            Ok(()) => Ok(()),
             Err(error) => Err(blame(&mut self.refusals, error)),
         }
     }
