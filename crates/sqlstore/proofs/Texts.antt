@@ -161,3 +161,18 @@ life_plain = (refl, refl)
 pub life_unlisted : reads_listing site_schema life_text ≡ false
 unfolding understood everything
 life_unlisted = refl
+
+abbrev pub bodies_text : List ℕ
+bodies_text = codes "SELECT body FROM part WHERE leaf = ?1 AND id = ?2"
+
+pub bodies_is : command_of (understood site_schema bodies_text) ≡ selects 0 at_slot (col 1 3 ∷ []) (codes "body" ∷ [])
+unfolding understood everything
+bodies_is = refl
+
+pub bodies_plain : IsPlain (understood site_schema bodies_text)
+unfolding understood everything
+bodies_plain = (refl, refl)
+
+pub bodies_unlisted : reads_listing site_schema bodies_text ≡ false
+unfolding understood everything
+bodies_unlisted = refl

@@ -1,14 +1,18 @@
 -- What a query leaves, and what it shows.
-use Rattle.std.specs.Prelude.{◌≡◌, ℕ, ◌+◌, ℤ, pos, Result, IfOk, OnOk, IsTrue, List, [], ◌∷◌}
+use Rattle.std.specs.Prelude.{◌≡◌, ℕ, ◌+◌, ℤ, pos, Option, Some, None, Ok, Result, IfOk, OnOk, IsTrue, List, [], ◌∷◌}
 use Rattle.sqlite.specs.Edit.{id_in}
 use Rattle.sqlite.specs.Effect.{Database}
-use Rattle.sqlite.specs.Order.{Row, column}
+use Rattle.sqlite.specs.Order.{Row, bytes, column}
+use Rattle.sqlite.specs.declared.types.Value.TheVariants.{Int, Text, Blob}
+use Rattle.terms.specs.declared.value.Value.{Value as Cell}
+use Rattle.terms.specs.Stored.{part_from}
+use Rattle.sqlstore.specs.Content.{decoded}
 use Rattle.sqlite.specs.State.{State, KeepsCommit, Shows}
 use Rattle.sqlite.specs.Term.{Term, col}
 use Rattle.sqlite.specs.declared.error.Error.{Error}
 use Rattle.sqlstore.specs.Rows.{AreTables, Finds}
 use Rattle.sqlstore.specs.Step.{visit_params, Follows, Empties, Fills, LivesOn}
-use Rattle.sqlstore.specs.Tests.{passes, shown, of_visit}
+use Rattle.sqlstore.specs.Tests.{passes, shown, of_visit, at_slot}
 use Rattle.sqlstore.specs.declared.visit.Visit.{Visit}
 
 -- a query: it opens nothing and commits nothing, and where it answers nothing has changed, and this is shown of the tables
@@ -45,3 +49,24 @@ first_life (row ∷ rows) = id_in (column row 0)
 -- the incarnation after the one that is kept begins
 abbrev pub LivesNext : ℕ → Database → Database → Type 0
 LivesNext next old new = (rows : List Row) × AreLives (old.trees 6) rows × (life : ℕ) × (first_life rows ≡ pos life) × (next ≡ life + 1) × LivesOn (pos next) old new
+
+-- a leaf's name and a key as parameters
+abbrev pub key_params : List ℕ → ℤ → Row
+key_params name key = Text name ∷ Int key ∷ []
+
+-- the bodies of the parts at a leaf and a key
+abbrev pub body_terms : List Term
+body_terms = col 1 3 ∷ []
+
+abbrev pub AreBodies : List ℕ → ℤ → List Row → List Row → Type 0
+AreBodies name key = Finds (shown body_terms (key_params name key)) (passes at_slot (key_params name key))
+
+-- the part that the first of these spells; none where there is no row
+abbrev pub first_part : List Row → Option (List Cell)
+first_part [] = None
+first_part (row ∷ rows) = Some (decoded (bytes (column row 0)))
+
+-- the first of these, if there is one, is a body that spells a part
+abbrev pub SpellsFirst : List Row → Type 0
+SpellsFirst [] = Unit {0}
+SpellsFirst (row ∷ rows) = (column row 0 ≡ Blob (bytes (column row 0))) × ((part : List Cell) × (part_from (bytes (column row 0)) ≡ Ok part))

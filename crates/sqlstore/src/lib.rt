@@ -5,6 +5,7 @@
 
 pub mod blame;
 pub mod calls;
+pub mod find;
 pub mod intent;
 pub mod keep;
 pub mod life;

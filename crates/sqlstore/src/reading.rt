@@ -1,11 +1,11 @@
 //! Queries, outside of a transaction.
 
-ghost use Rattle.std.specs.Prelude.{◌≡◌, false};
+ghost use Rattle.std.specs.Prelude.{◌≡◌, false, string_bytes};
 ghost use Rattle.sqlite.specs.Held.{state};
 ghost use Rattle.sqlite.specs.State.{HasCleanDisk};
-ghost use Rattle.sqlstore.specs.Query.{Queries, AreSlots, AreLives};
+ghost use Rattle.sqlstore.specs.Query.{Queries, AreSlots, AreLives, AreBodies};
 
-use crate::param::number;
+use crate::param::{number, text};
 use crate::visit::Visit;
 use sqlite::{Alter, Connection, Error, Row};
 
@@ -28,4 +28,20 @@ pub fn lives<S: Alter>(conn: &mut Connection<S>) -> Result<Vec<Row>, Error>
     ensures mode { conn.old.in_transaction ≡ false → conn.new.in_transaction ≡ false }
 {
     conn.query_all("SELECT life FROM state", &[])
+}
+
+/// The body of the part at a leaf and a key, in one row, if there is one.
+pub fn bodies_at<S: Alter>(
+    conn: &mut Connection<S>,
+    name: &String,
+    key: &i64,
+) -> Result<Vec<Row>, Error>
+    ensures does { HasCleanDisk (state S.Store conn.new) → Queries (λ db rows. AreBodies (string_bytes name.now) key.now (db.trees 0) rows.items) (state S.Store conn.old) (state S.Store conn.new) result }
+    ensures clean { HasCleanDisk (state S.Store conn.new) → HasCleanDisk (state S.Store conn.old) }
+    ensures mode { conn.old.in_transaction ≡ false → conn.new.in_transaction ≡ false }
+{
+    conn.query_all(
+        "SELECT body FROM part WHERE leaf = ?1 AND id = ?2",
+        &[text(name), number(key)],
+    )
 }

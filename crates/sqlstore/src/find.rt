@@ -1,0 +1,56 @@
+//! The part at a key of a leaf.
+
+ghost use Rattle.std.specs.Prelude.{◌≡◌, ◌≢◌, IfOk, Ok, Err, List};
+ghost use Rattle.store.specs.declared.fault.StoreFault.TheVariants.{Refused, Damaged};
+ghost use Rattle.sqlite.specs.Order.{bytes, column};
+ghost use Rattle.sqlite.specs.declared.types.Value.TheVariants.{Blob};
+ghost use Rattle.terms.specs.declared.value.Value.{Value as Cell};
+ghost use Rattle.terms.specs.Stored.{part_from};
+ghost use Rattle.sqlstore.specs.Content.{decoded, has_leaf};
+ghost use Rattle.sqlstore.specs.Query.{first_part, SpellsFirst};
+
+use sqlite::Row;
+use sqlite::types::ValueRef;
+use std::alloc::Global;
+use store::fault::StoreFault;
+use terms::leaf::Leaf;
+use terms::part::Part;
+use terms::part_fault::PartFault;
+use terms::stored::decode_part;
+
+/// Whether a leaf is among these.
+pub fn has(leaves: &[Leaf], leaf: &Leaf) -> bool
+    ensures { result ≡ has_leaf leaves.now leaf.now }
+{
+    leaves.iter().any(|one| leaf.cmp(one).is_eq())
+}
+
+/// The part that the first row spells, if there is a row.
+pub fn part_in(alloc: Global, rows: &[Row]) -> Result<Option<Part>, StoreFault>
+    ensures part { IfOk result (λ found. found ≡ first_part rows.now) }
+    ensures intact { SpellsFirst rows.now → result ≢ Err Damaged }
+    ensures kept { result ≢ Err Refused }
+{
+    match rows.first() {
+        Some(row) => match part_of(alloc, row) {
+            Ok(part) => Ok(Some(part)),
+            Err(fault) => Err(fault),
+        },
+        None => Ok(None),
+    }
+}
+
+fn part_of(alloc: Global, row: &Row) -> Result<Part, StoreFault>
+    ensures part { IfOk result (λ part. part ≡ decoded (bytes (column row.now 0))) }
+    ensures intact { (column row.now 0 ≡ Blob (bytes (column row.now 0))) → (part : List Cell) → part_from (bytes (column row.now 0)) ≡ Ok part → result ≢ Err Damaged }
+    ensures kept { result ≢ Err Refused }
+{
+    let Ok(ValueRef::Blob(body)) = row.get_ref(0) else {
+        return Err(StoreFault::Damaged);
+    };
+    match decode_part(alloc, body) {
+        Ok(part) => Ok(part),
+        Err(PartFault::Memory) => Err(StoreFault::Memory),
+        Err(_) => Err(StoreFault::Damaged),
+    }
+}
