@@ -22,7 +22,7 @@ use Rattle.terms.specs.Leaf.{leaf_text, leaf_cmp}
 use Rattle.sqlstore.specs.declared.visit.Visit.{Visit}
 use Rattle.sqlstore.specs.Cells.{text_at, int_at, is_int, is_text}
 use Rattle.sqlstore.specs.Content.{leaf_named, is_leaf, is_called, is_of}
-use Rattle.sqlstore.specs.Query.{slot_terms}
+use Rattle.sqlstore.specs.Query.{slot_terms, key_params}
 use Rattle.sqlstore.specs.Step.{visit_params, slot_params}
 use Rattle.sqlstore.specs.Tests.{passes, shown, at_slot, of_visit, puts_of_visit}
 use Rattle.sqlstore.proofs.Deleting.{is_equal}
@@ -105,6 +105,10 @@ puts_of numbers ticket row stands typed =
 pub at_slot_of : (params part intent : Row) → TypedPart part → TypedIntent intent → passes at_slot (slot_params (shown slot_terms params intent)) part ≡ (is_text (text_at part 1) (text_at intent 3) && is_int (int_at part 2) (int_at intent 4))
 at_slot_of params part intent typed slot =
     two _ _ _ _ (eq_text_at (column part 1) (text_at part 1) (column intent 3) (text_at intent 3) typed.leaf slot.leaf) (eq_key_at (column part 2) (int_at part 2) (column intent 4) (int_at intent 4) typed.key slot.key)
+
+-- a part at a name and a key
+pub at_key_of : (name : List ℕ) (key : ℤ) (part : Row) → TypedPart part → passes at_slot (key_params name key) part ≡ (is_text (text_at part 1) name && is_int (int_at part 2) key)
+at_key_of name key part typed = two _ _ _ _ (eq_text_at (column part 1) (text_at part 1) (Text name) name typed.leaf refl) (eq_key_at (column part 2) (int_at part 2) (Int key) key typed.key refl)
 
 -- ---- a body that puts a part isn't empty
 

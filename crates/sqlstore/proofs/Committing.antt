@@ -1,5 +1,5 @@
 -- What a call's transaction has made of what was committed.
-use Rattle.std.proofs.Common.{◌≡◌, false, true, List, Ok, Err, Result, OnOk, IsTrue, refl, sym, ap, ◌∙◌, subst}
+use Rattle.std.proofs.Common.{◌≡◌, false, true, List, Ok, Err, Result, IfOk, OnOk, IsTrue, refl, sym, ap, ◌∙◌, subst}
 use Rattle.sqlite.specs.Effect.{Database}
 use Rattle.sqlite.specs.Order.{Row}
 use Rattle.sqlite.specs.State.{State, Shows}
@@ -40,3 +40,11 @@ begun_committed P old last new value (Ok done) settled tables steps ended =
 pub ended_as : {B : Type 0} (last new : State) (result : Result B Error) (Inside Counts Marks : Type 0) → OnOk result (Inside × Shows last new last.now last.now false × Counts × Marks) → OnOk result (Shows last new last.now last.now false)
 ended_as last new (Ok done) Inside Counts Marks ended = ended.1
 ended_as last new (Err e) Inside Counts Marks ended = tt
+
+-- a query outside of a transaction shows what is committed, and leaves it
+pub settled_query : {A : Type 0} (P : Database → A → Type 0) (old new : State) (result : Result A Error) → (IsTrue old.is_open → old.now ≡ old.committed) → Queries P old new result → IsTrue new.is_open → AreTables old.committed
+    → IfOk result (P old.committed) × (new.committed ≡ old.committed)
+settled_query P old new result settled query is_open tables =
+    let now : old.now ≡ old.committed = settled (query.was_open is_open) in
+    let tables_now : AreTables old.now = subst AreTables (sym now) tables in
+    (subst (λ db. IfOk result (P db)) now (query.shows tables_now), (query.kept tables_now).committed is_open)

@@ -17,3 +17,4 @@ pub mod Sites
 pub mod Living
 pub mod Names
 pub mod Promising
+pub mod Finding

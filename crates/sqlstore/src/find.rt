@@ -1,10 +1,11 @@
 //! The part at a key of a leaf.
 
-ghost use Rattle.std.specs.Prelude.{◌≡◌, ◌≢◌, IfOk, Ok, Err, List};
+ghost use Rattle.std.specs.Prelude.{◌≡◌, ◌≢◌, IfOk, Ok, Err, List, string_bytes};
 ghost use Rattle.store.specs.declared.fault.StoreFault.TheVariants.{Refused, Damaged};
 ghost use Rattle.sqlite.specs.Order.{bytes, column};
 ghost use Rattle.sqlite.specs.declared.types.Value.TheVariants.{Blob};
 ghost use Rattle.terms.specs.declared.value.Value.{Value as Cell};
+ghost use Rattle.terms.specs.Leaf.{leaf_text};
 ghost use Rattle.terms.specs.Stored.{part_from};
 ghost use Rattle.sqlstore.specs.Content.{decoded, has_leaf};
 ghost use Rattle.sqlstore.specs.Query.{first_part, SpellsFirst};
@@ -14,6 +15,7 @@ use sqlite::types::ValueRef;
 use std::alloc::Global;
 use store::fault::StoreFault;
 use terms::leaf::Leaf;
+use terms::memory::Memory;
 use terms::part::Part;
 use terms::part_fault::PartFault;
 use terms::stored::decode_part;
@@ -53,4 +55,11 @@ fn part_of(alloc: Global, row: &Row) -> Result<Part, StoreFault>
         Err(PartFault::Memory) => Err(StoreFault::Memory),
         Err(_) => Err(StoreFault::Damaged),
     }
+}
+
+/// The name of a leaf.
+pub fn name_of(alloc: Global, leaf: &Leaf) -> Result<String, Memory>
+    ensures { IfOk result (λ name. string_bytes name ≡ leaf_text leaf.now) }
+{
+    Ok(format!(in alloc; "{leaf}")?)
 }

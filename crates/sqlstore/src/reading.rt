@@ -1,8 +1,9 @@
 //! Queries, outside of a transaction.
 
-ghost use Rattle.std.specs.Prelude.{◌≡◌, false, string_bytes};
+ghost use Rattle.std.specs.Prelude.{◌≡◌, false, string_bytes, IsTrue, IfOk};
 ghost use Rattle.sqlite.specs.Held.{state};
 ghost use Rattle.sqlite.specs.State.{HasCleanDisk};
+ghost use Rattle.sqlstore.specs.Rows.{AreTables};
 ghost use Rattle.sqlstore.specs.Query.{Queries, AreSlots, AreLives, AreBodies};
 
 use crate::param::{number, text};
@@ -44,4 +45,21 @@ pub fn bodies_at<S: Alter>(
         "SELECT body FROM part WHERE leaf = ?1 AND id = ?2",
         &[text(name), number(key)],
     )
+}
+
+/// So, of what is committed.
+pub fn committed_at<S: Alter>(
+    conn: &mut Connection<S>,
+    name: &String,
+    key: &i64,
+) -> Result<Vec<Row>, Error>
+    requires { conn.old.in_transaction ≡ false }
+    ensures found { HasCleanDisk (state S.Store conn.new) → IsTrue (state S.Store conn.new).is_open → AreTables (state S.Store conn.old).committed → IfOk result (λ rows. AreBodies (string_bytes name.now) key.now ((state S.Store conn.old).committed.trees 0) rows.items) }
+    ensures same { HasCleanDisk (state S.Store conn.new) → IsTrue (state S.Store conn.new).is_open → AreTables (state S.Store conn.old).committed → (state S.Store conn.new).committed ≡ (state S.Store conn.old).committed }
+    ensures clean { HasCleanDisk (state S.Store conn.new) → HasCleanDisk (state S.Store conn.old) }
+    ensures was_open { HasCleanDisk (state S.Store conn.new) → IsTrue (state S.Store conn.new).is_open → IsTrue (state S.Store conn.old).is_open }
+    ensures mode { conn.new.in_transaction ≡ false }
+{
+    let _settled = conn.is_autocommit();
+    bodies_at(conn, name, key)
 }

@@ -1,7 +1,8 @@
 //! A site's store in SQLite.
 
 ghost use Rattle.std.specs.Prelude.{◌≡◌, ◌+◌, ◌<◌, ◌^◌, ◌≤◌, false, None, Some, OnOk, OnErr, IfOk, List};
-ghost use Rattle.store.specs.Frame.{LeavesStore, ChangesOrFails};
+ghost use Rattle.std.specs.FinMap as map;
+ghost use Rattle.store.specs.Frame.{LeavesStore, Reads, ChangesOrFails};
 ghost use Rattle.store.specs.SiteContent.{IsUnchanged, MayPrepare, Prepares, Applies, Discards, BeginsLife};
 ghost use Rattle.store.specs.declared.prepared.Prepared.{Prepared as Row};
 ghost use Rattle.sqlstore.specs.Content.{AreNamed};
@@ -9,15 +10,18 @@ ghost use Rattle.sqlstore.specs.Site.{IsClean, IsSound, kept_by};
 
 use crate::blame::{blame, refuse};
 use crate::calls;
+use crate::find::{has, name_of, part_in};
 use crate::keep::keep;
 use crate::life::live_next;
 use crate::promise::promise_of;
+use crate::reading::committed_at;
 use crate::visit::visit_of;
 use sqlite::{Alter, Connection};
 use store::changes::Changes;
 use store::fault::StoreFault;
 use store::name::{Ticket, Txn};
 use terms::leaf::Leaf;
+use terms::part::Part;
 
 /// A store of a site in a SQLite database of its own.
 pub struct SqlSite<S: Alter> {
@@ -103,6 +107,27 @@ impl<S: Alter> SqlSite<S> {
             &promise.intents,
         ) {
             Ok(()) => Ok(()),
+            Err(error) => Err(blame(&mut self.refusals, error)),
+        }
+    }
+
+    /// The part at a key of a leaf, if there is one.
+    fn get(&mut self, leaf: &Leaf, key: &i64) -> Result<Option<Part>, StoreFault>
+        ensures leaves { LeavesStore (λ s. IsClean S.Store s.conn) (λ s. IsSound S.Store s.leaves.items s.conn) (λ s. s.refusals) self.old self.new }
+        ensures part { IsClean S.Store self.new.conn → IsSound S.Store self.old.leaves.items self.old.conn
+            → IfOk result (λ found. found ≡ map.get ((kept_by S.Store self.old.leaves.items self.old.conn).content leaf.now) key.now) }
+        ensures reads { Reads (λ s. IsClean S.Store s.conn) (λ s. IsSound S.Store s.leaves.items s.conn) (λ s. kept_by S.Store s.leaves.items s.conn) IsUnchanged (λ s. s.refusals) self.old self.new result }
+    {
+        if !has(self.leaves.as_slice(), leaf) {
+            return Ok(None);
+        }
+        let alloc = *self.leaves.allocator();
+        let Ok(name) = name_of(alloc, leaf) else {
+            return Err(StoreFault::Memory);
+        };
+        let _live = self.conn.schema();
+        match committed_at(&mut self.conn, &name, key) {
+            Ok(rows) => part_in(alloc, &rows),
             Err(error) => Err(blame(&mut self.refusals, error)),
         }
     }
