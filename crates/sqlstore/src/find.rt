@@ -1,6 +1,7 @@
 //! The part at a key of a leaf.
 
-ghost use Rattle.std.specs.Prelude.{◌≡◌, ◌≢◌, IfOk, Ok, Err, List, string_bytes};
+ghost use Rattle.std.specs.List.{AllByRecursion};
+ghost use Rattle.std.specs.Prelude.{◌≡◌, ◌≢◌, ◌<◌, ◌^◌, IfOk, Ok, Err, List, string_bytes};
 ghost use Rattle.store.specs.declared.fault.StoreFault.TheVariants.{Refused, Damaged};
 ghost use Rattle.sqlite.specs.Order.{bytes, column};
 ghost use Rattle.sqlite.specs.declared.types.Value.TheVariants.{Blob};
@@ -62,4 +63,19 @@ pub fn name_of(alloc: Global, leaf: &Leaf) -> Result<String, Memory>
     ensures { IfOk result (λ name. string_bytes name ≡ leaf_text leaf.now) }
 {
     Ok(format!(in alloc; "{leaf}")?)
+}
+
+/// Reads the number of each leaf, which shows that it is one of 64 bits.
+pub fn read_numbers(leaves: &[Leaf])
+    ensures { AllByRecursion (λ leaf. leaf.number < 2 ^ 64) leaves.now }
+{
+    for leaf in leaves {
+        read_number(leaf);
+    }
+}
+
+fn read_number(leaf: &Leaf)
+    ensures { leaf.now.number < 2 ^ 64 }
+{
+    let _number = leaf.number;
 }

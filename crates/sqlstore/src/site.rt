@@ -10,7 +10,7 @@ ghost use Rattle.sqlstore.specs.Site.{IsClean, IsSound, kept_by};
 
 use crate::blame::{blame, refuse};
 use crate::calls;
-use crate::find::{has, name_of, part_in};
+use crate::find::{has, name_of, part_in, read_numbers};
 use crate::keep::keep;
 use crate::life::live_next;
 use crate::promise::promise_of;
@@ -33,6 +33,20 @@ pub struct SqlSite<S: Alter> {
 }
 
 impl<S: Alter> SqlSite<S> {
+    /// A store over a connection to the tables of a site, which has these leaves.
+    pub fn over(conn: Connection<S>, leaves: Vec<Leaf>) -> SqlSite<S>
+        requires { conn.in_transaction ≡ false }
+        ensures conn { result.conn ≡ conn }
+        ensures leaves { result.leaves ≡ leaves }
+    {
+        read_numbers(leaves.as_slice());
+        SqlSite {
+            conn,
+            leaves,
+            refusals: 0,
+        }
+    }
+
     /// Makes the changes of a ticket's row, which goes.
     fn make(&mut self, ticket: Ticket) -> Result<(), StoreFault>
         ensures leaves { LeavesStore (λ s. IsClean S.Store s.conn) (λ s. IsSound S.Store s.leaves.items s.conn) (λ s. s.refusals) self.old self.new }
