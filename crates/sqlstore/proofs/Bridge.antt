@@ -1,10 +1,9 @@
 -- The tests of statements are those of the content.
-use Rattle.std.proofs.Common.{◌≡◌, ℕ, ℤ, pos, Bool, true, false, ◌&&◌, not, cond, List, [], ◌∷◌, Option, Some, None, refl, sym, ap, ◌∙◌, subst, Ordering, Less, Equal, Greater}
+use Rattle.std.proofs.Common.{◌≡◌, ℕ, ℤ, pos, Bool, true, false, ◌&&◌, cond, List, [], ◌∷◌, Option, Some, None, refl, sym, ap, ◌∙◌}
 use Rattle.std.specs.Cmp.{int_cmp_total}
 use Rattle.std.specs.Cmp.Lexicographic.{slice_cmp}
 use Rattle.std.specs.FinMap.{int_cmp-IsAntisymmetric, nat_cmp-IsAntisymmetric, slice_cmp-IsAntisymmetric}
-use Rattle.std.specs.Ordering.{is_eq, is_ne, int_cmp, nat_cmp, ordering_then}
-use Rattle.std.proofs.lemmas.Bool.{and_parts, and_from}
+use Rattle.std.specs.Ordering.{is_eq, is_ne, int_cmp, nat_cmp}
 use Rattle.std.proofs.lemmas.Cmp.{tied_itself, nat_list_cmp_total}
 use Rattle.sqlite.specs.Collation.TheVariants.{Binary}
 use Rattle.sqlite.specs.Ops.{binary, is_true, from_truth}
@@ -16,9 +15,9 @@ use Rattle.sqlite_sql.specs.declared.ops.BinaryOp.TheVariants.{Compare}
 use Rattle.sqlite_sql.specs.declared.ops.CompareOp.TheVariants.{Eq, Ne}
 use Rattle.sqlite_value.proofs.OrderLemmas.{value_cmp-Int, value_cmp-Text, value_cmp-Blob}
 use Rattle.store.specs.declared.name.Ticket.{Ticket}
-use Rattle.store.specs.Orders.{leaf_cmp-IsAntisymmetric, leaf_cmp_total}
+use Rattle.store.specs.Orders.{leaf_cmp-IsAntisymmetric}
 use Rattle.terms.specs.declared.leaf.Leaf.{Leaf}
-use Rattle.terms.specs.Leaf.{leaf_text, leaf_cmp}
+use Rattle.terms.specs.Leaf.{leaf_text}
 use Rattle.sqlstore.specs.declared.visit.Visit.{Visit}
 use Rattle.sqlstore.specs.Cells.{text_at, int_at, is_int, is_text}
 use Rattle.sqlstore.specs.Content.{leaf_named, is_leaf, is_called, is_of}

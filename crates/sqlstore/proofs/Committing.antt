@@ -1,13 +1,11 @@
 -- What a call's transaction has made of what was committed.
-use Rattle.std.proofs.Common.{◌≡◌, false, true, List, Ok, Err, Result, IfOk, OnOk, IsTrue, refl, sym, ap, ◌∙◌, subst}
+use Rattle.std.proofs.Common.{◌≡◌, false, true, Ok, Err, Result, IfOk, OnOk, IsTrue, sym, ◌∙◌, subst}
 use Rattle.sqlite.specs.Effect.{Database}
-use Rattle.sqlite.specs.Order.{Row}
 use Rattle.sqlite.specs.State.{State, Shows}
 use Rattle.sqlite.specs.declared.error.Error.{Error}
-use Rattle.sqlstore.specs.Query.{Queries, AreSlots, Makes}
+use Rattle.sqlstore.specs.Query.{Queries}
 use Rattle.sqlstore.specs.Rows.{AreTables}
-use Rattle.sqlstore.specs.Step.{Steps, Follows, Empties, Fills}
-use Rattle.sqlstore.specs.declared.visit.Visit.{Visit}
+use Rattle.sqlstore.specs.Step.{Steps}
 
 -- a transaction has begun, and nothing has changed
 abbrev pub begun : State → State

@@ -1,11 +1,11 @@
 -- Statements one after another.
-use Rattle.std.proofs.Common.{◌≡◌, ℕ, ◌+◌, ◌<◌, Bool, true, false, ◌||◌, List, [], ◌∷◌, take, length, get_or, drop, ◌++◌, string_bytes, ◌⊎◌, Ok, Err, Result, OnOk, IsTrue, refl, sym, ap, ◌∙◌, subst, inl, inr}
+use Rattle.std.proofs.Common.{◌≡◌, ℕ, ◌+◌, ◌<◌, Bool, true, false, ◌||◌, List, [], ◌∷◌, take, length, get_or, drop, ◌++◌, string_bytes, ◌⊎◌, Ok, Err, Result, refl, sym, ap, ◌∙◌, subst, inl, inr}
 use Rattle.std.proofs.lemmas.Bool.{or_parts, or_from}
 use Rattle.std.proofs.lemmas.List.{take_more}
 use Rattle.std.proofs.lemmas.List.Folds.{list_any_more}
 use Rattle.sqlite.specs.Effect.{Database}
 use Rattle.sqlite.specs.Order.{Row}
-use Rattle.sqlite.specs.State.{State, KeepsCommit, Shows}
+use Rattle.sqlite.specs.State.{State, Shows}
 use Rattle.sqlite.specs.declared.error.Error.{Error}
 use Rattle.sqlite.proofs.InsideLemmas.{keeps_then}
 use Rattle.sqlstore.specs.Rows.{AreTables, Rewrites, Loses, Gains}

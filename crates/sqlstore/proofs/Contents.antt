@@ -1,13 +1,11 @@
 -- What a content has is what its rows say, in whatever order they stand.
-use Rattle.std.proofs.Common.{◌≡◌, ◌⊎◌, ℕ, ℤ, Bool, true, false, ◌&&◌, cond, List, [], ◌∷◌, Option, Some, None, refl, sym, ap, ◌∙◌, subst, inl, inr, Ordering, Less, Equal, Greater}
+use Rattle.std.proofs.Common.{◌≡◌, ℕ, ℤ, Bool, true, false, ◌&&◌, cond, List, [], ◌∷◌, Option, Some, None, refl, ap, ◌∙◌, inl, inr, Ordering, Less, Equal, Greater}
 use Rattle.std.specs.Cmp.{int_cmp_total}
 use Rattle.std.specs.FinMap as map
 use Rattle.std.specs.Ordering.{is_eq, int_cmp, ordering_then}
-use Rattle.std.proofs.lemmas.Bool.{and_parts, and_from, and_left, and_right, cases_Bool}
 use Rattle.sqlite.specs.Order.{Row}
 use Rattle.sqlite_rules.specs.Lists.{Has}
 use Rattle.store.specs.declared.name.Ticket.{Ticket}
-use Rattle.store.specs.declared.prepared.Prepared.{Prepared}
 use Rattle.store.specs.declared.slot.Slot.{Slot}
 use Rattle.store.specs.Content.{Content, Changes}
 use Rattle.store.specs.Orders.{slot_cmp_total}

@@ -1,8 +1,8 @@
 -- What a query by key shows is the part that the content has at the key.
-use Rattle.std.proofs.Common.{◌≡◌, ℕ, ℤ, Bool, true, false, ◌&&◌, cond, List, [], ◌∷◌, Option, Some, None, Ok, Err, Result, IfOk, IsSome, refl, sym, ap, ◌∙◌, subst, inl, inr}
+use Rattle.std.proofs.Common.{◌≡◌, ℕ, ℤ, Bool, true, false, cond, List, [], ◌∷◌, Option, Some, None, Ok, Err, Result, IfOk, refl, sym, ap, ◌∙◌, inl}
 use Rattle.std.specs.FinMap as map
 use Rattle.std.specs.Ordering.{is_eq}
-use Rattle.std.proofs.lemmas.Bool.{and_parts, and_from, both_ways, cases_Bool, or_left, or_right}
+use Rattle.std.proofs.lemmas.Bool.{and_parts, and_from, both_ways, or_left, or_right}
 use Rattle.std.proofs.lemmas.Cmp.{tied_itself}
 use Rattle.sqlite.specs.Effect.{Database, IsDatabase}
 use Rattle.sqlite.specs.Order.{Row, bytes, column}
@@ -17,9 +17,9 @@ use Rattle.terms.specs.Leaf.{leaf_text, leaf_cmp}
 use Rattle.terms.specs.Stored.{part_from}
 use Rattle.sqlstore.specs.Cells.{text_at, int_at, is_int, is_text}
 use Rattle.sqlstore.specs.Content.{decoded, leaf_named, is_leaf, is_called, has_leaf, content_in, kept_of, AreNamed}
-use Rattle.sqlstore.specs.Query.{AreBodies, key_params, body_terms, first_part, SpellsFirst}
+use Rattle.sqlstore.specs.Query.{AreBodies, key_params, first_part, SpellsFirst}
 use Rattle.sqlstore.specs.Sound.{IsStored}
-use Rattle.sqlstore.specs.Tests.{passes, shown, at_slot}
+use Rattle.sqlstore.specs.Tests.{passes, at_slot}
 use Rattle.sqlstore.proofs.Bridge.{at_key_of, called_text, int_same, same_int, text_same, same_text}
 use Rattle.sqlstore.proofs.Contents.{LooksUp, at_row, nowhere, look_content, is_part_at}
 use Rattle.sqlstore.proofs.Deleting.{is_equal}

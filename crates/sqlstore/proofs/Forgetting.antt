@@ -1,21 +1,18 @@
 -- A ticket's rows go, and those of others stay.
-use Rattle.std.proofs.Common.{◌≡◌, ◌⊎◌, ℕ, ℤ, pos, Bool, true, false, ◌&&◌, cond, List, [], ◌∷◌, drop, Option, Some, None, IsSome, refl, sym, ap, ◌∙◌, subst, inl, inr, arith}
+use Rattle.std.proofs.Common.{◌≡◌, ℕ, pos, Bool, true, false, ◌&&◌, cond, List, Option, Some, None, sym, ap, ◌∙◌, subst, inl, inr}
 use Rattle.std.specs.FinMap as map
-use Rattle.std.specs.Ordering.{is_eq, is_ne, nat_cmp}
-use Rattle.std.specs.Cmp.Lexicographic.{slice_cmp}
-use Rattle.std.proofs.lemmas.Bool.{and_parts, and_from, both_ways, false_from_ne_true, cases_Bool}
+use Rattle.std.specs.Ordering.{is_eq}
+use Rattle.std.proofs.lemmas.Bool.{and_parts, both_ways, false_from_ne_true, cases_Bool}
 use Rattle.std.proofs.lemmas.Cmp.{tied_itself}
 use Rattle.sqlite.specs.Effect.{Database, IsDatabase}
 use Rattle.sqlite.specs.Order.{Row}
 use Rattle.sqlite_rules.specs.Lists.{Has}
 use Rattle.store.specs.declared.name.Ticket.{Ticket}
 use Rattle.store.specs.declared.prepared.Prepared.{Prepared}
-use Rattle.store.specs.declared.slot.Slot.{Slot}
 use Rattle.store.specs.Content.{Changes}
 use Rattle.store.specs.Name.{ticket_cmp}
 use Rattle.store.specs.Orders.{ticket_cmp_total, ticket_cmp-IsAntisymmetric, slot_cmp_total, slot_cmp-IsAntisymmetric}
 use Rattle.store.specs.SiteContent.{is_ticket}
-use Rattle.store.specs.Slot.{slot_of}
 use Rattle.terms.specs.declared.leaf.Leaf.{Leaf}
 use Rattle.sqlstore.specs.declared.visit.Visit.{Visit}
 use Rattle.sqlstore.specs.Cells.{text_at, int_at, is_int}
@@ -24,7 +21,7 @@ use Rattle.sqlstore.specs.Rows.{AreTables, Loses}
 use Rattle.sqlstore.specs.Sound.{AreOfOne}
 use Rattle.sqlstore.specs.Step.{visit_params}
 use Rattle.sqlstore.specs.Tests.{passes, of_visit}
-use Rattle.sqlstore.proofs.Bridge.{Stands, prepared_of, intent_of, called_text, int_same, same_int}
+use Rattle.sqlstore.proofs.Bridge.{Stands, prepared_of, intent_of, called_text, int_same}
 use Rattle.sqlstore.proofs.Contents.{LooksUp, at_row, nowhere, look_changes, look_prepared, is_intent_at}
 use Rattle.sqlstore.proofs.Deleting.{is_equal}
 use Rattle.sqlstore.proofs.Typed.{prepared_typed, intent_typed, prepared_once, intent_once}

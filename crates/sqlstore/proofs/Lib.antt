@@ -18,3 +18,4 @@ pub mod Living
 pub mod Names
 pub mod Promising
 pub mod Finding
+pub mod Creating

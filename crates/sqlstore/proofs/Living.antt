@@ -1,16 +1,14 @@
 -- What the query for the incarnation shows is the incarnation.
-use Rattle.std.proofs.Common.{◌≡◌, ℕ, ℤ, pos, negsuc, ◌+◌, ◌+ℤ◌, ◌≤ℤ◌, List, [], ◌∷◌, unsigned_abs, refl, sym, ap, ◌∙◌, subst, inl, inr, arith}
+use Rattle.std.proofs.Common.{◌≡◌, ℕ, pos, ◌+◌, List, [], ◌∷◌, unsigned_abs, refl, sym, ap, ◌∙◌, inl}
 use Rattle.sqlite.specs.Edit.{id_in}
 use Rattle.sqlite.specs.Effect.{Database, IsDatabase}
 use Rattle.sqlite.specs.Order.{Row, column}
 use Rattle.sqlite_rules.specs.Lists.{Has}
 use Rattle.store.specs.SiteContent.{BeginsLife}
 use Rattle.terms.specs.declared.leaf.Leaf.{Leaf}
-use Rattle.sqlstore.specs.Cells.{int_at}
 use Rattle.sqlstore.specs.Content.{life_in, kept_of}
 use Rattle.sqlstore.specs.Query.{AreLives, LivesNext, life_terms, first_life}
 use Rattle.sqlstore.specs.Sound.{IsStored}
-use Rattle.sqlstore.specs.Step.{LivesOn}
 use Rattle.sqlstore.specs.Tests.{shown}
 use Rattle.sqlstore.proofs.Sites.{begins, stored_lives}
 use Rattle.sqlstore.proofs.Typed.{state_once}

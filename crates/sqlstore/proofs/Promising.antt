@@ -1,7 +1,7 @@
 -- A ticket is prepared with its changes.
-use Rattle.std.proofs.Common.{◌≡◌, ◌≢◌, ◌⊎◌, ℕ, ℤ, pos, ◌≤ℤ◌, Bool, true, false, ◌&&◌, T, cond, List, [], ◌∷◌, length, drop, Option, Some, None, Ok, IsSome, IfSome, string_bytes, unsigned_abs, refl, sym, ap, ◌∙◌, subst, inl, inr, arith, Ordering, Less, Equal, Greater}
+use Rattle.std.proofs.Common.{◌≡◌, ◌≢◌, ◌⊎◌, ℕ, ℤ, pos, ◌≤ℤ◌, Bool, true, false, ◌&&◌, T, cond, List, [], ◌∷◌, length, drop, Option, Some, None, IsSome, IfSome, string_bytes, unsigned_abs, refl, sym, ap, ◌∙◌, subst, inl, inr, arith, Equal}
 use Rattle.std.specs.FinMap as map
-use Rattle.std.specs.List.{AllByRecursion, list_any}
+use Rattle.std.specs.List.{list_any}
 use Rattle.std.specs.Ordering.{is_eq, is_lt}
 use Rattle.std.proofs.lemmas.Bool.{and_parts, and_from, both_ways, cases_Bool, false_from_ne_true}
 use Rattle.std.proofs.lemmas.Cmp.{tied_itself}
@@ -19,26 +19,26 @@ use Rattle.store.specs.Content.{Changes, AreKeyed, are_within, is_of as is_its}
 use Rattle.terms.proofs.Spelled.{spelled_is_read}
 use Rattle.sqlstore.specs.declared.promise.Promise.{Promise}
 use Rattle.store.specs.Orders.{slot_cmp_total, slot_cmp-IsAntisymmetric, leaf_cmp_total, leaf_cmp-IsAntisymmetric}
-use Rattle.store.specs.SiteContent.{MayPrepare, Prepares, is_ticket}
-use Rattle.store.specs.Slot.{slot_of, slot_cmp}
+use Rattle.store.specs.SiteContent.{Prepares, is_ticket}
+use Rattle.store.specs.Slot.{slot_cmp}
 use Rattle.terms.specs.declared.leaf.Leaf.{Leaf}
 use Rattle.terms.specs.declared.value.Value.{Value}
 use Rattle.terms.specs.Leaf.{leaf_text, leaf_cmp}
 use Rattle.terms.specs.Row.{key_of}
-use Rattle.terms.specs.Stored.{spelling, IsStorable, part_from, SpelledIsRead}
+use Rattle.terms.specs.Stored.{IsStorable, part_from, SpelledIsRead}
 use Rattle.sqlstore.specs.declared.intent.Intent.{Intent}
 use Rattle.sqlstore.specs.declared.visit.Visit.{Visit}
 use Rattle.sqlstore.specs.Cells.{text_at, int_at, is_int}
-use Rattle.sqlstore.specs.Content.{decoded, part_or_none, leaf_named, is_leaf, is_called, content_in, is_of, put_of, changes_in, row_as, prepared_in, life_in, has_leaf, kept_of, AreNamed}
+use Rattle.sqlstore.specs.Content.{part_or_none, leaf_named, is_leaf, is_called, content_in, is_of, put_of, changes_in, row_as, prepared_in, life_in, has_leaf, kept_of, AreNamed}
 use Rattle.sqlstore.specs.Intents.{AreIntents, IsPromiseOf, HasBody, body_of, seen, wanted}
-use Rattle.sqlstore.specs.Rows.{AreTables, Gains}
+use Rattle.sqlstore.specs.Rows.{AreTables}
 use Rattle.sqlstore.specs.Sound.{IsStored, SpellsAt, AreOfOne}
 use Rattle.sqlstore.specs.Step.{Keeps, promise_params, intend_params}
 use Rattle.sqlstore.proofs.Applying.{parts_stay, prepared_stay, intents_stay, state_stays}
 use Rattle.sqlstore.proofs.Bridge.{Stands, called_text, int_same, same_int}
 use Rattle.sqlstore.proofs.Contents.{LooksUp, at_row, nowhere, look_changes, look_prepared, is_intent_at}
 use Rattle.sqlstore.proofs.Deleting.{is_equal}
-use Rattle.sqlstore.proofs.Forgetting.{looks_same, of_parts, one_ticket, ticket_same, of_one}
+use Rattle.sqlstore.proofs.Forgetting.{looks_same, of_parts, one_ticket, ticket_same}
 use Rattle.sqlstore.proofs.Querying.{mapped_has, has_mapped}
 use Rattle.sqlstore.proofs.Sites.{no_intent, no_row}
 use Rattle.sqlstore.proofs.Typed.{column_drop, prepared_once, intent_once}

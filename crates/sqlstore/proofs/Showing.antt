@@ -1,11 +1,11 @@
 -- Queries on a connection.
-use Rattle.std.proofs.Common.{◌≡◌, ℕ, ◌≤◌, false, List, [], ◌∷◌, Ok, Err, Result, IfOk, IfErr, OnOk, IsTrue, refl, sym, ap, ◌∙◌, subst, inl, inr, None, Some, Option}
+use Rattle.std.proofs.Common.{◌≡◌, ℕ, false, List, [], Ok, Err, Result, IfOk, IfErr, IsTrue, sym, subst, inl, inr, None, Some, Option}
 use Rattle.sqlite.specs.Effect.{Database}
 use Rattle.sqlite.specs.Clock.{timed}
 use Rattle.sqlite.specs.Listing.{understood, reads_listing}
 use Rattle.sqlite.specs.Order.{Row}
 use Rattle.sqlite.specs.Program.{overlay}
-use Rattle.sqlite.specs.State.{State, IsUnchanged, IsRolledBack, IsNotRun, Fails, KeepsCommit, Shows, ShowsRows, Shown, FailsToQuery, FailsToShow, IsStatement, RunsCommand}
+use Rattle.sqlite.specs.State.{State, IsUnchanged, IsNotRun, KeepsCommit, ShowsRows, Shown, FailsToQuery, FailsToShow}
 use Rattle.sqlite.specs.Term.{Term}
 use Rattle.sqlite.specs.Tree.{Trees}
 use Rattle.sqlite.specs.declared.error.Error.{Error}

@@ -1,10 +1,10 @@
 -- What a DELETE and an INSERT make of the rows of their table.
-use Rattle.std.proofs.Common.{◌≡◌, ◌≢◌, ◌⊎◌, ℕ, Bool, true, false, cond, List, [], ◌∷◌, drop, map, MatchBool, None, Some, Option, Ok, Err, Result, slice_get, refl, sym, ap, ◌∙◌, subst, inl, inr}
+use Rattle.std.proofs.Common.{◌≡◌, ◌≢◌, ◌⊎◌, ℕ, false, List, [], ◌∷◌, drop, map, None, Some, Option, Ok, Err, Result, slice_get, refl, sym, ap, ◌∙◌, subst, inl, inr}
 use Rattle.std.proofs.lemmas.Bool.{cases_eq, MatchBool-at_false, cond-false}
-use Rattle.sqlite.specs.Edit.{Edit, edit_of, edited, numbered, taken_by, without_all}
+use Rattle.sqlite.specs.Edit.{Edit, edit_of, edited, numbered, taken_by}
 use Rattle.sqlite.specs.Cast.{cast_row, cast_all}
 use Rattle.sqlite.specs.Command.{Command}
-use Rattle.sqlite.specs.Command.TheVariants.{Insert, Delete}
+use Rattle.sqlite.specs.Command.TheVariants.{Insert}
 use Rattle.sqlite.specs.Does.{Does, Tally, AtPlace, OnRows}
 use Rattle.sqlite.specs.Effect.{Database, IsDatabase, IsSource}
 use Rattle.sqlite.specs.Listing.{understood}
@@ -13,7 +13,7 @@ use Rattle.sqlite.specs.Program.{overlay}
 use Rattle.sqlite.specs.Rowids.TheVariants.{Given}
 use Rattle.sqlite.specs.Rows.{Task, Written, stamped, rowids_for, count_of}
 use Rattle.sqlite.specs.Source.{Source}
-use Rattle.sqlite.specs.State.{State, Executes, Writes, mode_of}
+use Rattle.sqlite.specs.State.{State, Executes, mode_of}
 use Rattle.sqlite.specs.Table.{Table}
 use Rattle.sqlite.specs.Term.{Term, col}
 use Rattle.sqlite.specs.Tree.{Trees}
@@ -23,13 +23,13 @@ use Rattle.sqlite_rules.specs.Calls.{ids_of}
 use Rattle.sqlite_rules.specs.Lists.{Has}
 use Rattle.sqlite_rules.proofs.ListLemmas.{all_has}
 use Rattle.sqlite_schema.specs.declared.schema.Keys.TheVariants.{Enforced}
-use Rattle.sqlstore.specs.Rows.{AreKeyed, AreTables, Loses, Gains, Finds, Rewrites}
+use Rattle.sqlstore.specs.Rows.{AreKeyed, AreTables, Loses, Gains, Rewrites}
 use Rattle.sqlstore.specs.Tables.{site_schema}
 use Rattle.sqlstore.specs.Tests.{passes}
-use Rattle.sqlstore.proofs.Deleting.{numbers, deleted, fewer_keyed}
+use Rattle.sqlstore.proofs.Deleting.{deleted, fewer_keyed}
 use Rattle.sqlstore.proofs.Inserting.{inserted, put_all_keyed}
 use Rattle.sqlstore.proofs.Querying.{answered, mapped_has, has_mapped}
-use Rattle.sqlstore.proofs.Texts.{simple, deletes_from}
+use Rattle.sqlstore.proofs.Texts.{deletes_from}
 
 -- a part of a statement that gave a value was not refused
 passed : {B E R : Type 0} {b : B} {Stops : E → Type 0} → ((stop : E) × Stops stop × (Ok b ≡ Err stop)) ⊎ R → R

@@ -1,24 +1,22 @@
 -- What the statements of a site's store do within a transaction.
-use Rattle.std.proofs.Common.{◌≡◌, ◌⊎◌, ℕ, ℤ, pos, Bool, true, false, cond, List, [], ◌∷◌, drop, Ok, Err, Result, OnOk, IsTrue, refl, sym, ap, ◌∙◌, subst, inl, inr, None, Some}
-use Rattle.std.proofs.lemmas.List.{append-nil}
+use Rattle.std.proofs.Common.{◌≡◌, ℕ, ℤ, Bool, true, false, cond, List, [], ◌∷◌, drop, Ok, Err, Result, refl, sym, ap, ◌∙◌, subst, inl, inr}
 use Rattle.sqlite.specs.Cast.{cast, cast_all}
 use Rattle.sqlite.specs.Collation.TheVariants.{Binary}
 use Rattle.sqlite.specs.Kind.TheVariants.{Integer}
 use Rattle.sqlite.specs.Ops.{unary}
 use Rattle.sqlite.specs.Table.{Table}
 use Rattle.sqlite.specs.Effect.{Database}
-use Rattle.sqlite.specs.Listing.{understood}
-use Rattle.sqlite.specs.Order.{Row, column}
-use Rattle.sqlite.specs.State.{State, Executes, ExecutesInside, KeepsCommit, Shows, IsUnchanged, IsRolledBack}
-use Rattle.sqlite.specs.Term.{lit, col, eval_all}
+use Rattle.sqlite.specs.Order.{Row}
+use Rattle.sqlite.specs.State.{State, Executes, ExecutesInside, KeepsCommit, IsUnchanged, IsRolledBack}
+use Rattle.sqlite.specs.Term.{lit, col}
 use Rattle.sqlite.specs.declared.error.Error.{Error}
 use Rattle.sqlite.specs.declared.types.Value.{Value}
 use Rattle.sqlite.specs.declared.types.Value.TheVariants.{Null, Int, Text, Blob}
 use Rattle.sqlite_rules.specs.Lists.{Has}
 use Rattle.sqlstore.specs.declared.visit.Visit.{Visit}
-use Rattle.sqlstore.specs.Rows.{AreTables, Rewrites, Loses, Gains, Finds}
+use Rattle.sqlstore.specs.Rows.{AreTables, Rewrites, Gains}
 use Rattle.sqlstore.specs.Step.{Steps, Takes, Gives, Clears, Forgets, Promises, Intends, EndsLife, StartsLife, visit_params, slot_params, promise_params, intend_params, given}
-use Rattle.sqlstore.specs.Tables.{site_schema, part_table, prepared_table, intent_table, state_table}
+use Rattle.sqlstore.specs.Tables.{part_table, prepared_table, intent_table, state_table}
 use Rattle.sqlstore.specs.Tests.{at_slot, of_visit, puts_of_visit, passes, shown}
 use Rattle.sqlstore.proofs.Querying.{answered}
 use Rattle.sqlstore.proofs.Statements.{deletes, inserts}

@@ -1,8 +1,8 @@
 -- What the schema says of the cells of rows: their types, and which rows differ.
-use Rattle.std.proofs.Common.{◌≡◌, ℕ, ℤ, pos, zero, suc, ◌+◌, Ordering, Less, Equal, Greater, Bool, true, false, not, ◌&&◌, ◌||◌, cond, List, [], ◌∷◌, drop, slice_get, Option, Some, None, refl, sym, ap, ◌∙◌, subst, inl, inr}
+use Rattle.std.proofs.Common.{◌≡◌, ℕ, ℤ, pos, zero, suc, ◌+◌, Ordering, Less, Equal, Greater, Bool, true, false, not, ◌&&◌, cond, List, [], ◌∷◌, drop, slice_get, Some, None, refl, sym, ap, ◌∙◌, subst, inl, inr}
 use Rattle.std.specs.Ordering.{is_eq, is_ne}
 use Rattle.std.proofs.lemmas.Cmp.{tied_itself}
-use Rattle.std.specs.List.{list_all, list_any, AllByRecursion}
+use Rattle.std.specs.List.{AllByRecursion}
 use Rattle.std.proofs.lemmas.Bool.{and_parts, and_from, both_ways, not-true, false_from_ne_true}
 use Rattle.sqlite.specs.Effect.{Database, IsDatabase}
 use Rattle.sqlite.specs.Edit.{id_in}
@@ -12,9 +12,8 @@ use Rattle.sqlite.specs.Order.{Row, column, bytes, value_cmp}
 use Rattle.sqlite.specs.Ops.{is_null, binary, is_true, is_false, from_truth}
 use Rattle.sqlite_sql.specs.declared.ops.BinaryOp.TheVariants.{Compare}
 use Rattle.sqlite_sql.specs.declared.ops.CompareOp.TheVariants.{Eq}
-use Rattle.sqlite.specs.Schema.{Schema}
 use Rattle.sqlite.specs.Table.{Table}
-use Rattle.sqlite.specs.Tree.{Trees, rowid}
+use Rattle.sqlite.specs.Tree.{rowid}
 use Rattle.sqlite.specs.declared.types.Value.{Value}
 use Rattle.sqlite.specs.declared.types.Value.TheVariants.{Null, Int, Real, Text, Blob}
 use Rattle.sqlite_rules.specs.Lists.{Has}
@@ -22,7 +21,7 @@ use Rattle.sqlite_rules.proofs.ListLemmas.{all_has, test_has, some_from}
 use Rattle.sqlite_schema.specs.declared.schema.Column.{Column}
 use Rattle.sqlite_schema.specs.declared.schema.Constraint.{Constraint}
 use Rattle.sqlite_schema.specs.declared.schema.Constraint.TheVariants.{Datatype, NotNull, Check, Unique}
-use Rattle.sqlite_schema.specs.Rules.{Keeps, passes, is_of, are_typed, are_present, suits, has_affinity, equal, differ, agree, clashes, guards}
+use Rattle.sqlite_schema.specs.Rules.{Keeps, passes, is_of, are_typed, suits, has_affinity, equal, differ, agree, clashes, guards}
 use Rattle.sqlite_value.specs.declared.keys.Order.{Order}
 use Rattle.sqlite_value.specs.Keys.{first_key, plain}
 use Rattle.sqlite_value.proofs.OrderLemmas.{value_cmp_total}
@@ -31,7 +30,7 @@ use Rattle.sqlite.specs.Collation.TheVariants.{Binary}
 use Rattle.sqlstore.specs.Rows.{AreTables, AreKeyed}
 use Rattle.sqlstore.proofs.Deleting.{same_int}
 use Rattle.sqlstore.specs.Cells.{text_at, int_at}
-use Rattle.sqlstore.specs.Tables.{site_schema, part_table, prepared_table, intent_table, state_table}
+use Rattle.sqlstore.specs.Tables.{site_schema, part_table, prepared_table, intent_table}
 
 -- ---- types
 

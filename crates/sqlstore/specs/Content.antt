@@ -7,7 +7,6 @@ use Rattle.sqlite.specs.Effect.{Database}
 use Rattle.sqlite.specs.Order.{Row}
 use Rattle.store.specs.declared.name.Ticket.{Ticket}
 use Rattle.store.specs.declared.prepared.Prepared.{Prepared}
-use Rattle.store.specs.declared.slot.Slot.{Slot}
 use Rattle.store.specs.Content.{Content, Changes}
 use Rattle.store.specs.SiteContent.{SiteContent}
 use Rattle.store.specs.Slot.{slot_of}

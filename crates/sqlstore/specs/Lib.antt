@@ -10,4 +10,5 @@ pub mod Rows
 pub mod Step
 pub mod Query
 -- What a store is to its callers.
+pub mod Fresh
 pub mod Site

@@ -24,6 +24,7 @@ use terms::leaf::Leaf;
 use terms::part::Part;
 
 /// A store of a site in a SQLite database of its own.
+#[derive(Drop)]
 pub struct SqlSite<S: Alter> {
     conn: Connection<S>,
     leaves: Vec<Leaf>,

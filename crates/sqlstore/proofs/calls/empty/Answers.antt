@@ -1,9 +1,9 @@
-use Rattle.std.proofs.Common.{◌≡◌, ◌+◌, ℕ, take, subst, ◌∙◌, arith}
+use Rattle.std.proofs.Common.{◌≡◌, ◌+◌, take, subst, ◌∙◌, arith}
 use Rattle.std.proofs.lemmas.List.{take_all}
 use Rattle.sqlite.specs.Held.{state}
-use Rattle.sqlite.specs.State.{HasCleanDisk, Survives}
+use Rattle.sqlite.specs.State.{HasCleanDisk}
 use Rattle.sqlite.proofs.StateLemmas.{survives_then}
-use Rattle.sqlstore.specs.Step.{Steps, Empties, Takes}
+use Rattle.sqlstore.specs.Step.{Empties, Takes}
 use Rattle.sqlstore.proofs.Composed.{good, then_step, same_step, empties_more}
 use Rattle.sqlstore.proofs.calls.empty.Goals as goal
 

@@ -1,9 +1,9 @@
-use Rattle.std.proofs.Common.{◌≡◌, ◌+◌, string_bytes, ℕ, take, subst, ◌∙◌, arith}
+use Rattle.std.proofs.Common.{◌≡◌, ◌+◌, string_bytes, take, subst, ◌∙◌, arith}
 use Rattle.std.proofs.lemmas.List.{take_all}
 use Rattle.sqlite.specs.Held.{state}
-use Rattle.sqlite.specs.State.{HasCleanDisk, Survives}
+use Rattle.sqlite.specs.State.{HasCleanDisk}
 use Rattle.sqlite.proofs.StateLemmas.{survives_then}
-use Rattle.sqlstore.specs.Step.{Steps, Keeps, Intends}
+use Rattle.sqlstore.specs.Step.{Keeps, Intends}
 use Rattle.sqlstore.proofs.Composed.{good, then_step, same_step, keeps_more}
 use Rattle.sqlstore.proofs.keep.keep_rows.Goals as goal
 

@@ -1,7 +1,5 @@
 use Rattle.std.proofs.Common.{arith}
-use Rattle.sqlite.specs.Effect.{Database, IsDatabase}
 use Rattle.sqlite.specs.Held.{state}
-use Rattle.sqlstore.specs.Site.{IsClean, IsSound}
 use Rattle.sqlstore.proofs.Sites.{discards, stored_dropped}
 use Rattle.sqlstore.proofs.Bridge.{Stands}
 use Rattle.sqlstore.proofs.site.SqlSite.forget.Goals as goal

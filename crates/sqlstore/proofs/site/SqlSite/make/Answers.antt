@@ -1,8 +1,6 @@
 use Rattle.std.proofs.Common.{arith}
-use Rattle.sqlite.specs.Effect.{Database, IsDatabase}
 use Rattle.sqlite.specs.Held.{state}
-use Rattle.sqlstore.specs.Site.{IsClean, IsSound}
-use Rattle.sqlstore.proofs.Applying.{Applied, applied}
+use Rattle.sqlstore.proofs.Applying.{applied}
 use Rattle.sqlstore.proofs.Bridge.{Stands}
 use Rattle.sqlstore.proofs.Sites.{applies, applies_nothing, stored_applied}
 use Rattle.sqlstore.proofs.site.SqlSite.make.Goals as goal
