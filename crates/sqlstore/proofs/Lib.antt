@@ -19,3 +19,4 @@ pub mod Names
 pub mod Promising
 pub mod Finding
 pub mod Creating
+pub mod Naming

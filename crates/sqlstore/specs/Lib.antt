@@ -10,5 +10,6 @@ pub mod Rows
 pub mod Step
 pub mod Query
 -- What a store is to its callers.
+pub mod Listed
 pub mod Fresh
 pub mod Site

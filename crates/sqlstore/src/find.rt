@@ -35,7 +35,7 @@ pub fn part_in(alloc: Global, rows: &[Row]) -> Result<Option<Part>, StoreFault>
     ensures kept { result ≢ Err Refused }
 {
     match rows.first() {
-        Some(row) => match part_of(alloc, row) {
+        Some(row) => match part_at(alloc, row, 0) {
             Ok(part) => Ok(Some(part)),
             Err(fault) => Err(fault),
         },
@@ -43,12 +43,13 @@ pub fn part_in(alloc: Global, rows: &[Row]) -> Result<Option<Part>, StoreFault>
     }
 }
 
-fn part_of(alloc: Global, row: &Row) -> Result<Part, StoreFault>
-    ensures part { IfOk result (λ part. part ≡ decoded (bytes (column row.now 0))) }
-    ensures intact { (column row.now 0 ≡ Blob (bytes (column row.now 0))) → (part : List Cell) → part_from (bytes (column row.now 0)) ≡ Ok part → result ≢ Err Damaged }
+/// The part that a cell of a row spells.
+pub fn part_at(alloc: Global, row: &Row, at: usize) -> Result<Part, StoreFault>
+    ensures part { IfOk result (λ part. part_from (bytes (column row.now at)) ≡ Ok part) }
+    ensures intact { (column row.now at ≡ Blob (bytes (column row.now at))) → (part : List Cell) → part_from (bytes (column row.now at)) ≡ Ok part → result ≢ Err Damaged }
     ensures kept { result ≢ Err Refused }
 {
-    let Ok(ValueRef::Blob(body)) = row.get_ref(0) else {
+    let Ok(ValueRef::Blob(body)) = row.get_ref(at) else {
         return Err(StoreFault::Damaged);
     };
     match decode_part(alloc, body) {

@@ -9,6 +9,7 @@ pub mod find;
 pub mod intent;
 pub mod keep;
 pub mod life;
+pub mod listing;
 pub mod open;
 pub mod param;
 pub mod promise;
