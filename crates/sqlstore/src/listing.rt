@@ -69,3 +69,37 @@ fn part_row<'a>(
         Err(StoreFault::Damaged)
     }
 }
+
+/// Puts a row's part into changes.
+fn put_row(
+    changes: &mut Changes,
+    alloc: Global,
+    leaves: &[Leaf],
+    row: &Row,
+) -> Result<(), StoreFault>
+    ensures ok { OnOk result ((changes.new ≡ with_row leaves.now row.now changes.old) × IsPart leaves.now row.now) }
+    ensures intact { HasCells row.now → IsPart leaves.now row.now → result ≢ Err Damaged }
+    ensures kept { result ≢ Err Refused }
+{
+    match part_row(alloc, leaves, row) {
+        Ok((leaf, part)) => {
+            let leaf = leaf.copy()?;
+            changes.put(leaf, part)?;
+            Ok(())
+        }
+        Err(fault) => Err(fault),
+    }
+}
+
+/// The changes that make the parts of rows of nothing.
+pub fn changes_of(alloc: Global, leaves: &[Leaf], rows: &[Row]) -> Result<Changes, StoreFault>
+    ensures ok { IfOk result (λ changes. (changes ≡ with_rows leaves.now rows.now map.empty) × AllByRecursion (IsPart leaves.now) rows.now) }
+    ensures intact { AllByRecursion HasCells rows.now → AllByRecursion (IsPart leaves.now) rows.now → result ≢ Err Damaged }
+    ensures kept { result ≢ Err Refused }
+{
+    let mut changes = Changes::new(alloc);
+    for row in rows {
+        put_row(&mut changes, alloc, leaves, row)?;
+    }
+    Ok(changes)
+}
