@@ -23,7 +23,7 @@ use Rattle.sqlstore.specs.Cells.{text_at, int_at, is_int, is_text}
 use Rattle.sqlstore.specs.Content.{leaf_named, is_leaf, is_called, is_of}
 use Rattle.sqlstore.specs.Query.{slot_terms, key_params}
 use Rattle.sqlstore.specs.Step.{visit_params, slot_params}
-use Rattle.sqlstore.specs.Tests.{passes, shown, at_slot, of_visit, puts_of_visit}
+use Rattle.sqlstore.specs.Tests.{of_leaf, passes, shown, at_slot, of_visit, puts_of_visit}
 use Rattle.sqlstore.proofs.Deleting.{is_equal}
 use Rattle.sqlstore.proofs.Typed.{TypedPart, TypedPrepared, TypedIntent}
 
@@ -108,6 +108,10 @@ at_slot_of params part intent typed slot =
 -- a part at a name and a key
 pub at_key_of : (name : List ℕ) (key : ℤ) (part : Row) → TypedPart part → passes at_slot (key_params name key) part ≡ (is_text (text_at part 1) name && is_int (int_at part 2) key)
 at_key_of name key part typed = two _ _ _ _ (eq_text_at (column part 1) (text_at part 1) (Text name) name typed.leaf refl) (eq_key_at (column part 2) (int_at part 2) (Int key) key typed.key refl)
+
+-- a part of a leaf
+pub of_leaf_of : (name : List ℕ) (part : Row) → TypedPart part → passes of_leaf (Text name ∷ []) part ≡ is_text (text_at part 1) name
+of_leaf_of name part typed = and_true _ ∙ eq_text_at (column part 1) (text_at part 1) (Text name) name typed.leaf refl
 
 -- ---- a body that puts a part isn't empty
 

@@ -55,7 +55,7 @@ look_content leaves leaf key (row ∷ rows) =
 abbrev pub is_intent_at : List Leaf → Ticket → Slot → Row → Bool
 is_intent_at leaves ticket slot row = is_of ticket row && (is_called leaves slot.leaf (text_at row 3) && is_int slot.key (int_at row 4))
 
-both_eq : (one other : Ordering) → is_eq (ordering_then one other) ≡ (is_eq one && is_eq other)
+pub both_eq : (one other : Ordering) → is_eq (ordering_then one other) ≡ (is_eq one && is_eq other)
 both_eq Less other = refl
 both_eq Equal other = refl
 both_eq Greater other = refl

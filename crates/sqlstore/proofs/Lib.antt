@@ -20,3 +20,4 @@ pub mod Promising
 pub mod Finding
 pub mod Creating
 pub mod Naming
+pub mod Scanning

@@ -11,7 +11,7 @@ use Rattle.sqlite.specs.Term.{Term, lit, col}
 use Rattle.sqlite.specs.declared.types.Value.TheVariants.{Null, Int}
 use Rattle.sqlite.proofs.Callers.{IsPlain, command_of}
 use Rattle.sqlite_tied.specs.Compute.{everything}
-use Rattle.sqlstore.specs.Tests.{at_slot, of_visit, puts_of_visit}
+use Rattle.sqlstore.specs.Tests.{of_leaf, at_slot, of_visit, puts_of_visit}
 use Rattle.sqlstore.specs.Tables.{site_schema}
 
 -- ---- queries of one table
@@ -171,3 +171,18 @@ bodies_plain = (refl, refl)
 pub bodies_unlisted : reads_listing site_schema bodies_text ≡ false
 unfolding understood everything
 bodies_unlisted = refl
+
+abbrev pub rows_text : List ℕ
+rows_text = codes "SELECT rowid, leaf, id, body FROM part WHERE leaf = ?1"
+
+pub rows_is : command_of (understood site_schema rows_text) ≡ selects 0 of_leaf (col 1 0 ∷ col 1 1 ∷ col 1 2 ∷ col 1 3 ∷ []) (codes "rowid" ∷ codes "leaf" ∷ codes "id" ∷ codes "body" ∷ [])
+unfolding understood everything
+rows_is = refl
+
+pub rows_plain : IsPlain (understood site_schema rows_text)
+unfolding understood everything
+rows_plain = (refl, refl)
+
+pub rows_unlisted : reads_listing site_schema rows_text ≡ false
+unfolding understood everything
+rows_unlisted = refl

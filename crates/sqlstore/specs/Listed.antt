@@ -1,5 +1,5 @@
 -- Parts as the rows that a query shows, with a row's number first.
-use Rattle.std.specs.Prelude.{◌≡◌, ℤ, List, [], ◌∷◌, Option, Some, None}
+use Rattle.std.specs.Prelude.{◌≡◌, ℕ, ℤ, List, [], ◌∷◌, Option, Some, None}
 use Rattle.std.specs.FinMap as map
 use Rattle.sqlite.specs.Order.{Row, column}
 use Rattle.sqlite.specs.Term.{Term, col}
@@ -10,6 +10,8 @@ use Rattle.terms.specs.declared.leaf.Leaf.{Leaf}
 use Rattle.terms.specs.declared.value.Value.{Value}
 use Rattle.sqlstore.specs.Cells.{text_at, int_at}
 use Rattle.sqlstore.specs.Content.{decoded, leaf_named}
+use Rattle.sqlstore.specs.Rows.{Finds}
+use Rattle.sqlstore.specs.Tests.{passes, shown, of_leaf}
 
 -- the number, the leaf, the key and the body, in the places that the table has them
 abbrev pub part_terms : List Term
@@ -33,3 +35,7 @@ with_row leaves row changes = with_part (leaf_named leaves (text_at row 1)) (int
 abbrev pub with_rows : List Leaf → List Row → Changes → Changes
 with_rows leaves [] changes = changes
 with_rows leaves (row ∷ rows) changes = with_rows leaves rows (with_row leaves row changes)
+
+-- the rows of a leaf
+abbrev pub AreRowsOf : List ℕ → List Row → List Row → Type 0
+AreRowsOf name = Finds (shown part_terms (Text name ∷ [])) (passes of_leaf (Text name ∷ []))

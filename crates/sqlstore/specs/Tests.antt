@@ -16,6 +16,10 @@ equals column parameter = op2 (Compare Eq Binary) (col 1 column) (col 0 paramete
 abbrev pub at_slot : List Term
 at_slot = equals 1 0 ∷ equals 2 1 ∷ []
 
+-- of the table of parts: the leaf
+abbrev pub of_leaf : List Term
+of_leaf = equals 1 0 ∷ []
+
 -- of the tables of prepared rows and of intents: the ticket
 abbrev pub of_visit : List Term
 of_visit = equals 1 0 ∷ equals 2 1 ∷ []
