@@ -1,28 +1,31 @@
 -- The rows of a leaf make its content.
-use Rattle.std.proofs.Common.{◌≡◌, ◌⊎◌, ℕ, ℤ, Bool, true, false, ◌&&◌, cond, List, [], ◌∷◌, Option, Some, None, unwrap_or, refl, sym, ap, ◌∙◌, subst, inl, inr}
+use Rattle.std.proofs.Common.{◌≡◌, ◌⊎◌, ℤ, true, false, ◌&&◌, cond, List, [], ◌∷◌, Option, Some, None, Ok, Err, Result, IfOk, Vec, unwrap_or, refl, sym, ap, ◌∙◌, subst, inl, inr}
 use Rattle.std.specs.FinMap as map
 use Rattle.std.specs.List.{AllByRecursion}
-use Rattle.std.proofs.lemmas.Bool.{and_parts, and_from, both_ways, cases_Bool}
+use Rattle.std.proofs.lemmas.Bool.{and_parts, both_ways, cases_Bool}
 use Rattle.sqlite.specs.Effect.{Database, IsDatabase}
-use Rattle.sqlite.specs.Order.{Row, column}
+use Rattle.sqlite.specs.Order.{Row}
 use Rattle.sqlite.specs.declared.types.Value.TheVariants.{Text}
 use Rattle.sqlite_rules.specs.Lists.{Has}
 use Rattle.sqlite_rules.proofs.ListLemmas.{all_from}
-use Rattle.std.specs.Ordering.{is_eq, int_cmp}
+use Rattle.std.specs.Ordering.{int_cmp}
 use Rattle.store.specs.declared.slot.Slot.{Slot}
-use Rattle.store.specs.Content.{Changes, made_by}
+use Rattle.std.specs.declared.alloc.Global.{Global}
+use Rattle.terms.specs.declared.cond.Cond.{Cond}
+use Rattle.store.specs.declared.fault.StoreFault.{StoreFault}
+use Rattle.store.specs.Content.{Changes, made_by, parts}
 use Rattle.store.specs.ContentLaws.{get-made_by, same_content}
 use Rattle.store.specs.Orders.{slot_cmp_total}
 use Rattle.store.specs.Slot.{slot_of, slot_cmp}
 use Rattle.terms.specs.declared.leaf.Leaf.{Leaf}
 use Rattle.terms.specs.declared.value.Value.{Value}
 use Rattle.terms.specs.Leaf.{leaf_text, leaf_cmp}
-use Rattle.sqlstore.specs.Cells.{text_at, int_at, is_int, is_text}
-use Rattle.sqlstore.specs.Content.{decoded, leaf_named, is_leaf, is_called, has_leaf, content_in, AreNamed}
+use Rattle.sqlstore.specs.Cells.{text_at, int_at, is_int}
+use Rattle.sqlstore.specs.Content.{decoded, leaf_named, is_leaf, is_called, content_in}
 use Rattle.sqlstore.specs.Listed.{HasCells, AreRowsOf, part_terms, with_part, with_row, with_rows}
 use Rattle.sqlstore.specs.Sound.{IsStored, IsPart}
-use Rattle.sqlstore.specs.Tests.{passes, shown, of_leaf}
-use Rattle.sqlstore.proofs.Bridge.{of_leaf_of, called_text, int_same, same_int, text_same, same_text}
+use Rattle.sqlstore.specs.Tests.{shown}
+use Rattle.sqlstore.proofs.Bridge.{of_leaf_of, called_text, int_same, same_text}
 use Rattle.sqlstore.proofs.Contents.{LooksUp, at_row, nowhere, look_content, is_part_at, both_eq}
 use Rattle.sqlstore.proofs.Typed.{part_typed, part_once}
 
@@ -98,3 +101,8 @@ module _ (leaves : List Leaf) (db : Database) (sound : IsDatabase db) (stored : 
   scanned = same_content _ _ (λ key.
       get-made_by (with_rows leaves rows map.empty) leaf key
       ∙ go key _ _ (subst (λ before. LooksIn leaves (slot_of leaf key) rows before (map.get (with_rows leaves rows map.empty) (slot_of leaf key))) (map.get-empty slot_cmp (slot_of leaf key)) (look_rows leaves (slot_of leaf key) rows map.empty)) (look_content leaves leaf key (db.trees 0)))
+
+  -- so what was listed is the leaf's parts that meet the conditions
+  pub listed_as : (conds : List Cond) (result : Result (Vec (List Value) Global) StoreFault) → IfOk result (λ found. found.items ≡ parts conds (made_by (with_rows leaves rows map.empty) leaf)) → IfOk result (λ found. found.items ≡ parts conds (content_in leaves (db.trees 0) leaf))
+  listed_as conds (Ok found) is = is ∙ ap (parts conds) scanned
+  listed_as conds (Err fault) is = tt

@@ -6,6 +6,7 @@ ghost use Rattle.std.specs.List.{AllByRecursion};
 ghost use Rattle.sqlite_value.specs.Order.{column};
 ghost use Rattle.store.specs.declared.fault.StoreFault.TheVariants.{Refused, Damaged};
 ghost use Rattle.sqlite.specs.declared.types.Value.TheVariants.{Int};
+ghost use Rattle.store.specs.Content.{made_by, parts};
 ghost use Rattle.terms.specs.Row.{key_of};
 ghost use Rattle.terms.specs.Stored.{part_from};
 ghost use Rattle.sqlstore.specs.Cells.{text_at, int_at};
@@ -19,6 +20,7 @@ use sqlite::types::ValueRef;
 use std::alloc::Global;
 use store::changes::Changes;
 use store::fault::StoreFault;
+use terms::cond::Conds;
 use terms::copy::TryCopy;
 use terms::leaf::Leaf;
 use terms::part::Part;
@@ -102,4 +104,27 @@ pub fn changes_of(alloc: Global, leaves: &[Leaf], rows: &[Row]) -> Result<Change
         put_row(&mut changes, alloc, leaves, row)?;
     }
     Ok(changes)
+}
+
+/// The parts that rows make of nothing in a leaf, of those that meet conditions, in the order of their keys.
+pub fn parts_meeting(
+    alloc: Global,
+    leaves: &[Leaf],
+    leaf: &Leaf,
+    conds: &Conds,
+    rows: &[Row],
+) -> Result<Vec<Part>, StoreFault>
+    ensures parts { IfOk result (λ found. found.items ≡ parts conds.now (made_by (with_rows leaves.now rows.now map.empty) leaf.now)) }
+    ensures intact { AllByRecursion HasCells rows.now → AllByRecursion (IsPart leaves.now) rows.now → result ≢ Err Damaged }
+    ensures kept { result ≢ Err Refused }
+{
+    let changes = match changes_of(alloc, leaves, rows) {
+        Ok(changes) => changes,
+        Err(fault) => return Err(fault),
+    };
+    let Ok(mut parts) = changes.list(leaf) else {
+        return Err(StoreFault::Memory);
+    };
+    parts.retain(|part| part.meets(conds.as_slice()));
+    Ok(parts)
 }

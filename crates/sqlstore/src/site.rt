@@ -2,6 +2,7 @@
 
 ghost use Rattle.std.specs.Prelude.{◌≡◌, ◌+◌, ◌<◌, ◌^◌, ◌≤◌, false, None, Some, OnOk, OnErr, IfOk, List};
 ghost use Rattle.std.specs.FinMap as map;
+ghost use Rattle.store.specs.Content.{parts};
 ghost use Rattle.store.specs.Frame.{LeavesStore, Reads, ChangesOrFails};
 ghost use Rattle.store.specs.SiteContent.{IsUnchanged, MayPrepare, Prepares, Applies, Discards, BeginsLife};
 ghost use Rattle.store.specs.declared.prepared.Prepared.{Prepared as Row};
@@ -13,13 +14,15 @@ use crate::calls;
 use crate::find::{has, name_of, part_in, read_numbers};
 use crate::keep::keep;
 use crate::life::live_next;
+use crate::listing::parts_meeting;
 use crate::promise::promise_of;
-use crate::reading::committed_at;
+use crate::reading::{committed_at, committed_of};
 use crate::visit::visit_of;
 use sqlite::{Alter, Connection};
 use store::changes::Changes;
 use store::fault::StoreFault;
 use store::name::{Ticket, Txn};
+use terms::cond::Conds;
 use terms::leaf::Leaf;
 use terms::part::Part;
 
@@ -143,6 +146,24 @@ impl<S: Alter> SqlSite<S> {
         let _live = self.conn.schema();
         match committed_at(&mut self.conn, &name, key) {
             Ok(rows) => part_in(alloc, &rows),
+            Err(error) => Err(blame(&mut self.refusals, error)),
+        }
+    }
+
+    /// The parts of a leaf that meet conditions, in the order of their keys.
+    fn list(&mut self, leaf: &Leaf, conds: &Conds) -> Result<Vec<Part>, StoreFault>
+        ensures leaves { LeavesStore (λ s. IsClean S.Store s.conn) (λ s. IsSound S.Store s.leaves.items s.conn) (λ s. s.refusals) self.old self.new }
+        ensures parts { IsClean S.Store self.new.conn → IsSound S.Store self.old.leaves.items self.old.conn
+            → IfOk result (λ found. found.items ≡ parts conds.now ((kept_by S.Store self.old.leaves.items self.old.conn).content leaf.now)) }
+        ensures reads { Reads (λ s. IsClean S.Store s.conn) (λ s. IsSound S.Store s.leaves.items s.conn) (λ s. kept_by S.Store s.leaves.items s.conn) IsUnchanged (λ s. s.refusals) self.old self.new result }
+    {
+        let alloc = *self.leaves.allocator();
+        let Ok(name) = name_of(alloc, leaf) else {
+            return Err(StoreFault::Memory);
+        };
+        let _live = self.conn.schema();
+        match committed_of(&mut self.conn, &name) {
+            Ok(rows) => parts_meeting(alloc, self.leaves.as_slice(), leaf, conds, &rows),
             Err(error) => Err(blame(&mut self.refusals, error)),
         }
     }
