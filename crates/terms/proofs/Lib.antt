@@ -7,3 +7,6 @@ pub mod SortedTests
 pub mod SearchLaws
 pub mod LeastRow
 pub mod Doubled
+pub mod StoredTexts
+pub mod StoredValues
+pub mod Spelled

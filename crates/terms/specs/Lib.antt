@@ -7,5 +7,7 @@ pub mod Cond
 pub mod TestValues
 pub mod Leaf
 pub mod Print
+pub mod PartFault
+pub mod Stored
 -- The search's own words, which a reader may skip.
 pub mod Search

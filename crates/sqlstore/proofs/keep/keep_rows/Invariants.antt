@@ -1,0 +1,12 @@
+use Rattle.std.proofs.Common.{◌≡◌, ℕ, IsTrue, take}
+use Rattle.sqlite.specs.Held.{state}
+use Rattle.sqlite.specs.State.{HasCleanDisk, Survives}
+use Rattle.sqlstore.specs.Step.{Steps, Keeps}
+use Rattle.sqlstore.proofs.Composed.{good}
+use Rattle.sqlstore.proofs.keep.keep_rows.Given as goal
+
+abbrev pub invariant-intents : goal.invariant-intents
+invariant-intents g l =
+    let old = state g.S.Store l.fn.tx.conn.now in
+    let now = state g.S.Store l.tx.conn.now in
+    (l.tx.conn.ghost_name ≡ l.fn.tx.conn.ghost_name) × Survives old now (λ _. ⊥) × (HasCleanDisk now → IsTrue old.in_transaction → Steps {A = ℕ} (Keeps l.visit l.txn (take l.intent-index l.intents)) old now (good 0))

@@ -1,0 +1,15 @@
+use Rattle.std.proofs.Common.{refl, []}
+use Rattle.std.specs.Prelude.{codes, ◌∷◌}
+use Rattle.sqlite.specs.Held.{state}
+use Rattle.sqlstore.specs.Query.{AreSlots, slot_terms}
+use Rattle.sqlstore.specs.Step.{visit_params}
+use Rattle.sqlstore.specs.Tests.{of_visit}
+use Rattle.sqlstore.proofs.Showing.{queries_by}
+use Rattle.sqlstore.proofs.Texts.{slots_text, slots_is, slots_plain, slots_unlisted}
+use Rattle.sqlstore.proofs.reading.slots_of.Goals as goal
+
+pub returns-clause-does : goal.returns-clause-does
+returns-clause-does g c clean =
+    queries_by slots_text 4 of_visit slot_terms (codes "leaf" ∷ codes "id" ∷ []) slots_is slots_plain slots_unlisted (λ _. refl) (visit_params c.args.visit.now) (state g.S.Store c.args.conn.now) (state g.S.Store c.query_all.new.self)
+    (λ db rows. AreSlots c.args.visit.now (db.trees 4) rows.items) (λ rows. rows.items) c.query_all.result (λ rows found. found)
+    (rw (c.number.ensures, c.number-2.ensures) at (c.query_all.ensures.ok clean)) (rw (c.number.ensures, c.number-2.ensures) at (c.query_all.ensures.err clean))

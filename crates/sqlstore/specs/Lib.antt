@@ -1,0 +1,15 @@
+-- What the tables hold, in reading order.
+pub mod Tables
+pub mod Cells
+pub mod Content
+pub mod Sound
+pub mod Intents
+-- What statements make of rows.
+pub mod Tests
+pub mod Rows
+pub mod Step
+pub mod Query
+-- What a store is to its callers.
+pub mod Listed
+pub mod Fresh
+pub mod Site

@@ -1,0 +1,130 @@
+//! Parts from rows.
+
+ghost use Rattle.std.specs.Prelude.{◌≡◌, ◌≢◌, List, IfOk, OnOk, Ok, Err, string_bytes, MatchOption, None, Some};
+ghost use Rattle.std.specs.FinMap as map;
+ghost use Rattle.std.specs.List.{AllByRecursion};
+ghost use Rattle.sqlite_value.specs.Order.{column};
+ghost use Rattle.store.specs.declared.fault.StoreFault.TheVariants.{Refused, Damaged};
+ghost use Rattle.sqlite.specs.declared.types.Value.TheVariants.{Int};
+ghost use Rattle.store.specs.Content.{made_by, parts};
+ghost use Rattle.terms.specs.Row.{key_of};
+ghost use Rattle.terms.specs.Stored.{part_from};
+ghost use Rattle.sqlstore.specs.Cells.{text_at, int_at};
+ghost use Rattle.sqlstore.specs.Content.{leaf_named};
+ghost use Rattle.sqlstore.specs.Listed.{HasCells, with_row, with_rows};
+ghost use Rattle.sqlstore.specs.Sound.{IsPart};
+
+use crate::find::{name_of, part_at};
+use sqlite::Row;
+use sqlite::types::ValueRef;
+use std::alloc::Global;
+use store::changes::Changes;
+use store::fault::StoreFault;
+use terms::cond::Conds;
+use terms::copy::TryCopy;
+use terms::leaf::Leaf;
+use terms::part::Part;
+
+/// The leaf that has this name.
+fn named<'a>(alloc: Global, leaves: &'a [Leaf], name: &[u8]) -> Result<Option<&'a Leaf>, StoreFault>
+    ensures leaf { IfOk result (λ found. MatchOption found (leaf_named leaves.now name.now ≡ None) (λ leaf. leaf_named leaves.now name.now ≡ Some leaf.now)) }
+    ensures memory { (result ≢ Err Damaged) × (result ≢ Err Refused) }
+{
+    for leaf in leaves {
+        let own = name_of(alloc, leaf)?;
+        if name.cmp(own.as_bytes()).is_eq() {
+            return Ok(Some(leaf));
+        }
+    }
+    Ok(None)
+}
+
+/// The leaf and the part that a row has: its number, the leaf's name, the key and the body.
+fn part_row<'a>(
+    alloc: Global,
+    leaves: &'a [Leaf],
+    row: &Row,
+) -> Result<(&'a Leaf, Part), StoreFault>
+    ensures leaf { IfOk result (λ found. leaf_named leaves.now (text_at row.now 1) ≡ Some found.0.now) }
+    ensures part { IfOk result (λ found. (part_from (text_at row.now 3) ≡ Ok found.1) × (key_of found.1 ≡ int_at row.now 2)) }
+    ensures intact { HasCells row.now → IsPart leaves.now row.now → result ≢ Err Damaged }
+    ensures kept { result ≢ Err Refused }
+{
+    let Ok(ValueRef::Text(name)) = row.get_ref(1) else {
+        return Err(StoreFault::Damaged);
+    };
+    let Ok(ValueRef::Int(key)) = row.get_ref(2) else {
+        return Err(StoreFault::Damaged);
+    };
+    let part = match part_at(alloc, row, 3) {
+        Ok(part) => part,
+        Err(fault) => return Err(fault),
+    };
+    let leaf = match named(alloc, leaves, name) {
+        Ok(Some(leaf)) => leaf,
+        Ok(None) => return Err(StoreFault::Damaged),
+        Err(fault) => return Err(fault),
+    };
+    if part.key() == key {
+        Ok((leaf, part))
+    } else {
+        Err(StoreFault::Damaged)
+    }
+}
+
+/// Puts a row's part into changes.
+fn put_row(
+    changes: &mut Changes,
+    alloc: Global,
+    leaves: &[Leaf],
+    row: &Row,
+) -> Result<(), StoreFault>
+    ensures ok { OnOk result ((changes.new ≡ with_row leaves.now row.now changes.old) × IsPart leaves.now row.now) }
+    ensures intact { HasCells row.now → IsPart leaves.now row.now → result ≢ Err Damaged }
+    ensures kept { result ≢ Err Refused }
+{
+    match part_row(alloc, leaves, row) {
+        Ok((leaf, part)) => {
+            let leaf = leaf.copy()?;
+            changes.put(leaf, part)?;
+            Ok(())
+        }
+        Err(fault) => Err(fault),
+    }
+}
+
+/// The changes that make the parts of rows of nothing.
+pub fn changes_of(alloc: Global, leaves: &[Leaf], rows: &[Row]) -> Result<Changes, StoreFault>
+    ensures ok { IfOk result (λ changes. (changes ≡ with_rows leaves.now rows.now map.empty) × AllByRecursion (IsPart leaves.now) rows.now) }
+    ensures intact { AllByRecursion HasCells rows.now → AllByRecursion (IsPart leaves.now) rows.now → result ≢ Err Damaged }
+    ensures kept { result ≢ Err Refused }
+{
+    let mut changes = Changes::new(alloc);
+    for row in rows {
+        put_row(&mut changes, alloc, leaves, row)?;
+    }
+    Ok(changes)
+}
+
+/// The parts that rows make of nothing in a leaf, of those that meet conditions, in the order of their keys.
+pub fn parts_meeting(
+    alloc: Global,
+    leaves: &[Leaf],
+    leaf: &Leaf,
+    conds: &Conds,
+    rows: &[Row],
+) -> Result<Vec<Part>, StoreFault>
+    ensures parts { IfOk result (λ found. found.items ≡ parts conds.now (made_by (with_rows leaves.now rows.now map.empty) leaf.now)) }
+    ensures intact { AllByRecursion HasCells rows.now → AllByRecursion (IsPart leaves.now) rows.now → result ≢ Err Damaged }
+    ensures kept { result ≢ Err Refused }
+{
+    let changes = match changes_of(alloc, leaves, rows) {
+        Ok(changes) => changes,
+        Err(fault) => return Err(fault),
+    };
+    let Ok(mut parts) = changes.list(leaf) else {
+        return Err(StoreFault::Memory);
+    };
+    parts.retain(|part| part.meets(conds.as_slice()));
+    Ok(parts)
+}
