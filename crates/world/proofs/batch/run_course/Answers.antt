@@ -19,7 +19,7 @@ returns g c =
     let one = went_well clean sound view (λ db stated moves. Makes (map (λ text. call.State c.args.begun.txn text) c.as_slice.result.now) stated.came.items stated.ended moves) (λ moves. Makes (map (λ text. call.State c.args.begun.txn text) c.as_slice.result.now) c.in_ok-stated.stated.came.items c.in_ok-stated.stated.ended moves) old c.state_all.new.machines c.in_ok-stated.stated (λ db moves makes. makes) c.in_ok-stated.ensures in
     let two = went_well clean sound view (λ db came moves. (c.in_ok-stated.stated.ended ≡ false → MakesMore (calls_of_end c.args.transaction.now.end c.args.begun.txn) c.in_ok-stated.stated.came.items came.items moves) × (c.in_ok-stated.stated.ended ≡ true → (came.items ≡ c.in_ok-stated.stated.came.items) × (moves ≡ []))) (λ moves. (c.in_ok-stated.stated.ended ≡ false → MakesMore (calls_of_end c.args.transaction.now.end c.args.begun.txn) c.in_ok-stated.stated.came.items c.in_ok-came.came.items moves) × (c.in_ok-stated.stated.ended ≡ true → (c.in_ok-came.came.items ≡ c.in_ok-stated.stated.came.items) × (moves ≡ []))) c.state_all.new.machines c.finish.new.machines c.in_ok-came.came (λ db moves makes. makes) c.in_ok-came.ensures in
     let both = well_then clean sound view old c.state_all.new.machines c.finish.new.machines _ _ (λ moves. (over : Bool) × Makes (calls_of c.args.transaction.now c.args.begun.txn) c.in_ok-came.came.items over moves)
-        (λ first more stated finished. course_made c.args.transaction.now c.args.begun.txn c.as_slice.result.now c.in_ok-stated.stated.came.items c.in_ok-came.came.items c.in_ok-stated.stated.ended first more c.as_slice.ensures stated finished) one two in
+    (λ first more stated finished. course_made c.args.transaction.now c.args.begun.txn c.as_slice.result.now c.in_ok-stated.stated.came.items c.in_ok-came.came.items c.in_ok-stated.stated.ended first more c.as_slice.ensures stated finished) one two in
     runs_well clean sound view _ old c.finish.new.machines _ _
     (λ db moves makes. (refl, c.new.ensures, subst (λ (came : List cames.Came). (ended : Bool) × Makes (calls_of c.args.transaction.now c.args.begun.txn) came ended moves) (sym c.new-2.ensures) makes)) both
 

@@ -21,10 +21,10 @@ returns-in-Ok-run_course g c =
     let first = subst (λ r. ComesTo clean sound view old mid r (λ db. IsOne (λ begun. Begins begun.txn begun.heard.items) call.Begin)) c.in-Ok.is c.begin.ensures in
     let one = answered clean sound view old mid c.in-Ok.begun (Ok tt) tt (λ db moves is. is) first in
     let two = went_well clean sound view (λ db course moves. (course.txn ≡ c.in-Ok.begun.txn) × (course.greeted ≡ c.in-Ok.begun.heard.items) × ((ended : Bool) × Makes (calls_of c.args.transaction.now c.in-Ok.begun.txn) course.came ended moves))
-        (λ moves. (c.in-Ok-run_course.course.txn ≡ c.in-Ok.begun.txn) × (c.in-Ok-run_course.course.greeted ≡ c.in-Ok.begun.heard.items) × ((ended : Bool) × Makes (calls_of c.args.transaction.now c.in-Ok.begun.txn) c.in-Ok-run_course.course.came ended moves))
-        mid c.run_course.new.machines c.in-Ok-run_course.course (λ db moves ran. ran) c.in-Ok-run_course.ensures in
+    (λ moves. (c.in-Ok-run_course.course.txn ≡ c.in-Ok.begun.txn) × (c.in-Ok-run_course.course.greeted ≡ c.in-Ok.begun.heard.items) × ((ended : Bool) × Makes (calls_of c.args.transaction.now c.in-Ok.begun.txn) c.in-Ok-run_course.course.came ended moves))
+    mid c.run_course.new.machines c.in-Ok-run_course.course (λ db moves ran. ran) c.in-Ok-run_course.ensures in
     let both = well_then clean sound view old mid c.run_course.new.machines (λ moves. moves ≡ Begins c.in-Ok.begun.txn c.in-Ok.begun.heard.items ∷ []) _ (RunsOne c.args.transaction.now (Ran c.in-Ok-run_course.course))
-        (λ begins more is ran. runs_begun c.args.transaction.now c.in-Ok.begun.txn c.in-Ok.begun.heard.items c.in-Ok-run_course.course begins more is ran) one two in
+    (λ begins more is ran. runs_begun c.args.transaction.now c.in-Ok.begun.txn c.in-Ok.begun.heard.items c.in-Ok-run_course.course begins more is ran) one two in
     runs_well clean sound view _ old c.run_course.new.machines _ _ (λ db moves runs. runs) both
 
 pub returns-in-Err-run_course : goal.returns-in-Err-run_course

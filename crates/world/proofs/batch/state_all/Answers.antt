@@ -39,10 +39,10 @@ returns-then-ended g c =
     let view = counted g.D.DeskStore.kept g.S.SiteStore.kept g.D.DeskStore.refused g.S.SiteStore.refused in
     let old = c.args.machines.now in
     let both = well_then clean sound view old c.loop-text.machines c.state.new.machines (Makes (map (λ text. call.State c.args.txn text) (take c.loop-text.text-index c.args.texts.now)) c.loop-text.came.items false) (λ moves. moves ≡ moved (call.State c.args.txn c.as_str.result.now) c.in_ok-one.one) (Makes (map (λ text. call.State c.args.txn text) c.args.texts.now) c.push_reserved.new.self.items true)
-        (λ one two makes is. subst (λ (came : List cames.Came). Makes (map (λ text. call.State c.args.txn text) c.args.texts.now) came true (one ++ two)) (sym (c.push_reserved.ensures.items ∙ ap (λ (came : List cames.Came). came ++ c.in_ok-one.one ∷ []) c.make_room.ensures.items))
-        (subst (λ (more : List Move). Makes (map (λ text. call.State c.args.txn text) c.args.texts.now) (c.loop-text.came.items ++ c.in_ok-one.one ∷ []) true (one ++ more)) (sym is)
-        (next_last c.args.txn c.args.texts.now c.loop-text.text-index _ c.as_str.result.now c.loop-text.came.items c.in_ok-one.one one (omega arith) (c.as_str.ensures ∙ c.text-item.is) makes (sym (c.has_ended-ended.ensures c.args.txn c.as_str.result.now) ∙ c.if-ended.true))))
-        c.loop-text.invariant (came_of clean sound view (λ heard. heard.items) (call.State c.args.txn c.as_str.result.now) (λ heard. States c.args.txn c.as_str.result.now heard.items) c.loop-text.machines c.state.new.machines c.state.result c.told.result c.in_ok-one.one c.in_ok-one.was (λ heard. refl) (λ why. refl) c.told.ensures.heard c.told.ensures.refused c.state.ensures) in
+    (λ one two makes is. subst (λ (came : List cames.Came). Makes (map (λ text. call.State c.args.txn text) c.args.texts.now) came true (one ++ two)) (sym (c.push_reserved.ensures.items ∙ ap (λ (came : List cames.Came). came ++ c.in_ok-one.one ∷ []) c.make_room.ensures.items))
+    (subst (λ (more : List Move). Makes (map (λ text. call.State c.args.txn text) c.args.texts.now) (c.loop-text.came.items ++ c.in_ok-one.one ∷ []) true (one ++ more)) (sym is)
+    (next_last c.args.txn c.args.texts.now c.loop-text.text-index _ c.as_str.result.now c.loop-text.came.items c.in_ok-one.one one (omega arith) (c.as_str.ensures ∙ c.text-item.is) makes (sym (c.has_ended-ended.ensures c.args.txn c.as_str.result.now) ∙ c.if-ended.true))))
+    c.loop-text.invariant (came_of clean sound view (λ heard. heard.items) (call.State c.args.txn c.as_str.result.now) (λ heard. States c.args.txn c.as_str.result.now heard.items) c.loop-text.machines c.state.new.machines c.state.result c.told.result c.in_ok-one.one c.in_ok-one.was (λ heard. refl) (λ why. refl) c.told.ensures.heard c.told.ensures.refused c.state.ensures) in
     runs_well clean sound view _ old c.state.new.machines _ _ (λ db moves makes. makes) both
 
 pub returns : goal.returns

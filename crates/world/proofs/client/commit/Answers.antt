@@ -26,11 +26,11 @@ use Rattle.world.proofs.client.commit.Goals as goal
 pub returns-in-Ok : goal.returns-in-Ok
 returns-in-Ok g c = one_call g.D.DeskStore.is_clean g.S.SiteStore.is_clean g.D.DeskStore.is_sound g.S.SiteStore.is_sound g.D.DeskStore.kept g.S.SiteStore.kept g.D.DeskStore.refused g.S.SiteStore.refused (λ heard. Commits c.args.txn heard.items) (call.Commit c.args.txn) c.args.machines.now c.deliver_all.new.machines c.deliver_all.result
     (record {
-  clean = search rules;
-  sound = search rules;
-  counts = no_fewer_then (counts g.D.DeskStore.refused g.S.SiteStore.refused c.args.machines.now) (counts g.D.DeskStore.refused g.S.SiteStore.refused c.commit.new.self) (counts g.D.DeskStore.refused g.S.SiteStore.refused c.deliver_all.new.machines) (none_fewer (counts g.D.DeskStore.refused g.S.SiteStore.refused c.args.machines.now) (counts g.D.DeskStore.refused g.S.SiteStore.refused c.commit.new.self) (uncounted g.D.DeskStore.refused g.S.SiteStore.refused c.commit.ensures.uncalled)) c.deliver_all.ensures.leaves.counts;
-  catalog = search rules;
-})
+      clean = search rules;
+      sound = search rules;
+      counts = no_fewer_then (counts g.D.DeskStore.refused g.S.SiteStore.refused c.args.machines.now) (counts g.D.DeskStore.refused g.S.SiteStore.refused c.commit.new.self) (counts g.D.DeskStore.refused g.S.SiteStore.refused c.deliver_all.new.machines) (none_fewer (counts g.D.DeskStore.refused g.S.SiteStore.refused c.args.machines.now) (counts g.D.DeskStore.refused g.S.SiteStore.refused c.commit.new.self) (uncounted g.D.DeskStore.refused g.S.SiteStore.refused c.commit.ensures.uncalled)) c.deliver_all.ensures.leaves.counts;
+      catalog = search rules;
+    })
     (λ clean sound. call_since c.deliver_all.result (counts g.D.DeskStore.refused g.S.SiteStore.refused c.args.machines.now) (counts g.D.DeskStore.refused g.S.SiteStore.refused c.commit.new.self) (counts g.D.DeskStore.refused g.S.SiteStore.refused c.deliver_all.new.machines) (none_fewer (counts g.D.DeskStore.refused g.S.SiteStore.refused c.args.machines.now) (counts g.D.DeskStore.refused g.S.SiteStore.refused c.commit.new.self) (uncounted g.D.DeskStore.refused g.S.SiteStore.refused c.commit.ensures.uncalled)) (c.deliver_all.ensures.blames clean (c.commit.ensures.leaves.sound (c.deliver_all.ensures.leaves.clean clean) sound)))
     (λ db whole past of law is clean sound served.
     let before = held g.D.DeskStore.kept g.S.SiteStore.kept c.args.machines.now in
@@ -63,11 +63,11 @@ returns-in-Ok g c = one_call g.D.DeskStore.is_clean g.S.SiteStore.is_clean g.D.D
 pub returns-in-Err : goal.returns-in-Err
 returns-in-Err g c = one_call g.D.DeskStore.is_clean g.S.SiteStore.is_clean g.D.DeskStore.is_sound g.S.SiteStore.is_sound g.D.DeskStore.kept g.S.SiteStore.kept g.D.DeskStore.refused g.S.SiteStore.refused (λ heard. Commits c.args.txn heard.items) (call.Commit c.args.txn) c.args.machines.now c.commit.new.self (Err c.in-Err.refusal)
     (record {
-  clean = search rules;
-  sound = search rules;
-  counts = none_fewer (counts g.D.DeskStore.refused g.S.SiteStore.refused c.args.machines.now) (counts g.D.DeskStore.refused g.S.SiteStore.refused c.commit.new.self) (uncounted g.D.DeskStore.refused g.S.SiteStore.refused c.commit.ensures.uncalled);
-  catalog = search rules;
-})
+      clean = search rules;
+      sound = search rules;
+      counts = none_fewer (counts g.D.DeskStore.refused g.S.SiteStore.refused c.args.machines.now) (counts g.D.DeskStore.refused g.S.SiteStore.refused c.commit.new.self) (uncounted g.D.DeskStore.refused g.S.SiteStore.refused c.commit.ensures.uncalled);
+      catalog = search rules;
+    })
     (λ clean sound. c.in-Err.ensures.blames)
     (λ db whole past of law is clean sound served.
     let before = held g.D.DeskStore.kept g.S.SiteStore.kept c.args.machines.now in

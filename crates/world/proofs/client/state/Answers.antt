@@ -24,11 +24,11 @@ use Rattle.world.proofs.client.state.Goals as goal
 pub returns-in-Ok : goal.returns-in-Ok
 returns-in-Ok g c = one_call g.D.DeskStore.is_clean g.S.SiteStore.is_clean g.D.DeskStore.is_sound g.S.SiteStore.is_sound g.D.DeskStore.kept g.S.SiteStore.kept g.D.DeskStore.refused g.S.SiteStore.refused (λ heard. States c.args.txn c.args.text.now heard.items) (call.State c.args.txn c.args.text.now) c.args.machines.now c.deliver_all.new.machines c.deliver_all.result
     (record {
-  clean = search rules;
-  sound = search rules;
-  counts = no_fewer_then (counts g.D.DeskStore.refused g.S.SiteStore.refused c.args.machines.now) (counts g.D.DeskStore.refused g.S.SiteStore.refused c.statement.new.self) (counts g.D.DeskStore.refused g.S.SiteStore.refused c.deliver_all.new.machines) (none_fewer (counts g.D.DeskStore.refused g.S.SiteStore.refused c.args.machines.now) (counts g.D.DeskStore.refused g.S.SiteStore.refused c.statement.new.self) (uncounted g.D.DeskStore.refused g.S.SiteStore.refused c.statement.ensures.uncalled)) c.deliver_all.ensures.leaves.counts;
-  catalog = search rules;
-})
+      clean = search rules;
+      sound = search rules;
+      counts = no_fewer_then (counts g.D.DeskStore.refused g.S.SiteStore.refused c.args.machines.now) (counts g.D.DeskStore.refused g.S.SiteStore.refused c.statement.new.self) (counts g.D.DeskStore.refused g.S.SiteStore.refused c.deliver_all.new.machines) (none_fewer (counts g.D.DeskStore.refused g.S.SiteStore.refused c.args.machines.now) (counts g.D.DeskStore.refused g.S.SiteStore.refused c.statement.new.self) (uncounted g.D.DeskStore.refused g.S.SiteStore.refused c.statement.ensures.uncalled)) c.deliver_all.ensures.leaves.counts;
+      catalog = search rules;
+    })
     (λ clean sound. call_since c.deliver_all.result (counts g.D.DeskStore.refused g.S.SiteStore.refused c.args.machines.now) (counts g.D.DeskStore.refused g.S.SiteStore.refused c.statement.new.self) (counts g.D.DeskStore.refused g.S.SiteStore.refused c.deliver_all.new.machines) (none_fewer (counts g.D.DeskStore.refused g.S.SiteStore.refused c.args.machines.now) (counts g.D.DeskStore.refused g.S.SiteStore.refused c.statement.new.self) (uncounted g.D.DeskStore.refused g.S.SiteStore.refused c.statement.ensures.uncalled)) (c.deliver_all.ensures.blames clean (c.statement.ensures.leaves.sound (c.deliver_all.ensures.leaves.clean clean) sound)))
     (λ db whole past of law is clean sound served.
     let before = held g.D.DeskStore.kept g.S.SiteStore.kept c.args.machines.now in
@@ -61,11 +61,11 @@ returns-in-Ok g c = one_call g.D.DeskStore.is_clean g.S.SiteStore.is_clean g.D.D
 pub returns-in-Err : goal.returns-in-Err
 returns-in-Err g c = one_call g.D.DeskStore.is_clean g.S.SiteStore.is_clean g.D.DeskStore.is_sound g.S.SiteStore.is_sound g.D.DeskStore.kept g.S.SiteStore.kept g.D.DeskStore.refused g.S.SiteStore.refused (λ heard. States c.args.txn c.args.text.now heard.items) (call.State c.args.txn c.args.text.now) c.args.machines.now c.statement.new.self (Err c.in-Err.refusal)
     (record {
-  clean = search rules;
-  sound = search rules;
-  counts = none_fewer (counts g.D.DeskStore.refused g.S.SiteStore.refused c.args.machines.now) (counts g.D.DeskStore.refused g.S.SiteStore.refused c.statement.new.self) (uncounted g.D.DeskStore.refused g.S.SiteStore.refused c.statement.ensures.uncalled);
-  catalog = search rules;
-})
+      clean = search rules;
+      sound = search rules;
+      counts = none_fewer (counts g.D.DeskStore.refused g.S.SiteStore.refused c.args.machines.now) (counts g.D.DeskStore.refused g.S.SiteStore.refused c.statement.new.self) (uncounted g.D.DeskStore.refused g.S.SiteStore.refused c.statement.ensures.uncalled);
+      catalog = search rules;
+    })
     (λ clean sound. c.in-Err.ensures.blames)
     (λ db whole past of law is clean sound served.
     let before = held g.D.DeskStore.kept g.S.SiteStore.kept c.args.machines.now in

@@ -21,7 +21,7 @@ returns-in_ok-add_sent-in-Ok-clause-runs c = λ whole has.
     let clean = are_clean new.machines in
     let db = database (catalogue_of old.machines.desk.catalog) in
     let on = subst (λ r. OnOk (answer_of r) ((on : StepsOn db whole (held desk_kept kept_of old.machines) (held desk_kept kept_of new.machines) old.entries.items new.entries.items has.reached.0)
-        × Holds whole (world_of db (held desk_kept kept_of new.machines) (map (sent db) (letters_in new.entries.items)) (has.reached.0 ++ on.deeds)))) c.in-Ok.is (stepped.goes_on whole has.reached.0 clean has.sound has.reached.1) in
+    × Holds whole (world_of db (held desk_kept kept_of new.machines) (map (sent db) (letters_in new.entries.items)) (has.reached.0 ++ on.deeds)))) c.in-Ok.is (stepped.goes_on whole has.reached.0 clean has.sound has.reached.1) in
     goes_on whole old new stepped.catalog (stepped.sound clean has.sound) has.reached on.0
 
 pub returns-in-Err-clause-runs : goal.returns-in-Err-clause-runs

@@ -31,9 +31,9 @@ returns-clause-executes g c = λ whole past going clean sound served.
 pub returns-clause-served : goal.returns-clause-served
 returns-clause-served g c = λ whole past clean sound served.
     let on = c.command-done.ensures.comes.served (database (catalogue_of c.args.self.now.machines.desk.catalog)) whole past
-        (subst (λ (x : List (List ℕ) × List SplitRelation). IsOfCatalogue (database (catalogue_of x))) c.catalog.ensures c.database_is_of_catalogue.ensures.of_catalogue)
-        (subst (λ (x : List (List ℕ) × List SplitRelation). ReachedLaw (language (database (catalogue_of x)))) c.catalog-2.ensures c.one_client_is_a_run.ensures)
-        refl clean sound served in
+    (subst (λ (x : List (List ℕ) × List SplitRelation). IsOfCatalogue (database (catalogue_of x))) c.catalog.ensures c.database_is_of_catalogue.ensures.of_catalogue)
+    (subst (λ (x : List (List ℕ) × List SplitRelation). ReachedLaw (language (database (catalogue_of x)))) c.catalog-2.ensures c.one_client_is_a_run.ensures)
+    refl clean sound served in
     (on.deeds, on.served)
 
 pub returns-clause-inside : goal.returns-clause-inside

@@ -51,17 +51,17 @@ returns-in-Err-clause-broke g c = λ whole entries past stop clean sound served 
 pub returns-in-Ok-clause-served : goal.returns-in-Ok-clause-served
 returns-in-Ok-clause-served g c = λ whole past clean sound served.
     let on = c.run_all.ensures.served (database (catalogue_of c.args.self.now.machines.desk.catalog)) whole past
-        (subst (λ (x : List (List ℕ) × List SplitRelation). IsOfCatalogue (database (catalogue_of x))) c.catalog.ensures c.database_is_of_catalogue.ensures.of_catalogue)
-        (subst (λ (x : List (List ℕ) × List SplitRelation). ReachedLaw (language (database (catalogue_of x)))) c.catalog-2.ensures c.one_client_is_a_run.ensures)
-        refl clean sound served in
+    (subst (λ (x : List (List ℕ) × List SplitRelation). IsOfCatalogue (database (catalogue_of x))) c.catalog.ensures c.database_is_of_catalogue.ensures.of_catalogue)
+    (subst (λ (x : List (List ℕ) × List SplitRelation). ReachedLaw (language (database (catalogue_of x)))) c.catalog-2.ensures c.one_client_is_a_run.ensures)
+    refl clean sound served in
     (on.deeds, on.served)
 
 pub returns-in-Err-clause-served : goal.returns-in-Err-clause-served
 returns-in-Err-clause-served g c = λ whole past clean sound served.
     let on = c.run_all.ensures.served (database (catalogue_of c.args.self.now.machines.desk.catalog)) whole past
-        (subst (λ (x : List (List ℕ) × List SplitRelation). IsOfCatalogue (database (catalogue_of x))) c.catalog.ensures c.database_is_of_catalogue.ensures.of_catalogue)
-        (subst (λ (x : List (List ℕ) × List SplitRelation). ReachedLaw (language (database (catalogue_of x)))) c.catalog-2.ensures c.one_client_is_a_run.ensures)
-        refl clean sound served in
+    (subst (λ (x : List (List ℕ) × List SplitRelation). IsOfCatalogue (database (catalogue_of x))) c.catalog.ensures c.database_is_of_catalogue.ensures.of_catalogue)
+    (subst (λ (x : List (List ℕ) × List SplitRelation). ReachedLaw (language (database (catalogue_of x)))) c.catalog-2.ensures c.one_client_is_a_run.ensures)
+    refl clean sound served in
     (on.deeds, on.served)
 
 pub returns-in-Err-clause-blames : goal.returns-in-Err-clause-blames

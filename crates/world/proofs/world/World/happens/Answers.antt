@@ -54,7 +54,7 @@ returns-in-Ok-clause-spared g c = λ whole past clean sound run.
     let with_room = subst (λ (entries : List Entry). IsRun db whole before entries past) (sym c.in_ok-make_room.ensures.items) run in
     let refused = HaveRefused (counts g.D.DeskStore.refused g.S.SiteStore.refused c.args.self.now.machines) (counts g.D.DeskStore.refused g.S.SiteStore.refused c.apply_event.new.machines) in
     let spares = spares_pushed refused db before after _ _ _ past (entry_of c.args.event c.in-Ok.out) c.args.event c.in_ok-make_room.ensures.items c.push.ensures
-        (c.in-Ok.ensures.spared db whole past of refl clean sound with_room) in
+    (c.in-Ok.ensures.spared db whole past of refl clean sound with_room) in
     λ number whether is. subst (λ (what : Event). Spares refused db before after c.args.self.now.entries.items c.push.new.self.items past what) is spares
 
 pub returns-in_err-make_room-clause-leaves : goal.returns-in_err-make_room-clause-leaves
