@@ -31,10 +31,14 @@ pub record DeskContent : Type 0 where
 abbrev pub is_txn : Txn → Txn → Bool
 is_txn one other = is_eq (txn_cmp one other)
 
--- at least one voter, and each site once
-pub record AreVoters (voters : List Voter) : Type 0 where
-  pub some : 0 < length voters
-  pub once : IsDistinct (pointwise nat_eq) (map (λ voter. voter.site) voters)
+-- each site once
+abbrev pub AreVoters : List Voter → Type 0
+AreVoters voters = IsDistinct (pointwise nat_eq) (map (λ voter. voter.site) voters)
+
+-- the commit row that voters make: none where there are none
+abbrev pub commit_row : List Voter → Option Voters
+commit_row [] = None
+commit_row (voter ∷ voters) = Some (by_site (voter ∷ voters))
 
 -- nothing has changed
 pub record IsUnchanged (old new : DeskContent) : Type 0 where
@@ -42,11 +46,11 @@ pub record IsUnchanged (old new : DeskContent) : Type 0 where
   pub life : new.life ≡ old.life
   pub version : new.version ≡ old.version
 
--- the transaction has a commit row with these voters
-pub record KeepsCommit (txn : Txn) (voters : List Voter) (old new : DeskContent) : Type 0 where
-  pub commits : (other : Txn) → new.commits other ≡ (if is_txn txn other then Some (by_site voters) else old.commits other)
+-- the transaction has the commit row that these voters make, and the catalogue has this version
+pub record KeepsCommit (txn : Txn) (voters : List Voter) (version : ℕ) (old new : DeskContent) : Type 0 where
+  pub commits : (other : Txn) → new.commits other ≡ (if is_txn txn other then commit_row voters else old.commits other)
   pub life : new.life ≡ old.life
-  pub version : new.version ≡ old.version
+  pub version : new.version ≡ version
 
 -- the transaction's commit row is gone
 pub record DropsCommit (txn : Txn) (old new : DeskContent) : Type 0 where

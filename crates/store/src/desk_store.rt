@@ -22,11 +22,12 @@ pub trait DeskStore {
     /// How often the medium has refused.
     ghost refused: { Self → ℕ };
 
-    /// Keeps that a transaction is committed, until the row is dropped. It has no commit row yet.
-    fn keep_commit(&mut self, txn: Txn, voters: &[Voter]) -> Result<(), StoreFault>
+    /// Keeps that a transaction is committed, until the row is dropped, and which version of the catalogue is in
+    /// force from then on, in one change. It has no commit row yet; without voters it gets none.
+    fn keep_commit(&mut self, txn: Txn, voters: &[Voter], version: u64) -> Result<(), StoreFault>
         ensures leaves { LeavesStore is_clean is_sound refused self.old self.new }
         ensures ok { is_clean self.new → is_sound self.old → (kept self.old).commits txn ≡ None → AreVoters voters.now
-            → OnOk result (KeepsCommit txn voters.now (kept self.old) (kept self.new)) }
+            → OnOk result (KeepsCommit txn voters.now version (kept self.old) (kept self.new)) }
         ensures fails { ChangesOrFails is_clean is_sound kept IsUnchanged refused self.old self.new result };
 
     /// Drops a transaction's commit row, if it has one.
