@@ -1,5 +1,5 @@
 -- What the coordinator's store keeps, and what its calls make of it.
-use Rattle.std.specs.Prelude.{◌≡◌, ℕ, ◌+◌, ◌<◌, List, [], ◌∷◌, map, length, nat_eq, Bool, Option, Some, None, if◌then◌else◌}
+use Rattle.std.specs.Prelude.{◌≡◌, ℕ, ◌+◌, List, [], ◌∷◌, map, nat_eq, Bool, Option, Some, None, if◌then◌else◌}
 use Rattle.std.specs.Cmp.Lexicographic.{pointwise, slice_cmp}
 use Rattle.std.specs.FinMap as keyed
 use Rattle.std.specs.List.{IsDistinct}
@@ -46,11 +46,11 @@ pub record IsUnchanged (old new : DeskContent) : Type 0 where
   pub life : new.life ≡ old.life
   pub version : new.version ≡ old.version
 
--- the transaction has the commit row that these voters make, and the catalogue has this version
-pub record KeepsCommit (txn : Txn) (voters : List Voter) (version : ℕ) (old new : DeskContent) : Type 0 where
+-- the transaction has the commit row that these voters make, and the catalogue of this version is in force
+pub record KeepsCommit (txn : Txn) (voters : List Voter) (in_force : ℕ) (old new : DeskContent) : Type 0 where
   pub commits : (other : Txn) → new.commits other ≡ (if is_txn txn other then commit_row voters else old.commits other)
   pub life : new.life ≡ old.life
-  pub version : new.version ≡ version
+  pub version : new.version ≡ in_force
 
 -- the transaction's commit row is gone
 pub record DropsCommit (txn : Txn) (old new : DeskContent) : Type 0 where

@@ -71,18 +71,15 @@ impl DeskStore for PlainDesk {
 
     ghost refused = { λ _. 0 };
 
-    fn keep_commit(
-        &mut self,
-        txn: Txn,
-        voters: &[Voter],
-        version: u64,
-    ) -> Result<(), StoreFault> {
-        if !voters.is_empty() {
-            let voters = Seq::new(copy_all(self.alloc, voters)?);
-            let Ok(_) = self.commits.insert(txn, voters) else {
-                return Err(StoreFault::Memory);
-            };
+    fn keep_commit(&mut self, txn: Txn, voters: &[Voter], version: u64) -> Result<(), StoreFault> {
+        if voters.is_empty() {
+            self.version = version;
+            return Ok(());
         }
+        let voters = Seq::new(copy_all(self.alloc, voters)?);
+        let Ok(_) = self.commits.insert(txn, voters) else {
+            return Err(StoreFault::Memory);
+        };
         self.version = version;
         Ok(())
     }
