@@ -60,9 +60,9 @@ none_sent : (sites : List (List ℕ)) → list_all (λ a. nat_lt 0 (2 ^ 63)) sit
 none_sent [] = refl
 none_sent (a ∷ sites) = none_sent sites
 
-module _ (db : Database) (kept : DeskContent) (entries : Entries) (undecided life number : ℕ) (fits : Fits db kept (volatile_from entries undecided life number)) (sites : List (List ℕ)) (those : db.sites ≡ sites) where
+module _ (db : Database) (kept : DeskContent) (entries : Entries) (undecided life number version : ℕ) (fits : Fits db kept (volatile_from entries undecided life number version)) (sites : List (List ℕ)) (those : db.sites ≡ sites) where
   abbrev before : VolatileState
-  before = volatile_from entries undecided life number
+  before = volatile_from entries undecided life number version
 
   abbrev next : Txn
   next = next_of before
@@ -71,7 +71,7 @@ module _ (db : Database) (kept : DeskContent) (entries : Entries) (undecided lif
   first = first_of (nowhere_yet sites)
 
   abbrev now : VolatileState
-  now = volatile_from (insert_entry txn_cmp entries next first) (undecided + 1) life (number + 1)
+  now = volatile_from (insert_entry txn_cmp entries next first) (undecided + 1) life (number + 1) version
 
   -- it comes after all others
   above_all : (j : Txn) → In j before.txns → txn_cmp next j ≡ Greater
@@ -150,6 +150,7 @@ module _ (db : Database) (kept : DeskContent) (entries : Entries) (undecided lif
   fits_begun few low = record {
     rows = λ j. ap kept_voters (there j) ∙ stood_all next (Some first) before.standing (λ i o. kept_voters o ≡ kept.commits i) (sym (ap kept_voters nothing) ∙ fits.rows next) (λ i a. fits.rows i) j;
     life = fits.life;
+    version = fits.version;
     listed = λ j e. subst (In j) (sym keys_are) (listed_now j (ap is_some (sym (there j)) ∙ e));
     lives = λ j here. lives_now j (subst (In j) keys_are here);
     begun = λ j e. stood_all next (Some first) before.standing (λ i o. is_some o ≡ true → IsBegun now i) (λ f. inr (refl, omega arith)) (λ i a f. later i (fits.begun i f)) j (ap is_some (sym (there j)) ∙ e);
@@ -166,15 +167,16 @@ module _ (db : Database) (kept : DeskContent) (entries : Entries) (undecided lif
       later : (j : Txn) → IsBegun before j → IsBegun now j
       later j is = ⊎_elim (λ below. inl below) (λ here. inr (here.0, (let f : j.number ≤ number = here.1 in omega arith))) is
 
-  pub begins : (table : VolatileState) (participants : List Participant) (txn : Txn) (written : List Letter) (heard : List Notice) → participants ≡ nowhere_yet sites → table ≡ volatile_from (insert_entry txn_cmp entries next (first_of participants)) (undecided + 1) life (number + 1) →
+  pub begins : (table : VolatileState) (participants : List Participant) (txn : Txn) (written : List Letter) (heard : List Notice) → participants ≡ nowhere_yet sites → table ≡ volatile_from (insert_entry txn_cmp entries next (first_of participants)) (undecided + 1) life (number + 1) version →
       undecided + 1 ≤ 256 → number + 2 ≤ 2 ^ 63 → txn ≡ next → written ≡ [] → heard ≡ notices txn (Some Begun) → Begins db before kept table written heard
   begins table participants txn written heard participants_are table_is few low txn_is none heard_is =
-      let same : table ≡ now = table_is ∙ ap (λ ss. volatile_from (insert_entry txn_cmp entries next (first_of ss)) (undecided + 1) life (number + 1)) participants_are in
+      let same : table ≡ now = table_is ∙ ap (λ ss. volatile_from (insert_entry txn_cmp entries next (first_of ss)) (undecided + 1) life (number + 1) version) participants_are in
       let fit : Fits db kept table = subst (Fits db kept) (sym same) (fits_begun few low) in
       record {
         fits = fit;
         within = is_within db kept table fit;
         state = ap (desk_of db) same ∙ began_state;
+        version = ap (λ t. t.version) same;
         letters = none;
         replies = ap (map notice_of) heard_is ∙ ap (λ t. (txn_name t, Begun) ∷ []) txn_is;
       }

@@ -10,7 +10,7 @@ use Rattle.store.specs.declared.name.Ticket.{Ticket}
 use Rattle.store.specs.declared.name.Txn.{Txn}
 use Rattle.store.specs.declared.reply.Vote.{Vote}
 use Rattle.store.specs.declared.reply.Vote.TheVariants.{Yes, No, Read}
-use Rattle.store.specs.DeskContent.{AreVoters, DeskContent, IsUnchanged, KeepsCommit, by_site, is_txn}
+use Rattle.store.specs.DeskContent.{AreVoters, DeskContent, IsUnchanged, KeepsCommit, by_site, commit_row, is_txn}
 use Rattle.protocol.specs.Desk as desk
 use Rattle.protocol.specs.Language.{Name}
 use Rattle.protocol.specs.Letters.{name_of, txn_name, vote_of}
@@ -145,12 +145,20 @@ voters_once (s ∷ participants) apart = go s.visited s.vote s.ticket (voters_on
     go true (Some Yes) None rest = rest
     go true (Some Yes) (Some k) rest = (others_apart s.site participants apart.0, rest)
 
-pub are_voters : (participants : List Participant) (voters : List Voter) → AreDistinct (sites_of participants) → voters ≡ voters_among participants → 0 < length voters → AreVoters voters
-are_voters participants voters apart same some = record { some = some; once = subst (λ vs. IsDistinct (pointwise nat_eq) (map (λ voter. voter.site) vs)) (sym same) (voters_once participants apart) }
+pub are_voters : (participants : List Participant) (voters : List Voter) → AreDistinct (sites_of participants) → voters ≡ voters_among participants → AreVoters voters
+are_voters participants voters apart same = subst AreVoters (sym same) (voters_once participants apart)
 
 -- the store keeps the row
-pub keeps_row : (txn : Txn) (kept after : DeskContent) (voters same : List Voter) → voters ≡ same → KeepsCommit txn voters kept after → Keeps txn (Some (by_site same)) kept after
-keeps_row txn kept after voters same is keeps = record { commits = λ other. keeps.commits other ∙ ap (λ vs. if is_txn txn other then Some (by_site vs) else kept.commits other) is; life = keeps.life; version = keeps.version }
+pub keeps_row : (txn : Txn) (kept after : DeskContent) (voters same : List Voter) (version : ℕ) → voters ≡ same → 0 < length same → version ≡ kept.version → KeepsCommit txn voters version kept after → Keeps txn (Some (by_site same)) kept after
+keeps_row txn kept after voters same version is some remembered keeps = record {
+  commits = λ other. keeps.commits other ∙ ap (λ vs. if is_txn txn other then commit_row vs else kept.commits other) is ∙ ap (λ row. if is_txn txn other then row else kept.commits other) (row_is same some);
+  life = keeps.life;
+  version = keeps.version ∙ remembered;
+}
+  where
+    row_is : (voters : List Voter) → 0 < length voters → commit_row voters ≡ Some (by_site voters)
+    row_is [] none = absurd (omega arith)
+    row_is (v ∷ voters) some = refl
 
 -- ---- the code's branches
 -- nobody is to be told

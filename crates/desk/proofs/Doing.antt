@@ -275,7 +275,7 @@ works_rows db txn u new site rows of unique reading here first known_in list sam
 
 -- ---- the state in memory
 pub goes_so : (db : Database) (kept : DeskContent) (old : Volatile) (after : VolatileState) (txn : Txn) (u new : Undecided) → Fits db kept (volatile_of old) → (volatile_of old).standing txn ≡ Some (standing.Undecided u) → AreShort new.participants →
-    after ≡ volatile_from (set_value (is_key (txn_cmp txn)) old.standings.entries (standing.Undecided new)) old.undecided old.life old.number → (step : Progress) (turn : desk.Choice (language db) → desk.Txn (language db) → desk.Transition (language db)) →
+    after ≡ volatile_from (set_value (is_key (txn_cmp txn)) old.standings.entries (standing.Undecided new)) old.undecided old.life old.number old.version → (step : Progress) (turn : desk.Choice (language db) → desk.Txn (language db) → desk.Transition (language db)) →
     Does db txn new step (λ choice. turn choice (desk.Known (undecided_of db u))) → GoesOn db old after txn step (λ choice. turn choice (txn_of db ((volatile_of old).standing txn)))
 goes_so db kept old after txn u new fits here short moved step turn does =
     subst (λ o. GoesOn db old after txn step (λ choice. turn choice (txn_of db o))) (sym here) (record {
@@ -286,19 +286,19 @@ goes_so db kept old after txn u new fits here short moved step turn does =
     })
 
 pub goes_ok : (db : Database) (kept : DeskContent) (old : Volatile) (after : VolatileState) (txn : Txn) (u : Undecided) (now : TxnState) → Fits db kept (volatile_of old) → (volatile_of old).standing txn ≡ Some (standing.Undecided u) →
-    after ≡ volatile_from (set_value (is_key (txn_cmp txn)) old.standings.entries now) old.undecided old.life old.number → (turn : desk.Choice (language db) → desk.Txn (language db) → desk.Transition (language db)) → {E : Type 0} (result : Result Progress E) →
+    after ≡ volatile_from (set_value (is_key (txn_cmp txn)) old.standings.entries now) old.undecided old.life old.number old.version → (turn : desk.Choice (language db) → desk.Txn (language db) → desk.Transition (language db)) → {E : Type 0} (result : Result Progress E) →
     OnOk result (IsShort now) → IfOk result (λ step. DoesIn db txn now step (λ choice. turn choice (desk.Known (undecided_of db u)))) → IfOk result (λ step. GoesOn db old after txn step (λ choice. turn choice (txn_of db ((volatile_of old).standing txn))))
 goes_ok db kept old after txn u now fits here moved turn (Err e) short does = tt
 goes_ok db kept old after txn u (standing.Undecided new) fits here moved turn (Ok step) short does = goes_so db kept old after txn u new fits here short moved step turn does
 goes_ok db kept old after txn u (standing.Committed c) fits here moved turn (Ok step) short does = absurd (does)
 
 -- nothing has changed where what stands there is the same
-pub same_table : (old : Volatile) (after : VolatileState) (txn : Txn) (was now : TxnState) → (volatile_of old).standing txn ≡ Some was → after ≡ volatile_from (set_value (is_key (txn_cmp txn)) old.standings.entries now) old.undecided old.life old.number → now ≡ was → after ≡ volatile_of old
+pub same_table : (old : Volatile) (after : VolatileState) (txn : Txn) (was now : TxnState) → (volatile_of old).standing txn ≡ Some was → after ≡ volatile_from (set_value (is_key (txn_cmp txn)) old.standings.entries now) old.undecided old.life old.number old.version → now ≡ was → after ≡ volatile_of old
 same_table old after txn was now here moved same =
-    moved ∙ ap (λ x. volatile_from (set_value (is_key (txn_cmp txn)) old.standings.entries x) old.undecided old.life old.number) same
-    ∙ ap (λ es. volatile_from es old.undecided old.life old.number) (set_value_same (is_key (txn_cmp txn)) old.standings.entries was here)
+    moved ∙ ap (λ x. volatile_from (set_value (is_key (txn_cmp txn)) old.standings.entries x) old.undecided old.life old.number old.version) same
+    ∙ ap (λ es. volatile_from es old.undecided old.life old.number old.version) (set_value_same (is_key (txn_cmp txn)) old.standings.entries was here)
 
-pub same_ok : (old : Volatile) (after : VolatileState) (txn : Txn) (was now : TxnState) → (volatile_of old).standing txn ≡ Some was → after ≡ volatile_from (set_value (is_key (txn_cmp txn)) old.standings.entries now) old.undecided old.life old.number → {A E : Type 0} (result : Result A E) → OnErr result (now ≡ was) → OnErr result (after ≡ volatile_of old)
+pub same_ok : (old : Volatile) (after : VolatileState) (txn : Txn) (was now : TxnState) → (volatile_of old).standing txn ≡ Some was → after ≡ volatile_from (set_value (is_key (txn_cmp txn)) old.standings.entries now) old.undecided old.life old.number old.version → {A E : Type 0} (result : Result A E) → OnErr result (now ≡ was) → OnErr result (after ≡ volatile_of old)
 same_ok old after txn was now here moved (Ok x) same = tt
 same_ok old after txn was now here moved (Err e) same = same_table old after txn was now here moved same
 

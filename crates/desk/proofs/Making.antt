@@ -65,6 +65,7 @@ module _ (db : Database) (kept new : DeskContent) (table : VolatileState) (fits 
   fits_still keeps = record {
     rows = λ j. go j (is_txn k j) refl ∙ sym (keeps.commits j);
     life = fits.life ∙ sym keeps.life;
+    version = fits.version ∙ sym keeps.version;
     listed = fits.listed;
     lives = fits.lives;
     begun = fits.begun;
@@ -104,28 +105,30 @@ module _ (db : Database) (kept new : DeskContent) (volatile : Volatile) (sorted 
 
   -- what is known of the state after it
   pub record IsSettled (turn : Transition) (table : VolatileState) : Type 0 where
-    pub moved : (now : TxnState) → before.standing k ≡ Some now → table ≡ volatile_from (settled k turn.after volatile.standings.entries) (if is_open (Some now) && closes turn.after then volatile.undecided - 1 else volatile.undecided) volatile.life volatile.number
+    pub moved : (now : TxnState) → before.standing k ≡ Some now → table ≡ volatile_from (settled k turn.after volatile.standings.entries) (if is_open (Some now) && closes turn.after then volatile.undecided - 1 else volatile.undecided) volatile.life volatile.number volatile.version
     pub still : turn.after ≡ Stays → table ≡ before
 
   module _ (turn : Transition) (wanted : desk.Transition (language db)) (is : IsTransition db k (before.standing k) turn wanted) (sites : IsInAfter db turn.after) (keeps : Keeps k (kept_voters (after_of (before.standing k) turn.after)) kept new)
       (short : desk.is_short_txn wanted.txn ≡ true) (shut : desk.is_undecided (txn_of db (before.standing k)) ≡ false → desk.is_undecided wanted.txn ≡ false)
       (some : (is_some (before.standing k) ≡ true) ⊎ (turn.after ≡ Stays)) (table : VolatileState) (made : IsSettled turn table) where
     abbrev FitsSo : VolatileState → Type 0
-    FitsSo t = Fits db new t × (desk_of db t ≡ desk.desk_after (desk_of db before) (txn_name k) wanted.txn)
+    FitsSo t = Fits db new t × (desk_of db t ≡ desk.desk_after (desk_of db before) (txn_name k) wanted.txn) × (t.version ≡ before.version)
 
     still_so : turn.after ≡ Stays → FitsSo table
     still_so stays = subst FitsSo (sym (made.still stays)) (
       fits_still db kept new before fits k (subst (λ a. Keeps k (kept_voters (after_of (before.standing k) a)) kept new) stays keeps),
       state_still db kept new before fits k wanted.txn (ap (λ a. txn_of db (after_of (before.standing k) a)) (sym stays) ∙ is.stands),
+      refl,
     )
 
     moved_so : (now : TxnState) → before.standing k ≡ Some now → FitsSo table
     moved_so now e = subst FitsSo (sym (made.moved now e)) (
-      fits_after db kept new volatile.standings.entries sorted volatile.undecided volatile.life volatile.number fits k now e turn.after
+      fits_after db kept new volatile.standings.entries sorted volatile.undecided volatile.life volatile.number volatile.version fits k now e turn.after
           (subst (λ o. Keeps k (kept_voters (after_of o turn.after)) kept new) e keeps) sites
           (ap desk.is_short_txn stands ∙ short)
           (λ was. sym (open_is db (after_of (Some now) turn.after)) ∙ ap desk.is_undecided stands ∙ shut (ap (λ o. desk.is_undecided (txn_of db o)) e ∙ open_is db (Some now) ∙ was)),
-      state_is db kept new volatile.standings.entries sorted volatile.undecided volatile.life volatile.number fits k now e turn.after wanted.txn stands,
+      state_is db kept new volatile.standings.entries sorted volatile.undecided volatile.life volatile.number volatile.version fits k now e turn.after wanted.txn stands,
+      refl,
     )
       where
         stands : txn_of db (after_of (Some now) turn.after) ≡ wanted.txn
@@ -142,7 +145,8 @@ module _ (db : Database) (kept new : DeskContent) (volatile : Volatile) (sorted 
     makes written heard letters replies = record {
       fits = so.0;
       within = is_within db new table so.0;
-      state = so.1;
+      state = so.1.0;
+      version = so.1.1;
       letters = ap (map (sent db)) letters ∙ is.letters;
       replies = ap (map notice_of) replies ∙ told_is k turn.reply ∙ is.replies;
     }
@@ -190,7 +194,7 @@ module _ (db : Database) (kept : DeskContent) (volatile : Volatile) (sorted : Is
     (old new : Undecided) (here : (volatile_of volatile).standing k ≡ Some (standing.Undecided old)) where
   -- what is in memory then
   abbrev gone_on : VolatileState
-  gone_on = volatile_from (set_value (is_key (txn_cmp k)) volatile.standings.entries (standing.Undecided new)) volatile.undecided volatile.life volatile.number
+  gone_on = volatile_from (set_value (is_key (txn_cmp k)) volatile.standings.entries (standing.Undecided new)) volatile.undecided volatile.life volatile.number volatile.version
 
   never : (b : Bool) → (b && false) ≡ false
   never true = refl
@@ -205,7 +209,7 @@ module _ (db : Database) (kept : DeskContent) (volatile : Volatile) (sorted : Is
       (keeps_same k None kept kept (sym (fits.rows k) ∙ ap kept_voters here) (unchanged kept)) short
       (λ shut. clash (ap (λ o. desk.is_undecided (txn_of db o)) here) shut) (inl (ap is_some here)) table
       (record {
-        moved = λ now is. table_is ∙ ap (λ n. volatile_from (set_value (is_key (txn_cmp k)) volatile.standings.entries (standing.Undecided new)) n volatile.life volatile.number) (sym (if_false (is_open (Some now) && false) (volatile.undecided - 1) volatile.undecided (never (is_open (Some now)))));
+        moved = λ now is. table_is ∙ ap (λ n. volatile_from (set_value (is_key (txn_cmp k)) volatile.standings.entries (standing.Undecided new)) n volatile.life volatile.number volatile.version) (sym (if_false (is_open (Some now) && false) (volatile.undecided - 1) volatile.undecided (never (is_open (Some now)))));
         still = λ stays. cc;
       }) written heard written_is heard_is
 

@@ -157,10 +157,10 @@ module _ (db : Database) where
       told_more : (ds es : List (desk.Deed (language db))) → filter_map (told db) (ds ++ es) ≡ filter_map (told db) ds ++ filter_map (told db) es
       told_more ds es = filter_map-append (told db) ds es
 
-module _ (db : Database) (old new : DeskContent) (entries : Entries) (sorted : IsStrictlySortedBy txn_cmp (keys_of entries)) (undecided life number : ℕ) (fits : Fits db old (volatile_from entries undecided life number))
+module _ (db : Database) (old new : DeskContent) (entries : Entries) (sorted : IsStrictlySortedBy txn_cmp (keys_of entries)) (undecided life number version : ℕ) (fits : Fits db old (volatile_from entries undecided life number version))
     (after : VolatileState) (ascend : IsStrictlySortedBy txn_cmp after.txns) (rises : Rises db new after) (begins : BeginsLife old new) where
   abbrev before : VolatileState
-  before = volatile_from entries undecided life number
+  before = volatile_from entries undecided life number version
 
   abbrev is_row : Txn → Bool
   is_row j = is_some (old.commits j)
@@ -229,6 +229,7 @@ module _ (db : Database) (old new : DeskContent) (entries : Entries) (sorted : I
     fits = subst (Fits db new) (sym table_is) rises.fits;
     within = ap (λ t. desk.is_desk_within (desk_of db t)) table_is ∙ rises.within;
     state = ap (desk_of db) table_is ∙ state_is;
+    version = ap (λ t. t.version) table_is ∙ rises.fits.version ∙ begins.version ∙ sym fits.version;
     letters = letters_are written sends;
     again = sends;
     replies = ap (map notice_of) heard_is ∙ replies_are;

@@ -129,7 +129,7 @@ module _ (db : Database) (all : DeskKept) (kept after : DeskContent) (lists : Li
   entries = stood_by (map (row_in_order db.sites) all.commits) []
 
   abbrev table : VolatileState
-  table = volatile_from entries 0 after.life 0
+  table = volatile_from entries 0 after.life 0 after.version
 
   row_is : (j : Txn) → option_map by_site (voters_in j all.commits) ≡ after.commits j
   row_is j = lists.rows j ∙ sym (life.commits j)
@@ -179,6 +179,7 @@ module _ (db : Database) (all : DeskKept) (kept after : DeskContent) (lists : Li
   fits = record {
     rows = λ j. ap kept_voters (there j) ∙ ap (λ r. kept_voters (resting db.sites r)) (sym (row_is j)) ∙ voters_are j (voters_in j all.commits) refl ∙ row_is j;
     life = refl;
+    version = refl;
     listed = λ j e. some_listed entries j e;
     lives = λ j here. listed_some entries j here;
     begun = λ j e.
@@ -194,7 +195,7 @@ module _ (db : Database) (all : DeskKept) (kept after : DeskContent) (lists : Li
     low = ((let a : after.life ≡ kept.life + 1 = life.life in omega arith), omega arith);
   }
 
-  pub rises : (es : Entries) (n : ℕ) → es ≡ entries → n ≡ after.life → Rises db after (volatile_from es 0 n 0)
-  rises es n es_are n_is =
-      subst (λ m. Rises db after (volatile_from es 0 m 0)) (sym n_is) (subst (λ x. Rises db after (volatile_from x 0 after.life 0)) (sym es_are)
-      (record { fits = fits; within = is_within db after table fits; stands = there; undecided = refl; number = refl }))
+  pub rises : (es : Entries) (n version : ℕ) → es ≡ entries → n ≡ after.life → version ≡ all.version → Rises db after (volatile_from es 0 n 0 version)
+  rises es n version es_are n_is version_is =
+      subst (Rises db after) (λ i. volatile_from (sym es_are i) 0 (sym n_is i) 0 (sym (version_is ∙ lists.catalogue ∙ sym life.version) i))
+      (record { fits = fits; within = is_within db after table fits; stands = there; undecided = refl; number = refl })

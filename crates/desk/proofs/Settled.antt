@@ -42,10 +42,10 @@ open_some None e = cc
 open_some (Some s) e = refl
 
 -- ---- a step of one transaction
-module _ (db : Database) (kept new : DeskContent) (entries : Entries) (sorted : IsStrictlySortedBy txn_cmp (keys_of entries)) (undecided life number : ℕ)
-    (fits : Fits db kept (volatile_from entries undecided life number)) (k : Txn) (now : TxnState) (here : at_txn entries k ≡ Some now) (after : After) where
+module _ (db : Database) (kept new : DeskContent) (entries : Entries) (sorted : IsStrictlySortedBy txn_cmp (keys_of entries)) (undecided life number version : ℕ)
+    (fits : Fits db kept (volatile_from entries undecided life number version)) (k : Txn) (now : TxnState) (here : at_txn entries k ≡ Some now) (after : After) where
   abbrev before : VolatileState
-  before = volatile_from entries undecided life number
+  before = volatile_from entries undecided life number version
 
   abbrev next : Option TxnState
   next = after_of (Some now) after
@@ -54,7 +54,7 @@ module _ (db : Database) (kept new : DeskContent) (entries : Entries) (sorted : 
   left = if is_open (Some now) && closes after then undecided - 1 else undecided
 
   abbrev table : VolatileState
-  table = volatile_from (settled k after entries) left life number
+  table = volatile_from (settled k after entries) left life number version
 
   there : (j : Txn) → table.standing j ≡ stood k next before.standing j
   there j = go after
@@ -179,6 +179,7 @@ module _ (db : Database) (kept new : DeskContent) (entries : Entries) (sorted : 
     fits_after = record {
       rows = rows_are;
       life = fits.life ∙ sym keeps.life;
+      version = fits.version ∙ sym keeps.version;
       listed = λ j e. subst (In j) (sym keys_are) (in_filter stands_still j before.txns (fits.listed j (was_there j e)) e);
       lives = λ j listed. (from_filter stands_still j before.txns (subst (In j) keys_are listed)).1;
       begun = λ j e. fits.begun j (was_there j e);

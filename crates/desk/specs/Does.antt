@@ -78,7 +78,7 @@ pub record Takes (db : Database) (before : VolatileState) (kept : DeskContent) (
 -- a statement goes on in memory
 pub record GoesOn (db : Database) (old : Volatile) (after : VolatileState) (txn : Txn) (made : Progress) (wanted : protocol.Choice (language db) → protocol.Transition (language db)) : Type 0 where
   pub new : Undecided
-  pub moved : after ≡ volatile_from (set_value (is_at (txn_cmp txn)) old.standings.entries (standing.Undecided new)) old.undecided old.life old.number
+  pub moved : after ≡ volatile_from (set_value (is_at (txn_cmp txn)) old.standings.entries (standing.Undecided new)) old.undecided old.life old.number old.version
   pub does : Does db txn new made wanted
   pub short : protocol.is_short_txn (wanted does.choice).txn ≡ true
 

@@ -107,6 +107,7 @@ pub record Restarts (db : Database) (before : VolatileState) (kept : DeskContent
   pub fits : Fits db kept after
   pub within : protocol.is_desk_within (desk_of db after) ≡ true
   pub state : desk_of db after ≡ protocol.desk_restarted (desk_of db before)
+  pub version : after.version ≡ before.version
   pub letters : map (sent db) written ≡ flat_map (λ t. (protocol.txn_restarted t ((desk_of db before).txn t)).letters) (desk_of db before).known
   pub again : SendsAgain db.sites kept written
   pub replies : map notice_of notices ≡ filter_map (told db) (flat_map (λ t. (protocol.txn_restarted t ((desk_of db before).txn t)).deeds) (desk_of db before).known)

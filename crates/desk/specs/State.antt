@@ -32,12 +32,14 @@ pub record VolatileState : Type 0 where
   pub undecided : ℕ
   pub life : ℕ
   pub number : ℕ
+  -- the catalogue's version that the store has loaded
+  pub version : ℕ
 
-abbrev pub volatile_from : List (Txn × TxnState) → ℕ → ℕ → ℕ → VolatileState
-volatile_from entries undecided life number = record { standing = λ txn. lookup (is_at (txn_cmp txn)) entries; txns = keys_of entries; undecided = undecided; life = life; number = number }
+abbrev pub volatile_from : List (Txn × TxnState) → ℕ → ℕ → ℕ → ℕ → VolatileState
+volatile_from entries undecided life number version = record { standing = λ txn. lookup (is_at (txn_cmp txn)) entries; txns = keys_of entries; undecided = undecided; life = life; number = number; version = version }
 
 abbrev pub volatile_of : Volatile → VolatileState
-volatile_of volatile = volatile_from volatile.standings.entries volatile.undecided volatile.life volatile.number
+volatile_of volatile = volatile_from volatile.standings.entries volatile.undecided volatile.life volatile.number volatile.version
 
 -- the transaction of a name
 abbrev pub txn_at : Name → Txn
@@ -90,6 +92,8 @@ pub record Fits (db : Database) (kept : DeskContent) (table : VolatileState) : T
   -- the voters of decided transactions are those of the store's rows
   pub rows : (txn : Txn) → kept_voters (table.standing txn) ≡ kept.commits txn
   pub life : table.life ≡ kept.life
+  -- the version remembered is the store's
+  pub version : table.version ≡ kept.version
   -- the list has the transactions behind which something stands
   pub listed : (txn : Txn) → is_some (table.standing txn) ≡ true → In txn table.txns
   pub lives : (txn : Txn) → In txn table.txns → is_some (table.standing txn) ≡ true
@@ -119,6 +123,7 @@ pub record Steps (db : Database) (before : VolatileState) (kept : DeskContent) (
   pub fits : Fits db kept after
   pub within : protocol.is_desk_within (desk_of db after) ≡ true
   pub state : desk_of db after ≡ protocol.desk_after (desk_of db before) (txn_name txn) wanted.txn
+  pub version : after.version ≡ before.version
   pub letters : map (sent db) written ≡ wanted.letters
   pub replies : map notice_of notices ≡ filter_map (told db) wanted.deeds
 
@@ -127,5 +132,6 @@ pub record Begins (db : Database) (before : VolatileState) (kept : DeskContent) 
   pub fits : Fits db kept after
   pub within : protocol.is_desk_within (desk_of db after) ≡ true
   pub state : desk_of db after ≡ protocol.desk_began (desk_of db before)
+  pub version : after.version ≡ before.version
   pub letters : written ≡ []
   pub replies : map notice_of notices ≡ filter_map (told db) (protocol.Began (protocol.next_txn (desk_of db before)) ∷ [])

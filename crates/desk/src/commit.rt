@@ -131,6 +131,7 @@ pub(crate) fn on_vote<S: DeskStore>(
     undecided: &Undecided,
     site: &Text,
     voted: Voted,
+    version: u64,
     kept: bool,
 ) -> Result<Transition, Memory>
     ensures store { StepsStore S.is_clean S.is_sound S.kept S.refused store.old store.new kept result (λ turn. turn.kept) ((db : Database) → AreParticipants db undecided.now.participants → CallsStore {L = language db} site.now (replied db (reply.Voted voted)) (Known (undecided_of db undecided.now))) }
@@ -138,7 +139,7 @@ pub(crate) fn on_vote<S: DeskStore>(
         → IfOk result (λ turn. IsTransition db txn (Some (standing.Undecided undecided.now)) turn
         (on_known (txn_name txn) (undecided_of db undecided.now) site.now turn.kept choice (replied db (reply.Voted voted)))) }
     ensures sites { AreDistinct (sites_of undecided.now.participants) → IfOk result (λ turn. AtSites (sites_of undecided.now.participants) turn.after) }
-    ensures keeps { (db : Database) → AreParticipants db undecided.now.participants → S.is_clean store.new → S.is_sound store.old → (S.kept store.old).commits txn ≡ None
+    ensures keeps { (db : Database) → AreParticipants db undecided.now.participants → S.is_clean store.new → S.is_sound store.old → (S.kept store.old).commits txn ≡ None → version ≡ (S.kept store.old).version
         → IfOk result (λ turn. Keeps txn (kept_voters (after_of (Some (standing.Undecided undecided.now)) turn.after)) (S.kept store.old) (S.kept store.new)) }
 {
     if !counts(undecided, site, &voted.ticket) {
@@ -155,7 +156,7 @@ pub(crate) fn on_vote<S: DeskStore>(
             true,
         );
     }
-    votes_go(store, alloc, txn, participants, kept)
+    votes_go(store, alloc, txn, participants, version, kept)
 }
 
 /// The first phase goes on with these votes. With all of them in, none NO, the transaction is decided:
@@ -166,13 +167,14 @@ pub(crate) fn votes_go<S: DeskStore>(
     alloc: Global,
     txn: Txn,
     participants: Vec<Participant>,
+    version: u64,
     kept: bool,
 ) -> Result<Transition, Memory>
     ensures store { StepsStore S.is_clean S.is_sound S.kept S.refused store.old store.new kept result (λ turn. turn.kept) ((db : Database) → AreParticipants db participants.items → Decides (undecided_of db (voting participants.items)) (votes_of participants.items)) }
     ensures turn { (db : Database) (old : Option TxnStateNow) → AreParticipants db participants.items
         → IfOk result (λ turn. IsTransition db txn old turn (votes_go (txn_name txn) (undecided_of db (voting participants.items)) (votes_of participants.items) turn.kept)) }
     ensures sites { AreDistinct (sites_of participants.items) → IfOk result (λ turn. AtSites (sites_of participants.items) turn.after) }
-    ensures keeps { (db : Database) (old : Option TxnStateNow) → AreParticipants db participants.items → kept_voters old ≡ None → S.is_clean store.new → S.is_sound store.old → (S.kept store.old).commits txn ≡ None
+    ensures keeps { (db : Database) (old : Option TxnStateNow) → AreParticipants db participants.items → kept_voters old ≡ None → S.is_clean store.new → S.is_sound store.old → (S.kept store.old).commits txn ≡ None → version ≡ (S.kept store.old).version
         → IfOk result (λ turn. Keeps txn (kept_voters (after_of old turn.after)) (S.kept store.old) (S.kept store.new)) }
 {
     if !are_all_in(&participants) {
@@ -182,7 +184,7 @@ pub(crate) fn votes_go<S: DeskStore>(
     if are_none(&voters) {
         return Ok(commits_at_once(alloc));
     }
-    decides(store, alloc, txn, &participants, voters, kept)
+    decides(store, alloc, txn, &participants, voters, version, kept)
 }
 
 /// Whether nobody is to be told.
@@ -216,7 +218,7 @@ pub(crate) fn commits_at_once(alloc: Global) -> Transition
     }
 }
 
-/// Keeps the commit row, and then each voter hears Commit; a transaction whose row isn't kept aborts. The
+/// Keeps the commit row beside the catalogue's version, and then each voter hears Commit; a transaction whose row isn't kept aborts. The
 /// letters are made before the store is called.
 fn decides<S: DeskStore>(
     store: &mut S,
@@ -224,13 +226,14 @@ fn decides<S: DeskStore>(
     txn: Txn,
     participants: &[Participant],
     voters: Vec<Voter>,
+    version: u64,
     kept: bool,
 ) -> Result<Transition, Memory>
     ensures store { StepsStore S.is_clean S.is_sound S.kept S.refused store.old store.new kept result (λ turn. turn.kept) (⊤) }
     ensures turn { (db : Database) (old : Option TxnStateNow) → AreParticipants db participants.now → 0 < length voters.items
         → IfOk result (λ turn. IsTransition db txn old turn (decides (txn_name txn) (undecided_of db (voting participants.now)) turn.kept (map voter_of voters.items))) }
     ensures sites { (sites : List (List ℕ)) → AreInOrder sites voters.items → IfOk result (λ turn. AtSites sites turn.after) }
-    ensures keeps { (old : Option TxnStateNow) → AreVoters voters.items → S.is_clean store.new → S.is_sound store.old → (S.kept store.old).commits txn ≡ None
+    ensures keeps { (old : Option TxnStateNow) → AreVoters voters.items → 0 < length voters.items → S.is_clean store.new → S.is_sound store.old → (S.kept store.old).commits txn ≡ None → version ≡ (S.kept store.old).version
         → IfOk result (λ turn. Keeps txn (kept_voters (after_of old turn.after)) (S.kept store.old) (S.kept store.new)) }
 {
     let aborts = unkept(alloc, txn, participants)?;
@@ -238,7 +241,7 @@ fn decides<S: DeskStore>(
         return Ok(aborts);
     }
     let letters = commit_letters(alloc, txn, &voters)?;
-    match store.keep_commit(txn, &voters) {
+    match store.keep_commit(txn, &voters, version) {
         Ok(()) => Ok(Transition {
             after: After::Becomes(TxnState::Committed(Committed {
                 voters: Seq::new(voters),

@@ -84,6 +84,7 @@ impl<S: DeskStore> Desk<S> {
                     undecided: 0,
                     life: begun.life,
                     number: 0,
+                    version: begun.version,
                 },
             }),
             Err(refusal) => Err(Unstarted {

@@ -114,6 +114,7 @@ fn on_open<S: DeskStore>(
     undecided: &Undecided,
     site: &Text,
     reply: &Reply,
+    version: u64,
     kept: bool,
 ) -> Result<Transition, Memory>
     requires { goes_on (participant_in site.now undecided.now.participants).ticket reply.now ≡ false }
@@ -122,11 +123,11 @@ fn on_open<S: DeskStore>(
         → IfOk result (λ turn. IsTransition db txn (Some (standings.Undecided undecided.now)) turn
         (on_known (txn_name txn) (undecided_of db undecided.now) site.now turn.kept choice (replied db reply.now))) }
     ensures sites { AreDistinct (sites_of undecided.now.participants) → IfOk result (λ turn. AtSites (sites_of undecided.now.participants) turn.after) }
-    ensures keeps { (db : Database) → AreParticipants db undecided.now.participants → S.is_clean store.new → S.is_sound store.old → (S.kept store.old).commits txn ≡ None
+    ensures keeps { (db : Database) → AreParticipants db undecided.now.participants → S.is_clean store.new → S.is_sound store.old → (S.kept store.old).commits txn ≡ None → version ≡ (S.kept store.old).version
         → IfOk result (λ turn. Keeps txn (kept_voters (after_of (Some (standings.Undecided undecided.now)) turn.after)) (S.kept store.old) (S.kept store.new)) }
 {
     match reply {
-        Reply::Voted(voted) => on_vote(store, alloc, txn, undecided, site, *voted, kept),
+        Reply::Voted(voted) => on_vote(store, alloc, txn, undecided, site, *voted, version, kept),
         Reply::Refused(refusal) => on_refusal(alloc, txn, undecided, site, *refusal),
         Reply::Ticket(ticket) => on_another(alloc, txn, undecided, site, *ticket),
         Reply::Rows(_) => Ok(stays(alloc, true)),
@@ -149,7 +150,7 @@ fn step<S: DeskStore>(
     ensures turn { (db : Database) (choice : Choice (language db)) → IsAt db ((volatile_of volatile.now).standing txn)
         → IfOk result (λ turn. IsTransition db txn ((volatile_of volatile.now).standing txn) turn (on_desk_letter (txn_name txn) site.now turn.kept choice (replied db reply.now) (txn_in db (volatile_of volatile.now) txn))) }
     ensures sites { (db : Database) → IsAt db ((volatile_of volatile.now).standing txn) → IfOk result (λ turn. AtSites db.sites turn.after) }
-    ensures keeps { (db : Database) → IsAt db ((volatile_of volatile.now).standing txn) → S.is_clean store.new → S.is_sound store.old → (S.kept store.old).commits txn ≡ kept_voters ((volatile_of volatile.now).standing txn)
+    ensures keeps { (db : Database) → IsAt db ((volatile_of volatile.now).standing txn) → S.is_clean store.new → S.is_sound store.old → (S.kept store.old).commits txn ≡ kept_voters ((volatile_of volatile.now).standing txn) → (volatile_of volatile.now).version ≡ (S.kept store.old).version
         → IfOk result (λ turn. Keeps txn (kept_voters (after_of ((volatile_of volatile.now).standing txn) turn.after)) (S.kept store.old) (S.kept store.new)) }
     ensures stands { IfOk result (λ turn. (is_some ((volatile_of volatile.now).standing txn) ≡ true) ⊎ (turn.after ≡ after.Stays)) }
 {
@@ -157,7 +158,8 @@ fn step<S: DeskStore>(
     match volatile.standing(&txn) {
         None => on_unknown(alloc, txn, site, reply),
         Some(TxnState::Undecided(undecided)) => {
-            on_open(store, alloc, txn, undecided, site, reply, kept)
+            let version = volatile.version;
+            on_open(store, alloc, txn, undecided, site, reply, version, kept)
         }
         Some(TxnState::Committed(committed)) => {
             on_row(store, alloc, txn, committed, site, reply, kept)

@@ -37,6 +37,8 @@ pub(crate) struct Beginning {
     pub(crate) standings: TxnStates,
     pub(crate) letters: Vec<Letter>,
     pub(crate) life: u64,
+    /// The catalogue's version.
+    pub(crate) version: u64,
 }
 
 /// The voter of a site, if there is one among these.
@@ -170,7 +172,7 @@ pub(crate) fn begin<S: DeskStore>(
     sites: &[Text],
 ) -> Result<Beginning, Refusal>
     ensures begins { BeginsOrFails S.is_clean S.is_sound S.kept S.refused sites.now store.old store.new result }
-    ensures rises { (db : Database) → db.sites ≡ sites.now → S.is_clean store.new → IfOk result (λ begun. Rises db (S.kept store.new) (volatile_from begun.standings.entries 0 begun.life 0)) }
+    ensures rises { (db : Database) → db.sites ≡ sites.now → S.is_clean store.new → IfOk result (λ begun. Rises db (S.kept store.new) (volatile_from begun.standings.entries 0 begun.life 0 begun.version)) }
     ensures letters { S.is_clean store.new → IfOk result (λ begun. SendsAgain sites.now (S.kept store.new) begun.letters.items) }
     ensures ordered { IfOk result (λ begun. IsOrdered txn_cmp begun.standings) }
     ensures refusal { result ≡ Err (refusals.Store store_faults.Refused) → HasRefused (S.refused store.old) (S.refused store.new) }
@@ -193,6 +195,7 @@ pub(crate) fn begin<S: DeskStore>(
             standings,
             letters,
             life,
+            version: all.version,
         }),
         Err(fault) => Err(store_refusal(fault)),
     }
@@ -221,7 +224,7 @@ pub(crate) fn restart<S: DeskStore>(
 
 /// What was in memory is lost, and a life has begun.
 fn rise(volatile: &mut Volatile, begun: Beginning, replies: Vec<Notice>) -> Out
-    ensures begun { volatile_of volatile.new ≡ volatile_from begun.standings.entries 0 begun.life 0 }
+    ensures begun { volatile_of volatile.new ≡ volatile_from begun.standings.entries 0 begun.life 0 begun.version }
     ensures puts_out { PutsOut result begun.letters.items replies.items }
     ensures ordered { IsOrdered txn_cmp volatile.old.standings }
 {
@@ -229,8 +232,9 @@ fn rise(volatile: &mut Volatile, begun: Beginning, replies: Vec<Notice>) -> Out
         standings,
         letters,
         life,
+        version,
     } = begun;
-    volatile.restart(standings, life);
+    volatile.restart(standings, life, version);
     Out {
         letters: Seq::new(letters),
         replies: Seq::new(replies),

@@ -127,7 +127,7 @@ pub(crate) fn make(volatile: &mut Volatile, txn: Txn, turn: Transition, room: Ve
     ensures replies { room.items ≡ [] → result.replies ≡ notices txn turn.reply }
     ensures kept { result.kept ≡ turn.kept }
     ensures settled { (now : TxnStateNow) → (volatile_of volatile.old).standing txn ≡ Some now
-        → volatile_of volatile.new ≡ volatile_from (settled txn turn.after volatile.old.standings.entries) (if is_open (Some now) && closes turn.after then volatile.old.undecided - 1 else volatile.old.undecided) volatile.old.life volatile.old.number }
+        → volatile_of volatile.new ≡ volatile_from (settled txn turn.after volatile.old.standings.entries) (if is_open (Some now) && closes turn.after then volatile.old.undecided - 1 else volatile.old.undecided) volatile.old.life volatile.old.number volatile.old.version }
     ensures still { turn.after ≡ after.Stays → volatile_of volatile.new ≡ volatile_of volatile.old }
     ensures ordered { IsOrdered txn_cmp volatile.old.standings }
 {

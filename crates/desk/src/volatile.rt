@@ -38,6 +38,8 @@ pub(crate) struct Volatile {
     pub(crate) life: u64,
     /// The number of the last transaction that was begun in this life.
     pub(crate) number: u64,
+    /// The catalogue's version, as the store keeps it.
+    pub(crate) version: u64,
 }
 
 /// Whether a transaction is undecided.
@@ -113,7 +115,7 @@ impl Volatile {
     /// A transaction begins, with these participants: the next one of this life.
     pub(crate) fn begin(&mut self, participants: Vec<Participant>) -> Result<Txn, Refusal>
         ensures txn { IfOk result (λ txn. txn ≡ next_of (volatile_of self.old)) }
-        ensures ok { OnOk result (volatile_of self.new ≡ volatile_from (insert_entry txn_cmp self.old.standings.entries (next_of (volatile_of self.old)) (first_of participants.items)) (self.old.undecided + 1) self.old.life (self.old.number + 1)) }
+        ensures ok { OnOk result (volatile_of self.new ≡ volatile_from (insert_entry txn_cmp self.old.standings.entries (next_of (volatile_of self.old)) (first_of participants.items)) (self.old.undecided + 1) self.old.life (self.old.number + 1) self.old.version) }
         ensures limits { OnOk result (self.old.undecided + 1 ≤ 256) }
         ensures last { OnOk result (self.old.number + 2 ≤ 2 ^ 63) }
         ensures err { OnErr result (volatile_of self.new ≡ volatile_of self.old) }
@@ -137,7 +139,7 @@ impl Volatile {
     /// A transaction has made a step.
     pub(crate) fn settle(&mut self, txn: &Txn, after: After)
         ensures settled { (now : TxnStateNow) → (volatile_of self.old).standing txn.now ≡ Some now
-            → volatile_of self.new ≡ volatile_from (settled txn.now after self.old.standings.entries) (if is_open (Some now) && closes after then self.old.undecided - 1 else self.old.undecided) self.old.life self.old.number }
+            → volatile_of self.new ≡ volatile_from (settled txn.now after self.old.standings.entries) (if is_open (Some now) && closes after then self.old.undecided - 1 else self.old.undecided) self.old.life self.old.number self.old.version }
         ensures still { after ≡ afters.Stays → volatile_of self.new ≡ volatile_of self.old }
         ensures ordered { IsOrdered txn_cmp self.old.standings }
     {
@@ -153,8 +155,8 @@ impl Volatile {
     }
 
     /// What was in memory is lost, and another life has begun: what stands now are decided transactions.
-    pub(crate) fn restart(&mut self, rows: TxnStates, life: u64)
-        ensures begun { volatile_of self.new ≡ volatile_from rows.entries 0 life 0 }
+    pub(crate) fn restart(&mut self, rows: TxnStates, life: u64, version: u64)
+        ensures begun { volatile_of self.new ≡ volatile_from rows.entries 0 life 0 version }
         ensures ordered { IsOrdered txn_cmp self.old.standings }
     {
         let _count = self.standings.len();
@@ -162,6 +164,7 @@ impl Volatile {
         self.undecided = 0;
         self.life = life;
         self.number = 0;
+        self.version = version;
     }
 }
 

@@ -1,5 +1,5 @@
 -- Why `decides` meets its contract.
-use Rattle.std.proofs.Common.{map, refl, sym, ap, ◌∙◌, inl, inr, subst, Ok, arith, rules}
+use Rattle.std.proofs.Common.{map, refl, sym, ap, ◌∙◌, inl, inr, subst, Ok, arith, rules, ◌<◌, length}
 use Rattle.terms.specs.declared.memory.Memory.{Memory}
 use Rattle.store.specs.DeskContent.{AreVoters}
 use Rattle.protocol.specs.Desk.{Row}
@@ -16,7 +16,7 @@ returns-then-not-kept-clause-turn g c = λ db old are some.
     unkept_is db c.args.txn old (undecided_of db (voting c.args.participants.now)) c.args.voters.items some {E = Memory} (Ok c.in_ok-aborts.aborts) (c.in_ok-aborts.ensures.turn db old are) c.in_ok-aborts.ensures.kept
 
 pub returns-then-not-kept-clause-keeps : goal.returns-then-not-kept-clause-keeps
-returns-then-not-kept-clause-keeps g c = λ old are clean sound none.
+returns-then-not-kept-clause-keeps g c = λ old are some clean sound none remembered.
     let kept = g.S.DeskStore.kept c.args.store.now in
     ended_keeps c.args.txn old kept kept none (unchanged kept) {E = Memory} (Ok c.in_ok-aborts.aborts) c.in_ok-aborts.ensures.after
 
@@ -30,16 +30,16 @@ returns-in-Ok-clause-turn g c = λ db old are some.
     })
 
 pub returns-in-Ok-clause-keeps : goal.returns-in-Ok-clause-keeps
-returns-in-Ok-clause-keeps g c = λ old are clean sound none.
-    keeps_row c.args.txn (g.S.DeskStore.kept c.args.store.now) (g.S.DeskStore.kept c.keep_commit.new.self) _ _ (c.deref-2.ensures.value ∙ sym c.new.ensures)
-    (c.in-Ok.ensures.ok clean sound none (subst AreVoters (sym c.deref-2.ensures.value) are))
+returns-in-Ok-clause-keeps g c = λ old are some clean sound none remembered.
+    keeps_row c.args.txn (g.S.DeskStore.kept c.args.store.now) (g.S.DeskStore.kept c.keep_commit.new.self) _ _ c.args.version (c.deref-2.ensures.value ∙ sym c.new.ensures)
+    (subst (λ vs. 0 < length vs) (sym c.new.ensures) some) remembered (c.in-Ok.ensures.ok clean sound none (subst AreVoters (sym c.deref-2.ensures.value) are))
 
 pub returns-clause-turn : goal.returns-clause-turn
 returns-clause-turn g c = λ db old are some.
     unkept_is db c.args.txn old (undecided_of db (voting c.args.participants.now)) c.args.voters.items some {E = Memory} (Ok c.in_ok-aborts.aborts) (c.in_ok-aborts.ensures.turn db old are) c.in_ok-aborts.ensures.kept
 
 pub returns-clause-keeps : goal.returns-clause-keeps
-returns-clause-keeps g c = λ old are clean sound none.
+returns-clause-keeps g c = λ old are some clean sound none remembered.
     ended_keeps c.args.txn old (g.S.DeskStore.kept c.args.store.now) (g.S.DeskStore.kept c.keep_commit.new.self) none (c.in-Err.ensures.fails.err clean sound) {E = Memory} (Ok c.in_ok-aborts.aborts) c.in_ok-aborts.ensures.after
 
 pub returns-in-Ok-clause-sites : goal.returns-in-Ok-clause-sites

@@ -31,7 +31,7 @@ returns-then-is_no-clause-turn g c = λ db choice are.
     (voted_are db u.participants c.args.site.now c.args.voted.vote are c.deref.result.now same) refl refl)
 
 pub returns-then-is_no-clause-keeps : goal.returns-then-is_no-clause-keeps
-returns-then-is_no-clause-keeps g c = λ db are clean sound none.
+returns-then-is_no-clause-keeps g c = λ db are clean sound none remembered.
     let kept = g.S.DeskStore.kept c.args.store.now in
     ended_keeps c.args.txn (Some (standing.Undecided c.args.undecided.now)) kept kept none (unchanged kept) c.ends.result c.ends.ensures.after
 
@@ -45,12 +45,12 @@ returns-clause-turn g c = λ db choice are.
     (c.votes_go.ensures.turn db here (voted_are db u.participants c.args.site.now c.args.voted.vote are c.in_ok-participants.participants.items same))
 
 pub returns-clause-keeps : goal.returns-clause-keeps
-returns-clause-keeps g c = λ db are clean sound none.
+returns-clause-keeps g c = λ db are clean sound none remembered.
     let u = c.args.undecided.now in
     let same : c.in_ok-participants.participants.items ≡ map (changed_at c.args.site.now (with_vote (Some c.args.voted.vote))) u.participants = copied_vote c.args.site.now c.args.voted.vote c.in_ok-participants.participants.items c.in_ok-participants.participants.items c.as_slice.result.now c.args.undecided.now.participants refl c.in_ok-participants.ensures c.as_slice.ensures in
     c.votes_go.ensures.keeps db (Some (standing.Undecided u))
     (voted_are db u.participants c.args.site.now c.args.voted.vote are c.in_ok-participants.participants.items same)
-    refl clean sound none
+    refl clean sound none remembered
 
 pub returns-clause-sites : goal.returns-clause-sites
 returns-clause-sites g c = λ distinct.

@@ -23,7 +23,7 @@ returns-then-not-are_all_in-clause-turn g c = λ db old are.
     (c.becomes.ensures.turn db c.args.txn old)
 
 pub returns-then-not-are_all_in-clause-keeps : goal.returns-then-not-are_all_in-clause-keeps
-returns-then-not-are_all_in-clause-keeps g c = λ db old are nothing clean sound none.
+returns-then-not-are_all_in-clause-keeps g c = λ db old are nothing clean sound none remembered.
     let kept = g.S.DeskStore.kept c.args.store.now in
     subst (λ vs. Keeps c.args.txn vs kept kept) (sym (ap (λ a. kept_voters (after_of old a)) c.becomes.ensures.after)) (keeps_same c.args.txn None kept kept none (unchanged kept))
 
@@ -36,7 +36,7 @@ returns-then-are_none-clause-turn g c = λ db old are.
     (c.commits_at_once.ensures.turn db c.args.txn old)
 
 pub returns-then-are_none-clause-keeps : goal.returns-then-are_none-clause-keeps
-returns-then-are_none-clause-keeps g c = λ db old are nothing clean sound none.
+returns-then-are_none-clause-keeps g c = λ db old are nothing clean sound none remembered.
     let kept = g.S.DeskStore.kept c.args.store.now in
     subst (λ vs. Keeps c.args.txn vs kept kept) (sym (ap (λ a. kept_voters (after_of old a)) c.commits_at_once.ensures.after)) (keeps_same c.args.txn None kept kept none (unchanged kept))
 
@@ -47,9 +47,9 @@ returns-clause-turn g c = λ db old are.
     (c.decides.ensures.turn db old (subst (AreParticipants db) (sym c.deref-4.ensures.value) are) (somebody c.in_ok-voters.voters.items (ap (λ vs. length vs == 0) (sym c.deref-3.ensures.value) ∙ sym c.are_none.ensures ∙ c.if-are_none.false)))
 
 pub returns-clause-keeps : goal.returns-clause-keeps
-returns-clause-keeps g c = λ db old are nothing clean sound none.
-    c.decides.ensures.keeps old (are_voters c.args.participants.items c.in_ok-voters.voters.items are.distinct (c.in_ok-voters.ensures ∙ ap voters_among c.deref-2.ensures.value)
-    (somebody c.in_ok-voters.voters.items (ap (λ vs. length vs == 0) (sym c.deref-3.ensures.value) ∙ sym c.are_none.ensures ∙ c.if-are_none.false))) clean sound none
+returns-clause-keeps g c = λ db old are nothing clean sound none remembered.
+    c.decides.ensures.keeps old (are_voters c.args.participants.items c.in_ok-voters.voters.items are.distinct (c.in_ok-voters.ensures ∙ ap voters_among c.deref-2.ensures.value))
+    (somebody c.in_ok-voters.voters.items (ap (λ vs. length vs == 0) (sym c.deref-3.ensures.value) ∙ sym c.are_none.ensures ∙ c.if-are_none.false)) clean sound none remembered
 
 pub returns-clause-store : goal.returns-clause-store
 returns-clause-store g c =

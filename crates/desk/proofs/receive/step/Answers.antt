@@ -30,8 +30,8 @@ returns-in-Some-Undecided-clause-keeps g c = λ db.
     let o = (volatile_of c.args.volatile.now).standing c.args.txn in
     let kept = g.S.DeskStore.kept c.args.store.now in
     let is : Some (standing.Undecided c.in-Some-Undecided.undecided) ≡ o = ap Some (sym c.in-Some-Undecided.field-0-is) ∙ c.in-Some-Undecided.ensures in
-    subst (λ p. IsAt db p → g.S.DeskStore.is_clean c.on_open.new.store → g.S.DeskStore.is_sound c.args.store.now → kept.commits c.args.txn ≡ kept_voters p → IfOk c.on_open.result (λ turn. Keeps c.args.txn (kept_voters (after_of p turn.after)) kept (g.S.DeskStore.kept c.on_open.new.store)))
-    is (λ at clean sound none. c.on_open.ensures.keeps db at clean sound none)
+    subst (λ p. IsAt db p → g.S.DeskStore.is_clean c.on_open.new.store → g.S.DeskStore.is_sound c.args.store.now → kept.commits c.args.txn ≡ kept_voters p → c.args.volatile.now.version ≡ kept.version → IfOk c.on_open.result (λ turn. Keeps c.args.txn (kept_voters (after_of p turn.after)) kept (g.S.DeskStore.kept c.on_open.new.store)))
+    is (λ at clean sound none remembered. c.on_open.ensures.keeps db at clean sound none remembered)
 
 pub returns-in-Some-Committed-clause-turn : goal.returns-in-Some-Committed-clause-turn
 returns-in-Some-Committed-clause-turn g c = λ db choice at.

@@ -8,5 +8,5 @@ use Rattle.desk.proofs.volatile.Volatile.begin.Goals as goal
 pub returns-clause-ok : goal.returns-clause-ok
 returns-clause-ok c =
     let old = c.args.self.now in
-    ap (λ es. volatile_from es (old.undecided + 1) old.life (old.number + 1))
+    ap (λ es. volatile_from es (old.undecided + 1) old.life (old.number + 1) old.version)
     (c.in_ok-add.ensures.ok ∙ (λ i. insert_entry txn_cmp old.standings.entries (record { life = old.life; number = add-one old.number i }) (c.begun.ensures i)))
