@@ -145,8 +145,8 @@ module _ (db : Database) (kept new : DeskContent) (volatile : Volatile) (sorted 
     makes written heard letters replies = record {
       fits = so.0;
       within = is_within db new table so.0;
-      state = so.1.0;
-      version = so.1.1;
+      state = so.1;
+      version = so.2;
       letters = ap (map (sent db)) letters ∙ is.letters;
       replies = ap (map notice_of) replies ∙ told_is k turn.reply ∙ is.replies;
     }

@@ -1,5 +1,5 @@
 -- Why `begin` meets its contract.
-use Rattle.std.proofs.Common.{◌≡◌, sym, ap, ◌∙◌, [], true, map, ◌+◌, ◌<◌, ◌^◌, arith}
+use Rattle.std.proofs.Common.{◌≡◌, refl, sym, ap, ◌∙◌, [], true, map, ◌+◌, ◌<◌, ◌^◌, arith}
 use Rattle.desk.specs.Recovery.{commits_again, may_stand, row_in_order, stood_by}
 use Rattle.desk.proofs.Rising.{rises, sent_again}
 use Rattle.desk.proofs.recovery.begin.Goals as goal
