@@ -1,13 +1,13 @@
--- A world without its delivered letters stays that of a run, through every step of one client.
-use Rattle.std.proofs.Common.{◌≡◌, refl, sym, ap, ◌∙◌, subst, Bool, true, false, List, [], ◌∷◌, ◌++◌, length, map, if◌then◌else◌, Some, slice_get, append_assoc, ◌&&◌}
+-- A world without its delivered letters stays that of a run, through every step of one client and every restart.
+use Rattle.std.proofs.Common.{◌≡◌, refl, sym, ap, ◌∙◌, subst, Bool, true, false, List, [], ◌∷◌, ◌++◌, length, map, flat_map, if◌then◌else◌, Some, slice_get, append_assoc, append-nil, ◌&&◌}
 use Rattle.protocol.specs.Language.{Lang, IsLawful, Name}
 use Rattle.protocol.specs.Letter.{Letter, is_for_desk}
-use Rattle.protocol.specs.Site.{SiteState, is_within, on_letter, site_after, said}
-use Rattle.protocol.specs.Desk.{Choice, Began, Request, Transition, desk_after, desk_began, is_desk_within, next_txn, on_request}
-use Rattle.protocol.specs.World.{World, Event, Begin, Call, Deliver, begins, begun, called, comes, comes_to, delivered, happens, run, turns, turned, site_steps, with_site, addressed, refragments, may_begin, may_move, may_ask, first_turn, Refragment}
+use Rattle.protocol.specs.Site.{SiteState, inquiries, is_within, on_letter, site_after, site_restarted, said}
+use Rattle.protocol.specs.Desk.{Choice, Began, Known, Request, Row, Transition, Txn, Unknown, desk_after, desk_began, desk_restarted, is_desk_within, next_txn, on_request, txn_restarted}
+use Rattle.protocol.specs.World.{World, Event, Begin, Call, Deliver, begins, begun, called, comes, comes_to, delivered, happens, run, turns, turned, site_steps, with_site, addressed, desk_lives, desk_restarts, inquires, is_site, refragments, restarts, may_begin, may_move, may_ask, first_turn, Desk_restarts, Refragment, Site_inquires, Site_restarts}
 use Rattle.protocol.specs.Serial.{Explained, AllExplained, IsOpening, IsSerial, SerialLaw, committed, serial_whole, statements_of}
 use Rattle.protocol.specs.Client.{first, next, rest_of, loses, IsReached, ReachedLaw}
-use Rattle.protocol.proofs.Basics.{every_append, if_true}
+use Rattle.protocol.proofs.Basics.{either, every_append, every_flat, if_true}
 use Rattle.protocol.proofs.SerialLaw.{run_whole, serial_law}
 
 module _ {L : Lang} where
@@ -120,6 +120,46 @@ module _ {L : Lang} where
           explained = reached.explained;
         }
 
+    -- all letters that wait are lost
+    pub silent_reached : IsReached whole (with_letters w [])
+    silent_reached = record {
+      opening = reached.opening;
+      opens = reached.opens;
+      events = reached.events;
+      gone = reached.gone ++ w.letters;
+      is = reached.is ∙ ap (with_letters w) (sym (append-nil (reached.gone ++ w.letters)));
+      explained = reached.explained;
+    }
+
+    -- a site restarts, or asks; the coordinator restarts
+    steps_past : (a : L.Site) (s : SiteState L) (letters : List (Letter L)) → AllExplained (site_steps w a s letters).past
+    steps_past a s letters = either (λ (v : World L). AllExplained v.past) (is_within s) (with_site w a s letters) w reached.explained reached.explained
+
+    pub restart_reached : (a : L.Site) → is_site L a L.sites ≡ true → IsReached whole (restarts w a)
+    restart_reached a is =
+        goes_on (Site_restarts a true) (restarts w a) reached.gone
+        (if_true (is_site L a L.sites) (restarts (behind reached.gone w) a) (behind reached.gone w) is ∙ steps_behind reached.gone w a (site_restarted (w.sites a)) []) (steps_past a (site_restarted (w.sites a)) [])
+
+    pub inquiry_reached : (a : L.Site) → is_site L a L.sites ≡ true → IsReached whole (inquires w a)
+    inquiry_reached a is =
+        goes_on (Site_inquires a) (inquires w a) reached.gone
+        (if_true (is_site L a L.sites) (inquires (behind reached.gone w) a) (behind reached.gone w) is ∙ ap (with_letters w) (append_assoc reached.gone w.letters (inquiries a (w.sites a)))) reached.explained
+
+    restart_deeds : (t : Name) (x : Txn L) → AllExplained (txn_restarted t x).deeds
+    restart_deeds t Unknown = tt
+    restart_deeds t (Known u) = (tt, tt)
+    restart_deeds t (Row voters acked) = tt
+
+    pub desk_restart_reached : IsReached whole (desk_restarts w)
+    desk_restart_reached =
+        goes_on (Desk_restarts true) (desk_restarts w) reached.gone (lives (is_desk_within (desk_restarted w.desk)))
+        (either (λ (v : World L). AllExplained v.past) (is_desk_within (desk_restarted w.desk)) (desk_lives w) w
+        (every_append Explained w.past _ reached.explained (every_flat Explained (λ t. (txn_restarted t (w.desk.txn t)).deeds) w.desk.known (λ t. restart_deeds t (w.desk.txn t)))) reached.explained)
+      where
+        lives : (b : Bool) → (if b then desk_lives (behind reached.gone w) else behind reached.gone w) ≡ behind reached.gone (if b then desk_lives w else w)
+        lives true = ap (with_letters (desk_lives w)) (append_assoc reached.gone w.letters (flat_map (λ t. (txn_restarted t (w.desk.txn t)).letters) w.desk.known))
+        lives false = refl
+
     pub reached_serial : SerialLaw L → IsSerial whole w
     reached_serial law =
         let serial : IsSerial whole (behind reached.gone w) = subst (IsSerial whole) reached.is (law whole reached.opening reached.events reached.opens (subst (λ v. AllExplained v.past) (sym reached.is) reached.explained)) in
@@ -141,6 +181,10 @@ reached_law law = record {
   asked = λ whole w t choice request reached. call_reached whole w reached t choice request;
   came = λ whole w kept choice reached. next_reached whole w reached kept choice;
   lost = lost_reached;
+  restarted = λ whole w a reached. restart_reached whole w reached a;
+  inquired = λ whole w a reached. inquiry_reached whole w reached a;
+  desk_restarted = desk_restart_reached;
+  silenced = silent_reached;
   serial = λ whole w reached. reached_serial whole w reached (serial_law law);
   is_whole = λ whole w reached. reached_whole whole w reached law;
 }

@@ -4,7 +4,7 @@ use Rattle.protocol.specs.Language.{Lang, Name}
 use Rattle.protocol.specs.Letter.{Letter}
 use Rattle.protocol.specs.Desk.{Choice, Request, Commit_call, Rollback, Give_up, is_undecided}
 use Rattle.protocol.specs.VisitPlaces.{Unlocked}
-use Rattle.protocol.specs.World.{World, Event, begins, called, comes, may_begin, may_ask, may_move, refragments, run}
+use Rattle.protocol.specs.World.{World, Event, begins, called, comes, desk_restarts, inquires, is_site, may_begin, may_ask, may_move, refragments, restarts, run}
 use Rattle.protocol.specs.Serial.{AllExplained, IsOpening, IsSerial, committed_whole}
 
 module _ {L : Lang} where
@@ -25,6 +25,10 @@ module _ {L : Lang} where
   -- the oldest letter that waits is let go
   abbrev pub loses : World L → World L
   loses w = record w { letters = rest_of w.letters }
+
+  -- all letters that wait are let go
+  abbrev pub silent : World L → World L
+  silent w = record w { letters = [] }
 
   -- so many deliveries; pick: whether the store call is kept, and the choice, of the delivery in a world
   abbrev pub deliveries : (World L → Bool × Choice L) → ℕ → World L → World L
@@ -55,13 +59,18 @@ module _ {L : Lang} where
     pub calm : (a : L.Site) (k : Name) → Unlocked ((w.sites a).status k)
     pub decided : (t : Name) → is_undecided (w.desk.txn t) ≡ false
 
--- what one client does with a world leads from reached worlds to reached worlds, and those are serial
+-- what one client does with a world leads from reached worlds to reached worlds, and so do restarts; and those worlds are serial
 pub record ReachedLaw (L : Lang) : Type 0 where
   pub begun : (whole : L.Whole) (w : World L) → IsReached whole w → may_begin w ≡ true → IsReached whole (begins w)
   pub refragmented : (whole : L.Whole) (w : World L) (s : L.Statement) (choice : Choice L) → IsReached whole w → may_move w s ≡ true → AllExplained (refragments w s choice).past → IsReached whole (refragments w s choice)
   pub asked : (whole : L.Whole) (w : World L) (t : Name) (choice : Choice L) (request : Request L) → IsReached whole w → may_ask w t request ≡ true → AllExplained (called w t choice request).past → IsReached whole (called w t choice request)
   pub came : (whole : L.Whole) (w : World L) (kept : Bool) (choice : Choice L) → IsReached whole w → AllExplained (next w kept choice).past → IsReached whole (next w kept choice)
   pub lost : (whole : L.Whole) (w : World L) → IsReached whole w → IsReached whole (loses w)
+  -- a site restarts, or asks about its prepared rows; the coordinator restarts; and all letters that wait are lost
+  pub restarted : (whole : L.Whole) (w : World L) (a : L.Site) → IsReached whole w → is_site L a L.sites ≡ true → IsReached whole (restarts w a)
+  pub inquired : (whole : L.Whole) (w : World L) (a : L.Site) → IsReached whole w → is_site L a L.sites ≡ true → IsReached whole (inquires w a)
+  pub desk_restarted : (whole : L.Whole) (w : World L) → IsReached whole w → IsReached whole (desk_restarts w)
+  pub silenced : (whole : L.Whole) (w : World L) → IsReached whole w → IsReached whole (silent w)
   pub serial : (whole : L.Whole) (w : World L) → IsReached whole w → IsSerial whole w
   pub is_whole : (whole : L.Whole) (w : World L) → IsReached whole w → L.IsWhole (committed_whole whole w.past)
 

@@ -20,6 +20,7 @@ pub mod StatementCourse
 pub mod AfterAbort
 pub mod Committing
 pub mod ClientLaw
+pub mod Recovery
 pub mod OneClient
 pub mod Home
 pub mod Fitting

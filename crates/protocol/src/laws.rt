@@ -10,6 +10,7 @@ ghost use Rattle.protocol.specs.Fitting.{StaysFitting};
 ghost use Rattle.protocol.specs.OneClient.{OneAtATime};
 ghost use Rattle.protocol.specs.Parts.{PartsOneAndTwo, PartThree};
 ghost use Rattle.protocol.specs.Premise.{PremiseIsMet};
+ghost use Rattle.protocol.specs.Recovery.{RecoveryLaw};
 ghost use Rattle.protocol.specs.Refusing.{RequestLaw};
 ghost use Rattle.protocol.specs.Rounds.{RoundByLetter};
 ghost use Rattle.protocol.specs.Serial.{SerialLaw};
@@ -112,6 +113,13 @@ pub fn one_client_commits()
 /// Commit and Abort is kept.
 pub fn one_client_letter_by_letter()
     ensures { LetterByLetter toy }
+{}
+
+/// A database that comes up again over what its stores kept: once each site has asked about its prepared rows,
+/// each of them comes to its end by letters that come in whatever order, as long as each Commit and Abort is
+/// kept; then all is quiet, and nothing was done meanwhile but to end what was decided.
+pub fn restarts_recover()
+    ensures { RecoveryLaw toy }
 {}
 
 /// One transaction at a time: where all is quiet the fragments are those of the whole database after all
