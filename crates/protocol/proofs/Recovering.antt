@@ -9,12 +9,14 @@ use Rattle.protocol.specs.Desk.{Choice, Deed, Txn, Unknown, Known, Row, Transiti
 use Rattle.protocol.specs.World.{World, addressed, with_site, turned, comes_to, inquires, is_site}
 use Rattle.protocol.specs.Parts.{In}
 use Rattle.protocol.specs.AfterAbort.{EndKept, Within}
-use Rattle.protocol.specs.Client.{first, next, IsQuiet}
+use Rattle.protocol.specs.Client.{first, IsQuiet}
+use Rattle.protocol.specs.Delivery.{AllFounded, CallKept, Coming, FirstIsFounded, Passed_over, Taken, Turned_away, all_come, come, first_comes}
+use Rattle.protocol.specs.StatementCourse.{passes}
 use Rattle.protocol.specs.VisitPlaces.{at, Unlocked}
-use Rattle.protocol.specs.Recovery.{EndsRow, Hears, AtRest, Recovering, all_inquire, RecoveryLaw}
-use Rattle.protocol.proofs.Basics.{Every, every_append, every_flat, in_left, in_right, in_flat, either, put_all, same_law, if_true, clash, by_test, or_cases}
+use Rattle.protocol.specs.Recovery.{EndsRow, Hears, OfRecovery, AtRest, Recovering, all_inquire, RecoveryLaw}
+use Rattle.protocol.proofs.Basics.{Every, every_append, every_flat, in_left, in_right, in_flat, either, put_all, same_law, if_true, clash, by_test, or_left, or_right, or_cases}
 use Rattle.protocol.proofs.Queue.{at_append, at_here, at_away}
-use Rattle.protocol.proofs.Limits.{end_within, turn_within}
+use Rattle.protocol.proofs.Limits.{end_within, next_within, turn_within}
 use Rattle.protocol.proofs.Ended.{Idles, letter_idles, in_front, elsewhere, by_site}
 
 module _ {L : Lang} where
@@ -102,9 +104,9 @@ module _ {L : Lang} where
     abort_says k (Active v) = tt
     abort_says k (Prepared u i) = tt
 
-  addressed_end : (a : L.Site) (t : Name) (bodies : List (Body L)) → Every EndsRow bodies → Every (λ l. EndsRow l.body) (addressed a t bodies)
-  addressed_end a t [] all = tt
-  addressed_end a t (c ∷ bodies) all = (all.0, addressed_end a t bodies all.1)
+  addressed_end : (a : L.Site) (t : Name) (bodies : List (Body L)) → is_site L a L.sites ≡ true → Every EndsRow bodies → Every OfRecovery (addressed a t bodies)
+  addressed_end a t [] there all = tt
+  addressed_end a t (c ∷ bodies) there all = ((all.0, there), addressed_end a t bodies there all.1)
 
   -- ---- the coordinator
   abbrev Silent : Transition L → Type 0
@@ -142,9 +144,27 @@ module _ {L : Lang} where
   decided_short (Known u) none = let e : true ≡ false = none in cc
   decided_short (Row voters acked) none = refl
 
+  -- a turn of a decided transaction passes no limit
+  idle_within : (w : World L) (t : Name) (turn : Transition L) → Idles turn → Within w → is_desk_within (desk_after w.desk t turn.txn) ≡ true
+  idle_within w t turn idles within = turn_within w.desk t turn.txn (λ was. decided_short turn.txn idles.decided) (λ is. clash is idles.decided) within.desk
+
+  end_kept : (kept : Bool) (c : Body L) → CallKept kept c → EndKept kept c
+  end_kept kept (Commit k) keeps = keeps
+  end_kept kept (Abort k) keeps = keeps
+  end_kept kept Open keeps = tt
+  end_kept kept (Fetch k n g q) keeps = tt
+  end_kept kept (Write k n g x) keeps = tt
+  end_kept kept (Prepare k n) keeps = tt
+  end_kept kept (Ticket k) keeps = tt
+  end_kept kept (Rows k n rows) keeps = tt
+  end_kept kept (Refused k reason) keeps = tt
+  end_kept kept (Voted k x) keeps = tt
+  end_kept kept (Ack k) keeps = tt
+  end_kept kept (Inquire k) keeps = tt
+
   module _ (law : IsLawful L) (deeds : List (Deed L)) (w : World L) (l : Letter L) (q : List (Letter L)) (e : w.letters ≡ l ∷ q) (r : Recovering deeds w) where
-    only_here : EndsRow l.body × Every (λ l. EndsRow l.body) q
-    only_here = subst (Every (λ (l : Letter L). EndsRow l.body)) e r.only
+    only_here : OfRecovery l × Every OfRecovery q
+    only_here = subst (Every OfRecovery) e r.only
 
     hears_here : (a : L.Site) (k : Name) → is_prepared ((w.sites a).status k) ≡ true → Hears k (at a (l ∷ q))
     hears_here a k is = subst (λ x. Hears k (at a x)) e (r.hears a k is)
@@ -156,18 +176,14 @@ module _ {L : Lang} where
         (λ all one. hears_rest k l.body (at l.site q ++ at l.site more) covered (all one))
         (λ b one. hears_more k (at b (l ∷ q)) (at b more) (hears_here b k one)) a is)
 
-    at_desk : (turn : Transition L) → Idles turn → Every (λ l. EndsRow l.body) turn.letters → Covered l.body (at l.site q ++ at l.site turn.letters) → Recovering deeds (turned (record w { letters = q }) l.txn turn)
+    at_desk : (turn : Transition L) → Idles turn → Every OfRecovery turn.letters → Covered l.body (at l.site q ++ at l.site turn.letters) → Recovering deeds (turned (record w { letters = q }) l.txn turn)
     at_desk turn idles ends covered = record {
       decided = put_all same same_law l.txn turn.txn w.desk.txn (λ j x. is_undecided x ≡ false) idles.decided (λ j other. r.decided j);
       unvisited = r.unvisited;
       hears = heard_after turn.letters covered;
-      only = every_append (λ l. EndsRow l.body) q turn.letters only_here.1 ends;
+      only = every_append OfRecovery q turn.letters only_here.1 ends;
       past = ap (λ x. w.past ++ x) idles.deeds ∙ append-nil w.past ∙ r.past;
     }
-
-    -- such a turn passes no limit
-    desk_within : (within : Within w) (turn : Transition L) → Idles turn → is_desk_within (desk_after w.desk l.txn turn.txn) ≡ true
-    desk_within within turn idles = turn_within w.desk l.txn turn.txn (λ was. decided_short turn.txn idles.decided) (λ is. clash is idles.decided) within.desk
 
     at_site : (s : SiteState L) (more : List (Body L)) → Learning s.status (at l.site q ++ more) → Every EndsRow more → Recovering deeds (with_site (record w { letters = q }) l.site s (addressed l.site l.txn more))
     at_site s more learning ends =
@@ -179,7 +195,7 @@ module _ {L : Lang} where
           hears = put_all L.same_site law.sites a s w.sites (λ b x. (k : Name) → is_prepared (x.status k) ≡ true → Hears k (at b (q ++ out)))
               (λ k is. subst (Hears k) (sym (at_append a q out ∙ ap (λ x. at a q ++ x) (at_here a a l.txn more ((law.sites a a).1 refl)))) (learning.hears k is))
               (λ b other k is. subst (Hears k) (elsewhere law b l q other ∙ sym (at_append b q out ∙ ap (λ x. at b q ++ x) (at_away b a l.txn more other) ∙ append-nil (at b q))) (hears_here b k is));
-          only = every_append (λ l. EndsRow l.body) q out only_here.1 (addressed_end a l.txn more ends);
+          only = every_append OfRecovery q out only_here.1 (addressed_end a l.txn more only_here.0.1 ends);
           past = r.past;
         }
 
@@ -190,9 +206,11 @@ module _ {L : Lang} where
       abbrev Goes : Bool → Type 0
       Goes b = Recovering deeds (comes_to b (record w { letters = q }) kept choice l)
 
-      to_desk : (turn : Transition L) → turn ≡ on_desk_letter l.txn l.site kept choice l.body (w.desk.txn l.txn) → Idles turn → Every (λ l. EndsRow l.body) turn.letters → Covered l.body (at l.site q ++ at l.site turn.letters) → Goes true
-      to_desk turn is idles ends covered = subst (λ t. Recovering deeds (if is_desk_within (desk_after w.desk l.txn t.txn) then turned (record w { letters = q }) l.txn t else record w { letters = q })) is
-          (subst (λ (b : Bool). Recovering deeds (if b then turned (record w { letters = q }) l.txn turn else record w { letters = q })) (sym (desk_within within turn idles)) (at_desk turn idles ends covered))
+      to_desk : (turn : Transition L) → turn ≡ on_desk_letter l.txn l.site kept choice l.body (w.desk.txn l.txn) → Idles turn → (bodies : List (Body L)) → turn.letters ≡ addressed l.site l.txn bodies → Every EndsRow bodies → Covered l.body (at l.site q ++ at l.site turn.letters) → Goes true
+      to_desk turn is idles bodies put said_all covered =
+          let ends : Every OfRecovery turn.letters = subst (Every OfRecovery) (sym put) (addressed_end l.site l.txn bodies only_here.0.1 said_all) in
+          subst (λ t. Recovering deeds (if is_desk_within (desk_after w.desk l.txn t.txn) then turned (record w { letters = q }) l.txn t else record w { letters = q })) is
+          (subst (λ (b : Bool). Recovering deeds (if b then turned (record w { letters = q }) l.txn turn else record w { letters = q })) (sym (idle_within w l.txn turn idles within)) (at_desk turn idles ends covered))
 
       to_site : (t : Bool) → is_within (site_after (w.sites l.site) (on_letter (w.sites l.site) l.txn t l.body)) ≡ true → kept ≡ t →
           Learning (site_after (w.sites l.site) (on_letter (w.sites l.site) l.txn t l.body)).status (at l.site q ++ said (w.sites l.site) (on_letter (w.sites l.site) l.txn t l.body)) →
@@ -216,13 +234,13 @@ module _ {L : Lang} where
         let l : Letter L = record { site = a; txn = t; body = Ack k } in
         let x = w.desk.txn t in
         let silent = ack_silent t a kept choice k x (r.decided t) in
-        to_desk law deeds w l q e r within kept choice (on_desk_letter t a kept choice (Ack k) x) refl (letter_idles t a kept choice (Ack k) x (r.decided t)) (subst (Every (λ (l : Letter L). EndsRow l.body)) (sym silent) tt) tt
+        to_desk law deeds w l q e r within kept choice (on_desk_letter t a kept choice (Ack k) x) refl (letter_idles t a kept choice (Ack k) x (r.decided t)) [] silent tt tt
     goes deeds w a t (Inquire k) q e r within kept choice end of =
         let l : Letter L = record { site = a; txn = t; body = Inquire k } in
         let x = w.desk.txn t in
         let answered = inquiry_answered t a kept choice k x (r.decided t) in
         to_desk law deeds w l q e r within kept choice (on_desk_letter t a kept choice (Inquire k) x) refl (letter_idles t a kept choice (Inquire k) x (r.decided t))
-        (subst (Every (λ (l : Letter L). EndsRow l.body)) (sym answered) (answer_ends k x, tt))
+        (answer_of k x ∷ []) answered (answer_ends k x, tt)
         (subst (λ ls. Hears k (at a q ++ at a ls)) (sym answered) (subst (λ bs. Hears k (at a q ++ bs)) (sym (at_here a a t (answer_of k x ∷ []) ((law.sites a a).1 refl))) (answer_heard k x (at a q))))
     goes deeds w a t Open q e r within kept choice end of = absurd of
     goes deeds w a t (Fetch k op g y) q e r within kept choice end of = absurd of
@@ -233,12 +251,35 @@ module _ {L : Lang} where
     goes deeds w a t (Refused k reason) q e r within kept choice end of = absurd of
     goes deeds w a t (Voted k y) q e r within kept choice end of = absurd of
 
-    pub came_recovers : (deeds : List (Deed L)) (w : World L) (kept : Bool) (choice : Choice L) → Within w → ((l : Letter L) (q : List (Letter L)) → w.letters ≡ l ∷ q → EndKept kept l.body) → Recovering deeds w → Recovering deeds (next w kept choice)
-    came_recovers deeds w kept choice within end r = go w.letters refl
-      where
-        go : (letters : List (Letter L)) → w.letters ≡ letters → Recovering deeds (first w kept choice letters)
-        go [] e = r
-        go (l ∷ q) e = goes deeds w l.site l.txn l.body q e r within kept choice (end l q e) (only_here law deeds w l q e r).0
+    -- such a letter passes no limit
+    taken : (deeds : List (Deed L)) (w : World L) (a : L.Site) (t : Name) (c : Body L) → Recovering deeds w → Within w → (choice : Choice L) → EndsRow c → passes w true choice (record { site = a; txn = t; body = c }) ≡ true
+    taken deeds w a t (Commit k) r within choice of = end_within (w.sites a) (within.sites a) t true (Commit k) tt
+    taken deeds w a t (Abort k) r within choice of = end_within (w.sites a) (within.sites a) t true (Abort k) tt
+    taken deeds w a t (Ack k) r within choice of = idle_within w t (on_desk_letter t a true choice (Ack k) (w.desk.txn t)) (letter_idles t a true choice (Ack k) (w.desk.txn t) (r.decided t)) within
+    taken deeds w a t (Inquire k) r within choice of = idle_within w t (on_desk_letter t a true choice (Inquire k) (w.desk.txn t)) (letter_idles t a true choice (Inquire k) (w.desk.txn t) (r.decided t)) within
+    taken deeds w a t Open r within choice of = absurd of
+    taken deeds w a t (Fetch k op g y) r within choice of = absurd of
+    taken deeds w a t (Write k op g x) r within choice of = absurd of
+    taken deeds w a t (Prepare k n) r within choice of = absurd of
+    taken deeds w a t (Ticket k) r within choice of = absurd of
+    taken deeds w a t (Rows k n rows) r within choice of = absurd of
+    taken deeds w a t (Refused k reason) r within choice of = absurd of
+    taken deeds w a t (Voted k y) r within choice of = absurd of
+
+    one_recovers : (deeds : List (Deed L)) (w : World L) (c : Coming L) (letters : List (Letter L)) → w.letters ≡ letters → Within w → FirstIsFounded w c letters → Recovering deeds w → Within (first_comes w c letters) × Recovering deeds (first_comes w c letters)
+    one_recovers deeds w c [] e within founded r = (within, r)
+    one_recovers deeds w (Taken kept choice) (l ∷ q) e within founded r = (
+      subst (λ letters. Within (first w kept choice letters)) e (next_within law w kept choice within),
+      goes deeds w l.site l.txn l.body q e r within kept choice (end_kept kept l.body founded.1) (only_here law deeds w l q e r).0.0,
+    )
+    one_recovers deeds w (Turned_away choice) (l ∷ q) e within founded r = clash (taken deeds w l.site l.txn l.body r within founded.choice (only_here law deeds w l q e r).0.0) founded.past
+    one_recovers deeds w Passed_over (l ∷ q) e within founded r = clash (only_here law deeds w l q e r).0.1 founded
+
+    all_recover : (deeds : List (Deed L)) (comings : List (Coming L)) (w : World L) → Within w → AllFounded comings w → Recovering deeds w → Recovering deeds (all_come comings w)
+    all_recover deeds [] w within founded r = r
+    all_recover deeds (c ∷ comings) w within founded r =
+        let one = one_recovers deeds w c w.letters refl within founded.0 r in
+        all_recover deeds comings (come w c) one.0 founded.1 one.1
 
   -- ---- a database comes up
   -- a letter of a site is among what waits there
@@ -252,10 +293,10 @@ module _ {L : Lang} where
   row_asks a k (Active v) is = let e : false ≡ true = is in cc
   row_asks a k (Prepared t i) is = (record { site = a; txn = t; body = Inquire k }, λ e. e, refl, inl refl)
 
-  inquiry_ends : (a : L.Site) (k : Name) (st : Status L) → Every (λ l. EndsRow l.body) (inquiry_of a k st)
-  inquiry_ends a k Dead = tt
-  inquiry_ends a k (Active v) = tt
-  inquiry_ends a k (Prepared t i) = (tt, tt)
+  inquiry_ends : (a : L.Site) (k : Name) (st : Status L) → is_site L a L.sites ≡ true → Every OfRecovery (inquiry_of a k st)
+  inquiry_ends a k Dead there = tt
+  inquiry_ends a k (Active v) there = tt
+  inquiry_ends a k (Prepared t i) there = ((tt, there), tt)
 
   prepared_lives : (st : Status L) → is_prepared st ≡ true → is_dead st ≡ false
   prepared_lives Dead is = let e : false ≡ true = is in cc
@@ -268,28 +309,30 @@ module _ {L : Lang} where
         let row = row_asks a k (s.status k) is in
         subst (λ c. In c (at a (inquiries a s))) row.2 (at_in a row.0 (inquiries a s) (row.1 ((law.sites a a).1 refl)) (in_flat (λ j. inquiry_of a j (s.status j)) k row.0 s.known known row.3))
 
-    asks_from : (sites : List L.Site) (w : World L) → ((t : Name) → is_undecided (w.desk.txn t) ≡ false) → ((a : L.Site) (k : Name) → is_active ((w.sites a).status k) ≡ false) →
-        ((a : L.Site) (k : Name) → is_dead ((w.sites a).status k) ≡ false → In k (w.sites a).known) → Every (λ l. EndsRow l.body) w.letters →
+    asks_from : (sites : List L.Site) (w : World L) → ((a : L.Site) → is_site L a sites ≡ true → is_site L a L.sites ≡ true) → ((t : Name) → is_undecided (w.desk.txn t) ≡ false) → ((a : L.Site) (k : Name) → is_active ((w.sites a).status k) ≡ false) →
+        ((a : L.Site) (k : Name) → is_dead ((w.sites a).status k) ≡ false → In k (w.sites a).known) → Every OfRecovery w.letters →
         ((a : L.Site) (k : Name) → is_prepared ((w.sites a).status k) ≡ true → (is_site L a sites ≡ true) ⊎ Hears k (at a w.letters)) → Recovering w.past (all_inquire sites w)
-    asks_from [] w decided unvisited listed only hears = record {
+    asks_from [] w among decided unvisited listed only hears = record {
       decided = decided;
       unvisited = unvisited;
       hears = λ a k is. ⊎_elim (λ none. (let e : false ≡ true = none in cc)) (λ h. h) (hears a k is);
       only = only;
       past = refl;
     }
-    asks_from (b ∷ sites) w decided unvisited listed only hears =
+    asks_from (b ∷ sites) w among decided unvisited listed only hears =
         let asked = inquiries b (w.sites b) in
-        asks_from sites (inquires w b) decided unvisited listed (every_append (λ l. EndsRow l.body) w.letters asked only (every_flat (λ l. EndsRow l.body) (λ k. inquiry_of b k ((w.sites b).status k)) (w.sites b).known (λ k. inquiry_ends b k ((w.sites b).status k))))
+        let there = among b (or_left (L.same_site b b) (is_site L b sites) ((law.sites b b).1 refl)) in
+        asks_from sites (inquires w b) (λ a below. among a (or_right (L.same_site b a) (is_site L a sites) below)) decided unvisited listed
+        (every_append OfRecovery w.letters asked only (every_flat OfRecovery (λ k. inquiry_of b k ((w.sites b).status k)) (w.sites b).known (λ k. inquiry_ends b k ((w.sites b).status k) there)))
         (λ a k is.
         let own : b ≡ a → Hears k (at a (w.letters ++ asked)) = λ e. subst (λ c. Hears k (at c (w.letters ++ asked))) e (subst (Hears k) (sym (at_append b w.letters asked))
         (inr (inr (in_right (Inquire k) (at b w.letters) (at b asked) (site_asks b (w.sites b) k (subst (λ c. In k (w.sites c).known) (sym e) (listed a k (prepared_lives ((w.sites a).status k) is))) (subst (λ c. is_prepared ((w.sites c).status k) ≡ true) (sym e) is)))))) in
-        ⊎_elim (λ among. ⊎_elim (λ one. inr (own ((law.sites b a).0 one))) (λ below. inl below) (or_cases (L.same_site b a) (is_site L a sites) among))
+        ⊎_elim (λ here. ⊎_elim (λ one. inr (own ((law.sites b a).0 one))) (λ below. inl below) (or_cases (L.same_site b a) (is_site L a sites) here))
         (λ h. inr (subst (Hears k) (sym (at_append a w.letters asked)) (hears_more k (at a w.letters) (at a asked) h))) (hears a k is))
 
     asked_recovers : (w : World L) → AtRest w → Recovering w.past (all_inquire L.sites w)
-    asked_recovers w rest = asks_from L.sites w rest.decided rest.unvisited rest.listed rest.only
-        (λ a k is. ⊎_elim (λ among. inl among) (λ no. clash (rest.nowhere a no k) (prepared_lives ((w.sites a).status k) is)) (by_test (is_site L a L.sites)))
+    asked_recovers w rest = asks_from L.sites w (λ a here. here) rest.decided rest.unvisited rest.listed rest.only
+        (λ a k is. ⊎_elim (λ here. inl here) (λ no. clash (rest.nowhere a no k) (prepared_lives ((w.sites a).status k) is)) (by_test (is_site L a L.sites)))
 
     quiet_at_last : (deeds : List (Deed L)) (w : World L) → Recovering deeds w → w.letters ≡ [] → IsQuiet w × (w.past ≡ deeds)
     quiet_at_last deeds w r silent = (
@@ -309,6 +352,6 @@ module _ {L : Lang} where
 pub recovery_law : {L : Lang} → IsLawful L → RecoveryLaw L
 recovery_law law = record {
   asked = asked_recovers law;
-  came = came_recovers law;
+  come = all_recover law;
   quiet = quiet_at_last law;
 }

@@ -20,12 +20,12 @@ pub mod StatementCourse
 pub mod AfterAbort
 pub mod Committing
 pub mod ClientLaw
-pub mod Recovery
 pub mod OneClient
 pub mod Home
 pub mod Fitting
 pub mod WithoutRefusal
 pub mod Delivery
+pub mod Recovery
 pub mod Accepted
 pub mod Toy
 pub mod TwoSplits

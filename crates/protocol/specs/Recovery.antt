@@ -1,14 +1,15 @@
 -- A database comes up again over what its stores kept: its machines restart, each site asks about its prepared rows, and the coordinator sends its commits again.
-use Rattle.std.specs.Prelude.{◌≡◌, ◌⊎◌, ⊤, Bool, true, false, List, [], ◌∷◌}
+use Rattle.std.specs.Prelude.{◌≡◌, ◌⊎◌, ⊤, true, false, List, [], ◌∷◌}
 use Rattle.std.specs.List.{AllByRecursion}
 use Rattle.protocol.specs.Language.{Lang, Name}
 use Rattle.protocol.specs.Letter.{Body, Commit, Abort, Ack, Inquire, Letter}
 use Rattle.protocol.specs.Site.{is_active, is_dead, is_prepared}
-use Rattle.protocol.specs.Desk.{Choice, Deed, is_undecided}
+use Rattle.protocol.specs.Desk.{Deed, is_undecided}
 use Rattle.protocol.specs.World.{World, inquires, is_site}
 use Rattle.protocol.specs.Parts.{In}
-use Rattle.protocol.specs.AfterAbort.{EndKept, Within}
-use Rattle.protocol.specs.Client.{next, IsQuiet}
+use Rattle.protocol.specs.AfterAbort.{Within}
+use Rattle.protocol.specs.Client.{IsQuiet}
+use Rattle.protocol.specs.Delivery.{AllFounded, Coming, all_come}
 use Rattle.protocol.specs.VisitPlaces.{at}
 
 module _ {L : Lang} where
@@ -20,6 +21,10 @@ module _ {L : Lang} where
   EndsRow (Inquire k) = ⊤
   EndsRow body = ⊥
 
+  -- to or from one of the sites, such a letter
+  abbrev pub OfRecovery : Letter L → Type 0
+  OfRecovery l = EndsRow l.body × (is_site L l.site L.sites ≡ true)
+
   -- a ticket's site hears how it ends, or has asked
   abbrev pub Hears : Name → List (Body L) → Type 0
   Hears k bodies = In (Commit k) bodies ⊎ In (Abort k) bodies ⊎ In (Inquire k) bodies
@@ -30,14 +35,14 @@ module _ {L : Lang} where
     pub unvisited : (a : L.Site) (k : Name) → is_active ((w.sites a).status k) ≡ false
     pub listed : (a : L.Site) (k : Name) → is_dead ((w.sites a).status k) ≡ false → In k (w.sites a).known
     pub nowhere : (a : L.Site) → is_site L a L.sites ≡ false → (k : Name) → is_dead ((w.sites a).status k) ≡ true
-    pub only : AllByRecursion (λ l. EndsRow l.body) w.letters
+    pub only : AllByRecursion OfRecovery w.letters
 
   -- nobody is undecided, no visit stands, and the site of each prepared row hears how it ends, or has asked. deeds: all that happened
   pub record Recovering (deeds : List (Deed L)) (w : World L) : Type 0 where
     pub decided : (t : Name) → is_undecided (w.desk.txn t) ≡ false
     pub unvisited : (a : L.Site) (k : Name) → is_active ((w.sites a).status k) ≡ false
     pub hears : (a : L.Site) (k : Name) → is_prepared ((w.sites a).status k) ≡ true → Hears k (at a w.letters)
-    pub only : AllByRecursion (λ l. EndsRow l.body) w.letters
+    pub only : AllByRecursion OfRecovery w.letters
     pub past : w.past ≡ deeds
 
   -- each of these sites asks
@@ -45,8 +50,8 @@ module _ {L : Lang} where
   all_inquire [] w = w
   all_inquire (a ∷ sites) w = all_inquire sites (inquires w a)
 
--- a database that comes up: once each site has asked, it recovers; whatever order letters come in, it goes on so, as long as each Commit and Abort is kept; and where no letter waits all is quiet, and nothing has happened meanwhile
+-- a database that comes up: once each site has asked, it recovers; whatever becomes of its letters for a reason, it goes on so; and where no letter waits all is quiet, and nothing has happened meanwhile
 pub record RecoveryLaw (L : Lang) : Type 0 where
   pub asked : (w : World L) → AtRest w → Recovering w.past (all_inquire L.sites w)
-  pub came : (deeds : List (Deed L)) (w : World L) (kept : Bool) (choice : Choice L) → Within w → ((l : Letter L) (q : List (Letter L)) → w.letters ≡ l ∷ q → EndKept kept l.body) → Recovering deeds w → Recovering deeds (next w kept choice)
+  pub come : (deeds : List (Deed L)) (comings : List (Coming L)) (w : World L) → Within w → AllFounded comings w → Recovering deeds w → Recovering deeds (all_come comings w)
   pub quiet : (deeds : List (Deed L)) (w : World L) → Recovering deeds w → w.letters ≡ [] → IsQuiet w × (w.past ≡ deeds)

@@ -116,8 +116,8 @@ pub fn one_client_letter_by_letter()
 {}
 
 /// A database that comes up again over what its stores kept: once each site has asked about its prepared rows,
-/// each of them comes to its end by letters that come in whatever order, as long as each Commit and Abort is
-/// kept; then all is quiet, and nothing was done meanwhile but to end what was decided.
+/// each of them comes to its end, as long as the store call of each Commit and Abort is kept; then all is quiet,
+/// and nothing was done meanwhile but to end what was decided.
 pub fn restarts_recover()
     ensures { RecoveryLaw toy }
 {}
