@@ -31,7 +31,7 @@ use Rattle.desk.specs.declared.transaction.TxnState.TheVariants as standing
 use Rattle.desk.specs.Database.{Database, language, sent}
 use Rattle.desk.specs.Transaction.{txn_of, voter_of}
 use Rattle.desk.specs.Recovery.{Restarts, Rises, SendsAgain, commits_again, lost_among, resting, with_lost}
-use Rattle.desk.specs.State.{Fits, IsIn, VolatileState, desk_of, notice_of, volatile_from, txn_at}
+use Rattle.desk.specs.State.{Fits, IsMemory, IsIn, VolatileState, desk_of, notice_of, volatile_from, txn_at}
 use Rattle.desk.specs.Transition.{told}
 use Rattle.desk.specs.Acknowledge.{AreInOrder, commit_letters, kept_voters, listed}
 use Rattle.desk.proofs.Acknowledged.{same_bool, txn_is}
@@ -198,7 +198,7 @@ module _ (db : Database) (old new : DeskContent) (entries : Entries) (sorted : I
   known_are = ap (map txn_name) txns_are ∙ sym (filter_names (λ t. not (desk.is_unknown (desk.txn_restarted t ((desk_of db before).txn t)).txn)) is_row before.txns
       (λ j here. ap (λ x. not (desk.is_unknown x)) (sym (txn_there j)) ∙ unknown_is db (after.standing j) ∙ after_row j))
 
-  state_is : desk_of db after ≡ desk.desk_restarted (desk_of db before)
+  pub state_is : desk_of db after ≡ desk.desk_restarted (desk_of db before)
   state_is = λ i. record {
     txn = λ name. txn_there (txn_at name) i;
     known = known_are i;
@@ -234,3 +234,8 @@ module _ (db : Database) (old new : DeskContent) (entries : Entries) (sorted : I
     again = sends;
     replies = ap (map notice_of) heard_is ∙ replies_are;
   }
+
+-- a coordinator that comes up over what its store kept is that of before after a restart
+pub risen : (db : Database) (old new : DeskContent) (before after : VolatileState) → IsMemory before → Fits db old before → IsStrictlySortedBy txn_cmp after.txns → Rises db new after → BeginsLife old new → desk_of db after ≡ desk.desk_restarted (desk_of db before)
+risen db old new before after memory fits ascend rises begins =
+    state_is db old new memory.entries memory.ascend before.undecided before.life before.number before.version (subst (Fits db old) memory.is fits) after ascend rises begins ∙ ap (λ table. desk.desk_restarted (desk_of db table)) (sym memory.is)

@@ -2,6 +2,7 @@
 use Rattle.std.specs.Prelude.{◌≡◌, ℕ, ◌^◌, ◌<◌, ◌≤◌, ◌⊎◌, Bool, true, false, List, [], ◌∷◌, map, length, filter, Option, Some, None, is_some}
 use Rattle.std.specs.BTreeMap.{is_at}
 use Rattle.std.specs.List.{filter_map}
+use Rattle.std.specs.List.Sorted.{IsStrictlySortedBy}
 use Rattle.std.specs.Map.{lookup, keys_of, remove_entry, set_value}
 use Rattle.store.specs.declared.letter.Letter.{Letter}
 use Rattle.store.specs.declared.name.Txn.{Txn}
@@ -40,6 +41,12 @@ volatile_from entries undecided life number version = record { standing = λ txn
 
 abbrev pub volatile_of : Volatile → VolatileState
 volatile_of volatile = volatile_from volatile.standings.entries volatile.undecided volatile.life volatile.number volatile.version
+
+-- what is in memory is a coordinator's: what stands there, in the order of the transactions
+pub record IsMemory (table : VolatileState) : Type 0 where
+  pub entries : List (Txn × TxnState)
+  pub is : table ≡ volatile_from entries table.undecided table.life table.number table.version
+  pub ascend : IsStrictlySortedBy txn_cmp (keys_of entries)
 
 -- the transaction of a name
 abbrev pub txn_at : Name → Txn

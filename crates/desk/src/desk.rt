@@ -1,6 +1,7 @@
 //! The coordinator's machine.
 
 ghost use Rattle.std.specs.Prelude.{◌≡◌, ◌≢◌, ◌⊎◌, ◌+◌, ◌≤◌, ◌^◌, None, Some, true, false, Err, IfOk, IfErr, OnOk};
+ghost use Rattle.std.specs.BTreeMap.{IsOrdered};
 ghost use Rattle.std.specs.Option.{option_map};
 ghost use Rattle.meaning.specs.declared.statement.Statement.{Statement as StatementNow};
 ghost use Rattle.meaning.specs.Statement.{IsStatementOf};
@@ -11,6 +12,7 @@ ghost use Rattle.protocol.specs.Letters.{txn_name};
 ghost use Rattle.store.specs.DeskContent.{BeginsLife, IsUnchanged, Lists};
 ghost use Rattle.store.specs.Fault.{HasRefused};
 ghost use Rattle.store.specs.Frame.{LeavesStore};
+ghost use Rattle.store.specs.Name.{txn_cmp};
 ghost use Rattle.store.specs.declared.fault.StoreFault.TheVariants as store_faults;
 ghost use Rattle.store.specs.declared.reply.Reply.{Reply};
 ghost use Rattle.desk.specs.declared.refusal.Refusal.TheVariants as refusals;
@@ -64,6 +66,7 @@ impl<S: DeskStore> Desk<S> {
         ensures learnt { IfOk result (λ desk. S.is_clean desk.store → S.is_sound store) }
         ensures ok { (db : Database) → IsOver db catalog.0 → IfOk result (λ desk. S.is_clean desk.store → Rises db (S.kept desk.store) (volatile_of desk.volatile)) }
         ensures life { IfOk result (λ desk. S.is_clean desk.store → BeginsLife (S.kept store) (S.kept desk.store)) }
+        ensures ordered { IfOk result (λ desk. IsOrdered txn_cmp desk.volatile.standings) }
         ensures catalog { IfOk result (λ desk. desk.catalog ≡ catalog) }
         ensures given_back { IfErr result (λ unstarted. unstarted.catalog ≡ catalog) }
         ensures leaves_still { IfErr result (λ unstarted. LeavesStore S.is_clean S.is_sound S.refused store unstarted.store) }
