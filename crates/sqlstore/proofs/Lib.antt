@@ -21,3 +21,7 @@ pub mod Finding
 pub mod Creating
 pub mod Naming
 pub mod Scanning
+-- Those of the coordinator's store.
+pub mod DeskTexts
+pub mod DeskStepping
+pub mod Deciding

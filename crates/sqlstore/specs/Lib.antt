@@ -9,6 +9,13 @@ pub mod Tests
 pub mod Rows
 pub mod Step
 pub mod Query
+-- What the coordinator's tables hold, and what statements make of them.
+pub mod DeskTables
+pub mod Decided
+pub mod DeskSound
+pub mod DeskStep
+pub mod Votes
+pub mod DeskQuery
 -- What a store is to its callers.
 pub mod Listed
 pub mod Fresh

@@ -5,6 +5,9 @@
 
 pub mod blame;
 pub mod calls;
+pub mod commit;
+pub mod decision;
+pub mod epoch;
 pub mod find;
 pub mod intent;
 pub mod keep;
@@ -17,3 +20,4 @@ pub mod reading;
 pub mod site;
 pub mod steps;
 pub mod visit;
+pub mod vote;
