@@ -25,3 +25,7 @@ pub mod Scanning
 pub mod DeskTexts
 pub mod DeskStepping
 pub mod Deciding
+pub mod DeskTyped
+pub mod Voting
+pub mod Epochs
+pub mod Decisions

@@ -7,6 +7,7 @@ pub mod blame;
 pub mod calls;
 pub mod commit;
 pub mod decision;
+pub mod desk;
 pub mod epoch;
 pub mod find;
 pub mod intent;
