@@ -21,3 +21,4 @@ pub mod Finding
 pub mod Creating
 pub mod Naming
 pub mod Scanning
+pub mod Ours

@@ -1,5 +1,6 @@
 -- What the tables hold, in reading order.
 pub mod Tables
+pub mod Schemas
 pub mod Cells
 pub mod Content
 pub mod Sound
@@ -9,7 +10,9 @@ pub mod Tests
 pub mod Rows
 pub mod Step
 pub mod Query
+pub mod Numbered
 -- What a store is to its callers.
 pub mod Listed
+pub mod Gathered
 pub mod Fresh
 pub mod Site
