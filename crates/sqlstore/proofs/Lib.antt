@@ -22,3 +22,6 @@ pub mod Creating
 pub mod Naming
 pub mod Scanning
 pub mod Ours
+pub mod Whole
+pub mod Rising
+pub mod Looking

@@ -1,12 +1,15 @@
 -- All rows of a site's tables, as queries show them.
-use Rattle.std.specs.Prelude.{◌≡◌, ℕ, pos, ◌≤ℤ◌, Result, IfOk, IsTrue, List, [], ◌∷◌, slice_index_or}
+use Rattle.std.specs.Prelude.{◌≡◌, ℕ, pos, ◌≤ℤ◌, Bool, true, ◌&&◌, Result, IfOk, IsTrue, List, [], ◌∷◌, slice_index_or}
 use Rattle.std.specs.FinMap as map
-use Rattle.std.specs.List.{AllByRecursion}
+use Rattle.std.specs.List.{AllByRecursion, list_all, list_any}
+use Rattle.std.specs.Ordering.{int_eq}
 use Rattle.std.specs.List.Sorted.{IsSorted}
 use Rattle.sqlite.specs.Effect.{Database}
 use Rattle.sqlite.specs.Order.{Row, value_cmp}
 use Rattle.sqlite.specs.State.{State, HasCleanDisk}
+use Rattle.sqlite.specs.Term.{Term, lit, col}
 use Rattle.sqlite.specs.Tree.{rowid}
+use Rattle.sqlite.specs.declared.types.Value.TheVariants.{Null}
 use Rattle.sqlite.specs.declared.error.Error.{Error}
 use Rattle.sqlite_rules.specs.Lists.{Has}
 use Rattle.sqlstore.specs.declared.gathered.Gathered.{Gathered}
@@ -15,8 +18,17 @@ use Rattle.terms.specs.declared.leaf.Leaf.{Leaf}
 use Rattle.sqlstore.specs.Cells.{int_at}
 use Rattle.sqlstore.specs.Listed.{with_row}
 use Rattle.sqlstore.specs.Numbered.{AreNumbered}
-use Rattle.sqlstore.specs.Sound.{AreOfOne}
 use Rattle.sqlstore.specs.Tables.{site_schema}
+
+-- the columns of a prepared row, of an intent and of an incarnation, in the places that their tables have them
+abbrev pub prepared_terms : List Term
+prepared_terms = col 1 0 ∷ col 1 1 ∷ col 1 2 ∷ col 1 3 ∷ col 1 4 ∷ []
+
+abbrev pub intent_terms : List Term
+intent_terms = col 1 0 ∷ col 1 1 ∷ col 1 2 ∷ col 1 3 ∷ col 1 4 ∷ col 1 5 ∷ []
+
+abbrev pub state_terms : List Term
+state_terms = col 1 0 ∷ lit Null ∷ col 1 2 ∷ []
 
 -- all rows of a table and no others, in the order of their numbers
 pub record ShowsAll (rows found : List Row) : Type 0 where
@@ -42,9 +54,13 @@ abbrev pub parts_in : List Leaf → List Row → Changes
 parts_in leaves [] = map.empty
 parts_in leaves (row ∷ rows) = with_row leaves row (parts_in leaves rows)
 
--- for each row there is one of the same ticket among others
-abbrev pub AreMatched : List Row → List Row → Type 0
-AreMatched rows others = AllByRecursion (λ row. (other : Row) × Has others other × AreOfOne row other) rows
+-- whether two rows are of one ticket
+abbrev pub is_of_one : Row → Row → Bool
+is_of_one one other = int_eq (int_at one 1) (int_at other 1) && int_eq (int_at one 2) (int_at other 2)
+
+-- whether for each row there is one of the same ticket among others
+abbrev pub are_matched : List Row → List Row → Bool
+are_matched rows others = list_all (λ row. list_any (is_of_one row) others) rows
 
 -- no incarnation is below zero
 abbrev pub AreBegun : List Row → Type 0
@@ -55,8 +71,8 @@ pub record AreConsistent (tables : Gathered) : Type 0 where
   pub prepared : AreNumbered tables.prepared.items
   pub intents : AreNumbered tables.intents.items
   pub state : AreNumbered tables.state.items
-  pub intended : AreMatched tables.prepared.items tables.intents.items
-  pub promised : AreMatched tables.intents.items tables.prepared.items
+  pub intended : are_matched tables.prepared.items tables.intents.items ≡ true
+  pub promised : are_matched tables.intents.items tables.prepared.items ≡ true
 
 -- a query outside of a transaction: where the tables are a site's it leaves what is committed, and shows this of it
 pub record Looks {A : Type 0} (P : Database → A → Type 0) (old new : State) (result : Result A Error) : Type 0 where

@@ -1,5 +1,5 @@
 -- Rows in the order of their numbers.
-use Rattle.std.specs.Prelude.{◌≡◌, ◌⊎◌, ◌<ℤ◌, ℕ, ◌-◌, Bool, true, false, List, [], length, ◌<◌, ◌==◌, if◌then◌else◌, slice_index_or}
+use Rattle.std.specs.Prelude.{◌≡◌, ◌⊎◌, ◌<ℤ◌, ℕ, ◌-◌, Bool, true, false, List, [], length, ◌<◌, ◌==◌, MatchBool, slice_index_or}
 use Rattle.std.specs.List.{AllByRecursion}
 use Rattle.sqlite.specs.Edit.{id_in}
 use Rattle.sqlite.specs.Order.{Row}
@@ -27,7 +27,7 @@ row_at rows at = slice_index_or rows at []
 
 -- a row has a number, and follows the row before it, if there is one
 abbrev pub IsNumberedAt : List Row → ℕ → Type 0
-IsNumberedAt rows at = if at == 0 then is_int (rowid (row_at rows at)) ≡ true else Follows (row_at rows (at - 1)) (row_at rows at)
+IsNumberedAt rows at = MatchBool (at == 0) (is_int (rowid (row_at rows at)) ≡ true) (Follows (row_at rows (at - 1)) (row_at rows at))
 
 -- so has each
 abbrev pub AreNumbered : List Row → Type 0

@@ -1,6 +1,6 @@
 //! Cells of rows, read as what their columns hold.
 
-ghost use Rattle.std.specs.Prelude.{◌≡◌, ◌≤ℤ◌, pos, ¬◌, MatchOption};
+ghost use Rattle.std.specs.Prelude.{◌≡◌, ◌≤ℤ◌, pos, MatchOption};
 ghost use Rattle.sqlstore.specs.Cells.{text_at, int_at};
 ghost use Rattle.sqlstore.specs.Content.{is_of};
 

@@ -1,14 +1,12 @@
 //! Whether rows are as a store leaves them.
 
-ghost use Rattle.std.specs.List.{AllByRecursion};
+ghost use Rattle.std.specs.List.{AllByRecursion, list_any};
 ghost use Rattle.std.specs.Bool.{Decides};
 ghost use Rattle.std.specs.Prelude.{◌≡◌, ◌≢◌, OnOk, Err};
 ghost use Rattle.store.specs.declared.fault.StoreFault.TheVariants.{Refused, Damaged};
-ghost use Rattle.sqlite_rules.specs.Lists.{Has};
-ghost use Rattle.sqlite.specs.Order.{Row as Cells};
-ghost use Rattle.sqlstore.specs.Gathered.{AreBegun, AreMatched};
+ghost use Rattle.sqlstore.specs.Gathered.{AreBegun, are_matched, is_of_one};
 ghost use Rattle.sqlstore.specs.Listed.{HasCells};
-ghost use Rattle.sqlstore.specs.Sound.{IsPart, AreOfOne};
+ghost use Rattle.sqlstore.specs.Sound.{IsPart};
 
 use crate::cells::int_in;
 use crate::listing::part_row;
@@ -49,19 +47,19 @@ pub fn are_begun(rows: &[Row]) -> bool
 
 /// Whether for each row there is one of the same ticket among others.
 pub fn are_matched(rows: &[Row], others: &[Row]) -> bool
-    ensures { Decides result (AreMatched rows.now others.now) }
+    ensures { result ≡ are_matched rows.now others.now }
 {
     rows.iter().all(|row| is_matched(row, others))
 }
 
 fn is_matched(row: &Row, others: &[Row]) -> bool
-    ensures { Decides result ((other : Cells) × Has others.now other × AreOfOne row.now other) }
+    ensures { result ≡ list_any (is_of_one row.now) others.now }
 {
-    others.iter().any(|other| are_of_one(row, other))
+    others.iter().any(|other| is_of_one(row, other))
 }
 
-fn are_of_one(one: &Row, other: &Row) -> bool
-    ensures { Decides result (AreOfOne one.now other.now) }
+fn is_of_one(one: &Row, other: &Row) -> bool
+    ensures { result ≡ is_of_one one.now other.now }
 {
     int_in(one, 1) == int_in(other, 1) && int_in(one, 2) == int_in(other, 2)
 }

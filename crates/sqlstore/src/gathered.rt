@@ -58,7 +58,7 @@ fn state_rows<S: Alter>(conn: &mut Connection<S>) -> Result<Vec<Row>, Error>
 {
     let _live = conn.schema();
     let _settled = conn.is_autocommit();
-    conn.query_all("SELECT rowid, NULL, life FROM state ORDER BY rowid", &[])
+    conn.query_all("SELECT one, NULL, life FROM state ORDER BY one", &[])
 }
 
 /// The rows of each table but that of parts.

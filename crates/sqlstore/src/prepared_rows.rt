@@ -1,6 +1,6 @@
 //! Prepared rows and the incarnation, from the rows of the tables.
 
-ghost use Rattle.std.specs.Prelude.{◌≡◌, ◌≢◌, ¬◌, MatchOption, IfOk, OnOk, Some, true, if◌then◌else◌, [], Err, unsigned_abs};
+ghost use Rattle.std.specs.Prelude.{◌≡◌, ◌≢◌, MatchOption, IfOk, OnOk, Some, true, if◌then◌else◌, [], Err, unsigned_abs};
 ghost use Rattle.std.specs.Bool.{Decides};
 ghost use Rattle.std.specs.BTreeMap as tree;
 ghost use Rattle.std.specs.BTreeMap.{IsOrdered};
