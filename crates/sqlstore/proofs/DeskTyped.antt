@@ -31,8 +31,8 @@ pub record TypedVote (row : Row) : Type 0 where
 module _ (db : Database) (sound : IsDatabase db) (tables : AreTablesOf desk_schema db) where
   pub vote_typed : (row : Row) → Has (db.trees 0) row → TypedVote row
   vote_typed row there =
-      let typed = rule_kept desk_schema db sound tables Datatype _ (inl refl) row there in
-      let present = rule_kept desk_schema db sound tables NotNull _ (inl refl) row there in
+      let typed = rule_kept desk_schema db sound tables.schema Datatype _ (inl refl) row there in
+      let present = rule_kept desk_schema db sound tables.schema NotNull _ (inl refl) row there in
       let one = and_parts (not (is_null (column row 1))) _ present in
       let two = and_parts (not (is_null (column row 2))) _ one.1 in
       let three = and_parts (not (is_null (column row 3))) _ two.1 in
@@ -52,7 +52,7 @@ module _ (db : Database) (sound : IsDatabase db) (tables : AreTablesOf desk_sche
   vote_once one other h k life number site =
       let a = vote_typed one h in
       let b = vote_typed other k in
-      let free = test_has (λ i. not (guards i decided_table && clashes i.order i.columns (db.trees 0) other)) desk_schema.indexes _ (rule_kept desk_schema db sound tables Unique _ (inl refl) other k) (inl refl) in
+      let free = test_has (λ i. not (guards i decided_table && clashes i.order i.columns (db.trees 0) other)) desk_schema.indexes _ (rule_kept desk_schema db sound tables.schema Unique _ (inl refl) other k) (inl refl) in
       apart_or_one (db.trees 0) plain (1 ∷ 2 ∷ 3 ∷ []) one other (tables.keyed _ (inl refl)) h k (not-true _ free)
       (and_from _ _ (equal_same (column one 1) (column other 1) (a.txn_life ∙ ap Int life ∙ sym b.txn_life) (null_not (column other 1) _ b.txn_life refl))
       (and_from _ _ (equal_same (column one 2) (column other 2) (a.txn_number ∙ ap Int number ∙ sym b.txn_number) (null_not (column other 2) _ b.txn_number refl))
@@ -64,6 +64,6 @@ module _ (db : Database) (sound : IsDatabase db) (tables : AreTablesOf desk_sche
       let keyed = tables.keyed _ (inr (inl refl)) in
       let number = λ (row : Row) (there : Has (db.trees 2) row).
       let int = number_is (rowid row) (keyed.ints row there) in
-      let checks = and_parts _ true (rule_kept desk_schema db sound tables Check _ (inr (inl refl)) row there) in
+      let checks = and_parts _ true (rule_kept desk_schema db sound tables.schema Check _ (inr (inl refl)) row there) in
       int ∙ ap Int (equal_checked (id_in (rowid row)) (pos 1) (subst (λ v. not (is_false (binary (Compare Eq Binary) v (Int (pos 1)))) ≡ true) int checks.0)) in
       keyed.apart one other h k (number one h ∙ sym (number other k))

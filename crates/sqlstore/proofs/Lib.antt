@@ -21,6 +21,10 @@ pub mod Finding
 pub mod Creating
 pub mod Naming
 pub mod Scanning
+pub mod Ours
+pub mod Whole
+pub mod Rising
+pub mod Looking
 -- Those of the coordinator's store.
 pub mod DeskTexts
 pub mod DeskStepping

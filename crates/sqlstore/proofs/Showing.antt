@@ -37,25 +37,25 @@ fails_open old new sql c params e None h is_open = h.3.0.was_open
 fails_open old new sql c params e (Some what) (inl refused) is_open = refused.1.0.was_open
 fails_open old new sql c params e (Some what) (inr failed) is_open = failed.3.was_open is_open
 
-query_open : (old new : State) (sql : List ℕ) (params : Row) (e : Error) → FailsToQuery sql params old new e → IsTrue new.is_open → IsTrue old.is_open
+pub query_open : (old new : State) (sql : List ℕ) (params : Row) (e : Error) → FailsToQuery sql params old new e → IsTrue new.is_open → IsTrue old.is_open
 unfolding FailsToQuery
 query_open old new sql params e (inl idle) is_open = not_run_open old new sql params e idle is_open
 query_open old new sql params e (inr shown) is_open = fails_open old new sql shown.0 (timed params shown.0.formats shown.1.now) e shown.0.returning shown.2 is_open
 
-shown_open : (old new : State) (sql : List ℕ) (params : Row) (rows : List Row) → Shown sql params old new rows → IsTrue new.is_open → IsTrue old.is_open
+pub shown_open : (old new : State) (sql : List ℕ) (params : Row) (rows : List Row) → Shown sql params old new rows → IsTrue new.is_open → IsTrue old.is_open
 unfolding Shown
 shown_open old new sql params rows h is_open = shows_open old new sql h.0 (timed params h.0.formats h.1.now) rows h.0.returning h.2 is_open
 
 -- ---- a query proper changes nothing
 
 module _ (sql : List ℕ) (params : Row) (old new : State) (plain : IsPlain (understood old.now.schema sql)) where
-  shown_same : (rows : List Row) → Shown sql params old new rows → IsUnchanged old new
+  pub shown_same : (rows : List Row) → Shown sql params old new rows → IsUnchanged old new
   unfolding Shown
   shown_same rows h =
       let none = (subst IsPlain h.1.is plain).0 in
       (subst (ShowsRows old new sql h.0 (timed params h.0.formats h.1.now) rows) none h.2).3
 
-  query_keeps : (e : Error) → FailsToQuery sql params old new e → KeepsCommit old new
+  pub query_keeps : (e : Error) → FailsToQuery sql params old new e → KeepsCommit old new
   unfolding FailsToQuery IsNotRun
   query_keeps e (inl (inl same)) = unchanged_keeps old new same.1
   query_keeps e (inl (inr failed)) = undone_keeps old new failed.3

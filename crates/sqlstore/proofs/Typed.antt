@@ -28,10 +28,10 @@ use Rattle.sqlite_value.specs.Keys.{first_key, plain}
 use Rattle.sqlite_value.proofs.OrderLemmas.{value_cmp_total}
 use Rattle.sqlite_rules.proofs.TableLemmas.{int_is as number_is}
 use Rattle.sqlite.specs.Collation.TheVariants.{Binary}
-use Rattle.sqlstore.specs.Rows.{AreTables, AreTablesOf, AreKeyed}
+use Rattle.sqlstore.specs.Rows.{AreTables, AreKeyed}
 use Rattle.sqlstore.proofs.Deleting.{same_int}
 use Rattle.sqlstore.specs.Cells.{text_at, int_at}
-use Rattle.sqlstore.specs.Tables.{site_schema, part_table, prepared_table, intent_table}
+use Rattle.sqlstore.specs.Tables.{site_schema, part_table, prepared_table, intent_table, state_table}
 
 -- ---- types
 
@@ -137,21 +137,29 @@ apart_or_one rows order places one other keyed h k free agrees =
     let same : id_in (rowid one) ≡ id_in (rowid other) = differ_same (id_in (rowid one)) (id_in (rowid other)) (subst (λ v. differ v (Int (id_in (rowid other))) ≡ false) (number_is (rowid one) m) (subst (λ v. differ (rowid one) v ≡ false) (number_is (rowid other) n) alike)) in
     keyed.apart one other h k (number_is (rowid one) m ∙ ap Int same ∙ sym (number_is (rowid other) n))
 
-module _ (own : Schema) (db : Database) (sound : IsDatabase db) (tables : AreTablesOf own db) where
+module _ (own : Schema) (db : Database) (sound : IsDatabase db) (schema : db.schema ≡ own) where
   -- a rule of the schema holds of each row
   pub rule_kept : (rule : Constraint) (table : Table) → Has own.tables table → (row : Row) → Has (db.trees table.tree) row → passes rule own db.trees table row ≡ true
   rule_kept rule table listed row there =
       all_has (λ r. passes rule own db.trees table r ≡ true) (db.trees table.tree) row
-      (all_has (λ t. AllByRecursion (λ r. passes rule own db.trees t r ≡ true) (db.trees t.tree)) own.tables table (subst (λ s. Keeps rule s db.trees) tables.schema (sound.obeys.rules rule)) listed) there
+      (all_has (λ t. AllByRecursion (λ r. passes rule own db.trees t r ≡ true) (db.trees t.tree)) own.tables table (subst (λ s. Keeps rule s db.trees) schema (sound.obeys.rules rule)) listed) there
 
-module _ (db : Database) (sound : IsDatabase db) (tables : AreTables db) where
-  rule_holds : (rule : Constraint) (table : Table) → Has site_schema.tables table → (row : Row) → Has (db.trees table.tree) row → passes rule site_schema db.trees table row ≡ true
-  rule_holds = rule_kept site_schema db sound tables
+-- the incarnation's column, behind the one that the number stands for
+state_kind : (row : Row) → (are_typed state_table.key 0 state_table.columns (drop 1 row) && true) ≡ true → is_of kinds.Integer (column row 2) ≡ true
+state_kind [] typed = refl
+state_kind (n ∷ []) typed = refl
+state_kind (n ∷ one ∷ []) typed = refl
+state_kind (n ∷ one ∷ life ∷ more) typed = (and_parts (is_of kinds.Integer life) (are_typed (Some 0) 2 [] more) (and_parts (is_null one) _ (and_parts _ true typed).0).1).0
 
-  pub part_typed : (row : Row) → Has (db.trees 0) row → TypedPart row
-  part_typed row there =
-      let typed = rule_holds Datatype _ (inl refl) row there in
-      let present = rule_holds NotNull _ (inl refl) row there in
+module _ (db : Database) (sound : IsDatabase db) (schema : db.schema ≡ site_schema) where
+  -- a rule of the schema holds of each row
+  pub rule_at : (rule : Constraint) (table : Table) → Has site_schema.tables table → (row : Row) → Has (db.trees table.tree) row → passes rule site_schema db.trees table row ≡ true
+  rule_at = rule_kept site_schema db sound schema
+
+  pub typed_part : (row : Row) → Has (db.trees 0) row → TypedPart row
+  typed_part row there =
+      let typed = rule_at Datatype _ (inl refl) row there in
+      let present = rule_at NotNull _ (inl refl) row there in
       let one = and_parts (not (is_null (column row 1))) _ present in
       let two = and_parts (not (is_null (column row 2))) _ one.1 in
       let three = and_parts (not (is_null (column row 3))) _ two.1 in
@@ -161,10 +169,10 @@ module _ (db : Database) (sound : IsDatabase db) (tables : AreTables db) where
         body = blob_is (column row 3) (cell_kind part_table.columns row 2 _ _ typed refl refl) (not-true _ three.0);
       }
 
-  pub prepared_typed : (row : Row) → Has (db.trees 2) row → TypedPrepared row
-  prepared_typed row there =
-      let typed = rule_holds Datatype _ (inr (inl refl)) row there in
-      let present = rule_holds NotNull _ (inr (inl refl)) row there in
+  pub typed_prepared : (row : Row) → Has (db.trees 2) row → TypedPrepared row
+  typed_prepared row there =
+      let typed = rule_at Datatype _ (inr (inl refl)) row there in
+      let present = rule_at NotNull _ (inr (inl refl)) row there in
       let one = and_parts (not (is_null (column row 1))) _ present in
       let two = and_parts (not (is_null (column row 2))) _ one.1 in
       let three = and_parts (not (is_null (column row 3))) _ two.1 in
@@ -176,10 +184,10 @@ module _ (db : Database) (sound : IsDatabase db) (tables : AreTables db) where
         txn_number = int_is (column row 4) (cell_kind prepared_table.columns row 3 _ _ typed refl refl) (not-true _ four.0);
       }
 
-  pub intent_typed : (row : Row) → Has (db.trees 4) row → TypedIntent row
-  intent_typed row there =
-      let typed = rule_holds Datatype _ (inr (inr (inl refl))) row there in
-      let present = rule_holds NotNull _ (inr (inr (inl refl))) row there in
+  pub typed_intent : (row : Row) → Has (db.trees 4) row → TypedIntent row
+  typed_intent row there =
+      let typed = rule_at Datatype _ (inr (inr (inl refl))) row there in
+      let present = rule_at NotNull _ (inr (inr (inl refl))) row there in
       let one = and_parts (not (is_null (column row 1))) _ present in
       let two = and_parts (not (is_null (column row 2))) _ one.1 in
       let three = and_parts (not (is_null (column row 3))) _ two.1 in
@@ -192,6 +200,26 @@ module _ (db : Database) (sound : IsDatabase db) (tables : AreTables db) where
         key = int_is (column row 4) (cell_kind intent_table.columns row 3 _ _ typed refl refl) (not-true _ four.0);
         body = blob_is (column row 5) (cell_kind intent_table.columns row 4 _ _ typed refl refl) (not-true _ five.0);
       }
+
+  pub typed_state : (row : Row) → Has (db.trees 6) row → column row 2 ≡ Int (int_at row 2)
+  typed_state row there =
+      let typed = rule_at Datatype _ (inr (inr (inr (inl refl)))) row there in
+      let present = rule_at NotNull _ (inr (inr (inr (inl refl)))) row there in
+      let one = and_parts (not (is_null (column row 2))) true present in
+      int_is (column row 2) (state_kind row typed) (not-true _ one.0)
+
+module _ (db : Database) (sound : IsDatabase db) (tables : AreTables db) where
+  rule_holds : (rule : Constraint) (table : Table) → Has site_schema.tables table → (row : Row) → Has (db.trees table.tree) row → passes rule site_schema db.trees table row ≡ true
+  rule_holds = rule_at db sound tables.schema
+
+  pub part_typed : (row : Row) → Has (db.trees 0) row → TypedPart row
+  part_typed = typed_part db sound tables.schema
+
+  pub prepared_typed : (row : Row) → Has (db.trees 2) row → TypedPrepared row
+  prepared_typed = typed_prepared db sound tables.schema
+
+  pub intent_typed : (row : Row) → Has (db.trees 4) row → TypedIntent row
+  intent_typed = typed_intent db sound tables.schema
 
   -- a leaf has one part at a key
   pub part_once : (one other : Row) → Has (db.trees 0) one → Has (db.trees 0) other → text_at one 1 ≡ text_at other 1 → int_at one 2 ≡ int_at other 2 → one ≡ other

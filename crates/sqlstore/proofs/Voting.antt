@@ -1,20 +1,23 @@
 -- What lists of voters make is what their members say, in whatever order they stand.
-use Rattle.std.proofs.Common.{◌≡◌, ◌⊎◌, ℕ, Bool, true, false, cond, List, [], ◌∷◌, map, Option, Some, None, refl, sym, ap, ◌∙◌, inl, inr}
+use Rattle.std.proofs.Common.{◌≡◌, ◌⊎◌, ℕ, ◌+◌, ◌<◌, ◌++◌, length, take, get_or, Bool, true, false, cond, List, [], ◌∷◌, map, Option, Some, None, refl, sym, ap, ◌∙◌, inl, inr}
 use Rattle.std.specs.Cmp.Lexicographic.{slice_cmp}
 use Rattle.std.specs.FinMap as keyed
 use Rattle.std.specs.FinMap.{nat_cmp-IsAntisymmetric, slice_cmp-IsAntisymmetric}
 use Rattle.std.specs.Ordering.{is_eq, nat_cmp}
 use Rattle.std.proofs.lemmas.Bool.{both_ways}
 use Rattle.std.proofs.lemmas.Cmp.{nat_list_cmp_total}
+use Rattle.std.proofs.lemmas.List.{map-append, take_more}
 use Rattle.sqlite.specs.Order.{Row}
 use Rattle.sqlite_rules.specs.Lists.{Has}
-use Rattle.sqlite_rules.proofs.ListLemmas.{has_filtered, has_kept}
+use Rattle.sqlite_rules.proofs.ListLemmas.{has_filtered, has_kept, all_more}
 use Rattle.store.specs.declared.commit.Voter.{Voter}
 use Rattle.store.specs.declared.name.Ticket.{Ticket}
 use Rattle.store.specs.declared.name.Txn.{Txn}
 use Rattle.store.specs.DeskContent.{by_site, commit_row}
+use Rattle.sqlstore.specs.declared.vote.Vote.{Vote}
 use Rattle.sqlstore.specs.Cells.{is_text}
 use Rattle.sqlstore.specs.Decided.{is_by, voter_in, voters_by}
+use Rattle.sqlstore.specs.Votes.{AreVotes, IsNamed, vote_cells, voter_cells}
 use Rattle.sqlstore.proofs.Bridge.{text_same, same_text}
 use Rattle.sqlstore.proofs.Querying.{mapped_has, has_mapped}
 
@@ -50,10 +53,13 @@ look_voter (first ∷ voters) site = go (is_text site first.site) refl (look_vot
     go true same later = inl (first, inl refl, sym (text_same site first.site same), refl)
     go false differ (inl found) = inl (found.0, inr found.1, found.2, found.3)
     go false differ (inr none) =
-        inr (λ voter there same. elim there [
-          | inl is ↦ both_ways (is_text site first.site) differ (same_text site first.site (sym same ∙ ap (λ (v : Voter). v.site) is))
-          | inr after ↦ none.0 voter after same
-        ], none.1)
+        inr (
+          λ voter there same. elim there [
+            | inl is ↦ both_ways (is_text site first.site) differ (same_text site first.site (sym same ∙ ap (λ (v : Voter). v.site) is))
+            | inr after ↦ none.0 voter after same
+          ],
+          none.1,
+        )
 
 -- lists that have the same voters, each site once, make one map
 pub same_voters : (one other : List Voter) → ((voter : Voter) → Has one voter → Has other voter) → ((voter : Voter) → Has other voter → Has one voter) → ((a b : Voter) → Has other a → Has other b → a.site ≡ b.site → a ≡ b) → by_site one ≡ by_site other
@@ -82,3 +88,14 @@ no_commit (voter ∷ voters) none = absurd (none voter (inl refl))
 pub none_voted : (voters : List Voter) → commit_row voters ≡ None → (voter : Voter) → Has voters voter → ⊥
 none_voted [] none voter there = there
 none_voted (first ∷ voters) none voter there = cc
+
+-- ---- votes
+
+-- a vote more, of the next voter
+pub votes_more : (votes after : List Vote) (voters : List Voter) (i : ℕ) (vote : Vote) (voter : Voter) → i < length voters → voter ≡ get_or voters i voter → after ≡ votes ++ vote ∷ [] → vote_cells vote ≡ voter_cells voter → IsNamed voter → AreVotes votes (take i voters)
+    → AreVotes after (take (i + 1) voters)
+votes_more votes after voters i vote voter lt is pushed same named so_far = (
+  ap (map vote_cells) pushed ∙ map-append vote_cells votes (vote ∷ []) ∙ ap (λ cells. cells ++ vote_cells vote ∷ []) so_far.0 ∙ ap (λ cells. map voter_cells (take i voters) ++ cells ∷ []) (same ∙ ap voter_cells is)
+      ∙ sym (map-append voter_cells (take i voters) (get_or voters i voter ∷ [])) ∙ ap (map voter_cells) (sym (take_more voters i voter lt)),
+  all_more IsNamed voters i voter lt is so_far.1 named,
+)

@@ -1,5 +1,6 @@
 -- What the tables hold, in reading order.
 pub mod Tables
+pub mod Schemas
 pub mod Cells
 pub mod Content
 pub mod Sound
@@ -9,6 +10,7 @@ pub mod Tests
 pub mod Rows
 pub mod Step
 pub mod Query
+pub mod Numbered
 -- What the coordinator's tables hold, and what statements make of them.
 pub mod DeskTables
 pub mod Decided
@@ -19,5 +21,6 @@ pub mod DeskQuery
 pub mod Desk
 -- What a store is to its callers.
 pub mod Listed
+pub mod Gathered
 pub mod Fresh
 pub mod Site

@@ -49,12 +49,7 @@ impl<S: Alter> DeskStore for SqlDesk<S> {
 
     ghost refused = { λ desk. desk.refusals };
 
-    fn keep_commit(
-        &mut self,
-        txn: Txn,
-        voters: &[Voter],
-        version: u64,
-    ) -> Result<(), StoreFault> {
+    fn keep_commit(&mut self, txn: Txn, voters: &[Voter], version: u64) -> Result<(), StoreFault> {
         let _live = self.conn.schema();
         let decision = match decision_of(self.alloc, txn, voters, version) {
             Ok(Some(decision)) => decision,

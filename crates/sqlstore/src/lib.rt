@@ -5,19 +5,26 @@
 
 pub mod blame;
 pub mod calls;
+pub mod cells;
+pub mod checking;
 pub mod commit;
 pub mod decision;
 pub mod desk;
 pub mod epoch;
 pub mod find;
+pub mod gathered;
+pub mod intended;
 pub mod intent;
 pub mod keep;
 pub mod life;
 pub mod listing;
+pub mod numbered;
 pub mod open;
 pub mod param;
+pub mod prepared_rows;
 pub mod promise;
 pub mod reading;
+pub mod schema;
 pub mod site;
 pub mod steps;
 pub mod visit;
