@@ -51,11 +51,11 @@ parts_by txn row life number = and_from _ _ (same_int _ _ life) (same_int _ _ nu
 pos_same : (m n : ℕ) → pos m ≡ pos n → m ≡ n
 pos_same m n e = cc
 
-txn_same : (one other : Txn) → is_txn one other ≡ true → one ≡ other
+pub txn_same : (one other : Txn) → is_txn one other ≡ true → one ≡ other
 txn_same one other same = txn_cmp-IsAntisymmetric one other (is_equal _ same)
 
 -- a row is of one transaction alone
-one_txn : (one other : Txn) (row : Row) → is_by one row ≡ true → is_by other row ≡ true → is_txn one other ≡ true
+pub one_txn : (one other : Txn) (row : Row) → is_by one row ≡ true → is_by other row ≡ true → is_txn one other ≡ true
 one_txn one other row mine its =
     let a = by_parts one row mine in
     let b = by_parts other row its in
@@ -78,7 +78,7 @@ voters_apart db sound tables txn a b h k same =
     one.3 ∙ ap voter_in (vote_once db sound tables one.0 other.0 one.1 other.1 (m.0 ∙ sym n.0) (m.1 ∙ sym n.1) site) ∙ sym other.3
 
 -- where the rows of a transaction are the same, so is its commit row
-same_rows : (db : Database) (sound : IsDatabase db) (tables : AreTablesOf desk_schema db) (txn : Txn) (rows : List Row) → ((row : Row) → Has rows row → is_by txn row ≡ true → Has (db.trees 0) row) → ((row : Row) → Has (db.trees 0) row → is_by txn row ≡ true → Has rows row)
+pub same_rows : (db : Database) (sound : IsDatabase db) (tables : AreTablesOf desk_schema db) (txn : Txn) (rows : List Row) → ((row : Row) → Has rows row → is_by txn row ≡ true → Has (db.trees 0) row) → ((row : Row) → Has (db.trees 0) row → is_by txn row ≡ true → Has rows row)
     → commit_row (voters_by rows txn) ≡ commit_row (voters_by (db.trees 0) txn)
 same_rows db sound tables txn rows to from =
     same_commit (voters_by rows txn) (voters_by (db.trees 0) txn)
@@ -282,11 +282,8 @@ module _ (txn : Txn) (voters : List Voter) (version : ℕ) (decision : Decision)
 
   vote_told : (row : Row) (voter : Voter) → Has voters voter → Tells row txn voter → IsVote row
   vote_told row voter there told = record {
-    txn_life = from_zero _ _ told.txn_life;
-    txn_number = from_zero _ _ told.txn_number;
+    names = record { txn_life = from_zero _ _ told.txn_life; txn_number = from_zero _ _ told.txn_number; life = from_zero _ _ told.life; visit = from_zero _ _ told.visit };
     site = subst IsUtf8 (sym told.site) (all_has IsNamed voters voter is.votes.1 there);
-    life = from_zero _ _ told.life;
-    visit = from_zero _ _ told.visit;
   }
 
   pub decides_stored : IsDecided new

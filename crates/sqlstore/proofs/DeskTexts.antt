@@ -7,9 +7,10 @@ use Rattle.sqlite.specs.Term.{lit, col}
 use Rattle.sqlite.specs.declared.types.Value.TheVariants.{Null, Int}
 use Rattle.sqlite.proofs.Callers.{IsPlain, command_of}
 use Rattle.sqlite_tied.specs.Compute.{everything}
+use Rattle.sqlstore.specs.DeskRows.{vote_terms, state_terms}
 use Rattle.sqlstore.specs.DeskTables.{desk_schema}
 use Rattle.sqlstore.specs.Tests.{of_visit}
-use Rattle.sqlstore.proofs.Texts.{deletes_from, selects}
+use Rattle.sqlstore.proofs.Texts.{deletes_from, selects, lists}
 
 -- ---- what changes
 
@@ -73,3 +74,39 @@ epochs_plain = (refl, refl)
 pub epochs_unlisted : reads_listing desk_schema epochs_text ≡ false
 unfolding understood everything
 epochs_unlisted = refl
+
+abbrev pub votes_text : List ℕ
+votes_text = codes "SELECT rowid, tlife, tnumber, site, life, visit FROM decided ORDER BY rowid"
+
+abbrev pub votes_names : List (List ℕ)
+votes_names = codes "rowid" ∷ codes "tlife" ∷ codes "tnumber" ∷ codes "site" ∷ codes "life" ∷ codes "visit" ∷ []
+
+pub votes_is : command_of (understood desk_schema votes_text) ≡ lists 0 vote_terms votes_names
+unfolding understood everything
+votes_is = refl
+
+pub votes_plain : IsPlain (understood desk_schema votes_text)
+unfolding understood everything
+votes_plain = (refl, refl)
+
+pub votes_unlisted : reads_listing desk_schema votes_text ≡ false
+unfolding understood everything
+votes_unlisted = refl
+
+abbrev pub state_text : List ℕ
+state_text = codes "SELECT one, NULL, life, version FROM state ORDER BY one"
+
+abbrev pub state_names : List (List ℕ)
+state_names = codes "one" ∷ codes "NULL" ∷ codes "life" ∷ codes "version" ∷ []
+
+pub state_is : command_of (understood desk_schema state_text) ≡ lists 2 state_terms state_names
+unfolding understood everything
+state_is = refl
+
+pub state_plain : IsPlain (understood desk_schema state_text)
+unfolding understood everything
+state_plain = (refl, refl)
+
+pub state_unlisted : reads_listing desk_schema state_text ≡ false
+unfolding understood everything
+state_unlisted = refl

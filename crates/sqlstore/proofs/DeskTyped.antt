@@ -1,9 +1,10 @@
 -- What the coordinator's schema says of the cells of rows: their types, and which rows differ.
-use Rattle.std.proofs.Common.{◌≡◌, ℤ, pos, true, not, ◌&&◌, List, [], ◌∷◌, refl, sym, ap, ◌∙◌, subst, inl, inr}
+use Rattle.std.proofs.Common.{◌≡◌, ℤ, pos, true, not, ◌&&◌, List, [], ◌∷◌, drop, Some, refl, sym, ap, ◌∙◌, subst, inl, inr}
 use Rattle.std.proofs.lemmas.Bool.{and_parts, and_from, not-true}
 use Rattle.sqlite.specs.Collation.TheVariants.{Binary}
 use Rattle.sqlite.specs.Effect.{Database, IsDatabase}
 use Rattle.sqlite.specs.Edit.{id_in}
+use Rattle.sqlite.specs.Kind.TheVariants as kinds
 use Rattle.sqlite.specs.Ops.{is_null, binary, is_false}
 use Rattle.sqlite.specs.Order.{Row, column}
 use Rattle.sqlite.specs.Tree.{rowid}
@@ -12,12 +13,12 @@ use Rattle.sqlite_rules.specs.Lists.{Has}
 use Rattle.sqlite_rules.proofs.ListLemmas.{test_has}
 use Rattle.sqlite_rules.proofs.TableLemmas.{int_is as number_is}
 use Rattle.sqlite_schema.specs.declared.schema.Constraint.TheVariants.{Datatype, NotNull, Check, Unique}
-use Rattle.sqlite_schema.specs.Rules.{clashes, guards}
+use Rattle.sqlite_schema.specs.Rules.{are_typed, is_of, clashes, guards}
 use Rattle.sqlite_sql.specs.declared.ops.BinaryOp.TheVariants.{Compare}
 use Rattle.sqlite_sql.specs.declared.ops.CompareOp.TheVariants.{Eq}
 use Rattle.sqlite_value.specs.Keys.{first_key, plain}
 use Rattle.sqlstore.specs.Cells.{text_at, int_at}
-use Rattle.sqlstore.specs.DeskTables.{desk_schema, decided_table}
+use Rattle.sqlstore.specs.DeskTables.{desk_schema, decided_table, epoch_table}
 use Rattle.sqlstore.specs.Rows.{AreTablesOf}
 use Rattle.sqlstore.proofs.Typed.{text_is, int_is, cell_kind, equal_same, null_not, equal_checked, apart_or_one, rule_kept}
 
@@ -28,11 +29,28 @@ pub record TypedVote (row : Row) : Type 0 where
   pub life : column row 4 ≡ Int (int_at row 4)
   pub visit : column row 5 ≡ Int (int_at row 5)
 
-module _ (db : Database) (sound : IsDatabase db) (tables : AreTablesOf desk_schema db) where
-  pub vote_typed : (row : Row) → Has (db.trees 0) row → TypedVote row
-  vote_typed row there =
-      let typed = rule_kept desk_schema db sound tables.schema Datatype _ (inl refl) row there in
-      let present = rule_kept desk_schema db sound tables.schema NotNull _ (inl refl) row there in
+pub record TypedEpoch (row : Row) : Type 0 where
+  pub life : column row 2 ≡ Int (int_at row 2)
+  pub version : column row 3 ≡ Int (int_at row 3)
+
+-- the columns behind the one that the number stands for
+epoch_kinds : (row : Row) → (are_typed epoch_table.key 0 epoch_table.columns (drop 1 row) && true) ≡ true → (is_of kinds.Integer (column row 2) ≡ true) × (is_of kinds.Integer (column row 3) ≡ true)
+epoch_kinds [] typed = (refl, refl)
+epoch_kinds (n ∷ []) typed = (refl, refl)
+epoch_kinds (n ∷ one ∷ []) typed = (refl, refl)
+epoch_kinds (n ∷ one ∷ life ∷ []) typed =
+    let cells = and_parts (is_null one) _ (and_parts _ true typed).0 in
+    ((and_parts (is_of kinds.Integer life) _ cells.1).0, refl)
+epoch_kinds (n ∷ one ∷ life ∷ version ∷ more) typed =
+    let cells = and_parts (is_null one) _ (and_parts _ true typed).0 in
+    let rest = and_parts (is_of kinds.Integer life) _ cells.1 in
+    (rest.0, (and_parts (is_of kinds.Integer version) (are_typed (Some 0) 3 [] more) rest.1).0)
+
+module _ (db : Database) (sound : IsDatabase db) (schema : db.schema ≡ desk_schema) where
+  pub typed_vote : (row : Row) → Has (db.trees 0) row → TypedVote row
+  typed_vote row there =
+      let typed = rule_kept desk_schema db sound schema Datatype _ (inl refl) row there in
+      let present = rule_kept desk_schema db sound schema NotNull _ (inl refl) row there in
       let one = and_parts (not (is_null (column row 1))) _ present in
       let two = and_parts (not (is_null (column row 2))) _ one.1 in
       let three = and_parts (not (is_null (column row 3))) _ two.1 in
@@ -45,6 +63,19 @@ module _ (db : Database) (sound : IsDatabase db) (tables : AreTablesOf desk_sche
         life = int_is (column row 4) (cell_kind decided_table.columns row 3 _ _ typed refl refl) (not-true _ four.0);
         visit = int_is (column row 5) (cell_kind decided_table.columns row 4 _ _ typed refl refl) (not-true _ five.0);
       }
+
+  pub typed_epoch : (row : Row) → Has (db.trees 2) row → TypedEpoch row
+  typed_epoch row there =
+      let typed = rule_kept desk_schema db sound schema Datatype _ (inr (inl refl)) row there in
+      let present = rule_kept desk_schema db sound schema NotNull _ (inr (inl refl)) row there in
+      let one = and_parts (not (is_null (column row 2))) _ present in
+      let two = and_parts (not (is_null (column row 3))) true one.1 in
+      let kinds = epoch_kinds row typed in
+      record { life = int_is (column row 2) kinds.0 (not-true _ one.0); version = int_is (column row 3) kinds.1 (not-true _ two.0) }
+
+module _ (db : Database) (sound : IsDatabase db) (tables : AreTablesOf desk_schema db) where
+  pub vote_typed : (row : Row) → Has (db.trees 0) row → TypedVote row
+  vote_typed = typed_vote db sound tables.schema
 
   -- a site votes once for a transaction
   pub vote_once : (one other : Row) → Has (db.trees 0) one → Has (db.trees 0) other → int_at one 1 ≡ int_at other 1 → int_at one 2 ≡ int_at other 2 → text_at one 3 ≡ text_at other 3 → one ≡ other

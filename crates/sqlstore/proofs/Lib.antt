@@ -33,3 +33,6 @@ pub mod DeskTyped
 pub mod Voting
 pub mod Epochs
 pub mod Decisions
+pub mod DeskWhole
+pub mod DeskOurs
+pub mod Telling

@@ -19,7 +19,7 @@ indexes_are : site_schema.indexes ≡ site_indexes
 unfolding everything
 indexes_are = refl
 
-schema_of : (one other : Schema) → one.tables ≡ other.tables → one.indexes ≡ other.indexes → one.views ≡ other.views → one ≡ other
+pub schema_of : (one other : Schema) → one.tables ≡ other.tables → one.indexes ≡ other.indexes → one.views ≡ other.views → one ≡ other
 schema_of one other tables indexes views = λ i. record { tables = tables i; indexes = indexes i; views = views i }
 
 pub views_none : (schema : Schema) → schema ≡ site_schema → schema.views ≡ []

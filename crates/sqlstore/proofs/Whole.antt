@@ -19,13 +19,13 @@ use Rattle.sqlstore.specs.Tables.{site_schema, part_table, prepared_table, inten
 use Rattle.sqlstore.specs.Tests.{shown}
 use Rattle.sqlstore.proofs.Typed.{rule_at, typed_part, typed_prepared, typed_intent, typed_state}
 
-no_longer : (key : Option ℕ) (columns : List Column) (at : ℕ) (values : Row) → are_typed key at columns values ≡ true → length values ≤ length columns
+pub no_longer : (key : Option ℕ) (columns : List Column) (at : ℕ) (values : Row) → are_typed key at columns values ≡ true → length values ≤ length columns
 no_longer key [] at [] typed = omega arith
 no_longer key [] at (v ∷ values) typed = absurd cc
 no_longer key (c ∷ columns) at [] typed = omega arith
 no_longer key (c ∷ columns) at (v ∷ values) typed = let rest = no_longer key columns (at + 1) values (and_parts _ (are_typed key (at + 1) columns values) typed).1 in omega (arith, rest)
 
-with_number : (row : Row) (most : ℕ) → length (drop 1 row) ≤ most → length row ≤ suc most
+pub with_number : (row : Row) (most : ℕ) → length (drop 1 row) ≤ most → length row ≤ suc most
 with_number [] most within = omega arith
 with_number (v ∷ row) most within = omega (arith, within)
 
@@ -40,7 +40,7 @@ three (a ∷ b ∷ []) within full = absurd (there _ full refl)
 three (a ∷ b ∷ c ∷ []) within full = refl
 three (a ∷ b ∷ c ∷ d ∷ more) within full = absurd (omega (arith, within))
 
-four : (row : Row) → length row ≤ 4 → is_null (column row 3) ≡ false → row ≡ column row 0 ∷ column row 1 ∷ column row 2 ∷ column row 3 ∷ []
+pub four : (row : Row) → length row ≤ 4 → is_null (column row 3) ≡ false → row ≡ column row 0 ∷ column row 1 ∷ column row 2 ∷ column row 3 ∷ []
 four [] within full = absurd (there _ full refl)
 four (a ∷ row) within full = ap (λ r. a ∷ r) (three row (omega (arith, within)) full)
 
@@ -48,11 +48,11 @@ five : (row : Row) → length row ≤ 5 → is_null (column row 4) ≡ false →
 five [] within full = absurd (there _ full refl)
 five (a ∷ row) within full = ap (λ r. a ∷ r) (four row (omega (arith, within)) full)
 
-six : (row : Row) → length row ≤ 6 → is_null (column row 5) ≡ false → row ≡ column row 0 ∷ column row 1 ∷ column row 2 ∷ column row 3 ∷ column row 4 ∷ column row 5 ∷ []
+pub six : (row : Row) → length row ≤ 6 → is_null (column row 5) ≡ false → row ≡ column row 0 ∷ column row 1 ∷ column row 2 ∷ column row 3 ∷ column row 4 ∷ column row 5 ∷ []
 six [] within full = absurd (there _ full refl)
 six (a ∷ row) within full = ap (λ r. a ∷ r) (five row (omega (arith, within)) full)
 
-null_is : (v : Value) → is_null v ≡ true → v ≡ Null
+pub null_is : (v : Value) → is_null v ≡ true → v ≡ Null
 null_is Null is = refl
 null_is (Int n) is = absurd cc
 null_is (Real x) is = absurd cc
@@ -65,7 +65,7 @@ key_null [] typed = refl
 key_null (n ∷ []) typed = refl
 key_null (n ∷ v ∷ row) typed = null_is v (and_parts (is_null v) _ typed).0
 
-number_plain : (v : Value) → is_int v ≡ true → is_real v ≡ false
+pub number_plain : (v : Value) → is_int v ≡ true → is_real v ≡ false
 number_plain Null is = absurd cc
 number_plain (Int n) is = refl
 number_plain (Real x) is = absurd cc

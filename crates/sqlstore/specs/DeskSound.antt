@@ -8,13 +8,17 @@ use Rattle.sqlstore.specs.Cells.{text_at, int_at}
 use Rattle.sqlstore.specs.DeskTables.{desk_schema}
 use Rattle.sqlstore.specs.Rows.{AreTablesOf}
 
--- no number of a voter's row is below zero, and the site's name is a text
-pub record IsVote (row : Row) : Type 0 where
+-- no number of a voter's row is below zero
+pub record HasNames (row : Row) : Type 0 where
   pub txn_life : pos 0 ≤ℤ int_at row 1
   pub txn_number : pos 0 ≤ℤ int_at row 2
-  pub site : IsUtf8 (text_at row 3)
   pub life : pos 0 ≤ℤ int_at row 4
   pub visit : pos 0 ≤ℤ int_at row 5
+
+-- and the site's name is a text
+pub record IsVote (row : Row) : Type 0 where
+  pub names : HasNames row
+  pub site : IsUtf8 (text_at row 3)
 
 -- neither the incarnation nor the version is below zero
 pub record IsEpoch (row : Row) : Type 0 where

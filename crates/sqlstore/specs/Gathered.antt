@@ -6,6 +6,7 @@ use Rattle.std.specs.Ordering.{int_eq}
 use Rattle.std.specs.List.Sorted.{IsSorted}
 use Rattle.sqlite.specs.Effect.{Database}
 use Rattle.sqlite.specs.Order.{Row, value_cmp}
+use Rattle.sqlite.specs.Schema.{Schema}
 use Rattle.sqlite.specs.State.{State, HasCleanDisk}
 use Rattle.sqlite.specs.Term.{Term, lit, col}
 use Rattle.sqlite.specs.Tree.{rowid}
@@ -74,9 +75,13 @@ pub record AreConsistent (tables : Gathered) : Type 0 where
   pub intended : are_matched tables.prepared.items tables.intents.items ≡ true
   pub promised : are_matched tables.intents.items tables.prepared.items ≡ true
 
--- a query outside of a transaction: where the tables are a site's it leaves what is committed, and shows this of it
-pub record Looks {A : Type 0} (P : Database → A → Type 0) (old new : State) (result : Result A Error) : Type 0 where
+-- a query outside of a transaction: where the tables are those of a store it leaves what is committed, and shows this of it
+pub record LooksOf {A : Type 0} (own : Schema) (P : Database → A → Type 0) (old new : State) (result : Result A Error) : Type 0 where
   pub clean : HasCleanDisk new → HasCleanDisk old
   pub was_open : HasCleanDisk new → IsTrue new.is_open → IsTrue old.is_open
-  pub same : HasCleanDisk new → IsTrue new.is_open → old.committed.schema ≡ site_schema → new.committed ≡ old.committed
-  pub shows : HasCleanDisk new → IsTrue new.is_open → old.committed.schema ≡ site_schema → IfOk result (P old.committed)
+  pub same : HasCleanDisk new → IsTrue new.is_open → old.committed.schema ≡ own → new.committed ≡ old.committed
+  pub shows : HasCleanDisk new → IsTrue new.is_open → old.committed.schema ≡ own → IfOk result (P old.committed)
+
+-- so where the tables are a site's
+abbrev pub Looks : {A : Type 0} → (Database → A → Type 0) → State → State → Result A Error → Type 0
+Looks P old new result = LooksOf site_schema P old new result

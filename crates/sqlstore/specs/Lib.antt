@@ -22,5 +22,6 @@ pub mod Desk
 -- What a store is to its callers.
 pub mod Listed
 pub mod Gathered
+pub mod DeskRows
 pub mod Fresh
 pub mod Site

@@ -1,10 +1,16 @@
 //! The coordinator's store in SQLite.
 
-ghost use Rattle.std.specs.Prelude.{◌≡◌, false};
+ghost use Rattle.std.specs.Prelude.{◌≡◌, false, IfOk, IsTrue};
+ghost use Rattle.std.specs.Bool.{Decides};
+ghost use Rattle.sqlite.specs.Held.{state};
+ghost use Rattle.sqlstore.specs.DeskTables.{desk_schema};
 
 use crate::blame::{blame, refuse};
 use crate::commit::{decide, undecide};
+use crate::commit_rows::kept_of;
 use crate::decision::decision_of;
+use crate::desk_rows::desk_rows;
+use crate::desk_schema::is_desk_schema;
 use crate::epoch::begin_next;
 use crate::visit::txn_of;
 use sqlite::{Alter, Connection};
@@ -13,6 +19,7 @@ use store::commit::{DeskKept, Voter};
 use store::desk_store::DeskStore;
 use store::fault::StoreFault;
 use store::name::Txn;
+use terms::memory::Memory;
 
 /// The coordinator's store in a SQLite database of its own.
 #[derive(Drop)]
@@ -21,6 +28,15 @@ pub struct SqlDesk<S: Alter> {
     conn: Connection<S>,
     refusals: u64,
     ghost settled: { conn.in_transaction ≡ false },
+}
+
+/// Whether the tables are a coordinator's.
+fn is_ours<S: Alter>(alloc: Global, conn: &Connection<S>) -> Result<bool, Memory>
+    requires { conn.now.in_transaction ≡ false }
+    ensures { IfOk result (λ is. IsTrue (state S.Store conn.now).is_open → Decides is ((state S.Store conn.now).committed.schema ≡ desk_schema)) }
+{
+    let _settled = conn.is_autocommit();
+    is_desk_schema(alloc, conn.schema())
 }
 
 impl<S: Alter> SqlDesk<S> {
@@ -83,7 +99,16 @@ impl<S: Alter> DeskStore for SqlDesk<S> {
     }
 
     fn load(&mut self) -> Result<DeskKept, StoreFault> {
-        Err(StoreFault::Memory)
+        match is_ours(self.alloc, &self.conn) {
+            Ok(true) => {}
+            Ok(false) => return Err(StoreFault::Damaged),
+            Err(_) => return Err(StoreFault::Memory),
+        }
+        let _live = self.conn.schema();
+        match desk_rows(&mut self.conn) {
+            Ok(rows) => kept_of(self.alloc, &rows),
+            Err(error) => Err(blame(&mut self.refusals, error)),
+        }
     }
 
     fn refusals(&self) -> u64 {

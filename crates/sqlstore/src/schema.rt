@@ -17,7 +17,7 @@ use std::alloc::Global;
 use terms::memory::Memory;
 
 /// Whether a column has this name and type, and is never NULL.
-fn is_column(column: &Column, name: &str, kind: Kind) -> bool
+pub fn is_column(column: &Column, name: &str, kind: Kind) -> bool
     ensures { Decides result (column.now ≡ column_of name.now kind) }
 {
     column.name.as_slice() == name.as_bytes()
@@ -92,7 +92,7 @@ fn are_no_terms(alloc: Global, terms: &Terms) -> Result<bool, Memory>
     Ok(lent.roots.is_empty())
 }
 
-fn are_state_checks(alloc: Global, terms: &Terms) -> Result<bool, Memory>
+pub fn are_state_checks(alloc: Global, terms: &Terms) -> Result<bool, Memory>
     ensures { IfOk result (λ is. Decides is (terms.now ≡ state_table.checks)) }
 {
     let lent = terms.lend(alloc)?;
@@ -110,7 +110,7 @@ fn are_no_stamps(alloc: Global, stamps: &Stamps) -> Result<bool, Memory>
 }
 
 /// Whether a table refers to no other, computes no column and doesn't count.
-fn is_bare(alloc: Global, table: &Table) -> Result<bool, Memory>
+pub fn is_bare(alloc: Global, table: &Table) -> Result<bool, Memory>
     ensures { IfOk result (λ is. Decides is (IsBare table.now)) }
 {
     let bare = table.references.is_empty() && table.computed.is_empty() && !table.is_counted;
@@ -146,7 +146,7 @@ fn is_keyed(table: &Table, key: &[usize]) -> bool
 }
 
 /// Whether a table of these columns has this name, place and key, and nothing else.
-fn is_keyed_table(
+pub fn is_keyed_table(
     alloc: Global,
     table: &Table,
     name: &str,
@@ -162,7 +162,7 @@ fn is_keyed_table(
 }
 
 /// Whether the number of a table is its key.
-fn is_keyed_by_number(table: &Table) -> bool
+pub fn is_keyed_by_number(table: &Table) -> bool
     ensures { Decides result (IsKeyedByNumber table.now) }
 {
     table.key == Some(0)
@@ -200,7 +200,7 @@ fn are_site_tables(alloc: Global, tables: &[Table]) -> Result<bool, Memory>
 }
 
 /// Whether an index is a table's own, over these places in ascending order.
-fn is_index(index: &Index, name: &str, tree: u32, table: u32, columns: &[usize]) -> bool
+pub fn is_index(index: &Index, name: &str, tree: u32, table: u32, columns: &[usize]) -> bool
     ensures { Decides result (index.now ≡ index_of name.now tree table columns.now) }
 {
     index.name.as_slice() == name.as_bytes()
