@@ -25,3 +25,6 @@ pub mod Ours
 pub mod Whole
 pub mod Rising
 pub mod Looking
+pub mod Sharing
+pub mod Backward
+pub mod Consistent
