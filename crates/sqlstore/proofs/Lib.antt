@@ -25,6 +25,9 @@ pub mod Ours
 pub mod Whole
 pub mod Rising
 pub mod Looking
+pub mod Sharing
+pub mod Backward
+pub mod Consistent
 -- Those of the coordinator's store.
 pub mod DeskTexts
 pub mod DeskStepping

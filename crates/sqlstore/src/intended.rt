@@ -86,8 +86,9 @@ pub fn changes_for(
     let mut at = intents.len();
     while at > 0 {
         at -= 1;
-        if is_of(&intents[at], ticket) {
-            put_intent(&mut changes, alloc, leaves, &intents[at])?;
+        let intent = &intents[at];
+        if is_of(intent, ticket) {
+            put_intent(&mut changes, alloc, leaves, intent)?;
         }
     }
     Ok(changes)
