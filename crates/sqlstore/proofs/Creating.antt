@@ -36,7 +36,7 @@ pub record Creates (before : Schema) (table : Table) (old new : State) : Type 0 
   pub mode : new.in_transaction ≡ old.in_transaction
   pub committed : old.in_transaction ≡ false → new.committed ≡ new.now
 
-creates : (text : List ℕ) (before : Schema) (table : Table) → table_defined_by text ≡ Ok table → command_of (understood before text) ≡ CreateTable → statement_of text (understood before text) ≡ text → IsPlain (understood before text) → lacks_sequence (created before table) ≡ false
+pub creates : (text : List ℕ) (before : Schema) (table : Table) → table_defined_by text ≡ Ok table → command_of (understood before text) ≡ CreateTable → statement_of text (understood before text) ≡ text → IsPlain (understood before text) → lacks_sequence (created before table) ≡ false
     → (old new : State) → old.now.schema ≡ before → (count : ℕ) → Executes text [] old new (Ok count) → Creates before table old new
 creates text before table defined is whole plain lacks old new has count ran =
     let w = subst (λ t. Writes old new None CreateTable t [] count) whole (runs_as text [] old new before has CreateTable is plain count ran) in
@@ -99,7 +99,7 @@ creates_all a b c d e outside one two three four = (
 
 -- ---- new tables are as the store leaves them
 
-no_rows : (rows : List Row) → rows ≡ [] → AreKeyed rows
+pub no_rows : (rows : List Row) → rows ≡ [] → AreKeyed rows
 no_rows rows none = subst AreKeyed (sym none) (record { ints = λ row there. absurd there; apart = λ one other h k same. absurd h })
 
 pub fresh_stored : (leaves : List Leaf) (db : Database) → AreFresh db → IsStored leaves db

@@ -38,4 +38,5 @@ pub mod Epochs
 pub mod Decisions
 pub mod DeskWhole
 pub mod DeskOurs
+pub mod DeskCreating
 pub mod Telling

@@ -18,6 +18,7 @@ pub mod DeskSound
 pub mod DeskStep
 pub mod Votes
 pub mod DeskQuery
+pub mod DeskFresh
 pub mod Desk
 -- What a store is to its callers.
 pub mod Listed

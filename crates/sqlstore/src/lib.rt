@@ -11,6 +11,7 @@ pub mod commit;
 pub mod commit_rows;
 pub mod decision;
 pub mod desk;
+pub mod desk_open;
 pub mod desk_rows;
 pub mod desk_schema;
 pub mod epoch;
