@@ -28,3 +28,4 @@ pub mod Looking
 pub mod Sharing
 pub mod Backward
 pub mod Consistent
+pub mod Showed

@@ -14,6 +14,7 @@ pub mod intent;
 pub mod keep;
 pub mod life;
 pub mod listing;
+pub mod loading;
 pub mod numbered;
 pub mod open;
 pub mod param;
