@@ -24,4 +24,5 @@ pub mod reading;
 pub mod schema;
 pub mod site;
 pub mod steps;
+pub mod tables;
 pub mod visit;
