@@ -1,5 +1,5 @@
 -- Rows that pass each test are as a site's store leaves them, and the other way about.
-use Rattle.std.proofs.Common.{◌≡◌, ◌&&◌, Bool, true, List, [], ◌∷◌, refl, sym, ap, ◌∙◌, subst, inl, inr}
+use Rattle.std.proofs.Common.{◌≡◌, ◌&&◌, Bool, true, List, [], ◌∷◌, Result, Ok, Err, OnOk, refl, sym, ap, ◌∙◌, subst, inl, inr}
 use Rattle.std.specs.List.{AllByRecursion, list_all, list_any}
 use Rattle.std.specs.Ordering.{int_eq}
 use Rattle.std.proofs.lemmas.Bool.{and_parts, and_from}
@@ -44,6 +44,10 @@ at_matched rows others each =
     all_pass (λ r. list_any (is_of_one r) others) rows (λ row there. let its = each row there in some_from (is_of_one row) others its.0 its.1 (is_one row its.0 its.2))
 
 -- ---- what is stored
+
+pub on_ok : {T E P Q : Type 0} (result : Result T E) → (P → Q) → OnOk result P → OnOk result Q
+on_ok (Ok value) means holds = means holds
+on_ok (Err e) means holds = tt
 
 no_rows : AreKeyed []
 no_rows = record { ints = λ row there. absurd there; apart = λ one other h k same. absurd h }
@@ -107,3 +111,6 @@ module _ (leaves : List Leaf) (tables : Gathered) where
     promised = stored.promised;
     begun = stored.begun;
   }
+
+  pub parts_of : (parts : List Row) → IsStored leaves (gathered parts tables) → AllByRecursion (IsPart leaves) parts
+  parts_of parts stored = all_from (IsPart leaves) parts stored.parts

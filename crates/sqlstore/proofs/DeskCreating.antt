@@ -14,18 +14,19 @@ use Rattle.sqlstore.specs.Decided.{voters_by, version_in, decided_of}
 use Rattle.sqlstore.specs.DeskFresh.{HasFirst, IsFresh, KeepsNoCommit, first_schema}
 use Rattle.sqlstore.specs.DeskSound.{IsDecided}
 use Rattle.sqlstore.specs.DeskTables.{decided_table, epoch_table, create_decided, create_epoch}
+use Rattle.sqlstore.specs.Fresh.{MakesTable}
 use Rattle.sqlstore.specs.Rows.{AreKeyed, AreTablesOf}
 use Rattle.sqlstore.specs.Step.{StepsOf}
 use Rattle.sqlstore.specs.Tables.{no_schema}
 use Rattle.sqlstore.proofs.Composed.{then_step}
-use Rattle.sqlstore.proofs.Creating.{Creates, creates, no_rows}
+use Rattle.sqlstore.proofs.Creating.{creates, no_rows}
 use Rattle.sqlstore.proofs.Stepping.{steps_by}
 
-creates_decided : (old new : State) → old.now.schema ≡ no_schema → (count : ℕ) → Executes create_decided [] old new (Ok count) → Creates no_schema decided_table old new
+creates_decided : (old new : State) → old.now.schema ≡ no_schema → (count : ℕ) → Executes create_decided [] old new (Ok count) → MakesTable no_schema decided_table old.now new.now
 unfolding understood everything
 creates_decided = creates create_decided no_schema decided_table refl refl refl (refl, refl) refl
 
-creates_epoch : (old new : State) → old.now.schema ≡ first_schema → (count : ℕ) → Executes create_epoch [] old new (Ok count) → Creates first_schema epoch_table old new
+creates_epoch : (old new : State) → old.now.schema ≡ first_schema → (count : ℕ) → Executes create_epoch [] old new (Ok count) → MakesTable first_schema epoch_table old.now new.now
 unfolding understood everything
 creates_epoch = creates create_epoch first_schema epoch_table refl refl refl (refl, refl) refl
 

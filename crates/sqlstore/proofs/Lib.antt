@@ -28,6 +28,7 @@ pub mod Looking
 pub mod Sharing
 pub mod Backward
 pub mod Consistent
+pub mod Showed
 -- Those of the coordinator's store.
 pub mod DeskTexts
 pub mod DeskStepping

@@ -116,22 +116,22 @@ module _ (leaves : List Leaf) (one other : Database) (sound : IsDatabase other) 
   contents_same leaf = same_content _ _ (λ key.
       looks_same (is_part_at leaves leaf key) (λ row. decoded (text_at row 3)) (one.trees 0) (other.trees 0) _ _ (λ row there pass. same.parts.there row there) (λ row there pass. same.parts.here row there)
       (λ a b h k at also.
-          let p = and_parts (is_called leaves leaf (text_at a 1)) (is_int key (int_at a 2)) at in
-          let q = and_parts (is_called leaves leaf (text_at b 1)) (is_int key (int_at b 2)) also in
-          part_once other sound tables a b h k (called_text leaves leaf (text_at a 1) p.0 ∙ sym (called_text leaves leaf (text_at b 1) q.0)) (sym (int_same key (int_at a 2) p.1) ∙ int_same key (int_at b 2) q.1))
+      let p = and_parts (is_called leaves leaf (text_at a 1)) (is_int key (int_at a 2)) at in
+      let q = and_parts (is_called leaves leaf (text_at b 1)) (is_int key (int_at b 2)) also in
+      part_once other sound tables a b h k (called_text leaves leaf (text_at a 1) p.0 ∙ sym (called_text leaves leaf (text_at b 1) q.0)) (sym (int_same key (int_at a 2) p.1) ∙ int_same key (int_at b 2) q.1))
       (look_content leaves leaf key (one.trees 0)) (look_content leaves leaf key (other.trees 0)))
 
   changes_same : (ticket : Ticket) → changes_in leaves (one.trees 4) ticket ≡ changes_in leaves (other.trees 4) ticket
   changes_same ticket = map.same_map slot_cmp_total slot_cmp-IsAntisymmetric _ _ (λ slot.
       looks_same (is_intent_at leaves ticket slot) (λ row. put_of (text_at row 5)) (one.trees 4) (other.trees 4) _ _ (λ row there pass. same.intents.there row there) (λ row there pass. same.intents.here row there)
       (λ a b h k at also.
-          let p = and_parts (is_of ticket a) _ at in
-          let q = and_parts (is_of ticket b) _ also in
-          let v = of_parts ticket a p.0 in
-          let w = of_parts ticket b q.0 in
-          let r = and_parts (is_called leaves slot.leaf (text_at a 3)) (is_int slot.key (int_at a 4)) p.1 in
-          let s = and_parts (is_called leaves slot.leaf (text_at b 3)) (is_int slot.key (int_at b 4)) q.1 in
-          intent_once other sound tables a b h k (v.0 ∙ sym w.0) (v.1 ∙ sym w.1) (called_text leaves slot.leaf (text_at a 3) r.0 ∙ sym (called_text leaves slot.leaf (text_at b 3) s.0)) (sym (int_same slot.key (int_at a 4) r.1) ∙ int_same slot.key (int_at b 4) s.1))
+      let p = and_parts (is_of ticket a) _ at in
+      let q = and_parts (is_of ticket b) _ also in
+      let v = of_parts ticket a p.0 in
+      let w = of_parts ticket b q.0 in
+      let r = and_parts (is_called leaves slot.leaf (text_at a 3)) (is_int slot.key (int_at a 4)) p.1 in
+      let s = and_parts (is_called leaves slot.leaf (text_at b 3)) (is_int slot.key (int_at b 4)) q.1 in
+      intent_once other sound tables a b h k (v.0 ∙ sym w.0) (v.1 ∙ sym w.1) (called_text leaves slot.leaf (text_at a 3) r.0 ∙ sym (called_text leaves slot.leaf (text_at b 3) s.0)) (sym (int_same slot.key (int_at a 4) r.1) ∙ int_same slot.key (int_at b 4) s.1))
       (look_changes leaves ticket slot (one.trees 4)) (look_changes leaves ticket slot (other.trees 4)))
 
   prepared_same : (ticket : Ticket) → (kept_of leaves one).prepared ticket ≡ (kept_of leaves other).prepared ticket
@@ -139,9 +139,9 @@ module _ (leaves : List Leaf) (one other : Database) (sound : IsDatabase other) 
       ap (λ changes. prepared_in (one.trees 2) changes ticket) (changes_same ticket)
       ∙ looks_same (is_of ticket) (λ row. row_as row (changes_in leaves (other.trees 4) ticket)) (one.trees 2) (other.trees 2) _ _ (λ row there pass. same.prepared.there row there) (λ row there pass. same.prepared.here row there)
       (λ a b h k mine also.
-          let v = of_parts ticket a mine in
-          let w = of_parts ticket b also in
-          prepared_once other sound tables a b h k (v.0 ∙ sym w.0) (v.1 ∙ sym w.1))
+      let v = of_parts ticket a mine in
+      let w = of_parts ticket b also in
+      prepared_once other sound tables a b h k (v.0 ∙ sym w.0) (v.1 ∙ sym w.1))
       (look_prepared (changes_in leaves (other.trees 4) ticket) ticket (one.trees 2)) (look_prepared (changes_in leaves (other.trees 4) ticket) ticket (other.trees 2))
 
   pub kept_same : IsUnchanged (kept_of leaves other) (kept_of leaves one)

@@ -4,6 +4,7 @@ pub mod Schemas
 pub mod Cells
 pub mod Content
 pub mod Sound
+pub mod Keyed
 pub mod Intents
 -- What statements make of rows.
 pub mod Tests

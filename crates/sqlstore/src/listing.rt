@@ -26,7 +26,11 @@ use terms::leaf::Leaf;
 use terms::part::Part;
 
 /// The leaf that has this name.
-pub fn named<'a>(alloc: Global, leaves: &'a [Leaf], name: &[u8]) -> Result<Option<&'a Leaf>, StoreFault>
+pub fn named<'a>(
+    alloc: Global,
+    leaves: &'a [Leaf],
+    name: &[u8],
+) -> Result<Option<&'a Leaf>, StoreFault>
     ensures leaf { IfOk result (λ found. MatchOption found (leaf_named leaves.now name.now ≡ None) (λ leaf. leaf_named leaves.now name.now ≡ Some leaf.now)) }
     ensures memory { (result ≢ Err Damaged) × (result ≢ Err Refused) }
 {

@@ -134,11 +134,7 @@ fn are_consistent(tables: &Gathered) -> bool
 }
 
 /// What tables keep beside the parts.
-pub fn site_rows(
-    alloc: Global,
-    leaves: &[Leaf],
-    tables: &Gathered,
-) -> Result<SiteRows, StoreFault>
+pub fn site_rows(alloc: Global, leaves: &[Leaf], tables: &Gathered) -> Result<SiteRows, StoreFault>
     ensures all { IfOk result (ListsRows (kept_of leaves.now (gathered [] tables.now))) }
     ensures learnt { OnOk result (IsStored leaves.now (gathered [] tables.now)) }
     ensures intact { IsStored leaves.now (gathered [] tables.now) → AreConsistent tables.now → result ≢ Err Damaged }

@@ -190,13 +190,15 @@ fn are_site_tables(alloc: Global, tables: &[Table]) -> Result<bool, Memory>
     let [part, prepared, intent, state] = tables else {
         return Ok(false);
     };
-    Ok(are_part_columns(part.columns.as_slice())
-        && are_prepared_columns(prepared.columns.as_slice())
-        && are_intent_columns(intent.columns.as_slice())
-        && is_keyed_table(alloc, part, "part", 0, &[1, 2])?
-        && is_keyed_table(alloc, prepared, "prepared", 2, &[1, 2])?
-        && is_keyed_table(alloc, intent, "intent", 4, &[1, 2, 3, 4])?
-        && is_state_table(alloc, state)?)
+    Ok(
+        are_part_columns(part.columns.as_slice())
+            && are_prepared_columns(prepared.columns.as_slice())
+            && are_intent_columns(intent.columns.as_slice())
+            && is_keyed_table(alloc, part, "part", 0, &[1, 2])?
+            && is_keyed_table(alloc, prepared, "prepared", 2, &[1, 2])?
+            && is_keyed_table(alloc, intent, "intent", 4, &[1, 2, 3, 4])?
+            && is_state_table(alloc, state)?,
+    )
 }
 
 /// Whether an index is a table's own, over these places in ascending order.

@@ -11,8 +11,7 @@ loop-at-preserved-in-Continue-1 c =
     let row = c.index-intents-at.result in
     let kept = c.loop-at.invariant in
     let is = one_before intents c.loop-at.at row (omega arith) kept.0 c.index-intents-at.is in
-    let mine : is_of c.args.ticket row ≡ true = search rules in
-    (
+    let mine : is_of c.args.ticket row ≡ true = search rules in (
       omega arith,
       intent_put c.args.leaves.now c.args.ticket _ _ row is c.loop-at.changes kept.1 c.put_intent.new.changes mine c.in_ok-put_intent.ensures.ok.0,
       all_before (λ r. is_of c.args.ticket r ≡ true → IsIntent c.args.leaves.now r) intents c.loop-at.at row is (λ _. c.in_ok-put_intent.ensures.ok.1) kept.2,
@@ -24,8 +23,7 @@ loop-at-preserved c =
     let row = c.index-intents-at.result in
     let kept = c.loop-at.invariant in
     let is = one_before intents c.loop-at.at row (omega arith) kept.0 c.index-intents-at.is in
-    let other : is_of c.args.ticket row ≡ false = search rules in
-    (
+    let other : is_of c.args.ticket row ≡ false = search rules in (
       omega arith,
       intent_passed c.args.leaves.now c.args.ticket _ _ row is c.loop-at.changes kept.1 other,
       all_before (λ r. is_of c.args.ticket r ≡ true → IsIntent c.args.leaves.now r) intents c.loop-at.at row is (λ mine. absurd (both_ways (is_of c.args.ticket row) other mine)) kept.2,

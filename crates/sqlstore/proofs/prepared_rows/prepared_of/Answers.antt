@@ -11,8 +11,7 @@ loop-at-preserved c =
     let row = c.index-rows-at.result in
     let kept = c.loop-at.invariant in
     let is = one_before rows c.loop-at.at row (omega arith) kept.0 c.index-rows-at.is in
-    let put = c.in_ok-put_prepared.ensures in
-    (
+    let put = c.in_ok-put_prepared.ensures in (
       omega arith,
       λ ticket. prepared_more (changes_in c.args.leaves.now c.args.intents.now ticket) ticket _ _ row _ _ is (kept.1 ticket) (put.ok ticket),
       all_before IsNumbered rows c.loop-at.at row is put.sound.0 kept.2,

@@ -3,7 +3,7 @@ use Rattle.sqlite.specs.Held.{state}
 use Rattle.sqlstore.proofs.Applying.{applied}
 use Rattle.sqlstore.proofs.Bridge.{Stands}
 use Rattle.sqlstore.proofs.Sites.{applies, applies_nothing, stored_applied}
-use Rattle.sqlstore.proofs.site.SqlSite.make.Goals as goal
+use Rattle.sqlstore.proofs.site.SqlSiteSiteStore.apply.Goals as goal
 
 pub returns-in-Ok-clause-leaves : goal.returns-in-Ok-clause-leaves
 returns-in-Ok-clause-leaves g c =

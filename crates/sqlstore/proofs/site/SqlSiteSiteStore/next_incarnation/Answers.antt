@@ -1,7 +1,7 @@
 use Rattle.std.proofs.Common.{arith}
 use Rattle.sqlite.specs.Held.{state}
 use Rattle.sqlstore.proofs.Living.{next_begins, next_stored, next_life}
-use Rattle.sqlstore.proofs.site.SqlSite.live.Goals as goal
+use Rattle.sqlstore.proofs.site.SqlSiteSiteStore.next_incarnation.Goals as goal
 
 pub returns-in-Ok-Some-clause-leaves : goal.returns-in-Ok-Some-clause-leaves
 returns-in-Ok-Some-clause-leaves g c =

@@ -1,7 +1,7 @@
 use Rattle.sqlite.specs.Held.{state}
 use Rattle.sqlstore.proofs.Finding.{unchanged_by}
 use Rattle.sqlstore.proofs.Scanning.{all_cells, all_parts, listed_as}
-use Rattle.sqlstore.proofs.site.SqlSite.list.Goals as goal
+use Rattle.sqlstore.proofs.site.SqlSiteSiteStore.scan.Goals as goal
 
 pub returns-in-Ok-committed_of-clause-parts : goal.returns-in-Ok-committed_of-clause-parts
 returns-in-Ok-committed_of-clause-parts g c now stored =

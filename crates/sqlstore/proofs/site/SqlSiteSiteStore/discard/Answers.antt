@@ -2,7 +2,7 @@ use Rattle.std.proofs.Common.{arith}
 use Rattle.sqlite.specs.Held.{state}
 use Rattle.sqlstore.proofs.Sites.{discards, stored_dropped}
 use Rattle.sqlstore.proofs.Bridge.{Stands}
-use Rattle.sqlstore.proofs.site.SqlSite.forget.Goals as goal
+use Rattle.sqlstore.proofs.site.SqlSiteSiteStore.discard.Goals as goal
 
 pub returns-in-Ok-clause-leaves : goal.returns-in-Ok-clause-leaves
 returns-in-Ok-clause-leaves g c =
