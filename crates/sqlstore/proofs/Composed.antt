@@ -25,8 +25,8 @@ shows_then : (old mid new : State) → Shows old mid mid.now old.committed true 
 shows_then old mid new first second = record { was_open = first.was_open; is_open = second.is_open; now_is = refl; committed_is = second.committed_is ∙ first.committed_is; mode = second.mode }
 
 -- a statement that follows another
-pub then_step : {own next : Schema} {A B : Type 0} (P Q R : Database → Database → Type 0) (old mid new : State) (value : A) (result : Result B Error) → (P old.now mid.now → AreTablesOf next mid.now) → (P old.now mid.now → Q mid.now new.now → R old.now new.now)
-    → StepsOf own P old mid (Ok value) → StepsOf next Q mid new result → StepsOf own R old new result
+pub then_step : {own : Schema} {A B : Type 0} (P Q R : Database → Database → Type 0) (old mid new : State) (value : A) (result : Result B Error) → (P old.now mid.now → AreTablesOf own mid.now) → (P old.now mid.now → Q mid.now new.now → R old.now new.now)
+    → StepsOf own P old mid (Ok value) → StepsOf own Q mid new result → StepsOf own R old new result
 then_step P Q R old mid new value (Ok other) tables both first second = record {
   kept = keeps_then old mid new first.kept second.kept;
   shows = shows_then old mid new first.shows second.shows;

@@ -51,7 +51,7 @@ creates text before table defined is whole plain lacks old new has count ran =
     }
 
 -- a statement within a transaction builds by what it makes where it answers
-builds_by : (before : Schema) (P : Database → Database → Type 0) (sql : List ℕ) (old new : State) (result : Result ℕ Error) → (old.now.schema ≡ before → (count : ℕ) → Executes sql [] old new (Ok count) → P old.now new.now) → ExecutesInside 0 sql [] old new result → Builds before P old new result
+pub builds_by : (before : Schema) (P : Database → Database → Type 0) (sql : List ℕ) (old new : State) (result : Result ℕ Error) → (old.now.schema ≡ before → (count : ℕ) → Executes sql [] old new (Ok count) → P old.now new.now) → ExecutesInside 0 sql [] old new result → Builds before P old new result
 builds_by before P sql old new (Ok count) does ran = record { kept = record { was_open = λ _. ran.1.was_open; committed = λ _. ran.1.committed_is }; shows = ran.1; does = λ schema. does schema count ran.0 }
 builds_by before P sql old new (Err e) does (inl failed) = record { kept = elim failed.1 [ inl same ↦ unchanged_keeps old new same | inr undone ↦ undone_keeps old new undone ]; shows = tt; does = λ _. tt }
 builds_by before P sql old new (Err e) does (inr refused) = record { kept = unchanged_keeps old new refused.2; shows = tt; does = λ _. tt }

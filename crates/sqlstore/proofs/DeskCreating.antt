@@ -1,9 +1,8 @@
 -- The tables of the coordinator are made.
-use Rattle.std.proofs.Common.{◌≡◌, ℕ, false, List, [], ◌∷◌, None, Ok, Err, Result, refl, sym, ap, ◌∙◌, subst, inl, inr}
+use Rattle.std.proofs.Common.{◌≡◌, ℕ, false, [], Ok, Err, Result, OnOk, IsTrue, refl, sym, ap, ◌∙◌, subst, inl, inr}
 use Rattle.sqlite.specs.Effect.{Database}
 use Rattle.sqlite.specs.Listing.{understood}
-use Rattle.sqlite.specs.Order.{Row}
-use Rattle.sqlite.specs.State.{State, Executes, ExecutesInside}
+use Rattle.sqlite.specs.State.{State, ExecutesInside, Shows}
 use Rattle.sqlite.specs.Table.{Table}
 use Rattle.sqlite.specs.declared.error.Error.{Error}
 use Rattle.sqlite_rules.specs.Lists.{Has}
@@ -11,51 +10,33 @@ use Rattle.sqlite_tied.specs.Compute.{everything}
 use Rattle.store.specs.DeskContent.{commit_row}
 use Rattle.sqlstore.specs.Content.{life_in}
 use Rattle.sqlstore.specs.Decided.{voters_by, version_in, decided_of}
-use Rattle.sqlstore.specs.DeskFresh.{HasFirst, IsFresh, KeepsNoCommit, first_schema}
+use Rattle.sqlstore.specs.DeskFresh.{IsFresh, KeepsNoCommit, MakesBoth, first_schema}
 use Rattle.sqlstore.specs.DeskSound.{IsDecided}
 use Rattle.sqlstore.specs.DeskTables.{decided_table, epoch_table, create_decided, create_epoch}
-use Rattle.sqlstore.specs.Fresh.{MakesTable}
-use Rattle.sqlstore.specs.Rows.{AreKeyed, AreTablesOf}
-use Rattle.sqlstore.specs.Step.{StepsOf}
+use Rattle.sqlstore.specs.Fresh.{Builds, MakesTable}
+use Rattle.sqlstore.specs.Rows.{AreKeyed}
 use Rattle.sqlstore.specs.Tables.{no_schema}
-use Rattle.sqlstore.proofs.Composed.{then_step}
-use Rattle.sqlstore.proofs.Creating.{creates, no_rows}
-use Rattle.sqlstore.proofs.Stepping.{steps_by}
+use Rattle.sqlstore.proofs.Committing.{begun}
+use Rattle.sqlstore.proofs.Creating.{builds_by, creates, no_rows}
 
-creates_decided : (old new : State) → old.now.schema ≡ no_schema → (count : ℕ) → Executes create_decided [] old new (Ok count) → MakesTable no_schema decided_table old.now new.now
+pub builds_decided : (old new : State) (result : Result ℕ Error) → ExecutesInside 0 create_decided [] old new result → Builds no_schema (MakesTable no_schema decided_table) old new result
 unfolding understood everything
-creates_decided = creates create_decided no_schema decided_table refl refl refl (refl, refl) refl
+builds_decided old new result = builds_by no_schema (MakesTable no_schema decided_table) create_decided old new result (creates create_decided no_schema decided_table refl refl refl (refl, refl) refl old new)
 
-creates_epoch : (old new : State) → old.now.schema ≡ first_schema → (count : ℕ) → Executes create_epoch [] old new (Ok count) → MakesTable first_schema epoch_table old.now new.now
+pub builds_epoch : (old new : State) (result : Result ℕ Error) → ExecutesInside 0 create_epoch [] old new result → Builds first_schema (MakesTable first_schema epoch_table) old new result
 unfolding understood everything
-creates_epoch = creates create_epoch first_schema epoch_table refl refl refl (refl, refl) refl
+builds_epoch old new result = builds_by first_schema (MakesTable first_schema epoch_table) create_epoch old new result (creates create_epoch first_schema epoch_table refl refl refl (refl, refl) refl old new)
 
-pub makes_decided : (old new : State) (result : Result ℕ Error) → ExecutesInside 0 create_decided [] old new result → StepsOf no_schema (λ before after. HasFirst after) old new result
-makes_decided old new result =
-    steps_by (λ before after. HasFirst after) create_decided [] old new result (λ tables count ran.
-    let made = creates_decided old new tables.schema count ran in
-    record { schema = made.schema; votes = made.empty })
+pub makes_both : (old new : Database) → MakesBoth old new → IsFresh new
+makes_both old new both = record { schema = both.2.schema; votes = both.2.kept.0 ∙ both.1.empty; epoch = both.2.empty }
 
-pub makes_epoch : (old new : State) (result : Result ℕ Error) → ExecutesInside 0 create_epoch [] old new result → StepsOf first_schema (λ before after. HasFirst before → IsFresh after) old new result
-makes_epoch old new result =
-    steps_by (λ before after. HasFirst before → IsFresh after) create_epoch [] old new result (λ tables count ran was.
-    let made = creates_epoch old new tables.schema count ran in
-    record { schema = made.schema; votes = made.kept.0 ∙ was.votes; epoch = made.empty })
-
--- one table that has no rows
-first_tables : (db : Database) → HasFirst db → AreTablesOf first_schema db
-first_tables db has = record {
-  schema = has.schema;
-  keyed = λ table listed. elim listed [ inl votes ↦ subst (λ (t : Table). AreKeyed (db.trees t.tree)) (sym votes) (no_rows (db.trees 0) has.votes) | inr none ↦ absurd none ];
-}
-
-pub makes_both : (old mid new : State) (value : ℕ) (result : Result ℕ Error) → StepsOf no_schema (λ before after. HasFirst after) old mid (Ok value) → StepsOf first_schema (λ before after. HasFirst before → IsFresh after) mid new result
-    → StepsOf no_schema (λ before after. IsFresh after) old new result
-makes_both old mid new value result = then_step (λ before after. HasFirst after) (λ before after. HasFirst before → IsFresh after) (λ before after. IsFresh after) old mid new value result (first_tables mid.now) (λ has makes. makes has)
-
--- a schema with nothing in it has no rows to be numbered
-pub no_tables : (db : Database) → db.schema ≡ no_schema → AreTablesOf no_schema db
-no_tables db schema = record { schema = schema; keyed = λ table none. absurd none }
+-- what is committed once both are made
+pub both_committed : {A B : Type 0} (old last new : State) (value : A) (result : Result B Error) → (IsTrue old.is_open → old.now ≡ old.committed) → old.committed.schema ≡ no_schema
+    → Builds no_schema MakesBoth (begun old) last (Ok value) → OnOk result (Shows last new last.now last.now false) → OnOk result (IsFresh new.committed)
+both_committed old last new value (Err e) settled schema builds ended = tt
+both_committed old last new value (Ok done) settled schema builds ended =
+    let now : old.now ≡ old.committed = settled builds.shows.was_open in
+    subst IsFresh (sym ended.committed_is) (makes_both old.now last.now (builds.does (ap (λ (d : Database). d.schema) now ∙ schema)))
 
 -- ---- new tables are as the store leaves them
 

@@ -62,11 +62,7 @@ fn vote_in(alloc: Global, row: &Row) -> Result<(Txn, Voter), StoreFault>
 }
 
 /// Takes the voters of a transaction out of a map.
-fn take_voters(
-    commits: &mut BTreeMap<Txn, Seq<Voter>>,
-    alloc: Global,
-    txn: &Txn,
-) -> Vec<Voter>
+fn take_voters(commits: &mut BTreeMap<Txn, Seq<Voter>>, alloc: Global, txn: &Txn) -> Vec<Voter>
     ensures voters { result.items ≡ unwrap_or (tree.get txn_cmp commits.old txn.now) [] }
     ensures others { (other : Of) → tree.get txn_cmp commits.new other ≡ (if is_txn txn.now other then None else tree.get txn_cmp commits.old other) }
 {

@@ -31,7 +31,7 @@ pub struct SqlDesk<S: Alter> {
 }
 
 /// Whether the tables are a coordinator's.
-pub fn is_ours<S: Alter>(alloc: Global, conn: &Connection<S>) -> Result<bool, Memory>
+fn is_ours<S: Alter>(alloc: Global, conn: &Connection<S>) -> Result<bool, Memory>
     requires { conn.now.in_transaction ≡ false }
     ensures { IfOk result (λ is. IsTrue (state S.Store conn.now).is_open → Decides is ((state S.Store conn.now).committed.schema ≡ desk_schema)) }
 {

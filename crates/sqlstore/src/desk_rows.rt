@@ -35,7 +35,10 @@ fn epoch_rows<S: Alter>(conn: &mut Connection<S>) -> Result<Vec<Row>, Error>
 {
     let _live = conn.schema();
     let _settled = conn.is_autocommit();
-    conn.query_all("SELECT one, NULL, life, version FROM state ORDER BY one", &[])
+    conn.query_all(
+        "SELECT one, NULL, life, version FROM state ORDER BY one",
+        &[],
+    )
 }
 
 /// The rows of both tables.

@@ -5,7 +5,9 @@ ghost use Rattle.std.specs.Prelude.{◌≡◌, ◌∷◌, [], IfOk, codes};
 ghost use Rattle.sqlstore.specs.DeskTables.{decided_table, epoch_table, desk_schema};
 ghost use Rattle.sqlstore.specs.Schemas.{index_of};
 
-use crate::schema::{are_state_checks, is_bare, is_column, is_index, is_keyed_by_number, is_keyed_table};
+use crate::schema::{
+    are_state_checks, is_bare, is_column, is_index, is_keyed_by_number, is_keyed_table,
+};
 use sqlite_schema::schema::{Column, Index, Kind, Schema, Table};
 use std::alloc::Global;
 use terms::memory::Memory;
@@ -53,9 +55,11 @@ fn are_desk_tables(alloc: Global, tables: &[Table]) -> Result<bool, Memory>
     let [decided, epoch] = tables else {
         return Ok(false);
     };
-    Ok(are_decided_columns(decided.columns.as_slice())
-        && is_keyed_table(alloc, decided, "decided", 0, &[1, 2, 3])?
-        && is_epoch_table(alloc, epoch)?)
+    Ok(
+        are_decided_columns(decided.columns.as_slice())
+            && is_keyed_table(alloc, decided, "decided", 0, &[1, 2, 3])?
+            && is_epoch_table(alloc, epoch)?,
+    )
 }
 
 fn are_desk_indexes(indexes: &[Index]) -> bool

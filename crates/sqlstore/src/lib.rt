@@ -14,6 +14,7 @@ pub mod desk;
 pub mod desk_open;
 pub mod desk_rows;
 pub mod desk_schema;
+pub mod desk_tables;
 pub mod epoch;
 pub mod find;
 pub mod gathered;

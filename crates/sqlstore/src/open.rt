@@ -22,7 +22,7 @@ use store::fault::StoreFault;
 use terms::leaf::Leaf;
 
 /// Whether a schema has nothing.
-fn is_empty(schema: &Schema) -> bool
+pub fn is_empty(schema: &Schema) -> bool
     ensures { Decides result (schema.now ≡ no_schema) }
 {
     schema.tables.is_empty() && schema.indexes.is_empty() && schema.views.is_empty()

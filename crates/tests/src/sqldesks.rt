@@ -103,7 +103,13 @@ fn adopted(alloc: Global, made: &[&str]) -> Result<SqlDesk<MemStore>, StoreFault
             return Err(StoreFault::Memory);
         }
     }
-    SqlDesk::adopt(alloc, conn)
+    if !conn.is_autocommit() {
+        return Err(StoreFault::Refused);
+    }
+    match SqlDesk::adopt(alloc, conn) {
+        Ok(desk) => Ok(desk),
+        Err((fault, _)) => Err(fault),
+    }
 }
 
 /// What the store over a database that these statements made keeps, or why it is refused.
