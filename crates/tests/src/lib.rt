@@ -18,6 +18,8 @@ mod refusing;
 #[cfg(test)]
 mod sites;
 #[cfg(test)]
+mod sqlstores;
+#[cfg(test)]
 mod statements;
 #[cfg(test)]
 mod transactions;
