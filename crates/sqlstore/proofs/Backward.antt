@@ -24,23 +24,11 @@ one_before rows at row low within is =
 pub all_before : {X : Type 0} (P : X → Type 0) (rows : List X) (at : ℕ) (row : X) → drop (at - 1) rows ≡ row ∷ drop at rows → P row → AllByRecursion P (drop at rows) → AllByRecursion P (drop (at - 1) rows)
 all_before P rows at row is here behind = subst (AllByRecursion P) (sym is) (here, behind)
 
-module _ (leaves : List Leaf) (ticket : Ticket) (all rest : List Row) (row : Row) (is : all ≡ row ∷ rest) (before : Changes) (kept : before ≡ changes_in leaves rest ticket) where
-  abbrev put : Changes
-  put = with_intent (leaf_named leaves (text_at row 3)) (int_at row 4) (text_at row 5) before
-
-  -- a ticket's intent is put into its changes
-  pub intent_put : (after : Changes) → is_of ticket row ≡ true → after ≡ put → after ≡ changes_in leaves all ticket
-  intent_put after mine made =
-      made ∙ ap (with_intent (leaf_named leaves (text_at row 3)) (int_at row 4) (text_at row 5)) kept
-      ∙ sym (ap (λ b. cond b (with_intent (leaf_named leaves (text_at row 3)) (int_at row 4) (text_at row 5) (changes_in leaves rest ticket)) (changes_in leaves rest ticket)) mine)
-      ∙ ap (λ rows. changes_in leaves rows ticket) (sym is)
-
-  -- and another's is passed over
-  pub intent_passed : is_of ticket row ≡ false → before ≡ changes_in leaves all ticket
-  intent_passed other =
-      kept
-      ∙ sym (ap (λ b. cond b (with_intent (leaf_named leaves (text_at row 3)) (int_at row 4) (text_at row 5) (changes_in leaves rest ticket)) (changes_in leaves rest ticket)) other)
-      ∙ ap (λ rows. changes_in leaves rows ticket) (sym is)
+-- an intent more is in a ticket's changes
+pub intent_more : (leaves : List Leaf) (ticket : Ticket) (all rest : List Row) (row : Row) (before after : Changes) → all ≡ row ∷ rest → before ≡ changes_in leaves rest ticket
+    → after ≡ cond (is_of ticket row) (with_intent (leaf_named leaves (text_at row 3)) (int_at row 4) (text_at row 5) before) before → after ≡ changes_in leaves all ticket
+intent_more leaves ticket all rest row before after is kept made =
+    made ∙ ap (λ changes. cond (is_of ticket row) (with_intent (leaf_named leaves (text_at row 3)) (int_at row 4) (text_at row 5) changes) changes) kept ∙ ap (λ rows. changes_in leaves rows ticket) (sym is)
 
 -- what is put at a row's ticket is what the row prepares
 pub prepared_put : (leaves : List Leaf) (intents : List Row) (row : Row) (ticket other : Ticket) (txn : Txn) (changes : Changes) (old : Option Prepared) → is_of ticket row ≡ true

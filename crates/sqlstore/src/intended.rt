@@ -1,6 +1,6 @@
 //! The changes that a ticket's intents make.
 
-ghost use Rattle.std.specs.Prelude.{◌≡◌, ◌≢◌, ◌⊎◌, ◌≤◌, true, [], IfOk, OnOk, IsSome, Some, Err};
+ghost use Rattle.std.specs.Prelude.{◌≡◌, ◌≢◌, ◌⊎◌, ◌≤◌, true, [], IfOk, OnOk, IsSome, Some, Err, if◌then◌else◌};
 ghost use Rattle.std.specs.List.{AllByRecursion};
 ghost use Rattle.store.specs.declared.fault.StoreFault.TheVariants.{Refused, Damaged};
 ghost use Rattle.sqlstore.specs.Cells.{text_at, int_at};
@@ -71,6 +71,26 @@ fn put_intent(
     Ok(())
 }
 
+/// Puts a row's intent into changes, where the row is a ticket's.
+fn put_own(
+    changes: &mut Changes,
+    alloc: Global,
+    leaves: &[Leaf],
+    ticket: Ticket,
+    row: &Row,
+) -> Result<(), StoreFault>
+    ensures ok { OnOk result (changes.new ≡ (if is_of ticket row.now then with_intent (leaf_named leaves.now (text_at row.now 3)) (int_at row.now 4) (text_at row.now 5) changes.old else changes.old)) }
+    ensures sound { OnOk result (is_of ticket row.now ≡ true → IsIntent leaves.now row.now) }
+    ensures intact { IsIntent leaves.now row.now → result ≢ Err Damaged }
+    ensures kept { result ≢ Err Refused }
+{
+    if is_of(row, ticket) {
+        put_intent(changes, alloc, leaves, row)
+    } else {
+        Ok(())
+    }
+}
+
 /// The changes that a ticket's intents make.
 pub fn changes_for(
     alloc: Global,
@@ -86,10 +106,7 @@ pub fn changes_for(
     let mut at = intents.len();
     while at > 0 {
         at -= 1;
-        let intent = &intents[at];
-        if is_of(intent, ticket) {
-            put_intent(&mut changes, alloc, leaves, intent)?;
-        }
+        put_own(&mut changes, alloc, leaves, ticket, &intents[at])?;
     }
     Ok(changes)
 }

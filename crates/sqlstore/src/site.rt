@@ -110,7 +110,7 @@ impl<S: Alter> SiteStore for SqlSite<S> {
 
     ghost refused = { λ site. site.refusals };
 
-    ghost keyed = { λ site clean sound leaf. stored_keyed site.leaves.items (state S.Store site.conn).committed sound leaf };
+    ghost keyed = { λ site clean sound leaf. stored_keyed site.leaves.items _ sound leaf };
 
     fn scan(&mut self, leaf: &Leaf, conds: &Conds) -> Result<Vec<Part>, StoreFault> {
         let alloc = *self.leaves.allocator();

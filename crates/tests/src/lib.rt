@@ -20,6 +20,8 @@ mod sites;
 #[cfg(test)]
 mod sqldesks;
 #[cfg(test)]
+mod sqlstores;
+#[cfg(test)]
 mod statements;
 #[cfg(test)]
 mod transactions;
