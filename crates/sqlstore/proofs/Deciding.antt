@@ -3,18 +3,15 @@ use Rattle.std.proofs.Common.{◌≡◌, ℕ, ℤ, ◌+◌, ◌<◌, List, [], �
 use Rattle.std.proofs.lemmas.List.{take_more}
 use Rattle.sqlite.specs.Effect.{Database}
 use Rattle.sqlite.specs.Order.{Row}
-use Rattle.sqlite.specs.State.{State}
 use Rattle.sqlite.specs.declared.error.Error.{Error}
 use Rattle.sqlite_rules.specs.Lists.{Has}
 use Rattle.sqlite_rules.proofs.ListLemmas.{has_left, has_right, has_either}
 use Rattle.sqlstore.specs.declared.visit.Visit.{Visit}
 use Rattle.sqlstore.specs.declared.vote.Vote.{Vote}
 use Rattle.sqlstore.specs.declared.decision.Decision.{Decision}
-use Rattle.sqlstore.specs.DeskQuery.{HasDeskSchema, AreEpochs, DecidesNow}
-use Rattle.sqlstore.specs.DeskTables.{desk_schema}
-use Rattle.sqlstore.specs.Query.{QueriesOf, first_life}
-use Rattle.sqlstore.specs.Rows.{AreTablesOf}
-use Rattle.sqlstore.specs.DeskStep.{Decides, Votes, MovesTo, vote_params}
+use Rattle.sqlstore.specs.DeskQuery.{AreEpochs, DecidesNow}
+use Rattle.sqlstore.specs.Query.{first_life}
+use Rattle.sqlstore.specs.DeskStep.{Decides, Votes, vote_params}
 use Rattle.sqlstore.proofs.Composed.{gains_again}
 
 -- one voter more is kept
@@ -36,25 +33,8 @@ decides_more txn votes life version i vote a b c lt is first second =
           first.2 second,
     )
 
--- no voter is kept yet
-pub decides_none : (txn : Visit) (life version : ℤ) (a b : Database) → MovesTo life version a b → Decides txn [] life version a b
-decides_none txn life version a b first = (
-  b,
-  first,
-  record {
-    tables = first.2.tables;
-    sound = first.2.sound;
-    rows = record { kept = λ row there. there; made = λ cells from. absurd from.1; only = λ row there. inl there };
-    others = λ table listed apart. refl;
-  },
-)
-
 -- what is kept beside the incarnation that a query showed
 pub decided_now : (decision : Decision) (rows : List Row) (life : ℤ) (old new : Database) (result : Result (Unit {0}) Error) → AreEpochs (old.trees 2) rows → first_life rows ≡ life → OnOk result (Decides decision.txn decision.votes.items life decision.version old new)
     → OnOk result (DecidesNow decision old new)
 decided_now decision rows life old new (Ok done) shows is made = (rows, shows, subst (λ n. Decides decision.txn decision.votes.items n decision.version old new) (sym is) made)
 decided_now decision rows life old new (Err e) shows is made = tt
-
--- what is known of the rows as well is known of the schema
-pub tables_known : {A : Type 0} (P : Database → A → Type 0) (old new : State) (result : Result A Error) → QueriesOf HasDeskSchema P old new result → QueriesOf (AreTablesOf desk_schema) P old new result
-tables_known P old new result query = record { was_open = query.was_open; kept = λ tables. query.kept tables.schema; same = λ tables. query.same tables.schema; shows = λ tables. query.shows tables.schema }

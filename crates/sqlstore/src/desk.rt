@@ -41,7 +41,7 @@ fn is_ours<S: Alter>(alloc: Global, conn: &Connection<S>) -> Result<bool, Memory
 
 impl<S: Alter> SqlDesk<S> {
     /// A store over a connection to the tables of a coordinator.
-    pub fn over(alloc: Global, conn: Connection<S>) -> SqlDesk<S>
+    pub(crate) fn over(alloc: Global, conn: Connection<S>) -> SqlDesk<S>
         requires { conn.in_transaction ≡ false }
         ensures { result.conn ≡ conn }
     {
