@@ -1,6 +1,5 @@
 -- What each call makes of what the coordinator keeps, and that its rows stay as its store leaves them.
-use Rattle.std.proofs.Common.{◌≡◌, ◌⊎◌, ℕ, ℤ, pos, ◌+◌, ◌≤ℤ◌, Bool, true, false, ◌&&◌, cond, List, [], ◌∷◌, drop, None, string_bytes, unsigned_abs, refl, sym, ap, ◌∙◌, subst, inl, inr, arith}
-use Rattle.std.specs.List.{AllByRecursion}
+use Rattle.std.proofs.Common.{◌≡◌, ◌⊎◌, ℕ, ℤ, pos, ◌+◌, ◌≤ℤ◌, true, false, cond, List, drop, None, string_bytes, unsigned_abs, refl, sym, ap, ◌∙◌, subst, inl, inr, arith}
 use Rattle.std.specs.Ordering.{is_eq}
 use Rattle.std.specs.Str.{IsUtf8}
 use Rattle.std.proofs.lemmas.Bool.{and_parts, and_from, both_ways, cases_Bool, false_from_ne_true}
@@ -33,7 +32,7 @@ use Rattle.sqlstore.specs.Votes.{IsDecisionOf, IsNamed, vote_cells, voter_cells}
 use Rattle.sqlstore.proofs.Bridge.{two, eq_int_at, int_same, same_int}
 use Rattle.sqlstore.proofs.Deleting.{is_equal}
 use Rattle.sqlstore.proofs.DeskTyped.{vote_typed, vote_once, epoch_once}
-use Rattle.sqlstore.proofs.Epochs.{votes_stay, epoch_stays, life_shown, version_shown, life_from_zero, version_from_zero, life_is, version_is, same_votes, epoch_stored}
+use Rattle.sqlstore.proofs.Epochs.{epoch_stays, life_shown, version_shown, life_from_zero, version_from_zero, life_is, version_is, same_votes, epoch_stored}
 use Rattle.sqlstore.proofs.Querying.{mapped_has, has_mapped}
 use Rattle.sqlstore.proofs.Typed.{column_drop}
 use Rattle.sqlstore.proofs.Voting.{voter_from, voter_listed, same_commit, no_commit, none_voted}

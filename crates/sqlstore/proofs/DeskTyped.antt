@@ -1,5 +1,5 @@
 -- What the coordinator's schema says of the cells of rows: their types, and which rows differ.
-use Rattle.std.proofs.Common.{◌≡◌, ℤ, pos, true, not, ◌&&◌, List, [], ◌∷◌, drop, Some, refl, sym, ap, ◌∙◌, subst, inl, inr}
+use Rattle.std.proofs.Common.{◌≡◌, pos, true, not, ◌&&◌, [], ◌∷◌, drop, Some, refl, sym, ap, ◌∙◌, subst, inl, inr}
 use Rattle.std.proofs.lemmas.Bool.{and_parts, and_from, not-true}
 use Rattle.sqlite.specs.Collation.TheVariants.{Binary}
 use Rattle.sqlite.specs.Effect.{Database, IsDatabase}

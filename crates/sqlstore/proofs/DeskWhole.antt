@@ -1,5 +1,5 @@
 -- Rows of the coordinator's tables are whole: they have each of their table's columns, and no more.
-use Rattle.std.proofs.Common.{◌≡◌, true, List, [], ◌∷◌, drop, None, Some, refl, sym, ap, ◌∙◌, subst, inl, inr}
+use Rattle.std.proofs.Common.{◌≡◌, true, [], ◌∷◌, drop, None, Some, refl, sym, ap, ◌∙◌, subst, inl, inr}
 use Rattle.std.proofs.lemmas.Bool.{and_parts}
 use Rattle.sqlite.specs.Effect.{Database, IsDatabase}
 use Rattle.sqlite.specs.Order.{Row, column}

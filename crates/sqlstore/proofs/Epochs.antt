@@ -2,7 +2,7 @@
 use Rattle.std.proofs.Common.{◌≡◌, ℕ, ℤ, pos, ◌≤ℤ◌, List, [], ◌∷◌, drop, unsigned_abs, refl, sym, ap, ◌∙◌, subst, inl, inr, arith}
 use Rattle.std.proofs.lemmas.Int.{ints}
 use Rattle.sqlite.specs.Edit.{id_in}
-use Rattle.sqlite.specs.Effect.{Database, IsDatabase}
+use Rattle.sqlite.specs.Effect.{Database}
 use Rattle.sqlite.specs.Order.{Row, column}
 use Rattle.sqlite.specs.declared.types.Value.TheVariants.{Null, Int}
 use Rattle.sqlite_rules.specs.Lists.{Has}
@@ -16,7 +16,6 @@ use Rattle.sqlstore.specs.DeskTables.{desk_schema}
 use Rattle.sqlstore.specs.Query.{first_life}
 use Rattle.sqlstore.specs.Rows.{RewritesOf}
 use Rattle.sqlstore.specs.Tests.{shown}
-use Rattle.sqlstore.proofs.DeskTyped.{epoch_once}
 use Rattle.sqlstore.proofs.Typed.{column_drop}
 
 -- a statement on the other table leaves these rows

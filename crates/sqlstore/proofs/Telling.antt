@@ -1,6 +1,5 @@
 -- What all rows of the coordinator's tables tell is what its tables keep.
 use Rattle.std.proofs.Common.{◌≡◌, ◌++◌, ◌+◌, ◌<◌, ℕ, Bool, true, false, cond, List, [], ◌∷◌, length, take, get_or, map, filter, Option, Some, None, unwrap_or, append-nil, Ok, Err, Result, IfOk, OnOk, refl, sym, ap, ◌∙◌, subst, inl, inr, unsigned_abs}
-use Rattle.std.specs.BTreeMap as tree
 use Rattle.std.specs.Option.{option_map}
 use Rattle.std.proofs.lemmas.Bool.{both_ways, cases_Bool, false_from_ne_true}
 use Rattle.std.proofs.lemmas.List.{map-append, take_more}
@@ -9,7 +8,7 @@ use Rattle.sqlite.specs.Effect.{Database, IsDatabase}
 use Rattle.sqlite.specs.Order.{Row}
 use Rattle.sqlite.specs.Table.{Table}
 use Rattle.sqlite_rules.specs.Lists.{Has}
-use Rattle.sqlite_rules.proofs.ListLemmas.{all_has, all_from, all_more}
+use Rattle.sqlite_rules.proofs.ListLemmas.{all_has, all_from}
 use Rattle.store.specs.declared.commit.DeskKept.{DeskKept}
 use Rattle.store.specs.declared.commit.Voter.{Voter}
 use Rattle.store.specs.declared.fault.StoreFault.{StoreFault}
@@ -22,7 +21,7 @@ use Rattle.sqlstore.specs.DeskRows.{ShowsDesk, AreDeskRows, told_by, some_voters
 use Rattle.sqlstore.specs.DeskSound.{IsDecided, IsVote, IsEpoch}
 use Rattle.sqlstore.specs.DeskTables.{desk_schema}
 use Rattle.sqlstore.specs.Gathered.{ShowsAll}
-use Rattle.sqlstore.specs.Rows.{AreKeyed, AreTablesOf}
+use Rattle.sqlstore.specs.Rows.{AreKeyed}
 use Rattle.sqlstore.specs.declared.desk_rows.DeskRows.{DeskRows}
 use Rattle.sqlstore.proofs.Decisions.{one_txn, same_rows, txn_same}
 use Rattle.sqlstore.proofs.DeskTyped.{epoch_once}

@@ -1,5 +1,5 @@
 -- What the tables of the coordinator mean.
-use Rattle.std.specs.Prelude.{◌≡◌, ℕ, pos, Bool, ◌&&◌, List, [], ◌∷◌, map, filter, unsigned_abs}
+use Rattle.std.specs.Prelude.{ℕ, pos, Bool, ◌&&◌, List, [], ◌∷◌, map, filter, unsigned_abs}
 use Rattle.sqlite.specs.Effect.{Database}
 use Rattle.sqlite.specs.Order.{Row}
 use Rattle.store.specs.declared.commit.Voter.{Voter}

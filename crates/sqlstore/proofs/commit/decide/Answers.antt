@@ -1,9 +1,8 @@
-use Rattle.std.proofs.Common.{◌≡◌, to_z, of_z, not, ap, ◌∙◌, sym, subst, OnOk}
+use Rattle.std.proofs.Common.{◌≡◌, to_z, of_z, not, ap, ◌∙◌, sym, subst}
 use Rattle.std.specs.Int.{w64}
 use Rattle.std.proofs.lemmas.Int.{to_z-of_z}
 use Rattle.sqlite.specs.Held.{state}
 use Rattle.sqlstore.specs.DeskQuery.{HasDeskSchema, AreEpochs}
-use Rattle.sqlstore.specs.DeskStep.{Decides}
 use Rattle.sqlstore.specs.DeskTables.{desk_schema}
 use Rattle.sqlstore.specs.Query.{first_life}
 use Rattle.sqlstore.specs.Rows.{AreTablesOf}

@@ -1,4 +1,4 @@
-use Rattle.std.proofs.Common.{◌≡◌, IfOk, refl, sym, subst}
+use Rattle.std.proofs.Common.{IfOk, refl, sym, subst}
 use Rattle.sqlite.specs.Held.{state}
 use Rattle.store.specs.DeskContent.{Lists}
 use Rattle.sqlstore.specs.Decided.{decided_of}
