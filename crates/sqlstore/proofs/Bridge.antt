@@ -61,7 +61,7 @@ and_true : (test : Bool) → (test && true) ≡ test
 and_true true = refl
 and_true false = refl
 
-two : (a b c d : Bool) → a ≡ c → b ≡ d → (a && (b && true)) ≡ (c && d)
+pub two : (a b c d : Bool) → a ≡ c → b ≡ d → (a && (b && true)) ≡ (c && d)
 two a b c d one other = rw (one, other, and_true d) refl
 
 three : (a b c d e f : Bool) → a ≡ d → b ≡ e → c ≡ f → (a && (b && (c && true))) ≡ (d && (e && f))
@@ -74,7 +74,7 @@ pub record Stands (numbers : Visit) (ticket : Ticket) : Type 0 where
   pub life : numbers.life ≡ pos ticket.life
   pub visit : numbers.visit ≡ pos ticket.visit
 
-eq_int_at : (v : Value) (m l n : ℤ) → v ≡ Int m → l ≡ n → is_true (binary (Compare Eq Binary) v (Int l)) ≡ is_int m n
+pub eq_int_at : (v : Value) (m l n : ℤ) → v ≡ Int m → l ≡ n → is_true (binary (Compare Eq Binary) v (Int l)) ≡ is_int m n
 eq_int_at v m l n cell same = rw (cell, same) (eq_int m n)
 
 eq_text_at : (v : Value) (s : List ℕ) (w : Value) (t : List ℕ) → v ≡ Text s → w ≡ Text t → is_true (binary (Compare Eq Binary) v (bound_value w)) ≡ is_text s t

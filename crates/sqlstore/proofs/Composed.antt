@@ -5,15 +5,16 @@ use Rattle.std.proofs.lemmas.List.{take_more}
 use Rattle.std.proofs.lemmas.List.Folds.{list_any_more}
 use Rattle.sqlite.specs.Effect.{Database}
 use Rattle.sqlite.specs.Order.{Row}
+use Rattle.sqlite.specs.Schema.{Schema}
 use Rattle.sqlite.specs.State.{State, Shows}
 use Rattle.sqlite.specs.declared.error.Error.{Error}
 use Rattle.sqlite.proofs.InsideLemmas.{keeps_then}
-use Rattle.sqlstore.specs.Rows.{AreTables, Rewrites, Loses, Gains}
+use Rattle.sqlstore.specs.Rows.{AreTablesOf, RewritesOf, Loses, Gains}
 use Rattle.sqlstore.specs.declared.intent.Intent.{Intent}
 use Rattle.sqlstore.specs.declared.visit.Visit.{Visit}
 use Rattle.sqlite_rules.specs.Lists.{Has}
 use Rattle.sqlite_rules.proofs.ListLemmas.{has_left, has_right, has_either}
-use Rattle.sqlstore.specs.Step.{Steps, Follows, Empties, Takes, Keeps, Intends, Promises, slot_params, intend_params, is_at_some}
+use Rattle.sqlstore.specs.Step.{StepsOf, Follows, Empties, Takes, Keeps, Intends, Promises, slot_params, intend_params, is_at_some}
 use Rattle.sqlstore.specs.Tests.{at_slot, passes}
 
 -- a step that answered
@@ -24,8 +25,8 @@ shows_then : (old mid new : State) → Shows old mid mid.now old.committed true 
 shows_then old mid new first second = record { was_open = first.was_open; is_open = second.is_open; now_is = refl; committed_is = second.committed_is ∙ first.committed_is; mode = second.mode }
 
 -- a statement that follows another
-pub then_step : {A B : Type 0} (P Q R : Database → Database → Type 0) (old mid new : State) (value : A) (result : Result B Error) → (P old.now mid.now → AreTables mid.now) → (P old.now mid.now → Q mid.now new.now → R old.now new.now)
-    → Steps P old mid (Ok value) → Steps Q mid new result → Steps R old new result
+pub then_step : {own : Schema} {A B : Type 0} (P Q R : Database → Database → Type 0) (old mid new : State) (value : A) (result : Result B Error) → (P old.now mid.now → AreTablesOf own mid.now) → (P old.now mid.now → Q mid.now new.now → R old.now new.now)
+    → StepsOf own P old mid (Ok value) → StepsOf own Q mid new result → StepsOf own R old new result
 then_step P Q R old mid new value (Ok other) tables both first second = record {
   kept = keeps_then old mid new first.kept second.kept;
   shows = shows_then old mid new first.shows second.shows;
@@ -33,16 +34,16 @@ then_step P Q R old mid new value (Ok other) tables both first second = record {
 }
 then_step P Q R old mid new value (Err e) tables both first second = record { kept = keeps_then old mid new first.kept second.kept; shows = tt; does = λ _. tt }
 
-pub follow_step : {A B : Type 0} (P Q : Database → Database → Type 0) (old mid new : State) (value : A) (result : Result B Error) → (P old.now mid.now → AreTables mid.now)
-    → Steps P old mid (Ok value) → Steps Q mid new result → Steps (Follows P Q) old new result
+pub follow_step : {own : Schema} {A B : Type 0} (P Q : Database → Database → Type 0) (old mid new : State) (value : A) (result : Result B Error) → (P old.now mid.now → AreTablesOf own mid.now)
+    → StepsOf own P old mid (Ok value) → StepsOf own Q mid new result → StepsOf own (Follows P Q) old new result
 follow_step P Q old mid new value result tables = then_step P Q (Follows P Q) old mid new value result tables (λ p q. (mid.now, p, q))
 
 -- what is said of a step that answered, whatever it answered
-pub same_step : {A B : Type 0} (P R : Database → Database → Type 0) (old new : State) (value : A) (other : B) → (P old.now new.now → R old.now new.now) → Steps P old new (Ok value) → Steps R old new (Ok other)
+pub same_step : {own : Schema} {A B : Type 0} (P R : Database → Database → Type 0) (old new : State) (value : A) (other : B) → (P old.now new.now → R old.now new.now) → StepsOf own P old new (Ok value) → StepsOf own R old new (Ok other)
 same_step P R old new value other weaker step = record { kept = step.kept; shows = step.shows; does = λ were. weaker (step.does were) }
 
 -- a step that failed, after others that didn't
-pub failed_step : {A B C : Type 0} (P Q R : Database → Database → Type 0) (old mid new : State) (value : A) (result : Result B Error) (e : Error) → Steps P old mid (Ok value) → Steps Q mid new result → Steps {A = C} R old new (Err e)
+pub failed_step : {own : Schema} {A B C : Type 0} (P Q R : Database → Database → Type 0) (old mid new : State) (value : A) (result : Result B Error) (e : Error) → StepsOf own P old mid (Ok value) → StepsOf own Q mid new result → StepsOf {A = C} own R old new (Err e)
 failed_step P Q R old mid new value result e first second = record { kept = keeps_then old mid new first.kept second.kept; shows = tt; does = λ _. tt }
 
 -- rows that go after others that went
@@ -53,7 +54,7 @@ loses_more one other both a b c is first second = record {
 }
 
 -- a table loses rows again
-pub loses_again : (tree : ℕ) (one other both : Row → Bool) (a b c : Database) → ((row : Row) → both row ≡ (one row || other row)) → Rewrites tree (Loses one) a b → Rewrites tree (Loses other) b c → Rewrites tree (Loses both) a c
+pub loses_again : {own : Schema} (tree : ℕ) (one other both : Row → Bool) (a b c : Database) → ((row : Row) → both row ≡ (one row || other row)) → RewritesOf own tree (Loses one) a b → RewritesOf own tree (Loses other) b c → RewritesOf own tree (Loses both) a c
 loses_again tree one other both a b c is first second = record {
   tables = second.tables;
   sound = second.sound;
@@ -62,7 +63,7 @@ loses_again tree one other both a b c is first second = record {
 }
 
 -- nothing goes
-pub loses_none : (tree : ℕ) (P : Database → Database → Type 0) (Changes : List Row → List Row → Type 0) (other : ℕ) (old new : Database) → Rewrites other Changes old new → Rewrites tree (Loses (λ _. false)) new new
+pub loses_none : {own : Schema} (tree : ℕ) (P : Database → Database → Type 0) (Changes : List Row → List Row → Type 0) (other : ℕ) (old new : Database) → RewritesOf own other Changes old new → RewritesOf own tree (Loses (λ _. false)) new new
 loses_none tree P Changes other old new before = record {
   tables = before.tables;
   sound = before.sound;
@@ -91,8 +92,8 @@ gains_more P Q R a b c one other either first second = record {
 }
 
 -- a table gains rows again
-gains_again : (tree : ℕ) (P Q R : Row → Type 0) (a b c : Database) → ((cells : Row) → P cells → R cells) → ((cells : Row) → Q cells → R cells) → ((cells : Row) → R cells → P cells ⊎ Q cells) → Rewrites tree (Gains P) a b → Rewrites tree (Gains Q) b c
-    → Rewrites tree (Gains R) a c
+pub gains_again : {own : Schema} (tree : ℕ) (P Q R : Row → Type 0) (a b c : Database) → ((cells : Row) → P cells → R cells) → ((cells : Row) → Q cells → R cells) → ((cells : Row) → R cells → P cells ⊎ Q cells) → RewritesOf own tree (Gains P) a b → RewritesOf own tree (Gains Q) b c
+    → RewritesOf own tree (Gains R) a c
 gains_again tree P Q R a b c one other either first second = record {
   tables = second.tables;
   sound = second.sound;

@@ -43,12 +43,14 @@ get_if : (called : Bool) (content : Content) (key q : ℤ) (part : List Value) �
 get_if true content key q part = map.get-insert int_cmp_total content key part q
 get_if false content key q part = refl
 
+pub get_row : (leaves : List Leaf) (row : Row) (rows : List Row) (leaf : Leaf) (key : ℤ) → map.get (content_in leaves (row ∷ rows) leaf) key ≡ cond (is_part_at leaves leaf key row) (Some (decoded (text_at row 3))) (map.get (content_in leaves rows leaf) key)
+get_row leaves row rows leaf key =
+    get_if (is_called leaves leaf (text_at row 1)) (content_in leaves rows leaf) (int_at row 2) key (decoded (text_at row 3)) ∙ set_if (is_called leaves leaf (text_at row 1)) (is_int key (int_at row 2)) _ _
+
 pub look_content : (leaves : List Leaf) (leaf : Leaf) (key : ℤ) (rows : List Row) → LooksUp (is_part_at leaves leaf key) (λ row. decoded (text_at row 3)) rows (map.get (content_in leaves rows leaf) key)
 look_content leaves leaf key [] = nowhere (λ row none. absurd none) (map.get-empty int_cmp key)
 look_content leaves leaf key (row ∷ rows) =
-    looks_more (is_part_at leaves leaf key) (λ r. decoded (text_at r 3)) row rows (map.get (content_in leaves rows leaf) key) (map.get (content_in leaves (row ∷ rows) leaf) key)
-    (get_if (is_called leaves leaf (text_at row 1)) (content_in leaves rows leaf) (int_at row 2) key (decoded (text_at row 3)) ∙ set_if (is_called leaves leaf (text_at row 1)) (is_int key (int_at row 2)) _ _)
-    (look_content leaves leaf key rows)
+    looks_more (is_part_at leaves leaf key) (λ r. decoded (text_at r 3)) row rows (map.get (content_in leaves rows leaf) key) (map.get (content_in leaves (row ∷ rows) leaf) key) (get_row leaves row rows leaf key) (look_content leaves leaf key rows)
 
 -- ---- intents
 

@@ -1,5 +1,5 @@
 -- The tables of a site are made.
-use Rattle.std.proofs.Common.{◌≡◌, ◌⊎◌, ℕ, false, cond, List, [], None, Ok, Err, Result, IsTrue, refl, sym, ap, ◌∙◌, subst, inl, inr}
+use Rattle.std.proofs.Common.{◌≡◌, ◌⊎◌, ℕ, false, OnOk, List, [], None, Ok, Err, Result, IsTrue, refl, sym, ap, ◌∙◌, subst, inl, inr}
 use Rattle.sqlite.specs.Change.{created, next_tree, KeepsRows}
 use Rattle.sqlite.specs.Command.TheVariants.{CreateTable}
 use Rattle.sqlite.specs.Compile.{table_defined_by}
@@ -8,16 +8,21 @@ use Rattle.sqlite.specs.Effect.{Database}
 use Rattle.sqlite.specs.Listing.{understood}
 use Rattle.sqlite.specs.Order.{Row}
 use Rattle.sqlite.specs.Schema.{Schema}
-use Rattle.sqlite.specs.State.{State, Executes, Writes}
+use Rattle.sqlite.specs.State.{State, Executes, ExecutesInside, Shows, Writes}
+use Rattle.sqlite.specs.declared.error.Error.{Error}
+use Rattle.sqlite.proofs.InsideLemmas.{keeps_then}
 use Rattle.sqlite.specs.Table.{Table}
 use Rattle.sqlite.proofs.Callers.{IsPlain, command_of, statement_of, runs_as}
 use Rattle.sqlite_rules.specs.Lists.{Has}
 use Rattle.sqlite_tied.specs.Compute.{everything}
 use Rattle.terms.specs.declared.leaf.Leaf.{Leaf}
 use Rattle.sqlstore.specs.Content.{content_in, prepared_in, changes_in, life_in, kept_of}
-use Rattle.sqlstore.specs.Fresh.{AreFresh, KeepsNothing}
+use Rattle.sqlstore.specs.Fresh.{AreFresh, KeepsNothing, MakesTable, Builds, MakesAll, one_table, two_tables, three_tables}
 use Rattle.sqlstore.specs.Rows.{AreKeyed}
 use Rattle.sqlstore.specs.Sound.{IsStored}
+use Rattle.sqlstore.specs.Step.{Follows}
+use Rattle.sqlstore.proofs.Committing.{begun}
+use Rattle.sqlstore.proofs.Stepping.{unchanged_keeps, undone_keeps}
 use Rattle.sqlstore.specs.Tables.{no_schema, part_table, prepared_table, intent_table, state_table, create_part, create_prepared, create_intent, create_state}
 
 passed : {B E R : Type 0} {b : B} {Stops : E → Type 0} → ((stop : E) × Stops stop × (Ok b ≡ Err stop)) ⊎ R → R
@@ -27,17 +32,8 @@ passed (inr on) = on
 ok_value : {B E : Type 0} {a b : B} → ◌≡◌ {A = Result B E} (Ok a) (Ok b) → a ≡ b
 ok_value e = cc
 
--- a table is made, and the others keep their rows
-pub record Creates (before : Schema) (table : Table) (old new : State) : Type 0 where
-  pub schema : new.now.schema ≡ created before table
-  pub empty : new.now.trees (next_tree before) ≡ []
-  pub kept : KeepsRows before.tables old.now.trees new.now.trees
-  pub is_open : IsTrue new.is_open
-  pub mode : new.in_transaction ≡ old.in_transaction
-  pub committed : old.in_transaction ≡ false → new.committed ≡ new.now
-
-creates : (text : List ℕ) (before : Schema) (table : Table) → table_defined_by text ≡ Ok table → command_of (understood before text) ≡ CreateTable → statement_of text (understood before text) ≡ text → IsPlain (understood before text) → lacks_sequence (created before table) ≡ false
-    → (old new : State) → old.now.schema ≡ before → (count : ℕ) → Executes text [] old new (Ok count) → Creates before table old new
+pub creates : (text : List ℕ) (before : Schema) (table : Table) → table_defined_by text ≡ Ok table → command_of (understood before text) ≡ CreateTable → statement_of text (understood before text) ≡ text → IsPlain (understood before text) → lacks_sequence (created before table) ≡ false
+    → (old new : State) → old.now.schema ≡ before → (count : ℕ) → Executes text [] old new (Ok count) → MakesTable before table old.now new.now
 creates text before table defined is whole plain lacks old new has count ran =
     let w = subst (λ t. Writes old new None CreateTable t [] count) whole (runs_as text [] old new before has CreateTable is plain count ran) in
     let all = passed w.changed in
@@ -52,54 +48,66 @@ creates text before table defined is whole plain lacks old new has count ran =
       schema = ap (λ (d : Database). d.schema) now ∙ schema;
       empty = ap (λ (d : Database). d.trees (next_tree before)) now ∙ subst (λ s. first.0.trees (next_tree s) ≡ []) has made.empty;
       kept = subst (λ (d : Database). KeepsRows before.tables old.now.trees d.trees) (sym now) (subst (λ (s : Schema). KeepsRows s.tables old.now.trees first.0.trees) has made.others);
-      is_open = w.shown.is_open;
-      mode = w.shown.mode;
-      committed = λ outside. w.shown.committed_is ∙ ap (λ b. cond b old.committed new.now) outside;
     }
 
-abbrev one_table : Schema
-one_table = created no_schema part_table
+-- a statement within a transaction builds by what it makes where it answers
+pub builds_by : (before : Schema) (P : Database → Database → Type 0) (sql : List ℕ) (old new : State) (result : Result ℕ Error) → (old.now.schema ≡ before → (count : ℕ) → Executes sql [] old new (Ok count) → P old.now new.now) → ExecutesInside 0 sql [] old new result → Builds before P old new result
+builds_by before P sql old new (Ok count) does ran = record { kept = record { was_open = λ _. ran.1.was_open; committed = λ _. ran.1.committed_is }; shows = ran.1; does = λ schema. does schema count ran.0 }
+builds_by before P sql old new (Err e) does (inl failed) = record { kept = elim failed.1 [ inl same ↦ unchanged_keeps old new same | inr undone ↦ undone_keeps old new undone ]; shows = tt; does = λ _. tt }
+builds_by before P sql old new (Err e) does (inr refused) = record { kept = unchanged_keeps old new refused.2; shows = tt; does = λ _. tt }
 
-abbrev two_tables : Schema
-two_tables = created one_table prepared_table
-
-abbrev three_tables : Schema
-three_tables = created two_tables intent_table
-
-pub creates_part : (old new : State) → old.now.schema ≡ no_schema → (count : ℕ) → Executes create_part [] old new (Ok count) → Creates no_schema part_table old new
+pub builds_part : (old new : State) (result : Result ℕ Error) → ExecutesInside 0 create_part [] old new result → Builds no_schema (MakesTable no_schema part_table) old new result
 unfolding understood everything
-creates_part = creates create_part no_schema part_table refl refl refl (refl, refl) refl
+builds_part old new result = builds_by no_schema (MakesTable no_schema part_table) create_part old new result (creates create_part no_schema part_table refl refl refl (refl, refl) refl old new)
 
-pub creates_prepared : (old new : State) → old.now.schema ≡ one_table → (count : ℕ) → Executes create_prepared [] old new (Ok count) → Creates one_table prepared_table old new
+pub builds_prepared : (old new : State) (result : Result ℕ Error) → ExecutesInside 0 create_prepared [] old new result → Builds one_table (MakesTable one_table prepared_table) old new result
 unfolding understood everything
-creates_prepared = creates create_prepared one_table prepared_table refl refl refl (refl, refl) refl
+builds_prepared old new result = builds_by one_table (MakesTable one_table prepared_table) create_prepared old new result (creates create_prepared one_table prepared_table refl refl refl (refl, refl) refl old new)
 
-pub creates_intent : (old new : State) → old.now.schema ≡ two_tables → (count : ℕ) → Executes create_intent [] old new (Ok count) → Creates two_tables intent_table old new
+pub builds_intent : (old new : State) (result : Result ℕ Error) → ExecutesInside 0 create_intent [] old new result → Builds two_tables (MakesTable two_tables intent_table) old new result
 unfolding understood everything
-creates_intent = creates create_intent two_tables intent_table refl refl refl (refl, refl) refl
+builds_intent old new result = builds_by two_tables (MakesTable two_tables intent_table) create_intent old new result (creates create_intent two_tables intent_table refl refl refl (refl, refl) refl old new)
 
-pub creates_state : (old new : State) → old.now.schema ≡ three_tables → (count : ℕ) → Executes create_state [] old new (Ok count) → Creates three_tables state_table old new
+pub builds_state : (old new : State) (result : Result ℕ Error) → ExecutesInside 0 create_state [] old new result → Builds three_tables (MakesTable three_tables state_table) old new result
 unfolding understood everything
-creates_state = creates create_state three_tables state_table refl refl refl (refl, refl) refl
+builds_state old new result = builds_by three_tables (MakesTable three_tables state_table) create_state old new result (creates create_state three_tables state_table refl refl refl (refl, refl) refl old new)
+
+-- one after another
+pub builds_then : {A B : Type 0} (before between : Schema) (P Q : Database → Database → Type 0) (old mid new : State) (value : A) (result : Result B Error) → (P old.now mid.now → mid.now.schema ≡ between)
+    → Builds before P old mid (Ok value) → Builds between Q mid new result → Builds before (Follows P Q) old new result
+builds_then before between P Q old mid new value (Ok other) schema first second = record {
+  kept = keeps_then old mid new first.kept second.kept;
+  shows = record { was_open = first.shows.was_open; is_open = second.shows.is_open; now_is = refl; committed_is = second.shows.committed_is ∙ first.shows.committed_is; mode = second.shows.mode };
+  does = λ was. let p = first.does was in (mid.now, p, second.does (schema p));
+}
+builds_then before between P Q old mid new value (Err e) schema first second = record { kept = keeps_then old mid new first.kept second.kept; shows = tt; does = λ _. tt }
 
 -- all four
-pub creates_all : (a b c d e : State) → a.in_transaction ≡ false → Creates no_schema part_table a b → Creates one_table prepared_table b c → Creates two_tables intent_table c d → Creates three_tables state_table d e
-    → AreFresh e.now × (e.committed ≡ e.now) × IsTrue e.is_open
-creates_all a b c d e outside one two three four = (
-  record {
-    schema = four.schema;
-    parts = four.kept.0 ∙ three.kept.0 ∙ two.kept.0 ∙ one.empty;
-    prepared = four.kept.1.0 ∙ three.kept.1.0 ∙ two.empty;
-    intents = four.kept.1.1.0 ∙ three.empty;
-    state = four.empty;
-  },
-  four.committed (three.mode ∙ two.mode ∙ one.mode ∙ outside),
-  four.is_open,
-)
+pub makes_all : (old new : Database) → MakesAll old new → AreFresh new
+makes_all old new all =
+    let one = all.1.1 in
+    let two = all.1.2 in
+    let three = all.2.1 in
+    let four = all.2.2 in
+    record {
+      schema = four.schema;
+      parts = four.kept.0 ∙ three.kept.0 ∙ two.kept.0 ∙ one.empty;
+      prepared = four.kept.1.0 ∙ three.kept.1.0 ∙ two.empty;
+      intents = four.kept.1.1.0 ∙ three.empty;
+      state = four.empty;
+    }
+
+-- what is committed once all are made
+pub built_committed : {A B : Type 0} (old last new : State) (value : A) (result : Result B Error) → (IsTrue old.is_open → old.now ≡ old.committed) → old.committed.schema ≡ no_schema
+    → Builds no_schema MakesAll (begun old) last (Ok value) → OnOk result (Shows last new last.now last.now false) → OnOk result (AreFresh new.committed)
+built_committed old last new value (Err e) settled schema builds ended = tt
+built_committed old last new value (Ok done) settled schema builds ended =
+    let now : old.now ≡ old.committed = settled builds.shows.was_open in
+    subst AreFresh (sym ended.committed_is) (makes_all old.now last.now (builds.does (ap (λ (d : Database). d.schema) now ∙ schema)))
 
 -- ---- new tables are as the store leaves them
 
-no_rows : (rows : List Row) → rows ≡ [] → AreKeyed rows
+pub no_rows : (rows : List Row) → rows ≡ [] → AreKeyed rows
 no_rows rows none = subst AreKeyed (sym none) (record { ints = λ row there. absurd there; apart = λ one other h k same. absurd h })
 
 pub fresh_stored : (leaves : List Leaf) (db : Database) → AreFresh db → IsStored leaves db

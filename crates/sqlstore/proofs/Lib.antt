@@ -21,3 +21,23 @@ pub mod Finding
 pub mod Creating
 pub mod Naming
 pub mod Scanning
+pub mod Ours
+pub mod Whole
+pub mod Rising
+pub mod Looking
+pub mod Sharing
+pub mod Backward
+pub mod Consistent
+pub mod Showed
+-- Those of the coordinator's store.
+pub mod DeskTexts
+pub mod DeskStepping
+pub mod Deciding
+pub mod DeskTyped
+pub mod Voting
+pub mod Epochs
+pub mod Decisions
+pub mod DeskWhole
+pub mod DeskOurs
+pub mod DeskCreating
+pub mod Telling

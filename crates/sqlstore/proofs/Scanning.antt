@@ -29,7 +29,7 @@ use Rattle.sqlstore.proofs.Bridge.{of_leaf_of, called_text, int_same, same_text}
 use Rattle.sqlstore.proofs.Contents.{LooksUp, at_row, nowhere, look_content, is_part_at, both_eq}
 use Rattle.sqlstore.proofs.Typed.{part_typed, part_once}
 
-get_part : (found : Option Leaf) (key : ℤ) (part : List Value) (changes : Changes) (slot : Slot) → map.get (with_part found key part changes) slot ≡ cond (is_leaf found slot.leaf && is_int slot.key key) (Some (Some part)) (map.get changes slot)
+pub get_part : (found : Option Leaf) (key : ℤ) (part : List Value) (changes : Changes) (slot : Slot) → map.get (with_part found key part changes) slot ≡ cond (is_leaf found slot.leaf && is_int slot.key key) (Some (Some part)) (map.get changes slot)
 get_part None key part changes slot = refl
 get_part (Some leaf) key part changes slot =
     map.get-insert slot_cmp_total changes (slot_of leaf key) (Some part) slot

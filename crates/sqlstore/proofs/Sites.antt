@@ -208,16 +208,3 @@ module _ (leaves : List Leaf) (life : ℕ) (old new : Database) (made : LivesOn 
     promised = λ intent there. let its = stored.promised intent (subst (λ rows. Has rows intent) lives_intents there) in (its.0, subst (λ rows. Has rows its.0) (sym lives_prepared) its.1, its.2);
     begun = λ row there. subst (λ n. pos 0 ≤ℤ n) (sym (life_cell row there)) (omega (arith, ints));
   }
-
--- ---- each part stands under its own key
-
-pub stored_keyed : (leaves : List Leaf) (db : Database) → IsStored leaves db → (leaf : Leaf) → IsKeyed ((kept_of leaves db).content leaf)
-stored_keyed leaves db stored leaf key = go _ (look_content leaves leaf key (db.trees 0))
-  where
-    go : (found : Option (List Value)) → LooksUp (is_part_at leaves leaf key) (λ row. decoded (text_at row 3)) (db.trees 0) found → IfSome found (λ part. key_of part ≡ key)
-    go found (at_row row there at shows) =
-        let spells = (stored.parts row there).spells in
-        let same = (and_parts (is_called leaves leaf (text_at row 1)) (is_int key (int_at row 2)) at).1 in
-        let part : decoded (text_at row 3) ≡ spells.part = ap part_or_none spells.spelled in
-        subst (λ o. IfSome o (λ p. key_of p ≡ key)) (sym shows) (ap key_of part ∙ spells.keyed ∙ sym (int_same key (int_at row 2) same))
-    go found (nowhere none nothing) = subst (λ o. IfSome o (λ p. key_of p ≡ key)) (sym nothing) tt

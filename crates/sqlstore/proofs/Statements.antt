@@ -12,6 +12,7 @@ use Rattle.sqlite.specs.Order.{Row}
 use Rattle.sqlite.specs.Program.{overlay}
 use Rattle.sqlite.specs.Rowids.TheVariants.{Given}
 use Rattle.sqlite.specs.Rows.{Task, Written, stamped, rowids_for, count_of}
+use Rattle.sqlite.specs.Schema.{Schema}
 use Rattle.sqlite.specs.Source.{Source}
 use Rattle.sqlite.specs.State.{State, Executes, mode_of}
 use Rattle.sqlite.specs.Table.{Table}
@@ -23,8 +24,7 @@ use Rattle.sqlite_rules.specs.Calls.{ids_of}
 use Rattle.sqlite_rules.specs.Lists.{Has}
 use Rattle.sqlite_rules.proofs.ListLemmas.{all_has}
 use Rattle.sqlite_schema.specs.declared.schema.Keys.TheVariants.{Enforced}
-use Rattle.sqlstore.specs.Rows.{AreKeyed, AreTables, Loses, Gains, Rewrites}
-use Rattle.sqlstore.specs.Tables.{site_schema}
+use Rattle.sqlstore.specs.Rows.{AreKeyed, AreTablesOf, Loses, Gains, RewritesOf}
 use Rattle.sqlstore.specs.Tests.{passes}
 use Rattle.sqlstore.proofs.Deleting.{deleted, fewer_keyed}
 use Rattle.sqlstore.proofs.Inserting.{inserted, put_all_keyed}
@@ -40,9 +40,9 @@ ok_value : {B E : Type 0} {a b : B} → ◌≡◌ {A = Result B E} (Ok a) (Ok b)
 ok_value e = cc
 
 -- one table has other rows, whose numbers differ, and the others have theirs
-rewritten : (tree : ℕ) (Changes : List Row → List Row → Type 0) (old new : Database) → AreTables old → IsDatabase new → new.schema ≡ site_schema → AreKeyed (new.trees tree) → Changes (old.trees tree) (new.trees tree)
-    → ((table : Table) → Has site_schema.tables table → table.tree ≢ tree → new.trees table.tree ≡ old.trees table.tree) → Rewrites tree Changes old new
-rewritten tree Changes old new tables sound schema keyed changes others = record {
+rewritten : (own : Schema) (tree : ℕ) (Changes : List Row → List Row → Type 0) (old new : Database) → AreTablesOf own old → IsDatabase new → new.schema ≡ own → AreKeyed (new.trees tree) → Changes (old.trees tree) (new.trees tree)
+    → ((table : Table) → Has own.tables table → table.tree ≢ tree → new.trees table.tree ≡ old.trees table.tree) → RewritesOf own tree Changes old new
+rewritten own tree Changes old new tables sound schema keyed changes others = record {
   tables = record {
     schema = schema;
     keyed = λ table listed. elim (cases_eq table.tree tree) [
@@ -55,55 +55,55 @@ rewritten tree Changes old new tables sound schema keyed changes others = record
   others = others;
 }
 
-module _ (text : List ℕ) (at : ℕ) (table : Table) (listed : Has site_schema.tables table) (place : slice_get site_schema.tables at ≡ Some table) (params : Row) (old new : State) (tables : AreTables old.now)
-    (plain : IsPlain (understood site_schema text)) where
+module _ (own : Schema) (text : List ℕ) (at : ℕ) (table : Table) (listed : Has own.tables table) (place : slice_get own.tables at ≡ Some table) (params : Row) (old new : State) (tables : AreTablesOf own old.now)
+    (plain : IsPlain (understood own text)) where
   abbrev task : Task
-  task = record { limit = old.step_limit; keys = Enforced; schema = site_schema; table = table; params = params }
+  task = record { limit = old.step_limit; keys = Enforced; schema = own; table = table; params = params }
 
   -- what a statement on the table did, under the schema of a site
-  on_table : (command : Command) (tally : Tally) → Does old.step_limit (mode_of old) params old.now (statement_of text (understood site_schema text)) None command (Ok (tally, new.now))
-      → ((schema : _) → Does old.step_limit (mode_of old) params (record old.now { schema = schema }) (statement_of text (understood site_schema text)) None command
+  on_table : (command : Command) (tally : Tally) → Does old.step_limit (mode_of old) params old.now (statement_of text (understood own text)) None command (Ok (tally, new.now))
+      → ((schema : _) → Does old.step_limit (mode_of old) params (record old.now { schema = schema }) (statement_of text (understood own text)) None command
       ≡ AtPlace (λ t. OnRows (record { limit = old.step_limit; keys = Enforced; schema = schema; table = t; params = params }) (mode_of old) None command old.now.trees) (slice_get schema.tables at))
       → OnRows task (mode_of old) None command old.now.trees (Ok (tally, new.now))
   on_table command tally does is =
       let out = λ (P : Result (Tally × Database) (Option _) → Type 0). P (Ok (tally, new.now)) in
-      let under = subst (λ schema. Does old.step_limit (mode_of old) params (record old.now { schema = schema }) (statement_of text (understood site_schema text)) None command (Ok (tally, new.now))) tables.schema does in
-      let placed = subst out (is site_schema) under in
-      subst (λ found. AtPlace (λ t. OnRows (record { limit = old.step_limit; keys = Enforced; schema = site_schema; table = t; params = params }) (mode_of old) None command old.now.trees) found (Ok (tally, new.now))) place placed
+      let under = subst (λ schema. Does old.step_limit (mode_of old) params (record old.now { schema = schema }) (statement_of text (understood own text)) None command (Ok (tally, new.now))) tables.schema does in
+      let placed = subst out (is own) under in
+      subst (λ found. AtPlace (λ t. OnRows (record { limit = old.step_limit; keys = Enforced; schema = own; table = t; params = params }) (mode_of old) None command old.now.trees) found (Ok (tally, new.now))) place placed
 
-  pub deletes : (filter : List Term) → command_of (understood site_schema text) ≡ deletes_from at table.tree filter → ((taken : List Row) → works site_schema Enforced 0 table.tree taken [] ≡ [])
-      → ((db : Trees) → overlay db [] table.tree ≡ db table.tree) → (count : ℕ) → Executes text params old new (Ok count) → Rewrites table.tree (Loses (passes filter params)) old.now new.now
+  pub deletes : (filter : List Term) → command_of (understood own text) ≡ deletes_from at table.tree filter → ((taken : List Row) → works own Enforced 0 table.tree taken [] ≡ [])
+      → ((db : Trees) → overlay db [] table.tree ≡ db table.tree) → (count : ℕ) → Executes text params old new (Ok count) → RewritesOf own table.tree (Loses (passes filter params)) old.now new.now
   deletes filter is none bare count ran =
       let command = deletes_from at table.tree filter in
-      let w = runs_as text params old new site_schema tables.schema command is plain count ran in
+      let w = runs_as text params old new own tables.schema command is plain count ran in
       let on = on_table command w.tally w.changed (λ _. refl) in
       let written = passed on in
       let found = passed written.1 in
       let next = passed found.2 in
       let ended = passed (passed written.2).2 in
-      let now : new.now ≡ record { schema = site_schema; trees = written.0.trees } = ap (λ (p : Tally × Database). p.1) (ok_value ended.2) in
+      let now : new.now ≡ record { schema = own; trees = written.0.trees } = ap (λ (p : Tally × Database). p.1) (ok_value ended.2) in
       let trees : written.0.trees ≡ next.0 = ap (λ (it : Written). it.trees) (ok_value next.2) in
       let edit : Edit = edit_of old.now.trees table (ids_of found.0) Given 0 [] in
-      let applies = one_step site_schema Enforced old.now.trees next.0 edit (none (taken_by old.now.trees edit)) next.1 in
+      let applies = one_step own Enforced old.now.trees next.0 edit (none (taken_by old.now.trees edit)) next.1 in
       let finds = answered table.tree filter (col 1 0 ∷ []) [] params old.now.trees found.0 (bare old.now.trees) found.1.answer in
       let loses = deleted (passes filter params) (old.now.trees table.tree) found.0 (tables.keyed table listed) finds in
       let tree-is = λ (t : ℕ). ap (λ (d : Database). d.trees t) now ∙ ap (λ (ts : Trees). ts t) trees in
       let rows : new.now.trees table.tree ≡ edited old.now.trees edit = tree-is table.tree ∙ applies.rows in
-      rewritten table.tree (Loses (passes filter params)) old.now new.now tables w.sound (ap (λ (d : Database). d.schema) now)
+      rewritten own table.tree (Loses (passes filter params)) old.now new.now tables w.sound (ap (λ (d : Database). d.schema) now)
       (subst AreKeyed (sym rows) (fewer_keyed (old.now.trees table.tree) (edited old.now.trees edit) (λ row there. (loses.gone row there).0) (tables.keyed table listed)))
       (subst (Loses (passes filter params) (old.now.trees table.tree)) (sym rows) loses)
-      (λ other among apart. tree-is other.tree ∙ all_has (λ t. t.tree ≢ table.tree → next.0 t.tree ≡ old.now.trees t.tree) site_schema.tables other applies.tables among apart)
+      (λ other among apart. tree-is other.tree ∙ all_has (λ t. t.tree ≢ table.tree → next.0 t.tree ≡ old.now.trees t.tree) own.tables other applies.tables among apart)
 
   -- a row more for each that the source gives
   abbrev pub Cells : List Row → Row → Type 0
   Cells sources cells = (source : Row) × Has sources source × (cells ≡ cast_all table.columns (drop 1 source))
 
-  pub inserts : (from : Source) → command_of (understood site_schema text) ≡ Insert at from → ((news : List Row) → works site_schema Enforced 0 table.tree [] news ≡ []) → table.is_counted ≡ false → stamped table params ≡ params
+  pub inserts : (from : Source) → command_of (understood own text) ≡ Insert at from → ((news : List Row) → works own Enforced 0 table.tree [] news ≡ []) → table.is_counted ≡ false → stamped table params ≡ params
       → (count : ℕ) → Executes text params old new (Ok count)
-      → (sources : List Row) × IsSource (record { schema = site_schema; trees = old.now.trees }) params from sources × Rewrites table.tree (Gains (Cells sources)) old.now new.now
+      → (sources : List Row) × IsSource (record { schema = own; trees = old.now.trees }) params from sources × RewritesOf own table.tree (Gains (Cells sources)) old.now new.now
   inserts from is none uncounted unstamped count ran =
       let command = Insert at from in
-      let w = runs_as text params old new site_schema tables.schema command is plain count ran in
+      let w = runs_as text params old new own tables.schema command is plain count ran in
       let on = on_table command w.tally w.changed (λ _. refl) in
       let written = passed on in
       let given = passed written.1 in
@@ -111,14 +111,14 @@ module _ (text : List ℕ) (at : ℕ) (table : Table) (listed : Has site_schema.
       let mid = passed counter.2 in
       let next = passed mid.2 in
       let ended = passed (passed written.2).2 in
-      let now : new.now ≡ record { schema = site_schema; trees = written.0.trees } = ap (λ (p : Tally × Database). p.1) (ok_value ended.2) in
+      let now : new.now ≡ record { schema = own; trees = written.0.trees } = ap (λ (p : Tally × Database). p.1) (ok_value ended.2) in
       let uncounting = MatchBool-at_false _ _ (cond-false table.is_counted _ false uncounted) next.1 in
       let trees : written.0.trees ≡ mid.0 = ap (λ (it : Written). it.trees) (ok_value next.2) ∙ ok_value uncounting in
       let rowids = rowids_for table (count_of counter.0) in
       let rows_were = old.now.trees table.tree in
       let sources = map (λ s. cast_row table (drop 0 s)) given.0 in
       let edit : Edit = edit_of old.now.trees table [] rowids 0 given.0 in
-      let applies = one_step site_schema Enforced old.now.trees mid.0 edit (none (numbered rowids rows_were sources)) mid.1 in
+      let applies = one_step own Enforced old.now.trees mid.0 edit (none (numbered rowids rows_were sources)) mid.1 in
       let gains = inserted rowids rows_were sources applies.fresh in
       let tree-is = λ (t : ℕ). ap (λ (d : Database). d.trees t) now ∙ ap (λ (ts : Trees). ts t) trees in
       let rows : new.now.trees table.tree ≡ edited old.now.trees edit = tree-is table.tree ∙ applies.rows in
@@ -131,9 +131,9 @@ module _ (text : List ℕ) (at : ℕ) (table : Table) (listed : Has site_schema.
         ];
       } in (
         given.0,
-        subst (λ ps. IsSource (record { schema = site_schema; trees = old.now.trees }) ps from given.0) unstamped given.1,
-        rewritten table.tree (Gains (Cells given.0)) old.now new.now tables w.sound (ap (λ (d : Database). d.schema) now)
+        subst (λ ps. IsSource (record { schema = own; trees = old.now.trees }) ps from given.0) unstamped given.1,
+        rewritten own table.tree (Gains (Cells given.0)) old.now new.now tables w.sound (ap (λ (d : Database). d.schema) now)
             (subst AreKeyed (sym rows) (put_all_keyed (numbered rowids rows_were sources) rows_were applies.keyed applies.fresh (tables.keyed table listed)))
             (subst (Gains (Cells given.0) rows_were) (sym rows) cells)
-            (λ other among apart. tree-is other.tree ∙ all_has (λ t. t.tree ≢ table.tree → mid.0 t.tree ≡ old.now.trees t.tree) site_schema.tables other applies.tables among apart),
+            (λ other among apart. tree-is other.tree ∙ all_has (λ t. t.tree ≢ table.tree → mid.0 t.tree ≡ old.now.trees t.tree) own.tables other applies.tables among apart),
       )

@@ -7,6 +7,7 @@ use Rattle.sqlite.specs.Ops.{unary}
 use Rattle.sqlite.specs.Table.{Table}
 use Rattle.sqlite.specs.Effect.{Database}
 use Rattle.sqlite.specs.Order.{Row}
+use Rattle.sqlite.specs.Schema.{Schema}
 use Rattle.sqlite.specs.State.{State, Executes, ExecutesInside, KeepsCommit, IsUnchanged, IsRolledBack}
 use Rattle.sqlite.specs.Term.{lit, col}
 use Rattle.sqlite.specs.declared.error.Error.{Error}
@@ -14,9 +15,9 @@ use Rattle.sqlite.specs.declared.types.Value.{Value}
 use Rattle.sqlite.specs.declared.types.Value.TheVariants.{Null, Int, Text, Blob}
 use Rattle.sqlite_rules.specs.Lists.{Has}
 use Rattle.sqlstore.specs.declared.visit.Visit.{Visit}
-use Rattle.sqlstore.specs.Rows.{AreTables, Rewrites, Gains}
-use Rattle.sqlstore.specs.Step.{Steps, Takes, Gives, Clears, Forgets, Promises, Intends, EndsLife, StartsLife, visit_params, slot_params, promise_params, intend_params, given}
-use Rattle.sqlstore.specs.Tables.{part_table, prepared_table, intent_table, state_table}
+use Rattle.sqlstore.specs.Rows.{AreTablesOf, RewritesOf, Gains}
+use Rattle.sqlstore.specs.Step.{StepsOf, Steps, Takes, Gives, Clears, Forgets, Promises, Intends, EndsLife, StartsLife, visit_params, slot_params, promise_params, intend_params, given}
+use Rattle.sqlstore.specs.Tables.{site_schema, part_table, prepared_table, intent_table, state_table}
 use Rattle.sqlstore.specs.Tests.{at_slot, of_visit, puts_of_visit, passes, shown}
 use Rattle.sqlstore.proofs.Querying.{answered}
 use Rattle.sqlstore.proofs.Statements.{deletes, inserts}
@@ -29,8 +30,8 @@ pub undone_keeps : (old new : State) → IsRolledBack old new → KeepsCommit ol
 undone_keeps old new undone = record { was_open = undone.was_open; committed = λ is_open. (undone.undone is_open).1 }
 
 -- a statement within a transaction steps by what it does where it answers
-pub steps_by : (P : Database → Database → Type 0) (sql : List ℕ) (params : Row) (old new : State) (result : Result ℕ Error) → (AreTables old.now → (count : ℕ) → Executes sql params old new (Ok count) → P old.now new.now)
-    → ExecutesInside 0 sql params old new result → Steps P old new result
+pub steps_by : {own : Schema} (P : Database → Database → Type 0) (sql : List ℕ) (params : Row) (old new : State) (result : Result ℕ Error) → (AreTablesOf own old.now → (count : ℕ) → Executes sql params old new (Ok count) → P old.now new.now)
+    → ExecutesInside 0 sql params old new result → StepsOf own P old new result
 steps_by P sql params old new (Ok count) does ran = record {
   kept = record { was_open = λ _. ran.1.was_open; committed = λ _. ran.1.committed_is };
   shows = ran.1;
@@ -48,22 +49,22 @@ steps_by P sql params old new (Err e) does (inr refused) = record { kept = uncha
 pub takes : (slot : Row) (old new : State) (result : Result ℕ Error) → ExecutesInside 0 take_text (slot_params slot) old new result → Steps (Takes slot) old new result
 takes slot old new result =
     steps_by (Takes slot) take_text (slot_params slot) old new result (λ tables count ran.
-    deletes take_text 0 _ (inl refl) refl (slot_params slot) old new tables take_plain at_slot take_is (λ _. refl) (λ _. refl) count ran)
+    deletes site_schema take_text 0 _ (inl refl) refl (slot_params slot) old new tables take_plain at_slot take_is (λ _. refl) (λ _. refl) count ran)
 
 pub clears : (visit : Visit) (old new : State) (result : Result ℕ Error) → ExecutesInside 0 clear_text (visit_params visit) old new result → Steps (Clears visit) old new result
 clears visit old new result =
     steps_by (Clears visit) clear_text (visit_params visit) old new result (λ tables count ran.
-    deletes clear_text 2 _ (inr (inr (inl refl))) refl (visit_params visit) old new tables clear_plain of_visit clear_is (λ _. refl) (λ _. refl) count ran)
+    deletes site_schema clear_text 2 _ (inr (inr (inl refl))) refl (visit_params visit) old new tables clear_plain of_visit clear_is (λ _. refl) (λ _. refl) count ran)
 
 pub forgets : (visit : Visit) (old new : State) (result : Result ℕ Error) → ExecutesInside 0 forget_text (visit_params visit) old new result → Steps (Forgets visit) old new result
 forgets visit old new result =
     steps_by (Forgets visit) forget_text (visit_params visit) old new result (λ tables count ran.
-    deletes forget_text 1 _ (inr (inl refl)) refl (visit_params visit) old new tables forget_plain of_visit forget_is (λ _. refl) (λ _. refl) count ran)
+    deletes site_schema forget_text 1 _ (inr (inl refl)) refl (visit_params visit) old new tables forget_plain of_visit forget_is (λ _. refl) (λ _. refl) count ran)
 
 pub ends_life : (old new : State) (result : Result ℕ Error) → ExecutesInside 0 end_life_text [] old new result → Steps EndsLife old new result
 ends_life old new result =
     steps_by EndsLife end_life_text [] old new result (λ tables count ran.
-    deletes end_life_text 3 _ (inr (inr (inr (inl refl)))) refl [] old new tables end_life_plain [] end_life_is (λ _. refl) (λ _. refl) count ran)
+    deletes site_schema end_life_text 3 _ (inr (inr (inr (inl refl)))) refl [] old new tables end_life_plain [] end_life_is (λ _. refl) (λ _. refl) count ran)
 
 -- ---- what comes
 
@@ -74,7 +75,7 @@ gains_as P Q old new to from gains = record {
   only = λ row there. elim (gains.only row there) [ inl was ↦ inl was | inr made ↦ inr (to (drop 1 row) made) ];
 }
 
-pub rewrites_as : (tree : ℕ) (P Q : List Row → List Row → Type 0) (old new : Database) → (P (old.trees tree) (new.trees tree) → Q (old.trees tree) (new.trees tree)) → Rewrites tree P old new → Rewrites tree Q old new
+pub rewrites_as : {own : Schema} (tree : ℕ) (P Q : List Row → List Row → Type 0) (old new : Database) → (P (old.trees tree) (new.trees tree) → Q (old.trees tree) (new.trees tree)) → RewritesOf own tree P old new → RewritesOf own tree Q old new
 rewrites_as tree P Q old new weaker rewrites = record { tables = rewrites.tables; sound = rewrites.sound; rows = weaker rewrites.rows; others = rewrites.others }
 
 either : (test : Bool) (value : Value) → cond test value value ≡ value
@@ -91,7 +92,7 @@ unfolding unary
 cast_null = either _ Null
 
 -- one row more
-gains_one : (table : Table) (source cells : Row) (sources old new : List Row) → sources ≡ source ∷ [] → cast_all table.columns (drop 1 source) ≡ cells
+pub gains_one : (table : Table) (source cells : Row) (sources old new : List Row) → sources ≡ source ∷ [] → cast_all table.columns (drop 1 source) ≡ cells
     → Gains (λ made. (from : Row) × Has sources from × (made ≡ cast_all table.columns (drop 1 from))) old new → Gains (λ made. made ≡ cells) old new
 gains_one table source cells sources old new one is =
     gains_as (λ made. (from : Row) × Has sources from × (made ≡ cast_all table.columns (drop 1 from))) (λ made. made ≡ cells) old new
@@ -111,7 +112,7 @@ pub gives : (visit : Visit) (old new : State) (result : Result ℕ Error) → Ex
 gives visit old new result =
     let Intent = λ (cells : Row). (intent : Row) × Has (old.now.trees 4) intent × (passes puts_of_visit (visit_params visit) intent ≡ true) × (cells ≡ given intent) in
     steps_by (Gives visit) give_text (visit_params visit) old new result (λ tables count ran.
-    let made = inserts give_text 0 _ (inl refl) refl (visit_params visit) old new tables give_plain _ give_is (λ _. refl) refl refl count ran in
+    let made = inserts site_schema give_text 0 _ (inl refl) refl (visit_params visit) old new tables give_plain _ give_is (λ _. refl) refl refl count ran in
     let finds = answered 4 puts_of_visit (lit Null ∷ col 1 3 ∷ col 1 4 ∷ col 1 5 ∷ []) (Binary ∷ Binary ∷ Binary ∷ Binary ∷ []) (visit_params visit) old.now.trees made.0 refl made.1.answer in
     rewrites_as 0 _ (Gains Intent) old.now new.now (gains_as _ Intent (old.now.trees 0) (new.now.trees 0)
     (λ cells from. let intent = finds.sound from.0 from.1 in (intent.0, intent.1, intent.2, from.2 ∙ ap (λ s. cast_all part_table.columns (drop 1 s)) intent.3))
@@ -120,17 +121,17 @@ gives visit old new result =
 pub promises : (visit txn : Visit) (old new : State) (result : Result ℕ Error) → ExecutesInside 0 promise_text (promise_params visit txn) old new result → Steps (Promises visit txn) old new result
 promises visit txn old new result =
     steps_by (Promises visit txn) promise_text (promise_params visit txn) old new result (λ tables count ran.
-    let made = inserts promise_text 1 _ (inr (inl refl)) refl (promise_params visit txn) old new tables promise_plain _ promise_is (λ _. refl) refl refl count ran in
+    let made = inserts site_schema promise_text 1 _ (inr (inl refl)) refl (promise_params visit txn) old new tables promise_plain _ promise_is (λ _. refl) refl refl count ran in
     rewrites_as 2 _ _ old.now new.now (gains_one prepared_table _ (promise_params visit txn) made.0 (old.now.trees 2) (new.now.trees 2) made.1.1 (four_ints visit.life visit.visit txn.life txn.visit)) made.2)
 
 pub intends : (visit : Visit) (leaf : List ℕ) (key : ℤ) (body : List ℕ) (old new : State) (result : Result ℕ Error) → ExecutesInside 0 intend_text (intend_params visit leaf key body) old new result → Steps (Intends visit leaf key body) old new result
 intends visit leaf key body old new result =
     steps_by (Intends visit leaf key body) intend_text (intend_params visit leaf key body) old new result (λ tables count ran.
-    let made = inserts intend_text 2 _ (inr (inr (inl refl))) refl (intend_params visit leaf key body) old new tables intend_plain _ intend_is (λ _. refl) refl refl count ran in
+    let made = inserts site_schema intend_text 2 _ (inr (inr (inl refl))) refl (intend_params visit leaf key body) old new tables intend_plain _ intend_is (λ _. refl) refl refl count ran in
     rewrites_as 4 _ _ old.now new.now (gains_one intent_table _ (intend_params visit leaf key body) made.0 (old.now.trees 4) (new.now.trees 4) made.1.1 (intent_cells visit.life visit.visit leaf key body)) made.2)
 
 pub starts_life : (life : ℤ) (old new : State) (result : Result ℕ Error) → ExecutesInside 0 begin_life_text (Int life ∷ []) old new result → Steps (StartsLife life) old new result
 starts_life life old new result =
     steps_by (StartsLife life) begin_life_text (Int life ∷ []) old new result (λ tables count ran.
-    let made = inserts begin_life_text 3 _ (inr (inr (inr (inl refl)))) refl (Int life ∷ []) old new tables begin_life_plain _ begin_life_is (λ _. refl) refl refl count ran in
+    let made = inserts site_schema begin_life_text 3 _ (inr (inr (inr (inl refl)))) refl (Int life ∷ []) old new tables begin_life_plain _ begin_life_is (λ _. refl) refl refl count ran in
     rewrites_as 6 _ _ old.now new.now (gains_one state_table _ (Null ∷ Int life ∷ []) made.0 (old.now.trees 6) (new.now.trees 6) made.1.1 (life_cells life)) made.2)

@@ -11,6 +11,9 @@ use Rattle.sqlite.specs.Term.{Term, lit, col}
 use Rattle.sqlite.specs.declared.types.Value.TheVariants.{Null, Int}
 use Rattle.sqlite.proofs.Callers.{IsPlain, command_of}
 use Rattle.sqlite_tied.specs.Compute.{everything}
+use Rattle.sqlite_value.specs.Keys.{ascending}
+use Rattle.sqlstore.specs.Gathered.{prepared_terms, intent_terms, state_terms}
+use Rattle.sqlstore.specs.Listed.{part_terms}
 use Rattle.sqlstore.specs.Tests.{of_leaf, at_slot, of_visit, puts_of_visit}
 use Rattle.sqlstore.specs.Tables.{site_schema}
 
@@ -186,3 +189,80 @@ rows_plain = (refl, refl)
 pub rows_unlisted : reads_listing site_schema rows_text ≡ false
 unfolding understood everything
 rows_unlisted = refl
+
+-- ---- what reads all rows of a table, in the order of their numbers
+
+abbrev pub lists : ℕ → List Term → List (List ℕ) → Command
+lists table project names = Select (record { lets = []; body = record (simple table [] project []) { order = (col 1 0, ascending Binary) ∷ [] } }) names
+
+abbrev pub parts_text : List ℕ
+parts_text = codes "SELECT rowid, leaf, id, body FROM part ORDER BY rowid"
+
+abbrev pub parts_names : List (List ℕ)
+parts_names = codes "rowid" ∷ codes "leaf" ∷ codes "id" ∷ codes "body" ∷ []
+
+pub parts_is : command_of (understood site_schema parts_text) ≡ lists 0 part_terms parts_names
+unfolding understood everything
+parts_is = refl
+
+pub parts_plain : IsPlain (understood site_schema parts_text)
+unfolding understood everything
+parts_plain = (refl, refl)
+
+pub parts_unlisted : reads_listing site_schema parts_text ≡ false
+unfolding understood everything
+parts_unlisted = refl
+
+abbrev pub prepared_text : List ℕ
+prepared_text = codes "SELECT rowid, life, visit, tlife, tnumber FROM prepared ORDER BY rowid"
+
+abbrev pub prepared_names : List (List ℕ)
+prepared_names = codes "rowid" ∷ codes "life" ∷ codes "visit" ∷ codes "tlife" ∷ codes "tnumber" ∷ []
+
+pub prepared_is : command_of (understood site_schema prepared_text) ≡ lists 2 prepared_terms prepared_names
+unfolding understood everything
+prepared_is = refl
+
+pub prepared_plain : IsPlain (understood site_schema prepared_text)
+unfolding understood everything
+prepared_plain = (refl, refl)
+
+pub prepared_unlisted : reads_listing site_schema prepared_text ≡ false
+unfolding understood everything
+prepared_unlisted = refl
+
+abbrev pub intents_text : List ℕ
+intents_text = codes "SELECT rowid, life, visit, leaf, id, body FROM intent ORDER BY rowid"
+
+abbrev pub intents_names : List (List ℕ)
+intents_names = codes "rowid" ∷ codes "life" ∷ codes "visit" ∷ codes "leaf" ∷ codes "id" ∷ codes "body" ∷ []
+
+pub intents_is : command_of (understood site_schema intents_text) ≡ lists 4 intent_terms intents_names
+unfolding understood everything
+intents_is = refl
+
+pub intents_plain : IsPlain (understood site_schema intents_text)
+unfolding understood everything
+intents_plain = (refl, refl)
+
+pub intents_unlisted : reads_listing site_schema intents_text ≡ false
+unfolding understood everything
+intents_unlisted = refl
+
+abbrev pub state_text : List ℕ
+state_text = codes "SELECT one, NULL, life FROM state ORDER BY one"
+
+abbrev pub state_names : List (List ℕ)
+state_names = codes "one" ∷ codes "NULL" ∷ codes "life" ∷ []
+
+pub state_is : command_of (understood site_schema state_text) ≡ lists 6 state_terms state_names
+unfolding understood everything
+state_is = refl
+
+pub state_plain : IsPlain (understood site_schema state_text)
+unfolding understood everything
+state_plain = (refl, refl)
+
+pub state_unlisted : reads_listing site_schema state_text ≡ false
+unfolding understood everything
+state_unlisted = refl

@@ -12,6 +12,7 @@ use Rattle.sqlite.specs.Order.{Row, column, bytes, value_cmp}
 use Rattle.sqlite.specs.Ops.{is_null, binary, is_true, is_false, from_truth}
 use Rattle.sqlite_sql.specs.declared.ops.BinaryOp.TheVariants.{Compare}
 use Rattle.sqlite_sql.specs.declared.ops.CompareOp.TheVariants.{Eq}
+use Rattle.sqlite.specs.Schema.{Schema}
 use Rattle.sqlite.specs.Table.{Table}
 use Rattle.sqlite.specs.Tree.{rowid}
 use Rattle.sqlite.specs.declared.types.Value.{Value}
@@ -30,18 +31,18 @@ use Rattle.sqlite.specs.Collation.TheVariants.{Binary}
 use Rattle.sqlstore.specs.Rows.{AreTables, AreKeyed}
 use Rattle.sqlstore.proofs.Deleting.{same_int}
 use Rattle.sqlstore.specs.Cells.{text_at, int_at}
-use Rattle.sqlstore.specs.Tables.{site_schema, part_table, prepared_table, intent_table}
+use Rattle.sqlstore.specs.Tables.{site_schema, part_table, prepared_table, intent_table, state_table}
 
 -- ---- types
 
-text_is : (v : Value) → is_of kinds.Text v ≡ true → is_null v ≡ false → v ≡ Text (bytes v)
+pub text_is : (v : Value) → is_of kinds.Text v ≡ true → is_null v ≡ false → v ≡ Text (bytes v)
 text_is Null typed there = absurd cc
 text_is (Int n) typed there = absurd cc
 text_is (Real x) typed there = absurd cc
 text_is (Text t) typed there = refl
 text_is (Blob b) typed there = absurd cc
 
-int_is : (v : Value) → is_of kinds.Integer v ≡ true → is_null v ≡ false → v ≡ Int (id_in v)
+pub int_is : (v : Value) → is_of kinds.Integer v ≡ true → is_null v ≡ false → v ≡ Int (id_in v)
 int_is Null typed there = absurd cc
 int_is (Int n) typed there = refl
 int_is (Real x) typed there = absurd cc
@@ -76,7 +77,7 @@ kind_at (d ∷ columns) at (v ∷ values) zero c typed there strict =
 kind_at (d ∷ columns) at (v ∷ values) (suc k) c typed there strict = kind_at columns (at + 1) values k c (and_parts (suits d v) (are_typed None (at + 1) columns values) typed).1 there strict
 
 -- so has each column of a row that has a number
-cell_kind : (columns : List Column) (row : Row) (k : ℕ) (c : Column) (computed : Bool) → (are_typed None 0 columns (drop 1 row) && computed) ≡ true → slice_get columns k ≡ Some c → c.is_strict ≡ true → is_of c.kind (column row (suc k)) ≡ true
+pub cell_kind : (columns : List Column) (row : Row) (k : ℕ) (c : Column) (computed : Bool) → (are_typed None 0 columns (drop 1 row) && computed) ≡ true → slice_get columns k ≡ Some c → c.is_strict ≡ true → is_of c.kind (column row (suc k)) ≡ true
 cell_kind columns row k c computed typed there strict =
     subst (λ v. is_of c.kind v ≡ true) (column_drop row k) (kind_at columns 0 (drop 1 row) k c (and_parts (are_typed None 0 columns (drop 1 row)) computed typed).0 there strict)
 
@@ -99,7 +100,7 @@ pub record TypedIntent (row : Row) : Type 0 where
   pub body : column row 5 ≡ Blob (text_at row 5)
 
 -- equal cells that are no NULL are equal to SQL
-equal_same : (a b : Value) → a ≡ b → is_null b ≡ false → equal Binary a b ≡ true
+pub equal_same : (a b : Value) → a ≡ b → is_null b ≡ false → equal Binary a b ≡ true
 unfolding binary
 equal_same a b same there = rw (same, there, tied_itself value_cmp_total b) refl
 
@@ -113,11 +114,11 @@ differ_same m n alike = same_int m n (go (value_cmp (Int m) (Int n)) alike)
     go Equal h = refl
     go Greater h = absurd cc
 
-null_not : (v w : Value) → v ≡ w → is_null w ≡ false → is_null v ≡ false
+pub null_not : (v w : Value) → v ≡ w → is_null w ≡ false → is_null v ≡ false
 null_not v w same there = ap is_null same ∙ there
 
 -- a number that a CHECK finds equal is that number
-equal_checked : (m n : ℤ) → not (is_false (binary (Compare Eq Binary) (Int m) (Int n))) ≡ true → m ≡ n
+pub equal_checked : (m n : ℤ) → not (is_false (binary (Compare Eq Binary) (Int m) (Int n))) ≡ true → m ≡ n
 unfolding binary
 equal_checked m n passed = same_int m n (go (value_cmp (Int m) (Int n)) passed)
   where
@@ -126,17 +127,39 @@ equal_checked m n passed = same_int m n (go (value_cmp (Int m) (Int n)) passed)
     go Equal h = refl
     go Greater h = absurd cc
 
-module _ (db : Database) (sound : IsDatabase db) (tables : AreTables db) where
-  -- a rule of the schema holds of each row
-  rule_holds : (rule : Constraint) (table : Table) → Has site_schema.tables table → (row : Row) → Has (db.trees table.tree) row → passes rule site_schema db.trees table row ≡ true
-  rule_holds rule table listed row there =
-      all_has (λ r. passes rule site_schema db.trees table r ≡ true) (db.trees table.tree) row
-      (all_has (λ t. AllByRecursion (λ r. passes rule site_schema db.trees t r ≡ true) (db.trees t.tree)) site_schema.tables table (subst (λ s. Keeps rule s db.trees) tables.schema (sound.obeys.rules rule)) listed) there
+-- rows that don't clash and agree are one
+pub apart_or_one : (rows : List Row) (order : Order) (places : List ℕ) (one other : Row) → AreKeyed rows → Has rows one → Has rows other → clashes order places rows other ≡ false → agree order places one places other ≡ true → one ≡ other
+apart_or_one rows order places one other keyed h k free agrees =
+    let m = keyed.ints one h in
+    let n = keyed.ints other k in
+    let alike : differ (rowid one) (rowid other) ≡ false = false_from_ne_true (differ (rowid one) (rowid other)) (λ far.
+    both_ways (clashes order places rows other) free (some_from (λ it. agree order places it places other && differ (rowid it) (rowid other)) rows one h (and_from (agree order places one places other) (differ (rowid one) (rowid other)) agrees far))) in
+    let same : id_in (rowid one) ≡ id_in (rowid other) = differ_same (id_in (rowid one)) (id_in (rowid other)) (subst (λ v. differ v (Int (id_in (rowid other))) ≡ false) (number_is (rowid one) m) (subst (λ v. differ (rowid one) v ≡ false) (number_is (rowid other) n) alike)) in
+    keyed.apart one other h k (number_is (rowid one) m ∙ ap Int same ∙ sym (number_is (rowid other) n))
 
-  pub part_typed : (row : Row) → Has (db.trees 0) row → TypedPart row
-  part_typed row there =
-      let typed = rule_holds Datatype _ (inl refl) row there in
-      let present = rule_holds NotNull _ (inl refl) row there in
+module _ (own : Schema) (db : Database) (sound : IsDatabase db) (schema : db.schema ≡ own) where
+  -- a rule of the schema holds of each row
+  pub rule_kept : (rule : Constraint) (table : Table) → Has own.tables table → (row : Row) → Has (db.trees table.tree) row → passes rule own db.trees table row ≡ true
+  rule_kept rule table listed row there =
+      all_has (λ r. passes rule own db.trees table r ≡ true) (db.trees table.tree) row
+      (all_has (λ t. AllByRecursion (λ r. passes rule own db.trees t r ≡ true) (db.trees t.tree)) own.tables table (subst (λ s. Keeps rule s db.trees) schema (sound.obeys.rules rule)) listed) there
+
+-- the incarnation's column, behind the one that the number stands for
+state_kind : (row : Row) → (are_typed state_table.key 0 state_table.columns (drop 1 row) && true) ≡ true → is_of kinds.Integer (column row 2) ≡ true
+state_kind [] typed = refl
+state_kind (n ∷ []) typed = refl
+state_kind (n ∷ one ∷ []) typed = refl
+state_kind (n ∷ one ∷ life ∷ more) typed = (and_parts (is_of kinds.Integer life) (are_typed (Some 0) 2 [] more) (and_parts (is_null one) _ (and_parts _ true typed).0).1).0
+
+module _ (db : Database) (sound : IsDatabase db) (schema : db.schema ≡ site_schema) where
+  -- a rule of the schema holds of each row
+  pub rule_at : (rule : Constraint) (table : Table) → Has site_schema.tables table → (row : Row) → Has (db.trees table.tree) row → passes rule site_schema db.trees table row ≡ true
+  rule_at = rule_kept site_schema db sound schema
+
+  pub typed_part : (row : Row) → Has (db.trees 0) row → TypedPart row
+  typed_part row there =
+      let typed = rule_at Datatype _ (inl refl) row there in
+      let present = rule_at NotNull _ (inl refl) row there in
       let one = and_parts (not (is_null (column row 1))) _ present in
       let two = and_parts (not (is_null (column row 2))) _ one.1 in
       let three = and_parts (not (is_null (column row 3))) _ two.1 in
@@ -146,10 +169,10 @@ module _ (db : Database) (sound : IsDatabase db) (tables : AreTables db) where
         body = blob_is (column row 3) (cell_kind part_table.columns row 2 _ _ typed refl refl) (not-true _ three.0);
       }
 
-  pub prepared_typed : (row : Row) → Has (db.trees 2) row → TypedPrepared row
-  prepared_typed row there =
-      let typed = rule_holds Datatype _ (inr (inl refl)) row there in
-      let present = rule_holds NotNull _ (inr (inl refl)) row there in
+  pub typed_prepared : (row : Row) → Has (db.trees 2) row → TypedPrepared row
+  typed_prepared row there =
+      let typed = rule_at Datatype _ (inr (inl refl)) row there in
+      let present = rule_at NotNull _ (inr (inl refl)) row there in
       let one = and_parts (not (is_null (column row 1))) _ present in
       let two = and_parts (not (is_null (column row 2))) _ one.1 in
       let three = and_parts (not (is_null (column row 3))) _ two.1 in
@@ -161,10 +184,10 @@ module _ (db : Database) (sound : IsDatabase db) (tables : AreTables db) where
         txn_number = int_is (column row 4) (cell_kind prepared_table.columns row 3 _ _ typed refl refl) (not-true _ four.0);
       }
 
-  pub intent_typed : (row : Row) → Has (db.trees 4) row → TypedIntent row
-  intent_typed row there =
-      let typed = rule_holds Datatype _ (inr (inr (inl refl))) row there in
-      let present = rule_holds NotNull _ (inr (inr (inl refl))) row there in
+  pub typed_intent : (row : Row) → Has (db.trees 4) row → TypedIntent row
+  typed_intent row there =
+      let typed = rule_at Datatype _ (inr (inr (inl refl))) row there in
+      let present = rule_at NotNull _ (inr (inr (inl refl))) row there in
       let one = and_parts (not (is_null (column row 1))) _ present in
       let two = and_parts (not (is_null (column row 2))) _ one.1 in
       let three = and_parts (not (is_null (column row 3))) _ two.1 in
@@ -178,15 +201,25 @@ module _ (db : Database) (sound : IsDatabase db) (tables : AreTables db) where
         body = blob_is (column row 5) (cell_kind intent_table.columns row 4 _ _ typed refl refl) (not-true _ five.0);
       }
 
-  -- rows that don't clash and agree are one
-  apart_or_one : (rows : List Row) (order : Order) (places : List ℕ) (one other : Row) → AreKeyed rows → Has rows one → Has rows other → clashes order places rows other ≡ false → agree order places one places other ≡ true → one ≡ other
-  apart_or_one rows order places one other keyed h k free agrees =
-      let m = keyed.ints one h in
-      let n = keyed.ints other k in
-      let alike : differ (rowid one) (rowid other) ≡ false = false_from_ne_true (differ (rowid one) (rowid other)) (λ far.
-      both_ways (clashes order places rows other) free (some_from (λ it. agree order places it places other && differ (rowid it) (rowid other)) rows one h (and_from (agree order places one places other) (differ (rowid one) (rowid other)) agrees far))) in
-      let same : id_in (rowid one) ≡ id_in (rowid other) = differ_same (id_in (rowid one)) (id_in (rowid other)) (subst (λ v. differ v (Int (id_in (rowid other))) ≡ false) (number_is (rowid one) m) (subst (λ v. differ (rowid one) v ≡ false) (number_is (rowid other) n) alike)) in
-      keyed.apart one other h k (number_is (rowid one) m ∙ ap Int same ∙ sym (number_is (rowid other) n))
+  pub typed_state : (row : Row) → Has (db.trees 6) row → column row 2 ≡ Int (int_at row 2)
+  typed_state row there =
+      let typed = rule_at Datatype _ (inr (inr (inr (inl refl)))) row there in
+      let present = rule_at NotNull _ (inr (inr (inr (inl refl)))) row there in
+      let one = and_parts (not (is_null (column row 2))) true present in
+      int_is (column row 2) (state_kind row typed) (not-true _ one.0)
+
+module _ (db : Database) (sound : IsDatabase db) (tables : AreTables db) where
+  rule_holds : (rule : Constraint) (table : Table) → Has site_schema.tables table → (row : Row) → Has (db.trees table.tree) row → passes rule site_schema db.trees table row ≡ true
+  rule_holds = rule_at db sound tables.schema
+
+  pub part_typed : (row : Row) → Has (db.trees 0) row → TypedPart row
+  part_typed = typed_part db sound tables.schema
+
+  pub prepared_typed : (row : Row) → Has (db.trees 2) row → TypedPrepared row
+  prepared_typed = typed_prepared db sound tables.schema
+
+  pub intent_typed : (row : Row) → Has (db.trees 4) row → TypedIntent row
+  intent_typed = typed_intent db sound tables.schema
 
   -- a leaf has one part at a key
   pub part_once : (one other : Row) → Has (db.trees 0) one → Has (db.trees 0) other → text_at one 1 ≡ text_at other 1 → int_at one 2 ≡ int_at other 2 → one ≡ other

@@ -15,12 +15,16 @@ use Rattle.sqlstore.specs.Step.{visit_params, Follows, Empties, Fills, LivesOn}
 use Rattle.sqlstore.specs.Tests.{passes, shown, of_visit, at_slot}
 use Rattle.sqlstore.specs.declared.visit.Visit.{Visit}
 
--- a query: it opens nothing and commits nothing, and where it answers nothing has changed, and this is shown of the tables
-pub record Queries {A : Type 0} (P : Database → A → Type 0) (old new : State) (result : Result A Error) : Type 0 where
+-- a query: it opens nothing and commits nothing, and where it answers nothing has changed, and this is shown of the tables, where they are known
+pub record QueriesOf {A : Type 0} (Known : Database → Type 0) (P : Database → A → Type 0) (old new : State) (result : Result A Error) : Type 0 where
   pub was_open : IsTrue new.is_open → IsTrue old.is_open
-  pub kept : AreTables old.now → KeepsCommit old new
-  pub same : AreTables old.now → OnOk result (Shows old new old.now old.committed old.in_transaction)
-  pub shows : AreTables old.now → IfOk result (P old.now)
+  pub kept : Known old.now → KeepsCommit old new
+  pub same : Known old.now → OnOk result (Shows old new old.now old.committed old.in_transaction)
+  pub shows : Known old.now → IfOk result (P old.now)
+
+-- so of a site's tables
+abbrev pub Queries : {A : Type 0} → (Database → A → Type 0) → State → State → Result A Error → Type 0
+Queries P old new result = QueriesOf AreTables P old new result
 
 -- the leaf and the key of an intent
 abbrev pub slot_terms : List Term

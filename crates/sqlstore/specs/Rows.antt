@@ -2,6 +2,7 @@
 use Rattle.std.specs.Prelude.{◌≡◌, ◌≢◌, ◌⊎◌, ℕ, Bool, true, false, List, drop}
 use Rattle.sqlite.specs.Effect.{Database, IsDatabase}
 use Rattle.sqlite.specs.Order.{Row}
+use Rattle.sqlite.specs.Schema.{Schema}
 use Rattle.sqlite.specs.Table.{Table}
 use Rattle.sqlite.specs.Tree.{rowid}
 use Rattle.sqlite.specs.View.{is_int}
@@ -13,10 +14,14 @@ pub record AreKeyed (rows : List Row) : Type 0 where
   pub ints : (row : Row) → Has rows row → is_int (rowid row) ≡ true
   pub apart : (one other : Row) → Has rows one → Has rows other → rowid one ≡ rowid other → one ≡ other
 
--- the tables are a site's, and the rows of each are numbered
-pub record AreTables (db : Database) : Type 0 where
-  pub schema : db.schema ≡ site_schema
-  pub keyed : (table : Table) → Has site_schema.tables table → AreKeyed (db.trees table.tree)
+-- the tables are those of a store, and the rows of each are numbered
+pub record AreTablesOf (own : Schema) (db : Database) : Type 0 where
+  pub schema : db.schema ≡ own
+  pub keyed : (table : Table) → Has own.tables table → AreKeyed (db.trees table.tree)
+
+-- the tables are a site's
+abbrev pub AreTables : Database → Type 0
+AreTables = AreTablesOf site_schema
 
 -- the rows that pass are gone, and no others
 pub record Loses (test : Row → Bool) (old new : List Row) : Type 0 where
@@ -35,8 +40,12 @@ pub record Finds (show : Row → Row) (test : Row → Bool) (rows found : List R
   pub all : (row : Row) → Has rows row → test row ≡ true → Has found (show row)
 
 -- a statement changes the rows of one table so, and no others
-pub record Rewrites (tree : ℕ) (Changes : List Row → List Row → Type 0) (old new : Database) : Type 0 where
-  pub tables : AreTables new
+pub record RewritesOf (own : Schema) (tree : ℕ) (Changes : List Row → List Row → Type 0) (old new : Database) : Type 0 where
+  pub tables : AreTablesOf own new
   pub sound : IsDatabase new
   pub rows : Changes (old.trees tree) (new.trees tree)
-  pub others : (table : Table) → Has site_schema.tables table → table.tree ≢ tree → new.trees table.tree ≡ old.trees table.tree
+  pub others : (table : Table) → Has own.tables table → table.tree ≢ tree → new.trees table.tree ≡ old.trees table.tree
+
+-- so of a site's tables
+abbrev pub Rewrites : ℕ → (List Row → List Row → Type 0) → Database → Database → Type 0
+Rewrites = RewritesOf site_schema

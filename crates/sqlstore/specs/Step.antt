@@ -3,23 +3,29 @@ use Rattle.std.specs.Prelude.{◌≡◌, ℕ, ℤ, Bool, true, List, [], ◌∷�
 use Rattle.std.specs.List.{list_any}
 use Rattle.sqlite.specs.Effect.{Database}
 use Rattle.sqlite.specs.Order.{Row, column}
+use Rattle.sqlite.specs.Schema.{Schema}
 use Rattle.sqlite.specs.State.{State, Shows, KeepsCommit}
 use Rattle.sqlite.specs.Values.{bound_value}
 use Rattle.sqlite.specs.declared.error.Error.{Error}
 use Rattle.sqlite.specs.declared.types.Value.TheVariants.{Null, Int, Text, Blob}
 use Rattle.sqlstore.specs.declared.intent.Intent.{Intent}
 use Rattle.sqlstore.specs.declared.visit.Visit.{Visit}
-use Rattle.sqlstore.specs.Rows.{AreTables, Rewrites, Loses, Gains}
+use Rattle.sqlstore.specs.Rows.{AreTablesOf, Rewrites, Loses, Gains}
+use Rattle.sqlstore.specs.Tables.{site_schema}
 use Rattle.sqlstore.specs.Tests.{at_slot, of_visit, puts_of_visit, passes}
 use Rattle.sqlite_rules.specs.Lists.{Has}
 use Rattle.sqlite.specs.Cast.{cast}
 use Rattle.sqlite.specs.Kind.TheVariants as kinds
 
 -- a statement commits nothing, and where it answers has made this of the tables
-pub record Steps {A : Type 0} (P : Database → Database → Type 0) (old new : State) (result : Result A Error) : Type 0 where
+pub record StepsOf {A : Type 0} (own : Schema) (P : Database → Database → Type 0) (old new : State) (result : Result A Error) : Type 0 where
   pub kept : KeepsCommit old new
   pub shows : OnOk result (Shows old new new.now old.committed true)
-  pub does : AreTables old.now → OnOk result (P old.now new.now)
+  pub does : AreTablesOf own old.now → OnOk result (P old.now new.now)
+
+-- so over a site's tables
+abbrev pub Steps : {A : Type 0} → (Database → Database → Type 0) → State → State → Result A Error → Type 0
+Steps P old new result = StepsOf site_schema P old new result
 
 -- a ticket as parameters
 abbrev pub visit_params : Visit → Row

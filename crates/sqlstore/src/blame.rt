@@ -28,3 +28,13 @@ pub fn blame(refusals: &mut u64, error: Error) -> StoreFault
         _ => refuse(refusals),
     }
 }
+
+/// The fault that an error of SQLite is, before there is a store that counts.
+pub fn cause(error: Error) -> StoreFault
+    ensures { result ≢ Damaged }
+{
+    match error {
+        Error::SqliteFailure(ErrorCode::OutOfMemory) => StoreFault::Memory,
+        _ => StoreFault::Refused,
+    }
+}

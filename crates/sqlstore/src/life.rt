@@ -39,7 +39,7 @@ pub fn live<S: Alter>(conn: &mut Connection<S>, life: &i64) -> Result<(), Error>
 }
 
 /// The incarnation that rows of the query for it say.
-fn first_life(rows: &[Row]) -> Result<u64, Error>
+pub fn first_life(rows: &[Row]) -> Result<u64, Error>
     ensures { IfOk result (λ life. first_life rows.now ≡ pos life) }
 {
     match rows.first() {
@@ -49,7 +49,7 @@ fn first_life(rows: &[Row]) -> Result<u64, Error>
 }
 
 /// The incarnation after this one, if a table holds it.
-fn after(life: u64) -> Option<i64>
+pub fn after(life: u64) -> Option<i64>
     ensures { IfSome result (λ next. (next ≡ pos (life + 1)) × FitsSigned w64 next × (life + 1 < 2 ^ 64)) }
 {
     if life < GREATEST {

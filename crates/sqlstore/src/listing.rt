@@ -26,7 +26,11 @@ use terms::leaf::Leaf;
 use terms::part::Part;
 
 /// The leaf that has this name.
-fn named<'a>(alloc: Global, leaves: &'a [Leaf], name: &[u8]) -> Result<Option<&'a Leaf>, StoreFault>
+pub fn named<'a>(
+    alloc: Global,
+    leaves: &'a [Leaf],
+    name: &[u8],
+) -> Result<Option<&'a Leaf>, StoreFault>
     ensures leaf { IfOk result (λ found. MatchOption found (leaf_named leaves.now name.now ≡ None) (λ leaf. leaf_named leaves.now name.now ≡ Some leaf.now)) }
     ensures memory { (result ≢ Err Damaged) × (result ≢ Err Refused) }
 {
@@ -40,7 +44,7 @@ fn named<'a>(alloc: Global, leaves: &'a [Leaf], name: &[u8]) -> Result<Option<&'
 }
 
 /// The leaf and the part that a row has: its number, the leaf's name, the key and the body.
-fn part_row<'a>(
+pub fn part_row<'a>(
     alloc: Global,
     leaves: &'a [Leaf],
     row: &Row,
@@ -73,7 +77,7 @@ fn part_row<'a>(
 }
 
 /// Puts a row's part into changes.
-fn put_row(
+pub fn put_row(
     changes: &mut Changes,
     alloc: Global,
     leaves: &[Leaf],

@@ -1,62 +1,117 @@
 //! Stores are opened.
 
-ghost use Rattle.std.specs.Prelude.{◌≡◌, IfOk, OnOk, IsTrue, false};
+ghost use Rattle.std.specs.Prelude.{◌≡◌, ◌≢◌, ◌⊎◌, IfOk, IfErr, OnOk, OnErr, Err, IsTrue, false};
+ghost use Rattle.std.specs.Bool.{Decides};
 ghost use Rattle.sqlite.specs.Held.{state};
 ghost use Rattle.sqlite.specs.State.{HasCleanDisk};
 ghost use Rattle.sqlite.specs.Steps.{over_memory};
-ghost use Rattle.sqlstore.specs.Fresh.{AreFresh, KeepsNothing};
+ghost use Rattle.store.specs.declared.fault.StoreFault.TheVariants.{Damaged};
+ghost use Rattle.sqlstore.specs.Fresh.{Founds, KeepsNothing};
 ghost use Rattle.sqlstore.specs.Site.{IsClean, IsSound, kept_by};
-ghost use Rattle.sqlstore.specs.Tables.{no_schema};
+ghost use Rattle.sqlstore.specs.Tables.{no_schema, site_schema};
 
+use crate::blame::cause;
+use crate::schema::is_site_schema;
 use crate::site::SqlSite;
-use sqlite::{Alter, Connection, Error, ErrorCode, MemStore};
+use crate::tables::create;
+use sqlite::{Alter, Connection, Error, ErrorCode, File, FileStore, MemStore};
+use sqlite_schema::schema::Schema;
 use std::alloc::Global;
+use std::rt::HostRuntime;
 use store::fault::StoreFault;
 use terms::leaf::Leaf;
 
-/// The tables of a site are made, where there are none.
-fn create<S: Alter>(conn: &mut Connection<S>) -> Result<(), Error>
-    ensures made { HasCleanDisk (state S.Store conn.new) → (state S.Store conn.old).now.schema ≡ no_schema → (state S.Store conn.old).in_transaction ≡ false
-        → OnOk result (AreFresh (state S.Store conn.new).now × ((state S.Store conn.new).committed ≡ (state S.Store conn.new).now) × IsTrue (state S.Store conn.new).is_open) }
+/// Whether a schema has nothing.
+pub fn is_empty(schema: &Schema) -> bool
+    ensures { Decides result (schema.now ≡ no_schema) }
 {
-    conn.execute(
-        "CREATE TABLE part (leaf TEXT NOT NULL, id INTEGER NOT NULL, body BLOB NOT NULL, PRIMARY KEY (leaf, id)) STRICT",
-        &[],
-    )?;
-    conn.execute(
-        "CREATE TABLE prepared (life INTEGER NOT NULL, visit INTEGER NOT NULL, tlife INTEGER NOT NULL, tnumber INTEGER NOT NULL, PRIMARY KEY (life, visit)) STRICT",
-        &[],
-    )?;
-    conn.execute(
-        "CREATE TABLE intent (life INTEGER NOT NULL, visit INTEGER NOT NULL, leaf TEXT NOT NULL, id INTEGER NOT NULL, body BLOB NOT NULL, PRIMARY KEY (life, visit, leaf, id)) STRICT",
-        &[],
-    )?;
-    conn.execute(
-        "CREATE TABLE state (one INTEGER NOT NULL PRIMARY KEY CHECK (one = 1), life INTEGER NOT NULL) STRICT",
-        &[],
-    )?;
-    Ok(())
+    schema.tables.is_empty() && schema.indexes.is_empty() && schema.views.is_empty()
 }
 
-/// A new store of a site in memory, which has these leaves.
-pub fn memory(alloc: Global, leaves: Vec<Leaf>) -> Result<SqlSite<MemStore>, StoreFault>
-    ensures leaves { IfOk result (λ site. site.leaves ≡ leaves) }
-    ensures clean { IfOk result (λ site. IsClean over_memory site.conn) }
-    ensures sound { IfOk result (λ site. IsSound over_memory site.leaves.items site.conn) }
-    ensures kept { IfOk result (λ site. KeepsNothing (kept_by over_memory site.leaves.items site.conn)) }
+/// Makes the tables of a site, where there is nothing. Tables that are a site's are left as they are.
+fn found<S: Alter>(alloc: Global, conn: &mut Connection<S>) -> Result<(), StoreFault>
+    requires { conn.old.in_transaction ≡ false }
+    ensures founds { HasCleanDisk (state S.Store conn.new) → IsTrue (state S.Store conn.new).is_open → OnOk result (Founds (state S.Store conn.old).committed (state S.Store conn.new).committed) }
+    ensures unchanged { HasCleanDisk (state S.Store conn.new) → IsTrue (state S.Store conn.new).is_open → OnErr result ((state S.Store conn.new).committed ≡ (state S.Store conn.old).committed) }
+    ensures intact { HasCleanDisk (state S.Store conn.new) → IsTrue (state S.Store conn.new).is_open
+        → ((state S.Store conn.old).committed.schema ≡ site_schema) ⊎ ((state S.Store conn.old).committed.schema ≡ no_schema) → result ≢ Err Damaged }
+    ensures clean { HasCleanDisk (state S.Store conn.new) → HasCleanDisk (state S.Store conn.old) }
+    ensures was_open { HasCleanDisk (state S.Store conn.new) → IsTrue (state S.Store conn.new).is_open → IsTrue (state S.Store conn.old).is_open }
+    ensures mode { conn.new.in_transaction ≡ false }
 {
-    let Ok(mut conn) = Connection::open_in_memory(alloc) else {
-        return Err(StoreFault::Memory);
-    };
-    match create(&mut conn) {
-        Ok(()) => {
-            if conn.is_autocommit() {
-                Ok(SqlSite::over(conn, leaves))
-            } else {
-                Err(StoreFault::Refused)
-            }
+    let _settled = conn.is_autocommit();
+    match is_site_schema(alloc, conn.schema()) {
+        Ok(true) => return Ok(()),
+        Ok(false) => {}
+        Err(_) => return Err(StoreFault::Memory),
+    }
+    if !is_empty(conn.schema()) {
+        return Err(StoreFault::Damaged);
+    }
+    match create(conn) {
+        Ok(()) => Ok(()),
+        Err(error) => Err(cause(error)),
+    }
+}
+
+impl<S: Alter> SqlSite<S> {
+    /// A store over a connection outside of a transaction, which has these leaves. In an empty database the tables
+    /// are made, and in a site's what is committed stays. Any other is refused as damaged, and comes back as it was.
+    pub fn adopt(
+        mut conn: Connection<S>,
+        leaves: Vec<Leaf>,
+    ) -> Result<SqlSite<S>, (StoreFault, Connection<S>)>
+        requires { conn.in_transaction ≡ false }
+        ensures leaves { IfOk result (λ site. site.leaves ≡ leaves) }
+        ensures clean { IfOk result (λ site. IsClean S.Store site.conn → IsClean S.Store conn) }
+        ensures founds { IfOk result (λ site. IsClean S.Store site.conn → Founds (state S.Store conn).committed (state S.Store site.conn).committed) }
+        ensures fresh { IfOk result (λ site. IsClean S.Store site.conn → (state S.Store conn).committed.schema ≡ no_schema → IsSound S.Store leaves.items site.conn × KeepsNothing (kept_by S.Store leaves.items site.conn)) }
+        ensures back { IfErr result (λ e. IsClean S.Store e.1 → (state S.Store e.1).committed ≡ (state S.Store conn).committed) }
+        ensures intact { IfErr result (λ e. IsClean S.Store e.1 → ((state S.Store conn).committed.schema ≡ site_schema) ⊎ ((state S.Store conn).committed.schema ≡ no_schema) → e.0 ≢ Damaged) }
+    {
+        match found(*leaves.allocator(), &mut conn) {
+            Ok(()) => Ok(SqlSite::over(conn, leaves)),
+            Err(fault) => Err((fault, conn)),
         }
-        Err(Error::SqliteFailure(ErrorCode::OutOfMemory)) => Err(StoreFault::Memory),
-        Err(_) => Err(StoreFault::Refused),
+    }
+}
+
+impl SqlSite<MemStore> {
+    /// A new store in memory, which has these leaves.
+    pub fn memory(leaves: Vec<Leaf>) -> Result<SqlSite<MemStore>, StoreFault>
+        ensures leaves { IfOk result (λ site. site.leaves ≡ leaves) }
+        ensures clean { IfOk result (λ site. IsClean over_memory site.conn) }
+        ensures sound { IfOk result (λ site. IsSound over_memory leaves.items site.conn) }
+        ensures kept { IfOk result (λ site. KeepsNothing (kept_by over_memory leaves.items site.conn)) }
+        ensures intact { result ≢ Err Damaged }
+    {
+        let Ok(conn) = Connection::open_in_memory(*leaves.allocator()) else {
+            return Err(StoreFault::Memory);
+        };
+        match SqlSite::adopt(conn, leaves) {
+            Ok(site) => Ok(site),
+            Err((fault, _)) => Err(fault),
+        }
+    }
+}
+
+impl SqlSite<FileStore<File>> {
+    /// A store in a file, which has these leaves. A file that isn't there is made.
+    pub fn file(
+        rt: &HostRuntime,
+        path: &str,
+        leaves: Vec<Leaf>,
+    ) -> Result<SqlSite<FileStore<File>>, StoreFault>
+        ensures leaves { IfOk result (λ site. site.leaves ≡ leaves) }
+    {
+        let conn = match Connection::open(rt, path) {
+            Ok(conn) => conn,
+            Err(Error::SqliteFailure(ErrorCode::NotADatabase)) => return Err(StoreFault::Damaged),
+            Err(error) => return Err(cause(error)),
+        };
+        match SqlSite::adopt(conn, leaves) {
+            Ok(site) => Ok(site),
+            Err((fault, _)) => Err(fault),
+        }
     }
 }

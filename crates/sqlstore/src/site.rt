@@ -1,27 +1,31 @@
 //! A site's store in SQLite.
 
-ghost use Rattle.std.specs.Prelude.{◌≡◌, ◌+◌, ◌<◌, ◌^◌, ◌≤◌, false, None, Some, OnOk, OnErr, IfOk, List};
-ghost use Rattle.std.specs.FinMap as map;
-ghost use Rattle.store.specs.Content.{parts};
+ghost use Rattle.std.specs.Prelude.{◌≡◌, false, IfOk, OnOk};
+ghost use Rattle.sqlite.specs.Held.{state};
 ghost use Rattle.store.specs.Frame.{LeavesStore, Reads, ChangesOrFails};
-ghost use Rattle.store.specs.SiteContent.{IsUnchanged, MayPrepare, Prepares, Applies, Discards, BeginsLife};
-ghost use Rattle.store.specs.declared.prepared.Prepared.{Prepared as Row};
+ghost use Rattle.store.specs.SiteContent.{IsUnchanged, MayPrepare, Prepares};
 ghost use Rattle.sqlstore.specs.Content.{AreNamed};
+ghost use Rattle.sqlstore.specs.Gathered.{ShowsAll, ShowsTables};
 ghost use Rattle.sqlstore.specs.Site.{IsClean, IsSound, kept_by};
+ghost use Rattle.sqlstore.specs.Tables.{site_schema};
 
 use crate::blame::{blame, refuse};
 use crate::calls;
 use crate::find::{has, name_of, part_in, read_numbers};
+use crate::gathered::{Gathered, gather};
 use crate::keep::keep;
 use crate::life::live_next;
 use crate::listing::parts_meeting;
+use crate::loading::{all_of, rows_of, test_schema};
 use crate::promise::promise_of;
 use crate::reading::{committed_at, committed_of};
 use crate::visit::visit_of;
-use sqlite::{Alter, Connection};
+use sqlite::{Alter, Connection, Row};
 use store::changes::Changes;
 use store::fault::StoreFault;
 use store::name::{Ticket, Txn};
+use store::prepared::{SiteKept, SiteRows, Unkept};
+use store::site_store::SiteStore;
 use terms::cond::Conds;
 use terms::leaf::Leaf;
 use terms::part::Part;
@@ -51,58 +55,6 @@ impl<S: Alter> SqlSite<S> {
         }
     }
 
-    /// Makes the changes of a ticket's row, which goes.
-    fn make(&mut self, ticket: Ticket) -> Result<(), StoreFault>
-        ensures leaves { LeavesStore (λ s. IsClean S.Store s.conn) (λ s. IsSound S.Store s.leaves.items s.conn) (λ s. s.refusals) self.old self.new }
-        ensures ok { IsClean S.Store self.new.conn → IsSound S.Store self.old.leaves.items self.old.conn → (row : Row) → (kept_by S.Store self.old.leaves.items self.old.conn).prepared ticket ≡ Some row
-            → OnOk result (Applies ticket row.changes (kept_by S.Store self.old.leaves.items self.old.conn) (kept_by S.Store self.new.leaves.items self.new.conn)) }
-        ensures none { IsClean S.Store self.new.conn → IsSound S.Store self.old.leaves.items self.old.conn → (kept_by S.Store self.old.leaves.items self.old.conn).prepared ticket ≡ None
-            → IsUnchanged (kept_by S.Store self.old.leaves.items self.old.conn) (kept_by S.Store self.new.leaves.items self.new.conn) }
-        ensures fails { ChangesOrFails (λ s. IsClean S.Store s.conn) (λ s. IsSound S.Store s.leaves.items s.conn) (λ s. kept_by S.Store s.leaves.items s.conn) IsUnchanged (λ s. s.refusals) self.old self.new result }
-    {
-        let _live = self.conn.schema();
-        let Some(visit) = visit_of(ticket) else {
-            return Err(refuse(&mut self.refusals));
-        };
-        match calls::apply(&mut self.conn, &visit) {
-            Ok(()) => Ok(()),
-            Err(error) => Err(blame(&mut self.refusals, error)),
-        }
-    }
-
-    /// Drops a ticket's row, if it has one.
-    fn forget(&mut self, ticket: Ticket) -> Result<(), StoreFault>
-        ensures leaves { LeavesStore (λ s. IsClean S.Store s.conn) (λ s. IsSound S.Store s.leaves.items s.conn) (λ s. s.refusals) self.old self.new }
-        ensures ok { IsClean S.Store self.new.conn → IsSound S.Store self.old.leaves.items self.old.conn
-            → OnOk result (Discards ticket (kept_by S.Store self.old.leaves.items self.old.conn) (kept_by S.Store self.new.leaves.items self.new.conn)) }
-        ensures fails { ChangesOrFails (λ s. IsClean S.Store s.conn) (λ s. IsSound S.Store s.leaves.items s.conn) (λ s. kept_by S.Store s.leaves.items s.conn) IsUnchanged (λ s. s.refusals) self.old self.new result }
-    {
-        let _live = self.conn.schema();
-        let Some(visit) = visit_of(ticket) else {
-            return Err(refuse(&mut self.refusals));
-        };
-        match calls::discard(&mut self.conn, &visit) {
-            Ok(()) => Ok(()),
-            Err(error) => Err(blame(&mut self.refusals, error)),
-        }
-    }
-
-    /// Begins the next incarnation, and answers it.
-    fn live(&mut self) -> Result<u64, StoreFault>
-        ensures leaves { LeavesStore (λ s. IsClean S.Store s.conn) (λ s. IsSound S.Store s.leaves.items s.conn) (λ s. s.refusals) self.old self.new }
-        ensures ok { IsClean S.Store self.new.conn → IsSound S.Store self.old.leaves.items self.old.conn → (kept_by S.Store self.old.leaves.items self.old.conn).life + 1 < 2 ^ 63
-            → OnOk result (BeginsLife (kept_by S.Store self.old.leaves.items self.old.conn) (kept_by S.Store self.new.leaves.items self.new.conn)) }
-        ensures life { IsClean S.Store self.new.conn → IsSound S.Store self.old.leaves.items self.old.conn → IfOk result (λ life. life ≡ (kept_by S.Store self.new.leaves.items self.new.conn).life) }
-        ensures fails { ChangesOrFails (λ s. IsClean S.Store s.conn) (λ s. IsSound S.Store s.leaves.items s.conn) (λ s. kept_by S.Store s.leaves.items s.conn) IsUnchanged (λ s. s.refusals) self.old self.new result }
-    {
-        let _live = self.conn.schema();
-        match live_next(&mut self.conn) {
-            Ok(Some(life)) => Ok(life),
-            Ok(None) => Err(refuse(&mut self.refusals)),
-            Err(error) => Err(blame(&mut self.refusals, error)),
-        }
-    }
-
     /// Keeps what a visit is to do, until it is made or dropped.
     fn keep(&mut self, txn: Txn, ticket: Ticket, changes: &Changes) -> Result<(), StoreFault>
         ensures leaves { LeavesStore (λ s. IsClean S.Store s.conn) (λ s. IsSound S.Store s.leaves.items s.conn) (λ s. s.refusals) self.old self.new }
@@ -129,34 +81,38 @@ impl<S: Alter> SqlSite<S> {
         }
     }
 
-    /// The part at a key of a leaf, if there is one.
-    fn get(&mut self, leaf: &Leaf, key: &i64) -> Result<Option<Part>, StoreFault>
+    /// The rows of parts, and those of each other table, where the tables are a site's.
+    fn gather(&mut self) -> Result<(Vec<Row>, Gathered), StoreFault>
         ensures leaves { LeavesStore (λ s. IsClean S.Store s.conn) (λ s. IsSound S.Store s.leaves.items s.conn) (λ s. s.refusals) self.old self.new }
-        ensures part { IsClean S.Store self.new.conn → IsSound S.Store self.old.leaves.items self.old.conn
-            → IfOk result (λ found. found ≡ map.get ((kept_by S.Store self.old.leaves.items self.old.conn).content leaf.now) key.now) }
+        ensures shows { IsClean S.Store self.new.conn
+            → IfOk result (λ all. ShowsAll ((state S.Store self.old.conn).committed.trees 0) all.0.items × ShowsTables (state S.Store self.old.conn).committed all.1 × ((state S.Store self.old.conn).committed.schema ≡ site_schema)) }
+        ensures same { IsClean S.Store self.new.conn → OnOk result ((state S.Store self.new.conn).committed ≡ (state S.Store self.old.conn).committed) }
+        ensures site { self.new.leaves ≡ self.old.leaves }
         ensures reads { Reads (λ s. IsClean S.Store s.conn) (λ s. IsSound S.Store s.leaves.items s.conn) (λ s. kept_by S.Store s.leaves.items s.conn) IsUnchanged (λ s. s.refusals) self.old self.new result }
     {
-        if !has(self.leaves.as_slice(), leaf) {
-            return Ok(None);
-        }
-        let alloc = *self.leaves.allocator();
-        let Ok(name) = name_of(alloc, leaf) else {
-            return Err(StoreFault::Memory);
-        };
-        let _live = self.conn.schema();
-        match committed_at(&mut self.conn, &name, key) {
-            Ok(rows) => part_in(alloc, &rows),
+        test_schema(*self.leaves.allocator(), &self.conn)?;
+        match gather(&mut self.conn) {
+            Ok(all) => Ok(all),
             Err(error) => Err(blame(&mut self.refusals, error)),
         }
     }
+}
 
-    /// The parts of a leaf that meet conditions, in the order of their keys.
-    fn list(&mut self, leaf: &Leaf, conds: &Conds) -> Result<Vec<Part>, StoreFault>
-        ensures leaves { LeavesStore (λ s. IsClean S.Store s.conn) (λ s. IsSound S.Store s.leaves.items s.conn) (λ s. s.refusals) self.old self.new }
-        ensures parts { IsClean S.Store self.new.conn → IsSound S.Store self.old.leaves.items self.old.conn
-            → IfOk result (λ found. found.items ≡ parts conds.now ((kept_by S.Store self.old.leaves.items self.old.conn).content leaf.now)) }
-        ensures reads { Reads (λ s. IsClean S.Store s.conn) (λ s. IsSound S.Store s.leaves.items s.conn) (λ s. kept_by S.Store s.leaves.items s.conn) IsUnchanged (λ s. s.refusals) self.old self.new result }
-    {
+impl<S: Alter> SiteStore for SqlSite<S> {
+    ghost use Rattle.sqlstore.specs.Site.{IsClean, IsSound, kept_by};
+    ghost use Rattle.sqlstore.specs.Keyed.{stored_keyed};
+
+    ghost is_clean = { λ site. IsClean S.Store site.conn };
+
+    ghost is_sound = { λ site. IsSound S.Store site.leaves.items site.conn };
+
+    ghost kept = { λ site. kept_by S.Store site.leaves.items site.conn };
+
+    ghost refused = { λ site. site.refusals };
+
+    ghost keyed = { λ site clean sound leaf. stored_keyed site.leaves.items _ sound leaf };
+
+    fn scan(&mut self, leaf: &Leaf, conds: &Conds) -> Result<Vec<Part>, StoreFault> {
         let alloc = *self.leaves.allocator();
         let Ok(name) = name_of(alloc, leaf) else {
             return Err(StoreFault::Memory);
@@ -166,5 +122,76 @@ impl<S: Alter> SqlSite<S> {
             Ok(rows) => parts_meeting(alloc, self.leaves.as_slice(), leaf, conds, &rows),
             Err(error) => Err(blame(&mut self.refusals, error)),
         }
+    }
+
+    fn find(&mut self, leaf: &Leaf, key: i64) -> Result<Option<Part>, StoreFault> {
+        if !has(self.leaves.as_slice(), leaf) {
+            return Ok(None);
+        }
+        let alloc = *self.leaves.allocator();
+        let Ok(name) = name_of(alloc, leaf) else {
+            return Err(StoreFault::Memory);
+        };
+        let _live = self.conn.schema();
+        match committed_at(&mut self.conn, &name, &key) {
+            Ok(rows) => part_in(alloc, &rows),
+            Err(error) => Err(blame(&mut self.refusals, error)),
+        }
+    }
+
+    fn keep_prepared(&mut self, txn: Txn, ticket: Ticket, changes: Changes) -> Result<(), Unkept> {
+        match self.keep(txn, ticket, &changes) {
+            Ok(()) => Ok(()),
+            Err(fault) => Err(Unkept { fault, changes }),
+        }
+    }
+
+    fn apply(&mut self, ticket: Ticket) -> Result<(), StoreFault> {
+        let _live = self.conn.schema();
+        let Some(visit) = visit_of(ticket) else {
+            return Err(refuse(&mut self.refusals));
+        };
+        match calls::apply(&mut self.conn, &visit) {
+            Ok(()) => Ok(()),
+            Err(error) => Err(blame(&mut self.refusals, error)),
+        }
+    }
+
+    fn discard(&mut self, ticket: Ticket) -> Result<(), StoreFault> {
+        let _live = self.conn.schema();
+        let Some(visit) = visit_of(ticket) else {
+            return Err(refuse(&mut self.refusals));
+        };
+        match calls::discard(&mut self.conn, &visit) {
+            Ok(()) => Ok(()),
+            Err(error) => Err(blame(&mut self.refusals, error)),
+        }
+    }
+
+    fn next_incarnation(&mut self) -> Result<u64, StoreFault> {
+        let _live = self.conn.schema();
+        match live_next(&mut self.conn) {
+            Ok(Some(life)) => Ok(life),
+            Ok(None) => Err(refuse(&mut self.refusals)),
+            Err(error) => Err(blame(&mut self.refusals, error)),
+        }
+    }
+
+    fn rows(&mut self) -> Result<SiteRows, StoreFault> {
+        let _live = self.conn.schema();
+        let (parts, tables) = self.gather()?;
+        let alloc = *self.leaves.allocator();
+        rows_of(alloc, self.leaves.as_slice(), &parts, &tables)
+    }
+
+    fn load(&mut self) -> Result<SiteKept, StoreFault> {
+        let _live = self.conn.schema();
+        let (parts, tables) = self.gather()?;
+        let alloc = *self.leaves.allocator();
+        all_of(alloc, self.leaves.as_slice(), &parts, &tables)
+    }
+
+    fn refusals(&self) -> u64 {
+        self.refusals
     }
 }

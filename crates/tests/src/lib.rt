@@ -18,6 +18,10 @@ mod refusing;
 #[cfg(test)]
 mod sites;
 #[cfg(test)]
+mod sqldesks;
+#[cfg(test)]
+mod sqlstores;
+#[cfg(test)]
 mod statements;
 #[cfg(test)]
 mod transactions;

@@ -1,0 +1,18 @@
+-- What each round of `prepared_rows::prepared_of` keeps.
+use Rattle.std.proofs.Common.{◌≡◌, ◌≤◌, drop, length}
+use Rattle.std.specs.BTreeMap as tree
+use Rattle.std.specs.List.{AllByRecursion}
+use Rattle.store.specs.declared.name.Ticket.{Ticket}
+use Rattle.store.specs.Name.{ticket_cmp}
+use Rattle.sqlstore.specs.Content.{changes_in, prepared_in}
+use Rattle.sqlstore.specs.Sound.{AreOfOne, IsIntent, IsNumbered}
+use Rattle.sqlstore.proofs.prepared_rows.prepared_of.Given as goal
+
+-- the map has what the rows behind prepare, and their intents are intents
+abbrev pub invariant-loop-at : goal.invariant-loop-at
+invariant-loop-at l =
+    (l.at ≤ length l.rows) × ((ticket : Ticket) → tree.get ticket_cmp l.map ticket ≡ prepared_in (drop l.at l.rows) (changes_in l.leaves l.intents ticket) ticket)
+    × AllByRecursion IsNumbered (drop l.at l.rows) × AllByRecursion (λ row. AllByRecursion (λ intent. AreOfOne row intent → IsIntent l.leaves intent) l.intents) (drop l.at l.rows)
+
+abbrev pub decreases-loop-at : goal.decreases-loop-at
+decreases-loop-at l = l.at

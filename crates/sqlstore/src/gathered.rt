@@ -1,0 +1,89 @@
+//! All rows of a site's tables.
+
+ghost use Rattle.std.specs.Prelude.{◌≡◌, false};
+ghost use Rattle.sqlite.specs.Held.{state};
+ghost use Rattle.sqlstore.specs.Gathered.{Looks, ShowsAll, ShowsTables};
+
+use sqlite::{Alter, Connection, Error, Row};
+
+/// The rows of each table but that of parts.
+#[derive(Debug, Drop)]
+pub struct Gathered {
+    pub prepared: Vec<Row>,
+    pub intents: Vec<Row>,
+    pub state: Vec<Row>,
+}
+
+/// The rows of parts.
+fn part_rows<S: Alter>(conn: &mut Connection<S>) -> Result<Vec<Row>, Error>
+    requires { conn.old.in_transaction ≡ false }
+    ensures looks { Looks (λ db rows. ShowsAll (db.trees 0) rows.items) (state S.Store conn.old) (state S.Store conn.new) result }
+    ensures mode { conn.new.in_transaction ≡ false }
+{
+    let _live = conn.schema();
+    let _settled = conn.is_autocommit();
+    conn.query_all("SELECT rowid, leaf, id, body FROM part ORDER BY rowid", &[])
+}
+
+fn prepared_rows<S: Alter>(conn: &mut Connection<S>) -> Result<Vec<Row>, Error>
+    requires { conn.old.in_transaction ≡ false }
+    ensures looks { Looks (λ db rows. ShowsAll (db.trees 2) rows.items) (state S.Store conn.old) (state S.Store conn.new) result }
+    ensures mode { conn.new.in_transaction ≡ false }
+{
+    let _live = conn.schema();
+    let _settled = conn.is_autocommit();
+    conn.query_all(
+        "SELECT rowid, life, visit, tlife, tnumber FROM prepared ORDER BY rowid",
+        &[],
+    )
+}
+
+fn intent_rows<S: Alter>(conn: &mut Connection<S>) -> Result<Vec<Row>, Error>
+    requires { conn.old.in_transaction ≡ false }
+    ensures looks { Looks (λ db rows. ShowsAll (db.trees 4) rows.items) (state S.Store conn.old) (state S.Store conn.new) result }
+    ensures mode { conn.new.in_transaction ≡ false }
+{
+    let _live = conn.schema();
+    let _settled = conn.is_autocommit();
+    conn.query_all(
+        "SELECT rowid, life, visit, leaf, id, body FROM intent ORDER BY rowid",
+        &[],
+    )
+}
+
+fn state_rows<S: Alter>(conn: &mut Connection<S>) -> Result<Vec<Row>, Error>
+    requires { conn.old.in_transaction ≡ false }
+    ensures looks { Looks (λ db rows. ShowsAll (db.trees 6) rows.items) (state S.Store conn.old) (state S.Store conn.new) result }
+    ensures mode { conn.new.in_transaction ≡ false }
+{
+    let _live = conn.schema();
+    let _settled = conn.is_autocommit();
+    conn.query_all("SELECT one, NULL, life FROM state ORDER BY one", &[])
+}
+
+/// The rows of each table but that of parts.
+fn gather_beside<S: Alter>(conn: &mut Connection<S>) -> Result<Gathered, Error>
+    requires { conn.old.in_transaction ≡ false }
+    ensures looks { Looks ShowsTables (state S.Store conn.old) (state S.Store conn.new) result }
+    ensures mode { conn.new.in_transaction ≡ false }
+{
+    let prepared = prepared_rows(conn)?;
+    let intents = intent_rows(conn)?;
+    let state = state_rows(conn)?;
+    Ok(Gathered {
+        prepared,
+        intents,
+        state,
+    })
+}
+
+/// The rows of parts, and those of each other table.
+pub fn gather<S: Alter>(conn: &mut Connection<S>) -> Result<(Vec<Row>, Gathered), Error>
+    requires { conn.old.in_transaction ≡ false }
+    ensures looks { Looks (λ db all. ShowsAll (db.trees 0) all.0.items × ShowsTables db all.1) (state S.Store conn.old) (state S.Store conn.new) result }
+    ensures mode { conn.new.in_transaction ≡ false }
+{
+    let parts = part_rows(conn)?;
+    let tables = gather_beside(conn)?;
+    Ok((parts, tables))
+}
