@@ -1,5 +1,6 @@
 //! A site's store in SQLite does what the one over lists does, and names damaged rows.
 
+use crate::letters::{leaf, part_of};
 use sqlite::{Connection, Error, ErrorCode};
 use sqlstore::site::SqlSite;
 use std::alloc::Global;
@@ -15,8 +16,6 @@ use store::slot::Slot;
 use terms::cond::Conds;
 use terms::leaf::Leaf;
 use terms::memory::Memory;
-
-use crate::letters::{leaf, part_of};
 
 /// The leaves of the site.
 fn leaves(alloc: Global) -> Result<Vec<Leaf>, Memory> {
@@ -101,7 +100,10 @@ fn story<S: SiteStore>(alloc: Global, store: &mut S) -> Result<String, StoreFaul
     let second = leaf(alloc, "emp.2")?;
     note(&mut text, &store.find(&second, 1)?)?;
     note(&mut text, &store.find(&second, 2)?)?;
-    note(&mut text, &store.scan(&second, &Conds::new(Vec::new(alloc)))?)?;
+    note(
+        &mut text,
+        &store.scan(&second, &Conds::new(Vec::new(alloc)))?,
+    )?;
     note(&mut text, &store.rows()?.prepared.as_slice().len())?;
     Ok(text)
 }
@@ -124,7 +126,8 @@ fn sites_in_sql(rt: HostRuntime) {
 }
 
 /// The tables of a site.
-const TABLES: &str = "CREATE TABLE part (leaf TEXT NOT NULL, id INTEGER NOT NULL, body BLOB NOT NULL, PRIMARY KEY (leaf, id)) STRICT;
+const TABLES: &str =
+    "CREATE TABLE part (leaf TEXT NOT NULL, id INTEGER NOT NULL, body BLOB NOT NULL, PRIMARY KEY (leaf, id)) STRICT;
 CREATE TABLE prepared (life INTEGER NOT NULL, visit INTEGER NOT NULL, tlife INTEGER NOT NULL, tnumber INTEGER NOT NULL, PRIMARY KEY (life, visit)) STRICT;
 CREATE TABLE intent (life INTEGER NOT NULL, visit INTEGER NOT NULL, leaf TEXT NOT NULL, id INTEGER NOT NULL, body BLOB NOT NULL, PRIMARY KEY (life, visit, leaf, id)) STRICT;
 CREATE TABLE state (one INTEGER NOT NULL PRIMARY KEY CHECK (one = 1), life INTEGER NOT NULL) STRICT;";
@@ -132,16 +135,37 @@ CREATE TABLE state (one INTEGER NOT NULL PRIMARY KEY CHECK (one = 1), life INTEG
 /// A site's tables with these rows, and whether a store finds no damage in them.
 const FILLED: [(&str, bool); 13] = [
     ("", true),
-    ("INSERT INTO part VALUES ('emp.1', 1, x'01010000000000000001')", true),
-    ("INSERT INTO prepared VALUES (1, 2, 3, 4); INSERT INTO intent VALUES (1, 2, 'emp.2', 5, x'')", true),
+    (
+        "INSERT INTO part VALUES ('emp.1', 1, x'01010000000000000001')",
+        true,
+    ),
+    (
+        "INSERT INTO prepared VALUES (1, 2, 3, 4); INSERT INTO intent VALUES (1, 2, 'emp.2', 5, x'')",
+        true,
+    ),
     ("INSERT INTO part VALUES ('emp.1', 1, x'00')", false),
-    ("INSERT INTO part VALUES ('emp.1', 2, x'01010000000000000001')", false),
-    ("INSERT INTO part VALUES ('emp.9', 1, x'01010000000000000001')", false),
+    (
+        "INSERT INTO part VALUES ('emp.1', 2, x'01010000000000000001')",
+        false,
+    ),
+    (
+        "INSERT INTO part VALUES ('emp.9', 1, x'01010000000000000001')",
+        false,
+    ),
     ("INSERT INTO prepared VALUES (1, 2, 3, 4)", false),
     ("INSERT INTO intent VALUES (1, 2, 'emp.2', 5, x'')", false),
-    ("INSERT INTO prepared VALUES (1, -2, 3, 4); INSERT INTO intent VALUES (1, -2, 'emp.2', 5, x'')", false),
-    ("INSERT INTO prepared VALUES (1, 2, 3, 4); INSERT INTO intent VALUES (1, 2, 'emp.9', 5, x'')", false),
-    ("INSERT INTO prepared VALUES (1, 2, 3, 4); INSERT INTO intent VALUES (1, 2, 'emp.2', 5, x'00')", false),
+    (
+        "INSERT INTO prepared VALUES (1, -2, 3, 4); INSERT INTO intent VALUES (1, -2, 'emp.2', 5, x'')",
+        false,
+    ),
+    (
+        "INSERT INTO prepared VALUES (1, 2, 3, 4); INSERT INTO intent VALUES (1, 2, 'emp.9', 5, x'')",
+        false,
+    ),
+    (
+        "INSERT INTO prepared VALUES (1, 2, 3, 4); INSERT INTO intent VALUES (1, 2, 'emp.2', 5, x'00')",
+        false,
+    ),
     ("INSERT INTO state VALUES (1, -1)", false),
     ("CREATE TABLE other (id INTEGER)", false),
 ];
@@ -163,13 +187,17 @@ fn found(alloc: Global, rows: &str) -> Result<(), StoreFault> {
         Ok(site) => site,
         Err((fault, _)) => return Err(fault),
     };
-    let rows = site.rows();
-    let all = site.load();
-    match (rows, all) {
-        (Ok(_), Ok(_)) => Ok(()),
-        (Err(one), Err(other)) if one == other => Err(one),
-        (Err(StoreFault::Memory), _) | (_, Err(StoreFault::Memory)) => Err(StoreFault::Memory),
-        _ => Err(StoreFault::Refused),
+    let by_rows = site.rows().err();
+    let by_load = site.load().err();
+    if by_rows == Some(StoreFault::Memory) || by_load == Some(StoreFault::Memory) {
+        return Err(StoreFault::Memory);
+    }
+    if by_rows != by_load {
+        return Err(StoreFault::Refused);
+    }
+    match by_rows {
+        Some(fault) => Err(fault),
+        None => Ok(()),
     }
 }
 
@@ -181,7 +209,11 @@ fn damaged_sites(rt: HostRuntime) {
             Err(StoreFault::Memory) => found(alloc, rows),
             answer => answer,
         };
-        let wanted = if sound { Ok(()) } else { Err(StoreFault::Damaged) };
+        let wanted = if sound {
+            Ok(())
+        } else {
+            Err(StoreFault::Damaged)
+        };
         assert!(rt; answer == wanted, "{rows}");
     }
 }
