@@ -57,28 +57,3 @@ module _ (sql : List ℕ) (tree : ℕ) (rest : List Term) (names : List (List �
         (query_keeps sql [] old new (under now schema) e (err c)).committed is_open;
     shows = λ c is_open schema. tt;
   }
-
--- ---- one query after another
-
-module _ {A B : Type 0} (P : Database → A → Type 0) (Q : Database → B → Type 0) (first mid last : State) (value : A) where
-  pub looks_on : (result : Result B Error) → Looks P first mid (Ok value) → Looks Q mid last result → Looks (λ db next. P db value × Q db next) first last result
-  looks_on result one two =
-      let open_mid = λ (c : HasCleanDisk last) (o : IsTrue last.is_open). two.was_open c o in
-      let same_mid = λ (c : HasCleanDisk last) (o : IsTrue last.is_open). one.same (two.clean c) (open_mid c o) in
-      let schema_mid = λ (c : HasCleanDisk last) (o : IsTrue last.is_open) (s : first.committed.schema ≡ site_schema). ap (λ (db : Database). db.schema) (same_mid c o s) ∙ s in
-      record {
-        clean = λ c. one.clean (two.clean c);
-        was_open = λ c o. one.was_open (two.clean c) (open_mid c o);
-        same = λ c o s. two.same c o (schema_mid c o s) ∙ same_mid c o s;
-        shows = λ c o s. both result (one.shows (two.clean c) (open_mid c o) s) (subst (λ db. IfOk result (Q db)) (same_mid c o s) (two.shows c o (schema_mid c o s)));
-      }
-    where
-      both : {db : Database} (result : Result B Error) → P db value → IfOk result (Q db) → IfOk result (λ next. P db value × Q db next)
-      both (Ok next) p q = (p, q)
-      both (Err e) p q = tt
-
-pub looks_as : {A B : Type 0} (P : Database → A → Type 0) (Q : Database → B → Type 0) (old new : State) (value : A) (other : B) → ((db : Database) → P db value → Q db other) → Looks P old new (Ok value) → Looks Q old new (Ok other)
-looks_as P Q old new value other means it = record { clean = it.clean; was_open = it.was_open; same = it.same; shows = λ c o s. means old.committed (it.shows c o s) }
-
-pub looks_fail : {A B : Type 0} (P : Database → A → Type 0) (Q : Database → B → Type 0) (old new : State) (e other : Error) → Looks P old new (Err e) → Looks Q old new (Err other)
-looks_fail P Q old new e other it = record { clean = it.clean; was_open = it.was_open; same = it.same; shows = λ c o s. tt }

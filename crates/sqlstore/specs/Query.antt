@@ -8,6 +8,7 @@ use Rattle.terms.specs.declared.value.Value.{Value as Cell}
 use Rattle.terms.specs.Stored.{part_from}
 use Rattle.sqlstore.specs.Content.{decoded}
 use Rattle.sqlite.specs.State.{State, KeepsCommit, Shows}
+use Rattle.sqlite.specs.Tree.{Trees}
 use Rattle.sqlite.specs.Term.{Term, col}
 use Rattle.sqlite.specs.declared.error.Error.{Error}
 use Rattle.sqlstore.specs.Rows.{AreTables, Finds}
@@ -21,6 +22,10 @@ pub record Queries {A : Type 0} (P : Database → A → Type 0) (old new : State
   pub kept : AreTables old.now → KeepsCommit old new
   pub same : AreTables old.now → OnOk result (Shows old new old.now old.committed old.in_transaction)
   pub shows : AreTables old.now → IfOk result (P old.now)
+
+-- a crash leaves nothing else
+abbrev pub LeavesNothing : State → Trees → Type 0
+LeavesNothing old trees = AreTables old.now → ⊥
 
 -- the leaf and the key of an intent
 abbrev pub slot_terms : List Term

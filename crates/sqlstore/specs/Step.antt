@@ -1,9 +1,10 @@
 -- What a statement within a transaction does, and what calls leave.
-use Rattle.std.specs.Prelude.{◌≡◌, ℕ, ℤ, Bool, true, List, [], ◌∷◌, Result, OnOk, string_bytes}
+use Rattle.std.specs.Prelude.{◌≡◌, ℕ, ℤ, Bool, true, List, [], ◌∷◌, Result, OnOk, IsTrue, string_bytes}
 use Rattle.std.specs.List.{list_any}
 use Rattle.sqlite.specs.Effect.{Database}
 use Rattle.sqlite.specs.Order.{Row, column}
 use Rattle.sqlite.specs.State.{State, Shows, KeepsCommit}
+use Rattle.sqlite.specs.Tree.{Trees}
 use Rattle.sqlite.specs.Values.{bound_value}
 use Rattle.sqlite.specs.declared.error.Error.{Error}
 use Rattle.sqlite.specs.declared.types.Value.TheVariants.{Null, Int, Text, Blob}
@@ -20,6 +21,10 @@ pub record Steps {A : Type 0} (P : Database → Database → Type 0) (old new : 
   pub kept : KeepsCommit old new
   pub shows : OnOk result (Shows old new new.now old.committed true)
   pub does : AreTables old.now → OnOk result (P old.now new.now)
+
+-- what a crash leaves is what was committed, with this made of it
+abbrev pub MayLeave : (Database → Database → Type 0) → State → Trees → Type 0
+MayLeave P old trees = IsTrue old.is_open → AreTables old.committed → (new : Database) × P old.committed new × (trees ≡ new.trees)
 
 -- a ticket as parameters
 abbrev pub visit_params : Visit → Row
