@@ -8,6 +8,7 @@ use Rattle.terms.specs.declared.value.Value.{Value as Cell}
 use Rattle.terms.specs.Stored.{part_from}
 use Rattle.sqlstore.specs.Content.{decoded}
 use Rattle.sqlite.specs.State.{State, KeepsCommit, Shows}
+use Rattle.sqlite.specs.Tree.{Trees}
 use Rattle.sqlite.specs.Term.{Term, col}
 use Rattle.sqlite.specs.declared.error.Error.{Error}
 use Rattle.sqlstore.specs.Rows.{AreTables, Finds}
@@ -25,6 +26,10 @@ pub record QueriesOf {A : Type 0} (Known : Database → Type 0) (P : Database �
 -- so of a site's tables
 abbrev pub Queries : {A : Type 0} → (Database → A → Type 0) → State → State → Result A Error → Type 0
 Queries P old new result = QueriesOf AreTables P old new result
+
+-- a crash leaves nothing else
+abbrev pub LeavesNothing : State → Trees → Type 0
+LeavesNothing old trees = AreTables old.now → ⊥
 
 -- the leaf and the key of an intent
 abbrev pub slot_terms : List Term

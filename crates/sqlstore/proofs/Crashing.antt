@@ -1,0 +1,66 @@
+-- A crash around a transaction leaves what was committed before it, or what it commits.
+use Rattle.std.proofs.Common.{◌≡◌, true, Ok, IsTrue, ap, ◌∙◌, sym, subst, arith}
+use Rattle.sqlite.specs.Effect.{Database}
+use Rattle.sqlite.specs.Held.{Held, state}
+use Rattle.sqlite.specs.Listing.{understood}
+use Rattle.sqlite.specs.Order.{Row}
+use Rattle.sqlite.specs.State.{State, HasCleanDisk, Survives, CommitsShowing}
+use Rattle.sqlite.specs.Store.{Ghosts}
+use Rattle.sqlite.specs.Tree.{Trees}
+use Rattle.sqlite.proofs.Callers.{IsPlain, survives_begin, never_commits}
+use Rattle.sqlite.proofs.StateLemmas.{survives_then, survives_weaker}
+use Rattle.std.specs.Prelude.{ℕ, List}
+use Rattle.sqlstore.specs.Fresh.{Builds, MakesAll, AreFresh, MayFound}
+use Rattle.sqlstore.specs.Query.{Queries, LeavesNothing}
+use Rattle.sqlstore.specs.Rows.{AreTables}
+use Rattle.sqlstore.specs.Step.{Steps, MayLeave}
+use Rattle.sqlstore.specs.Tables.{site_schema, no_schema}
+use Rattle.sqlstore.proofs.Committing.{begun}
+use Rattle.sqlstore.proofs.Creating.{makes_all}
+
+-- a query commits nothing
+pub leaves_nothing : (sql : List ℕ) (params : Row) (old new : State) → IsPlain (understood site_schema sql) → Survives old new (CommitsShowing sql params old) → Survives old new (LeavesNothing old)
+leaves_nothing sql params old new plain = survives_weaker old new _ _ (λ _ db shown tables. never_commits sql params old db (subst (λ s. IsPlain (understood s sql)) (sym tables.schema) plain) shown)
+
+module _ {S : Type 0} (g : Ghosts S) where
+  -- statements in a transaction, and its commit
+  pub crash_leaves : (P : Database → Database → Type 0) {A : Type 0} (old : Held S) (last new : State) (value : A) → (IsTrue (state g old).is_open → (state g old).now ≡ (state g old).committed)
+      → Survives (state g (record old { in_transaction = true })) last (λ _. ⊥) → (HasCleanDisk last → Steps P (begun (state g old)) last (Ok value)) → Survives last new (λ db. db ≡ last.now.trees)
+      → Survives (state g old) new (MayLeave P (state g old))
+  crash_leaves P old last new value settled inside steps ended =
+      survives_then (state g old) last new _ _ (MayLeave P (state g old)) (λ _ db none. absurd none)
+      (λ clean db is was_open tables.
+      let step = steps (omega (arith, ended.clean, clean)) in
+      let now = settled was_open in
+      (last.now, subst (λ was. P was last.now) now (step.does (subst AreTables (sym now) tables)), is))
+      (survives_begin g old last _ inside) ended
+
+  -- so where tables are made
+  pub crash_founds : {A : Type 0} (old : Held S) (last new : State) (value : A) → (IsTrue (state g old).is_open → (state g old).now ≡ (state g old).committed)
+      → Survives (state g (record old { in_transaction = true })) last (λ _. ⊥) → (HasCleanDisk last → Builds no_schema MakesAll (begun (state g old)) last (Ok value)) → Survives last new (λ db. db ≡ last.now.trees)
+      → Survives (state g old) new (MayFound (state g old))
+  crash_founds old last new value settled inside builds ended =
+      survives_then (state g old) last new _ _ (MayFound (state g old)) (λ _ db none. absurd none)
+      (λ clean db is was_open schema.
+      let made = builds (omega (arith, ended.clean, clean)) in
+      let now = settled was_open in
+      (last.now, makes_all (state g old).now last.now (made.does (ap (λ (d : Database). d.schema) now ∙ schema)), is))
+      (survives_begin g old last _ inside) ended
+
+  -- and where a query comes before the transaction
+  pub crash_asked : {V A : Type 0} (P : Database → V → Type 0) (Q R : Database → Database → Type 0) (old asked : Held S) (last new : State) (found : V) (value : A) → ((db after : Database) → P db found → Q db after → R db after)
+      → (IsTrue (state g old).is_open → (state g old).now ≡ (state g old).committed) → Survives (state g old) (state g asked) (LeavesNothing (state g old)) → (HasCleanDisk (state g asked) → Queries P (state g old) (state g asked) (Ok found))
+      → Survives (state g (record asked { in_transaction = true })) last (λ _. ⊥) → (HasCleanDisk last → Steps Q (begun (state g asked)) last (Ok value)) → Survives last new (λ db. db ≡ last.now.trees)
+      → Survives (state g old) new (MayLeave R (state g old))
+  crash_asked P Q R old asked last new found value both settled first query inside steps ended =
+      let second = survives_then (state g asked) last new _ _ (λ db. db ≡ last.now.trees) (λ _ db none. absurd none) (λ _ db is. is) (survives_begin g asked last _ inside) ended in
+      survives_then (state g old) (state g asked) new _ _ (MayLeave R (state g old)) (λ _ db never was_open tables. absurd (never (subst AreTables (sym (settled was_open)) tables)))
+      (λ clean db is was_open tables.
+      let now = settled was_open in
+      let tables_now : AreTables (state g old).now = subst AreTables (sym now) tables in
+      let asks = query (omega (arith, second.clean, clean)) in
+      let here : (state g asked).now ≡ (state g old).committed = (asks.same tables_now).now_is ∙ now in
+      let shown : P (state g old).committed found = subst (λ d. P d found) now (asks.shows tables_now) in
+      let step = steps (omega (arith, ended.clean, clean)) in
+      (last.now, both (state g old).committed last.now shown (subst (λ d. Q d last.now) here (step.does (subst AreTables (sym here) tables))), is))
+      first second
