@@ -4,48 +4,78 @@ use Rattle.sqlite.specs.Effect.{Database}
 use Rattle.sqlite.specs.Held.{Held, state}
 use Rattle.sqlite.specs.Listing.{understood}
 use Rattle.sqlite.specs.Order.{Row}
+use Rattle.sqlite.specs.Schema.{Schema}
 use Rattle.sqlite.specs.State.{State, HasCleanDisk, Survives, CommitsShowing}
 use Rattle.sqlite.specs.Store.{Ghosts}
 use Rattle.sqlite.specs.Tree.{Trees}
 use Rattle.sqlite.proofs.Callers.{IsPlain, survives_begin, never_commits}
 use Rattle.sqlite.proofs.StateLemmas.{survives_then, survives_weaker}
 use Rattle.std.specs.Prelude.{ℕ, List}
-use Rattle.sqlstore.specs.Fresh.{Builds, MakesAll, AreFresh, MayFound}
-use Rattle.sqlstore.specs.Query.{Queries, LeavesNothing}
-use Rattle.sqlstore.specs.Rows.{AreTables}
-use Rattle.sqlstore.specs.Step.{Steps, MayLeave}
+use Rattle.sqlstore.specs.Fresh.{Builds, MakesAll, AreFresh, MayFoundOf, MayFound}
+use Rattle.sqlstore.specs.Query.{QueriesOf, Queries, LeavesNothingOf, LeavesNothing}
+use Rattle.sqlstore.specs.Rows.{AreTables, AreTablesOf}
+use Rattle.sqlstore.specs.Step.{StepsOf, Steps, MayLeaveOf, MayLeave}
 use Rattle.sqlstore.specs.Tables.{site_schema, no_schema}
 use Rattle.sqlstore.proofs.Committing.{begun}
 use Rattle.sqlstore.proofs.Creating.{makes_all}
 
 -- a query commits nothing
+pub leaves_none : (own : Schema) (Known : Database → Type 0) (says : (db : Database) → Known db → db.schema ≡ own) (sql : List ℕ) (params : Row) (old new : State) → IsPlain (understood own sql) → Survives old new (CommitsShowing sql params old)
+    → Survives old new (LeavesNothingOf Known old)
+leaves_none own Known says sql params old new plain = survives_weaker old new _ _ (λ _ db shown known. never_commits sql params old db (subst (λ s. IsPlain (understood s sql)) (sym (says old.now known)) plain) shown)
+
 pub leaves_nothing : (sql : List ℕ) (params : Row) (old new : State) → IsPlain (understood site_schema sql) → Survives old new (CommitsShowing sql params old) → Survives old new (LeavesNothing old)
-leaves_nothing sql params old new plain = survives_weaker old new _ _ (λ _ db shown tables. never_commits sql params old db (subst (λ s. IsPlain (understood s sql)) (sym tables.schema) plain) shown)
+leaves_nothing = leaves_none site_schema AreTables (λ db tables. tables.schema)
+
+-- a call that asked, and committed nothing
+pub crash_idle : (own : Schema) (Known : Database → Type 0) (says : (db : Database) → AreTablesOf own db → Known db) (R : Database → Database → Type 0) (old asked : State) → (IsTrue old.is_open → old.now ≡ old.committed) → Survives old asked (LeavesNothingOf Known old)
+    → Survives old asked (MayLeaveOf own R old)
+crash_idle own Known says R old asked settled = survives_weaker old asked _ _ (λ _ db never was_open tables. absurd (never (says old.now (subst (AreTablesOf own) (sym (settled was_open)) tables))))
+
+-- a call that committed, after a query
+pub crash_after : (own : Schema) (Known : Database → Type 0) (says : (db : Database) → AreTablesOf own db → Known db) {V : Type 0} (P : Database → V → Type 0) (Q R : Database → Database → Type 0) (old asked new : State) (found : V) → ((db after : Database) → P db found → Q db after → R db after)
+    → (IsTrue old.is_open → old.now ≡ old.committed) → Survives old asked (LeavesNothingOf Known old) → (HasCleanDisk asked → QueriesOf Known P old asked (Ok found)) → Survives asked new (MayLeaveOf own Q asked) → Survives old new (MayLeaveOf own R old)
+crash_after own Known says P Q R old asked new found both settled first query second =
+    survives_then old asked new _ _ (MayLeaveOf own R old) (λ _ db never was_open tables. absurd (never (says old.now (subst (AreTablesOf own) (sym (settled was_open)) tables))))
+    (λ clean db may was_open tables.
+    let now = settled was_open in
+    let known : Known old.now = says old.now (subst (AreTablesOf own) (sym now) tables) in
+    let asks = query (omega (arith, second.clean, clean)) in
+    let same = asks.same known in
+    let shown : P old.committed found = subst (λ d. P d found) now (asks.shows known) in
+    let left = may same.is_open (subst (AreTablesOf own) (sym same.committed_is) tables) in
+    (left.0, both old.committed left.0 shown (subst (λ d. Q d left.0) same.committed_is left.1), left.2))
+    first second
 
 module _ {S : Type 0} (g : Ghosts S) where
   -- statements in a transaction, and its commit
-  pub crash_leaves : (P : Database → Database → Type 0) {A : Type 0} (old : Held S) (last new : State) (value : A) → (IsTrue (state g old).is_open → (state g old).now ≡ (state g old).committed)
-      → Survives (state g (record old { in_transaction = true })) last (λ _. ⊥) → (HasCleanDisk last → Steps P (begun (state g old)) last (Ok value)) → Survives last new (λ db. db ≡ last.now.trees)
-      → Survives (state g old) new (MayLeave P (state g old))
-  crash_leaves P old last new value settled inside steps ended =
-      survives_then (state g old) last new _ _ (MayLeave P (state g old)) (λ _ db none. absurd none)
+  pub crash_leaves : {own : Schema} (P : Database → Database → Type 0) {A : Type 0} (old : Held S) (last new : State) (value : A) → (IsTrue (state g old).is_open → (state g old).now ≡ (state g old).committed)
+      → Survives (state g (record old { in_transaction = true })) last (λ _. ⊥) → (HasCleanDisk last → StepsOf own P (begun (state g old)) last (Ok value)) → Survives last new (λ db. db ≡ last.now.trees)
+      → Survives (state g old) new (MayLeaveOf own P (state g old))
+  crash_leaves {own} P old last new value settled inside steps ended =
+      survives_then (state g old) last new _ _ (MayLeaveOf own P (state g old)) (λ _ db none. absurd none)
       (λ clean db is was_open tables.
       let step = steps (omega (arith, ended.clean, clean)) in
       let now = settled was_open in
-      (last.now, subst (λ was. P was last.now) now (step.does (subst AreTables (sym now) tables)), is))
+      (last.now, subst (λ was. P was last.now) now (step.does (subst (AreTablesOf own) (sym now) tables)), is))
       (survives_begin g old last _ inside) ended
 
   -- so where tables are made
-  pub crash_founds : {A : Type 0} (old : Held S) (last new : State) (value : A) → (IsTrue (state g old).is_open → (state g old).now ≡ (state g old).committed)
-      → Survives (state g (record old { in_transaction = true })) last (λ _. ⊥) → (HasCleanDisk last → Builds no_schema MakesAll (begun (state g old)) last (Ok value)) → Survives last new (λ db. db ≡ last.now.trees)
-      → Survives (state g old) new (MayFound (state g old))
-  crash_founds old last new value settled inside builds ended =
-      survives_then (state g old) last new _ _ (MayFound (state g old)) (λ _ db none. absurd none)
+  pub crash_makes : (Makes : Database → Database → Type 0) (Fresh : Database → Type 0) (fresh : (was now : Database) → Makes was now → Fresh now) {A : Type 0} (old : Held S) (last new : State) (value : A) → (IsTrue (state g old).is_open → (state g old).now ≡ (state g old).committed)
+      → Survives (state g (record old { in_transaction = true })) last (λ _. ⊥) → (HasCleanDisk last → Builds no_schema Makes (begun (state g old)) last (Ok value)) → Survives last new (λ db. db ≡ last.now.trees)
+      → Survives (state g old) new (MayFoundOf Fresh (state g old))
+  crash_makes Makes Fresh fresh old last new value settled inside builds ended =
+      survives_then (state g old) last new _ _ (MayFoundOf Fresh (state g old)) (λ _ db none. absurd none)
       (λ clean db is was_open schema.
       let made = builds (omega (arith, ended.clean, clean)) in
       let now = settled was_open in
-      (last.now, makes_all (state g old).now last.now (made.does (ap (λ (d : Database). d.schema) now ∙ schema)), is))
+      (last.now, fresh (state g old).now last.now (made.does (ap (λ (d : Database). d.schema) now ∙ schema)), is))
       (survives_begin g old last _ inside) ended
+
+  pub crash_founds : {A : Type 0} (old : Held S) (last new : State) (value : A) → (IsTrue (state g old).is_open → (state g old).now ≡ (state g old).committed)
+      → Survives (state g (record old { in_transaction = true })) last (λ _. ⊥) → (HasCleanDisk last → Builds no_schema MakesAll (begun (state g old)) last (Ok value)) → Survives last new (λ db. db ≡ last.now.trees)
+      → Survives (state g old) new (MayFound (state g old))
+  crash_founds = crash_makes MakesAll AreFresh makes_all
 
   -- and where a query comes before the transaction
   pub crash_asked : {V A : Type 0} (P : Database → V → Type 0) (Q R : Database → Database → Type 0) (old asked : Held S) (last new : State) (found : V) (value : A) → ((db after : Database) → P db found → Q db after → R db after)

@@ -55,8 +55,12 @@ abbrev pub MakesAll : Database → Database → Type 0
 MakesAll = Follows MakesFirst MakesOthers
 
 -- what a crash leaves is new tables, where there was nothing
+abbrev pub MayFoundOf : (Database → Type 0) → State → Trees → Type 0
+MayFoundOf Fresh old trees = IsTrue old.is_open → old.committed.schema ≡ no_schema → (new : Database) × Fresh new × (trees ≡ new.trees)
+
+-- so where they are a site's
 abbrev pub MayFound : State → Trees → Type 0
-MayFound old trees = IsTrue old.is_open → old.committed.schema ≡ no_schema → (new : Database) × AreFresh new × (trees ≡ new.trees)
+MayFound = MayFoundOf AreFresh
 
 -- what is found of a site is as it was, in a site's tables, or new tables are made, where there was nothing
 abbrev pub Founds : Database → Database → Type 0

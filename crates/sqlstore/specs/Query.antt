@@ -27,9 +27,13 @@ pub record QueriesOf {A : Type 0} (Known : Database → Type 0) (P : Database �
 abbrev pub Queries : {A : Type 0} → (Database → A → Type 0) → State → State → Result A Error → Type 0
 Queries P old new result = QueriesOf AreTables P old new result
 
--- a crash leaves nothing else
+-- a crash leaves nothing else, where the tables are known
+abbrev pub LeavesNothingOf : (Database → Type 0) → State → Trees → Type 0
+LeavesNothingOf Known old trees = Known old.now → ⊥
+
+-- so of a site's tables
 abbrev pub LeavesNothing : State → Trees → Type 0
-LeavesNothing old trees = AreTables old.now → ⊥
+LeavesNothing = LeavesNothingOf AreTables
 
 -- the leaf and the key of an intent
 abbrev pub slot_terms : List Term

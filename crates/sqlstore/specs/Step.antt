@@ -29,8 +29,12 @@ abbrev pub Steps : {A : Type 0} → (Database → Database → Type 0) → State
 Steps P old new result = StepsOf site_schema P old new result
 
 -- what a crash leaves is what was committed, with this made of it
+abbrev pub MayLeaveOf : Schema → (Database → Database → Type 0) → State → Trees → Type 0
+MayLeaveOf own P old trees = IsTrue old.is_open → AreTablesOf own old.committed → (new : Database) × P old.committed new × (trees ≡ new.trees)
+
+-- so over a site's tables
 abbrev pub MayLeave : (Database → Database → Type 0) → State → Trees → Type 0
-MayLeave P old trees = IsTrue old.is_open → AreTables old.committed → (new : Database) × P old.committed new × (trees ≡ new.trees)
+MayLeave = MayLeaveOf site_schema
 
 -- a ticket as parameters
 abbrev pub visit_params : Visit → Row
