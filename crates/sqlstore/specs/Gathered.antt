@@ -1,5 +1,5 @@
 -- All rows of a site's tables, as queries show them.
-use Rattle.std.specs.Prelude.{◌≡◌, ℕ, pos, ◌≤ℤ◌, Bool, true, ◌&&◌, Result, IfOk, IsTrue, List, [], ◌∷◌, slice_index_or}
+use Rattle.std.specs.Prelude.{◌≡◌, pos, ◌≤ℤ◌, Bool, true, ◌&&◌, Result, IfOk, IsTrue, List, [], ◌∷◌, slice_index_or}
 use Rattle.std.specs.FinMap as map
 use Rattle.std.specs.List.{AllByRecursion, list_all, list_any}
 use Rattle.std.specs.Ordering.{int_eq}
