@@ -1,5 +1,5 @@
 -- A crash around a transaction leaves what was committed before it, or what it commits.
-use Rattle.std.proofs.Common.{◌≡◌, true, Ok, IsTrue, ap, ◌∙◌, sym, subst, arith}
+use Rattle.std.proofs.Common.{◌≡◌, ◌+◌, ℤ, pos, true, Ok, IsTrue, refl, subst₂, ap, ◌∙◌, sym, subst, arith}
 use Rattle.sqlite.specs.Effect.{Database}
 use Rattle.sqlite.specs.Held.{Held, state}
 use Rattle.sqlite.specs.Listing.{understood}
@@ -7,14 +7,13 @@ use Rattle.sqlite.specs.Order.{Row}
 use Rattle.sqlite.specs.Schema.{Schema}
 use Rattle.sqlite.specs.State.{State, HasCleanDisk, Survives, CommitsShowing}
 use Rattle.sqlite.specs.Store.{Ghosts}
-use Rattle.sqlite.specs.Tree.{Trees}
 use Rattle.sqlite.proofs.Callers.{IsPlain, survives_begin, never_commits}
 use Rattle.sqlite.proofs.StateLemmas.{survives_then, survives_weaker}
 use Rattle.std.specs.Prelude.{ℕ, List}
 use Rattle.sqlstore.specs.Fresh.{Builds, MakesAll, AreFresh, MayFoundOf, MayFound}
-use Rattle.sqlstore.specs.Query.{QueriesOf, Queries, LeavesNothingOf, LeavesNothing}
+use Rattle.sqlstore.specs.Query.{AreLives, LeavesNothingOf, LeavesNothing, LivesSome, QueriesOf, Queries, first_life}
 use Rattle.sqlstore.specs.Rows.{AreTables, AreTablesOf}
-use Rattle.sqlstore.specs.Step.{StepsOf, Steps, MayLeaveOf, MayLeave}
+use Rattle.sqlstore.specs.Step.{LivesOn, MayLeaveOf, MayLeave, StepsOf, Steps}
 use Rattle.sqlstore.specs.Tables.{site_schema, no_schema}
 use Rattle.sqlstore.proofs.Committing.{begun}
 use Rattle.sqlstore.proofs.Creating.{makes_all}
@@ -94,3 +93,22 @@ module _ {S : Type 0} (g : Ghosts S) where
       let step = steps (omega (arith, ended.clean, clean)) in
       (last.now, both (state g old).committed last.now shown (subst (λ d. Q d last.now) here (step.does (subst AreTables (sym here) tables))), is))
       first second
+
+-- where nothing else is left, nothing is left of a call
+pub nothing_left : (R : Database → Database → Type 0) (old new : State) → (IsTrue old.is_open → old.now ≡ old.committed) → Survives old new (LeavesNothing old) → Survives old new (MayLeave R old)
+nothing_left R old new settled = survives_weaker old new _ _ (λ _ db never was_open tables. absurd (never (subst AreTables (sym (settled was_open)) tables)))
+
+-- the next incarnation is kept, or none is
+pub crash_next : {V : Type 0} (items : V → List Row) (old asked new : State) (found : V) (life : ℕ) (next : ℤ) → (IsTrue old.is_open → old.now ≡ old.committed) → Survives old asked (LeavesNothing old)
+    → (HasCleanDisk asked → Queries (λ db rows. AreLives (db.trees 6) (items rows)) old asked (Ok found)) → first_life (items found) ≡ pos life → next ≡ pos (life + 1) → Survives asked new (MayLeave (LivesOn next) asked) → Survives old new (MayLeave LivesSome old)
+crash_next items old asked new found life next settled first query says after second =
+    survives_then old asked new _ _ (MayLeave LivesSome old) (λ _ db never was_open tables. absurd (never (subst AreTables (sym (settled was_open)) tables)))
+    (λ clean db left was_open tables.
+    let now = settled was_open in
+    let tables_now : AreTables old.now = subst AreTables (sym now) tables in
+    let asks = query (omega (arith, second.clean, clean)) in
+    let same = asks.same tables_now in
+    let shown = subst (λ (d : Database). AreLives (d.trees 6) (items found)) now (asks.shows tables_now) in
+    let made = left same.is_open (subst AreTables (sym same.committed_is) tables) in
+    (made.0, (life + 1, (items found, shown, life, says, refl, subst₂ (λ (n : ℤ) (d : Database). LivesOn n d made.0) after same.committed_is made.1)), made.2))
+    first second

@@ -1,27 +1,20 @@
 -- The tables of a site are made.
-use Rattle.std.proofs.Common.{◌≡◌, ◌⊎◌, ℕ, false, OnOk, List, [], None, Ok, Err, Result, IsTrue, refl, sym, ap, ◌∙◌, subst, inl, inr}
+use Rattle.std.proofs.Common.{◌≡◌, ◌⊎◌, ℕ, false, List, [], None, Ok, Err, Result, refl, sym, ap, ◌∙◌, subst, inl, inr}
 use Rattle.sqlite.specs.Change.{created, next_tree, KeepsRows}
 use Rattle.sqlite.specs.Command.TheVariants.{CreateTable}
 use Rattle.sqlite.specs.Compile.{table_defined_by}
 use Rattle.sqlite.specs.Does.{Tally, lacks_sequence}
 use Rattle.sqlite.specs.Effect.{Database}
 use Rattle.sqlite.specs.Listing.{understood}
-use Rattle.sqlite.specs.Order.{Row}
 use Rattle.sqlite.specs.Schema.{Schema}
-use Rattle.sqlite.specs.State.{State, Executes, ExecutesInside, Shows, Writes}
+use Rattle.sqlite.specs.State.{State, Executes, ExecutesInside, Writes}
 use Rattle.sqlite.specs.declared.error.Error.{Error}
 use Rattle.sqlite.proofs.InsideLemmas.{keeps_then}
 use Rattle.sqlite.specs.Table.{Table}
 use Rattle.sqlite.proofs.Callers.{IsPlain, command_of, statement_of, runs_as}
-use Rattle.sqlite_rules.specs.Lists.{Has}
 use Rattle.sqlite_tied.specs.Compute.{everything}
-use Rattle.terms.specs.declared.leaf.Leaf.{Leaf}
-use Rattle.sqlstore.specs.Content.{content_in, prepared_in, changes_in, life_in, kept_of}
-use Rattle.sqlstore.specs.Fresh.{AreFresh, KeepsNothing, MakesTable, Builds, MakesAll, one_table, two_tables, three_tables}
-use Rattle.sqlstore.specs.Rows.{AreKeyed}
-use Rattle.sqlstore.specs.Sound.{IsStored}
+use Rattle.sqlstore.specs.Fresh.{AreFresh, MakesTable, Builds, MakesAll, one_table, two_tables, three_tables}
 use Rattle.sqlstore.specs.Step.{Follows}
-use Rattle.sqlstore.proofs.Committing.{begun}
 use Rattle.sqlstore.proofs.Stepping.{unchanged_keeps, undone_keeps}
 use Rattle.sqlstore.specs.Tables.{no_schema, part_table, prepared_table, intent_table, state_table, create_part, create_prepared, create_intent, create_state}
 

@@ -63,6 +63,9 @@ first_life (row ∷ rows) = id_in (column row 0)
 abbrev pub LivesNext : ℕ → Database → Database → Type 0
 LivesNext next old new = (rows : List Row) × AreLives (old.trees 6) rows × (life : ℕ) × (first_life rows ≡ pos life) × (next ≡ life + 1) × LivesOn (pos next) old new
 
+abbrev pub LivesSome : Database → Database → Type 0
+LivesSome old new = (next : ℕ) × LivesNext next old new
+
 -- a leaf's name and a key as parameters
 abbrev pub key_params : List ℕ → ℤ → Row
 key_params name key = Text name ∷ Int key ∷ []

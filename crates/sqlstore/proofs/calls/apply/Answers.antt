@@ -36,7 +36,7 @@ returns-clause-crash g c =
     let started = c.transaction-tx.ensures.begun in
     let slots = c.in_ok-slots.slots in
     let leaves =
-        crash_asked g.S.Store (λ db rows. AreSlots visit (db.trees 4) rows.items) (Follows (Empties visit slots.items) (Fills visit)) (Makes visit) old asked (state g.S.Store c.make.new.tx.conn.now) (state g.S.Store c.commit.new.self.0) slots c.in_ok-make.field-0
-        (λ db after found made. (slots.items, found, made)) (c.is_autocommit-settled.ensures.settled (c.is_autocommit-settled.ensures.value ∙ ap not c.requires)) c.slots_of.ensures.survives c.in_ok-slots.ensures.does
-        (rw started at c.make.ensures.survives) (λ clean. rw (started, c.deref.ensures.value) at (c.in_ok-make.ensures.does clean (rw started refl))) c.commit.ensures.survives in
+    crash_asked g.S.Store (λ db rows. AreSlots visit (db.trees 4) rows.items) (Follows (Empties visit slots.items) (Fills visit)) (Makes visit) old asked (state g.S.Store c.make.new.tx.conn.now) (state g.S.Store c.commit.new.self.0) slots c.in_ok-make.field-0
+    (λ db after found made. (slots.items, found, made)) (c.is_autocommit-settled.ensures.settled (c.is_autocommit-settled.ensures.value ∙ ap not c.requires)) c.slots_of.ensures.survives c.in_ok-slots.ensures.does
+    (rw started at c.make.ensures.survives) (λ clean. rw (started, c.deref.ensures.value) at (c.in_ok-make.ensures.does clean (rw started refl))) c.commit.ensures.survives in
     subst (λ end. Survives (state g.S.Store old) (state g.S.Store end) (MayLeave (Makes visit) (state g.S.Store old))) same leaves
