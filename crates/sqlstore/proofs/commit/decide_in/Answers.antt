@@ -27,6 +27,6 @@ returns-clause-crash g c =
     let decision = c.args.decision.now in
     let started = c.transaction-tx.ensures.begun in
     let leaves =
-        crash_leaves g.S.Store (Decides decision.txn decision.votes.items c.args.life.now decision.version) old (state g.S.Store c.keep_rows.new.tx.conn.now) (state g.S.Store c.commit.new.self.0) c.in_ok-keep_rows.field-0
-        (c.is_autocommit-settled.ensures.settled (c.is_autocommit-settled.ensures.value ∙ ap not c.requires)) (rw started at c.keep_rows.ensures.survives) (λ clean. rw started at (c.in_ok-keep_rows.ensures.does clean (rw started refl))) c.commit.ensures.survives in
+    crash_leaves g.S.Store (Decides decision.txn decision.votes.items c.args.life.now decision.version) old (state g.S.Store c.keep_rows.new.tx.conn.now) (state g.S.Store c.commit.new.self.0) c.in_ok-keep_rows.field-0
+    (c.is_autocommit-settled.ensures.settled (c.is_autocommit-settled.ensures.value ∙ ap not c.requires)) (rw started at c.keep_rows.ensures.survives) (λ clean. rw started at (c.in_ok-keep_rows.ensures.does clean (rw started refl))) c.commit.ensures.survives in
     search (rules, leaves)

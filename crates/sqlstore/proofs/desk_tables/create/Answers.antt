@@ -10,6 +10,6 @@ returns-clause-crash g c =
     let old = c.args.conn.now in
     let started = c.transaction-tx.ensures.begun in
     let leaves =
-        crash_makes g.S.Store MakesBoth IsFresh makes_both old (state g.S.Store c.make_both.new.tx.conn.now) (state g.S.Store c.commit.new.self.0) c.in_ok-make_both.field-0
-        (c.is_autocommit-settled.ensures.settled (c.is_autocommit-settled.ensures.value ∙ ap not c.requires)) (rw started at c.make_both.ensures.survives) (λ clean. rw started at (c.in_ok-make_both.ensures.does clean (rw started refl))) c.commit.ensures.survives in
+    crash_makes g.S.Store MakesBoth IsFresh makes_both old (state g.S.Store c.make_both.new.tx.conn.now) (state g.S.Store c.commit.new.self.0) c.in_ok-make_both.field-0
+    (c.is_autocommit-settled.ensures.settled (c.is_autocommit-settled.ensures.value ∙ ap not c.requires)) (rw started at c.make_both.ensures.survives) (λ clean. rw started at (c.in_ok-make_both.ensures.does clean (rw started refl))) c.commit.ensures.survives in
     search (rules, leaves)
