@@ -1,27 +1,20 @@
 -- The tables of a site are made.
-use Rattle.std.proofs.Common.{◌≡◌, ◌⊎◌, ℕ, false, OnOk, List, [], None, Ok, Err, Result, IsTrue, refl, sym, ap, ◌∙◌, subst, inl, inr}
+use Rattle.std.proofs.Common.{◌≡◌, ◌⊎◌, ℕ, false, List, [], None, Ok, Err, Result, refl, sym, ap, ◌∙◌, subst, inl, inr}
 use Rattle.sqlite.specs.Change.{created, next_tree, KeepsRows}
 use Rattle.sqlite.specs.Command.TheVariants.{CreateTable}
 use Rattle.sqlite.specs.Compile.{table_defined_by}
 use Rattle.sqlite.specs.Does.{Tally, lacks_sequence}
 use Rattle.sqlite.specs.Effect.{Database}
 use Rattle.sqlite.specs.Listing.{understood}
-use Rattle.sqlite.specs.Order.{Row}
 use Rattle.sqlite.specs.Schema.{Schema}
-use Rattle.sqlite.specs.State.{State, Executes, ExecutesInside, Shows, Writes}
+use Rattle.sqlite.specs.State.{State, Executes, ExecutesInside, Writes}
 use Rattle.sqlite.specs.declared.error.Error.{Error}
 use Rattle.sqlite.proofs.InsideLemmas.{keeps_then}
 use Rattle.sqlite.specs.Table.{Table}
 use Rattle.sqlite.proofs.Callers.{IsPlain, command_of, statement_of, runs_as}
-use Rattle.sqlite_rules.specs.Lists.{Has}
 use Rattle.sqlite_tied.specs.Compute.{everything}
-use Rattle.terms.specs.declared.leaf.Leaf.{Leaf}
-use Rattle.sqlstore.specs.Content.{content_in, prepared_in, changes_in, life_in, kept_of}
-use Rattle.sqlstore.specs.Fresh.{AreFresh, KeepsNothing, MakesTable, Builds, MakesAll, one_table, two_tables, three_tables}
-use Rattle.sqlstore.specs.Rows.{AreKeyed}
-use Rattle.sqlstore.specs.Sound.{IsStored}
+use Rattle.sqlstore.specs.Fresh.{AreFresh, MakesTable, Builds, MakesAll, one_table, two_tables, three_tables}
 use Rattle.sqlstore.specs.Step.{Follows}
-use Rattle.sqlstore.proofs.Committing.{begun}
 use Rattle.sqlstore.proofs.Stepping.{unchanged_keeps, undone_keeps}
 use Rattle.sqlstore.specs.Tables.{no_schema, part_table, prepared_table, intent_table, state_table, create_part, create_prepared, create_intent, create_state}
 
@@ -96,49 +89,3 @@ makes_all old new all =
       intents = four.kept.1.1.0 ∙ three.empty;
       state = four.empty;
     }
-
--- what is committed once all are made
-pub built_committed : {A B : Type 0} (old last new : State) (value : A) (result : Result B Error) → (IsTrue old.is_open → old.now ≡ old.committed) → old.committed.schema ≡ no_schema
-    → Builds no_schema MakesAll (begun old) last (Ok value) → OnOk result (Shows last new last.now last.now false) → OnOk result (AreFresh new.committed)
-built_committed old last new value (Err e) settled schema builds ended = tt
-built_committed old last new value (Ok done) settled schema builds ended =
-    let now : old.now ≡ old.committed = settled builds.shows.was_open in
-    subst AreFresh (sym ended.committed_is) (makes_all old.now last.now (builds.does (ap (λ (d : Database). d.schema) now ∙ schema)))
-
--- ---- new tables are as the store leaves them
-
-pub no_rows : (rows : List Row) → rows ≡ [] → AreKeyed rows
-no_rows rows none = subst AreKeyed (sym none) (record { ints = λ row there. absurd there; apart = λ one other h k same. absurd h })
-
-pub fresh_stored : (leaves : List Leaf) (db : Database) → AreFresh db → IsStored leaves db
-fresh_stored leaves db fresh = record {
-  tables = record {
-    schema = fresh.schema;
-    keyed = λ table listed. elim listed [
-      | inl part ↦ subst (λ (t : Table). AreKeyed (db.trees t.tree)) (sym part) (no_rows (db.trees 0) fresh.parts)
-      | inr others ↦ elim others [
-        | inl prepared ↦ subst (λ (t : Table). AreKeyed (db.trees t.tree)) (sym prepared) (no_rows (db.trees 2) fresh.prepared)
-        | inr more ↦ elim more [
-          | inl intent ↦ subst (λ (t : Table). AreKeyed (db.trees t.tree)) (sym intent) (no_rows (db.trees 4) fresh.intents)
-          | inr last ↦ elim last [
-            | inl state ↦ subst (λ (t : Table). AreKeyed (db.trees t.tree)) (sym state) (no_rows (db.trees 6) fresh.state)
-            | inr none ↦ absurd none
-          ]
-        ]
-      ]
-    ];
-  };
-  parts = λ row there. absurd (subst (λ rows. Has rows row) fresh.parts there);
-  intents = λ row there. absurd (subst (λ rows. Has rows row) fresh.intents there);
-  prepared = λ row there. absurd (subst (λ rows. Has rows row) fresh.prepared there);
-  intended = λ row there. absurd (subst (λ rows. Has rows row) fresh.prepared there);
-  promised = λ row there. absurd (subst (λ rows. Has rows row) fresh.intents there);
-  begun = λ row there. absurd (subst (λ rows. Has rows row) fresh.state there);
-}
-
-pub fresh_keeps : (leaves : List Leaf) (db : Database) → AreFresh db → KeepsNothing (kept_of leaves db)
-fresh_keeps leaves db fresh = record {
-  content = λ leaf. ap (λ rows. content_in leaves rows leaf) fresh.parts;
-  prepared = λ ticket. ap (λ rows. prepared_in rows (changes_in leaves (db.trees 4) ticket) ticket) fresh.prepared;
-  life = ap life_in fresh.state;
-}

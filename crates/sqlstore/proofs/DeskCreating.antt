@@ -17,7 +17,7 @@ use Rattle.sqlstore.specs.Fresh.{Builds, MakesTable}
 use Rattle.sqlstore.specs.Rows.{AreKeyed}
 use Rattle.sqlstore.specs.Tables.{no_schema}
 use Rattle.sqlstore.proofs.Committing.{begun}
-use Rattle.sqlstore.proofs.Creating.{builds_by, creates, no_rows}
+use Rattle.sqlstore.proofs.Creating.{builds_by, creates}
 
 pub builds_decided : (old new : State) (result : Result ℕ Error) → ExecutesInside 0 create_decided [] old new result → Builds no_schema (MakesTable no_schema decided_table) old new result
 unfolding understood everything
@@ -29,29 +29,3 @@ builds_epoch old new result = builds_by first_schema (MakesTable first_schema ep
 
 pub makes_both : (old new : Database) → MakesBoth old new → IsFresh new
 makes_both old new both = record { schema = both.2.schema; votes = both.2.kept.0 ∙ both.1.empty; epoch = both.2.empty }
-
--- what is committed once both are made
-pub both_committed : {A B : Type 0} (old last new : State) (value : A) (result : Result B Error) → (IsTrue old.is_open → old.now ≡ old.committed) → old.committed.schema ≡ no_schema
-    → Builds no_schema MakesBoth (begun old) last (Ok value) → OnOk result (Shows last new last.now last.now false) → OnOk result (IsFresh new.committed)
-both_committed old last new value (Err e) settled schema builds ended = tt
-both_committed old last new value (Ok done) settled schema builds ended =
-    let now : old.now ≡ old.committed = settled builds.shows.was_open in
-    subst IsFresh (sym ended.committed_is) (makes_both old.now last.now (builds.does (ap (λ (d : Database). d.schema) now ∙ schema)))
-
--- ---- new tables are as the store leaves them
-
-pub fresh_decided : (db : Database) → IsFresh db → IsDecided db
-fresh_decided db fresh = record {
-  tables = record {
-    schema = fresh.schema;
-    keyed = λ table listed. elim listed [
-      | inl votes ↦ subst (λ (t : Table). AreKeyed (db.trees t.tree)) (sym votes) (no_rows (db.trees 0) fresh.votes)
-      | inr more ↦ elim more [ inl epoch ↦ subst (λ (t : Table). AreKeyed (db.trees t.tree)) (sym epoch) (no_rows (db.trees 2) fresh.epoch) | inr none ↦ absurd none ]
-    ];
-  };
-  votes = λ row there. absurd (subst (λ rows. Has rows row) fresh.votes there);
-  epoch = λ row there. absurd (subst (λ rows. Has rows row) fresh.epoch there);
-}
-
-pub fresh_keeps : (db : Database) → IsFresh db → KeepsNoCommit (decided_of db)
-fresh_keeps db fresh = record { commits = λ txn. ap (λ rows. commit_row (voters_by rows txn)) fresh.votes; life = ap life_in fresh.epoch; version = ap version_in fresh.epoch }

@@ -8,6 +8,7 @@ pub mod Stepping
 pub mod Composed
 pub mod Showing
 pub mod Committing
+pub mod Crashing
 pub mod Typed
 pub mod Bridge
 pub mod Contents

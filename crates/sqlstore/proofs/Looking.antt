@@ -66,28 +66,3 @@ module _ (sql : List ℕ) (tree : ℕ) (rest : List Term) (names : List (List �
   pub looks_by : {A : Type 0} (items : A → List Row) (result : Result A Error) → (IsTrue old.is_open → old.now ≡ old.committed) → IsLive old → (HasCleanDisk new → HasCleanDisk old)
       → (HasCleanDisk new → IfOk result (λ value. Shown sql [] old new (items value))) → (HasCleanDisk new → IfErr result (FailsToQuery sql [] old new)) → Looks (λ db value. ShowsAll (db.trees tree) (items value)) old new result
   looks_by = looks_of site_schema sql tree rest names is plain unlisted bare whole old new
-
--- ---- one query after another
-
-module _ {own : Schema} {A B : Type 0} (P : Database → A → Type 0) (Q : Database → B → Type 0) (first mid last : State) (value : A) where
-  pub looks_on : (result : Result B Error) → LooksOf own P first mid (Ok value) → LooksOf own Q mid last result → LooksOf own (λ db next. P db value × Q db next) first last result
-  looks_on result one two =
-      let open_mid = λ (c : HasCleanDisk last) (o : IsTrue last.is_open). two.was_open c o in
-      let same_mid = λ (c : HasCleanDisk last) (o : IsTrue last.is_open). one.same (two.clean c) (open_mid c o) in
-      let schema_mid = λ (c : HasCleanDisk last) (o : IsTrue last.is_open) (s : first.committed.schema ≡ own). ap (λ (db : Database). db.schema) (same_mid c o s) ∙ s in
-      record {
-        clean = λ c. one.clean (two.clean c);
-        was_open = λ c o. one.was_open (two.clean c) (open_mid c o);
-        same = λ c o s. two.same c o (schema_mid c o s) ∙ same_mid c o s;
-        shows = λ c o s. both result (one.shows (two.clean c) (open_mid c o) s) (subst (λ db. IfOk result (Q db)) (same_mid c o s) (two.shows c o (schema_mid c o s)));
-      }
-    where
-      both : {db : Database} (result : Result B Error) → P db value → IfOk result (Q db) → IfOk result (λ next. P db value × Q db next)
-      both (Ok next) p q = (p, q)
-      both (Err e) p q = tt
-
-pub looks_as : {own : Schema} {A B : Type 0} (P : Database → A → Type 0) (Q : Database → B → Type 0) (old new : State) (value : A) (other : B) → ((db : Database) → P db value → Q db other) → LooksOf own P old new (Ok value) → LooksOf own Q old new (Ok other)
-looks_as P Q old new value other means it = record { clean = it.clean; was_open = it.was_open; same = it.same; shows = λ c o s. means old.committed (it.shows c o s) }
-
-pub looks_fail : {own : Schema} {A B : Type 0} (P : Database → A → Type 0) (Q : Database → B → Type 0) (old new : State) (e other : Error) → LooksOf own P old new (Err e) → LooksOf own Q old new (Err other)
-looks_fail P Q old new e other it = record { clean = it.clean; was_open = it.was_open; same = it.same; shows = λ c o s. tt }

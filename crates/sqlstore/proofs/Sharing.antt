@@ -1,27 +1,21 @@
 -- Databases whose tables have the same rows keep the same.
-use Rattle.std.proofs.Common.{◌≡◌, true, List, [], ◌∷◌, Ordering, refl, sym, ap, ◌∙◌, subst, inl, inr, unsigned_abs, Result, Ok, Err, IfOk}
+use Rattle.std.proofs.Common.{◌≡◌, List, [], ◌∷◌, refl, sym, ap, ◌∙◌, subst, inl, inr, unsigned_abs}
 use Rattle.std.specs.FinMap as map
-use Rattle.std.specs.List.{AllByRecursion}
 use Rattle.std.proofs.lemmas.Bool.{and_parts}
 use Rattle.sqlite.specs.Effect.{Database, IsDatabase}
 use Rattle.sqlite.specs.Order.{Row}
 use Rattle.sqlite.specs.Table.{Table}
 use Rattle.sqlite_rules.specs.Lists.{Has}
-use Rattle.sqlite_rules.proofs.ListLemmas.{all_has}
 use Rattle.store.specs.declared.name.Ticket.{Ticket}
 use Rattle.store.specs.declared.prepared.SiteRows.{SiteRows}
 use Rattle.store.specs.ContentLaws.{same_content}
 use Rattle.store.specs.Orders.{slot_cmp_total, slot_cmp-IsAntisymmetric}
 use Rattle.store.specs.SiteContent.{IsUnchanged, ListsRows}
 use Rattle.terms.specs.declared.leaf.Leaf.{Leaf}
-use Rattle.sqlstore.specs.declared.gathered.Gathered.{Gathered}
 use Rattle.sqlstore.specs.Cells.{text_at, int_at, is_int}
 use Rattle.sqlstore.specs.Content.{decoded, is_called, content_in, is_of, put_of, changes_in, row_as, prepared_in, life_in, kept_of}
-use Rattle.sqlstore.specs.Gathered.{ShowsAll, ShowsTables, AreConsistent, gathered}
-use Rattle.sqlstore.specs.Listed.{HasCells}
-use Rattle.sqlstore.specs.Numbered.{AreNumbered}
 use Rattle.sqlstore.specs.Rows.{AreTables, AreKeyed}
-use Rattle.sqlstore.specs.Sound.{IsStored, IsPart}
+use Rattle.sqlstore.specs.Sound.{IsStored}
 use Rattle.sqlstore.specs.Tables.{site_schema}
 use Rattle.sqlstore.proofs.Bridge.{called_text, int_same}
 use Rattle.sqlstore.proofs.Contents.{look_content, look_changes, look_prepared, is_part_at, is_intent_at}

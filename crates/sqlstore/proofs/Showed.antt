@@ -1,15 +1,14 @@
 -- What is learned of a site's database from all its rows.
-use Rattle.std.proofs.Common.{◌≡◌, ◌&&◌, ℤ, Bool, true, false, cond, List, [], ◌∷◌, Option, Some, None, Result, Ok, Err, IfOk, OnOk, unwrap_or, refl, sym, ap, ◌∙◌, subst}
+use Rattle.std.proofs.Common.{◌≡◌, ◌&&◌, ℤ, Bool, true, false, cond, List, [], ◌∷◌, Option, Some, None, Result, Ok, Err, IfOk, OnOk, unwrap_or, refl, sym, ap, ◌∙◌}
 use Rattle.std.specs.FinMap as map
 use Rattle.std.specs.List.{AllByRecursion}
 use Rattle.sqlite.specs.Effect.{Database, IsDatabase}
 use Rattle.sqlite.specs.Order.{Row}
-use Rattle.sqlite_rules.specs.Lists.{Has}
 use Rattle.sqlite_rules.proofs.ListLemmas.{all_from}
 use Rattle.store.specs.declared.fault.StoreFault.{StoreFault}
 use Rattle.store.specs.declared.prepared.SiteKept.{SiteKept}
 use Rattle.store.specs.declared.prepared.SiteRows.{SiteRows}
-use Rattle.store.specs.Content.{Changes, made_by}
+use Rattle.store.specs.Content.{made_by}
 use Rattle.store.specs.ContentLaws.{get-made_by, same_content}
 use Rattle.store.specs.SiteContent.{Lists, ListsRows}
 use Rattle.store.specs.Slot.{slot_of, slot_cmp}
@@ -19,9 +18,8 @@ use Rattle.sqlstore.specs.declared.gathered.Gathered.{Gathered}
 use Rattle.sqlstore.specs.Cells.{text_at, int_at, is_int}
 use Rattle.sqlstore.specs.Content.{decoded, leaf_named, is_called, content_in, kept_of}
 use Rattle.sqlstore.specs.Gathered.{ShowsAll, ShowsTables, AreConsistent, gathered, parts_in}
-use Rattle.sqlstore.specs.Listed.{HasCells, with_row}
+use Rattle.sqlstore.specs.Listed.{HasCells}
 use Rattle.sqlstore.specs.Numbered.{AreNumbered}
-use Rattle.sqlstore.specs.Rows.{AreTables}
 use Rattle.sqlstore.specs.Sound.{IsStored}
 use Rattle.sqlstore.specs.Tables.{site_schema}
 use Rattle.sqlstore.proofs.Consistent.{intended_of, promised_of, stored_without}

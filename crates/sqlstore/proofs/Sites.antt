@@ -1,5 +1,5 @@
 -- What each call makes of what a site keeps, and that its rows stay as its store leaves them.
-use Rattle.std.proofs.Common.{◌≡◌, ℕ, pos, ◌+◌, ◌≤ℤ◌, true, false, ◌&&◌, cond, List, [], ◌∷◌, drop, Option, Some, None, IsSome, IfSome, unwrap_or, unsigned_abs, refl, sym, ap, ◌∙◌, subst, inl, inr, arith}
+use Rattle.std.proofs.Common.{◌≡◌, ℕ, pos, ◌+◌, ◌≤ℤ◌, true, false, ◌&&◌, cond, List, [], ◌∷◌, drop, Option, Some, None, IsSome, unwrap_or, unsigned_abs, refl, sym, ap, ◌∙◌, subst, inl, inr, arith}
 use Rattle.std.specs.FinMap as map
 use Rattle.std.specs.Ordering.{is_ne, nat_cmp}
 use Rattle.std.specs.Cmp.Lexicographic.{slice_cmp}
@@ -13,23 +13,22 @@ use Rattle.sqlite_rules.specs.Lists.{Has}
 use Rattle.store.specs.declared.name.Ticket.{Ticket}
 use Rattle.store.specs.declared.prepared.Prepared.{Prepared}
 use Rattle.store.specs.declared.slot.Slot.{Slot}
-use Rattle.store.specs.Content.{Changes, IsKeyed, changed}
+use Rattle.store.specs.Content.{Changes, changed}
 use Rattle.store.specs.ContentLaws.{get-changed, same_content}
 use Rattle.store.specs.SiteContent.{IsUnchanged, Applies, Discards, BeginsLife, is_ticket}
 use Rattle.store.specs.Slot.{slot_of}
 use Rattle.terms.specs.declared.leaf.Leaf.{Leaf}
 use Rattle.terms.specs.declared.value.Value.{Value}
-use Rattle.terms.specs.Row.{key_of}
 use Rattle.sqlstore.specs.declared.visit.Visit.{Visit}
 use Rattle.sqlstore.specs.Cells.{text_at, int_at, is_int}
-use Rattle.sqlstore.specs.Content.{decoded, part_or_none, leaf_named, is_called, content_in, is_of, put_of, changes_in, row_as, prepared_in, life_in, kept_of}
+use Rattle.sqlstore.specs.Content.{leaf_named, is_called, content_in, is_of, put_of, changes_in, row_as, prepared_in, life_in, kept_of}
 use Rattle.sqlstore.specs.Rows.{AreTables, Loses}
 use Rattle.sqlstore.specs.Sound.{IsStored, IsPart, SpellsAt}
 use Rattle.sqlstore.specs.Step.{Drops, LivesOn, visit_params, given}
 use Rattle.sqlstore.specs.Tests.{passes, of_visit, puts_of_visit}
 use Rattle.sqlstore.proofs.Applying.{Applied, applied_at, given_is, parts_stay, prepared_stay, intents_stay, state_stays}
-use Rattle.sqlstore.proofs.Bridge.{Stands, puts_of, full_is, int_same}
-use Rattle.sqlstore.proofs.Contents.{LooksUp, at_row, nowhere, look_content, look_changes, look_prepared, is_part_at, is_intent_at}
+use Rattle.sqlstore.proofs.Bridge.{Stands, puts_of, full_is}
+use Rattle.sqlstore.proofs.Contents.{LooksUp, at_row, nowhere, look_changes, look_prepared, is_intent_at}
 use Rattle.sqlstore.proofs.Forgetting.{Forgot, forgotten, ticket_same, prepared_left, prepared_gone, intent_left, intent_gone, of_one}
 use Rattle.sqlstore.proofs.Typed.{intent_typed, column_drop}
 

@@ -34,3 +34,7 @@ DecidesNow decision old new = (rows : List Row) × AreEpochs (old.trees 2) rows 
 -- the incarnation after the one that is kept begins; the version stays
 abbrev pub BeginsNext : ℕ → Database → Database → Type 0
 BeginsNext next old new = (rows : List Row) × AreEpochs (old.trees 2) rows × (life : ℕ) × (first_life rows ≡ pos life) × (next ≡ life + 1) × MovesTo (pos next) (first_version rows) old new
+
+-- the incarnation after the one that is kept begins, whichever that is
+abbrev pub BeginsSome : Database → Database → Type 0
+BeginsSome old new = (next : ℕ) × BeginsNext next old new

@@ -1,11 +1,12 @@
 -- New stores.
-use Rattle.std.specs.Prelude.{◌≡◌, ◌⊎◌, true, [], None, Result, OnOk}
+use Rattle.std.specs.Prelude.{◌≡◌, ◌⊎◌, true, [], None, Result, OnOk, IsTrue}
 use Rattle.std.specs.FinMap as map
 use Rattle.sqlite.specs.Change.{created, next_tree, KeepsRows}
 use Rattle.sqlite.specs.Effect.{Database}
 use Rattle.sqlite.specs.Schema.{Schema}
 use Rattle.sqlite.specs.State.{State, KeepsCommit, Shows}
 use Rattle.sqlite.specs.Table.{Table}
+use Rattle.sqlite.specs.Tree.{Trees}
 use Rattle.sqlite.specs.declared.error.Error.{Error}
 use Rattle.store.specs.declared.name.Ticket.{Ticket}
 use Rattle.store.specs.SiteContent.{SiteContent}
@@ -52,6 +53,14 @@ MakesOthers = Follows (MakesTable two_tables intent_table) (MakesTable three_tab
 
 abbrev pub MakesAll : Database → Database → Type 0
 MakesAll = Follows MakesFirst MakesOthers
+
+-- what a crash leaves is new tables, where there was nothing
+abbrev pub MayFoundOf : (Database → Type 0) → State → Trees → Type 0
+MayFoundOf Fresh old trees = IsTrue old.is_open → old.committed.schema ≡ no_schema → (new : Database) × Fresh new × (trees ≡ new.trees)
+
+-- so where they are a site's
+abbrev pub MayFound : State → Trees → Type 0
+MayFound = MayFoundOf AreFresh
 
 -- what is found of a site is as it was, in a site's tables, or new tables are made, where there was nothing
 abbrev pub Founds : Database → Database → Type 0

@@ -8,6 +8,7 @@ use Rattle.terms.specs.declared.value.Value.{Value as Cell}
 use Rattle.terms.specs.Stored.{part_from}
 use Rattle.sqlstore.specs.Content.{decoded}
 use Rattle.sqlite.specs.State.{State, KeepsCommit, Shows}
+use Rattle.sqlite.specs.Tree.{Trees}
 use Rattle.sqlite.specs.Term.{Term, col}
 use Rattle.sqlite.specs.declared.error.Error.{Error}
 use Rattle.sqlstore.specs.Rows.{AreTables, Finds}
@@ -25,6 +26,14 @@ pub record QueriesOf {A : Type 0} (Known : Database → Type 0) (P : Database �
 -- so of a site's tables
 abbrev pub Queries : {A : Type 0} → (Database → A → Type 0) → State → State → Result A Error → Type 0
 Queries P old new result = QueriesOf AreTables P old new result
+
+-- a crash leaves nothing else, where the tables are known
+abbrev pub LeavesNothingOf : (Database → Type 0) → State → Trees → Type 0
+LeavesNothingOf Known old trees = Known old.now → ⊥
+
+-- so of a site's tables
+abbrev pub LeavesNothing : State → Trees → Type 0
+LeavesNothing = LeavesNothingOf AreTables
 
 -- the leaf and the key of an intent
 abbrev pub slot_terms : List Term
@@ -53,6 +62,9 @@ first_life (row ∷ rows) = id_in (column row 0)
 -- the incarnation after the one that is kept begins
 abbrev pub LivesNext : ℕ → Database → Database → Type 0
 LivesNext next old new = (rows : List Row) × AreLives (old.trees 6) rows × (life : ℕ) × (first_life rows ≡ pos life) × (next ≡ life + 1) × LivesOn (pos next) old new
+
+abbrev pub LivesSome : Database → Database → Type 0
+LivesSome old new = (next : ℕ) × LivesNext next old new
 
 -- a leaf's name and a key as parameters
 abbrev pub key_params : List ℕ → ℤ → Row

@@ -1,10 +1,11 @@
 -- What a statement within a transaction does, and what calls leave.
-use Rattle.std.specs.Prelude.{◌≡◌, ℕ, ℤ, Bool, true, List, [], ◌∷◌, Result, OnOk, string_bytes}
+use Rattle.std.specs.Prelude.{◌≡◌, ℕ, ℤ, Bool, true, List, [], ◌∷◌, Result, OnOk, IsTrue, string_bytes}
 use Rattle.std.specs.List.{list_any}
 use Rattle.sqlite.specs.Effect.{Database}
 use Rattle.sqlite.specs.Order.{Row, column}
 use Rattle.sqlite.specs.Schema.{Schema}
 use Rattle.sqlite.specs.State.{State, Shows, KeepsCommit}
+use Rattle.sqlite.specs.Tree.{Trees}
 use Rattle.sqlite.specs.Values.{bound_value}
 use Rattle.sqlite.specs.declared.error.Error.{Error}
 use Rattle.sqlite.specs.declared.types.Value.TheVariants.{Null, Int, Text, Blob}
@@ -26,6 +27,14 @@ pub record StepsOf {A : Type 0} (own : Schema) (P : Database → Database → Ty
 -- so over a site's tables
 abbrev pub Steps : {A : Type 0} → (Database → Database → Type 0) → State → State → Result A Error → Type 0
 Steps P old new result = StepsOf site_schema P old new result
+
+-- what a crash leaves is what was committed, with this made of it
+abbrev pub MayLeaveOf : Schema → (Database → Database → Type 0) → State → Trees → Type 0
+MayLeaveOf own P old trees = IsTrue old.is_open → AreTablesOf own old.committed → (new : Database) × P old.committed new × (trees ≡ new.trees)
+
+-- so over a site's tables
+abbrev pub MayLeave : (Database → Database → Type 0) → State → Trees → Type 0
+MayLeave = MayLeaveOf site_schema
 
 -- a ticket as parameters
 abbrev pub visit_params : Visit → Row

@@ -5,7 +5,7 @@ ghost use Rattle.sqlite.specs.Held.{state};
 ghost use Rattle.sqlite.specs.State.{HasCleanDisk, Survives};
 ghost use Rattle.sqlstore.specs.Query.{Makes};
 ghost use Rattle.sqlstore.specs.Rows.{AreTables};
-ghost use Rattle.sqlstore.specs.Step.{Steps, Empties, Fills, Drops, Follows};
+ghost use Rattle.sqlstore.specs.Step.{Steps, Empties, Fills, Drops, Follows, MayLeave};
 
 use crate::reading::slots_of;
 use crate::steps::{clear, forget, give, take};
@@ -53,6 +53,7 @@ pub fn discard<S: Alter>(conn: &mut Connection<S>, visit: &Visit) -> Result<(), 
     ensures clean { HasCleanDisk (state S.Store conn.new) → HasCleanDisk (state S.Store conn.old) }
     ensures was_open { HasCleanDisk (state S.Store conn.new) → IsTrue (state S.Store conn.new).is_open → IsTrue (state S.Store conn.old).is_open }
     ensures mode { conn.new.in_transaction ≡ false }
+    ensures crash { Survives (state S.Store conn.old) (state S.Store conn.new) (MayLeave (Drops visit.now) (state S.Store conn.old)) }
 {
     let _settled = conn.is_autocommit();
     let mut tx = conn.transaction();
@@ -78,6 +79,7 @@ pub fn apply<S: Alter>(conn: &mut Connection<S>, visit: &Visit) -> Result<(), Er
     ensures clean { HasCleanDisk (state S.Store conn.new) → HasCleanDisk (state S.Store conn.old) }
     ensures was_open { HasCleanDisk (state S.Store conn.new) → IsTrue (state S.Store conn.new).is_open → IsTrue (state S.Store conn.old).is_open }
     ensures mode { conn.new.in_transaction ≡ false }
+    ensures crash { Survives (state S.Store conn.old) (state S.Store conn.new) (MayLeave (Makes visit.now) (state S.Store conn.old)) }
 {
     let _settled = conn.is_autocommit();
     let slots = slots_of(conn, visit)?;

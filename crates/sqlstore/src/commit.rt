@@ -7,7 +7,7 @@ ghost use Rattle.sqlstore.specs.DeskQuery.{DecidesNow};
 ghost use Rattle.sqlstore.specs.DeskStep.{Decides, Undecides, Votes};
 ghost use Rattle.sqlstore.specs.DeskTables.{desk_schema};
 ghost use Rattle.sqlstore.specs.Rows.{AreTablesOf};
-ghost use Rattle.sqlstore.specs.Step.{StepsOf};
+ghost use Rattle.sqlstore.specs.Step.{StepsOf, MayLeaveOf};
 
 use crate::decision::Decision;
 use crate::epoch::{epochs, kept_life, move_to};
@@ -80,6 +80,7 @@ fn decide_in<S: Alter>(
     ensures clean { HasCleanDisk (state S.Store conn.new) → HasCleanDisk (state S.Store conn.old) }
     ensures was_open { HasCleanDisk (state S.Store conn.new) → IsTrue (state S.Store conn.new).is_open → IsTrue (state S.Store conn.old).is_open }
     ensures mode { conn.new.in_transaction ≡ false }
+    ensures crash { Survives (state S.Store conn.old) (state S.Store conn.new) (MayLeaveOf desk_schema (Decides decision.now.txn decision.now.votes.items life.now decision.now.version) (state S.Store conn.old)) }
 {
     let _settled = conn.is_autocommit();
     let mut tx = conn.transaction();
@@ -95,6 +96,7 @@ pub fn decide<S: Alter>(conn: &mut Connection<S>, decision: &Decision) -> Result
     ensures clean { HasCleanDisk (state S.Store conn.new) → HasCleanDisk (state S.Store conn.old) }
     ensures was_open { HasCleanDisk (state S.Store conn.new) → IsTrue (state S.Store conn.new).is_open → IsTrue (state S.Store conn.old).is_open }
     ensures mode { conn.new.in_transaction ≡ false }
+    ensures crash { Survives (state S.Store conn.old) (state S.Store conn.new) (MayLeaveOf desk_schema (DecidesNow decision.now) (state S.Store conn.old)) }
 {
     let _settled = conn.is_autocommit();
     let rows = epochs(conn)?;
@@ -110,6 +112,7 @@ pub fn undecide<S: Alter>(conn: &mut Connection<S>, txn: &Visit) -> Result<(), E
     ensures clean { HasCleanDisk (state S.Store conn.new) → HasCleanDisk (state S.Store conn.old) }
     ensures was_open { HasCleanDisk (state S.Store conn.new) → IsTrue (state S.Store conn.new).is_open → IsTrue (state S.Store conn.old).is_open }
     ensures mode { conn.new.in_transaction ≡ false }
+    ensures crash { Survives (state S.Store conn.old) (state S.Store conn.new) (MayLeaveOf desk_schema (Undecides txn.now) (state S.Store conn.old)) }
 {
     let _settled = conn.is_autocommit();
     let mut tx = conn.transaction();

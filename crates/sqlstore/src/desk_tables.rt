@@ -5,7 +5,7 @@ ghost use Rattle.sqlite.specs.Held.{state};
 ghost use Rattle.sqlite.specs.State.{HasCleanDisk, Survives};
 ghost use Rattle.sqlstore.specs.DeskFresh.{IsFresh, MakesBoth, first_schema};
 ghost use Rattle.sqlstore.specs.DeskTables.{decided_table, epoch_table};
-ghost use Rattle.sqlstore.specs.Fresh.{Builds, MakesTable};
+ghost use Rattle.sqlstore.specs.Fresh.{Builds, MakesTable, MayFoundOf};
 ghost use Rattle.sqlstore.specs.Tables.{no_schema};
 
 use sqlite::{Alter, Connection, Error, Transaction};
@@ -51,6 +51,7 @@ pub fn create<S: Alter>(conn: &mut Connection<S>) -> Result<(), Error>
     ensures clean { HasCleanDisk (state S.Store conn.new) → HasCleanDisk (state S.Store conn.old) }
     ensures was_open { HasCleanDisk (state S.Store conn.new) → IsTrue (state S.Store conn.new).is_open → IsTrue (state S.Store conn.old).is_open }
     ensures mode { conn.new.in_transaction ≡ false }
+    ensures crash { Survives (state S.Store conn.old) (state S.Store conn.new) (MayFoundOf IsFresh (state S.Store conn.old)) }
 {
     let _settled = conn.is_autocommit();
     let mut tx = conn.transaction();

@@ -4,12 +4,12 @@ ghost use Rattle.std.specs.Prelude.{◌≡◌, IsTrue, IfOk, IfSome, OnOk, OnErr
 ghost use Rattle.std.specs.Int.{w64};
 ghost use Rattle.sqlite.specs.Held.{state};
 ghost use Rattle.sqlite.specs.State.{HasCleanDisk, Survives};
-ghost use Rattle.sqlstore.specs.DeskQuery.{HasDeskSchema, AreEpochs, BeginsNext, first_version};
+ghost use Rattle.sqlstore.specs.DeskQuery.{HasDeskSchema, AreEpochs, BeginsNext, BeginsSome, first_version};
 ghost use Rattle.sqlstore.specs.DeskStep.{EndsEpoch, StartsEpoch, MovesTo};
 ghost use Rattle.sqlstore.specs.DeskTables.{desk_schema};
-ghost use Rattle.sqlstore.specs.Query.{QueriesOf, first_life};
+ghost use Rattle.sqlstore.specs.Query.{LeavesNothingOf, QueriesOf, first_life};
 ghost use Rattle.sqlstore.specs.Rows.{AreTablesOf};
-ghost use Rattle.sqlstore.specs.Step.{StepsOf};
+ghost use Rattle.sqlstore.specs.Step.{StepsOf, MayLeaveOf};
 
 use crate::life::{after, first_life};
 use crate::param::number;
@@ -59,6 +59,7 @@ pub fn epochs<S: Alter>(conn: &mut Connection<S>) -> Result<Vec<Row>, Error>
     ensures does { HasCleanDisk (state S.Store conn.new) → QueriesOf HasDeskSchema (λ db rows. AreEpochs (db.trees 2) rows.items) (state S.Store conn.old) (state S.Store conn.new) result }
     ensures clean { HasCleanDisk (state S.Store conn.new) → HasCleanDisk (state S.Store conn.old) }
     ensures mode { conn.old.in_transaction ≡ false → conn.new.in_transaction ≡ false }
+    ensures survives { Survives (state S.Store conn.old) (state S.Store conn.new) (LeavesNothingOf HasDeskSchema (state S.Store conn.old)) }
 {
     conn.query_all("SELECT life, version FROM state", &[])
 }
@@ -91,6 +92,7 @@ fn keep_epoch<S: Alter>(conn: &mut Connection<S>, life: &i64, version: &i64) -> 
     ensures clean { HasCleanDisk (state S.Store conn.new) → HasCleanDisk (state S.Store conn.old) }
     ensures was_open { HasCleanDisk (state S.Store conn.new) → IsTrue (state S.Store conn.new).is_open → IsTrue (state S.Store conn.old).is_open }
     ensures mode { conn.new.in_transaction ≡ false }
+    ensures crash { Survives (state S.Store conn.old) (state S.Store conn.new) (MayLeaveOf desk_schema (MovesTo life.now version.now) (state S.Store conn.old)) }
 {
     let _settled = conn.is_autocommit();
     let mut tx = conn.transaction();
@@ -107,6 +109,7 @@ pub fn begin_next<S: Alter>(conn: &mut Connection<S>) -> Result<Option<u64>, Err
     ensures clean { HasCleanDisk (state S.Store conn.new) → HasCleanDisk (state S.Store conn.old) }
     ensures was_open { HasCleanDisk (state S.Store conn.new) → IsTrue (state S.Store conn.new).is_open → IsTrue (state S.Store conn.old).is_open }
     ensures mode { conn.new.in_transaction ≡ false }
+    ensures crash { Survives (state S.Store conn.old) (state S.Store conn.new) (MayLeaveOf desk_schema (BeginsSome) (state S.Store conn.old)) }
 {
     let _settled = conn.is_autocommit();
     let rows = epochs(conn)?;

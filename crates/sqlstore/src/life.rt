@@ -2,11 +2,11 @@
 
 ghost use Rattle.std.specs.Prelude.{◌≡◌, ◌+◌, ◌<◌, ◌^◌, pos, IsTrue, IfOk, IfSome, OnOk, OnErr, None, false, FitsSigned};
 ghost use Rattle.std.specs.Int.{w64};
-ghost use Rattle.sqlstore.specs.Query.{first_life, LivesNext};
+ghost use Rattle.sqlstore.specs.Query.{first_life, LivesNext, LivesSome};
 ghost use Rattle.sqlite.specs.Held.{state};
 ghost use Rattle.sqlite.specs.State.{HasCleanDisk, Survives};
 ghost use Rattle.sqlstore.specs.Rows.{AreTables};
-ghost use Rattle.sqlstore.specs.Step.{Steps, LivesOn};
+ghost use Rattle.sqlstore.specs.Step.{Steps, LivesOn, MayLeave};
 
 use crate::reading::lives;
 use crate::steps::{begin_life, end_life};
@@ -31,6 +31,7 @@ pub fn live<S: Alter>(conn: &mut Connection<S>, life: &i64) -> Result<(), Error>
     ensures clean { HasCleanDisk (state S.Store conn.new) → HasCleanDisk (state S.Store conn.old) }
     ensures was_open { HasCleanDisk (state S.Store conn.new) → IsTrue (state S.Store conn.new).is_open → IsTrue (state S.Store conn.old).is_open }
     ensures mode { conn.new.in_transaction ≡ false }
+    ensures crash { Survives (state S.Store conn.old) (state S.Store conn.new) (MayLeave (LivesOn life.now) (state S.Store conn.old)) }
 {
     let _settled = conn.is_autocommit();
     let mut tx = conn.transaction();
@@ -68,6 +69,7 @@ pub fn live_next<S: Alter>(conn: &mut Connection<S>) -> Result<Option<u64>, Erro
     ensures clean { HasCleanDisk (state S.Store conn.new) → HasCleanDisk (state S.Store conn.old) }
     ensures was_open { HasCleanDisk (state S.Store conn.new) → IsTrue (state S.Store conn.new).is_open → IsTrue (state S.Store conn.old).is_open }
     ensures mode { conn.new.in_transaction ≡ false }
+    ensures crash { Survives (state S.Store conn.old) (state S.Store conn.new) (MayLeave LivesSome (state S.Store conn.old)) }
 {
     let _settled = conn.is_autocommit();
     let rows = lives(conn)?;

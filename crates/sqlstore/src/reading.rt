@@ -2,10 +2,10 @@
 
 ghost use Rattle.std.specs.Prelude.{◌≡◌, false, string_bytes, IsTrue, IfOk};
 ghost use Rattle.sqlite.specs.Held.{state};
-ghost use Rattle.sqlite.specs.State.{HasCleanDisk};
+ghost use Rattle.sqlite.specs.State.{HasCleanDisk, Survives};
 ghost use Rattle.sqlstore.specs.Listed.{AreRowsOf};
 ghost use Rattle.sqlstore.specs.Rows.{AreTables};
-ghost use Rattle.sqlstore.specs.Query.{Queries, AreSlots, AreLives, AreBodies};
+ghost use Rattle.sqlstore.specs.Query.{Queries, AreSlots, AreLives, AreBodies, LeavesNothing};
 
 use crate::param::{number, text};
 use crate::visit::Visit;
@@ -16,6 +16,7 @@ pub fn slots_of<S: Alter>(conn: &mut Connection<S>, visit: &Visit) -> Result<Vec
     ensures does { HasCleanDisk (state S.Store conn.new) → Queries (λ db rows. AreSlots visit.now (db.trees 4) rows.items) (state S.Store conn.old) (state S.Store conn.new) result }
     ensures clean { HasCleanDisk (state S.Store conn.new) → HasCleanDisk (state S.Store conn.old) }
     ensures mode { conn.old.in_transaction ≡ false → conn.new.in_transaction ≡ false }
+    ensures survives { Survives (state S.Store conn.old) (state S.Store conn.new) (LeavesNothing (state S.Store conn.old)) }
 {
     conn.query_all(
         "SELECT leaf, id FROM intent WHERE life = ?1 AND visit = ?2",
@@ -28,6 +29,7 @@ pub fn lives<S: Alter>(conn: &mut Connection<S>) -> Result<Vec<Row>, Error>
     ensures does { HasCleanDisk (state S.Store conn.new) → Queries (λ db rows. AreLives (db.trees 6) rows.items) (state S.Store conn.old) (state S.Store conn.new) result }
     ensures clean { HasCleanDisk (state S.Store conn.new) → HasCleanDisk (state S.Store conn.old) }
     ensures mode { conn.old.in_transaction ≡ false → conn.new.in_transaction ≡ false }
+    ensures survives { Survives (state S.Store conn.old) (state S.Store conn.new) (LeavesNothing (state S.Store conn.old)) }
 {
     conn.query_all("SELECT life FROM state", &[])
 }

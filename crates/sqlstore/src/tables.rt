@@ -3,7 +3,7 @@
 ghost use Rattle.std.specs.Prelude.{◌≡◌, IsTrue, OnOk, OnErr, false};
 ghost use Rattle.sqlite.specs.Held.{state};
 ghost use Rattle.sqlite.specs.State.{HasCleanDisk, Survives};
-ghost use Rattle.sqlstore.specs.Fresh.{AreFresh, Builds, MakesAll, MakesFirst, MakesOthers, MakesTable, one_table, two_tables, three_tables};
+ghost use Rattle.sqlstore.specs.Fresh.{AreFresh, Builds, MayFound, MakesAll, MakesFirst, MakesOthers, MakesTable, one_table, two_tables, three_tables};
 ghost use Rattle.sqlstore.specs.Tables.{no_schema, part_table, prepared_table, intent_table, state_table};
 
 use sqlite::{Alter, Connection, Error, Transaction};
@@ -87,6 +87,7 @@ pub fn create<S: Alter>(conn: &mut Connection<S>) -> Result<(), Error>
     ensures clean { HasCleanDisk (state S.Store conn.new) → HasCleanDisk (state S.Store conn.old) }
     ensures was_open { HasCleanDisk (state S.Store conn.new) → IsTrue (state S.Store conn.new).is_open → IsTrue (state S.Store conn.old).is_open }
     ensures mode { conn.new.in_transaction ≡ false }
+    ensures crash { Survives (state S.Store conn.old) (state S.Store conn.new) (MayFound (state S.Store conn.old)) }
 {
     let _settled = conn.is_autocommit();
     let mut tx = conn.transaction();

@@ -10,8 +10,7 @@ loop-at-preserved c =
     let row = c.index-intents-at.result in
     let kept = c.loop-at.invariant in
     let is = one_before intents c.loop-at.at row (omega arith) kept.0 c.index-intents-at.is in
-    let put = c.in_ok-put_own.ensures in
-    (
+    let put = c.in_ok-put_own.ensures in (
       omega arith,
       intent_more c.args.leaves.now c.args.ticket _ _ row c.loop-at.changes _ is kept.1 put.ok,
       all_before (λ r. is_of c.args.ticket r ≡ true → IsIntent c.args.leaves.now r) intents c.loop-at.at row is put.sound kept.2,

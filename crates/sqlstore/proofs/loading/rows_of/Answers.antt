@@ -1,6 +1,4 @@
-use Rattle.std.proofs.Common.{◌≡◌, true, rules, OnOk, Ok, Err, Result}
-use Rattle.sqlstore.specs.Gathered.{gathered}
-use Rattle.sqlstore.specs.Sound.{IsStored}
+use Rattle.std.proofs.Common.{◌≡◌, true, rules}
 use Rattle.sqlstore.proofs.Consistent.{on_ok, parts_of, stored_with, stored_without}
 use Rattle.sqlstore.proofs.Rising.{keyed_by_numbers}
 use Rattle.sqlstore.proofs.loading.rows_of.Goals as goal

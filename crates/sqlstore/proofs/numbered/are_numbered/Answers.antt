@@ -1,4 +1,4 @@
-use Rattle.std.proofs.Common.{◌≡◌, true, rules, sym, subst, inl, inr, arith}
+use Rattle.std.proofs.Common.{◌≡◌, true, rules, subst, inl, inr, arith}
 use Rattle.std.proofs.lemmas.Bool.{cases_lt}
 use Rattle.sqlstore.specs.Numbered.{IsNumberedAt}
 use Rattle.sqlstore.proofs.numbered.are_numbered.Goals as goal

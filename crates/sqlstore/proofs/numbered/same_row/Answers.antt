@@ -1,5 +1,5 @@
-use Rattle.std.proofs.Common.{rules, refl, arith}
-use Rattle.sqlstore.proofs.Rising.{rows_same, plain_at}
+use Rattle.std.proofs.Common.{refl, arith}
+use Rattle.sqlstore.proofs.Rising.{rows_same}
 use Rattle.sqlstore.proofs.numbered.same_row.Goals as goal
 
 pub returns : goal.returns

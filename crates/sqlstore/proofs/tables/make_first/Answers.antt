@@ -1,8 +1,8 @@
 use Rattle.std.proofs.Common.{arith}
 use Rattle.sqlite.specs.Held.{state}
 use Rattle.sqlite.specs.State.{HasCleanDisk}
-use Rattle.sqlstore.specs.Fresh.{MakesTable, MakesFirst, MakesOthers, one_table, two_tables, three_tables}
-use Rattle.sqlstore.specs.Tables.{no_schema, part_table, prepared_table, intent_table, state_table}
+use Rattle.sqlstore.specs.Fresh.{MakesTable, one_table}
+use Rattle.sqlstore.specs.Tables.{no_schema, part_table, prepared_table}
 use Rattle.sqlstore.proofs.Creating.{builds_then}
 use Rattle.sqlstore.proofs.tables.make_first.Goals as goal
 

@@ -1,4 +1,4 @@
-use Rattle.std.proofs.Common.{◌≡◌, IfOk, sym, ap, subst, subst₂}
+use Rattle.std.proofs.Common.{◌≡◌, IfOk, sym, ap, subst₂}
 use Rattle.std.specs.declared.alloc.Global.{Global}
 use Rattle.std.specs.Prelude.{Vec, List}
 use Rattle.sqlite.specs.Effect.{Database}
