@@ -25,7 +25,7 @@ none_unnamed [] named = refl
 none_unnamed ([] ∷ sites) named = absurd named.0.0.is_word
 none_unnamed ((byte ∷ name) ∷ sites) named = none_unnamed sites named.1
 
-placed : (c : Catalogue) (whole : Relations) → IsFormed c → FitsSchema (schemas_of c) whole → IsPlaced (database c) c whole
+pub placed : (c : Catalogue) (whole : Relations) → IsFormed c → FitsSchema (schemas_of c) whole → IsPlaced (database c) c whole
 placed c whole formed fits = record {
   sites = refl;
   fits = fits;

@@ -1,6 +1,10 @@
 -- What proves the contracts of the crate.
 pub mod Seating
 pub mod SiteSteps
+pub mod SitesUp
+pub mod Waking
+pub mod Recovers
+pub mod ComingUp
 pub mod Reasoned
 pub mod SettledSites
 pub mod InForce

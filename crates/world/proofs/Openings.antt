@@ -123,21 +123,21 @@ named_at at name leaf (first ∷ leaves) found here = go (is_name_of name first)
         ∙ ap (λ (b : Bool). b || list_any (λ other. is_eq (leaf_cmp name other)) (names_at at leaves)) (sym (same_test name first) ∙ e)
 
 module _ (db : Database) (c : Catalogue) (whole : Relations) (distinct : AreDistinct db.sites) (places : IsPlaced db c whole) where
-  has_its : (at : ℕ) (name : List ℕ) (seat : Seat) → IsStarted c whole at name seat → slice_get db.sites at ≡ Some name → HasItsLeaves db seat
-  has_its at name seat started there = λ leaf home. go leaf home (leaf_named leaf (catalogue_leaves c)) refl
+  pub has_its : (at : ℕ) (name : List ℕ) (seat : Seat) → seat.name ≡ name → seat.leaves ≡ names_at at (catalogue_leaves c) → slice_get db.sites at ≡ Some name → HasItsLeaves db seat
+  has_its at name seat called own there = λ leaf home. go leaf home (leaf_named leaf (catalogue_leaves c)) refl
     where
       go : (leaf : Leaf) → db.home leaf ≡ seat.name → (found : Option FragmentLeaf) → leaf_named leaf (catalogue_leaves c) ≡ found → list_any (λ other. is_eq (leaf_cmp leaf other)) seat.leaves ≡ true
-      go leaf home None none = clash (found_among db.sites at (db.home leaf) (there ∙ ap Some (sym (home ∙ started.called)))) (places.homeless leaf none)
+      go leaf home None none = clash (found_among db.sites at (db.home leaf) (there ∙ ap Some (sym (home ∙ called)))) (places.homeless leaf none)
       go leaf home (Some of) found =
-          let here : of.site ≡ at = one_place db.sites of.site at (db.home leaf) distinct (places.home leaf of found) (there ∙ ap Some (sym (home ∙ started.called))) in
-          subst (λ (leaves : List Leaf). list_any (λ other. is_eq (leaf_cmp leaf other)) leaves ≡ true) (sym started.leaves) (named_at at leaf of (catalogue_leaves c) found here)
+          let here : of.site ≡ at = one_place db.sites of.site at (db.home leaf) distinct (places.home leaf of found) (there ∙ ap Some (sym (home ∙ called))) in
+          subst (λ (leaves : List Leaf). list_any (λ other. is_eq (leaf_cmp leaf other)) leaves ≡ true) (sym own) (named_at at leaf of (catalogue_leaves c) found here)
 
   all_have_theirs : (place : ℕ) (names : List (List ℕ)) (seats : List Seat) → AllStarted c whole place names seats → ((i : ℕ) (name : List ℕ) → slice_get names i ≡ Some name → slice_get db.sites (place + i) ≡ Some name) → AllByRecursion (HasItsLeaves db) seats
   all_have_theirs place [] [] all there = tt
   all_have_theirs place [] (s ∷ seats) all there = absurd all
   all_have_theirs place (n ∷ names) [] all there = absurd all
   all_have_theirs place (n ∷ names) (s ∷ seats) all there = (
-    has_its place n s all.0 (subst (λ p. slice_get db.sites p ≡ Some n) (let e : place + 0 ≡ place = omega arith in e) (there 0 n refl)),
+    has_its place n s all.0.called all.0.leaves (subst (λ p. slice_get db.sites p ≡ Some n) (let e : place + 0 ≡ place = omega arith in e) (there 0 n refl)),
     all_have_theirs (suc place) names seats all.1 (λ i name got. subst (λ p. slice_get db.sites p ≡ Some name) (let e : place + suc i ≡ suc place + i = omega arith in e) (there (suc i) name got)),
   )
 
@@ -166,7 +166,7 @@ module _ (S : Statements local) (seat : Seat) (rests : IsAtRest seat) where
       go (t ∷ tickets) none = absurd (none t (inl refl))
 
 -- what holds of each site, and of none, holds at each name
-at_each : (S : Statements local) (P : SiteState (with_statements local S) → Type 0) (seats : List Seat) → P (nobody S) → AllByRecursion (λ seat. P (state_at S seat)) seats → (a : List ℕ) → P (states_of S seats a)
+pub at_each : (S : Statements local) (P : SiteState (with_statements local S) → Type 0) (seats : List Seat) → P (nobody S) → AllByRecursion (λ seat. P (state_at S seat)) seats → (a : List ℕ) → P (states_of S seats a)
 at_each S P [] none all a = none
 at_each S P (seat ∷ seats) none all a = go (is_called a seat) (at_each S P seats none all.1 a)
   where
@@ -176,7 +176,7 @@ at_each S P (seat ∷ seats) none all a = go (is_called a seat) (at_each S P sea
 
 -- ---- the whole world, where all sites are at rest
 -- map: something of each site, from something of each
-all_so : {P Q : Seat → Type 0} (seats : List Seat) → ((seat : Seat) → P seat → Q seat) → AllByRecursion P seats → AllByRecursion Q seats
+pub all_so : {P Q : Seat → Type 0} (seats : List Seat) → ((seat : Seat) → P seat → Q seat) → AllByRecursion P seats → AllByRecursion Q seats
 all_so [] so all = tt
 all_so (seat ∷ seats) so all = (so seat all.0, all_so seats so all.1)
 

@@ -8,6 +8,7 @@ pub mod Contents
 pub mod Frame
 pub mod Filling
 pub mod Start
+pub mod Recovery
 pub mod Placed
 pub mod Posted
 pub mod Replies

@@ -10,12 +10,14 @@ ghost use Rattle.protocol.specs.Fitting.{StaysFitting};
 ghost use Rattle.protocol.specs.Language.{IsLawful};
 ghost use Rattle.protocol.specs.OneClient.{OneAtATime};
 ghost use Rattle.protocol.specs.Parts.{PartThree, PartsOneAndTwo};
+ghost use Rattle.protocol.specs.Recovery.{RecoveryLaw};
 ghost use Rattle.protocol.specs.Rounds.{RoundByLetter};
 ghost use Rattle.protocol.specs.Serial.{SerialLaw};
 ghost use Rattle.desk.specs.Database.{language};
 ghost use Rattle.desk.specs.CatalogueDatabase.{IsBase, database, fits};
 ghost use Rattle.world.specs.Commands.{CommandsFollow, MovesFollow};
 ghost use Rattle.world.specs.Executed.{ObeysUnlessRefused};
+ghost use Rattle.world.specs.Recovery.{ComingUpLaw};
 ghost use Rattle.world.specs.Runs.{RunsAreSerial, RunsHold};
 ghost use Rattle.world.specs.Client.{ServedIsSerial};
 ghost use Rattle.world.specs.Settling.{GrowsQuiet};
@@ -221,3 +223,19 @@ pub fn commands_follow(catalog: &Catalog)
 pub fn lists_stop_for_memory()
     ensures { (before after : MachinesNow PlainDesk PlainSite) → StopsForMemory before after }
 {}
+
+/// Machines that come up over what the stores of others kept go on from what those did: they are those of the same
+/// run after restarts, in which whoever was undecided is aborted.
+pub fn machines_come_up(catalog: &Catalog)
+    ensures { ComingUpLaw (database (catalogue_of catalog.now)) }
+{
+    catalog.relations();
+    one_client_is_a_run(catalog);
+}
+
+/// A database that comes up again: each prepared row comes to its end, and then all is quiet.
+pub fn restarts_recover(catalog: &Catalog)
+    ensures { RecoveryLaw (language (database (catalogue_of catalog.now))) }
+{
+    language_is_lawful(catalog);
+}

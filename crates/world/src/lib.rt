@@ -18,6 +18,7 @@ mod log;
 pub mod machines;
 mod mailbox;
 pub mod rebuild;
+mod recovery;
 pub mod sites;
 pub mod solo;
 mod start;

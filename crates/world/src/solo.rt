@@ -1,6 +1,6 @@
 //! A database for one client at a time.
 
-ghost use Rattle.std.specs.Prelude.{◌≡◌, ◌≢◌, ◌⊎◌, ℕ, true, List, [], None, Some, Err, IfErr, IfOk, OnErr, OnOk, ◌++◌, is_some, if◌then◌else◌};
+ghost use Rattle.std.specs.Prelude.{◌≡◌, ◌≢◌, ◌⊎◌, ℕ, true, List, [], None, Some, Err, IfErr, IfOk, OnErr, OnOk, ◌++◌, is_some, if◌then◌else◌, length, map};
 ghost use Rattle.std.specs.Option.{option_map};
 ghost use Rattle.meaning.specs.Whole.{FitsSchema, Relations};
 ghost use Rattle.catalog.specs.FragmentLeaf.{schemas_of};
@@ -29,6 +29,7 @@ ghost use Rattle.world.specs.Executed.{Stands};
 ghost use Rattle.world.specs.Client.{IsServed, still_open};
 ghost use Rattle.world.specs.Settled.{AreThoseOf, after_committed, parts_kept, rows_shown};
 ghost use Rattle.world.specs.Stopping.{StopsFor, is_stop, stopped_by};
+ghost use Rattle.world.specs.Recovery.{GoesOnOver, StopsOpening};
 ghost use Rattle.world.specs.Replies.{Tells};
 ghost use Rattle.world.specs.declared.event.Entry.{Entry as EntryNow};
 ghost use Rattle.world.specs.declared.transaction.Stop.{Stop as StopNow};
@@ -39,11 +40,12 @@ use crate::batch::run_all;
 use crate::client::{begin, commit, roll_back, state};
 use crate::fault::Fault;
 use crate::laws::{
-    commands_follow, database_is_of_catalogue, grows_quiet, moves_follow, obeyed_unless_refused,
-    one_client_is_a_run, served_is_serial,
+    commands_follow, database_is_of_catalogue, grows_quiet, machines_come_up, moves_follow,
+    obeyed_unless_refused, one_client_is_a_run, restarts_recover, served_is_serial,
 };
 use crate::machines::Machines;
 use crate::rebuild::{kept_parts, rebuilt};
+use crate::recovery::{machines_up, recover};
 use crate::start::start;
 use crate::transaction::{Outcome, Transaction, Unfinished};
 use catalog::catalogue::Catalog;
@@ -144,6 +146,37 @@ fn still_open(txn: Txn, heard: &[Notice]) -> Option<Txn>
     ensures { result ≡ still_open (Some txn) heard.now }
 {
     if tells_end(heard) { None } else { Some(txn) }
+}
+
+impl<D: DeskStore + Drop, S: SiteStore + Drop> Solo<D, S> {
+    /// Opens a database over these stores: those of its sites, in the catalogue's order, and the coordinator's. Over
+    /// the stores of an earlier run, wherever that was stopped, it goes on: what was committed is there, what was
+    /// prepared has come to its end, and nothing else has been done. On a fault the stores are let go.
+    pub fn open_stores(
+        alloc: Global,
+        catalog: &Catalog,
+        sites: Vec<S>,
+        desk: D,
+    ) -> Result<Solo<D, S>, Fault>
+        requires { length sites.items ≡ length catalog.now.0 }
+        ensures goes_on { IfOk result (λ solo. OfStores D.is_clean S.is_clean solo.machines → GoesOnOver (catalogue_of catalog.now) (D.kept desk) (map S.kept sites.items) (counted D.kept S.kept D.refused S.refused solo.machines)) }
+        ensures sound { IfOk result (λ solo. OfStores D.is_clean S.is_clean solo.machines → OfStores D.is_sound S.is_sound solo.machines) }
+        ensures catalog { IfOk result (λ solo. catalogue_of solo.machines.desk.catalog ≡ catalogue_of catalog.now) }
+        ensures idle { IfOk result (λ solo. (solo.current ≡ None) × (solo.stopped ≡ None)) }
+        ensures own { IfErr result StopsOpening }
+    {
+        database_is_of_catalogue(catalog);
+        one_client_is_a_run(catalog);
+        machines_come_up(catalog);
+        restarts_recover(catalog);
+        let mut machines = machines_up(alloc, catalog, sites, desk)?;
+        recover(&mut machines)?;
+        Ok(Solo {
+            machines,
+            current: None,
+            stopped: None,
+        })
+    }
 }
 
 impl<D: DeskStore, S: SiteStore> Solo<D, S> {

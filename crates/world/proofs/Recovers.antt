@@ -1,0 +1,293 @@
+-- Machines that have come up grow quiet: the coordinator sends its commits again, each site asks about its prepared rows, and all letters come.
+use Rattle.std.proofs.Common.{◌≡◌, refl, sym, ap, ◌∙◌, subst, ℕ, ◌||◌, nat_eq, Bool, true, false, List, [], ◌∷◌, ◌++◌, map, if◌then◌else◌, Option, Some, None, ◌⊎◌, inl, inr, ⊎_elim, flat_map, append-nil, append_assoc}
+use Rattle.std.proofs.lemmas.List.{map-append}
+use Rattle.std.specs.Cmp.Lexicographic.{pointwise}
+use Rattle.std.specs.FinMap as keyed
+use Rattle.std.specs.List.{AllByRecursion, list_any, cons_option, filter_map}
+use Rattle.std.specs.Option.{option_map}
+use Rattle.meaning.specs.Whole.{Relations}
+use Rattle.reader.specs.Printable.{AreDistinct}
+use Rattle.store.specs.declared.commit.Voter.{Voter}
+use Rattle.store.specs.declared.letter.Letter as letters
+use Rattle.store.specs.declared.name.Ticket.{Ticket}
+use Rattle.store.specs.declared.prepared.Prepared.{Prepared as Kept_row}
+use Rattle.store.specs.DeskContent.{Voters}
+use Rattle.protocol.specs.Client.{IsQuiet, IsReached, ReachedLaw}
+use Rattle.protocol.specs.Delivery.{all_come}
+use Rattle.protocol.specs.Desk.{Deed, Txn, Unknown, Known, Row, commits, desk_restarted, is_desk_within, is_undecided, txn_restarted}
+use Rattle.protocol.specs.Home.{AreHomed, IsAtHome}
+use Rattle.protocol.specs.Language.{Lang, Name}
+use Rattle.protocol.specs.Letter.{Body, Letter, Open, Fetch, Write, Prepare, Commit, Abort, Rows, Refused, Voted, Ack, Inquire}
+use Rattle.protocol.specs.Letter as said
+use Rattle.protocol.specs.Letters.{letter_of, name_of, ticket_of, txn_name}
+use Rattle.protocol.specs.Local.{local}
+use Rattle.protocol.specs.NothingCommits.{AreInVain, is_of_commit}
+use Rattle.protocol.specs.Parts.{In}
+use Rattle.protocol.specs.Recovery.{AtRest, EndsRow, OfRecovery, Recovering, RecoveryLaw, all_inquire}
+use Rattle.protocol.specs.Serial.{AllExplained, committed}
+use Rattle.protocol.specs.Site.{Status, Dead, SiteState, inquiries, is_active, is_dead}
+use Rattle.protocol.specs.Site as site_status
+use Rattle.protocol.specs.Statements.{Statements, letter_with, status_with, with_statements}
+use Rattle.protocol.specs.World.{World, desk_lives, desk_restarts, inquires, is_site}
+use Rattle.protocol.proofs.Basics.{Every, by_test, clash, either_if, every_append, every_flat, or_left, or_right, or_none_left, or_none_right}
+use Rattle.protocol.proofs.NothingCommits.{committed_still}
+use Rattle.protocol.proofs.OtherStatements.{inquiries_same}
+use Rattle.site.specs.Recovery.{Begins, resting}
+use Rattle.site.specs.State.{state_of, stands}
+use Rattle.site.proofs.Listed.{listed_alive}
+use Rattle.desk.specs.declared.reply.Notice.{Notice}
+use Rattle.desk.specs.declared.transaction.TxnState.{TxnState}
+use Rattle.desk.specs.declared.transaction.TxnState.TheVariants as standing
+use Rattle.desk.specs.Acknowledge.{AreInOrder, listed, voter_with}
+use Rattle.desk.specs.Database.{Database, language, sent, statements}
+use Rattle.desk.specs.Recovery as desk_recovery
+use Rattle.desk.specs.State.{desk_of, txn_at}
+use Rattle.desk.specs.Transaction.{txn_of, voter_of}
+use Rattle.world.specs.Client.{IsServed}
+use Rattle.world.specs.Machines.{AreFit, Leads, Machines, world_of}
+use Rattle.world.specs.Mailbox.{Goes, Scene, settled}
+use Rattle.world.specs.Recovery.{AreUpAgain, GoesOnFrom, lost_by}
+use Rattle.world.specs.Sites.{IsSeated, Seat, is_called, nobody, state_at, states_of}
+use Rattle.world.proofs.Openings.{at_each}
+use Rattle.world.proofs.Reaching.{all_reached}
+use Rattle.world.proofs.Running.{all_both}
+use Rattle.world.proofs.Seating.{name_is, name_self, state_there}
+use Rattle.world.proofs.Smoothly.{fit_within}
+use Rattle.world.proofs.Waking.{NotAmong, OneEach, one_each, seat_behind}
+
+-- ---- what a site is as it comes up
+module _ (S : Statements local) where
+  -- no visit stands, and what stands is listed
+  pub record Rests (s : SiteState (with_statements local S)) : Type 0 where
+    pub unvisited : (k : Name) → is_active (s.status k) ≡ false
+    pub listed : (k : Name) → is_dead (s.status k) ≡ false → In k s.known
+
+  in_names : (ticket : Ticket) (tickets : List Ticket) → In ticket tickets → In (name_of ticket) (map name_of tickets)
+  in_names ticket [] here = absurd here
+  in_names ticket (t ∷ tickets) (inl e) = inl (ap name_of e)
+  in_names ticket (t ∷ tickets) (inr below) = inr (in_names ticket tickets below)
+
+  rest_unvisited : (r : Option Kept_row) → is_active (status_with S (resting r)) ≡ false
+  rest_unvisited None = refl
+  rest_unvisited (Some row) = refl
+
+  dead_same : (st : Status local) → is_dead (status_with S st) ≡ is_dead st
+  dead_same Dead = refl
+  dead_same (site_status.Active v) = refl
+  dead_same (site_status.Prepared t i) = refl
+
+  pub seat_rests : (seat : Seat) → Begins seat.kept seat.table → Rests (state_at S seat)
+  seat_rests seat begins = record {
+    unvisited = λ k. ap (λ (st : Status local). is_active (status_with S st)) (ap (λ (s : SiteState local). s.status k) begins.state) ∙ rest_unvisited (seat.kept.prepared (ticket_of k));
+    listed = λ k live. in_names (ticket_of k) seat.table.tickets
+        (listed_alive seat.kept seat.table begins.fits (ticket_of k) (sym (dead_same (stands seat.table (ticket_of k) (seat.kept.prepared (ticket_of k)))) ∙ live));
+  }
+
+  all_rest : (seats : List Seat) → AllByRecursion (λ seat. Begins seat.kept seat.table) seats → AllByRecursion (λ seat. Rests (state_at S seat)) seats
+  all_rest [] all = tt
+  all_rest (seat ∷ seats) all = (seat_rests seat all.0, all_rest seats all.1)
+
+  pub sites_rest : (seats : List Seat) → AllByRecursion (λ seat. Begins seat.kept seat.table) seats → (a : List ℕ) → Rests (states_of S seats a)
+  sites_rest seats all = at_each S Rests seats (record { unvisited = λ k. refl; listed = λ k live. (let e : true ≡ false = live in cc) }) (all_rest seats all)
+
+  -- nobody is at a place that is no site
+  pub none_there : (seats : List Seat) (a : List ℕ) → list_any (λ b. pointwise nat_eq b a) (map (λ (s : Seat). s.name) seats) ≡ false → states_of S seats a ≡ nobody S
+  none_there [] a none = refl
+  none_there (seat ∷ seats) a none =
+      let apart : pointwise nat_eq seat.name a ≡ false = or_none_left (pointwise nat_eq seat.name a) (list_any (λ b. pointwise nat_eq b a) (map (λ (s : Seat). s.name) seats)) none in
+      let later = none_there seats a (or_none_right (pointwise nat_eq seat.name a) (list_any (λ b. pointwise nat_eq b a) (map (λ (s : Seat). s.name) seats)) none) in
+      ap (λ (b : Bool). if b then state_at S seat else states_of S seats a) (not_called (is_called a seat) refl apart) ∙ later
+    where
+      not_called : (b : Bool) → is_called a seat ≡ b → pointwise nat_eq seat.name a ≡ false → is_called a seat ≡ false
+      not_called false e apart = e
+      not_called true e apart = clash (subst (λ n. pointwise nat_eq n a ≡ true) (name_is a seat.name e) (name_self a)) apart
+
+-- ---- the coordinator
+module _ (db : Database) where
+  abbrev L : Lang
+  L = language db
+
+  rest_decided : (r : Option Voters) → is_undecided (txn_of db (desk_recovery.resting db.sites r)) ≡ false
+  rest_decided None = refl
+  rest_decided (Some voters) = refl
+
+  restarted_decided : (t : Name) (x : Txn L) → is_undecided (txn_restarted t x).txn ≡ false
+  restarted_decided t Unknown = refl
+  restarted_decided t (Known u) = refl
+  restarted_decided t (Row voters acked) = refl
+
+  restarted_vain : (t : Name) (x : Txn L) → AreInVain (txn_restarted t x).deeds
+  restarted_vain t Unknown = tt
+  restarted_vain t (Known u) = (refl, tt)
+  restarted_vain t (Row voters acked) = tt
+
+  -- ---- its letters
+  abbrev IsThere : Voter → Type 0
+  IsThere voter = is_site L voter.site db.sites ≡ true
+
+  among_more : (site : List ℕ) (sites : List (List ℕ)) (voters : List Voter) → Every (λ (v : Voter). is_site L v.site sites ≡ true) voters → Every (λ (v : Voter). is_site L v.site (site ∷ sites) ≡ true) voters
+  among_more site sites [] all = tt
+  among_more site sites (v ∷ voters) all = (or_right (pointwise nat_eq site v.site) (is_site L v.site sites) all.0, among_more site sites voters all.1)
+
+  listed_there : (sites : List (List ℕ)) (voters : Voters) → Every (λ (v : Voter). is_site L v.site sites ≡ true) (listed sites voters)
+  listed_there [] voters = tt
+  listed_there (site ∷ sites) voters = go (keyed.get voters site) (among_more site sites (listed sites voters) (listed_there sites voters))
+    where
+      go : (o : Option Ticket) → Every (λ (v : Voter). is_site L v.site (site ∷ sites) ≡ true) (listed sites voters) → Every (λ (v : Voter). is_site L v.site (site ∷ sites) ≡ true) (cons_option (option_map (voter_with site) o) (listed sites voters))
+      go None rest = rest
+      go (Some ticket) rest = (or_left (pointwise nat_eq site site) (is_site L site sites) (name_self site), rest)
+
+  commits_end : (t : Name) (voters : List Voter) → Every IsThere voters → Every OfRecovery (commits {L = L} t (map voter_of voters))
+  commits_end t [] all = tt
+  commits_end t (v ∷ voters) all = ((tt, all.0), commits_end t voters all.1)
+
+  again_end : (t : Name) (r : Option Voters) → Every OfRecovery (txn_restarted t (txn_of db (desk_recovery.resting db.sites r))).letters
+  again_end t None = tt
+  again_end t (Some voters) = commits_end t (listed db.sites voters) (listed_there db.sites voters)
+
+  -- ---- a letter of recovery is no operation
+  homed : (a : List ℕ) (c : Body L) → EndsRow c → IsAtHome a c
+  homed a (Commit k) of = tt
+  homed a (Abort k) of = tt
+  homed a (Ack k) of = tt
+  homed a (Inquire k) of = tt
+  homed a Open of = absurd of
+  homed a (Fetch k n g q) of = absurd of
+  homed a (Write k n g x) of = absurd of
+  homed a (Prepare k n) of = absurd of
+  homed a (said.Ticket k) of = absurd of
+  homed a (Rows k n rows) of = absurd of
+  homed a (Refused k reason) of = absurd of
+  homed a (Voted k x) of = absurd of
+
+  all_homed : (letters : List (Letter L)) → Every OfRecovery letters → AreHomed letters
+  all_homed [] all = tt
+  all_homed (l ∷ letters) all = (homed l.site l.body all.0.0, all_homed letters all.1)
+
+  -- ---- machines that have come up
+  module _ (machines : Machines) (fit : AreFit db machines) (up : AreUpAgain db machines) (past : List (Deed L)) where
+    abbrev w : World L
+    w = world_of db machines [] past
+
+    rests_at : (a : List ℕ) → Rests (statements db) (w.sites a)
+    rests_at = sites_rest (statements db) machines.seats up.sites
+
+    stands_decided : (t : Name) → is_undecided (w.desk.txn t) ≡ false
+    stands_decided t = ap (λ o. is_undecided (txn_of db o)) (up.desk.stands (txn_at t)) ∙ rest_decided (machines.desk.commits (txn_at t))
+
+    nowhere_else : (a : List ℕ) → is_site L a db.sites ≡ false → (k : Name) → is_dead ((w.sites a).status k) ≡ true
+    nowhere_else a none k = ap (λ (s : SiteState L). is_dead (s.status k)) (none_there (statements db) machines.seats a (subst (λ (names : List (List ℕ)). list_any (λ b. pointwise nat_eq b a) names ≡ false) (sym fit.names) none))
+
+    restart_rests : AtRest (desk_restarts w)
+    restart_rests = either_if AtRest (is_desk_within (desk_restarted w.desk)) (desk_lives w) w
+        (λ within. record {
+          decided = λ t. restarted_decided t (w.desk.txn t);
+          unvisited = λ a. (rests_at a).unvisited;
+          listed = λ a. (rests_at a).listed;
+          nowhere = nowhere_else;
+          only = every_flat OfRecovery (λ t. (txn_restarted t (w.desk.txn t)).letters) w.desk.known (λ t. subst (λ o. Every OfRecovery (txn_restarted t (txn_of db o)).letters) (sym (up.desk.stands (txn_at t))) (again_end t (machines.desk.commits (txn_at t))));
+        })
+        (λ full. record { decided = stands_decided; unvisited = λ a. (rests_at a).unvisited; listed = λ a. (rests_at a).listed; nowhere = nowhere_else; only = tt })
+
+    -- nothing is committed by it
+    restart_vain : (after : Machines) (out : List letters.Letter) (notices : List Notice) (leads : Leads db desk_restarts machines after out notices) → committed (past ++ leads.deeds) ≡ committed past
+    restart_vain after out notices leads =
+        sym (ap (λ (v : World L). committed v.past) (leads.is [] past))
+        ∙ either_if (λ (v : World L). committed v.past ≡ committed past) (is_desk_within (desk_restarted w.desk)) (desk_lives w) w
+        (λ within. committed_still past (flat_map (λ t. (txn_restarted t (w.desk.txn t)).deeds) w.desk.known) (every_flat (λ d. is_of_commit d ≡ false) (λ t. (txn_restarted t (w.desk.txn t)).deeds) w.desk.known (λ t. restarted_vain t (w.desk.txn t))))
+        (λ full. refl)
+
+  -- ---- each site asks
+  -- each site stands under its own name
+  own_states : (done rest : List Seat) → OneEach done rest → AllByRecursion (λ seat. states_of (statements db) (done ++ rest) seat.name ≡ state_at (statements db) seat) rest
+  own_states done [] each = tt
+  own_states done (seat ∷ rest) each = (
+    state_there (statements db) seat.name (done ++ seat ∷ rest) seat (seat_behind seat.name done seat rest each.0 (name_self seat.name)),
+    subst (λ (seats : List Seat). AllByRecursion (λ s. states_of (statements db) seats s.name ≡ state_at (statements db) s) rest) (append_assoc done (seat ∷ []) rest) (own_states (done ++ seat ∷ []) rest each.1),
+  )
+
+  asks_of : Seat → List (Letter L)
+  asks_of seat = inquiries seat.name (state_at (statements db) seat)
+
+  module _ (machines : Machines) (past : List (Deed L)) where
+    asked_is : (rest : List Seat) (waiting : List (Letter L)) → AllByRecursion (λ seat. states_of (statements db) machines.seats seat.name ≡ state_at (statements db) seat) rest →
+        all_inquire (map (λ (s : Seat). s.name) rest) (world_of db machines waiting past) ≡ world_of db machines (waiting ++ flat_map (λ seat. inquiries seat.name (state_at (statements db) seat)) rest) past
+    asked_is [] waiting own = λ i. world_of db machines (sym (append-nil waiting) i) past
+    asked_is (seat ∷ rest) waiting own =
+        let here = inquiries seat.name (state_at (statements db) seat) in
+        ap (λ (s : SiteState L). all_inquire (map (λ (s : Seat). s.name) rest) (world_of db machines (waiting ++ inquiries seat.name s) past)) own.0
+        ∙ asked_is rest (waiting ++ here) own.1
+        ∙ ap (λ ls. world_of db machines ls past) (append_assoc waiting here (flat_map (λ seat. inquiries seat.name (state_at (statements db) seat)) rest))
+
+    module _ (law : ReachedLaw L) (whole : Relations) where
+      asked_reached : (sites : List (List ℕ)) (v : World L) → ((a : List ℕ) → is_site L a sites ≡ true → is_site L a db.sites ≡ true) → IsReached whole v → IsReached whole (all_inquire sites v)
+      asked_reached [] v among reached = reached
+      asked_reached (a ∷ sites) v among reached =
+          asked_reached sites (inquires v a) (λ b below. among b (or_right (pointwise nat_eq a b) (is_site L b sites) below))
+          (law.inquired whole v a reached (among a (or_left (pointwise nat_eq a a) (is_site L a sites) (name_self a))))
+
+  -- the inquiries of the code are those of the protocol
+  seats_ask : (seats : List Seat) → map (letter_with (statements db)) (flat_map (λ seat. inquiries seat.name (state_of seat.kept seat.table)) seats) ≡ flat_map (λ seat. inquiries seat.name (state_at (statements db) seat)) seats
+  seats_ask [] = refl
+  seats_ask (seat ∷ seats) =
+      map-append (letter_with (statements db)) (inquiries seat.name (state_of seat.kept seat.table)) (flat_map (λ seat. inquiries seat.name (state_of seat.kept seat.table)) seats)
+      ∙ (λ i. inquiries_same (statements db) seat.name (state_of seat.kept seat.table) i ++ seats_ask seats i)
+
+  sent_is : (ls : List letters.Letter) → map (sent db) ls ≡ map (letter_with (statements db)) (map letter_of ls)
+  sent_is [] = refl
+  sent_is (l ∷ ls) = ap (λ rest. sent db l ∷ rest) (sent_is ls)
+
+  sent_more : (seats : List Seat) (before after : List letters.Letter) → map letter_of after ≡ map letter_of before ++ flat_map (λ seat. inquiries seat.name (state_of seat.kept seat.table)) seats →
+      map (sent db) after ≡ map (sent db) before ++ flat_map (λ seat. inquiries seat.name (state_at (statements db) seat)) seats
+  sent_more seats before after is =
+      sent_is after ∙ ap (map (letter_with (statements db))) is ∙ map-append (letter_with (statements db)) (map letter_of before) (flat_map (λ seat. inquiries seat.name (state_of seat.kept seat.table)) seats)
+      ∙ (λ i. sym (sent_is before) i ++ seats_ask seats i)
+
+  -- ---- all together
+  pub recovers : (law : ReachedLaw L) (recovery : RecoveryLaw L) (distinct : AreDistinct db.sites) (whole : Relations) (past : List (Deed L)) (before mid after : Machines) (commits asked : List letters.Letter) (notices heard : List Notice) (scene : Scene) →
+      IsServed db whole before past → AreUpAgain db before → Leads db desk_restarts before mid commits notices →
+      map letter_of asked ≡ map letter_of commits ++ flat_map (λ seat. inquiries seat.name (state_of seat.kept seat.table)) mid.seats →
+      scene.waiting ≡ asked → (same : (ls : List (Letter L)) (ds : List (Deed L)) → world_of db scene.machines ls ds ≡ world_of db mid ls ds) → AreFit db scene.machines →
+      Goes db (λ w. w) scene (settled after heard) → GoesOnFrom db whole past after
+  recovers law recovery distinct whole past before mid after commits asked notices heard scene served up leads more waits same fit goes =
+      let now = past ++ leads.deeds in
+      let w1 = world_of db before [] past in
+      let w2 = world_of db mid (map (sent db) commits) now in
+      let w3 = world_of db mid (map (sent db) asked) now in
+      let rest : AtRest w2 = subst AtRest (leads.is [] past) (restart_rests before served.fit up past) in
+      let reached2 : IsReached whole w2 = subst (IsReached whole) (leads.is [] past) (law.desk_restarted whole w1 served.reached) in
+      let each : OneEach [] mid.seats = one_each db law whole db.sites distinct [] mid.seats leads.fit.names (λ name here. tt) in
+      let all_ask : all_inquire db.sites w2 ≡ w3 =
+      subst (λ (names : List (List ℕ)). all_inquire names w2 ≡ w3) leads.fit.names
+      (asked_is mid now mid.seats (map (sent db) commits) (own_states [] mid.seats each) ∙ ap (λ ls. world_of db mid ls now) (sym (sent_more mid.seats commits asked more))) in
+      let recovering3 : Recovering now w3 = subst (Recovering now) all_ask (recovery.asked w2 rest) in
+      let reached3 : IsReached whole w3 = subst (IsReached whole) all_ask (asked_reached mid now law whole db.sites w2 (λ a here. here) reached2) in
+      let begins : world_of db scene.machines (map (sent db) scene.waiting) now ≡ w3 = ap (λ ls. world_of db scene.machines (map (sent db) ls) now) waits ∙ same (map (sent db) asked) now in
+      let start = world_of db scene.machines (map (sent db) scene.waiting) now in
+      let recovering = subst (Recovering now) (sym begins) recovering3 in
+      let reached = subst (IsReached whole) (sym begins) reached3 in
+      let within = fit_within db scene.machines (map (sent db) scene.waiting) now fit in
+      let founded = goes.founded (all_homed (map (sent db) scene.waiting) recovering.only) now in
+      let ended : Recovering now (world_of db after [] (now ++ goes.deeds)) = subst (Recovering now) (goes.is now) (recovery.come now goes.comings start within founded recovering) in
+      let quiet = recovery.quiet now (world_of db after [] (now ++ goes.deeds)) ended refl in
+      let all : AllExplained (now ++ goes.deeds) = all_both Rattle.protocol.specs.Serial.Explained now goes.deeds reached.explained goes.explained in
+      let all_here : AllExplained (all_come goes.comings start).past = subst (λ (v : World L). AllExplained v.past) (sym (goes.is now)) all in
+      let reached_last : IsReached whole (world_of db after [] (now ++ goes.deeds)) = subst (IsReached whole) (goes.is now) (all_reached law whole goes.comings start reached all_here) in
+      record {
+        more = leads.deeds;
+        served = record { reached = subst (λ ds. IsReached whole (world_of db after [] ds)) quiet.1 reached_last; fit = goes.fit };
+        quiet = subst (λ ds. IsQuiet (world_of db after [] ds)) quiet.1 quiet.0;
+        uncommitted = restart_vain before served.fit up past mid commits notices leads;
+      }
+
+  -- what was lost as machines came up commits nobody
+  pub goes_further : (whole : Relations) (past : List (Deed L)) (old machines : Machines) → GoesOnFrom db whole (past ++ lost_by db old) machines → GoesOnFrom db whole past machines
+  goes_further whole past old machines goes =
+      let more = lost_by db old ++ goes.more in
+      let same = append_assoc past (lost_by db old) goes.more in
+      record {
+        more = more;
+        served = subst (IsServed db whole machines) same goes.served;
+        quiet = subst (λ ds. IsQuiet (world_of db machines [] ds)) same goes.quiet;
+        uncommitted = ap committed (sym same) ∙ goes.uncommitted ∙ committed_still past (lost_by db old) (every_flat (λ d. is_of_commit d ≡ false) (λ t. (txn_restarted t ((desk_of db old.table).txn t)).deeds) (desk_of db old.table).known (λ t. restarted_vain t ((desk_of db old.table).txn t)));
+      }

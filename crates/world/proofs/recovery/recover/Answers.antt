@@ -1,0 +1,47 @@
+-- Why `recover` meets its contract.
+use Rattle.std.proofs.Common.{◌++◌, true, sym, ap, ◌∙◌, subst, map, refl}
+use Rattle.std.specs.List.{AllByRecursion, flat_map}
+use Rattle.catalog.specs.Catalogue.{Catalogue}
+use Rattle.catalog.specs.Relation.{catalogue_of}
+use Rattle.reader.specs.Printable.{AreDistinct}
+use Rattle.protocol.specs.Letters.{letter_of}
+use Rattle.protocol.specs.Site.{inquiries}
+use Rattle.protocol.specs.World.{desk_restarts}
+use Rattle.store.specs.declared.letter.Letter.{Letter}
+use Rattle.site.specs.State.{state_of}
+use Rattle.world.specs.Contents.{counted, held}
+use Rattle.world.specs.Counted.{counts}
+use Rattle.world.specs.Seated.{seats_in}
+use Rattle.world.specs.Sites.{IsSeated}
+use Rattle.world.specs.Taking.{put_out_by}
+use Rattle.world.proofs.Counting.{fit_uncounted, leads_counted}
+use Rattle.world.proofs.Leaves.{leaves_then}
+use Rattle.world.proofs.Recovers.{recovers}
+use Rattle.world.proofs.Running.{over_of}
+use Rattle.world.proofs.recovery.recover.Goals as goal
+
+pub returns-in_err-_heard-clause-leaves : goal.returns-in_err-_heard-clause-leaves
+returns-in_err-_heard-clause-leaves g c =
+    leaves_then g.D.DeskStore.is_clean g.S.SiteStore.is_clean g.D.DeskStore.is_sound g.S.SiteStore.is_sound g.D.DeskStore.refused g.S.SiteStore.refused c.args.machines.now c.restart.new.self c.deliver_all.new.machines c.restart.ensures.leaves c.deliver_all.ensures.leaves
+
+pub returns-clause-leaves : goal.returns-clause-leaves
+returns-clause-leaves g c =
+    leaves_then g.D.DeskStore.is_clean g.S.SiteStore.is_clean g.D.DeskStore.is_sound g.S.SiteStore.is_sound g.D.DeskStore.refused g.S.SiteStore.refused c.args.machines.now c.restart.new.self c.deliver_all.new.machines c.restart.ensures.leaves c.deliver_all.ensures.leaves
+
+pub returns-clause-ok : goal.returns-clause-ok
+returns-clause-ok g c = λ db of is clean sound fit law recovery whole past up served.
+    let before = held g.D.DeskStore.kept g.S.SiteStore.kept c.args.machines.now in
+    let mid = held g.D.DeskStore.kept g.S.SiteStore.kept c.restart.new.self in
+    let old = counts g.D.DeskStore.refused g.S.SiteStore.refused c.args.machines.now in
+    let new = counts g.D.DeskStore.refused g.S.SiteStore.refused c.restart.new.self in
+    let first = counted g.D.DeskStore.kept g.S.SiteStore.kept g.D.DeskStore.refused g.S.SiteStore.refused c.args.machines.now in
+    let second = counted g.D.DeskStore.kept g.S.SiteStore.kept g.D.DeskStore.refused g.S.SiteStore.refused c.restart.new.self in
+    let last = counted g.D.DeskStore.kept g.S.SiteStore.kept g.D.DeskStore.refused g.S.SiteStore.refused c.deliver_all.new.machines in
+    let over = over_of db c.args.machines.now.desk.catalog of is in
+    let clean_mid = c.deliver_all.ensures.leaves.clean clean in
+    let leads = leads_counted db desk_restarts before mid old new c.in_ok-commits.commits.letters c.in_ok-commits.commits.replies (c.in_ok-commits.ensures.ok db over clean_mid sound (fit_uncounted db before old fit)) in
+    let more = c.in_ok-inquire_all.ensures (subst (λ sites. AllByRecursion IsSeated (seats_in g.S.SiteStore.kept sites)) (sym c.as_slice.ensures.value) leads.fit.sites)
+    ∙ (λ i. map letter_of (c.into_vec-letters.ensures i) ++ flat_map (λ seat. inquiries seat.name (state_of seat.kept seat.table)) (seats_in g.S.SiteStore.kept (c.as_slice.ensures.value i))) in
+    let scene = put_out_by second (record { letters = c.new.result; replies = c.in_ok-commits.commits.replies; kept = true }) in
+    recovers db law recovery over.distinct whole past first second last c.in_ok-commits.commits.letters c.inquire_all.new.letters.items c.in_ok-commits.commits.replies c.in_ok-_heard._heard.items scene served up leads more c.new.ensures (λ ls ds. refl) leads.fit
+    (c.in_ok-_heard.ensures.ok db of (is ∙ ap catalogue_of (sym c.restart.ensures.leaves.catalog)) clean (c.restart.ensures.leaves.sound clean_mid sound) leads.fit)

@@ -1,0 +1,134 @@
+-- A database comes up over stores that are given: what they kept of a run, from which it goes on.
+use Rattle.std.specs.Prelude.{◌≡◌, ⊤, ℕ, suc, List, [], ◌∷◌, ◌++◌, map}
+use Rattle.std.specs.List.{AllByRecursion, flat_map}
+use Rattle.meaning.specs.Whole.{Relations}
+use Rattle.catalog.specs.Catalogue.{Catalogue}
+use Rattle.catalog.specs.FragmentLeaf.{catalogue_leaves, names_at}
+use Rattle.catalog.specs.Relation.{catalogue_of}
+use Rattle.store.specs.declared.letter.Letter as letters
+use Rattle.store.specs.DeskContent as desk_content
+use Rattle.store.specs.DeskContent.{DeskContent}
+use Rattle.store.specs.Frame.{LeavesStore}
+use Rattle.store.specs.SiteContent.{SiteContent, BeginsLife}
+use Rattle.protocol.specs.Client.{IsQuiet, ReachedLaw}
+use Rattle.protocol.specs.Desk.{Deed, txn_restarted}
+use Rattle.protocol.specs.Letters.{letter_of}
+use Rattle.protocol.specs.Site.{inquiries}
+use Rattle.protocol.specs.Recovery.{RecoveryLaw}
+use Rattle.protocol.specs.Serial.{committed}
+use Rattle.site.specs.declared.site.Site.{Site}
+use Rattle.site.specs.Fault.{StopsStart}
+use Rattle.site.specs.Locks.{leaves_in}
+use Rattle.site.specs.Recovery.{Begins}
+use Rattle.site.specs.State as site_state
+use Rattle.site.specs.State.{AreHad}
+use Rattle.desk.specs.declared.refusal.Refusal.TheVariants as refusals
+use Rattle.desk.specs.CatalogueDatabase.{database}
+use Rattle.desk.specs.Database.{Database, language}
+use Rattle.desk.specs.Recovery.{Rises}
+use Rattle.desk.specs.Request.{IsOver}
+use Rattle.desk.specs.State.{IsMemory, desk_of, volatile_of}
+use Rattle.world.specs.declared.fault.Fault as faults
+use Rattle.world.specs.declared.fault.Fault.TheVariants.{Desk, Site as OfSite}
+use Rattle.world.specs.declared.machines.Machines as code
+use Rattle.world.specs.Client.{IsServed}
+use Rattle.world.specs.Machines.{AreFit, Machines, world_of}
+use Rattle.world.specs.Seated.{seats_in}
+use Rattle.world.specs.Sites.{Seat}
+
+-- the stores keep what those of these machines kept; what the machines had in memory doesn't matter
+pub record AreKept (machines : Machines) (of_desk : DeskContent) (of_sites : List SiteContent) : Type 0 where
+  pub desk : machines.desk ≡ of_desk
+  pub sites : map (λ seat. seat.kept) machines.seats ≡ of_sites
+
+-- each store has the leaves of its site, numbered on from a first one
+abbrev pub HaveLeaves : Catalogue → ℕ → List SiteContent → Type 0
+HaveLeaves catalogue place [] = ⊤
+HaveLeaves catalogue place (kept ∷ rest) = AreHad (names_at place (catalogue_leaves catalogue)) kept × HaveLeaves catalogue (suc place) rest
+
+module _ {S : Type 0} (is_clean is_sound : S → Type 0) (kept : S → SiteContent) (refused : S → ℕ) (catalogue : Catalogue) where
+  -- the site of this number and name has come up over a store: the next incarnation begins, in which its prepared rows stand
+  pub record IsUp (place : ℕ) (name : List ℕ) (store : S) (site : Site S) : Type 0 where
+    pub leaves_store : LeavesStore is_clean is_sound refused store site.store
+    pub learnt : is_clean site.store → is_sound store
+    pub called : site.volatile.name ≡ name
+    pub leaves : leaves_in site.volatile.locks.items ≡ names_at place (catalogue_leaves catalogue)
+    pub begins : is_clean site.store → AreHad (names_at place (catalogue_leaves catalogue)) (kept store) → Begins (kept site.store) (site_state.volatile_of site.volatile)
+    pub life : is_clean site.store → BeginsLife (kept store) (kept site.store)
+
+  -- so have the sites of these names, numbered on from a first one
+  abbrev pub AreUp : ℕ → List (List ℕ) → List S → List (Site S) → Type 0
+  AreUp place [] [] [] = ⊤
+  AreUp place (name ∷ names) (store ∷ stores) (site ∷ sites) = IsUp place name store site × AreUp (suc place) names stores sites
+  AreUp place names stores sites = ⊥
+
+-- the machines of a catalogue's database have come up over stores: each site over its own, and the coordinator
+pub record MachinesUp {D S : Type 0} (desk_is_clean desk_is_sound : D → Type 0) (of_desk : D → DeskContent) (desk_refused : D → ℕ) (site_is_clean site_is_sound : S → Type 0) (of_site : S → SiteContent) (site_refused : S → ℕ) (catalogue : Catalogue) (store : D) (stores : List S) (machines : code.Machines D S) : Type 0 where
+  pub sites : AreUp site_is_clean site_is_sound of_site site_refused catalogue 0 catalogue.sites stores machines.sites.items
+  pub desk_store : LeavesStore desk_is_clean desk_is_sound desk_refused store machines.desk.store
+  pub learnt : desk_is_clean machines.desk.store → desk_is_sound store
+  pub rises : (db : Database) → IsOver db catalogue.sites → desk_is_clean machines.desk.store → Rises db (of_desk machines.desk.store) (volatile_of machines.desk.volatile)
+  pub life : desk_is_clean machines.desk.store → desk_content.BeginsLife (of_desk store) (of_desk machines.desk.store)
+  pub memory : IsMemory (volatile_of machines.desk.volatile)
+  pub catalog : catalogue_of machines.desk.catalog ≡ catalogue
+
+-- why a database doesn't come up: memory ran out, a store's medium has refused, or its rows are damaged, or an incarnation is the last
+abbrev pub StopsOpening : faults.Fault → Type 0
+StopsOpening (Desk refusals.Memory) = ⊤
+StopsOpening (Desk refusals.Full) = ⊤
+StopsOpening (Desk (refusals.Store fault)) = ⊤
+StopsOpening (OfSite fault) = StopsStart fault
+StopsOpening fault = ⊥
+
+-- a site has come up over what another one of its name kept
+pub record Wakes (old new : Seat) : Type 0 where
+  pub named : new.name ≡ old.name
+  pub begins : Begins new.kept new.table
+  pub life : BeginsLife old.kept new.kept
+
+-- so have all
+abbrev pub AllWake : List Seat → List Seat → Type 0
+AllWake [] [] = ⊤
+AllWake [] (new ∷ news) = ⊥
+AllWake (old ∷ olds) [] = ⊥
+AllWake (old ∷ olds) (new ∷ news) = Wakes old new × AllWake olds news
+
+-- machines that have come up over what the stores of others kept
+pub record ComeUp (db : Database) (old new : Machines) : Type 0 where
+  pub fit : AreFit db new
+  pub sites : AllWake old.seats new.seats
+  pub rises : Rises db new.desk new.table
+  pub life : desk_content.BeginsLife old.desk new.desk
+  pub memory : IsMemory new.table
+
+-- whoever was undecided is aborted by a restart
+abbrev pub lost_by : (db : Database) → Machines → List (Deed (language db))
+lost_by db machines = let desk = desk_of db machines.table in flat_map (λ t. (txn_restarted t (desk.txn t)).deeds) desk.known
+
+-- Machines that come up over what the stores of others kept go on from what those did: they are those of the same run after restarts
+pub record ComingUpLaw (db : Database) : Type 0 where
+  pub served : (whole : Relations) (old new : Machines) (past : List (Deed (language db))) → IsServed db whole old past → IsMemory old.table → ComeUp db old new → IsServed db whole new (past ++ lost_by db old)
+
+-- as machines come up: the rows stand at the coordinator and at each site, and nothing else
+pub record AreUpAgain (db : Database) (machines : Machines) : Type 0 where
+  pub desk : Rises db machines.desk machines.table
+  pub sites : AllByRecursion (λ seat. Begins seat.kept seat.table) machines.seats
+
+-- A database goes on from what happened before: it is served, all is quiet, and nothing more has been committed
+pub record GoesOnFrom (db : Database) (whole : Relations) (past : List (Deed (language db))) (machines : Machines) : Type 0 where
+  pub more : List (Deed (language db))
+  pub served : IsServed db whole machines (past ++ more)
+  pub quiet : IsQuiet (world_of db machines [] (past ++ more))
+  pub uncommitted : committed (past ++ more) ≡ committed past
+
+-- the letters that are put out, with an inquiry about each prepared row of each site behind them
+abbrev pub Inquires : {S : Type 0} → (S → SiteContent) → List (Site S) → List letters.Letter → List letters.Letter → Type 0
+Inquires kept sites before after = map letter_of after ≡ map letter_of before ++ flat_map (λ seat. inquiries seat.name (site_state.state_of seat.kept seat.table)) (seats_in kept sites)
+
+-- machines that have come up recover: what was prepared comes to its end, and then all is quiet
+abbrev pub Recovers : (db : Database) → Machines → Machines → Type 0
+Recovers db before after = ReachedLaw (language db) → RecoveryLaw (language db) → (whole : Relations) (past : List (Deed (language db))) → AreUpAgain db before → IsServed db whole before past → GoesOnFrom db whole past after
+
+-- What a database over given stores goes on from: whatever machines were served over them in an earlier run, or none yet over new ones. of_desk, of_sites: what the stores keep
+abbrev pub GoesOnOver : (catalogue : Catalogue) → DeskContent → List SiteContent → Machines → Type 0
+GoesOnOver catalogue of_desk of_sites machines = (whole : Relations) (old : Machines) (past : List (Deed (language (database catalogue)))) → HaveLeaves catalogue 0 of_sites → IsServed (database catalogue) whole old past → IsMemory old.table → AreKept old of_desk of_sites → GoesOnFrom (database catalogue) whole past machines

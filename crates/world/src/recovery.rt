@@ -1,0 +1,120 @@
+//! A database comes up over stores that are given: over new ones it is empty, and over those of an earlier run it
+//! goes on from what they kept.
+
+ghost use Rattle.std.specs.Prelude.{◌≡◌, length, IfOk, IfErr, OnOk};
+ghost use Rattle.std.specs.List.{AllByRecursion};
+ghost use Rattle.catalog.specs.Relation.{catalogue_of};
+ghost use Rattle.site.specs.Fault.{StopsStart};
+ghost use Rattle.world.specs.Contents.{OfStores, counted};
+ghost use Rattle.world.specs.Frame.{LeavesMachines, OverDatabase};
+ghost use Rattle.world.specs.Recovery.{AreUp, Inquires, IsUp, MachinesUp, Recovers, StopsOpening};
+ghost use Rattle.world.specs.Seated.{seats_in};
+ghost use Rattle.world.specs.Sites.{IsSeated};
+
+use crate::fault::Fault;
+use crate::machines::Machines;
+use crate::mailbox::deliver_all;
+use catalog::catalogue::Catalog;
+use desk::desk::Desk;
+use desk::reply::Out;
+use site::fault::SiteFault;
+use site::site::Site;
+use std::alloc::Global;
+use store::desk_store::DeskStore;
+use store::letter::Letter;
+use store::site_store::SiteStore;
+use terms::copy::TryCopy;
+use terms::memory::Memory;
+use terms::seq::Seq;
+use terms::text::Text;
+
+/// The site of this name and number comes up over its store.
+fn site_up<S: SiteStore + Drop>(
+    alloc: Global,
+    catalog: &Catalog,
+    store: S,
+    name: &Text,
+    place: usize,
+) -> Result<Site<S>, SiteFault>
+    ensures up { IfOk result (λ site. IsUp S.is_clean S.is_sound S.kept S.refused (catalogue_of catalog.now) place name.now store site) }
+    ensures own { IfErr result StopsStart }
+{
+    let leaves = catalog.leaves_at(place)?;
+    let own = name.copy()?;
+    match Site::start(alloc, own, store, leaves.as_slice()) {
+        Ok(site) => Ok(site),
+        Err(unstarted) => Err(unstarted.fault),
+    }
+}
+
+/// The sites of a catalogue come up over their stores, in its order.
+pub(crate) fn sites_up<S: SiteStore + Drop>(
+    alloc: Global,
+    catalog: &Catalog,
+    stores: Vec<S>,
+) -> Result<Vec<Site<S>>, SiteFault>
+    requires { length stores.items ≡ length catalog.now.0 }
+    ensures up { IfOk result (λ sites. AreUp S.is_clean S.is_sound S.kept S.refused (catalogue_of catalog.now) 0 catalog.now.0 stores.items sites.items) }
+    ensures own { IfErr result StopsStart }
+{
+    let names = catalog.sites();
+    let mut sites = Vec::new(alloc);
+    for store in stores {
+        let place = sites.len();
+        let site = site_up(alloc, catalog, store, &names[place], place)?;
+        sites.push(site)?;
+    }
+    Ok(sites)
+}
+
+/// The machines of a database come up over these stores: those of its sites, in the catalogue's order, and the
+/// coordinator's.
+pub(crate) fn machines_up<D: DeskStore + Drop, S: SiteStore + Drop>(
+    alloc: Global,
+    catalog: &Catalog,
+    stores: Vec<S>,
+    store: D,
+) -> Result<Machines<D, S>, Fault>
+    requires { length stores.items ≡ length catalog.now.0 }
+    ensures up { IfOk result (MachinesUp D.is_clean D.is_sound D.kept D.refused S.is_clean S.is_sound S.kept S.refused (catalogue_of catalog.now) store stores.items) }
+    ensures own { IfErr result StopsOpening }
+{
+    let sites = sites_up(alloc, catalog, stores)?;
+    let own = catalog.copy()?;
+    match Desk::start(alloc, own, store) {
+        Ok(desk) => Ok(Machines { alloc, desk, sites }),
+        Err(unstarted) => Err(Fault::Desk(unstarted.refusal)),
+    }
+}
+
+/// Each site asks about its prepared rows, behind the letters that are put out.
+fn inquire_all<S: SiteStore>(sites: &[Site<S>], letters: &mut Vec<Letter>) -> Result<(), Memory>
+    ensures { AllByRecursion IsSeated (seats_in S.kept sites.now) → OnOk result (Inquires S.kept sites.now letters.old.items letters.new.items) }
+{
+    for site in sites {
+        let mut asked = site.inquire()?;
+        letters.append(&mut asked)?;
+    }
+    Ok(())
+}
+
+/// Machines that have come up recover: the coordinator sends its commits again, each site asks about its prepared
+/// rows, and all letters come, each once, the oldest first. Then no ticket is prepared any more.
+pub(crate) fn recover<D: DeskStore, S: SiteStore>(
+    machines: &mut Machines<D, S>,
+) -> Result<(), Fault>
+    ensures leaves { LeavesMachines D.is_clean S.is_clean D.is_sound S.is_sound D.refused S.refused machines.old machines.new }
+    ensures ok { OverDatabase (OfStores D.is_clean S.is_clean) (OfStores D.is_sound S.is_sound) (counted D.kept S.kept D.refused S.refused) machines.old machines.new (λ db before after. OnOk result (Recovers db before after)) }
+    ensures own { IfErr result StopsOpening }
+{
+    let commits = machines.restart(true)?;
+    let mut letters = commits.letters.into_vec();
+    inquire_all(machines.sites.as_slice(), &mut letters)?;
+    let put_out = Out {
+        letters: Seq::new(letters),
+        replies: commits.replies,
+        kept: true,
+    };
+    let _heard = deliver_all(machines, put_out)?;
+    Ok(())
+}
