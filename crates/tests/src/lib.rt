@@ -18,6 +18,8 @@ mod refusing;
 #[cfg(test)]
 mod sites;
 #[cfg(test)]
+mod sqldatabases;
+#[cfg(test)]
 mod sqldesks;
 #[cfg(test)]
 mod sqlstores;

@@ -10,9 +10,11 @@ use reader::print_answer::print_answer;
 use std::alloc::Global;
 use std::fmt::Write;
 use std::test::*;
+use store::desk_store::DeskStore;
 use store::name::Txn;
 use store::plain_desk::PlainDesk;
 use store::plain_site::PlainSite;
+use store::site_store::SiteStore;
 use terms::memory::Memory;
 use terms::text::Text;
 use world::event::{Call, Event};
@@ -100,9 +102,18 @@ fn committed(alloc: Global, load: &str, steps: &[Step]) -> Result<String, Memory
     Ok(told)
 }
 
-/// What a client alone hears, command by command.
+/// What a client alone hears over lists, command by command.
 fn heard(alloc: Global, script: &str) -> Result<String, Memory> {
     let mut client = opened_for_one(alloc)?;
+    heard_from(alloc, &mut client, script)
+}
+
+/// What a client alone hears from its database, command by command.
+pub(crate) fn heard_from<D: DeskStore, S: SiteStore>(
+    alloc: Global,
+    client: &mut Solo<D, S>,
+    script: &str,
+) -> Result<String, Memory> {
     let mut told = String::new(alloc);
     for text in script.lines() {
         match client.execute(text) {
@@ -154,7 +165,7 @@ changed 1
 ";
 
 /// A transaction of several statements, one that is rolled back, and what is refused.
-const ALONE: &str = "INSERT INTO dept VALUES (7, 'paint')
+pub(crate) const ALONE: &str = "INSERT INTO dept VALUES (7, 'paint')
 INSERT INTO dept VALUES (12, 'dock')
 INSERT INTO emp VALUES (1, 'Ada', 7, 100)
 INSERT INTO emp VALUES (2, 'Bo', 12, 200)
@@ -173,7 +184,7 @@ ROLLBACK
 SELECT nam FROM emp
 SELECT emp.id, emp.name, dept.title FROM emp JOIN dept ON emp.dept = dept.no";
 
-const ALONE_HEARD: &str = "T1: changed 1
+pub(crate) const ALONE_HEARD: &str = "T1: changed 1
 T2: changed 1
 T3: changed 1
 T4: changed 1
