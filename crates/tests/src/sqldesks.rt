@@ -171,7 +171,10 @@ fn databases_of_others(rt: HostRuntime) {
         ),
         (
             "name",
-            &[TABLES, "INSERT INTO decided VALUES (1, 1, CAST(x'ff' AS TEXT), 1, 1)"][..],
+            &[
+                TABLES,
+                "INSERT INTO decided VALUES (1, 1, CAST(x'ff' AS TEXT), 1, 1)",
+            ][..],
             "",
         ),
         (
@@ -179,8 +182,16 @@ fn databases_of_others(rt: HostRuntime) {
             &[TABLES, "INSERT INTO decided VALUES (1, 1, 'north', 1, -1)"][..],
             "",
         ),
-        ("life", &[TABLES, "INSERT INTO state VALUES (1, -1, 1)"][..], ""),
-        ("version", &[TABLES, "INSERT INTO state VALUES (1, 1, -1)"][..], ""),
+        (
+            "life",
+            &[TABLES, "INSERT INTO state VALUES (1, -1, 1)"][..],
+            "",
+        ),
+        (
+            "version",
+            &[TABLES, "INSERT INTO state VALUES (1, 1, -1)"][..],
+            "",
+        ),
     ];
     for (name, made, wanted) in cases {
         let told = is_told(alloc, made, wanted).or_else(|_| is_told(alloc, made, wanted));
@@ -196,13 +207,19 @@ fn is_refused<T>(answer: &Result<T, StoreFault>) -> bool {
 
 /// Whether a store refuses what its tables can't hold, counts that, and keeps what it kept.
 fn refuses(alloc: Global) -> Result<bool, StoreFault> {
-    let made = [TABLES, "INSERT INTO state VALUES (1, 9223372036854775807, 1)"];
+    let made = [
+        TABLES,
+        "INSERT INTO state VALUES (1, 9223372036854775807, 1)",
+    ];
     let mut desk = adopted(alloc, &made)?;
     let north = [voter(alloc, "north", 1, 1)?];
     let great = [voter(alloc, "north", 1, TOO_GREAT)?];
     let twice = [voter(alloc, "north", 1, 1)?, voter(alloc, "north", 1, 2)?];
     let txn = Txn { life: 1, number: 1 };
-    let late = Txn { life: 1, number: TOO_GREAT };
+    let late = Txn {
+        life: 1,
+        number: TOO_GREAT,
+    };
     desk.keep_commit(txn, &north, 1)?;
     let refused = is_refused(&desk.keep_commit(late, &north, 1))
         && is_refused(&desk.keep_commit(Txn { life: 1, number: 2 }, &great, 1))
