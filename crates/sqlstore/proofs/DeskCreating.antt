@@ -1,22 +1,14 @@
 -- The tables of the coordinator are made.
-use Rattle.std.proofs.Common.{◌≡◌, ℕ, false, [], Ok, Err, Result, OnOk, IsTrue, refl, sym, ap, ◌∙◌, subst, inl, inr}
+use Rattle.std.proofs.Common.{ℕ, [], Result, refl, ◌∙◌}
 use Rattle.sqlite.specs.Effect.{Database}
 use Rattle.sqlite.specs.Listing.{understood}
-use Rattle.sqlite.specs.State.{State, ExecutesInside, Shows}
-use Rattle.sqlite.specs.Table.{Table}
+use Rattle.sqlite.specs.State.{State, ExecutesInside}
 use Rattle.sqlite.specs.declared.error.Error.{Error}
-use Rattle.sqlite_rules.specs.Lists.{Has}
 use Rattle.sqlite_tied.specs.Compute.{everything}
-use Rattle.store.specs.DeskContent.{commit_row}
-use Rattle.sqlstore.specs.Content.{life_in}
-use Rattle.sqlstore.specs.Decided.{voters_by, version_in, decided_of}
-use Rattle.sqlstore.specs.DeskFresh.{IsFresh, KeepsNoCommit, MakesBoth, first_schema}
-use Rattle.sqlstore.specs.DeskSound.{IsDecided}
+use Rattle.sqlstore.specs.DeskFresh.{IsFresh, MakesBoth, first_schema}
 use Rattle.sqlstore.specs.DeskTables.{decided_table, epoch_table, create_decided, create_epoch}
 use Rattle.sqlstore.specs.Fresh.{Builds, MakesTable}
-use Rattle.sqlstore.specs.Rows.{AreKeyed}
 use Rattle.sqlstore.specs.Tables.{no_schema}
-use Rattle.sqlstore.proofs.Committing.{begun}
 use Rattle.sqlstore.proofs.Creating.{builds_by, creates}
 
 pub builds_decided : (old new : State) (result : Result ℕ Error) → ExecutesInside 0 create_decided [] old new result → Builds no_schema (MakesTable no_schema decided_table) old new result
