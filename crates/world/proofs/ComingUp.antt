@@ -1,5 +1,5 @@
 -- A database whose machines have come up over the stores of an earlier run.
-use Rattle.std.proofs.Common.{◌≡◌, refl, sym, ap, ◌∙◌, subst, ℕ, zero, suc, ◌+◌, List, [], ◌∷◌, map, Some, slice_get, arith}
+use Rattle.std.proofs.Common.{◌≡◌, refl, sym, ap, ◌∙◌, subst, ℕ, suc, ◌+◌, List, [], ◌∷◌, map, Some, slice_get, arith}
 use Rattle.std.specs.List.{AllByRecursion}
 use Rattle.meaning.specs.Whole.{Relations}
 use Rattle.reader.specs.Printable.{AreDistinct}

@@ -1,9 +1,9 @@
 -- Machines that have come up grow quiet: the coordinator sends its commits again, each site asks about its prepared rows, and all letters come.
-use Rattle.std.proofs.Common.{◌≡◌, refl, sym, ap, ◌∙◌, subst, ℕ, ◌||◌, nat_eq, Bool, true, false, List, [], ◌∷◌, ◌++◌, map, if◌then◌else◌, Option, Some, None, ◌⊎◌, inl, inr, ⊎_elim, flat_map, append-nil, append_assoc}
+use Rattle.std.proofs.Common.{◌≡◌, refl, sym, ap, ◌∙◌, subst, ℕ, nat_eq, Bool, true, false, List, [], ◌∷◌, ◌++◌, map, if◌then◌else◌, Option, Some, None, inl, inr, flat_map, append-nil, append_assoc}
 use Rattle.std.proofs.lemmas.List.{map-append}
 use Rattle.std.specs.Cmp.Lexicographic.{pointwise}
 use Rattle.std.specs.FinMap as keyed
-use Rattle.std.specs.List.{AllByRecursion, list_any, cons_option, filter_map}
+use Rattle.std.specs.List.{AllByRecursion, list_any, cons_option}
 use Rattle.std.specs.Option.{option_map}
 use Rattle.meaning.specs.Whole.{Relations}
 use Rattle.reader.specs.Printable.{AreDistinct}
@@ -19,7 +19,7 @@ use Rattle.protocol.specs.Home.{AreHomed, IsAtHome}
 use Rattle.protocol.specs.Language.{Lang, Name}
 use Rattle.protocol.specs.Letter.{Body, Letter, Open, Fetch, Write, Prepare, Commit, Abort, Rows, Refused, Voted, Ack, Inquire}
 use Rattle.protocol.specs.Letter as said
-use Rattle.protocol.specs.Letters.{letter_of, name_of, ticket_of, txn_name}
+use Rattle.protocol.specs.Letters.{letter_of, name_of, ticket_of}
 use Rattle.protocol.specs.Local.{local}
 use Rattle.protocol.specs.NothingCommits.{AreInVain, is_of_commit}
 use Rattle.protocol.specs.Parts.{In}
@@ -29,16 +29,14 @@ use Rattle.protocol.specs.Site.{Status, Dead, SiteState, inquiries, is_active, i
 use Rattle.protocol.specs.Site as site_status
 use Rattle.protocol.specs.Statements.{Statements, letter_with, status_with, with_statements}
 use Rattle.protocol.specs.World.{World, desk_lives, desk_restarts, inquires, is_site}
-use Rattle.protocol.proofs.Basics.{Every, by_test, clash, either_if, every_append, every_flat, or_left, or_right, or_none_left, or_none_right}
+use Rattle.protocol.proofs.Basics.{Every, clash, either_if, every_flat, or_left, or_right, or_none_left, or_none_right}
 use Rattle.protocol.proofs.NothingCommits.{committed_still}
 use Rattle.protocol.proofs.OtherStatements.{inquiries_same}
 use Rattle.site.specs.Recovery.{Begins, resting}
 use Rattle.site.specs.State.{state_of, stands}
 use Rattle.site.proofs.Listed.{listed_alive}
 use Rattle.desk.specs.declared.reply.Notice.{Notice}
-use Rattle.desk.specs.declared.transaction.TxnState.{TxnState}
-use Rattle.desk.specs.declared.transaction.TxnState.TheVariants as standing
-use Rattle.desk.specs.Acknowledge.{AreInOrder, listed, voter_with}
+use Rattle.desk.specs.Acknowledge.{listed, voter_with}
 use Rattle.desk.specs.Database.{Database, language, sent, statements}
 use Rattle.desk.specs.Recovery as desk_recovery
 use Rattle.desk.specs.State.{desk_of, txn_at}
@@ -47,13 +45,13 @@ use Rattle.world.specs.Client.{IsServed}
 use Rattle.world.specs.Machines.{AreFit, Leads, Machines, world_of}
 use Rattle.world.specs.Mailbox.{Goes, Scene, settled}
 use Rattle.world.specs.Recovery.{AreUpAgain, GoesOnFrom, lost_by}
-use Rattle.world.specs.Sites.{IsSeated, Seat, is_called, nobody, state_at, states_of}
+use Rattle.world.specs.Sites.{Seat, is_called, nobody, state_at, states_of}
 use Rattle.world.proofs.Openings.{at_each}
 use Rattle.world.proofs.Reaching.{all_reached}
 use Rattle.world.proofs.Running.{all_both}
 use Rattle.world.proofs.Seating.{name_is, name_self, state_there}
 use Rattle.world.proofs.Smoothly.{fit_within}
-use Rattle.world.proofs.Waking.{NotAmong, OneEach, one_each, seat_behind}
+use Rattle.world.proofs.Waking.{OneEach, one_each, seat_behind}
 
 -- ---- what a site is as it comes up
 module _ (S : Statements local) where

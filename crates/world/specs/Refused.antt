@@ -1,7 +1,7 @@
 -- Why an event is refused: a call of a client by the coordinator, a letter by its machine, a restart by the machine or its store.
 pub use Rattle.site.specs.Seat.{SiteRestartTells}
 pub use Rattle.desk.specs.Recovery.{DeskRestartTells}
-use Rattle.std.specs.Prelude.{◌≡◌, ◌⊎◌, ⊤, ℕ, Bool, false, true, List, Some, None, IfSome, slice_get}
+use Rattle.std.specs.Prelude.{◌≡◌, ◌⊎◌, ⊤, Bool, false, true, List, Some, None, IfSome, slice_get}
 use Rattle.std.specs.Option.{option_map}
 use Rattle.store.specs.declared.letter.Letter.{Letter}
 use Rattle.site.specs.declared.fault.SiteFault as site_faults

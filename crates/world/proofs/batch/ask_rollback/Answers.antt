@@ -1,7 +1,7 @@
 -- Why `ask_rollback` meets its contract.
 use Rattle.std.proofs.Common.{refl, ap, ◌∙◌, ◌++◌, ◌∷◌, [], List, Ok, ◌≡◌, subst, sym}
 use Rattle.std.specs.Prelude.{⊤}
-use Rattle.world.specs.Batch.{MakesMore, calls_of_end, moved}
+use Rattle.world.specs.Batch.{MakesMore, moved}
 use Rattle.world.specs.Contents.{OfStores, counted}
 use Rattle.world.specs.Course.{Rolls_back}
 use Rattle.world.specs.declared.event.Call.TheVariants as call

@@ -1,11 +1,7 @@
 -- Why `finish` meets its contract.
-use Rattle.std.proofs.Common.{refl, sym, ◌∙◌, [], Ok, ◌≡◌, true, false, ap, subst, List}
-use Rattle.std.specs.Prelude.{⊤}
-use Rattle.world.specs.Batch.{MakesMore, calls_of_end}
+use Rattle.std.proofs.Common.{refl, sym, ◌∙◌, [], Ok, ◌≡◌, true, false}
 use Rattle.world.specs.Contents.{OfStores, counted}
-use Rattle.world.specs.declared.transaction.Came as cames
-use Rattle.world.specs.declared.transaction.End as ends
-use Rattle.world.proofs.BatchCalls.{runs_on, runs_well}
+use Rattle.world.proofs.BatchCalls.{runs_well}
 use Rattle.world.proofs.Calls.{stays}
 use Rattle.world.proofs.batch.finish.Goals as goal
 

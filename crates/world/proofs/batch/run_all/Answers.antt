@@ -1,5 +1,5 @@
 -- Why `run_all` meets its contract.
-use Rattle.std.proofs.Common.{◌∙◌, ◌+◌, ◌++◌, ◌∷◌, List, [], refl, sym, ap, subst, take, arith, Ok, Err, ◌≡◌}
+use Rattle.std.proofs.Common.{◌∙◌, ◌+◌, ◌++◌, ◌∷◌, List, [], refl, sym, ap, subst, take, arith, Ok, Err}
 use Rattle.std.specs.Prelude.{⊤}
 use Rattle.std.proofs.lemmas.List.{take_all}
 use Rattle.catalog.specs.Relation.{catalogue_of}
@@ -8,11 +8,11 @@ use Rattle.world.specs.declared.transaction.Transaction.{Transaction}
 use Rattle.world.specs.Batch.{RunsAll, RunsOne}
 use Rattle.world.specs.Contents.{OfStores, counted}
 use Rattle.world.specs.Counted.{counts}
-use Rattle.world.specs.Frame.{HasMade, RunsTo}
-use Rattle.world.specs.Stopping.{StopsFor, is_stop}
+use Rattle.world.specs.Frame.{HasMade}
+use Rattle.world.specs.Stopping.{StopsFor}
 use Rattle.world.proofs.BatchCalls.{runs_into, went_well, well_then}
 use Rattle.world.proofs.Batches.{runs_next, stops_here}
-use Rattle.world.proofs.Calls.{leaves_of, stays, then_too}
+use Rattle.world.proofs.Calls.{leaves_of, stays}
 use Rattle.world.proofs.Reaching.{same_on}
 use Rattle.world.proofs.Stops.{memory_stops}
 use Rattle.world.proofs.batch.run_all.Goals as goal

@@ -1,5 +1,5 @@
 -- What each round of `run_all` keeps.
-use Rattle.std.proofs.Common.{List, take}
+use Rattle.std.proofs.Common.{take}
 use Rattle.world.specs.Batch.{RunsAll}
 use Rattle.world.specs.Contents.{OfStores, counted}
 use Rattle.world.proofs.BatchCalls.{GoWell}

@@ -1,5 +1,5 @@
 -- Why `run_course` meets its contract.
-use Rattle.std.proofs.Common.{refl, sym, ap, ◌∙◌, ◌++◌, [], List, Bool, Ok, ◌≡◌, true, false, map, subst}
+use Rattle.std.proofs.Common.{refl, sym, [], List, Bool, Ok, ◌≡◌, true, false, map, subst}
 use Rattle.std.specs.Prelude.{⊤}
 use Rattle.world.specs.Batch.{Makes, MakesMore, calls_of, calls_of_end}
 use Rattle.world.specs.Contents.{OfStores, counted}

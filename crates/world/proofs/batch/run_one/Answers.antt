@@ -1,14 +1,14 @@
 -- Why `run_one` meets its contract.
-use Rattle.std.proofs.Common.{sym, ap, ◌∙◌, ◌++◌, ◌∷◌, [], List, Bool, Ok, Err, ◌≡◌, refl, subst, inl, inr, ⊎_elim}
+use Rattle.std.proofs.Common.{◌∷◌, [], Bool, Ok, Err, ◌≡◌, refl, subst}
 use Rattle.world.specs.Batch.{Makes, RunsOne, calls_of}
 use Rattle.world.specs.Contents.{OfStores, counted}
-use Rattle.world.specs.Course.{Begins, IsOne, Refuses}
+use Rattle.world.specs.Course.{Begins, IsOne}
 use Rattle.world.specs.Frame.{ComesTo}
 use Rattle.world.specs.declared.event.Call.TheVariants as call
 use Rattle.world.specs.declared.transaction.Outcome.TheVariants.{Ran}
 use Rattle.world.proofs.BatchCalls.{runs_into, runs_well, went_well, well_then}
 use Rattle.world.proofs.Batches.{runs_begun}
-use Rattle.world.proofs.Calls.{answered, as_kind, made_of, stops_as}
+use Rattle.world.proofs.Calls.{answered}
 use Rattle.world.proofs.batch.run_one.Goals as goal
 
 pub returns-in-Ok-run_course : goal.returns-in-Ok-run_course

@@ -1,5 +1,5 @@
 -- What each round of `state_all` keeps.
-use Rattle.std.proofs.Common.{List, false, map, take}
+use Rattle.std.proofs.Common.{false, map, take}
 use Rattle.world.specs.declared.event.Call.TheVariants as call
 use Rattle.world.specs.Batch.{Makes}
 use Rattle.world.specs.Contents.{OfStores, counted}

@@ -1,13 +1,10 @@
 -- Why `recover` meets its contract.
 use Rattle.std.proofs.Common.{◌++◌, true, sym, ap, ◌∙◌, subst, map, refl}
 use Rattle.std.specs.List.{AllByRecursion, flat_map}
-use Rattle.catalog.specs.Catalogue.{Catalogue}
 use Rattle.catalog.specs.Relation.{catalogue_of}
-use Rattle.reader.specs.Printable.{AreDistinct}
 use Rattle.protocol.specs.Letters.{letter_of}
 use Rattle.protocol.specs.Site.{inquiries}
 use Rattle.protocol.specs.World.{desk_restarts}
-use Rattle.store.specs.declared.letter.Letter.{Letter}
 use Rattle.site.specs.State.{state_of}
 use Rattle.world.specs.Contents.{counted, held}
 use Rattle.world.specs.Counted.{counts}

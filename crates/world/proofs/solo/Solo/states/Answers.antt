@@ -1,5 +1,5 @@
 -- Why `states` meets its contract.
-use Rattle.std.proofs.Common.{refl, sym, subst, ◌∙◌, inl, inr, ⊎_elim, Err, Ok}
+use Rattle.std.proofs.Common.{refl, sym, subst, ◌∙◌, inl, inr, ⊎_elim}
 use Rattle.world.proofs.Calls.{as_kind, lone_command}
 use Rattle.world.specs.Client.{still_open}
 use Rattle.world.specs.Commands.{is_turned_down, only_states}
