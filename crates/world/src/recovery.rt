@@ -1,7 +1,7 @@
 //! A database comes up over stores that are given: over new ones it is empty, and over those of an earlier run it
 //! goes on from what they kept.
 
-ghost use Rattle.std.specs.Prelude.{◌≡◌, length, IfOk, IfErr, OnOk};
+ghost use Rattle.std.specs.Prelude.{◌≡◌, length, map, IfOk, IfErr, OnOk};
 ghost use Rattle.std.specs.List.{AllByRecursion};
 ghost use Rattle.catalog.specs.Relation.{catalogue_of};
 ghost use Rattle.site.specs.Fault.{StopsStart};
@@ -117,4 +117,18 @@ pub(crate) fn recover<D: DeskStore, S: SiteStore>(
     };
     let _heard = deliver_all(machines, put_out)?;
     Ok(())
+}
+
+/// The stores of sites, in their order, as they are.
+pub(crate) fn stores_of<S: SiteStore + Drop>(
+    alloc: Global,
+    sites: Vec<Site<S>>,
+) -> Result<Vec<S>, Memory>
+    ensures { IfOk result (λ stores. stores.items ≡ map (λ site. site.store) sites.items) }
+{
+    let mut stores = Vec::new(alloc);
+    for site in sites {
+        stores.push(site.into_store())?;
+    }
+    Ok(stores)
 }

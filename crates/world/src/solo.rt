@@ -45,7 +45,7 @@ use crate::laws::{
 };
 use crate::machines::Machines;
 use crate::rebuild::{kept_parts, rebuilt};
-use crate::recovery::{machines_up, recover};
+use crate::recovery::{machines_up, recover, stores_of};
 use crate::start::start;
 use crate::transaction::{Outcome, Transaction, Unfinished};
 use catalog::catalogue::Catalog;
@@ -62,6 +62,7 @@ use store::plain_desk::PlainDesk;
 use store::plain_site::PlainSite;
 use store::site_store::SiteStore;
 use terms::leaf::Leaf;
+use terms::memory::Memory;
 use terms::part::Part;
 use terms::row::Row;
 use terms::text::Text;
@@ -176,6 +177,15 @@ impl<D: DeskStore + Drop, S: SiteStore + Drop> Solo<D, S> {
             current: None,
             stopped: None,
         })
+    }
+
+    /// The database is closed: the stores of its sites, in the catalogue's order, and the coordinator's, as they are.
+    /// A transaction that is open is not committed. Where memory runs out the stores are let go.
+    pub fn into_stores(self) -> Result<(Vec<S>, D), Memory>
+        ensures { IfOk result (λ stores. (stores.0.items ≡ map (λ site. site.store) self.machines.sites.items) × (stores.1 ≡ self.machines.desk.store)) }
+    {
+        let Machines { alloc, desk, sites } = self.machines;
+        Ok((stores_of(alloc, sites)?, desk.into_store()))
     }
 }
 
