@@ -5,7 +5,6 @@ use Rattle.std.specs.Cmp.{eq_by_cmp_equiv}
 use Rattle.std.specs.Cmp.Lexicographic.{nat_list_cmp_total, pointwise}
 use Rattle.std.specs.FinMap as finite
 use Rattle.std.specs.Io.KnownBytes.{Appends, Keeps}
-use Rattle.std.specs.List.{AllByRecursion}
 use Rattle.std.proofs.lemmas.List.{map-append, map_more}
 use Rattle.std.proofs.lemmas.List.Folds.{list_any-append}
 use Rattle.terms.specs.declared.value.Value.{Value}
@@ -16,11 +15,9 @@ use Rattle.meaning.specs.Whole.{FitsSchema, Relations}
 use Rattle.meaning.proofs.Kept.{put_keeps}
 use Rattle.catalog.specs.Catalogue.{Catalogue}
 use Rattle.desk.proofs.Participants.{text_is}
-use Rattle.site.specs.declared.site.Site.{Site}
-use Rattle.world.specs.declared.machines.Machines as code
-use Rattle.world.specs.Contents.{OfStores}
 use Rattle.shell.specs.declared.mode.Mode.{Mode}
-use Rattle.fragdb.specs.Client.{AnswersTask, Standing}
+use Rattle.fragdb.specs.Client.{AnswersTask, Seen, Standing}
+use Rattle.fragdb.specs.Origin.{Origin}
 use Rattle.fragdb.specs.PlayLoad.{emptied}
 use Rattle.fragdb.specs.Script.{Reading, task_of}
 use Rattle.fragdb.specs.declared.script.Item.{Item}
@@ -93,14 +90,6 @@ emptied-fits schemas = record {
   fit = λ name relation named. subst (λ (rows : List (List Value)). IsRelation (kinds_of relation) rows) (sym (ap (λ found. unwrap_or found []) (has_none schemas finite.empty name relation named))) (record { fit = tt; ascends = tt });
 }
 
--- lists are always clean
-pub clean : {D S : Type 0} (machines : code.Machines D S) → OfStores (λ _. Unit {0}) (λ _. Unit {0}) machines
-clean {D} {S} machines = (tt, all machines.sites.items)
-  where
-    all : (sites : List (Site S)) → AllByRecursion (λ site. Unit {0}) sites
-    all [] = tt
-    all (site ∷ sites) = (tt, all sites)
-
 -- what was written, and then kept
 pub Appends-kept : (first second third : Option (List ℕ)) (xs : List ℕ) → Appends first second xs → Keeps second third → Appends first third xs
 Appends-kept None second third xs h k = tt
@@ -113,11 +102,11 @@ Keeps-same None = tt
 Keeps-same (Some bytes) = refl
 
 -- a script of which all bytes were read ran or was stopped
-pub ran : (mode : Mode) (catalogue : Catalogue) (known : Option (List ℕ)) (file : Bor (List ℕ)) (read : List ℕ) (old new : Option (List ℕ)) (result : Result Bool ProgramFault) → IfSome known (λ bytes. read ≡ bytes) → length read ≤ longest → RunsOrStops mode catalogue read old new result → IfSome known (λ script. RunsScript mode catalogue file script old new result)
-ran mode catalogue None file read old new result all short ran_so = tt
-ran mode catalogue (Some bytes) file read old new result all short ran_so = subst (λ (script : List ℕ). RunsScript mode catalogue file script old new result) all (of_read result ran_so)
+pub ran : {B : Type 0} (seen : Seen B) (IsOrigin : Origin → Type 0) (mode : Mode) (catalogue : Catalogue) (known : Option (List ℕ)) (file : Bor (List ℕ)) (read : List ℕ) (old new : Option (List ℕ)) (result : Result Bool ProgramFault) → IfSome known (λ bytes. read ≡ bytes) → length read ≤ longest → RunsOrStops seen IsOrigin mode catalogue read old new result → IfSome known (λ script. RunsScript seen IsOrigin mode catalogue file script old new result)
+ran seen IsOrigin mode catalogue None file read old new result all short ran_so = tt
+ran seen IsOrigin mode catalogue (Some bytes) file read old new result all short ran_so = subst (λ (script : List ℕ). RunsScript seen IsOrigin mode catalogue file script old new result) all (of_read result ran_so)
   where
-    of_read : (result : Result Bool ProgramFault) → RunsOrStops mode catalogue read old new result → RunsScript mode catalogue file read old new result
+    of_read : (result : Result Bool ProgramFault) → RunsOrStops seen IsOrigin mode catalogue read old new result → RunsScript seen IsOrigin mode catalogue file read old new result
     of_read (Ok any_refused) h = h
     of_read (Err (CannotRead name)) h = absurd h
     of_read (Err ScriptTooLong) h = absurd h
@@ -127,25 +116,25 @@ ran mode catalogue (Some bytes) file read old new result all short ran_so = subs
     of_read (Err CannotWrite) h = h
 
 -- a script that was not read to its end, or is too long: nothing is written
-pub unread : (mode : Mode) (catalogue : Catalogue) (known : Option (List ℕ)) (file : Bor (List ℕ)) (fault : ProgramFault) (output : Option (List ℕ)) → IsOfRead file fault → (fault ≡ ScriptTooLong → IfSome known (λ bytes. longest < length bytes)) → IfSome known (λ script. RunsScript mode catalogue file script output output (Err fault))
-unread mode catalogue None file fault output why long = tt
-unread mode catalogue (Some bytes) file (CannotRead name) output why long = (named why, Keeps-same output)
+pub unread : {B : Type 0} (seen : Seen B) (IsOrigin : Origin → Type 0) (mode : Mode) (catalogue : Catalogue) (known : Option (List ℕ)) (file : Bor (List ℕ)) (fault : ProgramFault) (output : Option (List ℕ)) → IsOfRead file fault → (fault ≡ ScriptTooLong → IfSome known (λ bytes. longest < length bytes)) → IfSome known (λ script. RunsScript seen IsOrigin mode catalogue file script output output (Err fault))
+unread seen IsOrigin mode catalogue None file fault output why long = tt
+unread seen IsOrigin mode catalogue (Some bytes) file (CannotRead name) output why long = (named why, Keeps-same output)
   where
     named : IsOfRead file (CannotRead name) → name ≡ file
     named (inl memory) = absurd (cc)
     named (inr (inl too_long)) = absurd (cc)
     named (inr (inr same)) = cc
-unread mode catalogue (Some bytes) file ScriptTooLong output why long = (long refl, Keeps-same output)
-unread mode catalogue (Some bytes) file (Malformed line) output (inl memory) long = absurd (cc)
-unread mode catalogue (Some bytes) file (Malformed line) output (inr (inl too_long)) long = absurd (cc)
-unread mode catalogue (Some bytes) file (Malformed line) output (inr (inr same)) long = absurd (cc)
-unread mode catalogue (Some bytes) file Memory output why long = λ refused. Keeps-same output
-unread mode catalogue (Some bytes) file (Store why) output (inl memory) long = absurd (cc)
-unread mode catalogue (Some bytes) file (Store why) output (inr (inl too_long)) long = absurd (cc)
-unread mode catalogue (Some bytes) file (Store why) output (inr (inr same)) long = absurd (cc)
-unread mode catalogue (Some bytes) file CannotWrite output (inl memory) long = absurd (cc)
-unread mode catalogue (Some bytes) file CannotWrite output (inr (inl too_long)) long = absurd (cc)
-unread mode catalogue (Some bytes) file CannotWrite output (inr (inr same)) long = absurd (cc)
+unread seen IsOrigin mode catalogue (Some bytes) file ScriptTooLong output why long = (long refl, Keeps-same output)
+unread seen IsOrigin mode catalogue (Some bytes) file (Malformed line) output (inl memory) long = absurd (cc)
+unread seen IsOrigin mode catalogue (Some bytes) file (Malformed line) output (inr (inl too_long)) long = absurd (cc)
+unread seen IsOrigin mode catalogue (Some bytes) file (Malformed line) output (inr (inr same)) long = absurd (cc)
+unread seen IsOrigin mode catalogue (Some bytes) file Memory output why long = λ refused. Keeps-same output
+unread seen IsOrigin mode catalogue (Some bytes) file (Store why) output (inl memory) long = absurd (cc)
+unread seen IsOrigin mode catalogue (Some bytes) file (Store why) output (inr (inl too_long)) long = absurd (cc)
+unread seen IsOrigin mode catalogue (Some bytes) file (Store why) output (inr (inr same)) long = absurd (cc)
+unread seen IsOrigin mode catalogue (Some bytes) file CannotWrite output (inl memory) long = absurd (cc)
+unread seen IsOrigin mode catalogue (Some bytes) file CannotWrite output (inr (inl too_long)) long = absurd (cc)
+unread seen IsOrigin mode catalogue (Some bytes) file CannotWrite output (inr (inr same)) long = absurd (cc)
 
 -- a script that may run ran, or was stopped
 pub run_or_stopped : (catalogue : Catalogue) (script : List ℕ) (old new : Option (List ℕ)) (fault : ProgramFault) → IsAccepted script → IsOfRun fault → StopsRun script old new fault

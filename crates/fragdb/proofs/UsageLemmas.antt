@@ -40,25 +40,25 @@ pub given_two : (words : List Text) (entered : Option (Text × List Row)) (name 
 given_two words entered name rows first one second two flags e n r s t f = record { rows = rows; command = command_is words entered name rows e n r; arguments = (sym s, (sym t, tt)); set = f }
 
 -- a command with an argument that need not be given, and one that must
-pub given_perhaps : (words : List Text) (entered : Option (Text × List Row)) (name : Text) (rows : List Row) (first : Text) (one : Option Text) (second two : Text) → entered ≡ subcommand_of usage words → Some name ≡ option_map (λ p. p.0) entered → Some rows ≡ option_map (λ p. p.1) entered →
-    one ≡ first_of first rows → Some two ≡ first_of second rows → IsGiven words (name, (first, one) ∷ (second, Some two) ∷ []) []
-given_perhaps words entered name rows first one second two e n r s t = record { rows = rows; command = command_is words entered name rows e n r; arguments = (sym s, (sym t, tt)); set = tt }
+pub given_perhaps : (words : List Text) (entered : Option (Text × List Row)) (name : Text) (rows : List Row) (first : Text) (one : Option Text) (second two : Text) (flags : List (Text × Bool)) → entered ≡ subcommand_of usage words → Some name ≡ option_map (λ p. p.0) entered → Some rows ≡ option_map (λ p. p.1) entered →
+    one ≡ first_of first rows → Some two ≡ first_of second rows → AllByRecursion (λ flag. is_set (first_of flag.0 rows) ≡ flag.1) flags → IsGiven words (name, (first, one) ∷ (second, Some two) ∷ []) flags
+given_perhaps words entered name rows first one second two flags e n r s t f = record { rows = rows; command = command_is words entered name rows e n r; arguments = (sym s, (sym t, tt)); set = f }
 
 -- what `solo` asks for: its script is named, or left out where each line is to be asked for
 pub solo_asks : (words : List Text) (entered : Option (Text × List Row)) (rows : List Row) (request : Request) (at_terminal : Bool) → entered ≡ subcommand_of usage words → Some (codes "solo") ≡ option_map (λ p. p.0) entered → Some rows ≡ option_map (λ p. p.1) entered →
-    asked request ≡ (codes "solo", (codes "CATALOG", first_of (codes "CATALOG") rows) ∷ (codes "SCRIPT", script_of (first_of (codes "SCRIPT") rows) (is_interactive request) at_terminal) ∷ []) →
+    asked request ≡ (codes "solo", (codes "CATALOG", first_of (codes "CATALOG") rows) ∷ (codes "SCRIPT", script_of (first_of (codes "SCRIPT") rows) (is_interactive request) at_terminal) ∷ (codes "DIR", first_of (codes "DIR") rows) ∷ []) →
     AllByRecursion (λ flag. is_set (first_of flag.0 rows) ≡ flag.1) (flags_of request) → Asks words at_terminal request
 solo_asks words entered rows request at_terminal e n r a f = go (first_of (codes "SCRIPT") rows) refl
   where
-    given : (script : Option Text) → first_of (codes "SCRIPT") rows ≡ script → IsGiven words (codes "solo", (codes "CATALOG", first_of (codes "CATALOG") rows) ∷ (codes "SCRIPT", script) ∷ []) (flags_of request)
-    given script is_script = record { rows = rows; command = command_is words entered (codes "solo") rows e n r; arguments = (refl, (is_script, tt)); set = f }
+    given : (script : Option Text) → first_of (codes "SCRIPT") rows ≡ script → IsGiven words (codes "solo", (codes "CATALOG", first_of (codes "CATALOG") rows) ∷ (codes "SCRIPT", script) ∷ (codes "DIR", first_of (codes "DIR") rows) ∷ []) (flags_of request)
+    given script is_script = record { rows = rows; command = command_is words entered (codes "solo") rows e n r; arguments = (refl, (is_script, (refl, tt))); set = f }
 
     request_of : Option Text → Text × List (Text × Option Text)
-    request_of script = (codes "solo", (codes "CATALOG", first_of (codes "CATALOG") rows) ∷ (codes "SCRIPT", script_of script (is_interactive request) at_terminal) ∷ [])
+    request_of script = (codes "solo", (codes "CATALOG", first_of (codes "CATALOG") rows) ∷ (codes "SCRIPT", script_of script (is_interactive request) at_terminal) ∷ (codes "DIR", first_of (codes "DIR") rows) ∷ [])
 
     go : (script : Option Text) → first_of (codes "SCRIPT") rows ≡ script → Asks words at_terminal request
     go (Some name) is_script = inl (subst (λ q. IsGiven words q (flags_of request)) (sym (a ∙ ap request_of is_script)) (given (Some name) is_script))
-    go None is_script = inr (record { catalog = first_of (codes "CATALOG") rows; given = given None is_script; asks = a ∙ ap request_of is_script })
+    go None is_script = inr (record { catalog = first_of (codes "CATALOG") rows; dir = first_of (codes "DIR") rows; given = given None is_script; asks = a ∙ ap request_of is_script })
 
 -- flags of rows, where they are set as they were found
 pub flags_found : (found : Found) (flags : List (Text × Bool)) → AllByRecursion (λ flag. is_set (first_value found flag.0) ≡ flag.1) flags → AllByRecursion (λ flag. is_set (first_of flag.0 (rows_of found)) ≡ flag.1) flags
@@ -67,12 +67,12 @@ flags_found found (flag ∷ flags) (is, rest) = (sym (ap is_set (first_value-row
 
 -- what `solo` asks for, where its arguments were found so
 pub solo_answers : {E : Type 0} (words : List Text) (entered : Option (Text × List Row)) (found : Found) (at_terminal : Bool) → entered ≡ subcommand_of usage words → Some (codes "solo") ≡ option_map (λ p. p.0) entered → Some (rows_of found) ≡ option_map (λ p. p.1) entered → (answered : Result Request E) →
-    IfOk answered (λ request. asked request ≡ (codes "solo", (codes "CATALOG", first_value found (codes "CATALOG")) ∷ (codes "SCRIPT", script_of (first_value found (codes "SCRIPT")) (is_interactive request) at_terminal) ∷ [])) →
+    IfOk answered (λ request. asked request ≡ (codes "solo", (codes "CATALOG", first_value found (codes "CATALOG")) ∷ (codes "SCRIPT", script_of (first_value found (codes "SCRIPT")) (is_interactive request) at_terminal) ∷ (codes "DIR", first_value found (codes "DIR")) ∷ [])) →
     IfOk answered (λ request. AllByRecursion (λ flag. is_set (first_value found flag.0) ≡ flag.1) (flags_of request)) → IfOk answered (λ request. Asks words at_terminal request)
 solo_answers words entered found at_terminal e n r (Err error) a f = tt
 solo_answers words entered found at_terminal e n r (Ok request) a f =
-    let given : Option Text → Option Text → Text × List (Text × Option Text) = λ catalog script. (codes "solo", (codes "CATALOG", catalog) ∷ (codes "SCRIPT", script_of script (is_interactive request) at_terminal) ∷ []) in
-    solo_asks words entered (rows_of found) request at_terminal e n r (a ∙ ap₂ given (first_value-rows found (codes "CATALOG")) (first_value-rows found (codes "SCRIPT"))) (flags_found found (flags_of request) f)
+    let given : Option Text → Option Text → Option Text → Text × List (Text × Option Text) = λ catalog script dir. (codes "solo", (codes "CATALOG", catalog) ∷ (codes "SCRIPT", script_of script (is_interactive request) at_terminal) ∷ (codes "DIR", dir) ∷ []) in
+    solo_asks words entered (rows_of found) request at_terminal e n r (a ∙ ap₂ (λ catalog script. given catalog script (first_value found (codes "DIR"))) (first_value-rows found (codes "CATALOG")) (first_value-rows found (codes "SCRIPT")) ∙ ap (given (first_of (codes "CATALOG") (rows_of found)) (first_of (codes "SCRIPT") (rows_of found))) (first_value-rows found (codes "DIR"))) (flags_found found (flags_of request) f)
 
 -- what is wrong with the words after `solo`
 pub no_script_named : (found : Found) (at_terminal interactive : Bool) (script : Option Text) (kind : ErrorKind) → kind ≡ MissingRequiredArgument → interactive ≡ is_set (first_value found (codes "INTERACTIVE")) → script ≡ script_of (first_value found (codes "SCRIPT")) interactive at_terminal → script ≡ None → IsMisuse found at_terminal kind

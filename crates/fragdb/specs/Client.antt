@@ -1,5 +1,5 @@
 -- What the commands of a script come to over a database for one client, and what is shown of it.
-use Rattle.std.specs.Prelude.{◌≡◌, ◌⊎◌, ℕ, false, IfErr, IfOk, List, ◌++◌, flat_map, Option, Some, None, Result, Ok, Err}
+use Rattle.std.specs.Prelude.{◌≡◌, ◌⊎◌, ℕ, false, IfErr, IfOk, List, [], ◌++◌, flat_map, Option, Some, None, Result, Ok, Err}
 use Rattle.terms.specs.declared.leaf.Leaf.{Leaf}
 use Rattle.meaning.specs.Whole.{FitsSchema, Relations}
 use Rattle.catalog.specs.Catalogue.{Catalogue}
@@ -7,10 +7,8 @@ use Rattle.catalog.specs.FragmentLeaf.{catalogue_leaves, schemas_of}
 use Rattle.catalog.specs.Relation.{catalogue_of}
 use Rattle.store.specs.declared.fault.StoreFault.{StoreFault}
 use Rattle.store.specs.declared.name.Txn.{Txn}
-use Rattle.store.specs.declared.plain_desk.PlainDesk.{PlainDesk}
-use Rattle.store.specs.declared.plain_site.PlainSite.{PlainSite}
-use Rattle.store.specs.PlainDesk.{kept_of as desk_kept}
-use Rattle.store.specs.PlainSite.{IsSound, kept_of}
+use Rattle.store.specs.DeskContent.{DeskContent}
+use Rattle.store.specs.SiteContent.{SiteContent}
 use Rattle.protocol.specs.Desk.{Deed}
 use Rattle.protocol.specs.Serial.{committed}
 use Rattle.desk.specs.declared.refusal.Refusal.{Refusal}
@@ -21,8 +19,8 @@ use Rattle.desk.specs.Database.{language}
 use Rattle.world.specs.declared.solo.Solo as code
 use Rattle.desk.specs.CatalogueDatabase.{database, fits}
 use Rattle.world.specs.Commands.{IsCommand, Outcome}
+use Rattle.world.specs.Contents.{OfStores, counted}
 use Rattle.world.specs.Course.{Made, Move, deeds_in}
-use Rattle.world.specs.Contents.{OfStores, unrefused}
 use Rattle.world.specs.Machines.{Machines}
 use Rattle.world.specs.Executed.{Stands}
 use Rattle.world.specs.Client.{IsServed}
@@ -37,22 +35,49 @@ use Rattle.fragdb.specs.Reply.{Answered, Refused, Told}
 use Rattle.fragdb.specs.Script.{Nothing, Reading, Runs, ShowsLeaf as To_show_leaf, ShowsRelation as To_show_relation, Unreadable}
 use Rattle.fragdb.specs.Shown.{no_leaf_text, parts_text, relation_text, written_leaf}
 
+-- how a database for one client is seen: whether its stores gave back what was written, and keep it as stores leave it; its machines, with how often the medium of each
+-- store has refused; the transaction that the client has begun; what has stopped it; and its catalogue
+pub record Seen (B : Type 0) : Type 1 where
+  pub is_clean : B → Type 0
+  pub is_sound : B → Type 0
+  pub machines : B → Machines
+  pub current : B → Option Txn
+  pub stopped : B → Option Refusal
+  pub catalogue : B → Catalogue
+
+-- so over stores of these kinds
+abbrev pub seen_over : {D S : Type 0} → (D → Type 0) → (S → Type 0) → (D → Type 0) → (S → Type 0) → (D → DeskContent) → (S → SiteContent) → (D → ℕ) → (S → ℕ) → Seen (code.Solo D S)
+seen_over desk_is_clean site_is_clean desk_is_sound site_is_sound of_desk of_site desk_refused site_refused = record {
+  is_clean = λ solo. OfStores desk_is_clean site_is_clean solo.machines;
+  is_sound = λ solo. OfStores desk_is_sound site_is_sound solo.machines;
+  machines = λ solo. counted of_desk of_site desk_refused site_refused solo.machines;
+  current = λ solo. solo.current;
+  stopped = λ solo. solo.stopped;
+  catalogue = λ solo. catalogue_of solo.machines.desk.catalog;
+}
+
 -- where a client stands: its database's machines, the transaction that it has begun, and what has happened to transactions since the opening
 pub record Standing (catalogue : Catalogue) : Type 0 where
   pub machines : Machines
   pub current : Option Txn
   pub past : List (Deed (language (database catalogue)))
 
-abbrev pub standing_of : (catalogue : Catalogue) → code.Solo PlainDesk PlainSite → List (Deed (language (database catalogue))) → Standing catalogue
-standing_of catalogue solo past = record { machines = unrefused desk_kept kept_of solo.machines; current = solo.current; past = past }
+abbrev pub standing_of : {B : Type 0} → Seen B → (catalogue : Catalogue) → B → List (Deed (language (database catalogue))) → Standing catalogue
+standing_of seen catalogue base past = record { machines = seen.machines base; current = seen.current base; past = past }
 
 -- nothing has stopped the database of this catalogue, whose machines stand after a run of the protocol, which began over these whole relations and to which this has happened; all is quiet, or the transaction that its client has begun is ready
-pub record GoesOn (catalogue : Catalogue) (whole : Relations) (past : List (Deed (language (database catalogue)))) (solo : code.Solo PlainDesk PlainSite) : Type 0 where
-  pub going : solo.stopped ≡ None
-  pub catalog : catalogue_of solo.machines.desk.catalog ≡ catalogue
-  pub sound : OfStores (λ _. Unit {0}) IsSound solo.machines
-  pub served : IsServed (database catalogue) whole (unrefused desk_kept kept_of solo.machines) past
-  pub stands : Stands (database catalogue) (fits catalogue) solo.current (unrefused desk_kept kept_of solo.machines) past
+pub record GoesOn {B : Type 0} (seen : Seen B) (catalogue : Catalogue) (whole : Relations) (past : List (Deed (language (database catalogue)))) (base : B) : Type 0 where
+  pub going : seen.stopped base ≡ None
+  pub catalog : seen.catalogue base ≡ catalogue
+  pub sound : seen.is_sound base
+  pub served : IsServed (database catalogue) whole (seen.machines base) past
+  pub stands : Stands (database catalogue) (fits catalogue) (seen.current base) (seen.machines base) past
+
+-- nothing has happened: whoever stood before stands so now; how often media have refused is left aside
+pub record StandsStill {catalogue : Catalogue} (before after : Standing catalogue) : Type 0 where
+  pub machines : record (after.machines) { refused = [] } ≡ record (before.machines) { refused = [] }
+  pub current : after.current ≡ before.current
+  pub past : after.past ≡ before.past
 
 -- a reply to a client: an answer as it is shown, and any other in a line
 abbrev pub reply_in : Mode → replies.Reply → List ℕ
@@ -96,14 +121,14 @@ AnswersLine mode catalogue text before after (Refused told) = IsTurnedAway mode 
 -- a relation is shown with the rows that it has in the whole database that the settled fragments are those of
 abbrev pub ShowsRelation : (mode : Mode) (catalogue : Catalogue) → List ℕ → Standing catalogue → Standing catalogue → List ℕ → Type 0
 ShowsRelation mode catalogue name before after told =
-    (after ≡ before) × ((whole : Relations) → AreThoseOf (database catalogue) before.machines whole → FitsSchema (schemas_of catalogue) whole → told ≡ relation_text mode catalogue name (rows_shown (database catalogue) whole name))
+    StandsStill before after × ((whole : Relations) → AreThoseOf (database catalogue) before.machines whole → FitsSchema (schemas_of catalogue) whole → told ≡ relation_text mode catalogue name (rows_shown (database catalogue) whole name))
 
 -- a leaf is shown with the parts that its site keeps; name: how it was asked for
 abbrev pub ShowsPartsOf : (mode : Mode) (catalogue : Catalogue) → List ℕ → Leaf → Standing catalogue → Standing catalogue → List ℕ → Type 0
-ShowsPartsOf mode catalogue name leaf before after told = (after ≡ before) × (told ≡ parts_text mode catalogue name leaf (parts_kept (database catalogue) before.machines leaf))
+ShowsPartsOf mode catalogue name leaf before after told = StandsStill before after × (told ≡ parts_text mode catalogue name leaf (parts_kept (database catalogue) before.machines leaf))
 
 abbrev pub ShowsLeafAs : (mode : Mode) (catalogue : Catalogue) → List ℕ → Option Leaf → Standing catalogue → Standing catalogue → List ℕ → Type 0
-ShowsLeafAs mode catalogue name None before after told = (after ≡ before) × (told ≡ no_leaf_text mode name)
+ShowsLeafAs mode catalogue name None before after told = StandsStill before after × (told ≡ no_leaf_text mode name)
 ShowsLeafAs mode catalogue name (Some leaf) before after told = ShowsPartsOf mode catalogue name leaf before after told
 
 abbrev pub ShowsLeaf : (mode : Mode) (catalogue : Catalogue) → List ℕ → Standing catalogue → Standing catalogue → List ℕ → Type 0
@@ -120,16 +145,25 @@ AnswersTask mode catalogue (To_show_leaf name) before after (Refused told) = ⊥
 AnswersTask mode catalogue Unreadable before after told = ⊥
 
 -- a task is answered, and the database goes on from what has happened by then
-pub record IsAnswered (mode : Mode) (catalogue : Catalogue) (whole : Relations) (task : Reading) (past : List (Deed (language (database catalogue)))) (old new : code.Solo PlainDesk PlainSite) (told : Told) : Type 0 where
+pub record IsAnswered {B : Type 0} (seen : Seen B) (mode : Mode) (catalogue : Catalogue) (whole : Relations) (task : Reading) (past : List (Deed (language (database catalogue)))) (old new : B) (told : Told) : Type 0 where
   pub later : List (Deed (language (database catalogue)))
-  pub goes_on : GoesOn catalogue whole later new
-  pub answers : AnswersTask mode catalogue task (standing_of catalogue old past) (standing_of catalogue new later) told
+  pub goes_on : GoesOn seen catalogue whole later new
+  pub answers : AnswersTask mode catalogue task (standing_of seen catalogue old past) (standing_of seen catalogue new later) told
 
 -- a fault that may stop a database, or come while its answers are put together
 abbrev pub IsOfClient : ProgramFault → Type 0
 IsOfClient fault = (fault ≡ Memory) ⊎ ((why : StoreFault) × (fault ≡ Store why))
 
--- whatever has happened before, a task is answered by what a call gives, or a fault stops the database; told_of: what is told by that
-pub record Serves {T : Type 0} (mode : Mode) (task : Reading) (told_of : T → Told) (old new : code.Solo PlainDesk PlainSite) (result : Result T ProgramFault) : Type 0 where
-  pub answers : (catalogue : Catalogue) (whole : Relations) (past : List (Deed (language (database catalogue)))) → GoesOn catalogue whole past old → IfOk result (λ given. IsAnswered mode catalogue whole task past old new (told_of given))
+-- whatever has happened before, a task is answered by what a call gives, or a fault stops the database; told_of: what is told by that. It is so where the stores are clean as the
+-- call ends; then they were clean before
+pub record Serves {B T : Type 0} (seen : Seen B) (mode : Mode) (task : Reading) (told_of : T → Told) (old new : B) (result : Result T ProgramFault) : Type 0 where
+  pub clean : seen.is_clean new → seen.is_clean old
+  pub answers : (catalogue : Catalogue) (whole : Relations) (past : List (Deed (language (database catalogue)))) → seen.is_clean new → GoesOn seen catalogue whole past old → IfOk result (λ given. IsAnswered seen mode catalogue whole task past old new (told_of given))
+  pub err : IfErr result IsOfClient
+
+-- a leaf is shown, and the database goes on; name: how it was asked for, bytes_of: what is told by what a call gives
+pub record ShowsParts {B T : Type 0} (seen : Seen B) (mode : Mode) (name : List ℕ) (leaf : Leaf) (bytes_of : T → List ℕ) (old new : B) (result : Result T ProgramFault) : Type 0 where
+  pub clean : seen.is_clean new → seen.is_clean old
+  pub shown : (catalogue : Catalogue) (whole : Relations) (past : List (Deed (language (database catalogue)))) → seen.is_clean new → GoesOn seen catalogue whole past old →
+      IfOk result (λ given. GoesOn seen catalogue whole past new × ShowsPartsOf mode catalogue name leaf (standing_of seen catalogue old past) (standing_of seen catalogue new past) (bytes_of given))
   pub err : IfErr result IsOfClient

@@ -11,6 +11,7 @@ pub mod Schedule
 pub mod Delivering
 pub mod Shown
 pub mod Client
+pub mod Origin
 pub mod Solo
 pub mod Play
 pub mod CatalogFile

@@ -14,7 +14,9 @@ use Rattle.fragdb.specs.declared.catalog_file.CatalogFault.{CatalogFault}
 use Rattle.fragdb.specs.declared.catalog_file.CatalogFault.TheVariants as catalog
 use Rattle.fragdb.specs.declared.plan_text.PlanFault.{PlanFault}
 use Rattle.fragdb.specs.declared.plan_text.PlanFault.TheVariants as plan
+use Rattle.fragdb.specs.Client.{Seen}
 use Rattle.fragdb.specs.Input.{IsOfInput}
+use Rattle.fragdb.specs.Origin.{Origin}
 use Rattle.fragdb.specs.Plan.{PlansFile}
 use Rattle.fragdb.specs.Play.{IsUnplayed, PlaysFiles}
 use Rattle.fragdb.specs.Session.{RunsSession}
@@ -22,31 +24,31 @@ use Rattle.fragdb.specs.Solo.{IsUnrun, RunsFiles}
 
 -- the file that a request names
 abbrev pub file_of : Request → Bor (List ℕ)
-file_of (Solo name file explain interactive mode) = file
+file_of (Solo name file explain interactive mode sqlite dir) = file
 file_of (Check file explain as_tree) = file
 file_of (Plan file statement as_tree) = file
-file_of (Play name file) = file
+file_of (Play name file sqlite) = file
 
 -- the file of a catalogue that a request names besides, if it names one
 abbrev pub catalog_of : Request → Option (Bor (List ℕ))
-catalog_of (Solo name file explain interactive mode) = name
-catalog_of (Play name file) = name
+catalog_of (Solo name file explain interactive mode sqlite dir) = name
+catalog_of (Play name file sqlite) = name
 catalog_of _ = None
 
 -- whether a script is read from standard input
 abbrev pub is_of_input : Request → Bool
-is_of_input (Solo name file explain interactive mode) = bytes_eq file.now (codes "-")
-is_of_input (Play name file) = bytes_eq file.now (codes "-")
+is_of_input (Solo name file explain interactive mode sqlite dir) = bytes_eq file.now (codes "-")
+is_of_input (Play name file sqlite) = bytes_eq file.now (codes "-")
 is_of_input _ = false
 
 -- whether lines for a database are read from standard input
 abbrev pub is_typed : Request → Bool
-is_typed (Solo name file explain interactive mode) = bytes_eq file.now (codes "-")
+is_typed (Solo name file explain interactive mode sqlite dir) = bytes_eq file.now (codes "-")
 is_typed _ = false
 
 -- how answers are to be shown
 abbrev pub mode_of : Request → Mode
-mode_of (Solo name file explain interactive mode) = mode
+mode_of (Solo name file explain interactive mode sqlite dir) = mode
 mode_of _ = Tabs
 
 -- how answers are shown in a session at first, where the command line asks for this form: tabs are what nothing asks for
@@ -84,12 +86,12 @@ pub record ComesTo {End : Type 0} (outcome_of : End → Outcome) (Ends : End →
   pub is : outcome ≡ outcome_of end
 
 -- the outcome of a script over the catalogue of a file
-abbrev pub PerformsSolo : Mode → Bor (List ℕ) → List ℕ → Bor (List ℕ) → List ℕ → Option (List ℕ) → Option (List ℕ) → Outcome → Type 0
-PerformsSolo mode name bytes file script old new outcome = ComesTo outcome_of_script (RunsFiles mode name bytes file script old new) outcome
+abbrev pub PerformsSolo : {B : Type 0} → Seen B → (Origin → Type 0) → Mode → Bor (List ℕ) → List ℕ → Bor (List ℕ) → List ℕ → Option (List ℕ) → Option (List ℕ) → Outcome → Type 0
+PerformsSolo seen IsOrigin mode name bytes file script old new outcome = ComesTo outcome_of_script (RunsFiles seen IsOrigin mode name bytes file script old new) outcome
 
 -- the outcome of a session over the catalogue of a file
-abbrev pub PerformsSession : Bor (List ℕ) → List ℕ → Bor (List ℕ) → Option (List ℕ) → Option (List ℕ) → Outcome → Type 0
-PerformsSession name bytes file old new outcome = ComesTo outcome_of_check (RunsSession name bytes file old new) outcome
+abbrev pub PerformsSession : {B : Type 0} → Seen B → (Origin → Type 0) → Bor (List ℕ) → List ℕ → Bor (List ℕ) → Option (List ℕ) → Option (List ℕ) → Outcome → Type 0
+PerformsSession seen IsOrigin name bytes file old new outcome = ComesTo outcome_of_check (RunsSession seen IsOrigin name bytes file old new) outcome
 
 -- a catalogue's outcome
 abbrev pub PerformsCheck : Bool → Bor (List ℕ) → List ℕ → Option (List ℕ) → Option (List ℕ) → Outcome → Type 0
@@ -104,17 +106,17 @@ abbrev pub PerformsPlayOf : Bor (List ℕ) → List ℕ → Bor (List ℕ) → L
 PerformsPlayOf name bytes file script old new outcome = ComesTo outcome_of_check (PlaysFiles name bytes file script old new) outcome
 
 -- the outcome of a request of a script, which is run or played over a catalogue
-abbrev pub PerformsOver : Request → Bor (List ℕ) → List ℕ → List ℕ → Option (List ℕ) → Option (List ℕ) → Outcome → Type 0
-PerformsOver (Solo given file explain interactive mode) name bytes script old new outcome = PerformsSolo mode name bytes file script old new outcome
-PerformsOver (Play given file) name bytes script old new outcome = PerformsPlayOf name bytes file script old new outcome
-PerformsOver other name bytes script old new outcome = Unit
+abbrev pub PerformsOver : {B : Type 0} → Seen B → (Origin → Type 0) → Request → Bor (List ℕ) → List ℕ → List ℕ → Option (List ℕ) → Option (List ℕ) → Outcome → Type 0
+PerformsOver seen IsOrigin (Solo given file explain interactive mode sqlite dir) name bytes script old new outcome = PerformsSolo seen IsOrigin mode name bytes file script old new outcome
+PerformsOver seen IsOrigin (Play given file sqlite) name bytes script old new outcome = PerformsPlayOf name bytes file script old new outcome
+PerformsOver seen IsOrigin other name bytes script old new outcome = Unit
 
 -- what is written from old to new, and the outcome, where the file has these bytes; of a script it is told apart
 abbrev pub Performs : Request → List ℕ → Option (List ℕ) → Option (List ℕ) → Outcome → Type 0
-Performs (Solo name file explain interactive mode) bytes old new outcome = Unit
+Performs (Solo name file explain interactive mode sqlite dir) bytes old new outcome = Unit
 Performs (Check file explain as_tree) bytes old new outcome = PerformsCheck as_tree file bytes old new outcome
 Performs (Plan file statement as_tree) bytes old new outcome = PerformsPlan as_tree file statement.now bytes old new outcome
-Performs (Play name file) bytes old new outcome = Unit
+Performs (Play name file sqlite) bytes old new outcome = Unit
 
 -- the outcome where this file can't be opened
 pub record IsUnread (file : Bor (List ℕ)) (outcome : Outcome) : Type 0 where
@@ -132,19 +134,19 @@ IsStopped (Stopped fault) = Unit
 
 -- the outcome of a script whose catalogue can't be opened: that is told, and nothing is written
 abbrev pub StopsUncatalogued : Request → Bor (List ℕ) → Option (List ℕ) → Option (List ℕ) → Outcome → Type 0
-StopsUncatalogued (Solo given file explain interactive mode) name old new outcome = IsUnread name outcome × Keeps old new
-StopsUncatalogued (Play given file) name old new outcome = IsUnread name outcome × Keeps old new
+StopsUncatalogued (Solo given file explain interactive mode sqlite dir) name old new outcome = IsUnread name outcome × Keeps old new
+StopsUncatalogued (Play given file sqlite) name old new outcome = IsUnread name outcome × Keeps old new
 StopsUncatalogued other name old new outcome = Unit
 
 -- the outcome where a script can't be opened: its catalogue, of these bytes, is none, or that is told
 abbrev pub StopsIdle : Request → Bor (List ℕ) → List ℕ → Outcome → Type 0
-StopsIdle (Solo given file explain interactive mode) name bytes outcome = ComesTo outcome_of_script (IsUnrun name bytes file) outcome
-StopsIdle (Play given file) name bytes outcome = ComesTo outcome_of_check (IsUnplayed name bytes file) outcome
+StopsIdle (Solo given file explain interactive mode sqlite dir) name bytes outcome = ComesTo outcome_of_script (IsUnrun name bytes file) outcome
+StopsIdle (Play given file sqlite) name bytes outcome = ComesTo outcome_of_check (IsUnplayed name bytes file) outcome
 StopsIdle other name bytes outcome = Unit
 
 -- the outcome where the file that is asked for can't be opened; a script may be stopped by its catalogue before
 abbrev pub StopsUnread : Request → Outcome → Type 0
-StopsUnread (Solo name file explain interactive mode) outcome = IsStopped outcome
+StopsUnread (Solo name file explain interactive mode sqlite dir) outcome = IsStopped outcome
 StopsUnread (Check file explain as_tree) outcome = IsUnread file outcome
 StopsUnread (Plan file statement as_tree) outcome = IsUnread file outcome
-StopsUnread (Play name file) outcome = IsStopped outcome
+StopsUnread (Play name file sqlite) outcome = IsStopped outcome

@@ -4,12 +4,9 @@ use Rattle.std.specs.Borrow.{Bor}
 use Rattle.std.specs.Io.KnownBytes.{Appends, Keeps}
 use Rattle.meaning.specs.Whole.{Relations}
 use Rattle.catalog.specs.Catalogue.{Catalogue, IsValidCatalogue}
-use Rattle.store.specs.declared.plain_desk.PlainDesk.{PlainDesk}
-use Rattle.store.specs.declared.plain_site.PlainSite.{PlainSite}
 use Rattle.protocol.specs.Desk.{Deed}
 use Rattle.desk.specs.Database.{language}
 use Rattle.world.specs.declared.event.Entry.{Entry}
-use Rattle.world.specs.declared.solo.Solo as code
 use Rattle.desk.specs.CatalogueDatabase.{database, fits}
 use Rattle.world.specs.Executed.{Stands}
 use Rattle.world.specs.Runs.{IsSerialRun}
@@ -19,13 +16,14 @@ use Rattle.fragdb.specs.declared.catalog_file.CatalogFault.{CatalogFault}
 use Rattle.fragdb.specs.declared.catalog_file.CatalogFault.TheVariants.{Program, Refused}
 use Rattle.fragdb.specs.declared.fault.ProgramFault.{ProgramFault}
 use Rattle.fragdb.specs.CatalogFile.{IsCatalogueFile, RefusesFile}
-use Rattle.fragdb.specs.Client.{AnswersTask, GoesOn, Standing, standing_of}
+use Rattle.fragdb.specs.Client.{AnswersTask, GoesOn, Seen, Standing, standing_of}
 use Rattle.fragdb.specs.Input.{IsOfInput}
 use Rattle.fragdb.specs.Listing.{leaves_text, schema_text, tables_text}
+use Rattle.fragdb.specs.Origin.{BeginsWith, Origin}
 use Rattle.fragdb.specs.Plan.{IsPlanOf}
 use Rattle.fragdb.specs.Reply.{Told, text_of}
 use Rattle.fragdb.specs.Script.{Reading}
-use Rattle.fragdb.specs.Solo.{IsOfRun, IsOpened, no_rows, said_by}
+use Rattle.fragdb.specs.Solo.{IsOfRun, IsOpened, said_by}
 
 -- what a session begins with
 abbrev pub greeting_text : List ℕ
@@ -108,47 +106,60 @@ abbrev pub said_by_each : (catalogue : Catalogue) (exchanges : List Exchange) (b
 said_by_each catalogue [] before after same = []
 said_by_each catalogue (first ∷ others) before after so = said_by first.mode catalogue first.task before so.0 first.told so.1 ++ said_by_each catalogue others so.0 after so.2
 
--- a stretch of a session, over a database that goes on: all that was asked is answered, in order, and between the answers stands nothing but asides
-pub record IsTalk (catalogue : Catalogue) (whole : Relations) (past : List (Deed (language (database catalogue)))) (old new : code.Solo PlainDesk PlainSite) (written : List ℕ) : Type 0 where
-  pub later : List (Deed (language (database catalogue)))
-  pub goes_on : GoesOn catalogue whole later new
-  pub pieces : List (Piece catalogue)
-  pub answered : AnswersEach catalogue (exchanges_in catalogue pieces) (standing_of catalogue old past) (standing_of catalogue new later)
-  pub lines : written ≡ flat_map (piece_text catalogue) pieces
-
--- what a call has come to: whatever has happened before, all that it has written is a stretch of a session
-pub record Talks (before after : Option (List ℕ)) (old new : code.Solo PlainDesk PlainSite) : Type 0 where
-  pub stretch : (catalogue : Catalogue) (whole : Relations) (past : List (Deed (language (database catalogue)))) → GoesOn catalogue whole past old →
-      (written : List ℕ) × Appends before after written × IsTalk catalogue whole past old new written
-
 -- A session from the opening to its end, where all is quiet or the open transaction is ready, and the serial law holds of just what was asked for and heard in it: the committed
 -- transactions, one after another over whole relations, give the answers that were heard, and what the settled fragments rebuild.
-pub record IsSession (catalogue : Catalogue) (written : List ℕ) : Type 0 where
+pub record IsSessionFrom (catalogue : Catalogue) (whole : Relations) (written : List ℕ) : Type 0 where
   pub opening : Standing catalogue
-  pub opened : IsOpened catalogue opening
+  pub opened : IsOpened catalogue whole opening
   pub end : Standing catalogue
   pub pieces : List (Piece catalogue)
   pub answered : AnswersEach catalogue (exchanges_in catalogue pieces) opening end
   pub lines : written ≡ flat_map (piece_text catalogue) pieces
-  pub served : IsServed (database catalogue) (no_rows catalogue) end.machines end.past
+  pub served : IsServed (database catalogue) whole end.machines end.past
   pub stands : Stands (database catalogue) (fits catalogue) end.current end.machines end.past
-  pub serial : IsSerialRun (database catalogue) (no_rows catalogue) end.machines (said_by_each catalogue (exchanges_in catalogue pieces) opening end answered)
+  pub serial : IsSerialRun (database catalogue) whole end.machines (said_by_each catalogue (exchanges_in catalogue pieces) opening end answered)
 
 -- a fault that may end a session whose lines this file gives
 abbrev pub IsOfSession : Bor (List ℕ) → ProgramFault → Type 0
 IsOfSession file fault = IsOfRun fault ⊎ IsOfInput file fault
 
--- these bytes are of a valid catalogue, over which there was a session to its end
-pub record IsHeld (bytes : List ℕ) (old new : Option (List ℕ)) : Type 0 where
-  pub catalogue : Catalogue
-  pub text : IsCatalogueFile bytes catalogue
-  pub valid : IsValidCatalogue catalogue
-  pub written : List ℕ
-  pub told : Appends old new written
-  pub session : IsSession catalogue written
+-- a stretch of a session, over a database that goes on: all that was asked is answered, in order, and between the answers stands nothing but asides
+pub record IsTalk {B : Type 0} (seen : Seen B) (catalogue : Catalogue) (whole : Relations) (past : List (Deed (language (database catalogue)))) (old new : B) (written : List ℕ) : Type 0 where
+  pub later : List (Deed (language (database catalogue)))
+  pub goes_on : GoesOn seen catalogue whole later new
+  pub pieces : List (Piece catalogue)
+  pub answered : AnswersEach catalogue (exchanges_in catalogue pieces) (standing_of seen catalogue old past) (standing_of seen catalogue new later)
+  pub lines : written ≡ flat_map (piece_text catalogue) pieces
 
--- A session over a catalogue of these bytes. The catalogue is looked at first, and where it is none nothing is written.
-abbrev pub RunsSession : Bor (List ℕ) → List ℕ → Bor (List ℕ) → Option (List ℕ) → Option (List ℕ) → Result Unit CatalogFault → Type 0
-RunsSession catalog bytes file old new (Ok done) = IsHeld bytes old new
-RunsSession catalog bytes file old new (Err (Refused fault)) = RefusesFile bytes fault.relation fault.rule × Keeps old new
-RunsSession catalog bytes file old new (Err (Program fault)) = (IsOfInput catalog fault × Keeps old new) ⊎ IsOfSession file fault
+-- what a call has come to: something was written, and whatever has happened before, that is a stretch of a session where the stores are clean as the call ends
+pub record Talks {B : Type 0} (seen : Seen B) (before after : Option (List ℕ)) (old new : B) : Type 0 where
+  pub clean : seen.is_clean new → seen.is_clean old
+  pub written : List ℕ
+  pub told : Appends before after written
+  pub stretch : (catalogue : Catalogue) (whole : Relations) (past : List (Deed (language (database catalogue)))) → seen.is_clean new → GoesOn seen catalogue whole past old → IsTalk seen catalogue whole past old new written
+
+-- seen: how databases are seen that are opened for a session; IsOrigin: what they may begin with
+module _ {B : Type 0} (seen : Seen B) (IsOrigin : Origin → Type 0) where
+  -- a session over a database that was opened for it, whatever relations it began with. It is one where the stores are clean at its end
+  pub record IsSession (catalogue : Catalogue) (written : List ℕ) : Type 0 where
+    pub origin : Origin
+    pub is_origin : IsOrigin origin
+    pub ended : B
+    pub held : (whole : Relations) → BeginsWith catalogue origin whole → seen.is_clean ended → IsSessionFrom catalogue whole written
+
+  -- a session was had, and all of it was written
+  abbrev pub HasTalked : Catalogue → Option (List ℕ) → Option (List ℕ) → Type 0
+  HasTalked catalogue old new = (written : List ℕ) × Appends old new written × IsSession catalogue written
+
+  -- these bytes are of a valid catalogue, over which there was a session to its end
+  pub record IsHeld (bytes : List ℕ) (old new : Option (List ℕ)) : Type 0 where
+    pub catalogue : Catalogue
+    pub text : IsCatalogueFile bytes catalogue
+    pub valid : IsValidCatalogue catalogue
+    pub talked : HasTalked catalogue old new
+
+  -- A session over a catalogue of these bytes. The catalogue is looked at first, and where it is none nothing is written.
+  abbrev pub RunsSession : Bor (List ℕ) → List ℕ → Bor (List ℕ) → Option (List ℕ) → Option (List ℕ) → Result Unit CatalogFault → Type 0
+  RunsSession catalog bytes file old new (Ok done) = IsHeld bytes old new
+  RunsSession catalog bytes file old new (Err (Refused fault)) = RefusesFile bytes fault.relation fault.rule × Keeps old new
+  RunsSession catalog bytes file old new (Err (Program fault)) = (IsOfInput catalog fault × Keeps old new) ⊎ IsOfSession file fault

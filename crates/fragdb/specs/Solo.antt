@@ -1,18 +1,15 @@
 -- Which scripts run.
 use Rattle.std.specs.Prelude.{Bool, ◌≡◌, ◌≤◌, ◌<◌, ◌⊎◌, ℕ, List, [], ◌∷◌, ◌++◌, flat_map, length, map, Option, Some, None, Result, Ok, Err}
 use Rattle.std.specs.Borrow.{Bor}
-use Rattle.std.specs.FinMap as finite
 use Rattle.std.specs.Io.KnownBytes.{Appends, Keeps}
 use Rattle.std.specs.List.{list_any}
 use Rattle.meaning.specs.Whole.{Relations}
 use Rattle.catalog.specs.Catalogue.{Catalogue, IsValidCatalogue}
-use Rattle.catalog.specs.FragmentLeaf.{schemas_of}
 use Rattle.protocol.specs.Desk.{Deed}
 use Rattle.desk.specs.Database.{language}
 use Rattle.world.specs.Course.{said_in}
 use Rattle.desk.specs.CatalogueDatabase.{database, fits}
 use Rattle.world.specs.declared.event.Entry.{Entry}
-use Rattle.world.specs.declared.solo.Solo as code
 use Rattle.world.specs.Executed.{Stands}
 use Rattle.world.specs.Runs.{IsSerialRun}
 use Rattle.world.specs.Client.{IsServed}
@@ -22,11 +19,9 @@ use Rattle.fragdb.specs.declared.catalog_file.CatalogFault.TheVariants.{Program,
 use Rattle.fragdb.specs.declared.fault.ProgramFault.{ProgramFault}
 use Rattle.fragdb.specs.declared.fault.ProgramFault.TheVariants.{CannotRead, CannotWrite, Malformed, Memory, ScriptTooLong, Store}
 use Rattle.fragdb.specs.CatalogFile.{IsCatalogueFile, RefusesFile}
-use Rattle.store.specs.declared.plain_desk.PlainDesk.{PlainDesk}
-use Rattle.store.specs.declared.plain_site.PlainSite.{PlainSite}
-use Rattle.fragdb.specs.Client.{AnswersTask, GoesOn, IsOfClient, Standing, standing_of}
+use Rattle.fragdb.specs.Client.{AnswersTask, GoesOn, IsOfClient, Seen, Standing, standing_of}
+use Rattle.fragdb.specs.Origin.{BeginsWith, Origin}
 use Rattle.fragdb.specs.Input.{IsOfInput}
-use Rattle.fragdb.specs.PlayLoad.{emptied}
 use Rattle.fragdb.specs.Reply.{Answered, Refused, Told, is_refusal, text_of}
 use Rattle.fragdb.specs.Script.{Reading, Runs, first_unreadable, lines_of, tasks_of_lines}
 
@@ -71,42 +66,22 @@ pub record IsWork (mode : Mode) (catalogue : Catalogue) (tasks : List Reading) (
   pub lines : written ≡ flat_map (λ p. text_of p.1) answers
   pub refused : any_refused ≡ list_any (λ p. is_refusal p.1) answers
 
--- the relations of a catalogue, with no row
-abbrev pub no_rows : Catalogue → Relations
-no_rows catalogue = emptied (schemas_of catalogue) finite.empty
-
--- a database that was opened over relations without rows: nothing has happened, and no transaction has begun
-pub record IsOpened (catalogue : Catalogue) (standing : Standing catalogue) : Type 0 where
-  pub served : IsServed (database catalogue) (no_rows catalogue) standing.machines standing.past
+-- a database that was opened over these whole relations: nothing has happened, and no transaction has begun
+pub record IsOpened (catalogue : Catalogue) (whole : Relations) (standing : Standing catalogue) : Type 0 where
+  pub served : IsServed (database catalogue) whole standing.machines standing.past
   pub none : standing.past ≡ []
   pub idle : standing.current ≡ None
 
--- a database was just opened over relations without rows, and goes on
-pub record IsNew (catalogue : Catalogue) (solo : code.Solo PlainDesk PlainSite) : Type 0 where
-  pub goes_on : GoesOn catalogue (no_rows catalogue) [] solo
-  pub idle : solo.current ≡ None
-
 -- A run of tasks from the opening to its end, where all is quiet or the open transaction is ready, and the serial law holds of just what was asked for and heard by them: the committed
 -- transactions, one after another over whole relations, give the answers that were heard, and what the settled fragments rebuild.
-pub record IsRun (mode : Mode) (catalogue : Catalogue) (tasks : List Reading) (written : List ℕ) (any_refused : Bool) : Type 0 where
+pub record IsRunFrom (mode : Mode) (catalogue : Catalogue) (whole : Relations) (tasks : List Reading) (written : List ℕ) (any_refused : Bool) : Type 0 where
   pub opening : Standing catalogue
-  pub opened : IsOpened catalogue opening
+  pub opened : IsOpened catalogue whole opening
   pub end : Standing catalogue
   pub work : IsWork mode catalogue tasks written any_refused opening end
-  pub served : IsServed (database catalogue) (no_rows catalogue) end.machines end.past
+  pub served : IsServed (database catalogue) whole end.machines end.past
   pub stands : Stands (database catalogue) (fits catalogue) end.current end.machines end.past
-  pub serial : IsSerialRun (database catalogue) (no_rows catalogue) end.machines (said_by_tasks mode catalogue work.answers opening end work.answered)
-
--- a run of tasks over a database that goes on
-pub record IsStretch (mode : Mode) (catalogue : Catalogue) (whole : Relations) (tasks : List Reading) (past : List (Deed (language (database catalogue)))) (old new : code.Solo PlainDesk PlainSite) (written : List ℕ) (any_refused : Bool) : Type 0 where
-  pub later : List (Deed (language (database catalogue)))
-  pub goes_on : GoesOn catalogue whole later new
-  pub work : IsWork mode catalogue tasks written any_refused (standing_of catalogue old past) (standing_of catalogue new later)
-
--- a script that may run has run to its end, and all that its lines are answered by was written
-abbrev pub HasRun : Mode → Catalogue → List ℕ → Option (List ℕ) → Option (List ℕ) → Bool → Type 0
-HasRun mode catalogue script old new any_refused =
-    IsAccepted script × ((written : List ℕ) × Appends old new written × IsRun mode catalogue (tasks_of_lines (lines_of script)) written any_refused)
+  pub serial : IsSerialRun (database catalogue) whole end.machines (said_by_tasks mode catalogue work.answers opening end work.answered)
 
 -- what stopped a script, of which all bytes were read
 abbrev pub StopsRun : List ℕ → Option (List ℕ) → Option (List ℕ) → ProgramFault → Type 0
@@ -117,11 +92,6 @@ StopsRun script old new CannotWrite = IsAccepted script
 StopsRun script old new (CannotRead name) = ⊥
 StopsRun script old new ScriptTooLong = ⊥
 
--- a script that is short enough ran to its end, or was stopped
-abbrev pub RunsOrStops : Mode → Catalogue → List ℕ → Option (List ℕ) → Option (List ℕ) → Result Bool ProgramFault → Type 0
-RunsOrStops mode catalogue script old new (Ok any_refused) = HasRun mode catalogue script old new any_refused
-RunsOrStops mode catalogue script old new (Err fault) = StopsRun script old new fault
-
 -- what stopped the script of this file
 abbrev pub StopsScript : Bor (List ℕ) → List ℕ → Option (List ℕ) → Option (List ℕ) → ProgramFault → Type 0
 StopsScript file script old new (CannotRead name) = (name ≡ file) × Keeps old new
@@ -131,26 +101,57 @@ StopsScript file script old new Memory = ¬ (IsAccepted script) → Keeps old ne
 StopsScript file script old new (Store why) = IsAccepted script
 StopsScript file script old new CannotWrite = IsAccepted script
 
--- the script of a file ran to its end, or was stopped
-abbrev pub RunsScript : Mode → Catalogue → Bor (List ℕ) → List ℕ → Option (List ℕ) → Option (List ℕ) → Result Bool ProgramFault → Type 0
-RunsScript mode catalogue file script old new (Ok any_refused) = HasRun mode catalogue script old new any_refused
-RunsScript mode catalogue file script old new (Err fault) = StopsScript file script old new fault
-
--- these bytes are of a valid catalogue, over which the script of this file ran to its end, or was stopped
-pub record IsRunOf (mode : Mode) (bytes : List ℕ) (file : Bor (List ℕ)) (script : List ℕ) (old new : Option (List ℕ)) (result : Result Bool ProgramFault) : Type 0 where
-  pub catalogue : Catalogue
-  pub text : IsCatalogueFile bytes catalogue
-  pub valid : IsValidCatalogue catalogue
-  pub ran : RunsScript mode catalogue file script old new result
-
--- The run of a script over a catalogue, each the bytes of a file. The catalogue is looked at first, and where it is none nothing is written.
-abbrev pub RunsFiles : Mode → Bor (List ℕ) → List ℕ → Bor (List ℕ) → List ℕ → Option (List ℕ) → Option (List ℕ) → Result Bool CatalogFault → Type 0
-RunsFiles mode catalog bytes file script old new (Ok any_refused) = IsRunOf mode bytes file script old new (Ok any_refused)
-RunsFiles mode catalog bytes file script old new (Err (Refused fault)) = RefusesFile bytes fault.relation fault.rule × Keeps old new
-RunsFiles mode catalog bytes file script old new (Err (Program fault)) = (IsOfInput catalog fault × Keeps old new) ⊎ IsRunOf mode bytes file script old new (Err fault)
-
 -- why nothing runs where the script can't be opened: the catalogue is none, or that is told
 abbrev pub IsUnrun : Bor (List ℕ) → List ℕ → Bor (List ℕ) → Result Bool CatalogFault → Type 0
 IsUnrun catalog bytes file (Ok any_refused) = ⊥
 IsUnrun catalog bytes file (Err (Refused fault)) = RefusesFile bytes fault.relation fault.rule
 IsUnrun catalog bytes file (Err (Program fault)) = IsOfInput catalog fault ⊎ IsOfInput file fault
+
+-- a run of tasks over a database that goes on
+pub record IsStretch {B : Type 0} (seen : Seen B) (mode : Mode) (catalogue : Catalogue) (whole : Relations) (tasks : List Reading) (past : List (Deed (language (database catalogue)))) (old new : B) (written : List ℕ) (any_refused : Bool) : Type 0 where
+  pub later : List (Deed (language (database catalogue)))
+  pub goes_on : GoesOn seen catalogue whole later new
+  pub work : IsWork mode catalogue tasks written any_refused (standing_of seen catalogue old past) (standing_of seen catalogue new later)
+
+-- something was written, and whatever has happened before, that is a run of these tasks where the stores are clean at its end
+pub record Stretches {B : Type 0} (seen : Seen B) (mode : Mode) (tasks : List Reading) (before after : Option (List ℕ)) (old new : B) (any_refused : Bool) : Type 0 where
+  pub written : List ℕ
+  pub told : Appends before after written
+  pub ran : (catalogue : Catalogue) (whole : Relations) (past : List (Deed (language (database catalogue)))) → seen.is_clean new → GoesOn seen catalogue whole past old → IsStretch seen mode catalogue whole tasks past old new written any_refused
+
+-- seen: how databases are seen that are opened for a run; IsOrigin: what they may begin with
+module _ {B : Type 0} (seen : Seen B) (IsOrigin : Origin → Type 0) where
+  -- a run of tasks over a database that was opened for it, whatever relations it began with. It is one where the stores are clean at its end
+  pub record IsRun (mode : Mode) (catalogue : Catalogue) (tasks : List Reading) (written : List ℕ) (any_refused : Bool) : Type 0 where
+    pub origin : Origin
+    pub is_origin : IsOrigin origin
+    pub ended : B
+    pub ran : (whole : Relations) → BeginsWith catalogue origin whole → seen.is_clean ended → IsRunFrom mode catalogue whole tasks written any_refused
+
+  -- a script that may run has run to its end, and all that its lines are answered by was written
+  abbrev pub HasRun : Mode → Catalogue → List ℕ → Option (List ℕ) → Option (List ℕ) → Bool → Type 0
+  HasRun mode catalogue script old new any_refused =
+      IsAccepted script × ((written : List ℕ) × Appends old new written × IsRun mode catalogue (tasks_of_lines (lines_of script)) written any_refused)
+
+  -- a script that is short enough ran to its end, or was stopped
+  abbrev pub RunsOrStops : Mode → Catalogue → List ℕ → Option (List ℕ) → Option (List ℕ) → Result Bool ProgramFault → Type 0
+  RunsOrStops mode catalogue script old new (Ok any_refused) = HasRun mode catalogue script old new any_refused
+  RunsOrStops mode catalogue script old new (Err fault) = StopsRun script old new fault
+
+  -- the script of a file ran to its end, or was stopped
+  abbrev pub RunsScript : Mode → Catalogue → Bor (List ℕ) → List ℕ → Option (List ℕ) → Option (List ℕ) → Result Bool ProgramFault → Type 0
+  RunsScript mode catalogue file script old new (Ok any_refused) = HasRun mode catalogue script old new any_refused
+  RunsScript mode catalogue file script old new (Err fault) = StopsScript file script old new fault
+
+  -- these bytes are of a valid catalogue, over which the script of this file ran to its end, or was stopped
+  pub record IsRunOf (mode : Mode) (bytes : List ℕ) (file : Bor (List ℕ)) (script : List ℕ) (old new : Option (List ℕ)) (result : Result Bool ProgramFault) : Type 0 where
+    pub catalogue : Catalogue
+    pub text : IsCatalogueFile bytes catalogue
+    pub valid : IsValidCatalogue catalogue
+    pub ran : RunsScript mode catalogue file script old new result
+
+  -- The run of a script over a catalogue, each the bytes of a file. The catalogue is looked at first, and where it is none nothing is written.
+  abbrev pub RunsFiles : Mode → Bor (List ℕ) → List ℕ → Bor (List ℕ) → List ℕ → Option (List ℕ) → Option (List ℕ) → Result Bool CatalogFault → Type 0
+  RunsFiles mode catalog bytes file script old new (Ok any_refused) = IsRunOf mode bytes file script old new (Ok any_refused)
+  RunsFiles mode catalog bytes file script old new (Err (Refused fault)) = RefusesFile bytes fault.relation fault.rule × Keeps old new
+  RunsFiles mode catalog bytes file script old new (Err (Program fault)) = (IsOfInput catalog fault × Keeps old new) ⊎ IsRunOf mode bytes file script old new (Err fault)

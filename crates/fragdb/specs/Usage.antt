@@ -1,5 +1,6 @@
 -- What the words of the command line ask for.
-use Rattle.std.specs.Prelude.{◌≡◌, ◌⊎◌, Bool, true, false, List, [], ◌∷◌, Option, Some, None, bytes_eq, codes, option_map}
+use Rattle.std.specs.Prelude.{◌≡◌, ◌⊎◌, ℕ, Bool, true, false, List, [], ◌∷◌, Option, Some, None, bytes_eq, codes, option_map}
+use Rattle.std.specs.Borrow.{Bor}
 use Rattle.std.specs.List.{AllByRecursion}
 use Rattle.clap.specs.Words.{App, Row, Rule, Text, first_of, new_app, new_rule, subcommand_of, with_rule, with_subcommand}
 use Rattle.clap.specs.Matches.{first_value}
@@ -18,6 +19,8 @@ use Rattle.fragdb.specs.declared.outcome.Status.{Status}
 use Rattle.fragdb.specs.declared.outcome.Status.TheVariants as status
 use Rattle.fragdb.specs.declared.usage.Request.{Request}
 use Rattle.fragdb.specs.declared.usage.Request.TheVariants.{Solo, Check, Plan, Play}
+use Rattle.fragdb.specs.declared.usage.Stores.{Stores}
+use Rattle.fragdb.specs.declared.usage.Stores.TheVariants.{Folder, InMemory, Lists}
 
 -- an argument that must be given
 abbrev pub argument : Text → Rule
@@ -66,6 +69,13 @@ shown app = with_rule (with_rule (columned app) (flag (codes "CSV") (codes "csv"
 abbrev pub held : App → App
 held app = with_rule app (flag (codes "INTERACTIVE") (codes "interactive"))
 
+-- the command with a flag that asks for stores in SQLite, and with a folder for them
+abbrev pub in_sqlite : App → App
+in_sqlite app = with_rule app (flag (codes "SQLITE") (codes "sqlite"))
+
+abbrev pub stored : App → App
+stored app = with_rule (in_sqlite app) (option_argument (codes "DIR") (codes "dir"))
+
 -- the command line's grammar: `fragdb solo`, `fragdb check CATALOG`, both with flags, `fragdb plan CATALOG STATEMENT` and `fragdb play`
 abbrev pub program : App
 program = record {
@@ -75,8 +85,8 @@ program = record {
 
 abbrev pub usage : App
 usage =
-    with_subcommand (with_subcommand (with_subcommand (with_subcommand program (shown (held (explained (of_any_script (codes "solo"))))).top) (treed (explained (command_with (codes "check") (codes "CATALOG")))).top)
-    (treed (command_with_two (codes "plan") (codes "CATALOG") (codes "STATEMENT"))).top) (of_script (codes "play")).top
+    with_subcommand (with_subcommand (with_subcommand (with_subcommand program (stored (shown (held (explained (of_any_script (codes "solo")))))).top) (treed (explained (command_with (codes "check") (codes "CATALOG")))).top)
+    (treed (command_with_two (codes "plan") (codes "CATALOG") (codes "STATEMENT"))).top) (in_sqlite (of_script (codes "play"))).top
 
 -- an argument of this rule, of its own command alone
 pub record IsRule (rule : Rule) (arg : Arg) : Type 0 where
@@ -110,21 +120,32 @@ script_of None false false = None
 
 -- a request in words: the command, and its arguments, each with its name
 abbrev pub asked : Request → Text × List (Text × Option Text)
-asked (Solo catalog script explain interactive mode) = (codes "solo", (codes "CATALOG", option_map (λ file. file.now) catalog) ∷ (codes "SCRIPT", Some script.now) ∷ [])
+asked (Solo catalog script explain interactive mode sqlite dir) = (codes "solo", (codes "CATALOG", option_map (λ file. file.now) catalog) ∷ (codes "SCRIPT", Some script.now) ∷ (codes "DIR", option_map (λ folder. folder.now) dir) ∷ [])
 asked (Check catalog explain as_tree) = (codes "check", (codes "CATALOG", Some catalog.now) ∷ [])
 asked (Plan catalog statement as_tree) = (codes "plan", (codes "CATALOG", Some catalog.now) ∷ (codes "STATEMENT", Some statement.now) ∷ [])
-asked (Play catalog script) = (codes "play", (codes "CATALOG", option_map (λ file. file.now) catalog) ∷ (codes "SCRIPT", Some script.now) ∷ [])
+asked (Play catalog script sqlite) = (codes "play", (codes "CATALOG", option_map (λ file. file.now) catalog) ∷ (codes "SCRIPT", Some script.now) ∷ [])
 
 -- whether a request is to be explained where it is refused
 abbrev pub explains : Request → Bool
-explains (Solo catalog script explain interactive mode) = explain
+explains (Solo catalog script explain interactive mode sqlite dir) = explain
 explains (Check catalog explain as_tree) = explain
 explains _ = false
 
 -- whether each line is to be asked for, wherever it comes from
 abbrev pub is_interactive : Request → Bool
-is_interactive (Solo catalog script explain interactive mode) = interactive
+is_interactive (Solo catalog script explain interactive mode sqlite dir) = interactive
 is_interactive _ = false
+
+-- where a request's stores are: in lists, in SQLite in memory, or in a folder, whatever else is asked for
+abbrev pub stores_in : Bool → Option (Bor (List ℕ)) → Stores
+stores_in sqlite (Some folder) = Folder folder
+stores_in true None = InMemory
+stores_in false None = Lists
+
+abbrev pub stores_of : Request → Stores
+stores_of (Solo catalog script explain interactive mode sqlite dir) = stores_in sqlite dir
+stores_of (Play catalog script sqlite) = stores_in sqlite None
+stores_of _ = Lists
 
 -- whether answers are shown in columns, as CSV, or as JSON
 abbrev pub is_columns : Mode → Bool
@@ -151,16 +172,17 @@ mode_of_flags false true true = None
 
 -- the flags of a request's command, and whether they are set
 abbrev pub flags_of : Request → List (Text × Bool)
-flags_of (Solo catalog script explain interactive mode) = (codes "EXPLAIN", explain) ∷ (codes "INTERACTIVE", interactive) ∷ (codes "COLUMNS", is_columns mode) ∷ (codes "CSV", is_csv mode) ∷ (codes "JSON", is_json mode) ∷ []
+flags_of (Solo catalog script explain interactive mode sqlite dir) = (codes "EXPLAIN", explain) ∷ (codes "INTERACTIVE", interactive) ∷ (codes "COLUMNS", is_columns mode) ∷ (codes "CSV", is_csv mode) ∷ (codes "JSON", is_json mode) ∷ (codes "SQLITE", sqlite) ∷ []
 flags_of (Check catalog explain as_tree) = (codes "EXPLAIN", explain) ∷ (codes "TREE", as_tree) ∷ []
 flags_of (Plan catalog statement as_tree) = (codes "TREE", as_tree) ∷ []
-flags_of _ = []
+flags_of (Play catalog script sqlite) = (codes "SQLITE", sqlite) ∷ []
 
 -- the words leave the script of `solo` out where each line is to be asked for: it is the standard input
 pub record LeavesOut (words : List Text) (at_terminal : Bool) (request : Request) : Type 0 where
   pub catalog : Option Text
-  pub given : IsGiven words (codes "solo", (codes "CATALOG", catalog) ∷ (codes "SCRIPT", None) ∷ []) (flags_of request)
-  pub asks : asked request ≡ (codes "solo", (codes "CATALOG", catalog) ∷ (codes "SCRIPT", script_of None (is_interactive request) at_terminal) ∷ [])
+  pub dir : Option Text
+  pub given : IsGiven words (codes "solo", (codes "CATALOG", catalog) ∷ (codes "SCRIPT", None) ∷ (codes "DIR", dir) ∷ []) (flags_of request)
+  pub asks : asked request ≡ (codes "solo", (codes "CATALOG", catalog) ∷ (codes "SCRIPT", script_of None (is_interactive request) at_terminal) ∷ (codes "DIR", dir) ∷ [])
 
 -- what is wrong with the words after `solo`, though each is known: no script is named, and no line is to be asked for, or answers are to be shown in two ways; or memory ran out
 pub data IsMisuse (found : Found) (at_terminal : Bool) : ErrorKind → Type 0 where

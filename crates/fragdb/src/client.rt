@@ -1,64 +1,40 @@
 //! The client of a script: what each item is answered by.
 
-ghost use Rattle.std.specs.Prelude.{◌≡◌, ◌++◌, false, List, IfErr, IfOk, OnOk, string_bytes};
-ghost use Rattle.catalog.specs.Catalogue.{Catalogue};
-ghost use Rattle.catalog.specs.Relation.{catalogue_of};
-ghost use Rattle.meaning.specs.Whole.{Relations};
-ghost use Rattle.protocol.specs.Desk.{Deed};
-ghost use Rattle.desk.specs.Database.{language};
-ghost use Rattle.desk.specs.CatalogueDatabase.{database as base};
+ghost use Rattle.std.specs.Prelude.{◌≡◌, ◌++◌, false, IfErr, IfOk, OnOk, string_bytes};
 ghost use Rattle.world.specs.Stopping.{is_stop};
 ghost use Rattle.shell.specs.Mode.{line_in};
 ghost use Rattle.fragdb.specs.Client as client;
-ghost use Rattle.fragdb.specs.Client.{GoesOn, IsOfClient, Serves, ShowsPartsOf, standing_of};
+ghost use Rattle.fragdb.specs.Client.{IsOfClient, Serves, ShowsParts, seen_over};
 ghost use Rattle.fragdb.specs.PlayText as spec;
 ghost use Rattle.fragdb.specs.Reply.{Answered, Refused, told_by};
 ghost use Rattle.fragdb.specs.Script.{Runs, ShowsLeaf, ShowsRelation, task_of};
-ghost use Rattle.fragdb.specs.Solo.{IsNew};
 
 use crate::fault::ProgramFault;
-use crate::play_load::empty_relations;
 use crate::play_text::{refused_text, reply_text};
 use crate::reply::Reply;
 use crate::script::Item;
 use crate::shown::{leaf_written, no_leaf, parts_text, relation_text};
-use catalog::catalogue::Catalog;
 use desk::refusal::Refusal;
 use desk::reply::{Notice, Reply as Heard};
 use shell::mode::{Mode, put_answer, put_line, show_line};
 use site::fault::SiteFault;
 use std::alloc::Global;
-use store::plain_desk::PlainDesk;
-use store::plain_site::PlainSite;
+use store::desk_store::DeskStore;
+use store::site_store::SiteStore;
 use terms::leaf::Leaf;
 use terms::memory::Memory;
 use terms::text::Text;
 use world::fault::Fault;
-use world::solo::{Solo, open};
-
-/// A database over lists.
-pub type Database = Solo<PlainDesk, PlainSite>;
-
-/// A database of this catalogue, whose relations have no row.
-pub fn open_empty(alloc: Global, catalog: &Catalog) -> Result<Database, Memory>
-    ensures { IfOk result (IsNew (catalogue_of catalog.now)) }
-{
-    let whole = empty_relations(alloc, catalog.schema())?;
-    match open(alloc, catalog, &whole) {
-        Ok(database) => Ok(database),
-        // Lists refuse for want of memory alone.
-        Err(_) => Err(Memory),
-    }
-}
+use world::solo::Solo;
 
 /// What an item is answered by.
-pub fn answer<'a>(
+pub fn answer<'a, D: DeskStore, S: SiteStore>(
     alloc: Global,
     mode: Mode,
-    database: &mut Database,
+    database: &mut Solo<D, S>,
     item: Item<'_>,
 ) -> Result<Reply, ProgramFault<'a>>
-    ensures { Serves mode (task_of item.entry) told_by database.old database.new result }
+    ensures { Serves (seen_over D.is_clean S.is_clean D.is_sound S.is_sound D.kept S.kept D.refused S.refused) mode (task_of item.entry) told_by database.old database.new result }
 {
     match item {
         Item::Statement(text) => command(alloc, mode, database, text),
@@ -68,13 +44,13 @@ pub fn answer<'a>(
 }
 
 /// What the command of this text is answered by.
-fn command<'a>(
+fn command<'a, D: DeskStore, S: SiteStore>(
     alloc: Global,
     mode: Mode,
-    database: &mut Database,
+    database: &mut Solo<D, S>,
     text: &str,
 ) -> Result<Reply, ProgramFault<'a>>
-    ensures { Serves mode (Runs text.now) told_by database.old database.new result }
+    ensures { Serves (seen_over D.is_clean S.is_clean D.is_sound S.is_sound D.kept S.kept D.refused S.refused) mode (Runs text.now) told_by database.old database.new result }
 {
     match database.execute(text) {
         Ok(heard) => Ok(Reply::Answer(heard_text(alloc, mode, heard.as_slice())?)),
@@ -122,13 +98,13 @@ fn refused<'a>(alloc: Global, mode: Mode, refusal: Refusal) -> Result<Reply, Pro
 }
 
 /// A relation as the fragments rebuild it.
-fn relation_shown<'a>(
+fn relation_shown<'a, D: DeskStore, S: SiteStore>(
     alloc: Global,
     mode: Mode,
-    database: &mut Database,
+    database: &mut Solo<D, S>,
     name: &str,
 ) -> Result<String, ProgramFault<'a>>
-    ensures { Serves mode (ShowsRelation name.now) (λ text. Answered (string_bytes text)) database.old database.new result }
+    ensures { Serves (seen_over D.is_clean S.is_clean D.is_sound S.is_sound D.kept S.kept D.refused S.refused) mode (ShowsRelation name.now) (λ text. Answered (string_bytes text)) database.old database.new result }
 {
     let name = Text::copy_of(alloc, name)?;
     match database.rebuilt(&name) {
@@ -138,13 +114,13 @@ fn relation_shown<'a>(
 }
 
 /// The parts that the leaf of this name keeps.
-fn leaf_shown<'a>(
+fn leaf_shown<'a, D: DeskStore, S: SiteStore>(
     alloc: Global,
     mode: Mode,
-    database: &mut Database,
+    database: &mut Solo<D, S>,
     name: &str,
 ) -> Result<String, ProgramFault<'a>>
-    ensures { Serves mode (ShowsLeaf name.now) (λ text. Answered (string_bytes text)) database.old database.new result }
+    ensures { Serves (seen_over D.is_clean S.is_clean D.is_sound S.is_sound D.kept S.kept D.refused S.refused) mode (ShowsLeaf name.now) (λ text. Answered (string_bytes text)) database.old database.new result }
 {
     match leaf_written(alloc, database.catalog().leaves(), name)? {
         Some(leaf) => parts_shown(alloc, mode, database, &leaf, name),
@@ -152,15 +128,14 @@ fn leaf_shown<'a>(
     }
 }
 
-fn parts_shown<'a>(
+fn parts_shown<'a, D: DeskStore, S: SiteStore>(
     alloc: Global,
     mode: Mode,
-    database: &mut Database,
+    database: &mut Solo<D, S>,
     leaf: &Leaf,
     name: &str,
 ) -> Result<String, ProgramFault<'a>>
-    ensures shown { (catalogue : Catalogue) (whole : Relations) (past : List (Deed (language (base catalogue)))) → GoesOn catalogue whole past database.old → IfOk result (λ text. GoesOn catalogue whole past database.new × ShowsPartsOf mode catalogue name.now leaf.now (standing_of catalogue database.old past) (standing_of catalogue database.new past) (string_bytes text)) }
-    ensures err { IfErr result IsOfClient }
+    ensures { ShowsParts (seen_over D.is_clean S.is_clean D.is_sound S.is_sound D.kept S.kept D.refused S.refused) mode name.now leaf.now (λ text. string_bytes text) database.old database.new result }
 {
     match database.parts(leaf) {
         Ok(found) => Ok(parts_text(alloc, mode, database.catalog(), leaf, name, found)?),
@@ -168,8 +143,8 @@ fn parts_shown<'a>(
     }
 }
 
-/// What stops the program where the machines can't show what they keep. Lists refuse for want of memory alone.
-fn stopped<'a>(fault: Fault) -> ProgramFault<'a>
+/// What stops the program where the machines can't show what they keep.
+pub fn stopped<'a>(fault: Fault) -> ProgramFault<'a>
     ensures { IsOfClient result }
 {
     match fault {

@@ -11,6 +11,7 @@ mod catalog_file;
 mod check;
 mod client;
 mod cut;
+mod database;
 mod delivering;
 mod dot;
 mod explaining;
@@ -19,6 +20,7 @@ mod fragment_tree;
 mod input;
 mod level;
 mod listing;
+mod opener;
 mod outcome;
 mod perform;
 mod plan_lines;
@@ -43,6 +45,7 @@ mod written;
 use crate::built_in::{BUILT_IN, BUILT_IN_NAME};
 use crate::explaining::explain_outcome;
 use crate::fault::ProgramFault;
+use crate::opener::Lists;
 use crate::outcome::{Outcome, Status, exit};
 use crate::perform::{perform, perform_session};
 use crate::solo::SCRIPT_LIMIT;
@@ -125,7 +128,15 @@ fn perform_on<C: Read + Drop, R: Read + Drop, W: Write, E: Write>(
         return have_session(rt, request, catalog_file, catalog, input, output, errors);
     }
     if !is_explained(rt, &request) {
-        let outcome = perform(rt.alloc(), request, catalog_file, catalog, input, output);
+        let outcome = perform(
+            rt.alloc(),
+            &Lists,
+            request,
+            catalog_file,
+            catalog,
+            input,
+            output,
+        );
         return exit(errors, &outcome);
     }
     match read_whole(rt.alloc(), input) {
@@ -184,6 +195,7 @@ fn have_session<C: Read + Drop, R: Read + Drop, W: Write, E: Write>(
     let alloc = rt.alloc();
     let outcome = perform_session(
         alloc,
+        &Lists,
         rt,
         request,
         catalog_file,
@@ -218,7 +230,15 @@ fn explain_performed<C: Read + Drop, W: Write, E: Write>(
         Ok(bytes) => bytes,
         Err(_) => &[],
     };
-    let outcome = perform(rt.alloc(), request, catalog_file, catalog, input, output);
+    let outcome = perform(
+        rt.alloc(),
+        &Lists,
+        request,
+        catalog_file,
+        catalog,
+        input,
+        output,
+    );
     let status = exit(errors, &outcome);
     let _ = explain(rt, request, &outcome, bytes, errors);
     status

@@ -6,17 +6,19 @@ ghost use Rattle.fragdb.specs.Perform.{ComesTo, IsStopped, IsUnread, Performs, P
 ghost use Rattle.fragdb.specs.Perform as spec;
 ghost use Rattle.fragdb.specs.Play.{IsUnplayed};
 ghost use Rattle.fragdb.specs.Solo.{IsUnrun};
-ghost use Rattle.fragdb.specs.Usage.{explains, is_interactive};
+ghost use Rattle.fragdb.specs.Usage.{explains, is_interactive, stores_of};
 
 use crate::catalog_file::CatalogFault;
 use crate::check::check;
+use crate::database::Database;
 use crate::fault::ProgramFault;
+use crate::opener::Opens;
 use crate::outcome::Outcome;
 use crate::plan_text::{PlanFault, plan};
 use crate::play::play_files;
 use crate::session::session_files;
 use crate::solo::solo_files;
-use crate::usage::Request;
+use crate::usage::{Request, Stores};
 use shell::mode::Mode;
 use std::alloc::Global;
 use std::io;
@@ -74,6 +76,19 @@ impl<'a> Request<'a> {
         }
     }
 
+    /// Where the stores of its database are.
+    pub fn stores(&self) -> Stores<'a>
+        ensures { result ≡ stores_of self.now }
+    {
+        match self {
+            Request::Solo { dir: Some(dir), .. } => Stores::Folder(dir),
+            Request::Solo { sqlite: true, .. } | Request::Play { sqlite: true, .. } => {
+                Stores::InMemory
+            }
+            _ => Stores::Lists,
+        }
+    }
+
     /// How answers are to be shown.
     pub fn mode(&self) -> Mode
         ensures { result ≡ spec.mode_of self.now }
@@ -109,8 +124,9 @@ impl<'a> Request<'a> {
 /// Does what is asked for over `input`, which is the file that the request names, opened, and over `catalog`, the
 /// catalogue that it names besides, or the built-in one; `catalog_file` names it in a fault. Answers what it came
 /// to. Nothing is written to `output` where a file can't be opened.
-pub fn perform<'a, C: Read + Drop, R: Read + Drop, W: Write>(
+pub fn perform<'a, B: Database + Drop, O: Opens<B>, C: Read + Drop, R: Read + Drop, W: Write>(
     alloc: Global,
+    opener: &O,
     request: Request<'a>,
     catalog_file: &'a str,
     catalog: io::Result<C>,
@@ -118,14 +134,23 @@ pub fn perform<'a, C: Read + Drop, R: Read + Drop, W: Write>(
     output: &mut W,
 ) -> Outcome<'a>
     ensures opened { IfOk input (λ reader. IfSome (R.remaining reader) (λ bytes. Performs request.entry bytes (W.contents output.old) (W.contents output.new) result)) }
-    ensures over { IfOk catalog (λ opened. IfSome (C.remaining opened) (λ bytes. IfOk input (λ reader. IfSome (R.remaining reader) (λ script. PerformsOver request.entry catalog_file.entry bytes script (W.contents output.old) (W.contents output.new) result)))) }
+    ensures over { IfOk catalog (λ opened. IfSome (C.remaining opened) (λ bytes. IfOk input (λ reader. IfSome (R.remaining reader) (λ script. PerformsOver B.seen O.origin request.entry catalog_file.entry bytes script (W.contents output.old) (W.contents output.new) result)))) }
     ensures uncatalogued { IfErr catalog (λ error. StopsUncatalogued request.entry catalog_file.entry (W.contents output.old) (W.contents output.new) result) }
     ensures idle { IfOk catalog (λ opened. IfSome (C.remaining opened) (λ bytes. IfErr input (λ error. StopsIdle request.entry catalog_file.entry bytes result))) }
     ensures unread { IfErr input (λ error. StopsUnread request.entry result × Keeps (W.contents output.old) (W.contents output.new)) }
 {
     match request {
         Request::Solo { script, mode, .. } => {
-            perform_solo(alloc, mode, catalog_file, catalog, script, input, output)
+            perform_solo(
+                alloc,
+                opener,
+                mode,
+                catalog_file,
+                catalog,
+                script,
+                input,
+                output,
+            )
         }
         Request::Check {
             catalog: file,
@@ -144,8 +169,9 @@ pub fn perform<'a, C: Read + Drop, R: Read + Drop, W: Write>(
 }
 
 /// Runs a script over a catalogue that was opened under this name.
-fn perform_solo<'a, C: Read + Drop, R: Read + Drop, W: Write>(
+fn perform_solo<'a, B: Database + Drop, O: Opens<B>, C: Read + Drop, R: Read + Drop, W: Write>(
     alloc: Global,
+    opener: &O,
     mode: Mode,
     file: &'a str,
     catalog: io::Result<C>,
@@ -153,20 +179,32 @@ fn perform_solo<'a, C: Read + Drop, R: Read + Drop, W: Write>(
     input: io::Result<R>,
     output: &mut W,
 ) -> Outcome<'a>
-    ensures ran { IfOk catalog (λ opened. IfSome (C.remaining opened) (λ bytes. IfOk input (λ reader. IfSome (R.remaining reader) (λ text. PerformsSolo mode file.entry bytes script.entry text (W.contents output.old) (W.contents output.new) result)))) }
+    ensures ran { IfOk catalog (λ opened. IfSome (C.remaining opened) (λ bytes. IfOk input (λ reader. IfSome (R.remaining reader) (λ text. PerformsSolo B.seen O.origin mode file.entry bytes script.entry text (W.contents output.old) (W.contents output.new) result)))) }
     ensures uncatalogued { IfErr catalog (λ error. IsUnread file.entry result × Keeps (W.contents output.old) (W.contents output.new)) }
     ensures idle { IfOk catalog (λ opened. IfSome (C.remaining opened) (λ bytes. IfErr input (λ error. ComesTo spec.outcome_of_script (IsUnrun file.entry bytes script.entry) result))) }
     ensures unread { IfErr input (λ error. IsStopped result × Keeps (W.contents output.old) (W.contents output.new)) }
 {
     match catalog {
-        Ok(catalog) => of_script(solo_files(alloc, mode, file, catalog, script, input, output)),
+        Ok(catalog) => of_script(solo_files(
+            alloc, opener, mode, file, catalog, script, input, output,
+        )),
         Err(error) => unread(file, &error),
     }
 }
 
 /// Has a session over a catalogue that was opened under this name, with the lines that `input` gives.
-pub fn perform_session<'a, K: Clock, C: Read + Drop, R: Read + Drop, W: Write, E: Write>(
+pub fn perform_session<
+    'a,
+    B: Database + Drop,
+    O: Opens<B>,
+    K: Clock,
+    C: Read + Drop,
+    R: Read + Drop,
+    W: Write,
+    E: Write,
+>(
     alloc: Global,
+    opener: &O,
     clock: &K,
     request: Request<'a>,
     catalog_file: &'a str,
@@ -175,7 +213,7 @@ pub fn perform_session<'a, K: Clock, C: Read + Drop, R: Read + Drop, W: Write, E
     output: &mut W,
     errors: &mut E,
 ) -> Outcome<'a>
-    ensures held { IfOk catalog (λ opened. IfSome (C.remaining opened) (λ bytes. PerformsSession catalog_file.entry bytes (spec.file_of request.entry) (W.contents output.old) (W.contents output.new) result)) }
+    ensures held { IfOk catalog (λ opened. IfSome (C.remaining opened) (λ bytes. PerformsSession B.seen O.origin catalog_file.entry bytes (spec.file_of request.entry) (W.contents output.old) (W.contents output.new) result)) }
     ensures uncatalogued { IfErr catalog (λ error. IsUnread catalog_file.entry result × Keeps (W.contents output.old) (W.contents output.new)) }
 {
     let mode = request.session_mode();
@@ -183,6 +221,7 @@ pub fn perform_session<'a, K: Clock, C: Read + Drop, R: Read + Drop, W: Write, E
     match catalog {
         Ok(catalog) => of_check(session_files(
             alloc,
+            opener,
             clock,
             mode,
             catalog_file,

@@ -1,17 +1,17 @@
 //! A session: what a person types is answered at once.
 
-ghost use Rattle.std.specs.Prelude.{◌≡◌, ℕ, List, IfErr, IfOk, IfSome, OnOk};
-ghost use Rattle.std.specs.Io.KnownBytes.{Appends, Keeps};
+ghost use Rattle.std.specs.Prelude.{◌≡◌, IfErr, IfOk, IfSome, OnOk};
 ghost use Rattle.std.specs.Str.{IsUtf8};
 ghost use Rattle.catalog.specs.Relation.{catalogue_of};
-ghost use Rattle.fragdb.specs.Session.{IsOfSession, IsSession, RunsSession, Talks};
+ghost use Rattle.fragdb.specs.Session.{HasTalked, IsOfSession, RunsSession, Talks};
 ghost use Rattle.fragdb.specs.Session as spec;
 ghost use Rattle.fragdb.specs.Solo.{IsOfRun};
 
 use crate::catalog_file::{CatalogFault, read_catalog};
-use crate::client::{Database, open_empty};
+use crate::database::Database;
 use crate::explaining::explain_text;
 use crate::fault::ProgramFault;
+use crate::opener::Opens;
 use crate::script::Item;
 use crate::session_word::{State, Turn, take_item, take_word, tell};
 use crate::typed::{Typed, first_of, is_whole, next_line};
@@ -33,8 +33,18 @@ const GREETING: &str =
 
 /// Answers what `input` gives, line by line, over a new database of the catalogue that `catalog` gives. `file` and
 /// `catalog_file` name them in a fault. The catalogue is read first.
-pub fn session_files<'a, K: Clock, C: Read + Drop, R: Read + Drop, W: Write, E: Write>(
+pub fn session_files<
+    'a,
+    B: Database + Drop,
+    O: Opens<B>,
+    K: Clock,
+    C: Read + Drop,
+    R: Read + Drop,
+    W: Write,
+    E: Write,
+>(
     alloc: Global,
+    opener: &O,
     clock: &K,
     mode: Mode,
     catalog_file: &'a str,
@@ -44,11 +54,13 @@ pub fn session_files<'a, K: Clock, C: Read + Drop, R: Read + Drop, W: Write, E: 
     output: &mut W,
     errors: &mut E,
 ) -> Result<(), CatalogFault<'a>>
-    ensures { IfSome (C.remaining catalog) (λ bytes. RunsSession catalog_file.entry bytes file.entry (W.contents output.old) (W.contents output.new) result) }
+    ensures { IfSome (C.remaining catalog) (λ bytes. RunsSession B.seen O.origin catalog_file.entry bytes file.entry (W.contents output.old) (W.contents output.new) result) }
 {
     match read_catalog(alloc, catalog_file, catalog) {
         Ok(catalog) => {
-            match open_session(alloc, clock, mode, &catalog, file, input, output, errors) {
+            match open_session(
+                alloc, opener, clock, mode, &catalog, file, input, output, errors,
+            ) {
                 Ok(()) => Ok(()),
                 Err(fault) => Err(CatalogFault::Program(fault)),
             }
@@ -58,8 +70,9 @@ pub fn session_files<'a, K: Clock, C: Read + Drop, R: Read + Drop, W: Write, E: 
 }
 
 /// Answers what `input` gives, if it could be opened.
-fn open_session<'a, K: Clock, R: Read + Drop, W: Write, E: Write>(
+fn open_session<'a, B: Database + Drop, O: Opens<B>, K: Clock, R: Read + Drop, W: Write, E: Write>(
     alloc: Global,
+    opener: &O,
     clock: &K,
     mode: Mode,
     catalog: &Catalog,
@@ -68,7 +81,7 @@ fn open_session<'a, K: Clock, R: Read + Drop, W: Write, E: Write>(
     output: &mut W,
     errors: &mut E,
 ) -> Result<(), ProgramFault<'a>>
-    ensures ok { OnOk result ((written : List ℕ) × Appends (W.contents output.old) (W.contents output.new) written × IsSession (catalogue_of catalog.now) written) }
+    ensures ok { OnOk result (HasTalked B.seen O.origin (catalogue_of catalog.now) (W.contents output.old) (W.contents output.new)) }
     ensures err { IfErr result (IsOfSession file.entry) }
 {
     let input = input.map_err(|error| ProgramFault::reading(file, &error))?;
@@ -76,14 +89,15 @@ fn open_session<'a, K: Clock, R: Read + Drop, W: Write, E: Write>(
         file, &error,
     ))?;
     session(
-        alloc, clock, mode, catalog, file, &mut input, output, errors,
+        alloc, opener, clock, mode, catalog, file, &mut input, output, errors,
     )
 }
 
 /// Answers what is typed, line by line, over a new database of this catalogue, until the input ends or the end is
 /// asked for. What is wrong with a line is told to `errors`, and costs that line alone.
-pub fn session<'a, K: Clock, R: BufRead, W: Write, E: Write>(
+pub fn session<'a, B: Database + Drop, O: Opens<B>, K: Clock, R: BufRead, W: Write, E: Write>(
     alloc: Global,
+    opener: &O,
     clock: &K,
     mode: Mode,
     catalog: &Catalog,
@@ -92,11 +106,11 @@ pub fn session<'a, K: Clock, R: BufRead, W: Write, E: Write>(
     output: &mut W,
     errors: &mut E,
 ) -> Result<(), ProgramFault<'a>>
-    ensures ok { OnOk result ((written : List ℕ) × Appends (W.contents output.old) (W.contents output.new) written × IsSession (catalogue_of catalog.now) written) }
+    ensures ok { OnOk result (HasTalked B.seen O.origin (catalogue_of catalog.now) (W.contents output.old) (W.contents output.new)) }
     ensures err { IfErr result (IsOfSession file.entry) }
 {
     moves_follow(catalog);
-    let mut database = open_empty(alloc, catalog)?;
+    let mut database = opener.open(alloc, catalog)?;
     talk(
         alloc,
         clock,
@@ -110,17 +124,17 @@ pub fn session<'a, K: Clock, R: BufRead, W: Write, E: Write>(
 }
 
 /// Greets, and answers line by line.
-fn talk<'a, K: Clock, R: BufRead, W: Write, E: Write>(
+fn talk<'a, B: Database, K: Clock, R: BufRead, W: Write, E: Write>(
     alloc: Global,
     clock: &K,
     mode: Mode,
-    database: &mut Database,
+    database: &mut B,
     file: &'a str,
     input: &mut R,
     output: &mut W,
     errors: &mut E,
 ) -> Result<(), ProgramFault<'a>>
-    ensures ok { OnOk result (Talks (W.contents output.old) (W.contents output.new) database.old database.new) }
+    ensures ok { OnOk result (Talks B.seen (W.contents output.old) (W.contents output.new) database.old database.new) }
     ensures err { IfErr result (IsOfSession file.entry) }
 {
     write_text(output, GREETING)?;
@@ -138,17 +152,17 @@ fn talk<'a, K: Clock, R: BufRead, W: Write, E: Write>(
 }
 
 /// Asks for a line, and answers it.
-fn take_turn<'a, K: Clock, R: BufRead, W: Write, E: Write>(
+fn take_turn<'a, B: Database, K: Clock, R: BufRead, W: Write, E: Write>(
     alloc: Global,
     clock: &K,
-    database: &mut Database,
+    database: &mut B,
     state: &mut State,
     file: &'a str,
     input: &mut R,
     output: &mut W,
     errors: &mut E,
 ) -> Result<Turn, ProgramFault<'a>>
-    ensures ok { OnOk result (Talks (W.contents output.old) (W.contents output.new) database.old database.new) }
+    ensures ok { OnOk result (Talks B.seen (W.contents output.old) (W.contents output.new) database.old database.new) }
     ensures err { IfErr result (IsOfSession file.entry) }
 {
     write_text(output, prompt(!state.typed.is_empty(), database.is_open()))?;
@@ -206,15 +220,15 @@ fn tell_time<K: Clock, E: Write>(
 }
 
 /// Answers a line, which is given without its end. One that is no text changes nothing.
-fn take_bytes<'a, W: Write, E: Write>(
+fn take_bytes<'a, B: Database, W: Write, E: Write>(
     alloc: Global,
-    database: &mut Database,
+    database: &mut B,
     state: &mut State,
     line: &[u8],
     output: &mut W,
     errors: &mut E,
 ) -> Result<Turn, ProgramFault<'a>>
-    ensures ok { OnOk result (Talks (W.contents output.old) (W.contents output.new) database.old database.new) }
+    ensures ok { OnOk result (Talks B.seen (W.contents output.old) (W.contents output.new) database.old database.new) }
     ensures malformed { ¬ (IsUtf8 line.now) → IfOk result (λ turn. (turn ≡ Turn.GoesOn) × (database.new ≡ database.old) × (W.contents output.new ≡ W.contents output.old)) }
     ensures err { IfErr result IsOfRun }
 {
@@ -235,15 +249,15 @@ fn take_bytes<'a, W: Write, E: Write>(
 }
 
 /// Answers a line, or keeps it where it begins a statement that isn't whole.
-fn take_line<'a, W: Write, E: Write>(
+fn take_line<'a, B: Database, W: Write, E: Write>(
     alloc: Global,
-    database: &mut Database,
+    database: &mut B,
     state: &mut State,
     line: &str,
     output: &mut W,
     errors: &mut E,
 ) -> Result<Turn, ProgramFault<'a>>
-    ensures ok { OnOk result (Talks (W.contents output.old) (W.contents output.new) database.old database.new) }
+    ensures ok { OnOk result (Talks B.seen (W.contents output.old) (W.contents output.new) database.old database.new) }
     ensures err { IfErr result IsOfRun }
 {
     if state.typed.is_empty() {
@@ -259,15 +273,15 @@ fn take_line<'a, W: Write, E: Write>(
 }
 
 /// Answers the statements of a line, one after another. The last one is kept where it isn't whole.
-fn take_parts<'a, W: Write, E: Write>(
+fn take_parts<'a, B: Database, W: Write, E: Write>(
     alloc: Global,
-    database: &mut Database,
+    database: &mut B,
     state: &mut State,
     line: &str,
     output: &mut W,
     errors: &mut E,
 ) -> Result<Turn, ProgramFault<'a>>
-    ensures ok { OnOk result (Talks (W.contents output.old) (W.contents output.new) database.old database.new) }
+    ensures ok { OnOk result (Talks B.seen (W.contents output.old) (W.contents output.new) database.old database.new) }
     ensures err { IfErr result IsOfRun }
 {
     match first_of(line) {
@@ -280,15 +294,15 @@ fn take_parts<'a, W: Write, E: Write>(
 }
 
 /// Answers the statement that has been typed with this line, if it is whole. An empty line ends one too.
-fn take_part<'a, W: Write, E: Write>(
+fn take_part<'a, B: Database, W: Write, E: Write>(
     alloc: Global,
-    database: &mut Database,
+    database: &mut B,
     state: &mut State,
     line: &str,
     output: &mut W,
     errors: &mut E,
 ) -> Result<Turn, ProgramFault<'a>>
-    ensures ok { OnOk result (Talks (W.contents output.old) (W.contents output.new) database.old database.new) }
+    ensures ok { OnOk result (Talks B.seen (W.contents output.old) (W.contents output.new) database.old database.new) }
     ensures err { IfErr result IsOfRun }
 {
     state.typed.push_str(line)?;

@@ -5,7 +5,7 @@ ghost use Rattle.catalog.specs.Relation.{catalogue_of};
 ghost use Rattle.fragdb.specs.Session.{IsAsideOf, Talks};
 ghost use Rattle.fragdb.specs.Solo.{IsOfRun};
 
-use crate::client::{Database, answer};
+use crate::database::Database;
 use crate::dot::{WORDS, Word, mode_named, read, switch_named};
 use crate::explaining::explain_fault;
 use crate::fault::ProgramFault;
@@ -76,15 +76,15 @@ pub enum Turn {
 }
 
 /// Does what a line asks for that begins with a dot.
-pub fn take_word<'a, W: Write, E: Write>(
+pub fn take_word<'a, B: Database, W: Write, E: Write>(
     alloc: Global,
-    database: &mut Database,
+    database: &mut B,
     state: &mut State,
     line: &str,
     output: &mut W,
     errors: &mut E,
 ) -> Result<Turn, ProgramFault<'a>>
-    ensures ok { OnOk result (Talks (W.contents output.old) (W.contents output.new) database.old database.new) }
+    ensures ok { OnOk result (Talks B.seen (W.contents output.old) (W.contents output.new) database.old database.new) }
     ensures err { IfErr result IsOfRun }
 {
     match read(line) {
@@ -107,16 +107,16 @@ pub fn take_word<'a, W: Write, E: Write>(
 }
 
 /// Does what this word asks for, with what stands behind it.
-fn take_known<'a, W: Write, E: Write>(
+fn take_known<'a, B: Database, W: Write, E: Write>(
     alloc: Global,
-    database: &mut Database,
+    database: &mut B,
     state: &mut State,
     word: Word,
     rest: &str,
     output: &mut W,
     errors: &mut E,
 ) -> Result<Turn, ProgramFault<'a>>
-    ensures ok { OnOk result (Talks (W.contents output.old) (W.contents output.new) database.old database.new) }
+    ensures ok { OnOk result (Talks B.seen (W.contents output.old) (W.contents output.new) database.old database.new) }
     ensures err { IfErr result IsOfRun }
 {
     match word {
@@ -153,15 +153,15 @@ fn take_known<'a, W: Write, E: Write>(
 }
 
 /// Does what a word asks for that stands alone.
-fn take_lone<'a, W: Write, E: Write>(
+fn take_lone<'a, B: Database, W: Write, E: Write>(
     alloc: Global,
-    database: &mut Database,
+    database: &mut B,
     word: Word,
     rest: &str,
     output: &mut W,
     errors: &mut E,
 ) -> Result<Turn, ProgramFault<'a>>
-    ensures ok { OnOk result (Talks (W.contents output.old) (W.contents output.new) database.old database.new) }
+    ensures ok { OnOk result (Talks B.seen (W.contents output.old) (W.contents output.new) database.old database.new) }
     ensures err { IfErr result IsOfRun }
 {
     if !rest.is_empty() {
@@ -183,15 +183,15 @@ fn take_lone<'a, W: Write, E: Write>(
 }
 
 /// Lists columns or leaves, of each relation or of the one of this name.
-fn take_listing<'a, W: Write, E: Write>(
+fn take_listing<'a, B: Database, W: Write, E: Write>(
     alloc: Global,
-    database: &mut Database,
+    database: &mut B,
     word: Word,
     asked: &str,
     output: &mut W,
     errors: &mut E,
 ) -> Result<Turn, ProgramFault<'a>>
-    ensures ok { OnOk result (Talks (W.contents output.old) (W.contents output.new) database.old database.new) }
+    ensures ok { OnOk result (Talks B.seen (W.contents output.old) (W.contents output.new) database.old database.new) }
     ensures err { IfErr result IsOfRun }
 {
     if !asked.is_empty() && !is_word(asked) {
@@ -217,16 +217,16 @@ fn listing(alloc: Global, catalog: &Catalog, word: Word, asked: &str) -> Result<
 }
 
 /// Shows what is named, where a name is given.
-fn take_named<'a, W: Write, E: Write>(
+fn take_named<'a, B: Database, W: Write, E: Write>(
     alloc: Global,
     mode: Mode,
-    database: &mut Database,
+    database: &mut B,
     item: Item<'_>,
     name: &str,
     output: &mut W,
     errors: &mut E,
 ) -> Result<Turn, ProgramFault<'a>>
-    ensures ok { OnOk result (Talks (W.contents output.old) (W.contents output.new) database.old database.new) }
+    ensures ok { OnOk result (Talks B.seen (W.contents output.old) (W.contents output.new) database.old database.new) }
     ensures err { IfErr result IsOfRun }
 {
     if !is_word(name) {
@@ -243,29 +243,29 @@ fn take_named<'a, W: Write, E: Write>(
 }
 
 /// Answers one thing that is asked for.
-pub fn take_item<'a, W: Write>(
+pub fn take_item<'a, B: Database, W: Write>(
     alloc: Global,
     mode: Mode,
-    database: &mut Database,
+    database: &mut B,
     item: Item<'_>,
     output: &mut W,
 ) -> Result<(), ProgramFault<'a>>
-    ensures ok { OnOk result (Talks (W.contents output.old) (W.contents output.new) database.old database.new) }
+    ensures ok { OnOk result (Talks B.seen (W.contents output.old) (W.contents output.new) database.old database.new) }
     ensures err { IfErr result IsOfRun }
 {
-    let reply = answer(alloc, mode, database, item)?;
+    let reply = database.answer(alloc, mode, item)?;
     write_text(output, reply.text())
 }
 
 /// Shows which leaves a statement reads.
-fn take_plan<'a, W: Write, E: Write>(
+fn take_plan<'a, B: Database, W: Write, E: Write>(
     alloc: Global,
-    database: &mut Database,
+    database: &mut B,
     statement: &str,
     output: &mut W,
     errors: &mut E,
 ) -> Result<Turn, ProgramFault<'a>>
-    ensures ok { OnOk result (Talks (W.contents output.old) (W.contents output.new) database.old database.new) }
+    ensures ok { OnOk result (Talks B.seen (W.contents output.old) (W.contents output.new) database.old database.new) }
     ensures err { IfErr result IsOfRun }
 {
     if statement.is_empty() {

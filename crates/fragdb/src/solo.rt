@@ -1,21 +1,16 @@
 //! The command `solo`: a script over a database of its own.
 
-ghost use Rattle.std.specs.Prelude.{◌≡◌, ◌≤◌, ◌<◌, ℕ, List, [], true, IfOk, IfErr, IfSome, is_err, length, map};
+ghost use Rattle.std.specs.Prelude.{◌≡◌, ◌≤◌, ◌<◌, ℕ, List, true, IfOk, IfErr, IfSome, is_err, length, map};
 ghost use Rattle.std.specs.Io.KnownBytes.{Appends, Keeps};
-ghost use Rattle.catalog.specs.Catalogue.{Catalogue};
 ghost use Rattle.catalog.specs.Relation.{catalogue_of};
-ghost use Rattle.meaning.specs.Whole.{Relations};
-ghost use Rattle.protocol.specs.Desk.{Deed};
-ghost use Rattle.desk.specs.Database.{language};
-ghost use Rattle.desk.specs.CatalogueDatabase.{database as base};
-ghost use Rattle.fragdb.specs.Client.{GoesOn};
 ghost use Rattle.fragdb.specs.Script.{task_of};
-ghost use Rattle.fragdb.specs.Solo.{IsOfRead, IsOfRun, IsRun, IsStretch, IsUnrun, RunsFiles, RunsOrStops, RunsScript, longest};
+ghost use Rattle.fragdb.specs.Solo.{IsOfRead, IsOfRun, IsRun, IsUnrun, RunsFiles, RunsOrStops, RunsScript, Stretches, longest};
 
 use crate::catalog_file::{CatalogFault, read_catalog};
-use crate::client::{Database, answer, open_empty};
+use crate::database::Database;
 use crate::fault::ProgramFault;
 use crate::input::read_up_to;
+use crate::opener::Opens;
 use crate::script::{Item, items};
 use catalog::catalogue::Catalog;
 use shell::mode::Mode;
@@ -29,8 +24,9 @@ pub const SCRIPT_LIMIT: u64 = 1_048_576;
 
 /// Runs the script that `input` gives, which `file` names in a fault, over the catalogue that `catalog` gives, which
 /// `catalog_file` names. The catalogue is read first.
-pub fn solo_files<'a, C: Read + Drop, R: Read + Drop, W: Write>(
+pub fn solo_files<'a, B: Database + Drop, O: Opens<B>, C: Read + Drop, R: Read + Drop, W: Write>(
     alloc: Global,
+    opener: &O,
     mode: Mode,
     catalog_file: &'a str,
     catalog: C,
@@ -38,13 +34,13 @@ pub fn solo_files<'a, C: Read + Drop, R: Read + Drop, W: Write>(
     input: io::Result<R>,
     output: &mut W,
 ) -> Result<bool, CatalogFault<'a>>
-    ensures opened { IfSome (C.remaining catalog) (λ bytes. IfOk input (λ reader. IfSome (R.remaining reader) (λ script. RunsFiles mode catalog_file.entry bytes file.entry script (W.contents output.old) (W.contents output.new) result))) }
+    ensures opened { IfSome (C.remaining catalog) (λ bytes. IfOk input (λ reader. IfSome (R.remaining reader) (λ script. RunsFiles B.seen O.origin mode catalog_file.entry bytes file.entry script (W.contents output.old) (W.contents output.new) result))) }
     ensures unread { IfErr input (λ error. IfSome (C.remaining catalog) (λ bytes. IsUnrun catalog_file.entry bytes file.entry result)) }
     ensures idle { IfErr input (λ error. (is_err result ≡ true) × Keeps (W.contents output.old) (W.contents output.new)) }
 {
     match read_catalog(alloc, catalog_file, catalog) {
         Ok(catalog) => match input {
-            Ok(input) => match solo(alloc, mode, catalog, file, input, output) {
+            Ok(input) => match solo(alloc, opener, mode, catalog, file, input, output) {
                 Ok(any_refused) => Ok(any_refused),
                 Err(fault) => Err(CatalogFault::Program(fault)),
             },
@@ -57,33 +53,35 @@ pub fn solo_files<'a, C: Read + Drop, R: Read + Drop, W: Write>(
 /// Runs the script that `input` gives, which `file` names in a fault, over a new database of this catalogue: the
 /// whole script or none of it. Writes the answers to `output`, and answers whether a line was refused. It writes
 /// often, and flushes once: give it an output with a buffer.
-pub fn solo<'a, R: Read + Drop, W: Write>(
+pub fn solo<'a, B: Database + Drop, O: Opens<B>, R: Read + Drop, W: Write>(
     alloc: Global,
+    opener: &O,
     mode: Mode,
     catalog: Catalog,
     file: &'a str,
     input: R,
     output: &mut W,
 ) -> Result<bool, ProgramFault<'a>>
-    ensures { IfSome (R.remaining input) (λ script. RunsScript mode (catalogue_of catalog) file.entry script (W.contents output.old) (W.contents output.new) result) }
+    ensures { IfSome (R.remaining input) (λ script. RunsScript B.seen O.origin mode (catalogue_of catalog) file.entry script (W.contents output.old) (W.contents output.new) result) }
 {
     let script = read_script(alloc, file, input)?;
-    run_script(alloc, mode, catalog, script.as_slice(), output)
+    run_script(alloc, opener, mode, catalog, script.as_slice(), output)
 }
 
 /// Runs a script of which all bytes were read.
-fn run_script<'a, W: Write>(
+fn run_script<'a, B: Database + Drop, O: Opens<B>, W: Write>(
     alloc: Global,
+    opener: &O,
     mode: Mode,
     catalog: Catalog,
     script: &[u8],
     output: &mut W,
 ) -> Result<bool, ProgramFault<'a>>
     requires { length script.now ≤ longest }
-    ensures { RunsOrStops mode (catalogue_of catalog) script.now (W.contents output.old) (W.contents output.new) result }
+    ensures { RunsOrStops B.seen O.origin mode (catalogue_of catalog) script.now (W.contents output.old) (W.contents output.new) result }
 {
     let items = items(alloc, script)?;
-    let outcome = run(alloc, mode, catalog, items.as_slice(), output);
+    let outcome = run(alloc, opener, mode, catalog, items.as_slice(), output);
     // What was answered before a fault goes out too.
     let flushed = output.flush();
     let any_refused = outcome?;
@@ -111,36 +109,37 @@ pub fn read_script<'a, R: Read + Drop>(
 }
 
 /// Runs the items in order over a new database, and writes each answer. Answers whether a line was refused.
-fn run<'a, W: Write>(
+fn run<'a, B: Database + Drop, O: Opens<B>, W: Write>(
     alloc: Global,
+    opener: &O,
     mode: Mode,
     catalog: Catalog,
     items: &[Item<'_>],
     output: &mut W,
 ) -> Result<bool, ProgramFault<'a>>
-    ensures ok { IfOk result (λ any_refused. (written : List ℕ) × Appends (W.contents output.old) (W.contents output.new) written × IsRun mode (catalogue_of catalog) (map task_of items.now) written any_refused) }
+    ensures ok { IfOk result (λ any_refused. (written : List ℕ) × Appends (W.contents output.old) (W.contents output.new) written × IsRun B.seen O.origin mode (catalogue_of catalog) (map task_of items.now) written any_refused) }
     ensures err { IfErr result IsOfRun }
 {
     moves_follow(&catalog);
-    let mut database = open_empty(alloc, &catalog)?;
+    let mut database = opener.open(alloc, &catalog)?;
     run_items(alloc, mode, &mut database, items, output)
 }
 
 /// Runs the items over this database.
-fn run_items<'a, W: Write>(
+fn run_items<'a, B: Database, W: Write>(
     alloc: Global,
     mode: Mode,
-    database: &mut Database,
+    database: &mut B,
     items: &[Item<'_>],
     output: &mut W,
 ) -> Result<bool, ProgramFault<'a>>
-    ensures ok { (catalogue : Catalogue) (whole : Relations) (past : List (Deed (language (base catalogue)))) → GoesOn catalogue whole past database.old → IfOk result (λ any_refused. (written : List ℕ) × Appends (W.contents output.old) (W.contents output.new) written
-        × IsStretch mode catalogue whole (map task_of items.now) past database.old database.new written any_refused) }
+    ensures clean { B.seen.is_clean database.new → B.seen.is_clean database.old }
+    ensures ok { IfOk result (λ any_refused. Stretches B.seen mode (map task_of items.now) (W.contents output.old) (W.contents output.new) database.old database.new any_refused) }
     ensures err { IfErr result IsOfRun }
 {
     let mut any_refused = false;
     for item in items {
-        let reply = answer(alloc, mode, database, *item)?;
+        let reply = database.answer(alloc, mode, *item)?;
         any_refused |= reply.is_refusal();
         output
             .write_all(reply.text().as_bytes())

@@ -6,7 +6,7 @@ ghost use Rattle.std.specs.List.{AllByRecursion};
 ghost use Rattle.std.specs.IoError.{error_kind};
 ghost use Rattle.clap.specs.Matches.{first_value};
 ghost use Rattle.clap.specs.Words.{App, Rule, app_of, found_of, kind_of, new_app, new_rule, with_rule};
-ghost use Rattle.fragdb.specs.Usage.{Asks, IsCommand, IsMisuse, IsRule, argument, asked, command_with, command_with_two, explained, flag, flags_of, held, is_columns, is_csv, is_interactive, is_json, mode_of_flags, of_any_script, of_script, option_argument, script_of, shown, treed, usage, usage_status};
+ghost use Rattle.fragdb.specs.Usage.{Asks, IsCommand, IsMisuse, IsRule, argument, asked, command_with, command_with_two, explained, flag, flags_of, held, in_sqlite, is_columns, is_csv, is_interactive, is_json, mode_of_flags, of_any_script, of_script, option_argument, script_of, shown, stored, treed, usage, usage_status};
 ghost use Rattle.fragdb.specs.Usage as spec;
 
 use crate::fault::ProgramFault;
@@ -33,6 +33,10 @@ pub enum Request<'a> {
         interactive: bool,
         /// How answers are shown.
         mode: Mode,
+        /// Whether its stores are to be in SQLite, in memory.
+        sqlite: bool,
+        /// The folder of its stores, which are files of SQLite then.
+        dir: Option<&'a str>,
     },
     /// To check this catalogue, a file's name.
     Check {
@@ -54,7 +58,20 @@ pub enum Request<'a> {
     Play {
         catalog: Option<&'a str>,
         script: &'a str,
+        /// Whether its stores are to be in SQLite, in memory.
+        sqlite: bool,
     },
+}
+
+/// Where the stores of a database are.
+#[derive(Clone, Copy)]
+pub enum Stores<'a> {
+    /// In lists, which are gone at the end.
+    Lists,
+    /// In SQLite, in memory.
+    InMemory,
+    /// In SQLite, in the files of this folder.
+    Folder(&'a str),
 }
 
 /// What stands after the program's help.
@@ -68,6 +85,7 @@ Examples:
   echo \"INSERT INTO item VALUES (1, 3, 'a')\" | fragdb
   fragdb solo script.txt
   fragdb solo --catalog catalogue.toml script.txt
+  fragdb solo --dir data script.txt
   fragdb solo --explain script.txt
   fragdb solo --json script.txt
   fragdb solo --catalog catalogue.toml
@@ -130,6 +148,12 @@ const AFTER_PLAY: &str =
 /// What is told of the catalogue of a script.
 const CATALOG_HELP: &str = "A file with a catalogue, in TOML, in place of the built-in one";
 
+/// What is told of stores.
+const SQLITE_HELP: &str = "Keeps each site's fragments in a SQLite database, in memory";
+
+const DIR_HELP: &str =
+    "A folder of SQLite files in which data stay, one for each site and one for the coordinator";
+
 /// What is told where answers are to be shown in two ways.
 const TWO_MODES: &str =
     "the arguments '--columns', '--csv' and '--json' cannot be used with one another";
@@ -144,7 +168,7 @@ pub fn read_words<'a, S: AsStr>(
     words: &'a [S],
     is_at_terminal: bool,
 ) -> Result<Request<'a>, Error>
-    ensures alone { length words.entry.now ≤ 1 → IsOkAnd result (λ request. (asked request ≡ (codes "solo", (codes "CATALOG", None) ∷ (codes "SCRIPT", Some (codes "-")) ∷ [])) × (flags_of request ≡ (codes "EXPLAIN", false) ∷ (codes "INTERACTIVE", false) ∷ (codes "COLUMNS", false) ∷ (codes "CSV", false) ∷ (codes "JSON", false) ∷ [])) }
+    ensures alone { length words.entry.now ≤ 1 → IsOkAnd result (λ request. (asked request ≡ (codes "solo", (codes "CATALOG", None) ∷ (codes "SCRIPT", Some (codes "-")) ∷ [])) × (flags_of request ≡ (codes "EXPLAIN", false) ∷ (codes "INTERACTIVE", false) ∷ (codes "COLUMNS", false) ∷ (codes "CSV", false) ∷ (codes "JSON", false) ∷ (codes "SQLITE", false) ∷ [])) }
     ensures given { IfOk result (λ request. 1 < length words.entry.now → Asks (map S.text words.entry.now) is_at_terminal request) }
 {
     if words.len() <= 1 {
@@ -154,6 +178,8 @@ pub fn read_words<'a, S: AsStr>(
             explain: false,
             interactive: false,
             mode: Mode::Tabs,
+            sqlite: false,
+            dir: None,
         });
     }
     read_given(alloc, words, is_at_terminal)
@@ -198,7 +224,12 @@ fn read_given<'a, S: AsStr>(
         && let Some(script) = play.get_str("SCRIPT")
     {
         let catalog = play.get_str("CATALOG");
-        return Ok(Request::Play { catalog, script });
+        let sqlite = is_set(play.get_str("SQLITE"));
+        return Ok(Request::Play {
+            catalog,
+            script,
+            sqlite,
+        });
     }
     Err(command.error(ErrorKind::MissingSubcommand, "a command is missing")?)
 }
@@ -209,7 +240,7 @@ fn solo_given<'a>(
     solo: &ArgMatches<'a>,
     is_at_terminal: bool,
 ) -> Result<Request<'a>, Error>
-    ensures asks { IfOk result (λ request. asked request ≡ (codes "solo", (codes "CATALOG", first_value (found_of solo.entry.now) (codes "CATALOG")) ∷ (codes "SCRIPT", script_of (first_value (found_of solo.entry.now) (codes "SCRIPT")) (is_interactive request) is_at_terminal) ∷ [])) }
+    ensures asks { IfOk result (λ request. asked request ≡ (codes "solo", (codes "CATALOG", first_value (found_of solo.entry.now) (codes "CATALOG")) ∷ (codes "SCRIPT", script_of (first_value (found_of solo.entry.now) (codes "SCRIPT")) (is_interactive request) is_at_terminal) ∷ (codes "DIR", first_value (found_of solo.entry.now) (codes "DIR")) ∷ [])) }
     ensures flags { IfOk result (λ request. AllByRecursion (λ flag. spec.is_set (first_value (found_of solo.entry.now) flag.0) ≡ flag.1) (flags_of request)) }
     ensures misuse { IfErr result (λ error. IsMisuse (found_of solo.entry.now) is_at_terminal (kind_of error)) }
 {
@@ -226,6 +257,8 @@ fn solo_given<'a>(
         explain: is_set(solo.get_str("EXPLAIN")),
         interactive,
         mode,
+        sqlite: is_set(solo.get_str("SQLITE")),
+        dir: solo.get_str("DIR"),
     })
 }
 
@@ -307,7 +340,7 @@ fn command<'a>(alloc: Global) -> Result<Command<'a>, AllocError>
 }
 
 fn solo_command<'a>(alloc: Global) -> Result<Command<'a>, AllocError>
-    ensures { IfOk result (IsCommand (shown (held (explained (of_any_script (codes "solo")))))) }
+    ensures { IfOk result (IsCommand (stored (shown (held (explained (of_any_script (codes "solo"))))))) }
 {
     let solo = new_command(alloc, "solo", "Runs a script of statements, one at a time");
     let catalog = option(alloc, "CATALOG", "catalog", CATALOG_HELP);
@@ -332,7 +365,25 @@ fn solo_command<'a>(alloc: Global) -> Result<Command<'a>, AllocError>
         "Asks for each line, and answers it at once, as at a terminal",
     );
     let solo = with(solo, interactive)?;
-    with_modes(alloc, with_notes(solo, AFTER_SOLO))
+    let solo = with_modes(alloc, with_notes(solo, AFTER_SOLO))?;
+    with_stores(alloc, solo)
+}
+
+/// The command with what says where stores are.
+fn with_stores<'a>(alloc: Global, command: Command<'a>) -> Result<Command<'a>, AllocError>
+    ensures { (app : App) → IsCommand app command.entry → IfOk result (IsCommand (stored app)) }
+{
+    let command = with_sqlite(alloc, command)?;
+    let dir = option(alloc, "DIR", "dir", DIR_HELP);
+    with(command, dir)
+}
+
+/// The command with a flag that asks for stores in SQLite.
+fn with_sqlite<'a>(alloc: Global, command: Command<'a>) -> Result<Command<'a>, AllocError>
+    ensures { (app : App) → IsCommand app command.entry → IfOk result (IsCommand (in_sqlite app)) }
+{
+    let sqlite = flag(alloc, "SQLITE", "sqlite", SQLITE_HELP);
+    with(command, sqlite)
 }
 
 /// The command with the flags that say how answers are shown.
@@ -392,7 +443,7 @@ fn plan_command<'a>(alloc: Global) -> Result<Command<'a>, AllocError>
 }
 
 fn play_command<'a>(alloc: Global) -> Result<Command<'a>, AllocError>
-    ensures { IfOk result (IsCommand (of_script (codes "play"))) }
+    ensures { IfOk result (IsCommand (in_sqlite (of_script (codes "play")))) }
 {
     let play = new_command(alloc, "play", "Plays a script of schedules, event by event");
     let play = with_notes(play, AFTER_PLAY);
@@ -403,7 +454,8 @@ fn play_command<'a>(alloc: Global) -> Result<Command<'a>, AllocError>
         "SCRIPT",
         "A file with one item a line, or - for standard input",
     );
-    with(play, script)
+    let play = with(play, script)?;
+    with_sqlite(alloc, play)
 }
 
 /// A command with no argument yet.

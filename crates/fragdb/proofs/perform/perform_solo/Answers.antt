@@ -9,8 +9,8 @@ pub returns-in-Ok-clause-ran : goal.returns-in-Ok-clause-ran
 returns-in-Ok-clause-ran g c =
     let old = g.W.Write.contents c.args.output.now in
     let new = g.W.Write.contents c.solo_files.new.output in
-    subst (λ catalog. IfOk catalog (λ opened. IfSome (g.C.Read.remaining opened) (λ bytes. IfOk c.args.input (λ reader. IfSome (g.R.Read.remaining reader) (λ text. ComesTo outcome_of_script (RunsFiles c.args.mode c.args.file bytes c.args.script text old new) c.of_script.result))))) (sym c.in-Ok.is)
-    (came_to (g.C.Read.remaining c.in-Ok.catalog) c.args.input g.R.Read.remaining outcome_of_script (λ bytes text. RunsFiles c.args.mode c.args.file bytes c.args.script text old new) c.solo_files.result c.of_script.result c.of_script.ensures c.solo_files.ensures.opened)
+    subst (λ catalog. IfOk catalog (λ opened. IfSome (g.C.Read.remaining opened) (λ bytes. IfOk c.args.input (λ reader. IfSome (g.R.Read.remaining reader) (λ text. ComesTo outcome_of_script (RunsFiles g.B.Database.seen g.O.Opens.origin c.args.mode c.args.file bytes c.args.script text old new) c.of_script.result))))) (sym c.in-Ok.is)
+    (came_to (g.C.Read.remaining c.in-Ok.catalog) c.args.input g.R.Read.remaining outcome_of_script (λ bytes text. RunsFiles g.B.Database.seen g.O.Opens.origin c.args.mode c.args.file bytes c.args.script text old new) c.solo_files.result c.of_script.result c.of_script.ensures c.solo_files.ensures.opened)
 
 pub returns-in-Ok-clause-idle : goal.returns-in-Ok-clause-idle
 returns-in-Ok-clause-idle g c =

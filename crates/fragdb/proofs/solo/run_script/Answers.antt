@@ -8,7 +8,7 @@ use Rattle.fragdb.proofs.solo.run_script.Goals as goal
 pub returns : goal.returns
 returns g c =
     let ran = c.in_ok-any_refused.ensures.ok in
-    let P : List Reading → Type 0 = λ tasks. IsRun c.args.mode (catalogue_of c.args.catalog) tasks ran.0 c.in_ok-any_refused.any_refused in (
+    let P : List Reading → Type 0 = λ tasks. IsRun g.B.Database.seen g.O.Opens.origin c.args.mode (catalogue_of c.args.catalog) tasks ran.0 c.in_ok-any_refused.any_refused in (
       record { short = c.requires; readable = c.in_ok-items.ensures.all_read },
       (
         ran.0,

@@ -2,7 +2,7 @@ use Rattle.std.proofs.Common.{◌≡◌, ap, ap₂, codes, true, ◌∙◌}
 use Rattle.std.proofs.lemmas.Result.{IfOk-weaker}
 use Rattle.clap.specs.Words.{App, app_of, with_subcommand}
 use Rattle.clap.specs.Simple.{app_of_fields, on_top}
-use Rattle.fragdb.specs.Usage.{command_with, command_with_two, explained, held, of_any_script, program, shown, treed}
+use Rattle.fragdb.specs.Usage.{command_with, command_with_two, explained, held, of_any_script, program, shown, stored, treed}
 use Rattle.fragdb.proofs.usage.command.Goals as goal
 
 pub returns : goal.returns
@@ -13,10 +13,10 @@ returns c =
     let required_is : app_of c.subcommand_required.result ≡ on_top (λ s. record s { subcommand_required = true }) (app_of c.after_help.result) = ap app_of_fields c.subcommand_required.ensures in
     let program_is : app_of c.subcommand_required.result ≡ program =
     required_is ∙ ap (on_top (λ s. record s { subcommand_required = true })) (after_is ∙ about_is ∙ version_is ∙ ap (on_top (λ s. record s { has_version = true })) c.new.ensures.app) in
-    let with_solo : app_of c.in_ok-subcommand.field-0 ≡ with_subcommand program (shown (held (explained (of_any_script (codes "solo"))))).top =
+    let with_solo : app_of c.in_ok-subcommand.field-0 ≡ with_subcommand program (stored (shown (held (explained (of_any_script (codes "solo")))))).top =
     c.in_ok-subcommand.ensures.shape c.in_ok-solo_command.ensures.own ∙ ap₂ with_subcommand program_is (ap (λ (a : App). a.top) c.in_ok-solo_command.ensures.is) in
-    let with_check : app_of c.in_ok-subcommand-2.field-0 ≡ with_subcommand (with_subcommand program (shown (held (explained (of_any_script (codes "solo"))))).top) (treed (explained (command_with (codes "check") (codes "CATALOG")))).top =
+    let with_check : app_of c.in_ok-subcommand-2.field-0 ≡ with_subcommand (with_subcommand program (stored (shown (held (explained (of_any_script (codes "solo")))))).top) (treed (explained (command_with (codes "check") (codes "CATALOG")))).top =
     c.in_ok-subcommand-2.ensures.shape c.in_ok-check_command.ensures.own ∙ ap₂ with_subcommand with_solo (ap (λ (a : App). a.top) c.in_ok-check_command.ensures.is) in
-    let with_plan : app_of c.in_ok-subcommand-3.field-0 ≡ with_subcommand (with_subcommand (with_subcommand program (shown (held (explained (of_any_script (codes "solo"))))).top) (treed (explained (command_with (codes "check") (codes "CATALOG")))).top) (treed (command_with_two (codes "plan") (codes "CATALOG") (codes "STATEMENT"))).top =
+    let with_plan : app_of c.in_ok-subcommand-3.field-0 ≡ with_subcommand (with_subcommand (with_subcommand program (stored (shown (held (explained (of_any_script (codes "solo")))))).top) (treed (explained (command_with (codes "check") (codes "CATALOG")))).top) (treed (command_with_two (codes "plan") (codes "CATALOG") (codes "STATEMENT"))).top =
     c.in_ok-subcommand-3.ensures.shape c.in_ok-plan_command.ensures.own ∙ ap₂ with_subcommand with_check (ap (λ (a : App). a.top) c.in_ok-plan_command.ensures.is) in
     IfOk-weaker c.subcommand-4.result _ _ (λ r h. h.shape c.in_ok-play_command.ensures.own ∙ ap₂ with_subcommand with_plan (ap (λ (a : App). a.top) c.in_ok-play_command.ensures.is)) c.subcommand-4.ensures

@@ -43,6 +43,7 @@ returns-3 g c =
     let entered = (c.in_ok-matches.ensures.ok.2 (ap is_simple usage_is)).1 ∙ ap (λ a. subcommand_of a (map g.S.AsStr.text c.args.words.now)) usage_is in
     let name = c.in-Some-play-default.ensures.name ∙ subcommand_name_of-rows c.in_ok-matches.matches in
     let rows = c.in-Some-play-default.ensures.rows in
-    inl (given_perhaps (map g.S.AsStr.text c.args.words.now) _ (codes "play") _ (codes "CATALOG") _ (codes "SCRIPT") c.in-Some-get_str-3.script.now entered
+    inl (given_perhaps (map g.S.AsStr.text c.args.words.now) _ (codes "play") _ (codes "CATALOG") _ (codes "SCRIPT") c.in-Some-get_str-3.script.now _ entered
     (ap (λ (t : List ℕ). Some t) (sym c.in-Some-play-default.is-play) ∙ name) rows
-    (c.get_str-catalog.ensures ∙ first_value-rows (found_of c.in-Some-play-default.play.now) (codes "CATALOG")) (c.in-Some-get_str-3.ensures ∙ first_value-rows (found_of c.in-Some-play-default.play.now) (codes "SCRIPT")))
+    (c.get_str-catalog.ensures ∙ first_value-rows (found_of c.in-Some-play-default.play.now) (codes "CATALOG")) (c.in-Some-get_str-3.ensures ∙ first_value-rows (found_of c.in-Some-play-default.play.now) (codes "SCRIPT"))
+    (sym (c.is_set-sqlite.ensures ∙ ap is_set (c.get_str-9.ensures ∙ first_value-rows (found_of c.in-Some-play-default.play.now) (codes "SQLITE"))), tt))
