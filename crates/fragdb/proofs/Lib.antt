@@ -17,3 +17,4 @@ pub mod LoadedLemmas
 pub mod PlayLemmas
 pub mod PerformLemmas
 pub mod SessionLemmas
+pub mod SqlStoresLemmas

@@ -12,6 +12,7 @@ pub mod Delivering
 pub mod Shown
 pub mod Client
 pub mod Origin
+pub mod SqlStores
 pub mod Solo
 pub mod Play
 pub mod CatalogFile
