@@ -1,5 +1,5 @@
 -- A database in whose memory nothing stands is an opening again.
-use Rattle.std.proofs.Common.{◌≡◌, refl, sym, ap, ◌∙◌, subst, ℕ, Bool, true, false, List, [], ◌∷◌, ◌++◌, map, Option, Some, None, is_some, inl}
+use Rattle.std.proofs.Common.{◌≡◌, refl, sym, ap, ◌∙◌, subst, ℕ, true, false, List, [], ◌∷◌, ◌++◌, map, Option, Some, None, is_some, inl}
 use Rattle.std.proofs.Math.Path.{fun_ext}
 use Rattle.std.specs.List.{AllByRecursion}
 use Rattle.std.specs.Option.{option_map}
@@ -8,15 +8,15 @@ use Rattle.meaning.specs.Whole.{Relations}
 use Rattle.store.specs.declared.name.Ticket.{Ticket}
 use Rattle.store.specs.declared.name.Txn as txns
 use Rattle.store.specs.declared.prepared.Prepared.{Prepared as Kept_row}
-use Rattle.protocol.specs.Client.{IsQuiet, ReachedLaw}
+use Rattle.protocol.specs.Client.{ReachedLaw}
 use Rattle.protocol.specs.Desk.{Deed, is_undecided}
 use Rattle.protocol.specs.Language.{Name}
 use Rattle.protocol.specs.Letters.{name_of, ticket_of, txn_name}
 use Rattle.protocol.specs.Local.{local}
 use Rattle.protocol.specs.Parts.{In}
-use Rattle.protocol.specs.Serial.{IsOpening, committed, serial_whole, settled, statements_of, with_all_decided}
-use Rattle.protocol.specs.Site.{Dead, SiteState}
-use Rattle.protocol.specs.Statements.{Statements, status_with, with_statements}
+use Rattle.protocol.specs.Serial.{IsOpening, committed, serial_whole, statements_of, with_all_decided}
+use Rattle.protocol.specs.Site.{Dead}
+use Rattle.protocol.specs.Statements.{Statements, status_with}
 use Rattle.protocol.proofs.StatementCourse.{opening_quiet}
 use Rattle.site.specs.State.{stands, txn_in, visiting}
 use Rattle.desk.specs.declared.transaction.TxnState.{TxnState}
@@ -26,10 +26,10 @@ use Rattle.desk.specs.Database.{Database, language, statements}
 use Rattle.desk.specs.State.{desk_of, txn_at}
 use Rattle.desk.specs.Transaction.{txn_of}
 use Rattle.world.specs.Client.{IsServed}
-use Rattle.world.specs.Machines.{AreFit, Machines, world_of}
+use Rattle.world.specs.Machines.{Machines, world_of}
 use Rattle.world.specs.Recovery.{BeginsAnewLaw, GoesOnFrom, HaveNoTicket, IsBeginning, NothingStands}
 use Rattle.world.specs.Settled.{AreDecided, after_committed}
-use Rattle.world.specs.Sites.{IsSeated, Seat, nobody, state_at, states_of}
+use Rattle.world.specs.Sites.{IsSeated, Seat, state_at, states_of}
 use Rattle.world.proofs.Counting.{fit_counted, fit_uncounted, with_counts}
 use Rattle.world.proofs.Openings.{at_each}
 

@@ -1,5 +1,5 @@
 -- New stores are filled with the parts of whole relations, and the sites come up over them.
-use Rattle.std.proofs.Common.{◌≡◌, ◌≢◌, ◌≤◌, refl, sym, ap, ◌∙◌, subst, ℕ, zero, suc, ◌+◌, ◌<◌, ◌==◌, Bool, true, false, List, [], ◌∷◌, ◌++◌, map, filter, drop, length, append-nil, append_assoc, Option, Some, None, IsSome, cond, if◌then◌else◌, get_or, ◌⊎◌, inl, inr, add-one, arith}
+use Rattle.std.proofs.Common.{◌≡◌, ◌≢◌, refl, sym, ap, ◌∙◌, subst, ℕ, zero, suc, ◌+◌, ◌<◌, ◌==◌, Bool, true, false, List, [], ◌∷◌, ◌++◌, map, filter, drop, length, append-nil, append_assoc, Option, Some, None, IsSome, cond, if◌then◌else◌, get_or, ◌⊎◌, inl, inr, add-one, arith}
 use Rattle.std.proofs.lemmas.Bool.{eq-eqb, eqb-true}
 use Rattle.std.proofs.lemmas.List.{length-append}
 use Rattle.std.proofs.Math.Seq.{drop-cons}
@@ -22,8 +22,8 @@ use Rattle.store.specs.declared.slot.Slot.{Slot}
 use Rattle.store.specs.Content.{Changes, Content, changed, made_by}
 use Rattle.store.specs.Frame.{LeavesStore}
 use Rattle.store.specs.Orders.{slot_cmp_total, ticket_cmp_total}
-use Rattle.store.specs.SiteContent.{Applies, BeginsLife, MayPrepare, Prepares, SiteContent, is_ticket}
-use Rattle.store.specs.Slot.{slot_cmp, slot_of}
+use Rattle.store.specs.SiteContent.{Applies, MayPrepare, Prepares, SiteContent, is_ticket}
+use Rattle.store.specs.Slot.{slot_cmp}
 use Rattle.protocol.specs.Parts.{In}
 use Rattle.protocol.proofs.Basics.{in_filter}
 use Rattle.protocol.proofs.Ranks.{in_map}

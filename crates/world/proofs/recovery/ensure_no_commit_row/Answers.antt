@@ -1,5 +1,5 @@
 -- Why `ensure_no_commit_row` meets its contract.
-use Rattle.std.proofs.Common.{◌≡◌, refl, sym, ◌∙◌, subst, length, List, [], ◌∷◌, is_some, arith}
+use Rattle.std.proofs.Common.{◌≡◌, sym, ◌∙◌, subst, List, is_some}
 use Rattle.std.proofs.lemmas.Bool.{eqb-true}
 use Rattle.std.specs.Vec.{vec_len}
 use Rattle.store.specs.declared.name.Txn.{Txn}

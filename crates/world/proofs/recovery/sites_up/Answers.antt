@@ -1,5 +1,5 @@
 -- Why `sites_up` meets its contract.
-use Rattle.std.proofs.Common.{◌≡◌, refl, sym, ◌∙◌, subst, ℕ, length, List, [], ◌∷◌, arith}
+use Rattle.std.proofs.Common.{sym, ◌∙◌, subst, ℕ, List}
 use Rattle.std.specs.Vec.Iter.{into_iter_items}
 use Rattle.catalog.specs.Relation.{catalogue_of}
 use Rattle.world.specs.Recovery.{AreUp}
