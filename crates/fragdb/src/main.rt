@@ -40,6 +40,7 @@ mod shown;
 mod solo;
 mod typed;
 mod usage;
+mod world_opener;
 mod written;
 
 use crate::built_in::{BUILT_IN, BUILT_IN_NAME};
@@ -130,6 +131,7 @@ fn perform_on<C: Read + Drop, R: Read + Drop, W: Write, E: Write>(
     if !is_explained(rt, &request) {
         let outcome = perform(
             rt.alloc(),
+            &Lists,
             &Lists,
             request,
             catalog_file,
@@ -232,6 +234,7 @@ fn explain_performed<C: Read + Drop, W: Write, E: Write>(
     };
     let outcome = perform(
         rt.alloc(),
+        &Lists,
         &Lists,
         request,
         catalog_file,
