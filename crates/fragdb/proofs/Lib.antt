@@ -13,6 +13,7 @@ pub mod PlayLoadLemmas
 pub mod DeliveringLemmas
 pub mod ShownLemmas
 pub mod ReachedLemmas
+pub mod CountedLemmas
 pub mod LoadedLemmas
 pub mod PlayLemmas
 pub mod PerformLemmas

@@ -10,6 +10,7 @@ pub mod PlayText
 pub mod Schedule
 pub mod Delivering
 pub mod Shown
+pub mod WorldOpener
 pub mod Client
 pub mod Origin
 pub mod SqlStores

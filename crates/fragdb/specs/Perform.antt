@@ -2,6 +2,8 @@
 use Rattle.std.specs.Prelude.{◌≡◌, ℕ, Bool, true, false, List, Option, None, Result, Ok, Err, bytes_eq, codes}
 use Rattle.std.specs.Borrow.{Bor}
 use Rattle.std.specs.Io.KnownBytes.{Keeps}
+use Rattle.store.specs.declared.fault.StoreFault.{StoreFault}
+use Rattle.world.specs.declared.world.World.{World}
 use Rattle.shell.specs.declared.mode.Mode.{Mode}
 use Rattle.shell.specs.declared.mode.Mode.TheVariants.{Columns, Csv, Json, Tabs}
 use Rattle.fragdb.specs.declared.outcome.Outcome.{Outcome}
@@ -19,6 +21,7 @@ use Rattle.fragdb.specs.Input.{IsOfInput}
 use Rattle.fragdb.specs.Origin.{Origin}
 use Rattle.fragdb.specs.Plan.{PlansFile}
 use Rattle.fragdb.specs.Play.{IsUnplayed, PlaysFiles}
+use Rattle.fragdb.specs.Schedule.{SeenWorld}
 use Rattle.fragdb.specs.Session.{RunsSession}
 use Rattle.fragdb.specs.Solo.{IsUnrun, RunsFiles}
 
@@ -102,14 +105,14 @@ abbrev pub PerformsPlan : Bool → Bor (List ℕ) → List ℕ → List ℕ → 
 PerformsPlan as_tree file statement bytes old new outcome = ComesTo outcome_of_plan (PlansFile as_tree file statement bytes old new) outcome
 
 -- the outcome of a play over the catalogue of a file
-abbrev pub PerformsPlayOf : Bor (List ℕ) → List ℕ → Bor (List ℕ) → List ℕ → Option (List ℕ) → Option (List ℕ) → Outcome → Type 0
-PerformsPlayOf name bytes file script old new outcome = ComesTo outcome_of_check (PlaysFiles name bytes file script old new) outcome
+abbrev pub PerformsPlayOf : {D S : Type 0} → SeenWorld (World D S) → (StoreFault → Type 0) → Bor (List ℕ) → List ℕ → Bor (List ℕ) → List ℕ → Option (List ℕ) → Option (List ℕ) → Outcome → Type 0
+PerformsPlayOf worlds Fails name bytes file script old new outcome = ComesTo outcome_of_check (PlaysFiles worlds Fails name bytes file script old new) outcome
 
 -- the outcome of a request of a script, which is run or played over a catalogue
-abbrev pub PerformsOver : {B : Type 0} → Seen B → (Origin → Type 0) → Request → Bor (List ℕ) → List ℕ → List ℕ → Option (List ℕ) → Option (List ℕ) → Outcome → Type 0
-PerformsOver seen IsOrigin (Solo given file explain interactive mode sqlite dir) name bytes script old new outcome = PerformsSolo seen IsOrigin mode name bytes file script old new outcome
-PerformsOver seen IsOrigin (Play given file sqlite) name bytes script old new outcome = PerformsPlayOf name bytes file script old new outcome
-PerformsOver seen IsOrigin other name bytes script old new outcome = Unit
+abbrev pub PerformsOver : {B D S : Type 0} → Seen B → (Origin → Type 0) → SeenWorld (World D S) → (StoreFault → Type 0) → Request → Bor (List ℕ) → List ℕ → List ℕ → Option (List ℕ) → Option (List ℕ) → Outcome → Type 0
+PerformsOver seen IsOrigin worlds Fails (Solo given file explain interactive mode sqlite dir) name bytes script old new outcome = PerformsSolo seen IsOrigin mode name bytes file script old new outcome
+PerformsOver seen IsOrigin worlds Fails (Play given file sqlite) name bytes script old new outcome = PerformsPlayOf worlds Fails name bytes file script old new outcome
+PerformsOver seen IsOrigin worlds Fails other name bytes script old new outcome = Unit
 
 -- what is written from old to new, and the outcome, where the file has these bytes; of a script it is told apart
 abbrev pub Performs : Request → List ℕ → Option (List ℕ) → Option (List ℕ) → Outcome → Type 0

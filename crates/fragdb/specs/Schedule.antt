@@ -9,11 +9,9 @@ use Rattle.catalog.specs.Catalogue.{Catalogue}
 use Rattle.catalog.specs.Relation.{catalogue_of}
 use Rattle.store.specs.declared.letter.Letter.{Letter}
 use Rattle.store.specs.declared.name.Txn.{Txn}
-use Rattle.store.specs.declared.plain_desk.PlainDesk.{PlainDesk}
-use Rattle.store.specs.declared.plain_site.PlainSite.{PlainSite}
+use Rattle.store.specs.DeskContent.{DeskContent}
 use Rattle.store.specs.Name.{txn_cmp}
-use Rattle.store.specs.PlainDesk.{kept_of as desk_kept}
-use Rattle.store.specs.PlainSite.{IsSound, kept_of}
+use Rattle.store.specs.SiteContent.{SiteContent}
 use Rattle.desk.specs.declared.refusal.Refusal.TheVariants.{NoTransaction}
 use Rattle.desk.specs.declared.reply.Notice.{Notice}
 use Rattle.desk.specs.declared.reply.Out.{Out}
@@ -26,8 +24,9 @@ use Rattle.world.specs.declared.fault.Fault.{Fault}
 use Rattle.world.specs.declared.fault.Fault.TheVariants as fault
 use Rattle.world.specs.declared.world.World.{World}
 use Rattle.desk.specs.CatalogueDatabase.{database}
-use Rattle.world.specs.Events.{is_unsent}
 use Rattle.world.specs.Contents.{OfStores, held}
+use Rattle.world.specs.Counted.{counts}
+use Rattle.world.specs.Events.{is_unsent}
 use Rattle.world.specs.Machines.{Machines}
 use Rattle.world.specs.Posted.{letters_in}
 use Rattle.world.specs.Runs.{IsRun, entry_of}
@@ -46,17 +45,44 @@ pub record Stage : Type 0 where
   pub cast : Cast
   pub came : List Bool
 
-abbrev pub stage_of : code.Schedule → Stage
+abbrev pub stage_of : {D S : Type 0} → code.Schedule D S → Stage
 stage_of schedule = record { entries = schedule.world.entries.items; cast = schedule.cast; came = schedule.came.items }
 
 -- a run over whole relations has these entries, and leads to these machines
 abbrev pub IsReached : Catalogue → Relations → Machines → List Entry → Type 0
 IsReached catalogue whole machines entries = (past : _) × IsRun (database catalogue) whole machines entries past
 
--- a world over lists, which are sound, has been led to by a run over whole relations
-pub record HasRun (whole : Relations) (world : World PlainDesk PlainSite) : Type 0 where
-  pub sound : OfStores (λ _. Unit {0}) IsSound world.machines
-  pub reached : IsReached (catalogue_of world.machines.desk.catalog) whole (held desk_kept kept_of world.machines) world.entries.items
+-- how a world is seen: whether its stores gave back what was written, and keep it as stores leave it; its machines, and how often the medium of each store has refused; what has
+-- happened in it; and its catalogue
+pub record SeenWorld (W : Type 0) : Type 1 where
+  pub is_clean : W → Type 0
+  pub is_sound : W → Type 0
+  pub machines : W → Machines
+  pub refused : W → List ℕ
+  pub entries : W → List Entry
+  pub catalogue : W → Catalogue
+
+-- so over stores of these kinds
+abbrev pub world_over : {D S : Type 0} → (D → Type 0) → (S → Type 0) → (D → Type 0) → (S → Type 0) → (D → DeskContent) → (S → SiteContent) → (D → ℕ) → (S → ℕ) → SeenWorld (World D S)
+world_over desk_is_clean site_is_clean desk_is_sound site_is_sound of_desk of_site desk_refused site_refused = record {
+  is_clean = λ world. OfStores desk_is_clean site_is_clean world.machines;
+  is_sound = λ world. OfStores desk_is_sound site_is_sound world.machines;
+  machines = λ world. held of_desk of_site world.machines;
+  refused = λ world. counts desk_refused site_refused world.machines;
+  entries = λ world. world.entries.items;
+  catalogue = λ world. catalogue_of world.machines.desk.catalog;
+}
+
+-- a world, whose stores are sound, has been led to by a run over whole relations
+pub record HasRun {W : Type 0} (seen : SeenWorld W) (whole : Relations) (world : W) : Type 0 where
+  pub sound : seen.is_sound world
+  pub reached : IsReached (seen.catalogue world) whole (seen.machines world) (seen.entries world)
+
+-- What a call leaves of a world, whatever it answers: stores that are clean now were clean, and where they are a run that had led to it goes on to it; the catalogue is the same
+pub record LeavesWorld {W : Type 0} (seen : SeenWorld W) (old new : W) : Type 0 where
+  pub clean : seen.is_clean new → seen.is_clean old
+  pub runs : (whole : Relations) → seen.is_clean new → HasRun seen whole old → HasRun seen whole new
+  pub catalog : seen.catalogue new ≡ seen.catalogue old
 
 -- each letter that was sent is counted
 abbrev pub IsCounted : Stage → Type 0

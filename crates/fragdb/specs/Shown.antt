@@ -1,5 +1,5 @@
 -- What is shown of a schedule: relations, leaves and committed transactions.
-use Rattle.std.specs.Prelude.{◌≡◌, ℕ, List, [], ◌∷◌, ◌++◌, Option, Some, None, if◌then◌else◌, bytes_eq, codes}
+use Rattle.std.specs.Prelude.{◌≡◌, ◌⊎◌, ℕ, true, List, [], ◌∷◌, ◌++◌, IfOk, Option, Some, None, Result, if◌then◌else◌, bytes_eq, codes}
 use Rattle.std.specs.List.{flat_map}
 use Rattle.terms.specs.declared.leaf.Leaf.{Leaf}
 use Rattle.terms.specs.declared.value.Value.{Value}
@@ -13,6 +13,8 @@ use Rattle.store.specs.declared.name.Txn.{Txn}
 use Rattle.world.specs.declared.event.Entry.{Entry}
 use Rattle.world.specs.declared.fault.Fault.{Fault}
 use Rattle.desk.specs.CatalogueDatabase.{database}
+use Rattle.world.specs.Counted.{HaveRefused}
+use Rattle.world.specs.Fault.{is_of_medium}
 use Rattle.world.specs.Machines.{Machines}
 use Rattle.world.specs.Settled.{ShowsSerial, parts_kept}
 use Rattle.shell.specs.declared.mode.Mode.{Mode}
@@ -20,13 +22,13 @@ use Rattle.shell.specs.declared.mode.Mode.TheVariants.{Tabs}
 use Rattle.shell.specs.Mode.{answer_in, line_in}
 use Rattle.fragdb.specs.Check.{columns_of, names_of_columns}
 use Rattle.fragdb.specs.PlayText.{Naming, leaf_columns}
-use Rattle.fragdb.specs.Schedule.{IsReached, refusal_text}
+use Rattle.fragdb.specs.Schedule.{HasRun, IsReached, SeenWorld, refusal_text}
 
 -- rows under the names of their columns
 abbrev pub rows_text : Mode → List (List ℕ) → List (List Value) → List ℕ
 rows_text mode columns rows = answer_in mode (Rows columns rows)
 
--- what is told where a store fails while this is shown, which no list does
+-- what is told where a store fails while this is shown
 abbrev pub failed_text : List ℕ → Fault → List ℕ
 failed_text name why = refusal_text (record { client = name; site = name; missing = [] }) why
 
@@ -68,3 +70,20 @@ IsShownAs catalogue whole entries name (Some leaf) text = IsShownParts catalogue
 
 abbrev pub IsShownLeaf : Catalogue → Relations → List Entry → List ℕ → List ℕ → Type 0
 IsShownLeaf catalogue whole entries name text = IsShownAs catalogue whole entries name (written_leaf name (catalogue_leaves catalogue)) text
+
+-- what is asked for by this name isn't shown, as the medium of a store has refused meanwhile, and that is told. before, after: how often the media have refused
+pub record IsUnshown (before after : List ℕ) (name text : List ℕ) : Type 0 where
+  pub why : Fault
+  pub of_medium : is_of_medium why ≡ true
+  pub refused : HaveRefused before after
+  pub told : text ≡ failed_text name why
+
+-- it is shown, as Shown says of the text, unless a medium has refused
+abbrev pub ShownUnlessRefused : (before after : List ℕ) → List ℕ → (List ℕ → Type 0) → List ℕ → Type 0
+ShownUnlessRefused before after name Shown text = Shown text ⊎ IsUnshown before after name text
+
+-- So by a call after a run over whole relations, where the stores are clean as it ends. Shown: what it says of a catalogue, of whole relations, of what has happened and of a text; bytes_of: the
+-- text of what a call gives
+abbrev pub ShowsOf : {W T E : Type 0} → SeenWorld W → List ℕ → (Catalogue → Relations → List Entry → List ℕ → Type 0) → (T → List ℕ) → W → W → Result T E → Type 0
+ShowsOf seen name Shown bytes_of old new result =
+    (whole : Relations) → seen.is_clean new → HasRun seen whole old → IfOk result (λ given. ShownUnlessRefused (seen.refused old) (seen.refused new) name (Shown (seen.catalogue old) whole (seen.entries old)) (bytes_of given))

@@ -3,15 +3,16 @@
 ghost use Rattle.std.specs.Prelude.{◌≡◌, ◌<◌, ◌+◌, ◌^◌, ◌==◌, true, slice_set, drop, length, IfOk, IfSome, OnOk, string_bytes};
 ghost use Rattle.std.specs.List.{list_any};
 ghost use Rattle.std.specs.Option.{option_copied};
-ghost use Rattle.meaning.specs.Whole.{Relations};
 ghost use Rattle.catalog.specs.Relation.{catalogue_of};
 ghost use Rattle.fragdb.specs.Delivering.{Delivers, DeliversAll, DeliversAt, first_due_from};
-ghost use Rattle.fragdb.specs.Schedule.{HasRun, IsCounted, of_letter, refusal_text, stage_of};
+ghost use Rattle.fragdb.specs.Schedule.{IsCounted, LeavesWorld, of_letter, refusal_text, stage_of, world_over};
 
 use crate::cast::Cast;
 use crate::schedule::{Schedule, refusal};
 use std::alloc::Global;
+use store::desk_store::DeskStore;
 use store::letter::Letter;
+use store::site_store::SiteStore;
 use terms::memory::Memory;
 use world::event::Event;
 use world::fault::Fault;
@@ -68,14 +69,12 @@ fn letter_refusal(
     }
 }
 
-impl Schedule {
+impl<D: DeskStore, S: SiteStore> Schedule<D, S> {
     /// The letter of this number, counted from 1, is delivered.
     pub fn deliver(&mut self, alloc: Global, number: usize, kept: bool) -> Result<String, Memory>
         requires { IsCounted (stage_of self.old) }
         ensures delivers { IfOk result (λ text. Delivers (catalogue_of self.old.world.machines.desk.catalog) number kept (stage_of self.old) (stage_of self.new) (string_bytes text)) }
-        ensures counted { OnOk result (IsCounted (stage_of self.new)) }
-        ensures runs { (whole : Relations) → HasRun whole self.old.world → OnOk result (HasRun whole self.new.world) }
-        ensures catalog { self.new.world.machines.desk.catalog ≡ self.old.world.machines.desk.catalog }
+        ensures leaves { LeavesWorld (world_over D.is_clean S.is_clean D.is_sound S.is_sound D.kept S.kept D.refused S.refused) self.old.world self.new.world }
     {
         if number == 0 {
             return Ok(String::from_str(alloc, "no letter 0\n")?);
@@ -88,9 +87,7 @@ impl Schedule {
         requires counted { IsCounted (stage_of self.old) }
         requires within { place + 1 < 2 ^ 64 }
         ensures delivers { IfOk result (λ text. DeliversAt (catalogue_of self.old.world.machines.desk.catalog) place kept (stage_of self.old) (stage_of self.new) (string_bytes text)) }
-        ensures counted { OnOk result (IsCounted (stage_of self.new)) }
-        ensures runs { (whole : Relations) → HasRun whole self.old.world → OnOk result (HasRun whole self.new.world) }
-        ensures catalog { self.new.world.machines.desk.catalog ≡ self.old.world.machines.desk.catalog }
+        ensures leaves { LeavesWorld (world_over D.is_clean S.is_clean D.is_sound S.is_sound D.kept S.kept D.refused S.refused) self.old.world self.new.world }
     {
         mark(self.came.as_mut_slice(), place);
         match self.step(Event::Deliver(place, kept)) {
@@ -108,9 +105,7 @@ impl Schedule {
     pub fn deliver_all(&mut self, alloc: Global, but: &[usize]) -> Result<String, Memory>
         requires { IsCounted (stage_of self.old) }
         ensures delivers { IfOk result (λ text. DeliversAll (catalogue_of self.old.world.machines.desk.catalog) but.now (stage_of self.old) (stage_of self.new) (string_bytes text)) }
-        ensures counted { OnOk result (IsCounted (stage_of self.new)) }
-        ensures runs { (whole : Relations) → HasRun whole self.old.world → OnOk result (HasRun whole self.new.world) }
-        ensures catalog { self.new.world.machines.desk.catalog ≡ self.old.world.machines.desk.catalog }
+        ensures leaves { LeavesWorld (world_over D.is_clean S.is_clean D.is_sound S.is_sound D.kept S.kept D.refused S.refused) self.old.world self.new.world }
     {
         let mut text = String::new(alloc);
         let mut from = 0;

@@ -44,6 +44,7 @@ mod solo;
 mod sql_stores;
 mod typed;
 mod usage;
+mod world_opener;
 mod written;
 
 use crate::built_in::{BUILT_IN, BUILT_IN_NAME};
@@ -192,6 +193,7 @@ fn perform_on<B: Database + Drop, O: Opens<B>, C: Read + Drop, R: Read + Drop, W
         let outcome = perform(
             rt.alloc(),
             &Lists,
+            &Lists,
             request,
             catalog_file,
             catalog,
@@ -304,6 +306,7 @@ fn explain_performed<B: Database + Drop, O: Opens<B>, C: Read + Drop, W: Write, 
     };
     let outcome = perform(
         rt.alloc(),
+        &Lists,
         &Lists,
         request,
         catalog_file,

@@ -5,6 +5,7 @@ ghost use Rattle.std.specs.Io.KnownBytes.{Keeps};
 ghost use Rattle.fragdb.specs.Perform.{ComesTo, IsStopped, IsUnread, Performs, PerformsCheck, PerformsPlan, PerformsOver, PerformsPlayOf, PerformsSession, PerformsSolo, StopsIdle, StopsUncatalogued, StopsUnread};
 ghost use Rattle.fragdb.specs.Perform as spec;
 ghost use Rattle.fragdb.specs.Play.{IsUnplayed};
+ghost use Rattle.fragdb.specs.Schedule.{world_over};
 ghost use Rattle.fragdb.specs.Solo.{IsUnrun};
 ghost use Rattle.fragdb.specs.Usage.{explains, is_interactive, stores_of};
 
@@ -19,11 +20,14 @@ use crate::play::play_files;
 use crate::session::session_files;
 use crate::solo::solo_files;
 use crate::usage::{Request, Stores};
+use crate::world_opener::OpensWorld;
 use shell::mode::Mode;
 use std::alloc::Global;
 use std::io;
 use std::io::{Read, Write};
 use std::time::Clock;
+use store::desk_store::DeskStore;
+use store::site_store::SiteStore;
 
 impl<'a> Request<'a> {
     /// The file that is to be read: a script or a catalogue.
@@ -124,9 +128,20 @@ impl<'a> Request<'a> {
 /// Does what is asked for over `input`, which is the file that the request names, opened, and over `catalog`, the
 /// catalogue that it names besides, or the built-in one; `catalog_file` names it in a fault. Answers what it came
 /// to. Nothing is written to `output` where a file can't be opened.
-pub fn perform<'a, B: Database + Drop, O: Opens<B>, C: Read + Drop, R: Read + Drop, W: Write>(
+pub fn perform<
+    'a,
+    B: Database + Drop,
+    O: Opens<B>,
+    D: DeskStore + Drop,
+    S: SiteStore + Drop,
+    P: OpensWorld<D, S>,
+    C: Read + Drop,
+    R: Read + Drop,
+    W: Write,
+>(
     alloc: Global,
     opener: &O,
+    worlds: &P,
     request: Request<'a>,
     catalog_file: &'a str,
     catalog: io::Result<C>,
@@ -134,7 +149,7 @@ pub fn perform<'a, B: Database + Drop, O: Opens<B>, C: Read + Drop, R: Read + Dr
     output: &mut W,
 ) -> Outcome<'a>
     ensures opened { IfOk input (λ reader. IfSome (R.remaining reader) (λ bytes. Performs request.entry bytes (W.contents output.old) (W.contents output.new) result)) }
-    ensures over { IfOk catalog (λ opened. IfSome (C.remaining opened) (λ bytes. IfOk input (λ reader. IfSome (R.remaining reader) (λ script. PerformsOver B.seen O.origin request.entry catalog_file.entry bytes script (W.contents output.old) (W.contents output.new) result)))) }
+    ensures over { IfOk catalog (λ opened. IfSome (C.remaining opened) (λ bytes. IfOk input (λ reader. IfSome (R.remaining reader) (λ script. PerformsOver B.seen O.origin (world_over D.is_clean S.is_clean D.is_sound S.is_sound D.kept S.kept D.refused S.refused) P.fails_for request.entry catalog_file.entry bytes script (W.contents output.old) (W.contents output.new) result)))) }
     ensures uncatalogued { IfErr catalog (λ error. StopsUncatalogued request.entry catalog_file.entry (W.contents output.old) (W.contents output.new) result) }
     ensures idle { IfOk catalog (λ opened. IfSome (C.remaining opened) (λ bytes. IfErr input (λ error. StopsIdle request.entry catalog_file.entry bytes result))) }
     ensures unread { IfErr input (λ error. StopsUnread request.entry result × Keeps (W.contents output.old) (W.contents output.new)) }
@@ -163,7 +178,7 @@ pub fn perform<'a, B: Database + Drop, O: Opens<B>, C: Read + Drop, R: Read + Dr
             tree,
         } => perform_plan(alloc, file, statement, tree, input, output),
         Request::Play { script, .. } => {
-            perform_play(alloc, catalog_file, catalog, script, input, output)
+            perform_play(alloc, worlds, catalog_file, catalog, script, input, output)
         }
     }
 }
@@ -271,21 +286,32 @@ fn perform_plan<'a, R: Read + Drop, W: Write>(
 }
 
 /// Plays a script over a catalogue that was opened under this name.
-fn perform_play<'a, C: Read + Drop, R: Read + Drop, W: Write>(
+fn perform_play<
+    'a,
+    D: DeskStore + Drop,
+    S: SiteStore + Drop,
+    P: OpensWorld<D, S>,
+    C: Read + Drop,
+    R: Read + Drop,
+    W: Write,
+>(
     alloc: Global,
+    worlds: &P,
     file: &'a str,
     catalog: io::Result<C>,
     script: &'a str,
     input: io::Result<R>,
     output: &mut W,
 ) -> Outcome<'a>
-    ensures played { IfOk catalog (λ opened. IfSome (C.remaining opened) (λ bytes. IfOk input (λ reader. IfSome (R.remaining reader) (λ text. PerformsPlayOf file.entry bytes script.entry text (W.contents output.old) (W.contents output.new) result)))) }
+    ensures played { IfOk catalog (λ opened. IfSome (C.remaining opened) (λ bytes. IfOk input (λ reader. IfSome (R.remaining reader) (λ text. PerformsPlayOf (world_over D.is_clean S.is_clean D.is_sound S.is_sound D.kept S.kept D.refused S.refused) P.fails_for file.entry bytes script.entry text (W.contents output.old) (W.contents output.new) result)))) }
     ensures uncatalogued { IfErr catalog (λ error. IsUnread file.entry result × Keeps (W.contents output.old) (W.contents output.new)) }
     ensures idle { IfOk catalog (λ opened. IfSome (C.remaining opened) (λ bytes. IfErr input (λ error. ComesTo spec.outcome_of_check (IsUnplayed file.entry bytes script.entry) result))) }
     ensures unread { IfErr input (λ error. IsStopped result × Keeps (W.contents output.old) (W.contents output.new)) }
 {
     match catalog {
-        Ok(catalog) => of_check(play_files(alloc, file, catalog, script, input, output)),
+        Ok(catalog) => of_check(play_files(
+            alloc, worlds, file, catalog, script, input, output,
+        )),
         Err(error) => unread(file, &error),
     }
 }

@@ -2,7 +2,6 @@
 
 ghost use Rattle.std.specs.Prelude.{◌≡◌, ◌++◌, ◌∷◌, [], List, Some, IfOk, IfSome, OnOk, length, option_map, string_bytes};
 ghost use Rattle.std.specs.Option.{option_copied};
-ghost use Rattle.meaning.specs.Whole.{Relations};
 ghost use Rattle.catalog.specs.Relation.{catalogue_of};
 ghost use Rattle.desk.specs.declared.reply.Out.{Out as OutNow};
 ghost use Rattle.world.specs.declared.event.Call.TheVariants as calls;
@@ -14,7 +13,7 @@ ghost use Rattle.world.specs.Runs.{entry_of};
 ghost use Rattle.fragdb.specs.Cast.{name_of};
 ghost use Rattle.fragdb.specs.PlayText.{out_text};
 ghost use Rattle.fragdb.specs.Schedule as spec;
-ghost use Rattle.fragdb.specs.Schedule.{Asks, HappensAt, HasRun, IsCounted, IsNamedFirst, KeepsNames, Names, RestartsDesk, Stage, Steps, Tries, event_at, of_client, refusal_text, stage_of, unseen};
+ghost use Rattle.fragdb.specs.Schedule.{Asks, HappensAt, IsCounted, IsNamedFirst, KeepsNames, LeavesWorld, Names, RestartsDesk, Steps, Tries, event_at, of_client, refusal_text, stage_of, unseen, world_over};
 
 use crate::cast::Cast;
 use crate::play_script::{Ask, AtSite};
@@ -23,10 +22,10 @@ use desk::refusal::Refusal;
 use desk::reply::{Notice, Out};
 use site::fault::SiteFault;
 use std::alloc::Global;
+use store::desk_store::DeskStore;
 use store::letter::Letter;
 use store::name::Txn;
-use store::plain_desk::PlainDesk;
-use store::plain_site::PlainSite;
+use store::site_store::SiteStore;
 use terms::copy::TryCopy;
 use terms::memory::Memory;
 use terms::text::Text;
@@ -39,8 +38,8 @@ const DESK: &str = "desk";
 
 /// A world, how its transactions are named, and for each letter that was ever sent whether it came.
 #[derive(Drop)]
-pub struct Schedule {
-    pub world: World<PlainDesk, PlainSite>,
+pub struct Schedule<D: DeskStore, S: SiteStore> {
+    pub world: World<D, S>,
     pub cast: Cast,
     pub came: Vec<bool>,
 }
@@ -97,9 +96,9 @@ pub fn refusal(
     Ok(out)
 }
 
-impl Schedule {
+impl<D: DeskStore, S: SiteStore> Schedule<D, S> {
     /// Nothing has happened in the world yet.
-    pub fn new(alloc: Global, world: World<PlainDesk, PlainSite>) -> Schedule
+    pub fn new(alloc: Global, world: World<D, S>) -> Schedule<D, S>
         ensures world { result.world ≡ world }
         ensures txns { result.cast.txns.entries ≡ [] }
         ensures names { result.cast.names.entries ≡ [] }
@@ -116,8 +115,7 @@ impl Schedule {
     pub fn step(&mut self, event: Event) -> Result<Option<Fault>, Memory>
         ensures steps { IfOk result (λ why. Steps (catalogue_of self.old.world.machines.desk.catalog) event (stage_of self.old) (stage_of self.new) why) }
         ensures counted { IsCounted (stage_of self.old) → OnOk result (IsCounted (stage_of self.new)) }
-        ensures runs { (whole : Relations) → HasRun whole self.old.world → OnOk result (HasRun whole self.new.world) }
-        ensures catalog { self.new.world.machines.desk.catalog ≡ self.old.world.machines.desk.catalog }
+        ensures leaves { LeavesWorld (world_over D.is_clean S.is_clean D.is_sound S.is_sound D.kept S.kept D.refused S.refused) self.old.world self.new.world }
     {
         match self.world.step(event) {
             Ok(entry) => {
@@ -146,9 +144,7 @@ impl Schedule {
     pub fn ask(&mut self, alloc: Global, name: &Text, ask: &Ask) -> Result<String, Memory>
         requires { IsCounted (stage_of self.old) }
         ensures asks { IfOk result (λ text. Asks (catalogue_of self.old.world.machines.desk.catalog) name.now ask.now (stage_of self.old) (stage_of self.new) (string_bytes text)) }
-        ensures counted { OnOk result (IsCounted (stage_of self.new)) }
-        ensures runs { (whole : Relations) → HasRun whole self.old.world → OnOk result (HasRun whole self.new.world) }
-        ensures catalog { self.new.world.machines.desk.catalog ≡ self.old.world.machines.desk.catalog }
+        ensures leaves { LeavesWorld (world_over D.is_clean S.is_clean D.is_sound S.is_sound D.kept S.kept D.refused S.refused) self.old.world self.new.world }
     {
         match ask {
             Ask::Begin => self.begin(alloc, name),
@@ -163,9 +159,7 @@ impl Schedule {
     fn begin(&mut self, alloc: Global, name: &Text) -> Result<String, Memory>
         requires { IsCounted (stage_of self.old) }
         ensures tries { IfOk result (λ text. Tries (catalogue_of self.old.world.machines.desk.catalog) (Names name.now) (of_client name.now) (events.Call calls.Begin) (stage_of self.old) (stage_of self.new) (string_bytes text)) }
-        ensures counted { OnOk result (IsCounted (stage_of self.new)) }
-        ensures runs { (whole : Relations) → HasRun whole self.old.world → OnOk result (HasRun whole self.new.world) }
-        ensures catalog { self.new.world.machines.desk.catalog ≡ self.old.world.machines.desk.catalog }
+        ensures leaves { LeavesWorld (world_over D.is_clean S.is_clean D.is_sound S.is_sound D.kept S.kept D.refused S.refused) self.old.world self.new.world }
     {
         match self.step(Event::Call(Call::Begin)) {
             Ok(None) => {
@@ -183,9 +177,7 @@ impl Schedule {
     fn call(&mut self, alloc: Global, name: &Text, call: Call) -> Result<String, Memory>
         requires { IsCounted (stage_of self.old) }
         ensures tries { IfOk result (λ text. Tries (catalogue_of self.old.world.machines.desk.catalog) KeepsNames (of_client name.now) (events.Call call) (stage_of self.old) (stage_of self.new) (string_bytes text)) }
-        ensures counted { OnOk result (IsCounted (stage_of self.new)) }
-        ensures runs { (whole : Relations) → HasRun whole self.old.world → OnOk result (HasRun whole self.new.world) }
-        ensures catalog { self.new.world.machines.desk.catalog ≡ self.old.world.machines.desk.catalog }
+        ensures leaves { LeavesWorld (world_over D.is_clean S.is_clean D.is_sound S.is_sound D.kept S.kept D.refused S.refused) self.old.world self.new.world }
     {
         match self.step(Event::Call(call)) {
             Ok(None) => self.told(alloc),
@@ -198,9 +190,7 @@ impl Schedule {
     pub fn at_site(&mut self, alloc: Global, site: &Text, doing: AtSite) -> Result<String, Memory>
         requires { IsCounted (stage_of self.old) }
         ensures happens { IfOk result (λ text. HappensAt (catalogue_of self.old.world.machines.desk.catalog) site.now doing (stage_of self.old) (stage_of self.new) (string_bytes text)) }
-        ensures counted { OnOk result (IsCounted (stage_of self.new)) }
-        ensures runs { (whole : Relations) → HasRun whole self.old.world → OnOk result (HasRun whole self.new.world) }
-        ensures catalog { self.new.world.machines.desk.catalog ≡ self.old.world.machines.desk.catalog }
+        ensures leaves { LeavesWorld (world_over D.is_clean S.is_clean D.is_sound S.is_sound D.kept S.kept D.refused S.refused) self.old.world self.new.world }
     {
         match self.step(event_at(site.copy()?, doing)) {
             Ok(None) => self.told(alloc),
@@ -216,9 +206,7 @@ impl Schedule {
     pub fn restart_desk(&mut self, alloc: Global) -> Result<String, Memory>
         requires { IsCounted (stage_of self.old) }
         ensures restarts { IfOk result (λ text. RestartsDesk (catalogue_of self.old.world.machines.desk.catalog) (stage_of self.old) (stage_of self.new) (string_bytes text)) }
-        ensures counted { OnOk result (IsCounted (stage_of self.new)) }
-        ensures runs { (whole : Relations) → HasRun whole self.old.world → OnOk result (HasRun whole self.new.world) }
-        ensures catalog { self.new.world.machines.desk.catalog ≡ self.old.world.machines.desk.catalog }
+        ensures leaves { LeavesWorld (world_over D.is_clean S.is_clean D.is_sound S.is_sound D.kept S.kept D.refused S.refused) self.old.world self.new.world }
     {
         match self.step(Event::DeskRestarts(true)) {
             Ok(None) => self.told(alloc),

@@ -2,14 +2,13 @@
 
 ghost use Rattle.std.specs.Prelude.{◌≡◌, ◌++◌, ◌∷◌, [], false, IfOk, OnOk, option_map, string_bytes};
 ghost use Rattle.std.specs.List.{flat_map};
-ghost use Rattle.meaning.specs.Whole.{Relations};
 ghost use Rattle.catalog.specs.Relation.{catalogue_of};
 ghost use Rattle.world.specs.Fault.{is_memory};
 ghost use Rattle.world.specs.Replies.{committed_in};
 ghost use Rattle.fragdb.specs.Cast.{name_of};
-ghost use Rattle.fragdb.specs.Schedule.{HasRun, stage_of};
+ghost use Rattle.fragdb.specs.Schedule.{LeavesWorld, stage_of, world_over};
 ghost use Rattle.fragdb.specs.Shown as spec;
-ghost use Rattle.fragdb.specs.Shown.{IsShownLeaf, IsShownParts, IsShownRelation, failed_text, names_text, no_leaf_text, written_leaf};
+ghost use Rattle.fragdb.specs.Shown.{IsShownLeaf, IsShownParts, IsShownRelation, ShowsOf, failed_text, names_text, no_leaf_text, written_leaf};
 
 use crate::cast::Cast;
 use crate::check::columns_of;
@@ -22,6 +21,8 @@ use meaning::answer::Answer;
 use shell::mode::{Mode, show, show_line};
 use site::fault::SiteFault;
 use std::alloc::Global;
+use store::desk_store::DeskStore;
+use store::site_store::SiteStore;
 use terms::copy::{TryCopy, copy_all};
 use terms::leaf::Leaf;
 use terms::memory::Memory;
@@ -31,7 +32,6 @@ use terms::seq::Seq;
 use terms::text::Text;
 use world::committed::Committed;
 use world::fault::Fault;
-use world::laws::lists_stop_for_memory;
 
 /// Rows under the names of their columns.
 fn rows_text(
@@ -102,7 +102,7 @@ pub fn parts_text(
     }
 }
 
-/// What is told where a store fails while this is shown. Lists fail for want of memory alone, so nothing is told over them.
+/// What is told where a store fails while this is shown, for another reason than memory.
 fn failed(alloc: Global, name: &str, fault: Fault) -> Result<String, Memory>
     ensures told { IfOk result (λ text. string_bytes text ≡ failed_text name.now fault) }
     ensures of_store { OnOk result (is_memory fault ≡ false) }
@@ -155,27 +155,26 @@ fn put_name(out: &mut String, cast: &Cast, one: &Committed) -> Result<(), Memory
     Ok(())
 }
 
-impl Schedule {
-    /// A relation as the fragments rebuild it. Nothing has changed by this.
+impl<D: DeskStore, S: SiteStore> Schedule<D, S> {
+    /// A relation as the fragments rebuild it, unless the medium of a store refuses: then that is told. Nothing has
+    /// changed by this.
     pub fn show(&mut self, alloc: Global, name: &Text) -> Result<String, Memory>
-        ensures shown { (whole : Relations) → HasRun whole self.old.world → IfOk result (λ text. IsShownRelation (catalogue_of self.old.world.machines.desk.catalog) whole self.old.world.entries.items name.now (string_bytes text)) }
+        ensures shown { ShowsOf (world_over D.is_clean S.is_clean D.is_sound S.is_sound D.kept S.kept D.refused S.refused) name.now (λ catalogue whole entries text. IsShownRelation catalogue whole entries name.now text) (λ text. string_bytes text) self.old.world self.new.world result }
         ensures same { stage_of self.new ≡ stage_of self.old }
-        ensures runs { (whole : Relations) → HasRun whole self.old.world → HasRun whole self.new.world }
-        ensures catalog { self.new.world.machines.desk.catalog ≡ self.old.world.machines.desk.catalog }
+        ensures leaves { LeavesWorld (world_over D.is_clean S.is_clean D.is_sound S.is_sound D.kept S.kept D.refused S.refused) self.old.world self.new.world }
     {
-        lists_stop_for_memory();
         match self.world.rebuilt(name) {
             Ok(found) => relation_text(alloc, Mode::Tabs, self.world.catalog(), name, found),
             Err(fault) => failed(alloc, name.as_str(), fault),
         }
     }
 
-    /// The parts that a leaf keeps, by the leaf's name. Nothing has changed by this.
+    /// The parts that a leaf keeps, by the leaf's name, unless the medium of its store refuses: then that is told.
+    /// Nothing has changed by this.
     pub fn leaf(&mut self, alloc: Global, name: &Text) -> Result<String, Memory>
-        ensures shown { (whole : Relations) → HasRun whole self.old.world → IfOk result (λ text. IsShownLeaf (catalogue_of self.old.world.machines.desk.catalog) whole self.old.world.entries.items name.now (string_bytes text)) }
+        ensures shown { ShowsOf (world_over D.is_clean S.is_clean D.is_sound S.is_sound D.kept S.kept D.refused S.refused) name.now (λ catalogue whole entries text. IsShownLeaf catalogue whole entries name.now text) (λ text. string_bytes text) self.old.world self.new.world result }
         ensures same { stage_of self.new ≡ stage_of self.old }
-        ensures runs { (whole : Relations) → HasRun whole self.old.world → HasRun whole self.new.world }
-        ensures catalog { self.new.world.machines.desk.catalog ≡ self.old.world.machines.desk.catalog }
+        ensures leaves { LeavesWorld (world_over D.is_clean S.is_clean D.is_sound S.is_sound D.kept S.kept D.refused S.refused) self.old.world self.new.world }
     {
         match leaf_written(alloc, self.world.catalog().leaves(), name.as_str())? {
             Some(leaf) => self.parts(alloc, &leaf, name.as_str()),
@@ -183,13 +182,12 @@ impl Schedule {
         }
     }
 
+    /// The parts that this leaf keeps; `name` is how it was asked for.
     fn parts(&mut self, alloc: Global, leaf: &Leaf, name: &str) -> Result<String, Memory>
-        ensures shown { (whole : Relations) → HasRun whole self.old.world → IfOk result (λ text. IsShownParts (catalogue_of self.old.world.machines.desk.catalog) whole self.old.world.entries.items name.now leaf.now (string_bytes text)) }
+        ensures shown { ShowsOf (world_over D.is_clean S.is_clean D.is_sound S.is_sound D.kept S.kept D.refused S.refused) name.now (λ catalogue whole entries text. IsShownParts catalogue whole entries name.now leaf.now text) (λ text. string_bytes text) self.old.world self.new.world result }
         ensures same { stage_of self.new ≡ stage_of self.old }
-        ensures runs { (whole : Relations) → HasRun whole self.old.world → HasRun whole self.new.world }
-        ensures catalog { self.new.world.machines.desk.catalog ≡ self.old.world.machines.desk.catalog }
+        ensures leaves { LeavesWorld (world_over D.is_clean S.is_clean D.is_sound S.is_sound D.kept S.kept D.refused S.refused) self.old.world self.new.world }
     {
-        lists_stop_for_memory();
         match self.world.parts(leaf) {
             Ok(found) => parts_text(alloc, Mode::Tabs, self.world.catalog(), leaf, name, found),
             Err(fault) => failed(alloc, name, fault),

@@ -1,24 +1,18 @@
 use Rattle.std.proofs.Common.{IfOk, string_bytes, subst, sym}
-use Rattle.catalog.specs.Relation.{catalogue_of}
 use Rattle.fragdb.specs.declared.play_script.Item.{Item}
-use Rattle.fragdb.specs.Play.{Plays}
-use Rattle.std.proofs.lemmas.Result.{IfOk-weaker}
-use Rattle.fragdb.specs.Schedule.{HasRun, stage_of}
-use Rattle.fragdb.proofs.ReachedLemmas.{always}
+use Rattle.fragdb.specs.Play.{PlaysItem}
+use Rattle.fragdb.specs.Schedule.{world_over}
+use Rattle.fragdb.proofs.PlayLemmas.{shows_leaf, shows_relation}
 use Rattle.fragdb.proofs.play.play_item.Goals as goal
 
-pub returns-in-Show-clause-runs : goal.returns-in-Show-clause-runs
-returns-in-Show-clause-runs c = λ whole has. always c.show.result (HasRun whole c.show.new.self.world) (c.show.ensures.runs whole has)
-
-pub returns-in-Leaf-clause-runs : goal.returns-in-Leaf-clause-runs
-returns-in-Leaf-clause-runs c = λ whole has. always c.leaf.result (HasRun whole c.leaf.new.self.world) (c.leaf.ensures.runs whole has)
-
 pub returns-in-Show-clause-plays : goal.returns-in-Show-clause-plays
-returns-in-Show-clause-plays c = λ whole has.
-    subst (λ (one : Item). IfOk c.show.result (λ told. Plays (catalogue_of c.args.schedule.now.world.machines.desk.catalog) whole one (stage_of c.args.schedule.now) (stage_of c.show.new.self) (string_bytes told))) (sym c.in-Show.is)
-    (IfOk-weaker c.show.result _ _ (λ told shown. (c.show.ensures.same, shown)) (c.show.ensures.shown whole has))
+returns-in-Show-clause-plays g c =
+    let seen = world_over g.D.DeskStore.is_clean g.S.SiteStore.is_clean g.D.DeskStore.is_sound g.S.SiteStore.is_sound g.D.DeskStore.kept g.S.SiteStore.kept g.D.DeskStore.refused g.S.SiteStore.refused in
+    subst (λ (one : Item). IfOk c.show.result (λ told. PlaysItem seen one c.args.schedule.now c.show.new.self (string_bytes told))) (sym c.in-Show.is)
+    (shows_relation seen c.in-Show.name (λ text. string_bytes text) c.args.schedule.now c.show.new.self c.show.result c.show.ensures.same c.show.ensures.shown)
 
 pub returns-in-Leaf-clause-plays : goal.returns-in-Leaf-clause-plays
-returns-in-Leaf-clause-plays c = λ whole has.
-    subst (λ (one : Item). IfOk c.leaf.result (λ told. Plays (catalogue_of c.args.schedule.now.world.machines.desk.catalog) whole one (stage_of c.args.schedule.now) (stage_of c.leaf.new.self) (string_bytes told))) (sym c.in-Leaf.is)
-    (IfOk-weaker c.leaf.result _ _ (λ told shown. (c.leaf.ensures.same, shown)) (c.leaf.ensures.shown whole has))
+returns-in-Leaf-clause-plays g c =
+    let seen = world_over g.D.DeskStore.is_clean g.S.SiteStore.is_clean g.D.DeskStore.is_sound g.S.SiteStore.is_sound g.D.DeskStore.kept g.S.SiteStore.kept g.D.DeskStore.refused g.S.SiteStore.refused in
+    subst (λ (one : Item). IfOk c.leaf.result (λ told. PlaysItem seen one c.args.schedule.now c.leaf.new.self (string_bytes told))) (sym c.in-Leaf.is)
+    (shows_leaf seen c.in-Leaf.name (λ text. string_bytes text) c.args.schedule.now c.leaf.new.self c.leaf.result c.leaf.ensures.same c.leaf.ensures.shown)

@@ -8,6 +8,7 @@ use Rattle.fragdb.specs.declared.script.ScriptFault.TheVariants as script
 use Rattle.fragdb.specs.Play.{IsPlayedOver, IsSound, PlaysOrStops}
 use Rattle.fragdb.specs.PlayItems.{items_of}
 use Rattle.fragdb.specs.PlayLoad.{IsLoaded, IsMalformedAt}
+use Rattle.fragdb.specs.Schedule.{world_over}
 use Rattle.fragdb.specs.Script.{lines_of}
 use Rattle.fragdb.proofs.LoadedLemmas.{loaded_fits}
 use Rattle.fragdb.proofs.PlayLemmas.{played, unloaded}
@@ -31,7 +32,7 @@ returns-in-Ok g c =
     let items = c.as_slice.ensures.value ∙ ap (λ (items : List Placed × Option ℕ). items.0) read in
     let old = g.W.Write.contents c.args.output.now in
     let new = g.W.Write.contents c.play_over.new.output in
-    played catalogue text old new c.play_over.result sound (subst (λ (items : List Placed). OnOk c.play_over.result (IsPlayedOver catalogue whole items old new)) items c.play_over.ensures.ok) c.play_over.ensures.err
+    played (world_over g.D.DeskStore.is_clean g.S.SiteStore.is_clean g.D.DeskStore.is_sound g.S.SiteStore.is_sound g.D.DeskStore.kept g.S.SiteStore.kept g.D.DeskStore.refused g.S.SiteStore.refused) g.O.OpensWorld.fails_for catalogue text old new c.play_over.result sound (subst (λ (items : List Placed). OnOk c.play_over.result (IsPlayedOver (world_over g.D.DeskStore.is_clean g.S.SiteStore.is_clean g.D.DeskStore.is_sound g.S.SiteStore.is_sound g.D.DeskStore.kept g.S.SiteStore.kept g.D.DeskStore.refused g.S.SiteStore.refused) catalogue whole items old new)) items c.play_over.ensures.ok) c.play_over.ensures.err
 
 pub returns : goal.returns
 returns g c =
@@ -42,4 +43,4 @@ returns g c =
     subst (λ (items : List Placed × Option ℕ). IsMalformedAt (schemas_of catalogue) items line) c.in_ok-script.ensures
     (subst (λ (schema : List RelationSchema). IsMalformedAt schema (c.in_ok-script.script.items.items, c.in_ok-script.script.malformed) line) c.schema.ensures.schemas
     (c.loaded.ensures.malformed line (c.in-Err.is ∙ ap (λ fault. Err fault) e))) in
-    subst (λ (fault : ProgramFault). PlaysOrStops catalogue text output output (Err fault)) (sym c.from.ensures) (unloaded catalogue text output c.in-Err.fault why)
+    subst (λ (fault : ProgramFault). PlaysOrStops (world_over g.D.DeskStore.is_clean g.S.SiteStore.is_clean g.D.DeskStore.is_sound g.S.SiteStore.is_sound g.D.DeskStore.kept g.S.SiteStore.kept g.D.DeskStore.refused g.S.SiteStore.refused) g.O.OpensWorld.fails_for catalogue text output output (Err fault)) (sym c.from.ensures) (unloaded (world_over g.D.DeskStore.is_clean g.S.SiteStore.is_clean g.D.DeskStore.is_sound g.S.SiteStore.is_sound g.D.DeskStore.kept g.S.SiteStore.kept g.D.DeskStore.refused g.S.SiteStore.refused) g.O.OpensWorld.fails_for catalogue text output c.in-Err.fault why)

@@ -7,7 +7,7 @@ use Rattle.fragdb.proofs.ShownLemmas.{names_of_committed}
 use Rattle.fragdb.proofs.schedule.Schedule.committed.Goals as goal
 
 pub returns : goal.returns
-returns c =
+returns g c =
     let named = name_of c.args.self.now.cast in
     let entries = c.args.self.now.world.entries.items in
     let lines : List Committed → List ℕ = λ all. flat_map (λ one. named one.txn ++ 10 ∷ []) all in

@@ -2,12 +2,14 @@ use Rattle.std.proofs.Common.{◌≡◌, ◌++◌, ◌+◌, ◌∷◌, [], ℕ, 
 use Rattle.catalog.specs.Catalogue.{Catalogue}
 use Rattle.catalog.specs.Relation.{catalogue_of}
 use Rattle.fragdb.specs.Delivering.{DeliversAt, DeliversEach, first_due, first_due_from}
-use Rattle.fragdb.specs.Schedule.{stage_of}
+use Rattle.fragdb.specs.Schedule.{stage_of, world_over}
+use Rattle.fragdb.proofs.CountedLemmas.{counted_by_delivery}
 use Rattle.fragdb.proofs.DeliveringLemmas.{DeliversEach-more, next_behind}
+use Rattle.fragdb.proofs.ReachedLemmas.{leaves_then}
 use Rattle.fragdb.proofs.schedule.Schedule.deliver_all.Goals as goal
 
 pub loop-preserved : goal.loop-preserved
-loop-preserved c =
+loop-preserved g c =
     let catalogue = catalogue_of c.args.self.now.world.machines.desk.catalog in
     let but = c.args.but.now in
     let so_far = c.loop.invariant in
@@ -18,7 +20,7 @@ loop-preserved c =
     let due_here : first_due but middle ≡ Some place =
     so_far.due ∙ ap (λ (came : List Bool). first_due_from c.loop.from but (drop c.loop.from came)) (sym c.as_slice.ensures.value) ∙ sym c.in-Some.ensures.due in
     let delivered : DeliversAt catalogue place true middle after (string_bytes c.in_ok-told.told) =
-    subst (λ (over : Catalogue). DeliversAt over place true middle after (string_bytes c.in_ok-told.told)) (ap catalogue_of so_far.catalog) c.in_ok-told.ensures.delivers in
+    subst (λ (over : Catalogue). DeliversAt over place true middle after (string_bytes c.in_ok-told.told)) so_far.leaves.catalog c.in_ok-told.ensures.delivers in
     let wrote : string_bytes c.push_str.new.self ≡ string_bytes c.loop.text ++ string_bytes c.in_ok-told.told = search rules in
     let went = so_far.went.0 in
     let count : length (went ++ place ∷ []) ≡ c.loop.counter + 1 = simp length-append (omega (arith, so_far.went.2)) in
@@ -30,7 +32,6 @@ loop-preserved c =
         count,
       );
       due = next_behind catalogue but place middle after (string_bytes c.in_ok-told.told) due_here delivered;
-      counted = c.in_ok-told.ensures.counted;
-      runs = λ whole has. c.in_ok-told.ensures.runs whole (so_far.runs whole has);
-      catalog = c.deliver_at.ensures.catalog ∙ so_far.catalog;
+      counted = counted_by_delivery catalogue place true middle after (string_bytes c.in_ok-told.told) delivered so_far.counted;
+      leaves = leaves_then (world_over g.D.DeskStore.is_clean g.S.SiteStore.is_clean g.D.DeskStore.is_sound g.S.SiteStore.is_sound g.D.DeskStore.kept g.S.SiteStore.kept g.D.DeskStore.refused g.S.SiteStore.refused) c.args.self.now.world c.loop.self.world c.deliver_at.new.self.world so_far.leaves c.deliver_at.ensures.leaves;
     }

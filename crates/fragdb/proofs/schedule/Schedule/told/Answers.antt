@@ -1,0 +1,4 @@
+use Rattle.fragdb.proofs.schedule.Schedule.told.Goals as goal
+
+pub returns : goal.returns
+returns g c = ?
