@@ -18,3 +18,4 @@ pub mod LoadedLemmas
 pub mod PlayLemmas
 pub mod PerformLemmas
 pub mod SessionLemmas
+pub mod SqlStoresLemmas

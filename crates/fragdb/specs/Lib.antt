@@ -13,6 +13,7 @@ pub mod Shown
 pub mod WorldOpener
 pub mod Client
 pub mod Origin
+pub mod SqlStores
 pub mod Solo
 pub mod Play
 pub mod CatalogFile

@@ -16,6 +16,8 @@ mod delivering;
 mod dot;
 mod explaining;
 mod fault;
+mod folder;
+mod folder_told;
 mod fragment_tree;
 mod input;
 mod level;
@@ -32,25 +34,29 @@ mod play_load;
 mod play_script;
 mod play_text;
 mod reply;
+mod same_catalog;
 mod schedule;
 mod script;
 mod session;
 mod session_word;
 mod shown;
 mod solo;
+mod sql_stores;
 mod typed;
 mod usage;
 mod world_opener;
 mod written;
 
 use crate::built_in::{BUILT_IN, BUILT_IN_NAME};
+use crate::database::Database;
 use crate::explaining::explain_outcome;
 use crate::fault::ProgramFault;
-use crate::opener::Lists;
+use crate::folder_told::tell_folder;
+use crate::opener::{Folder, InMemory, Lists, Opens};
 use crate::outcome::{Outcome, Status, exit};
 use crate::perform::{perform, perform_session};
 use crate::solo::SCRIPT_LIMIT;
-use crate::usage::{Request, read_words, show_usage, unreadable_words};
+use crate::usage::{Request, Stores, read_words, show_usage, unreadable_words};
 use std::alloc::Global;
 use std::io::{BufWriter, IsTerminal, Read, Write};
 use std::process::ExitCode;
@@ -80,25 +86,52 @@ fn run(rt: &HostRuntime) -> Status {
     }
 }
 
-/// Does what a request asks for, over the catalogue that it names or the built-in one, and tells what it came to.
+/// Does what a request asks for, over the stores that it names, and tells what it came to.
 fn do_request<W: Write, E: Write>(
     rt: &HostRuntime,
     request: Request<'_>,
     output: &mut W,
     errors: &mut E,
 ) -> Status {
+    match request.stores() {
+        Stores::Lists => do_request_over(rt, &Lists, request, output, errors),
+        Stores::InMemory => do_request_over(rt, &InMemory, request, output, errors),
+        Stores::Folder(dir) => {
+            let folder = Folder::new(rt, dir, request.catalog());
+            do_request_over(rt, &folder, request, output, errors)
+        }
+    }
+}
+
+/// Does what a request asks for, over the catalogue that it names or the built-in one, and tells what it came to.
+fn do_request_over<B: Database + Drop, O: Opens<B>, W: Write, E: Write>(
+    rt: &HostRuntime,
+    opener: &O,
+    request: Request<'_>,
+    output: &mut W,
+    errors: &mut E,
+) -> Status {
     match request.catalog() {
-        Some(file) => perform_over(rt, request, file, fs::open(rt, file), output, errors),
+        Some(file) => perform_over(
+            rt,
+            opener,
+            request,
+            file,
+            fs::open(rt, file),
+            output,
+            errors,
+        ),
         None => {
             let catalog = Ok(BUILT_IN.as_bytes());
-            perform_over(rt, request, BUILT_IN_NAME, catalog, output, errors)
+            perform_over(rt, opener, request, BUILT_IN_NAME, catalog, output, errors)
         }
     }
 }
 
 /// Opens the file that a request names, and does what it asks for, over this catalogue where it runs or plays a script.
-fn perform_over<C: Read + Drop, W: Write, E: Write>(
+fn perform_over<B: Database + Drop, O: Opens<B>, C: Read + Drop, W: Write, E: Write>(
     rt: &HostRuntime,
+    opener: &O,
     request: Request<'_>,
     catalog_file: &str,
     catalog: io::Result<C>,
@@ -107,17 +140,36 @@ fn perform_over<C: Read + Drop, W: Write, E: Write>(
 ) -> Status {
     if request.is_of_input() {
         let input = Ok(rt.stdin());
-        perform_on(rt, request, catalog_file, catalog, input, output, errors)
+        perform_on(
+            rt,
+            opener,
+            request,
+            catalog_file,
+            catalog,
+            input,
+            output,
+            errors,
+        )
     } else {
         let input = fs::open(rt, request.file());
-        perform_on(rt, request, catalog_file, catalog, input, output, errors)
+        perform_on(
+            rt,
+            opener,
+            request,
+            catalog_file,
+            catalog,
+            input,
+            output,
+            errors,
+        )
     }
 }
 
 /// Does what a request asks for over this input. Where refusals are to be explained the input is read whole first, as
 /// it is looked at once more afterwards.
-fn perform_on<C: Read + Drop, R: Read + Drop, W: Write, E: Write>(
+fn perform_on<B: Database + Drop, O: Opens<B>, C: Read + Drop, R: Read + Drop, W: Write, E: Write>(
     rt: &HostRuntime,
+    opener: &O,
     request: Request<'_>,
     catalog_file: &str,
     catalog: io::Result<C>,
@@ -126,7 +178,16 @@ fn perform_on<C: Read + Drop, R: Read + Drop, W: Write, E: Write>(
     errors: &mut E,
 ) -> Status {
     if begins_session(rt, &request) {
-        return have_session(rt, request, catalog_file, catalog, input, output, errors);
+        return have_session(
+            rt,
+            opener,
+            request,
+            catalog_file,
+            catalog,
+            input,
+            output,
+            errors,
+        );
     }
     if !is_explained(rt, &request) {
         let outcome = perform(
@@ -146,6 +207,7 @@ fn perform_on<C: Read + Drop, R: Read + Drop, W: Write, E: Write>(
             let bytes = bytes.as_slice();
             explain_performed(
                 rt,
+                opener,
                 request,
                 catalog_file,
                 catalog,
@@ -157,6 +219,7 @@ fn perform_on<C: Read + Drop, R: Read + Drop, W: Write, E: Write>(
         Err(error) => {
             explain_performed(
                 rt,
+                opener,
                 request,
                 catalog_file,
                 catalog,
@@ -185,8 +248,16 @@ fn is_at_terminal(rt: &HostRuntime) -> bool {
 }
 
 /// Has a session, and explains why its catalogue is refused, if it is.
-fn have_session<C: Read + Drop, R: Read + Drop, W: Write, E: Write>(
+fn have_session<
+    B: Database + Drop,
+    O: Opens<B>,
+    C: Read + Drop,
+    R: Read + Drop,
+    W: Write,
+    E: Write,
+>(
     rt: &HostRuntime,
+    opener: &O,
     request: Request<'_>,
     catalog_file: &str,
     catalog: io::Result<C>,
@@ -197,7 +268,7 @@ fn have_session<C: Read + Drop, R: Read + Drop, W: Write, E: Write>(
     let alloc = rt.alloc();
     let outcome = perform_session(
         alloc,
-        &Lists,
+        opener,
         rt,
         request,
         catalog_file,
@@ -219,8 +290,9 @@ fn read_whole<R: Read + Drop>(alloc: Global, input: io::Result<R>) -> io::Result
 }
 
 /// Does what a request asks for over these bytes, and explains what was refused of it.
-fn explain_performed<C: Read + Drop, W: Write, E: Write>(
+fn explain_performed<B: Database + Drop, O: Opens<B>, C: Read + Drop, W: Write, E: Write>(
     rt: &HostRuntime,
+    opener: &O,
     request: Request<'_>,
     catalog_file: &str,
     catalog: io::Result<C>,
@@ -247,7 +319,8 @@ fn explain_performed<C: Read + Drop, W: Write, E: Write>(
     status
 }
 
-/// Explains what was refused of a request, whose input had these bytes. The catalogue of a script is opened once more.
+/// Explains what was refused of a request, whose input had these bytes, or which store failed. The catalogue of a script is
+/// opened once more.
 fn explain<E: Write>(
     rt: &HostRuntime,
     request: Request<'_>,
@@ -255,18 +328,35 @@ fn explain<E: Write>(
     bytes: &[u8],
     errors: &mut E,
 ) -> io::Result<()> {
-    let alloc = rt.alloc();
     match (request, request.catalog()) {
         (Request::Check { catalog, .. }, _) => {
-            explain_outcome(alloc, outcome, catalog, bytes, bytes, errors)
+            explain_outcome(rt.alloc(), outcome, catalog, bytes, bytes, errors)
         }
         (_, Some(file)) => {
             let catalog = fs::open(rt, file)?;
-            explain_outcome(alloc, outcome, file, catalog, bytes, errors)
+            explain_over(rt, request, outcome, file, catalog, bytes, errors)
         }
         (_, None) => {
             let catalog = BUILT_IN.as_bytes();
-            explain_outcome(alloc, outcome, BUILT_IN_NAME, catalog, bytes, errors)
+            explain_over(rt, request, outcome, BUILT_IN_NAME, catalog, bytes, errors)
         }
+    }
+}
+
+/// The same over a catalogue that was opened once more.
+fn explain_over<C: Read + Drop, E: Write>(
+    rt: &HostRuntime,
+    request: Request<'_>,
+    outcome: &Outcome<'_>,
+    file: &str,
+    catalog: C,
+    bytes: &[u8],
+    errors: &mut E,
+) -> io::Result<()> {
+    match (request.stores(), outcome) {
+        (Stores::Folder(dir), Outcome::Stopped(ProgramFault::Store { .. })) => {
+            tell_folder(rt, dir, file, catalog, errors)
+        }
+        _ => explain_outcome(rt.alloc(), outcome, file, catalog, bytes, errors),
     }
 }

@@ -5,14 +5,25 @@ ghost use Rattle.catalog.specs.Relation.{catalogue_of};
 ghost use Rattle.fragdb.specs.Client.{IsOfClient};
 ghost use Rattle.fragdb.specs.Origin.{Begins, Origin as OriginNow};
 
+use crate::client::stopped;
 use crate::database::Database;
 use crate::fault::ProgramFault;
+use crate::folder::enter;
 use crate::play_load::empty_relations;
+use crate::sql_stores::{file_desk, file_sites, memory_desk, memory_sites};
 use catalog::catalogue::Catalog;
+use desk::refusal::Refusal;
+use site::fault::SiteFault;
+use sqlite::{File, FileStore, MemStore};
+use sqlstore::desk::SqlDesk;
+use sqlstore::site::SqlSite;
 use std::alloc::Global;
+use std::rt::HostRuntime;
+use store::fault::StoreFault;
 use store::plain_desk::PlainDesk;
 use store::plain_site::PlainSite;
-use world::solo::{Solo, open};
+use world::fault::Fault;
+use world::solo::{Solo, open, open_on};
 
 /// Opens databases over stores of some kind.
 pub trait Opens<B: Database> {
@@ -45,5 +56,79 @@ impl Opens<Solo<PlainDesk, PlainSite>> for Lists {
             // Lists refuse for want of memory alone.
             Err(_) => Err(ProgramFault::Memory),
         }
+    }
+}
+
+/// Databases over new stores in SQLite, in memory, which begin with relations without rows, and are gone at the end.
+pub struct InMemory;
+
+impl Opens<Solo<SqlDesk<MemStore>, SqlSite<MemStore>>> for InMemory {
+    ghost use Rattle.std.specs.Prelude.{◌≡◌};
+    ghost use Rattle.fragdb.specs.Origin.{New};
+
+    ghost origin = { λ origin. origin ≡ New };
+
+    fn open<'a>(
+        &self,
+        alloc: Global,
+        catalog: &Catalog,
+    ) -> Result<Solo<SqlDesk<MemStore>, SqlSite<MemStore>>, ProgramFault<'a>> {
+        let whole = empty_relations(alloc, catalog.schema())?;
+        let sites = memory_sites(alloc, catalog)?;
+        let desk = memory_desk(alloc)?;
+        match open_on(alloc, catalog, &whole, sites, desk) {
+            Ok(database) => Ok(database),
+            Err(fault) => Err(unopened(fault)),
+        }
+    }
+}
+
+/// Databases over the stores in SQLite that lie in a folder. They go on from what an earlier one left there.
+pub struct Folder<'f> {
+    rt: &'f HostRuntime,
+    dir: &'f str,
+    /// The file of its catalogue; none for the built-in one.
+    source: Option<&'f str>,
+}
+
+impl<'f> Folder<'f> {
+    /// Those of this folder, over the catalogue of a file, or the built-in one.
+    pub fn new(rt: &'f HostRuntime, dir: &'f str, source: Option<&'f str>) -> Folder<'f> {
+        Folder { rt, dir, source }
+    }
+}
+
+impl Opens<Solo<SqlDesk<FileStore<File>>, SqlSite<FileStore<File>>>> for Folder<'_> {
+    ghost use Rattle.std.specs.Prelude.{◌≡◌};
+    ghost use Rattle.fragdb.specs.Origin.{Found, Kept};
+
+    ghost origin = { λ origin. (found : Found) × (origin ≡ Kept found) };
+
+    fn open<'a>(
+        &self,
+        alloc: Global,
+        catalog: &Catalog,
+    ) -> Result<Solo<SqlDesk<FileStore<File>>, SqlSite<FileStore<File>>>, ProgramFault<'a>> {
+        enter(self.rt, self.dir, self.source, catalog)?;
+        let sites = file_sites(self.rt, self.dir, catalog)?;
+        let desk = file_desk(self.rt, self.dir)?;
+        match Solo::open_stores(alloc, catalog, sites, desk) {
+            Ok(database) => Ok(database),
+            Err(fault) => Err(unopened(fault)),
+        }
+    }
+}
+
+/// What stops the program where a database can't be opened. An incarnation after the last one can't be kept.
+fn unopened<'a>(fault: Fault) -> ProgramFault<'a>
+    ensures { IsOfClient result }
+{
+    match fault {
+        Fault::Desk(Refusal::Full) | Fault::Site(SiteFault::Full) => {
+            ProgramFault::Store {
+                fault: StoreFault::Refused,
+            }
+        }
+        fault => stopped(fault),
     }
 }

@@ -1,0 +1,30 @@
+use Rattle.std.proofs.Common.{◌≡◌, [], ap, refl, subst, sym, ◌∙◌}
+use Rattle.std.specs.FinMap as finite
+use Rattle.meaning.specs.Whole.{FitsSchema, Relations}
+use Rattle.catalog.specs.FragmentLeaf.{schemas_of}
+use Rattle.catalog.specs.Relation.{catalogue_of}
+use Rattle.fragdb.specs.Origin.{New, no_rows}
+use Rattle.fragdb.specs.PlayLoad.{emptied}
+use Rattle.fragdb.proofs.SoloLemmas.{emptied-fits}
+use Rattle.fragdb.proofs.SqlStoresLemmas.{are_new}
+use Rattle.fragdb.proofs.opener.InMemoryOpens.open.Goals as goal
+
+pub returns-in-Ok : goal.returns-in-Ok
+returns-in-Ok c =
+    let catalogue = catalogue_of c.args.catalog.now in
+    let empty : c.in_ok-whole.whole ≡ no_rows catalogue = c.in_ok-whole.ensures ∙ ap (λ schemas. emptied schemas finite.empty) c.schema.ensures.schemas in
+    let fits_schema = subst (FitsSchema (schemas_of catalogue)) (sym empty) (emptied-fits (schemas_of catalogue)) in
+    let new = are_new catalogue c.in_ok-desk.desk c.in_ok-sites.sites.items c.in_ok-desk.ensures.new c.in_ok-sites.ensures.new in (
+      New,
+      refl,
+      record {
+        idle = c.in-Ok.ensures.idle.0;
+        goes_on = λ whole begins clean. record {
+          going = c.in-Ok.ensures.idle.1;
+          catalog = c.in-Ok.ensures.catalog;
+          sound = c.in-Ok.ensures.sound clean;
+          served = rw (begins, sym empty) (c.in-Ok.ensures.served clean new fits_schema);
+          stands = c.in-Ok.ensures.stands clean new fits_schema;
+        };
+      },
+    )

@@ -1,0 +1,114 @@
+//! Stores in SQLite, of a catalogue's sites and of its coordinator: new ones in memory, and those of a folder.
+
+ghost use Rattle.std.specs.Prelude.{◌≡◌, ◌<◌, IfErr, IfOk, length};
+ghost use Rattle.catalog.specs.Relation.{catalogue_of};
+ghost use Rattle.fragdb.specs.Client.{IsOfClient};
+ghost use Rattle.fragdb.specs.SqlStores.{AreNewSites, IsNewDesk, IsNewSite};
+
+use crate::fault::ProgramFault;
+use catalog::catalogue::Catalog;
+use sqlite::{File, FileStore, MemStore};
+use sqlstore::desk::SqlDesk;
+use sqlstore::site::SqlSite;
+use std::alloc::Global;
+use std::rt::HostRuntime;
+use store::fault::StoreFault;
+
+/// New stores of the sites, in the catalogue's order.
+pub fn memory_sites<'a>(
+    alloc: Global,
+    catalog: &Catalog,
+) -> Result<Vec<SqlSite<MemStore>>, ProgramFault<'a>>
+    ensures new { IfOk result (λ sites. AreNewSites (catalogue_of catalog.now) 0 sites.items) }
+    ensures all { IfOk result (λ sites. length sites.items ≡ length catalog.now.0) }
+    ensures err { IfErr result IsOfClient }
+{
+    let mut sites = Vec::new(alloc);
+    for place in 0..catalog.sites().len() {
+        let site = memory_site(catalog, place)?;
+        sites.push(site)?;
+    }
+    Ok(sites)
+}
+
+/// A new store of the site of this number.
+fn memory_site<'a>(catalog: &Catalog, place: usize) -> Result<SqlSite<MemStore>, ProgramFault<'a>>
+    ensures new { IfOk result (IsNewSite (catalogue_of catalog.now) place) }
+    ensures err { IfErr result IsOfClient }
+{
+    let leaves = catalog.leaves_at(place)?;
+    match SqlSite::memory(leaves) {
+        Ok(site) => Ok(site),
+        Err(fault) => Err(of_store(fault)),
+    }
+}
+
+/// A new store of the coordinator.
+pub fn memory_desk<'a>(alloc: Global) -> Result<SqlDesk<MemStore>, ProgramFault<'a>>
+    ensures new { IfOk result IsNewDesk }
+    ensures err { IfErr result IsOfClient }
+{
+    match SqlDesk::memory(alloc) {
+        Ok(desk) => Ok(desk),
+        Err(fault) => Err(of_store(fault)),
+    }
+}
+
+/// The stores of the sites in the files of a folder, in the catalogue's order. A file that isn't there is made.
+pub fn file_sites<'a>(
+    rt: &HostRuntime,
+    dir: &str,
+    catalog: &Catalog,
+) -> Result<Vec<SqlSite<FileStore<File>>>, ProgramFault<'a>>
+    ensures all { IfOk result (λ sites. length sites.items ≡ length catalog.now.0) }
+    ensures err { IfErr result IsOfClient }
+{
+    let mut sites = Vec::new(rt.alloc());
+    for place in 0..catalog.sites().len() {
+        let site = file_site(rt, dir, catalog, place)?;
+        sites.push(site)?;
+    }
+    Ok(sites)
+}
+
+/// The store of the site of this number, in its file of the folder.
+pub fn file_site<'a>(
+    rt: &HostRuntime,
+    dir: &str,
+    catalog: &Catalog,
+    place: usize,
+) -> Result<SqlSite<FileStore<File>>, ProgramFault<'a>>
+    requires { place < length catalog.now.0 }
+    ensures err { IfErr result IsOfClient }
+{
+    let path = format!(in rt.alloc(); "{dir}/{}.db", catalog.sites()[place])?;
+    let leaves = catalog.leaves_at(place)?;
+    match SqlSite::file(rt, path.as_str(), leaves) {
+        Ok(site) => Ok(site),
+        Err(fault) => Err(of_store(fault)),
+    }
+}
+
+/// The store of the coordinator, in its file of the folder. A file that isn't there is made.
+pub fn file_desk<'a>(
+    rt: &HostRuntime,
+    dir: &str,
+) -> Result<SqlDesk<FileStore<File>>, ProgramFault<'a>>
+    ensures err { IfErr result IsOfClient }
+{
+    let path = format!(in rt.alloc(); "{dir}/desk.db")?;
+    match SqlDesk::file(rt, path.as_str()) {
+        Ok(desk) => Ok(desk),
+        Err(fault) => Err(of_store(fault)),
+    }
+}
+
+/// What stops the program where a store can't be opened.
+pub fn of_store<'a>(fault: StoreFault) -> ProgramFault<'a>
+    ensures { IsOfClient result }
+{
+    match fault {
+        StoreFault::Memory => ProgramFault::Memory,
+        fault => ProgramFault::Store { fault },
+    }
+}
