@@ -192,7 +192,7 @@ fn perform_on<B: Database + Drop, O: Opens<B>, C: Read + Drop, R: Read + Drop, W
     if !is_explained(rt, &request) {
         let outcome = perform(
             rt.alloc(),
-            &Lists,
+            opener,
             &Lists,
             request,
             catalog_file,
@@ -306,7 +306,7 @@ fn explain_performed<B: Database + Drop, O: Opens<B>, C: Read + Drop, W: Write, 
     };
     let outcome = perform(
         rt.alloc(),
-        &Lists,
+        opener,
         &Lists,
         request,
         catalog_file,

@@ -309,9 +309,7 @@ fn perform_play<
     ensures unread { IfErr input (λ error. IsStopped result × Keeps (W.contents output.old) (W.contents output.new)) }
 {
     match catalog {
-        Ok(catalog) => of_check(play_files(
-            alloc, worlds, file, catalog, script, input, output,
-        )),
+        Ok(catalog) => of_check(play_files(alloc, worlds, file, catalog, script, input, output)),
         Err(error) => unread(file, &error),
     }
 }

@@ -26,7 +26,9 @@ pub fn memory_sites<'a>(
     let mut sites = Vec::new(alloc);
     for place in 0..catalog.sites().len() {
         let site = memory_site(catalog, place)?;
-        sites.push(site)?;
+        if sites.push(site).is_err() {
+            return Err(ProgramFault::Memory);
+        }
     }
     Ok(sites)
 }
@@ -66,7 +68,9 @@ pub fn file_sites<'a>(
     let mut sites = Vec::new(rt.alloc());
     for place in 0..catalog.sites().len() {
         let site = file_site(rt, dir, catalog, place)?;
-        sites.push(site)?;
+        if sites.push(site).is_err() {
+            return Err(ProgramFault::Memory);
+        }
     }
     Ok(sites)
 }

@@ -47,6 +47,15 @@ module _ {S : Type 0} (is_clean is_sound : S → Type 0) (kept : S → SiteConte
   all_sound place (n ∷ names) (s ∷ stores) [] up clean = absurd up
   all_sound place (n ∷ names) (s ∷ stores) (x ∷ sites) up clean = (up.0.leaves_store.sound clean.0 (up.0.learnt clean.0), all_sound (suc place) names stores sites up.1 clean.1)
 
+  -- stores that are clean now were so as they were given
+  pub stores_were_clean : (place : ℕ) (names : List (List ℕ)) (stores : List S) (sites : List (Site S)) → AreUp is_clean is_sound kept refused c place names stores sites → AllByRecursion (λ site. is_clean site.store) sites → AllByRecursion is_clean stores
+  stores_were_clean place [] [] [] up clean = tt
+  stores_were_clean place [] [] (x ∷ sites) up clean = absurd up
+  stores_were_clean place [] (s ∷ stores) sites up clean = absurd up
+  stores_were_clean place (n ∷ names) [] sites up clean = absurd up
+  stores_were_clean place (n ∷ names) (s ∷ stores) [] up clean = absurd up
+  stores_were_clean place (n ∷ names) (s ∷ stores) (x ∷ sites) up clean = (up.0.leaves_store.clean clean.0, stores_were_clean (suc place) names stores sites up.1 clean.1)
+
   first_of : {A : Type 0} (a b : A) (xs ys : List A) → a ∷ xs ≡ b ∷ ys → a ≡ b
   first_of a b xs ys e = cc
 

@@ -22,6 +22,9 @@ pub mod DatabaseSites
 pub mod Shown
 pub mod Told
 pub mod Unstarted
+pub mod NewStores
+pub mod Anew
+pub mod Unborn
 pub mod Numbered
 pub mod Refusing
 pub mod Running

@@ -1,5 +1,5 @@
 -- Machines that have come up grow quiet: the coordinator sends its commits again, each site asks about its prepared rows, and all letters come.
-use Rattle.std.proofs.Common.{◌≡◌, refl, sym, ap, ◌∙◌, subst, ℕ, nat_eq, Bool, true, false, List, [], ◌∷◌, ◌++◌, map, if◌then◌else◌, Option, Some, None, inl, inr, flat_map, append-nil, append_assoc}
+use Rattle.std.proofs.Common.{◌≡◌, refl, sym, ap, ◌∙◌, subst, ℕ, nat_eq, Bool, true, false, List, [], ◌∷◌, ◌++◌, map, if◌then◌else◌, Option, Some, None, is_some, inl, inr, ⊎_elim, flat_map, append-nil, append_assoc}
 use Rattle.std.proofs.lemmas.List.{map-append}
 use Rattle.std.specs.Cmp.Lexicographic.{pointwise}
 use Rattle.std.specs.FinMap as keyed
@@ -23,17 +23,20 @@ use Rattle.protocol.specs.Letters.{letter_of, name_of, ticket_of}
 use Rattle.protocol.specs.Local.{local}
 use Rattle.protocol.specs.NothingCommits.{AreInVain, is_of_commit}
 use Rattle.protocol.specs.Parts.{In}
-use Rattle.protocol.specs.Recovery.{AtRest, EndsRow, OfRecovery, Recovering, RecoveryLaw, all_inquire}
-use Rattle.protocol.specs.Serial.{AllExplained, committed}
-use Rattle.protocol.specs.Site.{Status, Dead, SiteState, inquiries, is_active, is_dead}
+use Rattle.protocol.specs.Recovery.{AtRest, EndsRow, Hears, OfRecovery, Recovering, RecoveryLaw, all_inquire}
+use Rattle.protocol.specs.Serial.{AllExplained, committed, statement_in, statements_of}
+use Rattle.protocol.specs.Site.{Status, Dead, SiteState, inquiries, is_active, is_dead, is_prepared}
 use Rattle.protocol.specs.Site as site_status
 use Rattle.protocol.specs.Statements.{Statements, letter_with, status_with, with_statements}
+use Rattle.protocol.specs.VisitPlaces.{at}
 use Rattle.protocol.specs.World.{World, desk_lives, desk_restarts, inquires, is_site}
 use Rattle.protocol.proofs.Basics.{Every, clash, either_if, every_flat, or_left, or_right, or_none_left, or_none_right}
 use Rattle.protocol.proofs.NothingCommits.{committed_still}
 use Rattle.protocol.proofs.OtherStatements.{inquiries_same}
 use Rattle.site.specs.Recovery.{Begins, resting}
-use Rattle.site.specs.State.{state_of, stands}
+use Rattle.site.specs.declared.tickets.TicketState as standings
+use Rattle.site.specs.declared.tickets.TicketState.TheVariants as standing
+use Rattle.site.specs.State.{state_of, stands, txn_in, visiting}
 use Rattle.site.proofs.Listed.{listed_alive}
 use Rattle.desk.specs.declared.reply.Notice.{Notice}
 use Rattle.desk.specs.Acknowledge.{listed, voter_with}
@@ -44,8 +47,8 @@ use Rattle.desk.specs.Transaction.{txn_of, voter_of}
 use Rattle.world.specs.Client.{IsServed}
 use Rattle.world.specs.Machines.{AreFit, Leads, Machines, world_of}
 use Rattle.world.specs.Mailbox.{Goes, Scene, settled}
-use Rattle.world.specs.Recovery.{AreUpAgain, GoesOnFrom, lost_by}
-use Rattle.world.specs.Sites.{Seat, is_called, nobody, state_at, states_of}
+use Rattle.world.specs.Recovery.{AreUpAgain, GoesOnFrom, HaveNoTicket, lost_by}
+use Rattle.world.specs.Sites.{IsSeated, Seat, is_called, nobody, state_at, states_of}
 use Rattle.world.proofs.Openings.{at_each}
 use Rattle.world.proofs.Reaching.{all_reached}
 use Rattle.world.proofs.Running.{all_both}
@@ -118,6 +121,20 @@ module _ (db : Database) where
   restarted_vain t Unknown = tt
   restarted_vain t (Known u) = (refl, tt)
   restarted_vain t (Row voters acked) = tt
+
+  -- nothing is stated by it
+  abbrev IsMute : Deed L → Type 0
+  IsMute deed = (t : Name) → statement_in t deed ≡ []
+
+  restarted_mute : (t : Name) (x : Txn L) → Every IsMute (txn_restarted t x).deeds
+  restarted_mute t Unknown = tt
+  restarted_mute t (Known u) = (λ name. refl, tt)
+  restarted_mute t (Row voters acked) = tt
+
+  statements_still : (past deeds : List (Deed L)) (t : Name) → Every IsMute deeds → statements_of (past ++ deeds) t ≡ statements_of past t
+  statements_still [] [] t mute = refl
+  statements_still [] (d ∷ deeds) t mute = ap (λ ss. ss ++ statements_of deeds t) (mute.0 t) ∙ statements_still [] deeds t mute.1
+  statements_still (d ∷ past) deeds t mute = ap (λ ss. statement_in t d ++ ss) (statements_still past deeds t mute)
 
   -- ---- its letters
   abbrev IsThere : Voter → Type 0
@@ -195,6 +212,14 @@ module _ (db : Database) where
         (λ within. committed_still past (flat_map (λ t. (txn_restarted t (w.desk.txn t)).deeds) w.desk.known) (every_flat (λ d. is_of_commit d ≡ false) (λ t. (txn_restarted t (w.desk.txn t)).deeds) w.desk.known (λ t. restarted_vain t (w.desk.txn t))))
         (λ full. refl)
 
+    -- and nothing is stated
+    restart_mute : (after : Machines) (out : List letters.Letter) (notices : List Notice) (leads : Leads db desk_restarts machines after out notices) (t : Name) → statements_of (past ++ leads.deeds) t ≡ statements_of past t
+    restart_mute after out notices leads t =
+        sym (ap (λ (v : World L). statements_of v.past t) (leads.is [] past))
+        ∙ either_if (λ (v : World L). statements_of v.past t ≡ statements_of past t) (is_desk_within (desk_restarted w.desk)) (desk_lives w) w
+        (λ within. statements_still past (flat_map (λ t. (txn_restarted t (w.desk.txn t)).deeds) w.desk.known) t (every_flat IsMute (λ t. (txn_restarted t (w.desk.txn t)).deeds) w.desk.known (λ t. restarted_mute t (w.desk.txn t))))
+        (λ full. refl)
+
   -- ---- each site asks
   -- each site stands under its own name
   own_states : (done rest : List Seat) → OneEach done rest → AllByRecursion (λ seat. states_of (statements db) (done ++ rest) seat.name ≡ state_at (statements db) seat) rest
@@ -241,6 +266,41 @@ module _ (db : Database) where
       sent_is after ∙ ap (map (letter_with (statements db))) is ∙ map-append (letter_with (statements db)) (map letter_of before) (flat_map (λ seat. inquiries seat.name (state_of seat.kept seat.table)) seats)
       ∙ (λ i. sym (sent_is before) i ++ seats_ask seats i)
 
+  -- ---- at the end
+  -- no ticket stands where a database that recovers has no letter left
+  all_dead : (deeds : List (Deed L)) (v : World L) → Recovering deeds v → v.letters ≡ [] → (a : List ℕ) (k : Name) → is_dead ((v.sites a).status k) ≡ true
+  all_dead deeds v recovering silent a k = go ((v.sites a).status k) (recovering.unvisited a k) (λ is. subst (λ (ls : List (Letter L)). Hears k (at a ls)) silent (recovering.hears a k is))
+    where
+      go : (st : Status L) → is_active st ≡ false → (is_prepared st ≡ true → Hears {L = L} k []) → is_dead st ≡ true
+      go Dead calm hears = refl
+      go (site_status.Active v) calm hears = let e : true ≡ false = calm in cc
+      go (site_status.Prepared t i) calm hears = ⊎_elim (λ none. absurd none) (λ more. ⊎_elim (λ none. absurd none) (λ none. absurd none) more) (hears refl)
+
+  -- behind whom nothing stands by the protocol, nothing stands in memory
+  unknown : (seat : Seat) → IsSeated seat → (ticket : Ticket) → is_dead ((state_at (statements db) seat).status (name_of ticket)) ≡ true → seat.table.standing ticket ≡ None
+  unknown seat fits ticket dead = go (seat.kept.prepared ticket) refl (seat.table.standing ticket) refl
+    where
+      stood : (r : Option Kept_row) → seat.kept.prepared ticket ≡ r → is_dead (stands seat.table ticket r) ≡ true
+      stood r e = subst (λ r. is_dead (stands seat.table ticket r) ≡ true) e (sym (dead_same (statements db) (stands seat.table ticket (seat.kept.prepared ticket))) ∙ dead)
+
+      go : (r : Option Kept_row) → seat.kept.prepared ticket ≡ r → (o : Option standings.TicketState) → seat.table.standing ticket ≡ o → seat.table.standing ticket ≡ None
+      go (Some row) e o is = let no : false ≡ true = stood (Some row) e in absurd cc
+      go None e None is = is
+      go None e (Some (standing.Prepared t)) is = let some : Some t ≡ None = sym (ap txn_in is) ∙ fits.prepared ticket ∙ ap (option_map (λ (row : Kept_row). row.txn)) e in absurd cc
+      go None e (Some (standing.Active v)) is = let no : false ≡ true = sym (ap (λ o. is_dead (visiting seat.table.locks ticket o)) is) ∙ stood None e in absurd cc
+
+  none_listed : (seat : Seat) → IsSeated seat → ((k : Name) → is_dead ((state_at (statements db) seat).status k) ≡ true) → seat.table.tickets ≡ []
+  none_listed seat fits dead = go seat.table.tickets fits.lives
+    where
+      go : (tickets : List Ticket) → ((ticket : Ticket) → In ticket tickets → is_some (seat.table.standing ticket) ≡ true) → tickets ≡ []
+      go [] lives = refl
+      go (t ∷ tickets) lives = let no : false ≡ true = sym (ap is_some (unknown seat fits t (dead (name_of t)))) ∙ lives t (inl refl) in absurd cc
+
+  no_ticket : (seats rest : List Seat) → AllByRecursion (λ seat. states_of (statements db) seats seat.name ≡ state_at (statements db) seat) rest → AllByRecursion IsSeated rest → ((a : List ℕ) (k : Name) → is_dead ((states_of (statements db) seats a).status k) ≡ true) → HaveNoTicket rest
+  no_ticket seats [] own fits dead = tt
+  no_ticket seats (seat ∷ rest) own fits dead =
+      (none_listed seat fits.0 (λ k. subst (λ (s : SiteState L). is_dead (s.status k) ≡ true) own.0 (dead seat.name k)), no_ticket seats rest own.1 fits.1 dead)
+
   -- ---- all together
   pub recovers : (law : ReachedLaw L) (recovery : RecoveryLaw L) (distinct : AreDistinct db.sites) (whole : Relations) (past : List (Deed L)) (before mid after : Machines) (commits asked : List letters.Letter) (notices heard : List Notice) (scene : Scene) →
       IsServed db whole before past → AreUpAgain db before → Leads db desk_restarts before mid commits notices →
@@ -275,6 +335,8 @@ module _ (db : Database) where
         more = leads.deeds;
         served = record { reached = subst (λ ds. IsReached whole (world_of db after [] ds)) quiet.1 reached_last; fit = goes.fit };
         quiet = subst (λ ds. IsQuiet (world_of db after [] ds)) quiet.1 quiet.0;
+        unvisited = no_ticket after.seats after.seats (own_states [] after.seats (one_each db law whole db.sites distinct [] after.seats goes.fit.names (λ name here. tt))) goes.fit.sites (all_dead now (world_of db after [] (now ++ goes.deeds)) ended refl);
+        unstated = restart_mute before served.fit up past mid commits notices leads;
         uncommitted = restart_vain before served.fit up past mid commits notices leads;
       }
 
@@ -287,5 +349,7 @@ module _ (db : Database) where
         more = more;
         served = subst (IsServed db whole machines) same goes.served;
         quiet = subst (λ ds. IsQuiet (world_of db machines [] ds)) same goes.quiet;
+        unvisited = goes.unvisited;
+        unstated = λ t. ap (λ ds. statements_of ds t) (sym same) ∙ goes.unstated t ∙ statements_still past (lost_by db old) t (every_flat IsMute (λ t. (txn_restarted t ((desk_of db old.table).txn t)).deeds) (desk_of db old.table).known (λ t. restarted_mute t ((desk_of db old.table).txn t)));
         uncommitted = ap committed (sym same) ∙ goes.uncommitted ∙ committed_still past (lost_by db old) (every_flat (λ d. is_of_commit d ≡ false) (λ t. (txn_restarted t ((desk_of db old.table).txn t)).deeds) (desk_of db old.table).known (λ t. restarted_vain t ((desk_of db old.table).txn t)));
       }

@@ -1,5 +1,5 @@
 -- Sites come up over their stores, one after another.
-use Rattle.std.proofs.Common.{◌≡◌, sym, ap, ◌∙◌, subst, ℕ, suc, ◌+◌, ◌<◌, List, [], ◌∷◌, ◌++◌, drop, length, append-nil, append_assoc, get_or, add-one, arith}
+use Rattle.std.proofs.Common.{◌≡◌, refl, sym, ap, ◌∙◌, subst, ℕ, suc, ◌+◌, ◌<◌, List, [], ◌∷◌, ◌++◌, drop, length, append-nil, append_assoc, get_or, add-one, arith}
 use Rattle.std.proofs.lemmas.List.{length-append}
 use Rattle.std.proofs.Math.Seq.{drop-cons, drop-length}
 use Rattle.catalog.specs.Catalogue.{Catalogue}
@@ -12,6 +12,11 @@ use Rattle.site.specs.State.{state_of}
 use Rattle.store.specs.SiteContent.{SiteContent}
 use Rattle.world.specs.Recovery.{AreUp, IsUp}
 use Rattle.world.specs.Sites.{Seat}
+
+-- a list of no items is empty
+pub nothing_left : {X : Type 0} (l : List X) → length l ≡ 0 → l ≡ []
+nothing_left [] h = refl
+nothing_left (x ∷ xs) h = absurd (omega arith)
 
 module _ {S : Type 0} (is_clean is_sound : S → Type 0) (kept : S → SiteContent) (refused : S → ℕ) (catalogue : Catalogue) where
   -- there is a store for each name that is left; and with the sites of these, whatever they are, all are up

@@ -1,5 +1,5 @@
 -- What the machines of the code hold.
-use Rattle.std.specs.Prelude.{ℕ, [], map}
+use Rattle.std.specs.Prelude.{ℕ, List, [], map}
 use Rattle.std.specs.List.{AllByRecursion}
 use Rattle.store.specs.DeskContent.{DeskContent}
 use Rattle.store.specs.SiteContent.{SiteContent}
@@ -25,3 +25,7 @@ unrefused of_desk of_site machines = counted of_desk of_site (λ _. 0) (λ _. 0)
 -- something holds of the store of each machine
 abbrev pub OfStores : {D S : Type 0} → (D → Type 0) → (S → Type 0) → code.Machines D S → Type 0
 OfStores OfDesk OfSite machines = OfDesk machines.desk.store × AllByRecursion (λ site. OfSite site.store) machines.sites.items
+
+-- so of the stores that are given for machines
+abbrev pub OfGiven : {D S : Type 0} → (D → Type 0) → (S → Type 0) → D → List S → Type 0
+OfGiven OfDesk OfSite desk sites = OfDesk desk × AllByRecursion OfSite sites

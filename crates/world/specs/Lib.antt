@@ -7,8 +7,8 @@ pub mod Machines
 pub mod Contents
 pub mod Frame
 pub mod Filling
-pub mod Start
 pub mod Recovery
+pub mod Start
 pub mod Placed
 pub mod Posted
 pub mod Replies

@@ -1,7 +1,7 @@
 -- A database comes up over stores that are given: what they kept of a run, from which it goes on.
 use Rattle.std.specs.Prelude.{◌≡◌, ⊤, ℕ, suc, List, [], ◌∷◌, ◌++◌, map}
 use Rattle.std.specs.List.{AllByRecursion, flat_map}
-use Rattle.meaning.specs.Whole.{Relations}
+use Rattle.meaning.specs.Whole.{FitsSchema, Relations}
 use Rattle.catalog.specs.Catalogue.{Catalogue}
 use Rattle.catalog.specs.FragmentLeaf.{catalogue_leaves, names_at}
 use Rattle.catalog.specs.Relation.{catalogue_of}
@@ -12,10 +12,11 @@ use Rattle.store.specs.Frame.{LeavesStore}
 use Rattle.store.specs.SiteContent.{SiteContent, BeginsLife}
 use Rattle.protocol.specs.Client.{IsQuiet, ReachedLaw}
 use Rattle.protocol.specs.Desk.{Deed, txn_restarted}
+use Rattle.protocol.specs.Language.{Name}
 use Rattle.protocol.specs.Letters.{letter_of}
 use Rattle.protocol.specs.Site.{inquiries}
 use Rattle.protocol.specs.Recovery.{RecoveryLaw}
-use Rattle.protocol.specs.Serial.{committed}
+use Rattle.protocol.specs.Serial.{committed, statements_of}
 use Rattle.site.specs.declared.site.Site.{Site}
 use Rattle.site.specs.Fault.{StopsStart}
 use Rattle.site.specs.Locks.{leaves_in}
@@ -34,6 +35,7 @@ use Rattle.world.specs.declared.machines.Machines as code
 use Rattle.world.specs.Client.{IsServed}
 use Rattle.world.specs.Machines.{AreFit, Machines, world_of}
 use Rattle.world.specs.Seated.{seats_in}
+use Rattle.world.specs.Settled.{after_committed}
 use Rattle.world.specs.Sites.{Seat}
 
 -- the stores keep what those of these machines kept; what the machines had in memory doesn't matter
@@ -105,6 +107,25 @@ pub record ComeUp (db : Database) (old new : Machines) : Type 0 where
 abbrev pub lost_by : (db : Database) → Machines → List (Deed (language db))
 lost_by db machines = let desk = desk_of db machines.table in flat_map (λ t. (txn_restarted t (desk.txn t)).deeds) desk.known
 
+-- no ticket stands at these sites, neither a visit's nor a prepared row's
+abbrev pub HaveNoTicket : List Seat → Type 0
+HaveNoTicket seats = AllByRecursion (λ seat. seat.table.tickets ≡ []) seats
+
+-- nothing stands in memory: no transaction at the coordinator, and no ticket at any site
+pub record NothingStands (machines : Machines) : Type 0 where
+  pub txns : machines.table.txns ≡ []
+  pub tickets : HaveNoTicket machines.seats
+
+-- a database begins: it is served over these whole relations, nothing has happened yet, and all is quiet
+pub record IsBeginning (db : Database) (whole : Relations) (machines : Machines) : Type 0 where
+  pub fits : FitsSchema db.schemas whole
+  pub served : IsServed db whole machines []
+  pub quiet : IsQuiet (world_of db machines [] [])
+
+-- Where nothing stands in memory, a database that is served begins anew, over the whole relations that its committed transactions have made
+abbrev pub BeginsAnewLaw : Database → Type 0
+BeginsAnewLaw db = (whole : Relations) (machines : Machines) (past : List (Deed (language db))) → IsServed db whole machines past → NothingStands machines → IsBeginning db (after_committed db past whole) machines
+
 -- Machines that come up over what the stores of others kept go on from what those did: they are those of the same run after restarts
 pub record ComingUpLaw (db : Database) : Type 0 where
   pub served : (whole : Relations) (old new : Machines) (past : List (Deed (language db))) → IsServed db whole old past → IsMemory old.table → ComeUp db old new → IsServed db whole new (past ++ lost_by db old)
@@ -114,11 +135,13 @@ pub record AreUpAgain (db : Database) (machines : Machines) : Type 0 where
   pub desk : Rises db machines.desk machines.table
   pub sites : AllByRecursion (λ seat. Begins seat.kept seat.table) machines.seats
 
--- A database goes on from what happened before: it is served, all is quiet, and nothing more has been committed
+-- A database goes on from what happened before: it is served, all is quiet, no ticket stands at any site, and nothing more has been stated or committed
 pub record GoesOnFrom (db : Database) (whole : Relations) (past : List (Deed (language db))) (machines : Machines) : Type 0 where
   pub more : List (Deed (language db))
   pub served : IsServed db whole machines (past ++ more)
   pub quiet : IsQuiet (world_of db machines [] (past ++ more))
+  pub unvisited : HaveNoTicket machines.seats
+  pub unstated : (txn : Name) → statements_of (past ++ more) txn ≡ statements_of past txn
   pub uncommitted : committed (past ++ more) ≡ committed past
 
 -- the letters that are put out, with an inquiry about each prepared row of each site behind them
@@ -132,3 +155,8 @@ Recovers db before after = ReachedLaw (language db) → RecoveryLaw (language db
 -- What a database over given stores goes on from: whatever machines were served over them in an earlier run, or none yet over new ones. of_desk, of_sites: what the stores keep
 abbrev pub GoesOnOver : (catalogue : Catalogue) → DeskContent → List SiteContent → Machines → Type 0
 GoesOnOver catalogue of_desk of_sites machines = (whole : Relations) (old : Machines) (past : List (Deed (language (database catalogue)))) → HaveLeaves catalogue 0 of_sites → IsServed (database catalogue) whole old past → IsMemory old.table → AreKept old of_desk of_sites → GoesOnFrom (database catalogue) whole past machines
+
+-- So it begins anew over the whole relations that the committed transactions of that run have made
+abbrev pub BeginsAnewOver : (catalogue : Catalogue) → DeskContent → List SiteContent → Machines → Type 0
+BeginsAnewOver catalogue of_desk of_sites machines = (whole : Relations) (old : Machines) (past : List (Deed (language (database catalogue)))) → HaveLeaves catalogue 0 of_sites → IsServed (database catalogue) whole old past → IsMemory old.table → AreKept old of_desk of_sites
+    → IsBeginning (database catalogue) (after_committed (database catalogue) past whole) machines

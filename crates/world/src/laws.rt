@@ -17,10 +17,11 @@ ghost use Rattle.desk.specs.Database.{language};
 ghost use Rattle.desk.specs.CatalogueDatabase.{IsBase, database, fits};
 ghost use Rattle.world.specs.Commands.{CommandsFollow, MovesFollow};
 ghost use Rattle.world.specs.Executed.{ObeysUnlessRefused};
-ghost use Rattle.world.specs.Recovery.{ComingUpLaw};
+ghost use Rattle.world.specs.Recovery.{BeginsAnewLaw, ComingUpLaw};
 ghost use Rattle.world.specs.Runs.{RunsAreSerial, RunsHold};
 ghost use Rattle.world.specs.Client.{ServedIsSerial};
 ghost use Rattle.world.specs.Settling.{GrowsQuiet};
+ghost use Rattle.world.specs.Start.{NewStoresLaw};
 ghost use Rattle.world.specs.Smoothly.{ServesSmoothly, ServesUnlessRefused};
 ghost use Rattle.world.specs.Stopping.{StopsForMemory};
 ghost use Rattle.world.specs.declared.machines.Machines.{Machines as MachinesNow};
@@ -238,4 +239,19 @@ pub fn restarts_recover(catalog: &Catalog)
     ensures { RecoveryLaw (language (database (catalogue_of catalog.now))) }
 {
     language_is_lawful(catalog);
+}
+
+/// A client's database in whose memory nothing stands begins anew: it is an opening over the whole relations that its
+/// committed transactions have made.
+pub fn begins_anew(catalog: &Catalog)
+    ensures { BeginsAnewLaw (database (catalogue_of catalog.now)) }
+{
+    one_client_is_a_run(catalog);
+}
+
+/// New stores are those of machines that were served over relations without rows, and of which nothing has happened.
+pub fn new_stores_were_served(catalog: &Catalog)
+    ensures { NewStoresLaw (catalogue_of catalog.now) }
+{
+    catalog.relations();
 }

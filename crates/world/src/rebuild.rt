@@ -17,6 +17,7 @@ ghost use Rattle.world.specs.Contents.{OfStores, held};
 ghost use Rattle.world.specs.Machines.{AreFit};
 ghost use Rattle.world.specs.Sites.{IsSeated, Seat, seat_of};
 ghost use Rattle.world.specs.Seated.{seat_from, seats_in};
+ghost use Rattle.world.specs.Recovery.{StopsOpening};
 ghost use Rattle.world.specs.Settled.{AreDecided, parts_kept, settled_at, settled_in, AreThoseOf, brought_of, everything, rows_shown};
 ghost use Rattle.terms.specs.declared.value.Value.{Value};
 ghost use Rattle.terms.specs.Cond.{conds_hold};
@@ -127,6 +128,7 @@ pub(crate) fn decided<D: DeskStore, S: SiteStore>(
     ensures all { (db : Database) → OfStores D.is_clean S.is_clean machines.new → OfStores D.is_sound S.is_sound machines.old → AreFit db (held D.kept S.kept machines.old) → IfOk result (λ all. AreDecided (held D.kept S.kept machines.old).table all.items) }
     ensures same { StaysAsItIs (OfStores D.is_clean S.is_clean) (OfStores D.is_sound S.is_sound) (held D.kept S.kept) machines.old machines.new }
     ensures fails { OfStores D.is_clean S.is_clean machines.new → OfStores D.is_sound S.is_sound machines.old → IfErr result (FailsFor (counts D.refused S.refused machines.old) (counts D.refused S.refused machines.new)) }
+    ensures own { IfErr result StopsOpening }
 {
     let kept = machines.desk.kept()?;
     Ok(txns_of(machines.alloc, kept.commits.as_slice())?)

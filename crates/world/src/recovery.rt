@@ -1,26 +1,32 @@
 //! A database comes up over stores that are given: over new ones it is empty, and over those of an earlier run it
 //! goes on from what they kept.
 
-ghost use Rattle.std.specs.Prelude.{◌≡◌, length, map, IfOk, IfErr, OnOk};
+ghost use Rattle.std.specs.Prelude.{◌≡◌, [], length, map, IfOk, IfErr, OnOk};
 ghost use Rattle.std.specs.List.{AllByRecursion};
 ghost use Rattle.catalog.specs.Relation.{catalogue_of};
 ghost use Rattle.site.specs.Fault.{StopsStart};
-ghost use Rattle.world.specs.Contents.{OfStores, counted};
-ghost use Rattle.world.specs.Frame.{LeavesMachines, OverDatabase};
+ghost use Rattle.desk.specs.Database.{Database};
+ghost use Rattle.world.specs.Contents.{OfStores, counted, held};
+ghost use Rattle.world.specs.Frame.{LeavesMachines, OverDatabase, StaysAsItIs};
+ghost use Rattle.world.specs.Machines.{AreFit};
 ghost use Rattle.world.specs.Recovery.{AreUp, Inquires, IsUp, MachinesUp, Recovers, StopsOpening};
 ghost use Rattle.world.specs.Seated.{seats_in};
+ghost use Rattle.world.specs.Settled.{AreDecided};
 ghost use Rattle.world.specs.Sites.{IsSeated};
 
 use crate::fault::Fault;
 use crate::machines::Machines;
 use crate::mailbox::deliver_all;
+use crate::rebuild::decided;
 use catalog::catalogue::Catalog;
 use desk::desk::Desk;
+use desk::refusal::Refusal;
 use desk::reply::Out;
 use site::fault::SiteFault;
 use site::site::Site;
 use std::alloc::Global;
 use store::desk_store::DeskStore;
+use store::fault::StoreFault;
 use store::letter::Letter;
 use store::site_store::SiteStore;
 use terms::copy::TryCopy;
@@ -117,6 +123,24 @@ pub(crate) fn recover<D: DeskStore, S: SiteStore>(
     };
     let _heard = deliver_all(machines, put_out)?;
     Ok(())
+}
+
+/// No commit row is left. One that all its voters have acknowledged is left only where the store refused to drop it,
+/// and that is the fault then.
+pub(crate) fn ensure_no_commit_row<D: DeskStore, S: SiteStore>(
+    machines: &mut Machines<D, S>,
+) -> Result<(), Fault>
+    ensures leaves { LeavesMachines D.is_clean S.is_clean D.is_sound S.is_sound D.refused S.refused machines.old machines.new }
+    ensures same { StaysAsItIs (OfStores D.is_clean S.is_clean) (OfStores D.is_sound S.is_sound) (held D.kept S.kept) machines.old machines.new }
+    ensures none { (db : Database) → OfStores D.is_clean S.is_clean machines.new → OfStores D.is_sound S.is_sound machines.old → AreFit db (held D.kept S.kept machines.old)
+        → OnOk result (AreDecided (held D.kept S.kept machines.old).table []) }
+    ensures own { IfErr result StopsOpening }
+{
+    if decided(machines)?.is_empty() {
+        Ok(())
+    } else {
+        Err(Fault::Desk(Refusal::Store(StoreFault::Refused)))
+    }
 }
 
 /// The stores of sites, in their order, as they are.

@@ -23,14 +23,15 @@ ghost use Rattle.world.specs.Counted.{counts};
 ghost use Rattle.world.specs.BatchRuns.{HasRun, WasStopped};
 ghost use Rattle.world.specs.Fault.{FailsFor, is_memory};
 ghost use Rattle.world.specs.Frame.{ComesTo, LeavesMachines, StaysAsItIs};
-ghost use Rattle.world.specs.Contents.{OfStores, counted, held, unrefused};
+ghost use Rattle.world.specs.Contents.{OfGiven, OfStores, counted, held, unrefused};
 ghost use Rattle.world.specs.Machines.{AreFit};
 ghost use Rattle.world.specs.Executed.{Stands};
 ghost use Rattle.world.specs.Client.{IsServed, still_open};
 ghost use Rattle.world.specs.Settled.{AreThoseOf, after_committed, parts_kept, rows_shown};
 ghost use Rattle.world.specs.Stopping.{StopsFor, is_stop, stopped_by};
-ghost use Rattle.world.specs.Recovery.{GoesOnOver, StopsOpening};
+ghost use Rattle.world.specs.Recovery.{BeginsAnewOver, GoesOnOver, StopsOpening};
 ghost use Rattle.world.specs.Replies.{Tells};
+ghost use Rattle.world.specs.Start.{AreNew, BeginsWithoutRows};
 ghost use Rattle.world.specs.declared.event.Entry.{Entry as EntryNow};
 ghost use Rattle.world.specs.declared.transaction.Stop.{Stop as StopNow};
 ghost use Rattle.world.specs.declared.transaction.Unfinished.TheVariants.{Stopped, Unstarted};
@@ -40,13 +41,14 @@ use crate::batch::run_all;
 use crate::client::{begin, commit, roll_back, state};
 use crate::fault::Fault;
 use crate::laws::{
-    commands_follow, database_is_of_catalogue, grows_quiet, machines_come_up, moves_follow,
-    obeyed_unless_refused, one_client_is_a_run, restarts_recover, served_is_serial,
+    begins_anew, commands_follow, database_is_of_catalogue, grows_quiet, machines_come_up,
+    moves_follow, new_stores_were_served, obeyed_unless_refused, one_client_is_a_run,
+    restarts_recover, served_is_serial,
 };
 use crate::machines::Machines;
 use crate::rebuild::{kept_parts, rebuilt};
-use crate::recovery::{machines_up, recover, stores_of};
-use crate::start::start;
+use crate::recovery::{ensure_no_commit_row, machines_up, recover, stores_of};
+use crate::start::{start, start_on};
 use crate::transaction::{Outcome, Transaction, Unfinished};
 use catalog::catalogue::Catalog;
 use desk::refusal::Refusal;
@@ -104,6 +106,37 @@ pub fn open(
     }
 }
 
+/// A database over new stores is opened, those of its sites in the catalogue's order: the fragments rebuild these whole
+/// relations. On a fault the stores are let go.
+pub fn open_on<D: DeskStore + Drop, S: SiteStore + Drop>(
+    alloc: Global,
+    catalog: &Catalog,
+    whole: &Whole,
+    sites: Vec<S>,
+    desk: D,
+) -> Result<Solo<D, S>, Fault>
+    requires { length sites.items ≡ length catalog.now.0 }
+    ensures served { IfOk result (λ solo. OfStores D.is_clean S.is_clean solo.machines → AreNew D.is_sound D.kept S.is_sound S.kept (catalogue_of catalog.now) desk sites.items → FitsSchema (schemas_of (catalogue_of catalog.now)) whole.now
+        → IsServed (database (catalogue_of catalog.now)) whole.now (counted D.kept S.kept D.refused S.refused solo.machines) []) }
+    ensures stands { IfOk result (λ solo. OfStores D.is_clean S.is_clean solo.machines → AreNew D.is_sound D.kept S.is_sound S.kept (catalogue_of catalog.now) desk sites.items → FitsSchema (schemas_of (catalogue_of catalog.now)) whole.now
+        → Stands (database (catalogue_of catalog.now)) (fits (catalogue_of catalog.now)) solo.current (counted D.kept S.kept D.refused S.refused solo.machines) []) }
+    ensures clean { IfOk result (λ solo. OfStores D.is_clean S.is_clean solo.machines → OfGiven D.is_clean S.is_clean desk sites.items) }
+    ensures sound { IfOk result (λ solo. OfStores D.is_clean S.is_clean solo.machines → OfStores D.is_sound S.is_sound solo.machines) }
+    ensures catalog { IfOk result (λ solo. catalogue_of solo.machines.desk.catalog ≡ catalogue_of catalog.now) }
+    ensures idle { IfOk result (λ solo. (solo.current ≡ None) × (solo.stopped ≡ None)) }
+    ensures own { IfErr result StopsOpening }
+{
+    database_is_of_catalogue(catalog);
+    match start_on(alloc, catalog, whole, sites, desk) {
+        Ok(machines) => Ok(Solo {
+            machines,
+            current: None,
+            stopped: None,
+        }),
+        Err(fault) => Err(fault),
+    }
+}
+
 /// What the reader says of a text.
 fn reader_refusal(fault: ReadFault) -> Refusal
     ensures { ((fault.rule ≡ Rule.Memory) × (result ≡ refusals.Memory)) ⊎ ((fault.rule ≢ Rule.Memory) × (result ≡ refusals.Read fault)) }
@@ -152,7 +185,8 @@ fn still_open(txn: Txn, heard: &[Notice]) -> Option<Txn>
 impl<D: DeskStore + Drop, S: SiteStore + Drop> Solo<D, S> {
     /// Opens a database over these stores: those of its sites, in the catalogue's order, and the coordinator's. Over
     /// the stores of an earlier run, wherever that was stopped, it goes on: what was committed is there, what was
-    /// prepared has come to its end, and nothing else has been done. On a fault the stores are let go.
+    /// prepared has come to its end, and nothing else has been done. So it begins anew over the whole relations that
+    /// the committed transactions have made, and over new stores without rows. On a fault the stores are let go.
     pub fn open_stores(
         alloc: Global,
         catalog: &Catalog,
@@ -161,6 +195,9 @@ impl<D: DeskStore + Drop, S: SiteStore + Drop> Solo<D, S> {
     ) -> Result<Solo<D, S>, Fault>
         requires { length sites.items ≡ length catalog.now.0 }
         ensures goes_on { IfOk result (λ solo. OfStores D.is_clean S.is_clean solo.machines → GoesOnOver (catalogue_of catalog.now) (D.kept desk) (map S.kept sites.items) (counted D.kept S.kept D.refused S.refused solo.machines)) }
+        ensures anew { IfOk result (λ solo. OfStores D.is_clean S.is_clean solo.machines → BeginsAnewOver (catalogue_of catalog.now) (D.kept desk) (map S.kept sites.items) (counted D.kept S.kept D.refused S.refused solo.machines)) }
+        ensures without_rows { IfOk result (λ solo. OfStores D.is_clean S.is_clean solo.machines → BeginsWithoutRows (catalogue_of catalog.now) (D.kept desk) (map S.kept sites.items) (counted D.kept S.kept D.refused S.refused solo.machines)) }
+        ensures clean { IfOk result (λ solo. OfStores D.is_clean S.is_clean solo.machines → OfGiven D.is_clean S.is_clean desk sites.items) }
         ensures sound { IfOk result (λ solo. OfStores D.is_clean S.is_clean solo.machines → OfStores D.is_sound S.is_sound solo.machines) }
         ensures catalog { IfOk result (λ solo. catalogue_of solo.machines.desk.catalog ≡ catalogue_of catalog.now) }
         ensures idle { IfOk result (λ solo. (solo.current ≡ None) × (solo.stopped ≡ None)) }
@@ -170,8 +207,11 @@ impl<D: DeskStore + Drop, S: SiteStore + Drop> Solo<D, S> {
         one_client_is_a_run(catalog);
         machines_come_up(catalog);
         restarts_recover(catalog);
+        begins_anew(catalog);
+        new_stores_were_served(catalog);
         let mut machines = machines_up(alloc, catalog, sites, desk)?;
         recover(&mut machines)?;
+        ensure_no_commit_row(&mut machines)?;
         Ok(Solo {
             machines,
             current: None,

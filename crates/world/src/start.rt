@@ -1,6 +1,6 @@
 //! The machines of a database start, and their sites keep the parts of whole relations.
 
-ghost use Rattle.std.specs.Prelude.{◌≡◌, true, IfOk, IfErr, ◌∷◌, [], OnOk};
+ghost use Rattle.std.specs.Prelude.{◌≡◌, true, IfOk, IfErr, ◌∷◌, [], OnOk, length, IsSome, ◌⊎◌};
 ghost use Rattle.std.specs.List.{AllByRecursion};
 ghost use Rattle.catalog.specs.Relation.{catalogue_of};
 ghost use Rattle.desk.specs.Database.{Database};
@@ -8,18 +8,26 @@ ghost use Rattle.store.specs.PlainDesk.{kept_of as desk_kept};
 ghost use Rattle.store.specs.PlainSite.{IsSound, kept_of};
 ghost use Rattle.site.specs.declared.fault.SiteFault.TheVariants as site_faults;
 ghost use Rattle.world.specs.Fault.{is_memory};
-ghost use Rattle.world.specs.Contents.{OfStores, held};
+ghost use Rattle.world.specs.Contents.{OfGiven, OfStores, held};
 ghost use Rattle.world.specs.Placed.{IsPlaced, Opens};
-ghost use Rattle.world.specs.Start.{AllStarted, IsStarted};
+ghost use Rattle.world.specs.Recovery.{StopsOpening};
+ghost use Rattle.world.specs.Start.{AllFilled, AllStarted, AreNew, Fills, IsStarted};
+ghost use Rattle.site.specs.Fault.{StopsStart, fault_of};
+ghost use Rattle.protocol.specs.Parts.{In};
+ghost use Rattle.store.specs.Frame.{LeavesStore};
+ghost use Rattle.store.specs.SiteContent.{Applies, MayPrepare};
+ghost use Rattle.store.specs.declared.name.Ticket.{Ticket as TicketName};
+ghost use Rattle.store.specs.declared.slot.Slot.{Slot as Place};
 ghost use Rattle.world.specs.Seated.{seat_from, seats_in};
 ghost use Rattle.std.specs.FinMap as fin;
 ghost use Rattle.terms.specs.declared.leaf.Leaf.{Leaf as LeafName};
-ghost use Rattle.catalog.specs.FragmentLeaf.{catalogue_leaves};
+ghost use Rattle.catalog.specs.FragmentLeaf.{catalogue_leaves, names_at};
 ghost use Rattle.store.specs.Content.{made_by};
 ghost use Rattle.world.specs.Filling.{filled, kept_with};
 
 use crate::fault::Fault;
 use crate::machines::Machines;
+use crate::recovery::machines_up;
 use catalog::catalogue::Catalog;
 use catalog::fragment::place;
 use catalog::fragment_leaf::FragmentLeaf;
@@ -29,9 +37,13 @@ use site::fault::SiteFault;
 use site::site::Site;
 use std::alloc::Global;
 use store::changes::Changes;
+use store::desk_store::DeskStore;
+use store::fault::StoreFault;
 use store::laws::{nothing_changes, one_change_more};
+use store::name::{Ticket, Txn};
 use store::plain_desk::PlainDesk;
 use store::plain_site::PlainSite;
+use store::site_store::SiteStore;
 use terms::copy::{TryCopy, copy_all};
 use terms::memory::Memory;
 use terms::part::Part;
@@ -99,6 +111,94 @@ pub(crate) fn start(
     }
 }
 
+/// A store's fault as the site's.
+fn site_fault(fault: StoreFault) -> SiteFault
+    ensures { result ≡ fault_of fault }
+{
+    match fault {
+        StoreFault::Memory => SiteFault::Memory,
+        _ => SiteFault::Store(fault),
+    }
+}
+
+/// The changes are made in a store that has no prepared row: they are prepared under a ticket of their own, and
+/// applied.
+fn make_all<S: SiteStore>(store: &mut S, changes: Changes) -> Result<(), StoreFault>
+    ensures leaves { LeavesStore S.is_clean S.is_sound S.refused store.old store.new }
+    ensures ok { S.is_clean store.new → S.is_sound store.old → ((ticket : TicketName) → MayPrepare ticket changes (S.kept store.old))
+        → OnOk result ((ticket : TicketName) × Applies ticket changes (S.kept store.old) (S.kept store.new)) }
+{
+    let txn = Txn { life: 0, number: 0 };
+    let ticket = Ticket { life: 0, visit: 0 };
+    match store.keep_prepared(txn, ticket, changes) {
+        Ok(()) => store.apply(ticket),
+        Err(unkept) => Err(unkept.fault),
+    }
+}
+
+/// The parts that whole relations have at the site of this number are put into its store, which keeps nothing yet.
+fn fill<S: SiteStore>(
+    alloc: Global,
+    catalog: &Catalog,
+    whole: &Whole,
+    place: usize,
+    store: &mut S,
+) -> Result<(), SiteFault>
+    ensures fills { OnOk result (Fills S.is_clean S.is_sound S.kept S.refused (catalogue_of catalog.now) whole.now place store.old store.new) }
+    ensures own { IfErr result StopsStart }
+{
+    nothing_changes();
+    let parts = parts_at(alloc, catalog, whole, place)?;
+    if parts.is_empty() {
+        return Ok(());
+    }
+    match make_all(store, parts) {
+        Ok(()) => Ok(()),
+        Err(fault) => Err(site_fault(fault)),
+    }
+}
+
+/// So at each site, in the catalogue's order.
+fn fill_all<S: SiteStore + Drop>(
+    alloc: Global,
+    catalog: &Catalog,
+    whole: &Whole,
+    stores: Vec<S>,
+) -> Result<Vec<S>, SiteFault>
+    ensures fills { IfOk result (λ filled. AllFilled S.is_clean S.is_sound S.kept S.refused (catalogue_of catalog.now) whole.now 0 stores.items filled.items) }
+    ensures own { IfErr result StopsStart }
+{
+    let mut filled = Vec::new(alloc);
+    for given in stores {
+        let mut store = given;
+        fill(alloc, catalog, whole, filled.len(), &mut store)?;
+        filled.push(store)?;
+    }
+    Ok(filled)
+}
+
+/// The machines of a database start over these stores, those of its sites in the catalogue's order: where the stores
+/// are new, whole relations stand in its fragments.
+pub(crate) fn start_on<D: DeskStore + Drop, S: SiteStore + Drop>(
+    alloc: Global,
+    catalog: &Catalog,
+    whole: &Whole,
+    sites: Vec<S>,
+    desk: D,
+) -> Result<Machines<D, S>, Fault>
+    requires { length sites.items ≡ length catalog.now.0 }
+    ensures opens { IfOk result (λ machines. OfStores D.is_clean S.is_clean machines → AreNew D.is_sound D.kept S.is_sound S.kept (catalogue_of catalog.now) desk sites.items
+        → (db : Database) → IsPlaced db (catalogue_of catalog.now) whole.now → Opens db whole.now (held D.kept S.kept machines)) }
+    ensures clean { IfOk result (λ machines. OfStores D.is_clean S.is_clean machines → OfGiven D.is_clean S.is_clean desk sites.items) }
+    ensures sound { IfOk result (λ machines. OfStores D.is_clean S.is_clean machines → OfStores D.is_sound S.is_sound machines) }
+    ensures catalog { IfOk result (λ machines. catalogue_of machines.desk.catalog ≡ catalogue_of catalog.now) }
+    ensures own { IfErr result StopsOpening }
+{
+    let _relations = catalog.relations();
+    let filled = fill_all(alloc, catalog, whole, sites)?;
+    machines_up(alloc, catalog, filled, desk)
+}
+
 /// A part is put, if there is one.
 fn put_part(
     alloc: Global,
@@ -106,7 +206,8 @@ fn put_part(
     leaf: &FragmentLeaf,
     row: &Row,
 ) -> Result<(), Memory>
-    ensures { (name : LeafName) → OnOk result (made_by parts.new name ≡ kept_with leaf.now (row.now ∷ []) name (made_by parts.old name)) }
+    ensures kept { (name : LeafName) → OnOk result (made_by parts.new name ≡ kept_with leaf.now (row.now ∷ []) name (made_by parts.old name)) }
+    ensures within { (slot : Place) → OnOk result (IsSome (fin.get parts.new slot) → (slot.leaf ≡ leaf.now.name) ⊎ IsSome (fin.get parts.old slot)) }
 {
     one_change_more();
     match place(alloc, leaf.conds.as_slice(), leaf.columns.as_slice(), row)? {
@@ -126,7 +227,8 @@ fn put_parts(
     leaf: &FragmentLeaf,
     rows: &[Row],
 ) -> Result<(), Memory>
-    ensures { (name : LeafName) → OnOk result (made_by parts.new name ≡ kept_with leaf.now rows.now name (made_by parts.old name)) }
+    ensures kept { (name : LeafName) → OnOk result (made_by parts.new name ≡ kept_with leaf.now rows.now name (made_by parts.old name)) }
+    ensures within { (slot : Place) → OnOk result (IsSome (fin.get parts.new slot) → (slot.leaf ≡ leaf.now.name) ⊎ IsSome (fin.get parts.old slot)) }
 {
     for row in rows {
         put_part(alloc, parts, leaf, row)?;
@@ -141,7 +243,8 @@ pub(crate) fn parts_at(
     whole: &Whole,
     site: usize,
 ) -> Result<Changes, Memory>
-    ensures { (name : LeafName) → IfOk result (λ parts. made_by parts name ≡ filled whole.now site (catalogue_leaves (catalogue_of catalog.now)) name fin.empty) }
+    ensures kept { (name : LeafName) → IfOk result (λ parts. made_by parts name ≡ filled whole.now site (catalogue_leaves (catalogue_of catalog.now)) name fin.empty) }
+    ensures within { IfOk result (λ parts. (slot : Place) → IsSome (fin.get parts slot) → In slot.leaf (names_at site (catalogue_leaves (catalogue_of catalog.now)))) }
 {
     nothing_changes();
     let mut parts = Changes::new(alloc);

@@ -25,7 +25,7 @@ ghost use Rattle.world.specs.Counted.{HaveRefused, counts};
 ghost use Rattle.world.specs.Fault.{FailsFor, is_memory};
 ghost use Rattle.world.specs.Following.{Follows, FollowsAtLeast, Happens};
 ghost use Rattle.world.specs.Frame.{CallsNoStore, LeavesMachines, StaysAsItIs, StaysOnErr};
-ghost use Rattle.world.specs.Contents.{OfStores, counted, held};
+ghost use Rattle.world.specs.Contents.{OfGiven, OfStores, counted, held};
 ghost use Rattle.world.specs.Committed.{AnswerInTurn, committed_of};
 ghost use Rattle.world.specs.Machines.{AreFit, world_of};
 ghost use Rattle.world.specs.Posted.{letters_in};
@@ -34,7 +34,9 @@ ghost use Rattle.world.specs.Runs.{IsRun, IsSpared, RunsOn, StepsOn};
 ghost use Rattle.world.specs.Steps.{Steps, answer_of};
 ghost use Rattle.world.specs.contracts.world.World.{the_row};
 ghost use Rattle.world.specs.Settled.{AreThoseOf, ShowsSerial, parts_kept, rows_shown};
+ghost use Rattle.world.specs.Recovery.{StopsOpening};
 ghost use Rattle.world.specs.Replies.{committed_in};
+ghost use Rattle.world.specs.Start.{AreNew};
 
 use crate::committed::{Committed, committed_in};
 use crate::event::{Entry, Event};
@@ -43,7 +45,7 @@ use crate::laws::{database_is_of_catalogue, language_is_lawful, runs_are_serial,
 use crate::log::Log;
 use crate::machines::{Machines, apply_event};
 use crate::rebuild::{kept_parts, rebuilt};
-use crate::start::start;
+use crate::start::{start, start_on};
 use catalog::catalogue::Catalog;
 use desk::refusal::Refusal;
 use meaning::whole::Whole;
@@ -85,6 +87,35 @@ pub fn open(
 {
     database_is_of_catalogue(catalog);
     match start(alloc, catalog, whole) {
+        Ok(machines) => Ok(World {
+            machines,
+            entries: Log::new(alloc),
+            refusal: Fault::Unsent,
+        }),
+        Err(fault) => Err(fault),
+    }
+}
+
+/// A world over new stores is opened, those of its sites in the catalogue's order: the fragments rebuild these whole
+/// relations, and nothing has happened. On a fault the stores are let go.
+pub fn open_on<D: DeskStore + Drop, S: SiteStore + Drop>(
+    alloc: Global,
+    catalog: &Catalog,
+    whole: &Whole,
+    sites: Vec<S>,
+    desk: D,
+) -> Result<World<D, S>, Fault>
+    requires { length sites.items ≡ length catalog.now.0 }
+    ensures ok { IfOk result (λ world. OfStores D.is_clean S.is_clean world.machines → AreNew D.is_sound D.kept S.is_sound S.kept (catalogue_of catalog.now) desk sites.items → FitsSchema (schemas_of (catalogue_of catalog.now)) whole.now
+        → IsRun (database (catalogue_of catalog.now)) whole.now (held D.kept S.kept world.machines) [] []) }
+    ensures none { IfOk result (λ world. world.entries.items ≡ []) }
+    ensures clean { IfOk result (λ world. OfStores D.is_clean S.is_clean world.machines → OfGiven D.is_clean S.is_clean desk sites.items) }
+    ensures sound { IfOk result (λ world. OfStores D.is_clean S.is_clean world.machines → OfStores D.is_sound S.is_sound world.machines) }
+    ensures catalog { IfOk result (λ world. catalogue_of world.machines.desk.catalog ≡ catalogue_of catalog.now) }
+    ensures own { IfErr result StopsOpening }
+{
+    database_is_of_catalogue(catalog);
+    match start_on(alloc, catalog, whole, sites, desk) {
         Ok(machines) => Ok(World {
             machines,
             entries: Log::new(alloc),

@@ -1,14 +1,10 @@
 -- Why `sites_up` meets its contract.
-use Rattle.std.proofs.Common.{◌≡◌, refl, sym, ◌∙◌, subst, ℕ, length, List, [], ◌∷◌, arith}
+use Rattle.std.proofs.Common.{sym, ◌∙◌, subst, ℕ, List}
 use Rattle.std.specs.Vec.Iter.{into_iter_items}
 use Rattle.catalog.specs.Relation.{catalogue_of}
 use Rattle.world.specs.Recovery.{AreUp}
-use Rattle.world.proofs.SitesUp.{all_up}
+use Rattle.world.proofs.SitesUp.{all_up, nothing_left}
 use Rattle.world.proofs.recovery.sites_up.Goals as goal
-
-nothing_left : {X : Type 0} (l : List X) → length l ≡ 0 → l ≡ []
-nothing_left [] h = refl
-nothing_left (x ∷ xs) h = absurd (omega arith)
 
 pub returns-clause-up : goal.returns-clause-up
 returns-clause-up g c =

@@ -11,10 +11,10 @@ use Rattle.world.specs.Client.{IsServed}
 use Rattle.fragdb.specs.Origin.{New}
 use Rattle.fragdb.specs.PlayLoad.{emptied}
 use Rattle.fragdb.proofs.SoloLemmas.{emptied-fits}
-use Rattle.fragdb.proofs.opener.ListsOpens.open.Goals as goal
+use Rattle.fragdb.proofs.opener.ListsOpensSoloPlainDeskPlainSite.open.Goals as goal
 
-pub returns-in-Ok : goal.returns-in-Ok
-returns-in-Ok c =
+pub returns-in-Ok-clause-ok : goal.returns-in-Ok-clause-ok
+returns-in-Ok-clause-ok c =
     let catalogue = catalogue_of c.args.catalog.now in
     let empty = c.in_ok-whole.ensures ∙ ap (λ schemas. emptied schemas finite.empty) c.schema.ensures.schemas in
     let fits_schema = subst (FitsSchema (schemas_of catalogue)) (sym empty) (emptied-fits (schemas_of catalogue)) in (

@@ -1,0 +1,140 @@
+-- A database in whose memory nothing stands is an opening again.
+use Rattle.std.proofs.Common.{◌≡◌, refl, sym, ap, ◌∙◌, subst, ℕ, true, false, List, [], ◌∷◌, ◌++◌, map, Option, Some, None, is_some, inl}
+use Rattle.std.proofs.Math.Path.{fun_ext}
+use Rattle.std.specs.List.{AllByRecursion}
+use Rattle.std.specs.Option.{option_map}
+use Rattle.meaning.specs.declared.statement.Statement.{Statement}
+use Rattle.meaning.specs.Whole.{Relations}
+use Rattle.store.specs.declared.name.Ticket.{Ticket}
+use Rattle.store.specs.declared.name.Txn as txns
+use Rattle.store.specs.declared.prepared.Prepared.{Prepared as Kept_row}
+use Rattle.protocol.specs.Client.{ReachedLaw}
+use Rattle.protocol.specs.Desk.{Deed, is_undecided}
+use Rattle.protocol.specs.Language.{Name}
+use Rattle.protocol.specs.Letters.{name_of, ticket_of, txn_name}
+use Rattle.protocol.specs.Local.{local}
+use Rattle.protocol.specs.Parts.{In}
+use Rattle.protocol.specs.Serial.{IsOpening, committed, serial_whole, statements_of, with_all_decided}
+use Rattle.protocol.specs.Site.{Dead}
+use Rattle.protocol.specs.Statements.{Statements, status_with}
+use Rattle.protocol.proofs.StatementCourse.{opening_quiet}
+use Rattle.site.specs.State.{stands, txn_in, visiting}
+use Rattle.desk.specs.declared.transaction.TxnState.{TxnState}
+use Rattle.desk.specs.declared.transaction.TxnState.TheVariants as standing
+use Rattle.desk.specs.Acknowledge.{kept_voters}
+use Rattle.desk.specs.Database.{Database, language, statements}
+use Rattle.desk.specs.State.{desk_of, txn_at}
+use Rattle.desk.specs.Transaction.{txn_of}
+use Rattle.world.specs.Client.{IsServed}
+use Rattle.world.specs.Machines.{Machines, world_of}
+use Rattle.world.specs.Recovery.{BeginsAnewLaw, GoesOnFrom, HaveNoTicket, IsBeginning, NothingStands}
+use Rattle.world.specs.Settled.{AreDecided, after_committed}
+use Rattle.world.specs.Sites.{IsSeated, Seat, state_at, states_of}
+use Rattle.world.proofs.Counting.{fit_counted, fit_uncounted, with_counts}
+use Rattle.world.proofs.Openings.{at_each}
+
+-- ---- a site of which no ticket stands
+module _ (S : Statements local) (seat : Seat) (fits : IsSeated seat) (none : seat.table.tickets ≡ []) where
+  nobody_stands : (ticket : Ticket) → seat.table.standing ticket ≡ None
+  nobody_stands ticket = go (seat.table.standing ticket) refl
+    where
+      go : (o : _) → seat.table.standing ticket ≡ o → seat.table.standing ticket ≡ None
+      go None is = is
+      go (Some st) is = absurd (subst (In ticket) none (fits.listed ticket (ap is_some is)))
+
+  no_row : (ticket : Ticket) → seat.kept.prepared ticket ≡ None
+  no_row ticket = go (seat.kept.prepared ticket) refl
+    where
+      go : (r : Option Kept_row) → seat.kept.prepared ticket ≡ r → seat.kept.prepared ticket ≡ None
+      go None is = is
+      go (Some row) is = let some : None ≡ Some row.txn = sym (ap txn_in (nobody_stands ticket)) ∙ fits.prepared ticket ∙ ap (option_map (λ (row : Kept_row). row.txn)) is in absurd cc
+
+  is_dead_there : (k : Name) → (state_at S seat).status k ≡ Dead
+  is_dead_there k = ap (status_with S) (ap (stands seat.table (ticket_of k)) (no_row (ticket_of k)) ∙ ap (visiting seat.table.locks (ticket_of k)) (nobody_stands (ticket_of k)))
+
+  none_known_there : (state_at S seat).known ≡ []
+  none_known_there = ap (map name_of) none
+
+module _ (S : Statements local) where
+  all_dead : (seats : List Seat) → AllByRecursion IsSeated seats → HaveNoTicket seats → AllByRecursion (λ seat. (k : Name) → (state_at S seat).status k ≡ Dead) seats
+  all_dead [] fits none = tt
+  all_dead (seat ∷ seats) fits none = (is_dead_there S seat fits.0 none.0, all_dead seats fits.1 none.1)
+
+  all_unknown : (seats : List Seat) → AllByRecursion IsSeated seats → HaveNoTicket seats → AllByRecursion (λ seat. (state_at S seat).known ≡ []) seats
+  all_unknown [] fits none = tt
+  all_unknown (seat ∷ seats) fits none = (none_known_there S seat fits.0 none.0, all_unknown seats fits.1 none.1)
+
+-- ---- the machines together
+module _ (db : Database) (law : ReachedLaw (language db)) (whole : Relations) (machines : Machines) (past : List (Deed (language db))) (served : IsServed db whole machines past) (still : NothingStands machines) where
+  nobody_begun : (txn : txns.Txn) → machines.table.standing txn ≡ None
+  nobody_begun txn = go (machines.table.standing txn) refl
+    where
+      go : (o : Option TxnState) → machines.table.standing txn ≡ o → machines.table.standing txn ≡ None
+      go None is = is
+      go (Some st) is = absurd (subst (In txn) still.txns (served.fit.desk.listed txn (ap is_some is)))
+
+  known_is : (a : List ℕ) → (states_of (statements db) machines.seats a).known ≡ []
+  known_is = at_each (statements db) (λ s. s.known ≡ []) machines.seats refl (all_unknown (statements db) machines.seats served.fit.sites still.tickets)
+
+  anew : IsOpening (after_committed db past whole) (world_of db machines [] [])
+  anew = record {
+    is_whole = law.is_whole whole (world_of db machines [] past) served.reached;
+    letters = refl;
+    past = refl;
+    visits = at_each (statements db) (λ s. (k : Name) → s.status k ≡ Dead) machines.seats (λ k. refl) (all_dead (statements db) machines.seats served.fit.sites still.tickets);
+    tickets = known_is;
+    undecided = λ t. ap (txn_of db) (nobody_begun (txn_at t));
+    names = ap (map txn_name) still.txns;
+    rebuilt = λ leaf.
+        let s = states_of (statements db) machines.seats (db.home leaf) in
+        sym (ap (λ names. with_all_decided (desk_of db machines.table) leaf s.status names (s.kept leaf)) (known_is (db.home leaf)))
+        ∙ (law.serial whole (world_of db machines [] past) served.reached).rebuilt leaf;
+    in_force = refl;
+  }
+
+  pub begins_anew : IsBeginning db (after_committed db past whole) machines
+  begins_anew = record {
+    fits = anew.is_whole;
+    served = record { reached = record { opening = world_of db machines [] []; opens = anew; events = []; gone = []; is = refl; explained = tt }; fit = served.fit };
+    quiet = opening_quiet (after_committed db past whole) (world_of db machines [] []) anew;
+  }
+
+pub anew_law : (db : Database) → ReachedLaw (language db) → BeginsAnewLaw db
+anew_law db law whole machines past served still = begins_anew db law whole machines past served still
+
+-- ---- it doesn't matter how often media have refused
+pub going_on : (db : Database) (whole : Relations) (past : List (Deed (language db))) (first second : Machines) (a b : List ℕ) → second ≡ first → GoesOnFrom db whole past (with_counts first a) → GoesOnFrom db whole past (with_counts second b)
+going_on db whole past first second a b same goes = subst (λ (machines : Machines). GoesOnFrom db whole past (with_counts machines b)) (sym same) (record {
+  more = goes.more;
+  served = record { reached = goes.served.reached; fit = fit_counted db first b (fit_uncounted db first a goes.served.fit) };
+  quiet = goes.quiet;
+  unvisited = goes.unvisited;
+  unstated = goes.unstated;
+  uncommitted = goes.uncommitted;
+})
+
+-- ---- machines that have come up
+module _ (db : Database) (law : BeginsAnewLaw db) (whole : Relations) (past : List (Deed (language db))) (machines : Machines) (goes : GoesOnFrom db whole past machines) (none : AreDecided machines.table []) where
+  -- no transaction stands: none is undecided, and none has a commit row
+  none_stands : (txn : txns.Txn) → machines.table.standing txn ≡ None
+  none_stands txn = go (machines.table.standing txn) refl
+    where
+      go : (o : Option TxnState) → machines.table.standing txn ≡ o → machines.table.standing txn ≡ None
+      go None is = is
+      go (Some (standing.Undecided u)) is = let no : true ≡ false = sym (ap (λ o. is_undecided (txn_of db o)) is) ∙ goes.quiet.decided (txn_name txn) in absurd cc
+      go (Some (standing.Committed c)) is = let no : false ≡ true = none txn ∙ ap (λ o. is_some (kept_voters o)) is in absurd cc
+
+  no_txns : machines.table.txns ≡ []
+  no_txns = go machines.table.txns goes.served.fit.desk.lives
+    where
+      go : (names : List txns.Txn) → ((txn : txns.Txn) → In txn names → is_some (machines.table.standing txn) ≡ true) → names ≡ []
+      go [] lives = refl
+      go (txn ∷ names) lives = let no : false ≡ true = sym (ap is_some (none_stands txn)) ∙ lives txn (inl refl) in absurd cc
+
+  same_whole : after_committed db (past ++ goes.more) whole ≡ after_committed db past whole
+  same_whole =
+      ap (λ ts. serial_whole (language db) (map (statements_of (past ++ goes.more)) ts) whole) goes.uncommitted
+      ∙ ap (λ (of : Name → List Statement). serial_whole (language db) (map of (committed past)) whole) (fun_ext goes.unstated)
+
+  pub begins_on : IsBeginning db (after_committed db past whole) machines
+  begins_on = subst (λ w. IsBeginning db w machines) same_whole (law whole machines (past ++ goes.more) goes.served (record { txns = no_txns; tickets = goes.unvisited }))
