@@ -30,30 +30,30 @@ has_in [] leaf none = absurd none
 has_in (one ∷ leaves) leaf (inl same) = subst (λ (other : Leaf). has_leaf (other ∷ leaves) leaf ≡ true) same (ap (λ b. b || has_leaf leaves leaf) (leaf_self leaf))
 has_in (one ∷ leaves) leaf (inr more) = ap (λ b. _ || b) (has_in leaves leaf more) ∙ or_true _
 
-abbrev kept_in : SqlSite MemStore → SiteContent
+abbrev kept_in : SqlSite MemStore over_memory → SiteContent
 kept_in site = kept_by over_memory site.leaves.items site.conn
 
-has_its : (catalogue : Catalogue) (place : ℕ) (site : SqlSite MemStore) → IsNewSite catalogue place site → AreHad (names_at place (catalogue_leaves catalogue)) (kept_in site)
+has_its : (catalogue : Catalogue) (place : ℕ) (site : SqlSite MemStore over_memory) → IsNewSite catalogue place site → AreHad (names_at place (catalogue_leaves catalogue)) (kept_in site)
 has_its catalogue place site new leaf inside = has_in site.leaves.items leaf (subst (In leaf) (sym new.leaves) inside)
 
-have_leaves : (catalogue : Catalogue) (place : ℕ) (sites : List (SqlSite MemStore)) → AreNewSites catalogue place sites → HaveLeaves catalogue place (map kept_in sites)
+have_leaves : (catalogue : Catalogue) (place : ℕ) (sites : List (SqlSite MemStore over_memory)) → AreNewSites catalogue place sites → HaveLeaves catalogue place (map kept_in sites)
 have_leaves catalogue place [] new = tt
 have_leaves catalogue place (site ∷ sites) new = (has_its catalogue place site new.0, have_leaves catalogue (suc place) sites new.1)
 
-all_sound : (catalogue : Catalogue) (place : ℕ) (sites : List (SqlSite MemStore)) → AreNewSites catalogue place sites → AllByRecursion (λ site. IsSound over_memory site.leaves.items site.conn) sites
+all_sound : (catalogue : Catalogue) (place : ℕ) (sites : List (SqlSite MemStore over_memory)) → AreNewSites catalogue place sites → AllByRecursion (λ site. IsSound over_memory site.leaves.items site.conn) sites
 all_sound catalogue place [] new = tt
 all_sound catalogue place (site ∷ sites) new = (new.0.sound, all_sound catalogue (suc place) sites new.1)
 
 early : (life : ℕ) → life ≡ 0 → life + 1 < 2 ^ 63
 early life none = rw (none) (omega arith)
 
-keep_nothing : (catalogue : Catalogue) (place : ℕ) (sites : List (SqlSite MemStore)) → AreNewSites catalogue place sites → AllByRecursion KeepsNothing (map kept_in sites)
+keep_nothing : (catalogue : Catalogue) (place : ℕ) (sites : List (SqlSite MemStore over_memory)) → AreNewSites catalogue place sites → AllByRecursion KeepsNothing (map kept_in sites)
 keep_nothing catalogue place [] new = tt
 keep_nothing catalogue place (site ∷ sites) new = (record { content = new.0.nothing.content; prepared = new.0.nothing.prepared; life = early (kept_in site).life new.0.nothing.life }, keep_nothing catalogue (suc place) sites new.1)
 
 -- new stores in SQLite are new stores
-pub are_new : (catalogue : Catalogue) (desk : SqlDesk MemStore) (sites : List (SqlSite MemStore)) → IsNewDesk desk → AreNewSites catalogue 0 sites →
-    AreNew (λ (desk : SqlDesk MemStore). IsSoundDesk over_memory desk.conn) (λ desk. desk_kept over_memory desk.conn) (λ (site : SqlSite MemStore). IsSound over_memory site.leaves.items site.conn) kept_in catalogue desk sites
+pub are_new : (catalogue : Catalogue) (desk : SqlDesk MemStore over_memory) (sites : List (SqlSite MemStore over_memory)) → IsNewDesk desk → AreNewSites catalogue 0 sites →
+    AreNew (λ (desk : SqlDesk MemStore over_memory). IsSoundDesk over_memory desk.conn) (λ desk. desk_kept over_memory desk.conn) (λ (site : SqlSite MemStore over_memory). IsSound over_memory site.leaves.items site.conn) kept_in catalogue desk sites
 are_new catalogue desk sites new news = record {
   sound = (new.sound, all_sound catalogue 0 sites news);
   keep = record {
@@ -65,6 +65,6 @@ are_new catalogue desk sites new news = record {
 }
 
 -- one new store more, behind others
-pub and_one : (catalogue : Catalogue) (place : ℕ) (sites : List (SqlSite MemStore)) (site : SqlSite MemStore) → AreNewSites catalogue place sites → IsNewSite catalogue (place + length sites) site → AreNewSites catalogue place (sites ++ site ∷ [])
+pub and_one : (catalogue : Catalogue) (place : ℕ) (sites : List (SqlSite MemStore over_memory)) (site : SqlSite MemStore over_memory) → AreNewSites catalogue place sites → IsNewSite catalogue (place + length sites) site → AreNewSites catalogue place (sites ++ site ∷ [])
 and_one catalogue place [] site news new = (subst (λ (n : ℕ). IsNewSite catalogue n site) (omega arith) new, tt)
 and_one catalogue place (first ∷ sites) site news new = (news.0, and_one catalogue (suc place) sites site news.1 (subst (λ (n : ℕ). IsNewSite catalogue n site) (omega arith) new))

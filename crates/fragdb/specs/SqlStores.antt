@@ -12,17 +12,17 @@ use Rattle.sqlstore.specs.Fresh.{KeepsNothing}
 use Rattle.sqlstore.specs.Site.{IsSound, kept_by}
 
 -- a store of the site of this number is new: it has the site's leaves, and keeps nothing
-pub record IsNewSite (catalogue : Catalogue) (place : ℕ) (site : SqlSite MemStore) : Type 0 where
+pub record IsNewSite (catalogue : Catalogue) (place : ℕ) (site : SqlSite MemStore over_memory) : Type 0 where
   pub leaves : site.leaves.items ≡ names_at place (catalogue_leaves catalogue)
   pub sound : IsSound over_memory site.leaves.items site.conn
   pub nothing : KeepsNothing (kept_by over_memory site.leaves.items site.conn)
 
 -- so are the stores of sites, numbered on from a first one
-abbrev pub AreNewSites : Catalogue → ℕ → List (SqlSite MemStore) → Type 0
+abbrev pub AreNewSites : Catalogue → ℕ → List (SqlSite MemStore over_memory) → Type 0
 AreNewSites catalogue place [] = ⊤
 AreNewSites catalogue place (site ∷ sites) = IsNewSite catalogue place site × AreNewSites catalogue (suc place) sites
 
 -- the coordinator's store is new: it keeps no commit row
-pub record IsNewDesk (desk : SqlDesk MemStore) : Type 0 where
+pub record IsNewDesk (desk : SqlDesk MemStore over_memory) : Type 0 where
   pub sound : IsSoundDesk over_memory desk.conn
   pub nothing : KeepsNoCommit (desk_kept over_memory desk.conn)

@@ -57,10 +57,13 @@ use crate::outcome::{Outcome, Status, exit};
 use crate::perform::{perform, perform_session};
 use crate::solo::SCRIPT_LIMIT;
 use crate::usage::{Request, Stores, read_words, show_usage, unreadable_words};
+use crate::world_opener::OpensWorld;
 use std::alloc::Global;
 use std::io::{BufWriter, IsTerminal, Read, Write};
 use std::process::ExitCode;
 use std::{env, fs, io};
+use store::desk_store::DeskStore;
+use store::site_store::SiteStore;
 
 fn main(rt: HostRuntime) -> ExitCode {
     ExitCode::from(run(&rt).code())
@@ -94,19 +97,28 @@ fn do_request<W: Write, E: Write>(
     errors: &mut E,
 ) -> Status {
     match request.stores() {
-        Stores::Lists => do_request_over(rt, &Lists, request, output, errors),
-        Stores::InMemory => do_request_over(rt, &InMemory, request, output, errors),
+        Stores::Lists => do_request_over(rt, &Lists, &Lists, request, output, errors),
+        Stores::InMemory => do_request_over(rt, &InMemory, &InMemory, request, output, errors),
         Stores::Folder(dir) => {
             let folder = Folder::new(rt, dir, request.catalog());
-            do_request_over(rt, &folder, request, output, errors)
+            do_request_over(rt, &folder, &Lists, request, output, errors)
         }
     }
 }
 
 /// Does what a request asks for, over the catalogue that it names or the built-in one, and tells what it came to.
-fn do_request_over<B: Database + Drop, O: Opens<B>, W: Write, E: Write>(
+fn do_request_over<
+    B: Database + Drop,
+    O: Opens<B>,
+    D: DeskStore + Drop,
+    S: SiteStore + Drop,
+    P: OpensWorld<D, S>,
+    W: Write,
+    E: Write,
+>(
     rt: &HostRuntime,
     opener: &O,
+    worlds: &P,
     request: Request<'_>,
     output: &mut W,
     errors: &mut E,
@@ -115,6 +127,7 @@ fn do_request_over<B: Database + Drop, O: Opens<B>, W: Write, E: Write>(
         Some(file) => perform_over(
             rt,
             opener,
+            worlds,
             request,
             file,
             fs::open(rt, file),
@@ -123,15 +136,34 @@ fn do_request_over<B: Database + Drop, O: Opens<B>, W: Write, E: Write>(
         ),
         None => {
             let catalog = Ok(BUILT_IN.as_bytes());
-            perform_over(rt, opener, request, BUILT_IN_NAME, catalog, output, errors)
+            perform_over(
+                rt,
+                opener,
+                worlds,
+                request,
+                BUILT_IN_NAME,
+                catalog,
+                output,
+                errors,
+            )
         }
     }
 }
 
 /// Opens the file that a request names, and does what it asks for, over this catalogue where it runs or plays a script.
-fn perform_over<B: Database + Drop, O: Opens<B>, C: Read + Drop, W: Write, E: Write>(
+fn perform_over<
+    B: Database + Drop,
+    O: Opens<B>,
+    D: DeskStore + Drop,
+    S: SiteStore + Drop,
+    P: OpensWorld<D, S>,
+    C: Read + Drop,
+    W: Write,
+    E: Write,
+>(
     rt: &HostRuntime,
     opener: &O,
+    worlds: &P,
     request: Request<'_>,
     catalog_file: &str,
     catalog: io::Result<C>,
@@ -143,6 +175,7 @@ fn perform_over<B: Database + Drop, O: Opens<B>, C: Read + Drop, W: Write, E: Wr
         perform_on(
             rt,
             opener,
+            worlds,
             request,
             catalog_file,
             catalog,
@@ -155,6 +188,7 @@ fn perform_over<B: Database + Drop, O: Opens<B>, C: Read + Drop, W: Write, E: Wr
         perform_on(
             rt,
             opener,
+            worlds,
             request,
             catalog_file,
             catalog,
@@ -167,9 +201,20 @@ fn perform_over<B: Database + Drop, O: Opens<B>, C: Read + Drop, W: Write, E: Wr
 
 /// Does what a request asks for over this input. Where refusals are to be explained the input is read whole first, as
 /// it is looked at once more afterwards.
-fn perform_on<B: Database + Drop, O: Opens<B>, C: Read + Drop, R: Read + Drop, W: Write, E: Write>(
+fn perform_on<
+    B: Database + Drop,
+    O: Opens<B>,
+    D: DeskStore + Drop,
+    S: SiteStore + Drop,
+    P: OpensWorld<D, S>,
+    C: Read + Drop,
+    R: Read + Drop,
+    W: Write,
+    E: Write,
+>(
     rt: &HostRuntime,
     opener: &O,
+    worlds: &P,
     request: Request<'_>,
     catalog_file: &str,
     catalog: io::Result<C>,
@@ -193,7 +238,7 @@ fn perform_on<B: Database + Drop, O: Opens<B>, C: Read + Drop, R: Read + Drop, W
         let outcome = perform(
             rt.alloc(),
             opener,
-            &Lists,
+            worlds,
             request,
             catalog_file,
             catalog,
@@ -208,6 +253,7 @@ fn perform_on<B: Database + Drop, O: Opens<B>, C: Read + Drop, R: Read + Drop, W
             explain_performed(
                 rt,
                 opener,
+                worlds,
                 request,
                 catalog_file,
                 catalog,
@@ -220,6 +266,7 @@ fn perform_on<B: Database + Drop, O: Opens<B>, C: Read + Drop, R: Read + Drop, W
             explain_performed(
                 rt,
                 opener,
+                worlds,
                 request,
                 catalog_file,
                 catalog,
@@ -290,9 +337,19 @@ fn read_whole<R: Read + Drop>(alloc: Global, input: io::Result<R>) -> io::Result
 }
 
 /// Does what a request asks for over these bytes, and explains what was refused of it.
-fn explain_performed<B: Database + Drop, O: Opens<B>, C: Read + Drop, W: Write, E: Write>(
+fn explain_performed<
+    B: Database + Drop,
+    O: Opens<B>,
+    D: DeskStore + Drop,
+    S: SiteStore + Drop,
+    P: OpensWorld<D, S>,
+    C: Read + Drop,
+    W: Write,
+    E: Write,
+>(
     rt: &HostRuntime,
     opener: &O,
+    worlds: &P,
     request: Request<'_>,
     catalog_file: &str,
     catalog: io::Result<C>,
@@ -307,7 +364,7 @@ fn explain_performed<B: Database + Drop, O: Opens<B>, C: Read + Drop, W: Write, 
     let outcome = perform(
         rt.alloc(),
         opener,
-        &Lists,
+        worlds,
         request,
         catalog_file,
         catalog,

@@ -37,6 +37,7 @@ pub trait Opens<B: Database> {
 }
 
 /// Databases over lists, which begin with relations without rows, and are gone at the end.
+#[derive(Drop)]
 pub struct Lists;
 
 impl Opens<Solo<PlainDesk, PlainSite>> for Lists {
@@ -60,6 +61,7 @@ impl Opens<Solo<PlainDesk, PlainSite>> for Lists {
 }
 
 /// Databases over new stores in SQLite, in memory, which begin with relations without rows, and are gone at the end.
+#[derive(Drop)]
 pub struct InMemory;
 
 impl Opens<Solo<SqlDesk<MemStore>, SqlSite<MemStore>>> for InMemory {
@@ -84,6 +86,7 @@ impl Opens<Solo<SqlDesk<MemStore>, SqlSite<MemStore>>> for InMemory {
 }
 
 /// Databases over the stores in SQLite that lie in a folder. They go on from what an earlier one left there.
+#[derive(Drop)]
 pub struct Folder<'f> {
     rt: &'f HostRuntime,
     dir: &'f str,
@@ -120,7 +123,7 @@ impl Opens<Solo<SqlDesk<FileStore<File>>, SqlSite<FileStore<File>>>> for Folder<
 }
 
 /// What stops the program where a database can't be opened. An incarnation after the last one can't be kept.
-fn unopened<'a>(fault: Fault) -> ProgramFault<'a>
+pub fn unopened<'a>(fault: Fault) -> ProgramFault<'a>
     ensures { IsOfClient result }
 {
     match fault {

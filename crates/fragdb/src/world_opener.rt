@@ -1,6 +1,6 @@
 //! How the world of a catalogue is opened.
 
-ghost use Rattle.std.specs.Prelude.{IfErr, IfOk};
+ghost use Rattle.std.specs.Prelude.{⊤, IfErr, IfOk};
 ghost use Rattle.catalog.specs.FragmentLeaf.{schemas_of};
 ghost use Rattle.catalog.specs.Relation.{catalogue_of};
 ghost use Rattle.meaning.specs.Whole.{FitsSchema};
@@ -9,15 +9,19 @@ ghost use Rattle.fragdb.specs.Schedule.{world_over};
 ghost use Rattle.fragdb.specs.WorldOpener.{IsOpenedOver, StopsOpening};
 
 use crate::fault::ProgramFault;
-use crate::opener::Lists;
+use crate::opener::{InMemory, Lists, unopened};
+use crate::sql_stores::{memory_desk, memory_sites};
 use catalog::catalogue::Catalog;
 use meaning::whole::Whole;
+use sqlite::MemStore;
+use sqlstore::desk::SqlDesk;
+use sqlstore::site::SqlSite;
 use std::alloc::Global;
 use store::desk_store::DeskStore;
 use store::plain_desk::PlainDesk;
 use store::plain_site::PlainSite;
 use store::site_store::SiteStore;
-use world::world::{World, open};
+use world::world::{World, open, open_on};
 
 /// Opens worlds over stores of some kind.
 pub trait OpensWorld<D: DeskStore, S: SiteStore> {
@@ -49,6 +53,24 @@ impl OpensWorld<PlainDesk, PlainSite> for Lists {
         match open(alloc, catalog, whole) {
             Ok(world) => Ok(world),
             Err(_) => Err(ProgramFault::Memory),
+        }
+    }
+}
+
+impl OpensWorld<SqlDesk<MemStore>, SqlSite<MemStore>> for InMemory {
+    ghost fails_for = { λ why. ⊤ };
+
+    fn open<'a>(
+        &self,
+        alloc: Global,
+        catalog: &Catalog,
+        whole: &Whole,
+    ) -> Result<World<SqlDesk<MemStore>, SqlSite<MemStore>>, ProgramFault<'a>> {
+        let sites = memory_sites(alloc, catalog)?;
+        let desk = memory_desk(alloc)?;
+        match open_on(alloc, catalog, whole, sites, desk) {
+            Ok(world) => Ok(world),
+            Err(fault) => Err(unopened(fault)),
         }
     }
 }

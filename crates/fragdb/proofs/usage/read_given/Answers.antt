@@ -46,4 +46,4 @@ returns-3 g c =
     inl (given_perhaps (map g.S.AsStr.text c.args.words.now) _ (codes "play") _ (codes "CATALOG") _ (codes "SCRIPT") c.in-Some-get_str-3.script.now _ entered
     (ap (λ (t : List ℕ). Some t) (sym c.in-Some-play-default.is-play) ∙ name) rows
     (c.get_str-catalog.ensures ∙ first_value-rows (found_of c.in-Some-play-default.play.now) (codes "CATALOG")) (c.in-Some-get_str-3.ensures ∙ first_value-rows (found_of c.in-Some-play-default.play.now) (codes "SCRIPT"))
-    (sym (c.is_set-sqlite.ensures ∙ ap is_set (c.get_str-9.ensures ∙ first_value-rows (found_of c.in-Some-play-default.play.now) (codes "SQLITE"))), tt))
+    (sym (c.is_set-sqlite.ensures ∙ ap is_set (c.get_str-8.ensures ∙ first_value-rows (found_of c.in-Some-play-default.play.now) (codes "SQLITE"))), tt))
