@@ -1,10 +1,12 @@
 -- Each letter that was sent stays counted, whatever is played.
-use Rattle.std.proofs.Common.{◌≡◌, ◌++◌, ◌∷◌, [], ◌+◌, ℕ, zero, suc, Bool, true, List, Option, None, Some, inl, inr, length, subst, sym, arith, append-nil, length-append, length-map, ◌∙◌}
+use Rattle.std.proofs.Common.{◌≡◌, ◌++◌, ◌∷◌, [], ◌+◌, ℕ, zero, suc, Bool, true, List, Option, None, Some, inl, inr, length, subst, sym, arith, append-nil, length-append, ◌∙◌}
 use Rattle.std.proofs.Math.ListN.{length-set, set}
 use Rattle.std.proofs.lemmas.Grind.{flat_map-append}
+use Rattle.std.proofs.lemmas.List.{length-map}
 use Rattle.catalog.specs.Catalogue.{Catalogue}
 use Rattle.store.specs.declared.name.Txn.{Txn}
 use Rattle.desk.specs.declared.reply.Out.{Out}
+use Rattle.world.specs.declared.event.Entry.{Entry}
 use Rattle.world.specs.declared.event.Event.{Event}
 use Rattle.world.specs.Posted.{letters_in}
 use Rattle.world.specs.Runs.{entry_of}
@@ -15,9 +17,13 @@ use Rattle.fragdb.specs.Cast.{txn_of}
 use Rattle.fragdb.specs.Delivering.{Delivers, DeliversAll, DeliversAt, DeliversEach, with_came}
 use Rattle.fragdb.specs.Schedule.{Asks, Calls, Concerned, IsCounted, Stage, Tries, unseen}
 
+-- the letters of one entry more
+pub letters_more : (past : List Entry) (what : Event) (out : Out) → length (letters_in (past ++ entry_of what out ∷ [])) ≡ length (letters_in past) + length out.letters
+letters_more past what out = simp (flat_map-append, length-append, append-nil)
+
 -- one entry more, with its letters
 counted_more : (before : Stage) (what : Event) (out : Out) → IsCounted before → length (before.came ++ unseen out.letters) ≡ length (letters_in (before.entries ++ entry_of what out ∷ []))
-counted_more before what out counted = simp (flat_map-append, length-append, length-map, append-nil) (omega arith)
+counted_more before what out counted = simp (length-append, length-map) (omega (arith, letters_more before.entries what out))
 
 counted_same : (before after : Stage) → after ≡ before → IsCounted before → IsCounted after
 counted_same before after same counted = subst IsCounted (sym same) counted

@@ -1,6 +1,7 @@
 -- Lemmas on the run that a schedule carries.
-use Rattle.std.proofs.Common.{◌≡◌, ◌++◌, ℕ, Result, Ok, Err, ap, refl, sym, subst, ◌∙◌}
+use Rattle.std.proofs.Common.{◌≡◌, ◌++◌, ℕ, List, Result, Ok, Err, ap, refl, sym, subst, ◌∙◌}
 use Rattle.meaning.specs.Whole.{Relations}
+use Rattle.catalog.specs.Catalogue.{Catalogue}
 use Rattle.catalog.specs.Relation.{catalogue_of}
 use Rattle.store.specs.DeskContent.{DeskContent}
 use Rattle.store.specs.SiteContent.{SiteContent}
@@ -11,6 +12,7 @@ use Rattle.world.specs.declared.world.World.{World}
 use Rattle.desk.specs.CatalogueDatabase.{database}
 use Rattle.world.specs.Contents.{OfStores, counted, held}
 use Rattle.world.specs.Frame.{LeavesMachines, StaysAsItIs}
+use Rattle.world.specs.Machines.{Machines}
 use Rattle.world.specs.Runs.{StepsOn}
 use Rattle.world.specs.Steps.{Steps}
 use Rattle.fragdb.specs.declared.schedule.Schedule.{Schedule}
@@ -41,14 +43,16 @@ module _ {D S : Type 0} (desk_is_clean : D → Type 0) (site_is_clean : S → Ty
       StepsOn (database (seen.catalogue old)) whole (seen.machines old) (seen.machines new) (seen.entries old) (seen.entries new) reached.0 → HasRun seen whole new
   goes_on whole old new same sound reached on = record {
     sound = sound;
-    reached = subst (λ (catalogue : _). IsReached catalogue whole (seen.machines new) (seen.entries new)) (sym same) (reached.0 ++ on.deeds, on.run_on);
+    reached = subst (λ (catalogue : Catalogue). IsReached catalogue whole (seen.machines new) (seen.entries new)) (sym same) (reached.0 ++ on.deeds, on.run_on);
   }
 
   -- nothing has happened
   stays : (whole : Relations) (old new : World D S) → seen.catalogue new ≡ seen.catalogue old → seen.is_sound new → seen.machines new ≡ seen.machines old → seen.entries new ≡ seen.entries old → HasRun seen whole old → HasRun seen whole new
   stays whole old new same sound machines entries has = record {
     sound = sound;
-    reached = rw (same, machines, entries) has.reached;
+    reached = subst (λ (catalogue : Catalogue). IsReached catalogue whole (seen.machines new) (seen.entries new)) (sym same)
+        (subst (λ (machines : Machines). IsReached (seen.catalogue old) whole machines (seen.entries new)) (sym machines)
+        (subst (λ (entries : List Entry). IsReached (seen.catalogue old) whole (seen.machines old) entries) (sym entries) has.reached));
   }
 
   -- an event of a world, by what is answered

@@ -41,3 +41,9 @@ loop-placed-preserved g c =
       counted = Plays-counted seen (seen.is_clean after.world × HasRun seen finite.empty middle.world) (seen.catalogue middle.world) finite.empty placed.item middle after told (c.in_ok-told.ensures.plays finite.empty) so_far.counted;
       leaves = leaves_then seen before.world middle.world after.world so_far.leaves c.play_item.ensures.leaves;
     }
+
+pub returns-in_err-told-clause-leaves : goal.returns-in_err-told-clause-leaves
+returns-in_err-told-clause-leaves g c = leaves_then (world_over g.D.DeskStore.is_clean g.S.SiteStore.is_clean g.D.DeskStore.is_sound g.S.SiteStore.is_sound g.D.DeskStore.kept g.S.SiteStore.kept g.D.DeskStore.refused g.S.SiteStore.refused) c.args.schedule.now.world c.loop-placed.schedule.world c.play_item.new.schedule.world c.loop-placed.invariant.leaves c.play_item.ensures.leaves
+
+pub returns-in_err-map_err-clause-leaves : goal.returns-in_err-map_err-clause-leaves
+returns-in_err-map_err-clause-leaves g c = leaves_then (world_over g.D.DeskStore.is_clean g.S.SiteStore.is_clean g.D.DeskStore.is_sound g.S.SiteStore.is_sound g.D.DeskStore.kept g.S.SiteStore.kept g.D.DeskStore.refused g.S.SiteStore.refused) c.args.schedule.now.world c.loop-placed.schedule.world c.play_item.new.schedule.world c.loop-placed.invariant.leaves c.play_item.ensures.leaves

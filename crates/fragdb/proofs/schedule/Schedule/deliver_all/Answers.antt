@@ -35,3 +35,9 @@ loop-preserved g c =
       counted = counted_by_delivery catalogue place true middle after (string_bytes c.in_ok-told.told) delivered so_far.counted;
       leaves = leaves_then (world_over g.D.DeskStore.is_clean g.S.SiteStore.is_clean g.D.DeskStore.is_sound g.S.SiteStore.is_sound g.D.DeskStore.kept g.S.SiteStore.kept g.D.DeskStore.refused g.S.SiteStore.refused) c.args.self.now.world c.loop.self.world c.deliver_at.new.self.world so_far.leaves c.deliver_at.ensures.leaves;
     }
+
+pub returns-in_err-told-clause-leaves : goal.returns-in_err-told-clause-leaves
+returns-in_err-told-clause-leaves g c = leaves_then (world_over g.D.DeskStore.is_clean g.S.SiteStore.is_clean g.D.DeskStore.is_sound g.S.SiteStore.is_sound g.D.DeskStore.kept g.S.SiteStore.kept g.D.DeskStore.refused g.S.SiteStore.refused) c.args.self.now.world c.loop.self.world c.deliver_at.new.self.world c.loop.invariant.leaves c.deliver_at.ensures.leaves
+
+pub returns-in_err-push_str-clause-leaves : goal.returns-in_err-push_str-clause-leaves
+returns-in_err-push_str-clause-leaves g c = leaves_then (world_over g.D.DeskStore.is_clean g.S.SiteStore.is_clean g.D.DeskStore.is_sound g.S.SiteStore.is_sound g.D.DeskStore.kept g.S.SiteStore.kept g.D.DeskStore.refused g.S.SiteStore.refused) c.args.self.now.world c.loop.self.world c.deliver_at.new.self.world c.loop.invariant.leaves c.deliver_at.ensures.leaves
