@@ -1,5 +1,5 @@
 -- Lemmas on playing a script of schedules.
-use Rattle.std.proofs.Common.{◌≡◌, ◌≤◌, ◌++◌, ◌∷◌, [], ℕ, List, Option, Some, None, Result, Ok, Err, OnOk, IfErr, IfOk, IfSome, ap, refl, sym, subst, inl, inr, append-nil, append_assoc, length, ◌∙◌}
+use Rattle.std.proofs.Common.{⊤, ◌≡◌, ◌≤◌, ◌++◌, ◌∷◌, [], ℕ, List, Option, Some, None, Result, Ok, Err, OnOk, IfErr, IfOk, IfSome, ap, refl, sym, subst, inl, inr, append-nil, append_assoc, length, ◌∙◌}
 use Rattle.std.specs.Borrow.{Bor}
 use Rattle.std.specs.Io.KnownBytes.{Appends, Keeps}
 use Rattle.meaning.specs.Whole.{Relations}
@@ -15,6 +15,7 @@ use Rattle.fragdb.specs.declared.play_script.Item.TheVariants as item
 use Rattle.fragdb.specs.declared.schedule.Schedule.{Schedule}
 use Rattle.fragdb.specs.declared.script.ScriptFault.{ScriptFault}
 use Rattle.fragdb.specs.declared.script.ScriptFault.TheVariants as script
+use Rattle.fragdb.specs.Client.{IsOfClient}
 use Rattle.fragdb.specs.Fault.{fault_of_script}
 use Rattle.fragdb.specs.Play.{IsPlayedOver, IsSound, Plays, PlaysAll, PlaysItem, PlaysItems, PlaysOrStops, PlaysScript, StopsItems}
 use Rattle.fragdb.specs.PlayItems.{items_of}
@@ -119,6 +120,11 @@ stops_opening Fails output fault (inr failed) = rw failed.2 (failed.1, Keeps-sam
 pub stops_output : (Fails : StoreFault → Type 0) (old new : Option (List ℕ)) (fault : ProgramFault) → IsOfOutput fault → StopsItems Fails old new fault
 stops_output Fails old new fault (inl memory) = rw memory tt
 stops_output Fails old new fault (inr closed) = rw closed tt
+
+-- a fault that may stop a database may stop a world as it is opened
+pub stops_as_client : (fault : ProgramFault) → IsOfClient fault → StopsOpening (λ why. ⊤) fault
+stops_as_client fault (inl memory) = inl memory
+stops_as_client fault (inr failed) = inr (failed.0, tt, failed.1)
 
 -- a script that is not loaded
 pub unloaded : {D S : Type 0} (seen : SeenWorld (World D S)) (Fails : StoreFault → Type 0) (catalogue : Catalogue) (text : List ℕ) (output : Option (List ℕ)) (fault : ScriptFault) → ((line : ℕ) → fault ≡ script.Malformed line → IsMalformedAt (schemas_of catalogue) (items_of (lines_of text)) line) →
