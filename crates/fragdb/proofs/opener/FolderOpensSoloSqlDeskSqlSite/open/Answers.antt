@@ -2,7 +2,7 @@ use Rattle.std.proofs.Common.{map, refl}
 use Rattle.sqlstore.specs.Desk.{desk_kept}
 use Rattle.sqlstore.specs.Site.{kept_by}
 use Rattle.fragdb.specs.Origin.{Found, Kept}
-use Rattle.fragdb.proofs.opener.FolderOpensSoloSqlDeskMSqlSiteM.open.Goals as goal
+use Rattle.fragdb.proofs.opener.FolderOpensSoloSqlDeskSqlSite.open.Goals as goal
 
 pub returns-in-Ok-clause-ok : goal.returns-in-Ok-clause-ok
 returns-in-Ok-clause-ok g c =
