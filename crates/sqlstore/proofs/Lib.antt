@@ -26,6 +26,7 @@ pub mod Ours
 pub mod Whole
 pub mod Rising
 pub mod Looking
+pub mod Walking
 pub mod Sharing
 pub mod Backward
 pub mod Consistent

@@ -1,6 +1,5 @@
 -- All rows of a site's tables, as queries show them.
 use Rattle.std.specs.Prelude.{◌≡◌, pos, ◌≤ℤ◌, Bool, true, ◌&&◌, Result, IfOk, IsTrue, List, [], ◌∷◌, slice_index_or}
-use Rattle.std.specs.FinMap as map
 use Rattle.std.specs.List.{AllByRecursion, list_all, list_any}
 use Rattle.std.specs.Ordering.{int_eq}
 use Rattle.std.specs.List.Sorted.{IsSorted}
@@ -11,13 +10,9 @@ use Rattle.sqlite.specs.State.{State, HasCleanDisk}
 use Rattle.sqlite.specs.Term.{Term, lit, col}
 use Rattle.sqlite.specs.Tree.{rowid}
 use Rattle.sqlite.specs.declared.types.Value.TheVariants.{Null}
-use Rattle.sqlite.specs.declared.error.Error.{Error}
 use Rattle.sqlite_rules.specs.Lists.{Has}
 use Rattle.sqlstore.specs.declared.gathered.Gathered.{Gathered}
-use Rattle.store.specs.Content.{Changes}
-use Rattle.terms.specs.declared.leaf.Leaf.{Leaf}
 use Rattle.sqlstore.specs.Cells.{int_at}
-use Rattle.sqlstore.specs.Listed.{with_row}
 use Rattle.sqlstore.specs.Numbered.{AreNumbered}
 use Rattle.sqlstore.specs.Tables.{site_schema}
 
@@ -50,11 +45,6 @@ gathered parts tables = record {
   trees = λ tree. slice_index_or (parts ∷ [] ∷ tables.prepared.items ∷ [] ∷ tables.intents.items ∷ [] ∷ tables.state.items ∷ []) tree [];
 }
 
--- the parts of rows, as the changes that make them of nothing, the first row last
-abbrev pub parts_in : List Leaf → List Row → Changes
-parts_in leaves [] = map.empty
-parts_in leaves (row ∷ rows) = with_row leaves row (parts_in leaves rows)
-
 -- whether two rows are of one ticket
 abbrev pub is_of_one : Row → Row → Bool
 is_of_one one other = int_eq (int_at one 1) (int_at other 1) && int_eq (int_at one 2) (int_at other 2)
@@ -76,12 +66,12 @@ pub record AreConsistent (tables : Gathered) : Type 0 where
   pub promised : are_matched tables.intents.items tables.prepared.items ≡ true
 
 -- a query outside of a transaction: where the tables are those of a store it leaves what is committed, and shows this of it
-pub record LooksOf {A : Type 0} (own : Schema) (P : Database → A → Type 0) (old new : State) (result : Result A Error) : Type 0 where
+pub record LooksOf {A E : Type 0} (own : Schema) (P : Database → A → Type 0) (old new : State) (result : Result A E) : Type 0 where
   pub clean : HasCleanDisk new → HasCleanDisk old
   pub was_open : HasCleanDisk new → IsTrue new.is_open → IsTrue old.is_open
   pub same : HasCleanDisk new → IsTrue new.is_open → old.committed.schema ≡ own → new.committed ≡ old.committed
   pub shows : HasCleanDisk new → IsTrue new.is_open → old.committed.schema ≡ own → IfOk result (P old.committed)
 
 -- so where the tables are a site's
-abbrev pub Looks : {A : Type 0} → (Database → A → Type 0) → State → State → Result A Error → Type 0
+abbrev pub Looks : {A E : Type 0} → (Database → A → Type 0) → State → State → Result A E → Type 0
 Looks P old new result = LooksOf site_schema P old new result

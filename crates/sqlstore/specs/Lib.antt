@@ -24,6 +24,7 @@ pub mod Desk
 -- What a store is to its callers.
 pub mod Listed
 pub mod Gathered
+pub mod Walk
 pub mod DeskRows
 pub mod Fresh
 pub mod Site

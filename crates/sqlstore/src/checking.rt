@@ -1,42 +1,12 @@
 //! Whether rows are as a store leaves them.
 
-ghost use Rattle.std.specs.List.{AllByRecursion, list_any};
+ghost use Rattle.std.specs.List.{list_any};
 ghost use Rattle.std.specs.Bool.{Decides};
-ghost use Rattle.std.specs.Prelude.{◌≡◌, ◌≢◌, OnOk, Err};
-ghost use Rattle.store.specs.declared.fault.StoreFault.TheVariants.{Refused, Damaged};
+ghost use Rattle.std.specs.Prelude.{◌≡◌};
 ghost use Rattle.sqlstore.specs.Gathered.{AreBegun, are_matched, is_of_one};
-ghost use Rattle.sqlstore.specs.Listed.{HasCells};
-ghost use Rattle.sqlstore.specs.Sound.{IsPart};
 
 use crate::cells::int_in;
-use crate::listing::part_row;
 use sqlite::Row;
-use std::alloc::Global;
-use store::fault::StoreFault;
-use terms::leaf::Leaf;
-
-/// Each row is a part, of a leaf of the site and under its own key.
-pub fn check_parts(alloc: Global, leaves: &[Leaf], rows: &[Row]) -> Result<(), StoreFault>
-    ensures ok { OnOk result (AllByRecursion (IsPart leaves.now) rows.now) }
-    ensures intact { AllByRecursion HasCells rows.now → AllByRecursion (IsPart leaves.now) rows.now → result ≢ Err Damaged }
-    ensures kept { result ≢ Err Refused }
-{
-    for row in rows {
-        check_part(alloc, leaves, row)?;
-    }
-    Ok(())
-}
-
-fn check_part(alloc: Global, leaves: &[Leaf], row: &Row) -> Result<(), StoreFault>
-    ensures ok { OnOk result (IsPart leaves.now row.now) }
-    ensures intact { HasCells row.now → IsPart leaves.now row.now → result ≢ Err Damaged }
-    ensures kept { result ≢ Err Refused }
-{
-    match part_row(alloc, leaves, row) {
-        Ok(_) => Ok(()),
-        Err(fault) => Err(fault),
-    }
-}
 
 /// Whether no incarnation is below zero.
 pub fn are_begun(rows: &[Row]) -> bool

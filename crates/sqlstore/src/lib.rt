@@ -36,3 +36,4 @@ pub mod steps;
 pub mod tables;
 pub mod visit;
 pub mod vote;
+pub mod walk;
