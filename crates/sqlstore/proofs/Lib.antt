@@ -29,6 +29,7 @@ pub mod Looking
 pub mod Walking
 pub mod Sharing
 pub mod Backward
+pub mod Intending
 pub mod Consistent
 pub mod Showed
 -- Those of the coordinator's store.

@@ -10,11 +10,11 @@ use Rattle.store.specs.SiteContent.{Lists, ListsRows}
 use Rattle.terms.specs.declared.leaf.Leaf.{Leaf}
 use Rattle.sqlstore.specs.declared.gathered.Gathered.{Gathered}
 use Rattle.sqlstore.specs.Content.{kept_of}
-use Rattle.sqlstore.specs.Gathered.{ShowsAll, ShowsTables, AreConsistent, gathered}
+use Rattle.sqlstore.specs.Gathered.{ShowsAll, ShowsTables, AreAllNumbered, gathered}
 use Rattle.sqlstore.specs.Sound.{IsPart, IsStored}
 use Rattle.sqlstore.specs.Tables.{site_schema}
 use Rattle.sqlstore.specs.Walk.{AreParts, HasWalked}
-use Rattle.sqlstore.proofs.Consistent.{intended_of, promised_of, stored_with, stored_without}
+use Rattle.sqlstore.proofs.Consistent.{stored_with, stored_without}
 use Rattle.sqlstore.proofs.Rising.{numbers_by_key}
 use Rattle.sqlstore.proofs.Scanning.{walked_parts}
 use Rattle.sqlstore.proofs.Sharing.{HaveSame, SameRows, same_back, stored_same, lists_same, part_keys, prepared_keys, intent_keys, state_keys}
@@ -52,19 +52,16 @@ module _ (leaves : List Leaf) (db : Database) (sound : IsDatabase db) (schema : 
   pub parts_all : IsStored leaves db → AreParts leaves (db.trees 0)
   parts_all stored = record { keyed = part_keys db stored.tables; parts = stored.parts }
 
-  pub consistent_all : IsStored leaves db → AreConsistent tables
-  consistent_all stored =
+  pub numbered_all : IsStored leaves db → AreAllNumbered tables
+  numbered_all stored =
       let here = stored_beside stored in
       let prepared = prepared_keys beside here.tables in
       let intents = intent_keys beside here.tables in
       let state = state_keys beside here.tables in
-      let rest = stored_all stored in
       record {
         prepared = numbers_by_key tables.prepared.items prepared shows.prepared.rises (λ row there. prepared_plain db sound schema row (shows.prepared.sound row there) (prepared.ints row there));
         intents = numbers_by_key tables.intents.items intents shows.intents.rises (λ row there. intent_plain db sound schema row (shows.intents.sound row there) (intents.ints row there));
         state = numbers_by_key tables.state.items state shows.state.rises (λ row there. state_plain db sound schema row (shows.state.sound row there) (state.ints row there));
-        intended = intended_of leaves tables rest;
-        promised = promised_of leaves tables rest;
       }
 
   -- so what was listed lists the database

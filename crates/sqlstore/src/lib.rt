@@ -6,7 +6,6 @@
 pub mod blame;
 pub mod calls;
 pub mod cells;
-pub mod checking;
 pub mod commit;
 pub mod commit_rows;
 pub mod decision;
@@ -23,7 +22,6 @@ pub mod intent;
 pub mod keep;
 pub mod life;
 pub mod listing;
-pub mod loading;
 pub mod numbered;
 pub mod open;
 pub mod param;

@@ -9,7 +9,7 @@ use Rattle.terms.specs.declared.leaf.Leaf.{Leaf}
 use Rattle.sqlstore.specs.Content.{kept_of}
 use Rattle.sqlstore.specs.Site.{IsClean}
 use Rattle.sqlstore.specs.Walk.{AreParts, HasWalked}
-use Rattle.sqlstore.proofs.Showed.{all_listed, consistent_all, learnt_all, parts_all, stored_all}
+use Rattle.sqlstore.proofs.Showed.{all_listed, numbered_all, learnt_all, parts_all, stored_all}
 use Rattle.sqlstore.proofs.site.SqlSiteSiteStore.load.Goals as goal
 
 pub returns-clause-learnt : goal.returns-clause-learnt
@@ -54,7 +54,7 @@ returns-in_err-rows-clause-reads g c =
           let sound = (c.schema-live.ensures.live (c.gather.ensures.leaves.clean now).1).1 in
           let shows = c.in_ok-tables.ensures.shows now in
           let tables = c.in_ok-tables.tables in
-          let never = (rw (c.as_slice-leaves.ensures.value, site) at c.in_err-rows.ensures.intact) (stored_all leaves old sound shows.1 tables shows.0 stored) (consistent_all leaves old sound shows.1 tables shows.0 stored) in
+          let never = (rw (c.as_slice-leaves.ensures.value, site) at c.in_err-rows.ensures.intact) (stored_all leaves old sound shows.1 tables shows.0 stored) (numbered_all leaves old sound shows.1 tables shows.0 stored) in
           search (rules, never);
     }
 
