@@ -3,17 +3,14 @@ use Rattle.std.proofs.Common.{◌≡◌, ◌<◌, ◌≤◌, ◌-◌, ℕ, suc, 
 use Rattle.std.specs.List.{AllByRecursion}
 use Rattle.std.proofs.lemmas.Bool.{both_ways, cases_Bool, false_from_ne_true}
 use Rattle.sqlite.specs.Order.{Row}
-use Rattle.sqlite_rules.proofs.ListLemmas.{all_from, all_has}
 use Rattle.store.specs.declared.name.Ticket.{Ticket}
 use Rattle.store.specs.declared.name.Txn.{Txn}
 use Rattle.store.specs.declared.prepared.Prepared.{Prepared}
 use Rattle.store.specs.Content.{Changes}
 use Rattle.store.specs.SiteContent.{is_ticket}
-use Rattle.terms.specs.declared.leaf.Leaf.{Leaf}
-use Rattle.sqlstore.specs.Cells.{text_at, int_at}
-use Rattle.sqlstore.specs.Content.{leaf_named, with_intent, changes_in, is_of, prepared_in, row_as}
-use Rattle.sqlstore.specs.Sound.{AreOfOne, IsIntent}
-use Rattle.sqlstore.proofs.Forgetting.{of_one, one_ticket, ticket_same}
+use Rattle.sqlstore.specs.Cells.{int_at}
+use Rattle.sqlstore.specs.Content.{is_of, prepared_in, row_as}
+use Rattle.sqlstore.proofs.Forgetting.{one_ticket, ticket_same}
 
 -- the row before a place, and those from the place on
 pub one_before : {X : Type 0} (rows : List X) (at : ℕ) (row : X) → 0 < at → at ≤ length rows → row ≡ get_or rows (at - 1) row → drop (at - 1) rows ≡ row ∷ drop at rows
@@ -24,33 +21,19 @@ one_before rows at row low within is =
 pub all_before : {X : Type 0} (P : X → Type 0) (rows : List X) (at : ℕ) (row : X) → drop (at - 1) rows ≡ row ∷ drop at rows → P row → AllByRecursion P (drop at rows) → AllByRecursion P (drop (at - 1) rows)
 all_before P rows at row is here behind = subst (AllByRecursion P) (sym is) (here, behind)
 
--- an intent more is in a ticket's changes
-pub intent_more : (leaves : List Leaf) (ticket : Ticket) (all rest : List Row) (row : Row) (before after : Changes) → all ≡ row ∷ rest → before ≡ changes_in leaves rest ticket
-    → after ≡ cond (is_of ticket row) (with_intent (leaf_named leaves (text_at row 3)) (int_at row 4) (text_at row 5) before) before → after ≡ changes_in leaves all ticket
-intent_more leaves ticket all rest row before after is kept made =
-    made ∙ ap (λ changes. cond (is_of ticket row) (with_intent (leaf_named leaves (text_at row 3)) (int_at row 4) (text_at row 5) changes) changes) kept ∙ ap (λ rows. changes_in leaves rows ticket) (sym is)
-
 -- what is put at a row's ticket is what the row prepares
-pub prepared_put : (leaves : List Leaf) (intents : List Row) (row : Row) (ticket other : Ticket) (txn : Txn) (changes : Changes) (old : Option Prepared) → is_of ticket row ≡ true
-    → txn ≡ record { life = unsigned_abs (int_at row 3); number = unsigned_abs (int_at row 4) } → changes ≡ changes_in leaves intents ticket
-    → cond (is_ticket ticket other) (Some (record { txn = txn; changes = changes })) old ≡ cond (is_of other row) (Some (row_as row (changes_in leaves intents other))) old
-prepared_put leaves intents row ticket other txn changes old mine names are =
+pub prepared_put : (row : Row) (ticket other : Ticket) (txn : Txn) (changes empty : Changes) (old : Option Prepared) → is_of ticket row ≡ true → txn ≡ record { life = unsigned_abs (int_at row 3); number = unsigned_abs (int_at row 4) } → changes ≡ empty
+    → cond (is_ticket ticket other) (Some (record { txn = txn; changes = changes })) old ≡ cond (is_of other row) (Some (row_as row empty)) old
+prepared_put row ticket other txn changes empty old mine names are =
+    let put : record { txn = txn; changes = changes } ≡ row_as row empty = λ i. record { txn = names i; changes = are i } in
     elim (cases_Bool (is_ticket ticket other)) [
       | inl same ↦
-          let one : ticket ≡ other = ticket_same ticket other same in
-          let its : is_of other row ≡ true = subst (λ t. is_of t row ≡ true) one mine in
-          let put : record { txn = txn; changes = changes } ≡ row_as row (changes_in leaves intents other) = λ i. record { txn = names i; changes = (are ∙ ap (changes_in leaves intents) one) i } in
-          ap (λ b. cond b (Some (record { txn = txn; changes = changes })) old) same ∙ ap Some put ∙ sym (ap (λ b. cond b (Some (row_as row (changes_in leaves intents other))) old) its)
+          let its : is_of other row ≡ true = subst (λ t. is_of t row ≡ true) (ticket_same ticket other same) mine in
+          ap (λ b. cond b (Some (record { txn = txn; changes = changes })) old) same ∙ ap Some put ∙ sym (ap (λ b. cond b (Some (row_as row empty)) old) its)
       | inr differ ↦
           let no : is_of other row ≡ false = false_from_ne_true (is_of other row) (λ its. both_ways (is_ticket ticket other) differ (one_ticket ticket other row mine its)) in
-          ap (λ b. cond b (Some (record { txn = txn; changes = changes })) old) differ ∙ sym (ap (λ b. cond b (Some (row_as row (changes_in leaves intents other))) old) no)
+          ap (λ b. cond b (Some (record { txn = txn; changes = changes })) old) differ ∙ sym (ap (λ b. cond b (Some (row_as row empty)) old) no)
     ]
-
--- intents of a row's ticket are those of its row
-pub intents_of_row : (leaves : List Leaf) (ticket : Ticket) (row : Row) (intents : List Row) → is_of ticket row ≡ true → AllByRecursion (λ intent. is_of ticket intent ≡ true → IsIntent leaves intent) intents
-    → AllByRecursion (λ intent. AreOfOne row intent → IsIntent leaves intent) intents
-intents_of_row leaves ticket row intents mine all =
-    all_from (λ intent. AreOfOne row intent → IsIntent leaves intent) intents (λ intent there one. all_has (λ i. is_of ticket i ≡ true → IsIntent leaves i) intents intent all there (sym (of_one ticket row intent one) ∙ mine))
 
 -- a row more is in the map
 pub prepared_more : (changes : Changes) (ticket : Ticket) (all rest : List Row) (row : Row) (old new : Option Prepared) → all ≡ row ∷ rest → old ≡ prepared_in rest changes ticket → new ≡ cond (is_of ticket row) (Some (row_as row changes)) old → new ≡ prepared_in all changes ticket

@@ -26,8 +26,10 @@ pub mod Ours
 pub mod Whole
 pub mod Rising
 pub mod Looking
+pub mod Walking
 pub mod Sharing
 pub mod Backward
+pub mod Intending
 pub mod Consistent
 pub mod Showed
 -- Those of the coordinator's store.

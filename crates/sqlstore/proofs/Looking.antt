@@ -21,7 +21,7 @@ use Rattle.sqlstore.proofs.Texts.{lists}
 module _ (own : Schema) (sql : List ℕ) (tree : ℕ) (rest : List Term) (names : List (List ℕ)) (is : command_of (understood own sql) ≡ lists tree (col 1 0 ∷ rest) names) (plain : IsPlain (understood own sql))
     (unlisted : reads_listing own sql ≡ false) (bare : (db : Trees) → overlay db [] tree ≡ db tree)
     (whole : (db : Database) → IsDatabase db → db.schema ≡ own → (row : Row) → Has (db.trees tree) row → shown (col 1 0 ∷ rest) [] row ≡ row) (old new : State) where
-  shows_all : IsDatabase old.now → old.now.schema ≡ own → (rows : List Row) → Shown sql [] old new rows → ShowsAll (old.now.trees tree) rows
+  pub shows_all : IsDatabase old.now → old.now.schema ≡ own → (rows : List Row) → Shown sql [] old new rows → ShowsAll (old.now.trees tree) rows
   shows_all sound schema rows h =
       let sure = (reads_as sql [] old new own schema (lists tree (col 1 0 ∷ rest) names) is plain unlisted rows h).answer in
       let finds = answered_in by_number tree [] (col 1 0 ∷ rest) [] [] old.now.trees rows (bare old.now.trees) sure in
@@ -37,6 +37,16 @@ module _ (own : Schema) (sql : List ℕ) (tree : ℕ) (rest : List Term) (names 
   under : (old.now ≡ old.committed) → old.committed.schema ≡ own → IsPlain (understood old.now.schema sql)
   under now schema = subst (λ s. IsPlain (understood s sql)) (sym (ap (λ (db : Database). db.schema) now ∙ schema)) plain
 
+  pub looks_err : {A E : Type 0} (P : Database → A → Type 0) (fault : E) (e : Error) → (IsTrue old.is_open → old.now ≡ old.committed) → (HasCleanDisk new → HasCleanDisk old) → (HasCleanDisk new → FailsToQuery sql [] old new e) → LooksOf own P old new (Err fault)
+  looks_err P fault e settled clean err = record {
+    clean = clean;
+    was_open = λ c is_open. query_open old new sql [] e (err c) is_open;
+    same = λ c is_open schema.
+        let now = settled (query_open old new sql [] e (err c) is_open) in
+        (query_keeps sql [] old new (under now schema) e (err c)).committed is_open;
+    shows = λ c is_open schema. tt;
+  }
+
   pub looks_of : {A : Type 0} (items : A → List Row) (result : Result A Error) → (IsTrue old.is_open → old.now ≡ old.committed) → IsLive old → (HasCleanDisk new → HasCleanDisk old)
       → (HasCleanDisk new → IfOk result (λ value. Shown sql [] old new (items value))) → (HasCleanDisk new → IfErr result (FailsToQuery sql [] old new)) → LooksOf own (λ db value. ShowsAll (db.trees tree) (items value)) old new result
   looks_of items (Ok value) settled live clean ok err = record {
@@ -50,14 +60,7 @@ module _ (own : Schema) (sql : List ℕ) (tree : ℕ) (rest : List Term) (names 
         let now = settled was_open in
         subst (λ (db : Database). ShowsAll (db.trees tree) (items value)) now (shows_all (live was_open).0 (ap (λ (db : Database). db.schema) now ∙ schema) (items value) (ok c));
   }
-  looks_of items (Err e) settled live clean ok err = record {
-    clean = clean;
-    was_open = λ c is_open. query_open old new sql [] e (err c) is_open;
-    same = λ c is_open schema.
-        let now = settled (query_open old new sql [] e (err c) is_open) in
-        (query_keeps sql [] old new (under now schema) e (err c)).committed is_open;
-    shows = λ c is_open schema. tt;
-  }
+  looks_of items (Err e) settled live clean ok err = looks_err _ e e settled clean err
 
 -- so over a site's tables
 module _ (sql : List ℕ) (tree : ℕ) (rest : List Term) (names : List (List ℕ)) (is : command_of (understood site_schema sql) ≡ lists tree (col 1 0 ∷ rest) names) (plain : IsPlain (understood site_schema sql))

@@ -116,7 +116,7 @@ answered = answered_in []
 abbrev pub by_number : List (Term × Key)
 by_number = (col 1 0, ascending Binary) ∷ []
 
-has_at : {X : Type 0} (xs : List X) (k : ℕ) (d : X) → k < length xs → Has xs (slice_index_or xs k d)
+pub has_at : {X : Type 0} (xs : List X) (k : ℕ) (d : X) → k < length xs → Has xs (slice_index_or xs k d)
 has_at [] k d low = absurd (omega (arith, low))
 has_at (x ∷ xs) zero d low = inl refl
 has_at (x ∷ xs) (suc k) d low = inr (has_at xs k d (omega (arith, low)))

@@ -47,10 +47,10 @@ place_of (first ∷ rows) row (inr later) = let at = place_of rows row later in 
 abbrev IsNext : List Row → ℕ → Bool → Type 0
 IsNext rows k first = MatchBool first (is_int (rowid (row_at rows (suc k))) ≡ true) (Follows (row_at rows (suc k - 1)) (row_at rows (suc k)))
 
-not_first : (k : ℕ) → (suc k == 0) ≡ false
+pub not_first : (k : ℕ) → (suc k == 0) ≡ false
 not_first k = false_from_ne_true (suc k == 0) (λ is. let none : suc k ≡ 0 = (Decides-eqb (suc k) 0).0 is in absurd (omega (arith, none)))
 
-less_one : (k : ℕ) → suc k - 1 ≡ k
+pub less_one : (k : ℕ) → suc k - 1 ≡ k
 less_one k = omega arith
 
 module _ (rows : List Row) (numbered : AreNumbered rows) where

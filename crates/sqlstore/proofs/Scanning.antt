@@ -22,6 +22,7 @@ use Rattle.terms.specs.declared.value.Value.{Value}
 use Rattle.terms.specs.Leaf.{leaf_text, leaf_cmp}
 use Rattle.sqlstore.specs.Cells.{text_at, int_at, is_int}
 use Rattle.sqlstore.specs.Content.{decoded, leaf_named, is_leaf, is_called, content_in}
+use Rattle.sqlstore.specs.Gathered.{ShowsAll}
 use Rattle.sqlstore.specs.Listed.{HasCells, AreRowsOf, part_terms, with_part, with_row, with_rows}
 use Rattle.sqlstore.specs.Sound.{IsStored, IsPart}
 use Rattle.sqlstore.specs.Tests.{shown}
@@ -54,6 +55,13 @@ look_rows leaves slot (row ∷ rows) changes =
       ]
     ]
 
+-- a leaf has one part at a key
+same_part : (leaves : List Leaf) (db : Database) → IsDatabase db → IsStored leaves db → (leaf : Leaf) (key : ℤ) (one other : Row) → Has (db.trees 0) one → Has (db.trees 0) other → is_part_at leaves leaf key one ≡ true → is_part_at leaves leaf key other ≡ true → one ≡ other
+same_part leaves db sound stored leaf key one other h k at also =
+    let a = and_parts (is_called leaves leaf (text_at one 1)) (is_int key (int_at one 2)) at in
+    let b = and_parts (is_called leaves leaf (text_at other 1)) (is_int key (int_at other 2)) also in
+    part_once db sound stored.tables one other h k (called_text leaves leaf (text_at one 1) a.0 ∙ sym (called_text leaves leaf (text_at other 1) b.0)) (sym (int_same key (int_at one 2) a.1) ∙ int_same key (int_at other 2) b.1)
+
 module _ (leaves : List Leaf) (db : Database) (sound : IsDatabase db) (stored : IsStored leaves db) (leaf : Leaf) (rows : List Row) (finds : AreRowsOf (leaf_text leaf) (db.trees 0) rows) where
   -- a row that is shown has the cells of a row of the table
   from_table : (it : Row) → Has rows it → (row : Row) × Has (db.trees 0) row × (it ≡ shown part_terms (Text (leaf_text leaf) ∷ []) row)
@@ -76,18 +84,12 @@ module _ (leaves : List Leaf) (db : Database) (sound : IsDatabase db) (stored : 
       let both = and_parts (is_called leaves leaf (text_at row 1)) (is_int key (int_at row 2)) at in
       finds.all row there (of_leaf_of (leaf_text leaf) row (part_typed db sound stored.tables row there) ∙ same_text (text_at row 1) (leaf_text leaf) (called_text leaves leaf (text_at row 1) both.0))
 
-  one_part : (key : ℤ) (one other : Row) → Has (db.trees 0) one → Has (db.trees 0) other → is_part_at leaves leaf key one ≡ true → is_part_at leaves leaf key other ≡ true → one ≡ other
-  one_part key one other h k at also =
-      let a = and_parts (is_called leaves leaf (text_at one 1)) (is_int key (int_at one 2)) at in
-      let b = and_parts (is_called leaves leaf (text_at other 1)) (is_int key (int_at other 2)) also in
-      part_once db sound stored.tables one other h k (called_text leaves leaf (text_at one 1) a.0 ∙ sym (called_text leaves leaf (text_at other 1) b.0)) (sym (int_same key (int_at one 2) a.1) ∙ int_same key (int_at other 2) b.1)
-
   go : (key : ℤ) (put : Option (Option (List Value))) (found : Option (List Value)) → LooksIn leaves (slot_of leaf key) rows None put → LooksUp (is_part_at leaves leaf key) (λ row. decoded (text_at row 3)) (db.trees 0) found → unwrap_or put None ≡ found
   unfolding LooksIn
   go key put found (inl shown_row) (at_row row there at shows) =
       let from = from_table shown_row.0 shown_row.1 in
       let also : is_part_at leaves leaf key from.0 ≡ true = subst (λ r. is_part_at leaves leaf key r ≡ true) from.2 shown_row.2 in
-      let same = one_part key from.0 row from.1 there also at in
+      let same = same_part leaves db sound stored leaf key from.0 row from.1 there also at in
       ap (λ p. unwrap_or p None) shown_row.3 ∙ ap (λ r. Some (decoded (text_at r 3))) from.2 ∙ ap (λ r. Some (decoded (text_at r 3))) same ∙ sym shows
   go key put found (inl shown_row) (nowhere idle nothing) =
       let from = from_table shown_row.0 shown_row.1 in
@@ -106,3 +108,21 @@ module _ (leaves : List Leaf) (db : Database) (sound : IsDatabase db) (stored : 
   pub listed_as : (conds : List Cond) (result : Result (Vec (List Value) Global) StoreFault) → IfOk result (λ found. found.items ≡ parts conds (made_by (with_rows leaves rows map.empty) leaf)) → IfOk result (λ found. found.items ≡ parts conds (content_in leaves (db.trees 0) leaf))
   listed_as conds (Ok found) is = is ∙ ap (parts conds) scanned
   listed_as conds (Err fault) is = tt
+
+-- what all rows make of nothing is each leaf's content
+module _ (leaves : List Leaf) (db : Database) (sound : IsDatabase db) (stored : IsStored leaves db) (rows : List Row) (shows : ShowsAll (db.trees 0) rows) (leaf : Leaf) where
+  found_same : (key : ℤ) (put : Option (Option (List Value))) (found : Option (List Value)) → LooksIn leaves (slot_of leaf key) rows None put → LooksUp (is_part_at leaves leaf key) (λ row. decoded (text_at row 3)) (db.trees 0) found → unwrap_or put None ≡ found
+  unfolding LooksIn
+  found_same key put found (inl shown_row) (at_row row there at is) =
+      let same = same_part leaves db sound stored leaf key shown_row.0 row (shows.sound shown_row.0 shown_row.1) there shown_row.2 at in
+      ap (λ p. unwrap_or p None) shown_row.3 ∙ ap (λ r. Some (decoded (text_at r 3))) same ∙ sym is
+  found_same key put found (inl shown_row) (nowhere idle nothing) = absurd (both_ways (is_part_at leaves leaf key shown_row.0) (idle shown_row.0 (shows.sound shown_row.0 shown_row.1)) shown_row.2)
+  found_same key put found (inr idle) (at_row row there at is) = absurd (both_ways (is_part_at leaves leaf key row) (idle.0 row (shows.all row there)) at)
+  found_same key put found (inr idle) (nowhere none nothing) = ap (λ p. unwrap_or p None) idle.1 ∙ sym nothing
+
+  pub walked_parts : (parts : Changes) → parts ≡ with_rows leaves rows map.empty → made_by parts leaf ≡ content_in leaves (db.trees 0) leaf
+  walked_parts parts put =
+      ap (λ (changes : Changes). made_by changes leaf) put
+      ∙ same_content _ _ (λ key.
+      get-made_by (with_rows leaves rows map.empty) leaf key
+      ∙ found_same key _ _ (subst (λ before. LooksIn leaves (slot_of leaf key) rows before (map.get (with_rows leaves rows map.empty) (slot_of leaf key))) (map.get-empty slot_cmp (slot_of leaf key)) (look_rows leaves (slot_of leaf key) rows map.empty)) (look_content leaves leaf key (db.trees 0)))

@@ -48,7 +48,7 @@ same_back one other same = record {
   state = swapped (one.trees 6) (other.trees 6) same.state;
 }
 
-keyed_same : (one other : List Row) → HaveSame one other → AreKeyed one → AreKeyed other
+pub keyed_same : (one other : List Row) → HaveSame one other → AreKeyed one → AreKeyed other
 keyed_same one other same keyed = record {
   ints = λ row there. keyed.ints row (same.here row there);
   apart = λ a b h k is. keyed.apart a b (same.here a h) (same.here b k) is;

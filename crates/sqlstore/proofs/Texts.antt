@@ -16,6 +16,7 @@ use Rattle.sqlstore.specs.Gathered.{prepared_terms, intent_terms, state_terms}
 use Rattle.sqlstore.specs.Listed.{part_terms}
 use Rattle.sqlstore.specs.Tests.{of_leaf, at_slot, of_visit, puts_of_visit}
 use Rattle.sqlstore.specs.Tables.{site_schema}
+use Rattle.sqlstore.specs.Walk.{parts_text}
 
 -- ---- queries of one table
 
@@ -194,9 +195,6 @@ rows_unlisted = refl
 
 abbrev pub lists : ℕ → List Term → List (List ℕ) → Command
 lists table project names = Select (record { lets = []; body = record (simple table [] project []) { order = (col 1 0, ascending Binary) ∷ [] } }) names
-
-abbrev pub parts_text : List ℕ
-parts_text = codes "SELECT rowid, leaf, id, body FROM part ORDER BY rowid"
 
 abbrev pub parts_names : List (List ℕ)
 parts_names = codes "rowid" ∷ codes "leaf" ∷ codes "id" ∷ codes "body" ∷ []

@@ -1,8 +1,8 @@
 -- All rows of a site's tables, as queries show them.
-use Rattle.std.specs.Prelude.{◌≡◌, pos, ◌≤ℤ◌, Bool, true, ◌&&◌, Result, IfOk, IsTrue, List, [], ◌∷◌, slice_index_or}
+use Rattle.std.specs.Prelude.{◌≡◌, ◌≢◌, pos, ◌≤ℤ◌, true, Option, IsSome, if◌then◌else◌, Result, IfOk, IsTrue, List, [], ◌∷◌, slice_index_or}
 use Rattle.std.specs.FinMap as map
-use Rattle.std.specs.List.{AllByRecursion, list_all, list_any}
-use Rattle.std.specs.Ordering.{int_eq}
+use Rattle.std.specs.List.{AllByRecursion}
+use Rattle.std.specs.Option.{option_map}
 use Rattle.std.specs.List.Sorted.{IsSorted}
 use Rattle.sqlite.specs.Effect.{Database}
 use Rattle.sqlite.specs.Order.{Row, value_cmp}
@@ -11,14 +11,16 @@ use Rattle.sqlite.specs.State.{State, HasCleanDisk}
 use Rattle.sqlite.specs.Term.{Term, lit, col}
 use Rattle.sqlite.specs.Tree.{rowid}
 use Rattle.sqlite.specs.declared.types.Value.TheVariants.{Null}
-use Rattle.sqlite.specs.declared.error.Error.{Error}
 use Rattle.sqlite_rules.specs.Lists.{Has}
 use Rattle.sqlstore.specs.declared.gathered.Gathered.{Gathered}
-use Rattle.store.specs.Content.{Changes}
+use Rattle.store.specs.declared.name.Ticket.{Ticket}
+use Rattle.store.specs.declared.prepared.Prepared.{Prepared}
+use Rattle.store.specs.declared.prepared.PreparedRow.{PreparedRow}
 use Rattle.terms.specs.declared.leaf.Leaf.{Leaf}
-use Rattle.sqlstore.specs.Cells.{int_at}
-use Rattle.sqlstore.specs.Listed.{with_row}
+use Rattle.sqlstore.specs.Cells.{int_at, text_at}
+use Rattle.sqlstore.specs.Content.{is_of, leaf_named, with_intent}
 use Rattle.sqlstore.specs.Numbered.{AreNumbered}
+use Rattle.sqlstore.specs.Sound.{AreOfOne}
 use Rattle.sqlstore.specs.Tables.{site_schema}
 
 -- the columns of a prepared row, of an intent and of an incarnation, in the places that their tables have them
@@ -50,38 +52,43 @@ gathered parts tables = record {
   trees = λ tree. slice_index_or (parts ∷ [] ∷ tables.prepared.items ∷ [] ∷ tables.intents.items ∷ [] ∷ tables.state.items ∷ []) tree [];
 }
 
--- the parts of rows, as the changes that make them of nothing, the first row last
-abbrev pub parts_in : List Leaf → List Row → Changes
-parts_in leaves [] = map.empty
-parts_in leaves (row ∷ rows) = with_row leaves row (parts_in leaves rows)
+-- an intent has its prepared row among rows
+abbrev pub IsPromised : List Row → Row → Type 0
+IsPromised rows intent = (row : Row) × Has rows row × AreOfOne row intent
 
--- whether two rows are of one ticket
-abbrev pub is_of_one : Row → Row → Bool
-is_of_one one other = int_eq (int_at one 1) (int_at other 1) && int_eq (int_at one 2) (int_at other 2)
+-- a prepared row with an intent more
+abbrev pub with_more : List Leaf → Row → Prepared → Prepared
+with_more leaves intent row = record row { changes = with_intent (leaf_named leaves (text_at intent 3)) (int_at intent 4) (text_at intent 5) row.changes }
 
--- whether for each row there is one of the same ticket among others
-abbrev pub are_matched : List Row → List Row → Bool
-are_matched rows others = list_all (λ row. list_any (is_of_one row) others) rows
+-- what a ticket's row prepares, with an intent more where the intent is the ticket's
+abbrev pub with_own : List Leaf → Row → Ticket → Option Prepared → Option Prepared
+with_own leaves intent ticket found = if is_of ticket intent then option_map (with_more leaves intent) found else found
+
+-- the ticket of an intent has a row
+abbrev pub HasRow : (Ticket → Option Prepared) → Row → Type 0
+HasRow found intent = (ticket : Ticket) × (is_of ticket intent ≡ true) × IsSome (found ticket)
+
+-- a row changes something
+abbrev pub HasChanges : PreparedRow → Type 0
+HasChanges row = row.prepared.changes ≢ map.empty
 
 -- no incarnation is below zero
 abbrev pub AreBegun : List Row → Type 0
 AreBegun rows = AllByRecursion (λ row. pos 0 ≤ℤ int_at row 2) rows
 
--- each row has a number of its own, each prepared row an intent, and each intent its prepared row
-pub record AreConsistent (tables : Gathered) : Type 0 where
+-- each row has a number of its own
+pub record AreAllNumbered (tables : Gathered) : Type 0 where
   pub prepared : AreNumbered tables.prepared.items
   pub intents : AreNumbered tables.intents.items
   pub state : AreNumbered tables.state.items
-  pub intended : are_matched tables.prepared.items tables.intents.items ≡ true
-  pub promised : are_matched tables.intents.items tables.prepared.items ≡ true
 
 -- a query outside of a transaction: where the tables are those of a store it leaves what is committed, and shows this of it
-pub record LooksOf {A : Type 0} (own : Schema) (P : Database → A → Type 0) (old new : State) (result : Result A Error) : Type 0 where
+pub record LooksOf {A E : Type 0} (own : Schema) (P : Database → A → Type 0) (old new : State) (result : Result A E) : Type 0 where
   pub clean : HasCleanDisk new → HasCleanDisk old
   pub was_open : HasCleanDisk new → IsTrue new.is_open → IsTrue old.is_open
   pub same : HasCleanDisk new → IsTrue new.is_open → old.committed.schema ≡ own → new.committed ≡ old.committed
   pub shows : HasCleanDisk new → IsTrue new.is_open → old.committed.schema ≡ own → IfOk result (P old.committed)
 
 -- so where the tables are a site's
-abbrev pub Looks : {A : Type 0} → (Database → A → Type 0) → State → State → Result A Error → Type 0
+abbrev pub Looks : {A E : Type 0} → (Database → A → Type 0) → State → State → Result A E → Type 0
 Looks P old new result = LooksOf site_schema P old new result

@@ -22,8 +22,10 @@ pub mod DeskQuery
 pub mod DeskFresh
 pub mod Desk
 -- What a store is to its callers.
+pub mod Blame
 pub mod Listed
 pub mod Gathered
+pub mod Walk
 pub mod DeskRows
 pub mod Fresh
 pub mod Site

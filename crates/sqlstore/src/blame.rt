@@ -2,6 +2,7 @@
 
 ghost use Rattle.std.specs.Prelude.{◌≡◌, ◌≢◌, ◌≤◌};
 ghost use Rattle.store.specs.Fault.{HasRefused};
+ghost use Rattle.sqlstore.specs.Blame.{opening_fault};
 ghost use Rattle.store.specs.declared.fault.StoreFault.TheVariants.{Refused, Damaged};
 
 use sqlite::{Error, ErrorCode};
@@ -35,6 +36,19 @@ pub fn cause(error: Error) -> StoreFault
 {
     match error {
         Error::SqliteFailure(ErrorCode::OutOfMemory) => StoreFault::Memory,
+        _ => StoreFault::Refused,
+    }
+}
+
+/// The fault that an error at the opening of a file is. A file that holds no sound database is damaged.
+pub fn opening_fault(error: Error) -> StoreFault
+    ensures { result ≡ opening_fault error }
+{
+    match error {
+        Error::SqliteFailure(ErrorCode::OutOfMemory) => StoreFault::Memory,
+        Error::SqliteFailure(ErrorCode::NotADatabase | ErrorCode::DatabaseCorrupt) => {
+            StoreFault::Damaged
+        }
         _ => StoreFault::Refused,
     }
 }

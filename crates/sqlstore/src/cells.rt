@@ -1,6 +1,6 @@
 //! Cells of rows, read as what their columns hold.
 
-ghost use Rattle.std.specs.Prelude.{◌≡◌, ◌≤ℤ◌, pos, MatchOption};
+ghost use Rattle.std.specs.Prelude.{◌≡◌, ◌≤ℤ◌, pos, true, MatchOption};
 ghost use Rattle.sqlstore.specs.Cells.{text_at, int_at};
 ghost use Rattle.sqlstore.specs.Content.{is_of};
 
@@ -40,9 +40,12 @@ pub fn natural_in(row: &Row, at: usize) -> Option<u64>
     }
 }
 
-/// Whether a row is a ticket's.
-pub fn is_of(row: &Row, ticket: Ticket) -> bool
-    ensures { result ≡ is_of ticket row.now }
+/// A row's ticket, if its numbers aren't below zero.
+pub fn ticket_in(row: &Row) -> Option<Ticket>
+    ensures { MatchOption result (¬ ((pos 0 ≤ℤ int_at row.now 1) × (pos 0 ≤ℤ int_at row.now 2))) (λ ticket. is_of ticket row.now ≡ true) }
 {
-    natural_in(row, 1) == Some(ticket.life) && natural_in(row, 2) == Some(ticket.visit)
+    Some(Ticket {
+        life: natural_in(row, 1)?,
+        visit: natural_in(row, 2)?,
+    })
 }

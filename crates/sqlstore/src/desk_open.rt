@@ -12,12 +12,12 @@ ghost use Rattle.sqlstore.specs.DeskTables.{desk_schema};
 ghost use Rattle.sqlstore.specs.Site.{IsClean};
 ghost use Rattle.sqlstore.specs.Tables.{no_schema};
 
-use crate::blame::cause;
+use crate::blame::{cause, opening_fault};
 use crate::desk::SqlDesk;
 use crate::desk_schema::is_desk_schema;
 use crate::desk_tables::create;
 use crate::open::is_empty;
-use sqlite::{Alter, Connection, Error, ErrorCode, File, FileStore, MemStore};
+use sqlite::{Alter, Connection, File, FileStore, MemStore};
 use std::alloc::Global;
 use std::rt::HostRuntime;
 use store::fault::StoreFault;
@@ -95,8 +95,7 @@ impl SqlDesk<FileStore<File>> {
     {
         let conn = match Connection::open(rt, path) {
             Ok(conn) => conn,
-            Err(Error::SqliteFailure(ErrorCode::NotADatabase)) => return Err(StoreFault::Damaged),
-            Err(error) => return Err(cause(error)),
+            Err(error) => return Err(opening_fault(error)),
         };
         match SqlDesk::adopt(rt.alloc(), conn) {
             Ok(desk) => Ok(desk),

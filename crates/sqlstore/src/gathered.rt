@@ -14,17 +14,6 @@ pub struct Gathered {
     pub state: Vec<Row>,
 }
 
-/// The rows of parts.
-fn part_rows<S: Alter>(conn: &mut Connection<S>) -> Result<Vec<Row>, Error>
-    requires { conn.old.in_transaction ≡ false }
-    ensures looks { Looks (λ db rows. ShowsAll (db.trees 0) rows.items) (state S.Store conn.old) (state S.Store conn.new) result }
-    ensures mode { conn.new.in_transaction ≡ false }
-{
-    let _live = conn.schema();
-    let _settled = conn.is_autocommit();
-    conn.query_all("SELECT rowid, leaf, id, body FROM part ORDER BY rowid", &[])
-}
-
 fn prepared_rows<S: Alter>(conn: &mut Connection<S>) -> Result<Vec<Row>, Error>
     requires { conn.old.in_transaction ≡ false }
     ensures looks { Looks (λ db rows. ShowsAll (db.trees 2) rows.items) (state S.Store conn.old) (state S.Store conn.new) result }
@@ -62,7 +51,7 @@ fn state_rows<S: Alter>(conn: &mut Connection<S>) -> Result<Vec<Row>, Error>
 }
 
 /// The rows of each table but that of parts.
-fn gather_beside<S: Alter>(conn: &mut Connection<S>) -> Result<Gathered, Error>
+pub fn gather<S: Alter>(conn: &mut Connection<S>) -> Result<Gathered, Error>
     requires { conn.old.in_transaction ≡ false }
     ensures looks { Looks ShowsTables (state S.Store conn.old) (state S.Store conn.new) result }
     ensures mode { conn.new.in_transaction ≡ false }
@@ -75,15 +64,4 @@ fn gather_beside<S: Alter>(conn: &mut Connection<S>) -> Result<Gathered, Error>
         intents,
         state,
     })
-}
-
-/// The rows of parts, and those of each other table.
-pub fn gather<S: Alter>(conn: &mut Connection<S>) -> Result<(Vec<Row>, Gathered), Error>
-    requires { conn.old.in_transaction ≡ false }
-    ensures looks { Looks (λ db all. ShowsAll (db.trees 0) all.0.items × ShowsTables db all.1) (state S.Store conn.old) (state S.Store conn.new) result }
-    ensures mode { conn.new.in_transaction ≡ false }
-{
-    let parts = part_rows(conn)?;
-    let tables = gather_beside(conn)?;
-    Ok((parts, tables))
 }

@@ -1,19 +1,24 @@
-//! The changes that a ticket's intents make.
+//! Intents are put into the changes of their tickets' rows.
 
-ghost use Rattle.std.specs.Prelude.{◌≡◌, ◌≢◌, ◌⊎◌, ◌≤◌, true, [], IfOk, OnOk, IsSome, Some, Err, if◌then◌else◌};
-ghost use Rattle.std.specs.List.{AllByRecursion};
+ghost use Rattle.std.specs.Prelude.{◌≡◌, ◌≢◌, ◌⊎◌, [], IfOk, OnOk, IsSome, Some, Err};
+ghost use Rattle.std.specs.BTreeMap as tree;
 ghost use Rattle.store.specs.declared.fault.StoreFault.TheVariants.{Refused, Damaged};
+ghost use Rattle.store.specs.declared.name.Ticket.{Ticket as Visit};
+ghost use Rattle.store.specs.Name.{ticket_cmp};
 ghost use Rattle.sqlstore.specs.Cells.{text_at, int_at};
-ghost use Rattle.sqlstore.specs.Content.{leaf_named, put_of, with_intent, changes_in, is_of};
+ghost use Rattle.sqlstore.specs.Content.{leaf_named, put_of, with_intent};
+ghost use Rattle.sqlstore.specs.Gathered.{HasRow, with_own};
 ghost use Rattle.sqlstore.specs.Sound.{IsIntent, SpellsAt};
 
-use crate::cells::{int_in, is_of, text_in};
+use crate::cells::{int_in, text_in, ticket_in};
 use crate::listing::named;
 use sqlite::Row;
 use std::alloc::Global;
+use std::collections::BTreeMap;
 use store::changes::Changes;
 use store::fault::StoreFault;
 use store::name::Ticket;
+use store::prepared::Prepared;
 use store::slot::Slot;
 use terms::copy::TryCopy;
 use terms::leaf::Leaf;
@@ -71,42 +76,23 @@ fn put_intent(
     Ok(())
 }
 
-/// Puts a row's intent into changes, where the row is a ticket's.
-fn put_own(
-    changes: &mut Changes,
+/// Puts an intent into the changes of its ticket's row.
+pub fn put_own(
+    map: &mut BTreeMap<Ticket, Prepared>,
     alloc: Global,
     leaves: &[Leaf],
-    ticket: Ticket,
     row: &Row,
 ) -> Result<(), StoreFault>
-    ensures ok { OnOk result (changes.new ≡ (if is_of ticket row.now then with_intent (leaf_named leaves.now (text_at row.now 3)) (int_at row.now 4) (text_at row.now 5) changes.old else changes.old)) }
-    ensures sound { OnOk result (is_of ticket row.now ≡ true → IsIntent leaves.now row.now) }
-    ensures intact { IsIntent leaves.now row.now → result ≢ Err Damaged }
+    ensures ok { OnOk result ((ticket : Visit) → tree.get ticket_cmp map.new ticket ≡ with_own leaves.now row.now ticket (tree.get ticket_cmp map.old ticket)) }
+    ensures sound { OnOk result (IsIntent leaves.now row.now × HasRow (tree.get ticket_cmp map.old) row.now) }
+    ensures intact { IsIntent leaves.now row.now → HasRow (tree.get ticket_cmp map.old) row.now → result ≢ Err Damaged }
     ensures kept { result ≢ Err Refused }
 {
-    if is_of(row, ticket) {
-        put_intent(changes, alloc, leaves, row)
-    } else {
-        Ok(())
+    let Some(ticket) = ticket_in(row) else {
+        return Err(StoreFault::Damaged);
+    };
+    match map.get_mut(&ticket) {
+        Some(prepared) => put_intent(&mut prepared.changes, alloc, leaves, row),
+        None => Err(StoreFault::Damaged),
     }
-}
-
-/// The changes that a ticket's intents make.
-pub fn changes_for(
-    alloc: Global,
-    leaves: &[Leaf],
-    ticket: Ticket,
-    intents: &[Row],
-) -> Result<Changes, StoreFault>
-    ensures ok { IfOk result (λ changes. (changes ≡ changes_in leaves.now intents.now ticket) × AllByRecursion (λ row. is_of ticket row ≡ true → IsIntent leaves.now row) intents.now) }
-    ensures intact { AllByRecursion (IsIntent leaves.now) intents.now → result ≢ Err Damaged }
-    ensures kept { result ≢ Err Refused }
-{
-    let mut changes = Changes::new(alloc);
-    let mut at = intents.len();
-    while at > 0 {
-        at -= 1;
-        put_own(&mut changes, alloc, leaves, ticket, &intents[at])?;
-    }
-    Ok(changes)
 }

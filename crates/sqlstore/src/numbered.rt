@@ -53,7 +53,7 @@ fn same_at(one: &Row, other: &Row, at: usize) -> bool
 }
 
 /// A row's number.
-fn number(row: &Row) -> Option<i64>
+pub fn number(row: &Row) -> Option<i64>
     ensures { MatchOption result (is_int (rowid row.now) ≡ false) (λ number. rowid row.now ≡ Int number) }
 {
     match row.get_ref(0) {
@@ -63,7 +63,7 @@ fn number(row: &Row) -> Option<i64>
 }
 
 /// Whether two rows have numbers, and the second a greater one, or are the same.
-fn follows(before: &Row, row: &Row) -> bool
+pub fn follows(before: &Row, row: &Row) -> bool
     ensures { Decides result (Follows before.now row.now) }
 {
     match (number(before), number(row)) {

@@ -10,11 +10,11 @@ ghost use Rattle.sqlstore.specs.Fresh.{Founds, KeepsNothing};
 ghost use Rattle.sqlstore.specs.Site.{IsClean, IsSound, kept_by};
 ghost use Rattle.sqlstore.specs.Tables.{no_schema, site_schema};
 
-use crate::blame::cause;
+use crate::blame::{cause, opening_fault};
 use crate::schema::is_site_schema;
 use crate::site::SqlSite;
 use crate::tables::create;
-use sqlite::{Alter, Connection, Error, ErrorCode, File, FileStore, MemStore};
+use sqlite::{Alter, Connection, File, FileStore, MemStore};
 use sqlite_schema::schema::Schema;
 use std::alloc::Global;
 use std::rt::HostRuntime;
@@ -106,8 +106,7 @@ impl SqlSite<FileStore<File>> {
     {
         let conn = match Connection::open(rt, path) {
             Ok(conn) => conn,
-            Err(Error::SqliteFailure(ErrorCode::NotADatabase)) => return Err(StoreFault::Damaged),
-            Err(error) => return Err(cause(error)),
+            Err(error) => return Err(opening_fault(error)),
         };
         match SqlSite::adopt(conn, leaves) {
             Ok(site) => Ok(site),

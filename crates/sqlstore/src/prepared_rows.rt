@@ -4,6 +4,7 @@ ghost use Rattle.std.specs.Prelude.{◌≡◌, ◌≢◌, MatchOption, IfOk, OnO
 ghost use Rattle.std.specs.Bool.{Decides};
 ghost use Rattle.std.specs.BTreeMap as tree;
 ghost use Rattle.std.specs.BTreeMap.{IsOrdered};
+ghost use Rattle.std.specs.FinMap as fin;
 ghost use Rattle.std.specs.List.{AllByRecursion};
 ghost use Rattle.store.specs.declared.fault.StoreFault.TheVariants.{Refused, Damaged};
 ghost use Rattle.store.specs.declared.name.Ticket.{Ticket as Visit};
@@ -12,17 +13,17 @@ ghost use Rattle.store.specs.RowList.{rows_of};
 ghost use Rattle.store.specs.SiteContent.{ListsRows};
 ghost use Rattle.sqlstore.specs.Cells.{int_at};
 ghost use Rattle.sqlstore.specs.Content.{changes_in, is_of, kept_of, life_in, prepared_in, row_as};
-ghost use Rattle.sqlstore.specs.Gathered.{gathered, AreBegun, AreConsistent};
-ghost use Rattle.sqlstore.specs.Sound.{AreOfOne, IsIntent, IsNumbered, IsStored};
+ghost use Rattle.sqlstore.specs.Gathered.{gathered, AreAllNumbered, AreBegun, HasChanges, IsPromised};
+ghost use Rattle.sqlstore.specs.Sound.{IsIntent, IsNumbered, IsStored};
 
-use crate::cells::natural_in;
-use crate::checking::{are_begun, are_matched};
+use crate::cells::{int_in, natural_in, ticket_in};
 use crate::gathered::Gathered;
-use crate::intended::changes_for;
+use crate::intended::put_own;
 use crate::numbered::are_numbered;
 use sqlite::Row;
 use std::alloc::Global;
 use std::collections::BTreeMap;
+use store::changes::Changes;
 use store::fault::StoreFault;
 use store::name::{Ticket, Txn};
 use store::prepared::{Prepared, PreparedRow, SiteRows};
@@ -35,10 +36,7 @@ use terms::seq::Seq;
 fn names_in(row: &Row) -> Option<(Ticket, Txn)>
     ensures { MatchOption result (¬ IsNumbered row.now) (λ names. IsNumbered row.now × (is_of names.0 row.now ≡ true) × (names.1 ≡ record { life = unsigned_abs (int_at row.now 3); number = unsigned_abs (int_at row.now 4) })) }
 {
-    let ticket = Ticket {
-        life: natural_in(row, 1)?,
-        visit: natural_in(row, 2)?,
-    };
+    let ticket = ticket_in(row)?;
     let txn = Txn {
         life: natural_in(row, 3)?,
         number: natural_in(row, 4)?,
@@ -46,30 +44,44 @@ fn names_in(row: &Row) -> Option<(Ticket, Txn)>
     Some((ticket, txn))
 }
 
-/// Puts what a row prepares into a map.
+/// Puts a row that prepares nothing yet into a map.
 fn put_prepared(
     map: &mut BTreeMap<Ticket, Prepared>,
     alloc: Global,
-    leaves: &[Leaf],
     row: &Row,
-    intents: &[Row],
 ) -> Result<(), StoreFault>
-    ensures ok { OnOk result ((ticket : Visit) → tree.get ticket_cmp map.new ticket ≡ (if is_of ticket row.now then Some (row_as row.now (changes_in leaves.now intents.now ticket)) else tree.get ticket_cmp map.old ticket)) }
-    ensures sound { OnOk result (IsNumbered row.now × AllByRecursion (λ intent. AreOfOne row.now intent → IsIntent leaves.now intent) intents.now) }
-    ensures intact { IsNumbered row.now → AllByRecursion (IsIntent leaves.now) intents.now → result ≢ Err Damaged }
+    ensures ok { OnOk result ((ticket : Visit) → tree.get ticket_cmp map.new ticket ≡ (if is_of ticket row.now then Some (row_as row.now fin.empty) else tree.get ticket_cmp map.old ticket)) }
+    ensures sound { OnOk result (IsNumbered row.now) }
+    ensures intact { IsNumbered row.now → result ≢ Err Damaged }
     ensures kept { result ≢ Err Refused }
 {
     let Some((ticket, txn)) = names_in(row) else {
         return Err(StoreFault::Damaged);
     };
-    let changes = changes_for(alloc, leaves, ticket, intents)?;
+    let changes = Changes::new(alloc);
     match map.insert(ticket, Prepared { txn, changes }) {
         Ok(_) => Ok(()),
         Err(_) => Err(StoreFault::Memory),
     }
 }
 
-/// What rows prepare, by ticket.
+/// The rows by their tickets, with no changes yet.
+fn tickets_of(alloc: Global, rows: &[Row]) -> Result<BTreeMap<Ticket, Prepared>, StoreFault>
+    ensures ok { IfOk result (λ map. (ticket : Visit) → tree.get ticket_cmp map ticket ≡ prepared_in rows.now fin.empty ticket) }
+    ensures sound { OnOk result (AllByRecursion IsNumbered rows.now) }
+    ensures intact { AllByRecursion IsNumbered rows.now → result ≢ Err Damaged }
+    ensures kept { result ≢ Err Refused }
+{
+    let mut map = BTreeMap::new(alloc);
+    let mut at = rows.len();
+    while at > 0 {
+        at -= 1;
+        put_prepared(&mut map, alloc, &rows[at])?;
+    }
+    Ok(map)
+}
+
+/// What rows prepare, by ticket: each intent is put into the changes of its ticket's row.
 fn prepared_of(
     alloc: Global,
     leaves: &[Leaf],
@@ -77,15 +89,15 @@ fn prepared_of(
     intents: &[Row],
 ) -> Result<BTreeMap<Ticket, Prepared>, StoreFault>
     ensures ok { IfOk result (λ map. (ticket : Visit) → tree.get ticket_cmp map ticket ≡ prepared_in rows.now (changes_in leaves.now intents.now ticket) ticket) }
-    ensures sound { OnOk result (AllByRecursion IsNumbered rows.now × AllByRecursion (λ row. AllByRecursion (λ intent. AreOfOne row intent → IsIntent leaves.now intent) intents.now) rows.now) }
-    ensures intact { AllByRecursion IsNumbered rows.now → AllByRecursion (IsIntent leaves.now) intents.now → result ≢ Err Damaged }
+    ensures sound { OnOk result (AllByRecursion IsNumbered rows.now × AllByRecursion (λ intent. IsIntent leaves.now intent × IsPromised rows.now intent) intents.now) }
+    ensures intact { AllByRecursion IsNumbered rows.now → AllByRecursion (λ intent. IsIntent leaves.now intent × IsPromised rows.now intent) intents.now → result ≢ Err Damaged }
     ensures kept { result ≢ Err Refused }
 {
-    let mut map = BTreeMap::new(alloc);
-    let mut at = rows.len();
+    let mut map = tickets_of(alloc, rows)?;
+    let mut at = intents.len();
     while at > 0 {
         at -= 1;
-        put_prepared(&mut map, alloc, leaves, &rows[at], intents)?;
+        put_own(&mut map, alloc, leaves, &intents[at])?;
     }
     Ok(map)
 }
@@ -109,6 +121,13 @@ fn list_prepared(
     Ok(Seq::new(rows))
 }
 
+/// Whether no incarnation is below zero.
+fn are_begun(rows: &[Row]) -> bool
+    ensures { Decides result (AreBegun rows.now) }
+{
+    rows.iter().all(|row| int_in(row, 2) >= 0)
+}
+
 /// The incarnation that rows say: none has begun where there is no row.
 fn life_of(rows: &[Row]) -> Option<u64>
     ensures { MatchOption result (¬ AreBegun rows.now) (λ life. AreBegun rows.now × (life ≡ life_in rows.now)) }
@@ -122,33 +141,43 @@ fn life_of(rows: &[Row]) -> Option<u64>
     }
 }
 
-/// Whether each row has a number of its own, each prepared row an intent, and each intent its prepared row.
-fn are_consistent(tables: &Gathered) -> bool
-    ensures { Decides result (AreConsistent tables.now) }
+/// Whether each row has a number of its own.
+fn are_all_numbered(tables: &Gathered) -> bool
+    ensures { Decides result (AreAllNumbered tables.now) }
 {
-    are_numbered(&tables.prepared)
-        && are_numbered(&tables.intents)
-        && are_numbered(&tables.state)
-        && are_matched(&tables.prepared, &tables.intents)
-        && are_matched(&tables.intents, &tables.prepared)
+    are_numbered(&tables.prepared) && are_numbered(&tables.intents) && are_numbered(&tables.state)
+}
+
+/// Whether each row changes something.
+fn are_intended(rows: &[PreparedRow]) -> bool
+    ensures { Decides result (AllByRecursion HasChanges rows.now) }
+{
+    rows.iter().all(|row| has_changes(row))
+}
+
+fn has_changes(row: &PreparedRow) -> bool
+    ensures { Decides result (HasChanges row.now) }
+{
+    !row.prepared.changes.is_empty()
 }
 
 /// What tables keep beside the parts.
 pub fn site_rows(alloc: Global, leaves: &[Leaf], tables: &Gathered) -> Result<SiteRows, StoreFault>
     ensures all { IfOk result (ListsRows (kept_of leaves.now (gathered [] tables.now))) }
     ensures learnt { OnOk result (IsStored leaves.now (gathered [] tables.now)) }
-    ensures intact { IsStored leaves.now (gathered [] tables.now) → AreConsistent tables.now → result ≢ Err Damaged }
+    ensures intact { IsStored leaves.now (gathered [] tables.now) → AreAllNumbered tables.now → result ≢ Err Damaged }
     ensures kept { result ≢ Err Refused }
 {
-    if !are_consistent(tables) {
+    if !are_all_numbered(tables) {
         return Err(StoreFault::Damaged);
     }
     let Some(life) = life_of(&tables.state) else {
         return Err(StoreFault::Damaged);
     };
     let map = prepared_of(alloc, leaves, &tables.prepared, &tables.intents)?;
-    Ok(SiteRows {
-        prepared: list_prepared(alloc, &map)?,
-        life,
-    })
+    let prepared = list_prepared(alloc, &map)?;
+    if !are_intended(prepared.as_slice()) {
+        return Err(StoreFault::Damaged);
+    }
+    Ok(SiteRows { prepared, life })
 }

@@ -1,11 +1,14 @@
 //! Whether a schema is a site's.
 
-ghost use Rattle.std.specs.Prelude.{◌≡◌, ◌∷◌, [], IfOk};
+ghost use Rattle.std.specs.Prelude.{◌≡◌, ◌≢◌, ◌∷◌, [], Err, IfOk, OnOk, IsTrue, false};
 ghost use Rattle.std.specs.Bool.{Decides};
+ghost use Rattle.sqlite.specs.Held.{state};
 ghost use Rattle.sqlite_sql.specs.Syntax.{term_of};
+ghost use Rattle.store.specs.declared.fault.StoreFault.TheVariants.{Refused, Damaged};
 ghost use Rattle.sqlstore.specs.Schemas.{is_one, IsBare, IsKeyedBy, IsKeyedByNumber, keyed_table, index_of, site_indexes};
 ghost use Rattle.sqlstore.specs.Tables.{column_of, no_stamps, part_table, prepared_table, intent_table, state_table, site_schema};
 
+use sqlite::{Alter, Connection};
 use sqlite_items::Items;
 use sqlite_schema::code::Terms;
 use sqlite_schema::schema::{Column, Index, Kind, Schema, Stamps, Table};
@@ -14,6 +17,7 @@ use sqlite_sql::ops::{BinaryOp, CompareOp};
 use sqlite_value::keys::{Collation, Order};
 use sqlite_value::value::{Value, ValueRef};
 use std::alloc::Global;
+use store::fault::StoreFault;
 use terms::memory::Memory;
 
 /// Whether a column has this name and type, and is never NULL.
@@ -235,4 +239,19 @@ pub fn is_site_schema(alloc: Global, schema: &Schema) -> Result<bool, Memory>
         return Ok(false);
     }
     are_site_tables(alloc, schema.tables.as_slice())
+}
+
+/// The tables of a connection are a site's.
+pub fn test_schema<S: Alter>(alloc: Global, conn: &Connection<S>) -> Result<(), StoreFault>
+    requires { conn.now.in_transaction ≡ false }
+    ensures ours { OnOk result (IsTrue (state S.Store conn.now).is_open → (state S.Store conn.now).committed.schema ≡ site_schema) }
+    ensures intact { IsTrue (state S.Store conn.now).is_open → (state S.Store conn.now).committed.schema ≡ site_schema → result ≢ Err Damaged }
+    ensures kept { result ≢ Err Refused }
+{
+    let _settled = conn.is_autocommit();
+    match is_site_schema(alloc, conn.schema()) {
+        Ok(true) => Ok(()),
+        Ok(false) => Err(StoreFault::Damaged),
+        Err(_) => Err(StoreFault::Memory),
+    }
 }

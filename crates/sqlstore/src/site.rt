@@ -5,7 +5,7 @@ ghost use Rattle.sqlite.specs.Held.{state};
 ghost use Rattle.store.specs.Frame.{LeavesStore, Reads, ChangesOrFails};
 ghost use Rattle.store.specs.SiteContent.{IsUnchanged, MayPrepare, Prepares};
 ghost use Rattle.sqlstore.specs.Content.{AreNamed};
-ghost use Rattle.sqlstore.specs.Gathered.{ShowsAll, ShowsTables};
+ghost use Rattle.sqlstore.specs.Gathered.{ShowsTables};
 ghost use Rattle.sqlstore.specs.Site.{IsClean, IsSound, kept_by};
 ghost use Rattle.sqlstore.specs.Tables.{site_schema};
 
@@ -16,11 +16,13 @@ use crate::gathered::{Gathered, gather};
 use crate::keep::keep;
 use crate::life::live_next;
 use crate::listing::parts_meeting;
-use crate::loading::{all_of, rows_of, test_schema};
+use crate::prepared_rows::site_rows;
 use crate::promise::promise_of;
 use crate::reading::{committed_at, committed_of};
+use crate::schema::test_schema;
 use crate::visit::visit_of;
-use sqlite::{Alter, Connection, Row};
+use crate::walk::{check_parts, load_parts};
+use sqlite::{Alter, Connection};
 use store::changes::Changes;
 use store::fault::StoreFault;
 use store::name::{Ticket, Txn};
@@ -81,11 +83,11 @@ impl<S: Alter> SqlSite<S> {
         }
     }
 
-    /// The rows of parts, and those of each other table, where the tables are a site's.
-    fn gather(&mut self) -> Result<(Vec<Row>, Gathered), StoreFault>
+    /// The rows of each table but that of parts, where the tables are a site's.
+    fn gather(&mut self) -> Result<Gathered, StoreFault>
         ensures leaves { LeavesStore (λ s. IsClean S.Store s.conn) (λ s. IsSound S.Store s.leaves.items s.conn) (λ s. s.refusals) self.old self.new }
         ensures shows { IsClean S.Store self.new.conn
-            → IfOk result (λ all. ShowsAll ((state S.Store self.old.conn).committed.trees 0) all.0.items × ShowsTables (state S.Store self.old.conn).committed all.1 × ((state S.Store self.old.conn).committed.schema ≡ site_schema)) }
+            → IfOk result (λ tables. ShowsTables (state S.Store self.old.conn).committed tables × ((state S.Store self.old.conn).committed.schema ≡ site_schema)) }
         ensures same { IsClean S.Store self.new.conn → OnOk result ((state S.Store self.new.conn).committed ≡ (state S.Store self.old.conn).committed) }
         ensures site { self.new.leaves ≡ self.old.leaves }
         ensures reads { Reads (λ s. IsClean S.Store s.conn) (λ s. IsSound S.Store s.leaves.items s.conn) (λ s. kept_by S.Store s.leaves.items s.conn) IsUnchanged (λ s. s.refusals) self.old self.new result }
@@ -179,16 +181,22 @@ impl<S: Alter> SiteStore for SqlSite<S> {
 
     fn rows(&mut self) -> Result<SiteRows, StoreFault> {
         let _live = self.conn.schema();
-        let (parts, tables) = self.gather()?;
+        let tables = self.gather()?;
         let alloc = *self.leaves.allocator();
-        rows_of(alloc, self.leaves.as_slice(), &parts, &tables)
+        let leaves = self.leaves.as_slice();
+        let rows = site_rows(alloc, leaves, &tables)?;
+        check_parts(&mut self.conn, &mut self.refusals, alloc, leaves)?;
+        Ok(rows)
     }
 
     fn load(&mut self) -> Result<SiteKept, StoreFault> {
         let _live = self.conn.schema();
-        let (parts, tables) = self.gather()?;
+        let tables = self.gather()?;
         let alloc = *self.leaves.allocator();
-        all_of(alloc, self.leaves.as_slice(), &parts, &tables)
+        let leaves = self.leaves.as_slice();
+        let rows = site_rows(alloc, leaves, &tables)?;
+        let parts = load_parts(&mut self.conn, &mut self.refusals, alloc, leaves)?;
+        Ok(SiteKept { parts, rows })
     }
 
     fn refusals(&self) -> u64 {

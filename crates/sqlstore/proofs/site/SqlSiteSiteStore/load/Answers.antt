@@ -1,48 +1,84 @@
-use Rattle.std.proofs.Common.{◌≡◌, IfOk, sym, ap, subst₂}
+use Rattle.std.proofs.Common.{◌≡◌, true, ap, ◌∙◌, subst, subst₂, sym, rules}
 use Rattle.std.specs.declared.alloc.Global.{Global}
+use Rattle.std.specs.FinMap as map
 use Rattle.std.specs.Prelude.{Vec, List}
 use Rattle.sqlite.specs.Effect.{Database}
 use Rattle.sqlite.specs.Held.{state}
-use Rattle.store.specs.SiteContent.{Lists}
+use Rattle.store.specs.SiteContent.{IsUnchanged, Lists}
 use Rattle.terms.specs.declared.leaf.Leaf.{Leaf}
 use Rattle.sqlstore.specs.Content.{kept_of}
-use Rattle.sqlstore.proofs.Consistent.{on_ok}
-use Rattle.sqlstore.proofs.Showed.{learnt_all, stored_all, cells_all, numbered_all, consistent_all, all_learnt}
+use Rattle.sqlstore.specs.Site.{IsClean}
+use Rattle.sqlstore.specs.Walk.{AreParts, HasWalked}
+use Rattle.sqlstore.proofs.Showed.{all_listed, numbered_all, learnt_all, parts_all, stored_all}
 use Rattle.sqlstore.proofs.site.SqlSiteSiteStore.load.Goals as goal
 
 pub returns-clause-learnt : goal.returns-clause-learnt
 returns-clause-learnt g c now =
     let leaves = c.args.self.now.leaves.items in
     let old = (state g.S.Store c.args.self.now.conn).committed in
-    let sound = (c.schema-live.ensures.live (c.gather.ensures.leaves.clean now).1).1 in
-    let shows = c.in_ok-parts.ensures.shows now in
-    let site : c.gather.new.self.leaves.items ≡ leaves = ap (λ (v : Vec Leaf Global). v.items) c.in_ok-parts.ensures.site in
-    on_ok c.all_of.result (learnt_all leaves old sound shows.2 c.in_ok-parts.parts.items c.in_ok-parts.tables shows.0 shows.1) (rw (c.as_slice.ensures.value, c.deref.ensures.value, site) at c.all_of.ensures.learnt)
+    let looks = c.in_ok-parts.ensures.looks in
+    let late : IsClean g.S.Store c.gather.new.self.conn = (looks.clean now.0, looks.was_open now.0 now.1) in
+    let sound = (c.schema-live.ensures.live (c.gather.ensures.leaves.clean late).1).1 in
+    let shows = c.in_ok-tables.ensures.shows late in
+    let same = c.in_ok-tables.ensures.same late in
+    let site : c.gather.new.self.leaves.items ≡ leaves = ap (λ (v : Vec Leaf Global). v.items) c.in_ok-tables.ensures.site in
+    let parts = rw (c.as_slice-leaves.ensures.value, site) at (looks.shows now.0 now.1 (ap (λ (db : Database). db.schema) same ∙ shows.1)) in
+    learnt_all leaves old sound shows.1 c.in_ok-tables.tables shows.0 (rw (c.as_slice-leaves.ensures.value, site) at c.in_ok-rows.ensures.learnt) (subst (λ (db : Database). AreParts leaves (db.trees 0)) same parts.parts)
 
 pub returns-clause-all : goal.returns-clause-all
 returns-clause-all g c now =
     let leaves = c.args.self.now.leaves.items in
     let old = (state g.S.Store c.args.self.now.conn).committed in
-    let sound = (c.schema-live.ensures.live (c.gather.ensures.leaves.clean now).1).1 in
-    let shows = c.in_ok-parts.ensures.shows now in
-    let site : c.gather.new.self.leaves.items ≡ leaves = ap (λ (v : Vec Leaf Global). v.items) c.in_ok-parts.ensures.site in
-    subst₂ (λ (ls : List Leaf) (db : Database). IfOk c.all_of.result (Lists (kept_of ls db))) (sym site) (sym (c.in_ok-parts.ensures.same now))
-    (all_learnt leaves old sound shows.2 c.in_ok-parts.parts.items c.in_ok-parts.tables shows.0 shows.1 c.all_of.result (rw (c.as_slice.ensures.value, c.deref.ensures.value, site) at c.all_of.ensures.learnt)
-    (rw (c.as_slice.ensures.value, c.deref.ensures.value, site) at c.all_of.ensures.all))
+    let looks = c.in_ok-parts.ensures.looks in
+    let late : IsClean g.S.Store c.gather.new.self.conn = (looks.clean now.0, looks.was_open now.0 now.1) in
+    let sound = (c.schema-live.ensures.live (c.gather.ensures.leaves.clean late).1).1 in
+    let shows = c.in_ok-tables.ensures.shows late in
+    let same = c.in_ok-tables.ensures.same late in
+    let schema = ap (λ (db : Database). db.schema) same ∙ shows.1 in
+    let site : c.gather.new.self.leaves.items ≡ leaves = ap (λ (v : Vec Leaf Global). v.items) c.in_ok-tables.ensures.site in
+    let parts = rw (c.as_slice-leaves.ensures.value, site) at (looks.shows now.0 now.1 schema) in
+    let stored = learnt_all leaves old sound shows.1 c.in_ok-tables.tables shows.0 (rw (c.as_slice-leaves.ensures.value, site) at c.in_ok-rows.ensures.learnt) (subst (λ (db : Database). AreParts leaves (db.trees 0)) same parts.parts) in
+    let walked = subst (λ (db : Database). HasWalked leaves (db.trees 0) true map.empty c.in_ok-parts.parts) same parts in
+    let lists = all_listed leaves old sound shows.1 c.in_ok-tables.tables shows.0 stored c.in_ok-rows.rows c.in_ok-parts.parts (rw (c.as_slice-leaves.ensures.value, site) at c.in_ok-rows.ensures.all) walked in
+    subst₂ (λ (ls : List Leaf) (db : Database). Lists (kept_of ls db) (record { parts = c.in_ok-parts.parts; rows = c.in_ok-rows.rows })) (sym site) (sym (looks.same now.0 now.1 schema ∙ same)) lists
 
-pub returns-clause-reads : goal.returns-clause-reads
-returns-clause-reads g c =
+pub returns-in_err-rows-clause-reads : goal.returns-in_err-rows-clause-reads
+returns-in_err-rows-clause-reads g c =
     let leaves = c.args.self.now.leaves.items in
     let old = (state g.S.Store c.args.self.now.conn).committed in
-    let site : c.gather.new.self.leaves.items ≡ leaves = ap (λ (v : Vec Leaf Global). v.items) c.in_ok-parts.ensures.site in
+    let site : c.gather.new.self.leaves.items ≡ leaves = ap (λ (v : Vec Leaf Global). v.items) c.in_ok-tables.ensures.site in
     record {
       same = c.gather.ensures.reads.same;
-      refusal = λ refused. absurd (c.all_of.ensures.kept refused);
+      refusal = λ refused. absurd (search (rules, c.in_err-rows.ensures.kept));
       intact = λ now stored.
           let sound = (c.schema-live.ensures.live (c.gather.ensures.leaves.clean now).1).1 in
-          let shows = c.in_ok-parts.ensures.shows now in
-          let parts = c.in_ok-parts.parts.items in
-          let tables = c.in_ok-parts.tables in
-          (rw (c.as_slice.ensures.value, c.deref.ensures.value, site) at c.all_of.ensures.intact) (stored_all leaves old sound shows.2 parts tables shows.0 shows.1 stored) (numbered_all leaves old sound shows.2 parts tables shows.0 shows.1 stored)
-          (cells_all leaves old sound shows.2 parts tables shows.0 shows.1) (consistent_all leaves old sound shows.2 parts tables shows.0 shows.1 stored);
+          let shows = c.in_ok-tables.ensures.shows now in
+          let tables = c.in_ok-tables.tables in
+          let never = (rw (c.as_slice-leaves.ensures.value, site) at c.in_err-rows.ensures.intact) (stored_all leaves old sound shows.1 tables shows.0 stored) (numbered_all leaves old sound shows.1 tables shows.0 stored) in
+          search (rules, never);
+    }
+
+pub returns-in_err-parts-clause-reads : goal.returns-in_err-parts-clause-reads
+returns-in_err-parts-clause-reads g c =
+    let leaves = c.args.self.now.leaves.items in
+    let old = (state g.S.Store c.args.self.now.conn).committed in
+    let looks = c.load_parts.ensures.looks in
+    let site : c.gather.new.self.leaves.items ≡ leaves = ap (λ (v : Vec Leaf Global). v.items) c.in_ok-tables.ensures.site in
+    let late : IsClean g.S.Store c.load_parts.new.conn → IsClean g.S.Store c.gather.new.self.conn = λ now. (looks.clean now.0, looks.was_open now.0 now.1) in
+    record {
+      same = λ now stored.
+          let shows = c.in_ok-tables.ensures.shows (late now) in
+          let schema = ap (λ (db : Database). db.schema) (c.in_ok-tables.ensures.same (late now)) ∙ shows.1 in
+          subst (λ (db : Database). IsUnchanged (kept_of leaves old) (kept_of c.gather.new.self.leaves.items db)) (sym (looks.same now.0 now.1 schema)) (c.gather.ensures.reads.same (late now) stored);
+      refusal = λ refused.
+          let counts = c.gather.ensures.leaves.counts in
+          let grew = c.in_err-parts.ensures.refusal in
+          search (rules, counts, grew);
+      intact = λ now stored.
+          let shows = c.in_ok-tables.ensures.shows (late now) in
+          let same = c.in_ok-tables.ensures.same (late now) in
+          let sound = (c.schema-live.ensures.live (c.gather.ensures.leaves.clean (late now)).1).1 in
+          let parts = subst (λ (db : Database). AreParts leaves (db.trees 0)) (sym same) (parts_all leaves old sound shows.1 c.in_ok-tables.tables shows.0 stored) in
+          let never = (rw (c.as_slice-leaves.ensures.value, site) at c.in_err-parts.ensures.intact) now.0 now.1 (ap (λ (db : Database). db.schema) same ∙ shows.1) parts in
+          search (rules, never);
     }
