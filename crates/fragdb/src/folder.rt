@@ -29,19 +29,41 @@ pub fn enter<'a>(
 {
     let path = format!(in rt.alloc(); "{dir}/{CATALOGUE}")?;
     fs::create_dir_all(rt, dir).map_err(|error| refused(&error))?;
-    match fs::open(rt, path.as_str()) {
-        Ok(_) => {}
-        Err(error) if error.kind() == ErrorKind::NotFound => {
-            keep_text(rt, path.as_str(), source).map_err(|error| refused(&error))?;
-        }
-        Err(error) => return Err(refused(&error)),
-    }
-    let kept = fs::open(rt, path.as_str()).map_err(|error| refused(&error))?;
+    let kept = open_text(rt, path.as_str(), source).map_err(|error| refused(&error))?;
     match read_catalog(rt.alloc(), CATALOGUE, kept) {
-        Ok(kept) if is_same(&kept, catalog) => Ok(()),
-        Ok(_) | Err(CatalogFault::Refused(_)) => Err(damaged()),
+        Ok(kept) => {
+            if is_same(&kept, catalog) {
+                Ok(())
+            } else {
+                Err(damaged())
+            }
+        }
         Err(CatalogFault::Program(ProgramFault::Memory)) => Err(ProgramFault::Memory),
-        Err(CatalogFault::Program(_)) => Err(damaged()),
+        Err(_) => Err(damaged()),
+    }
+}
+
+/// Opens the file of a catalogue, which is written first where it isn't there.
+fn open_text(rt: &HostRuntime, path: &str, source: Option<&str>) -> io::Result<File> {
+    match fs::open(rt, path) {
+        Ok(kept) => Ok(kept),
+        Err(error) => make_text(rt, path, source, error),
+    }
+}
+
+/// Writes the file of a catalogue, if the error says that it isn't there, and opens it.
+fn make_text(
+    rt: &HostRuntime,
+    path: &str,
+    source: Option<&str>,
+    error: io::Error,
+) -> io::Result<File> {
+    match error.kind() {
+        ErrorKind::NotFound => {
+            keep_text(rt, path, source)?;
+            fs::open(rt, path)
+        }
+        _ => Err(error),
     }
 }
 

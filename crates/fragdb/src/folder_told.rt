@@ -1,5 +1,7 @@
 //! What is wrong in the folder of a database, told to a person.
 
+ghost use Rattle.std.specs.Prelude.{◌<◌, length};
+
 use crate::catalog_file::read_catalog;
 use crate::fault::ProgramFault;
 use crate::folder::CATALOGUE;
@@ -75,7 +77,9 @@ fn tell_site<E: Write>(
     catalog: &Catalog,
     place: usize,
     errors: &mut E,
-) -> io::Result<()> {
+) -> io::Result<()>
+    requires { place < length catalog.now.0 }
+{
     let found = match file_site(rt, dir, catalog, place) {
         Ok(mut site) => site.rows().err(),
         Err(fault) => store_fault(fault),

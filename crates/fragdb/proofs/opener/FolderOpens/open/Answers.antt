@@ -7,8 +7,8 @@ use Rattle.world.specs.Executed.{Stands}
 use Rattle.fragdb.specs.Origin.{Kept}
 use Rattle.fragdb.proofs.opener.FolderOpens.open.Goals as goal
 
-pub returns-in-Ok : goal.returns-in-Ok
-returns-in-Ok c = (
+pub returns-in-Ok-clause-ok : goal.returns-in-Ok-clause-ok
+returns-in-Ok-clause-ok c = (
   Kept _,
   (_, refl),
   record {

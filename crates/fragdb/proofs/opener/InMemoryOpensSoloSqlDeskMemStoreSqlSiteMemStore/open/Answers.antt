@@ -7,10 +7,10 @@ use Rattle.fragdb.specs.Origin.{New, no_rows}
 use Rattle.fragdb.specs.PlayLoad.{emptied}
 use Rattle.fragdb.proofs.SoloLemmas.{emptied-fits}
 use Rattle.fragdb.proofs.SqlStoresLemmas.{are_new}
-use Rattle.fragdb.proofs.opener.InMemoryOpens.open.Goals as goal
+use Rattle.fragdb.proofs.opener.InMemoryOpensSoloSqlDeskMemStoreSqlSiteMemStore.open.Goals as goal
 
-pub returns-in-Ok : goal.returns-in-Ok
-returns-in-Ok c =
+pub returns-in-Ok-clause-ok : goal.returns-in-Ok-clause-ok
+returns-in-Ok-clause-ok c =
     let catalogue = catalogue_of c.args.catalog.now in
     let empty : c.in_ok-whole.whole ≡ no_rows catalogue = c.in_ok-whole.ensures ∙ ap (λ schemas. emptied schemas finite.empty) c.schema.ensures.schemas in
     let fits_schema = subst (FitsSchema (schemas_of catalogue)) (sym empty) (emptied-fits (schemas_of catalogue)) in
