@@ -8,6 +8,7 @@ use crate::catalog_file::{CatalogFault, read_catalog};
 use crate::fault::ProgramFault;
 use crate::same_catalog::is_same;
 use catalog::catalogue::Catalog;
+use std::fs::File;
 use std::io::ErrorKind;
 use std::rt::HostRuntime;
 use std::{fs, io};

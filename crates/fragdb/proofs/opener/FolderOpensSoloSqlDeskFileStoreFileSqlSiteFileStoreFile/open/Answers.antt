@@ -5,7 +5,7 @@ use Rattle.store.specs.declared.name.Txn.{Txn}
 use Rattle.desk.specs.CatalogueDatabase.{database, fits}
 use Rattle.world.specs.Executed.{Stands}
 use Rattle.fragdb.specs.Origin.{Kept}
-use Rattle.fragdb.proofs.opener.FolderOpens.open.Goals as goal
+use Rattle.fragdb.proofs.opener.FolderOpensSoloSqlDeskFileStoreFileSqlSiteFileStoreFile.open.Goals as goal
 
 pub returns-in-Ok-clause-ok : goal.returns-in-Ok-clause-ok
 returns-in-Ok-clause-ok c = (
