@@ -27,6 +27,10 @@ pub data Origin : Type 0 where
   New : Origin
   Kept : (found : Found) → Origin
 
+-- what stores kept
+abbrev pub IsKept : Origin → Type 0
+IsKept origin = (found : Found) × (origin ≡ Kept found)
+
 -- the relations of a catalogue, with no row
 abbrev pub no_rows : Catalogue → Relations
 no_rows catalogue = emptied (schemas_of catalogue) finite.empty

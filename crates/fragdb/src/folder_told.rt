@@ -6,8 +6,10 @@ use crate::catalog_file::read_catalog;
 use crate::fault::ProgramFault;
 use crate::folder::CATALOGUE;
 use crate::same_catalog::same_relation;
-use crate::sql_stores::{file_desk, file_site};
+use crate::sql_stores::{OpensFiles, file_desk, file_site};
 use catalog::catalogue::Catalog;
+use sqlite::Alter;
+use std::alloc::Global;
 use std::io::{Read, Write};
 use std::rt::HostRuntime;
 use std::{fs, io};
@@ -18,8 +20,9 @@ use terms::same::same_all;
 
 /// Tells which files of a folder can't be used for a catalogue, which `catalog` gives, and why. Nothing is claimed of the
 /// words.
-pub fn tell_folder<C: Read + Drop, E: Write>(
+pub fn tell_folder<M: Alter + Drop, F: OpensFiles<M>, C: Read + Drop, E: Write>(
     rt: &HostRuntime,
+    files: &F,
     dir: &str,
     file: &str,
     catalog: C,
@@ -30,9 +33,9 @@ pub fn tell_folder<C: Read + Drop, E: Write>(
     };
     tell_catalogue(rt, dir, &catalog, errors)?;
     for place in 0..catalog.sites().len() {
-        tell_site(rt, dir, &catalog, place, errors)?;
+        tell_site(rt.alloc(), files, dir, &catalog, place, errors)?;
     }
-    tell_desk(rt, dir, errors)
+    tell_desk(rt.alloc(), files, dir, errors)
 }
 
 /// Tells what the folder's catalogue has otherwise than this one.
@@ -71,8 +74,9 @@ fn tell_catalogue<E: Write>(
 }
 
 /// Tells what is wrong with the file of the site of this number, if something is.
-fn tell_site<E: Write>(
-    rt: &HostRuntime,
+fn tell_site<M: Alter + Drop, F: OpensFiles<M>, E: Write>(
+    alloc: Global,
+    files: &F,
     dir: &str,
     catalog: &Catalog,
     place: usize,
@@ -80,7 +84,7 @@ fn tell_site<E: Write>(
 ) -> io::Result<()>
     requires { place < length catalog.now.0 }
 {
-    let found = match file_site(rt, dir, catalog, place) {
+    let found = match file_site(alloc, files, dir, catalog, place) {
         Ok(mut site) => site.rows().err(),
         Err(fault) => store_fault(fault),
     };
@@ -91,8 +95,13 @@ fn tell_site<E: Write>(
 }
 
 /// Tells what is wrong with the coordinator's file, if something is.
-fn tell_desk<E: Write>(rt: &HostRuntime, dir: &str, errors: &mut E) -> io::Result<()> {
-    let found = match file_desk(rt, dir) {
+fn tell_desk<M: Alter + Drop, F: OpensFiles<M>, E: Write>(
+    alloc: Global,
+    files: &F,
+    dir: &str,
+    errors: &mut E,
+) -> io::Result<()> {
+    let found = match file_desk(alloc, files, dir) {
         Ok(mut desk) => desk.load().err(),
         Err(fault) => store_fault(fault),
     };

@@ -56,8 +56,10 @@ use crate::opener::{Folder, InMemory, Lists, Opens};
 use crate::outcome::{Outcome, Status, exit};
 use crate::perform::{perform, perform_session};
 use crate::solo::SCRIPT_LIMIT;
+use crate::sql_stores::{Files, OpensFiles};
 use crate::usage::{Request, Stores, read_words, show_usage, unreadable_words};
 use crate::world_opener::OpensWorld;
+use sqlite::Alter;
 use std::alloc::Global;
 use std::io::{BufWriter, IsTerminal, Read, Write};
 use std::process::ExitCode;
@@ -99,11 +101,21 @@ fn do_request<W: Write, E: Write>(
     match request.stores() {
         Stores::Lists => do_request_over(rt, &Lists, &Lists, request, output, errors),
         Stores::InMemory => do_request_over(rt, &InMemory, &InMemory, request, output, errors),
-        Stores::Folder(dir) => {
-            let folder = Folder::new(rt, dir, request.catalog());
-            do_request_over(rt, &folder, &Lists, request, output, errors)
-        }
+        Stores::Folder(dir) => { do_request_in(rt, &Files::new(rt), dir, request, output, errors) }
     }
+}
+
+/// Does what a request asks for, over the stores of a folder, and tells what it came to.
+fn do_request_in<M: Alter + Drop, F: OpensFiles<M>, W: Write, E: Write>(
+    rt: &HostRuntime,
+    files: &F,
+    dir: &str,
+    request: Request<'_>,
+    output: &mut W,
+    errors: &mut E,
+) -> Status {
+    let folder = Folder::new(rt, files, dir, request.catalog());
+    do_request_over(rt, &folder, &Lists, request, output, errors)
 }
 
 /// Does what a request asks for, over the catalogue that it names or the built-in one, and tells what it came to.
@@ -412,7 +424,7 @@ fn explain_over<C: Read + Drop, E: Write>(
 ) -> io::Result<()> {
     match (request.stores(), outcome) {
         (Stores::Folder(dir), Outcome::Stopped(ProgramFault::Store { .. })) => {
-            tell_folder(rt, dir, file, catalog, errors)
+            tell_folder(rt, &Files::new(rt), dir, file, catalog, errors)
         }
         _ => explain_outcome(rt.alloc(), outcome, file, catalog, bytes, errors),
     }

@@ -10,11 +10,11 @@ use crate::database::Database;
 use crate::fault::ProgramFault;
 use crate::folder::enter;
 use crate::play_load::empty_relations;
-use crate::sql_stores::{file_desk, file_sites, memory_desk, memory_sites};
+use crate::sql_stores::{OpensFiles, file_desk, file_sites, memory_desk, memory_sites};
 use catalog::catalogue::Catalog;
 use desk::refusal::Refusal;
 use site::fault::SiteFault;
-use sqlite::{File, FileStore, MemStore};
+use sqlite::{Alter, MemStore};
 use sqlstore::desk::SqlDesk;
 use sqlstore::site::SqlSite;
 use std::alloc::Global;
@@ -87,34 +87,44 @@ impl Opens<Solo<SqlDesk<MemStore>, SqlSite<MemStore>>> for InMemory {
 
 /// Databases over the stores in SQLite that lie in a folder. They go on from what an earlier one left there.
 #[derive(Drop)]
-pub struct Folder<'f> {
+pub struct Folder<'f, F> {
     rt: &'f HostRuntime,
+    files: &'f F,
     dir: &'f str,
     /// The file of its catalogue; none for the built-in one.
     source: Option<&'f str>,
 }
 
-impl<'f> Folder<'f> {
+impl<'f, F> Folder<'f, F> {
     /// Those of this folder, over the catalogue of a file, or the built-in one.
-    pub fn new(rt: &'f HostRuntime, dir: &'f str, source: Option<&'f str>) -> Folder<'f> {
-        Folder { rt, dir, source }
+    pub fn new(
+        rt: &'f HostRuntime,
+        files: &'f F,
+        dir: &'f str,
+        source: Option<&'f str>,
+    ) -> Folder<'f, F> {
+        Folder {
+            rt,
+            files,
+            dir,
+            source,
+        }
     }
 }
 
-impl Opens<Solo<SqlDesk<FileStore<File>>, SqlSite<FileStore<File>>>> for Folder<'_> {
-    ghost use Rattle.std.specs.Prelude.{◌≡◌};
-    ghost use Rattle.fragdb.specs.Origin.{Found, Kept};
+impl<M: Alter + Drop, F: OpensFiles<M>> Opens<Solo<SqlDesk<M>, SqlSite<M>>> for Folder<'_, F> {
+    ghost use Rattle.fragdb.specs.Origin.{IsKept};
 
-    ghost origin = { λ origin. (found : Found) × (origin ≡ Kept found) };
+    ghost origin = { IsKept };
 
     fn open<'a>(
         &self,
         alloc: Global,
         catalog: &Catalog,
-    ) -> Result<Solo<SqlDesk<FileStore<File>>, SqlSite<FileStore<File>>>, ProgramFault<'a>> {
+    ) -> Result<Solo<SqlDesk<M>, SqlSite<M>>, ProgramFault<'a>> {
         enter(self.rt, self.dir, self.source, catalog)?;
-        let sites = file_sites(self.rt, self.dir, catalog)?;
-        let desk = file_desk(self.rt, self.dir)?;
+        let sites = file_sites(alloc, self.files, self.dir, catalog)?;
+        let desk = file_desk(alloc, self.files, self.dir)?;
         match Solo::open_stores(alloc, catalog, sites, desk) {
             Ok(database) => Ok(database),
             Err(fault) => Err(unopened(fault)),

@@ -7,12 +7,13 @@ ghost use Rattle.fragdb.specs.SqlStores.{AreNewSites, IsNewDesk, IsNewSite};
 
 use crate::fault::ProgramFault;
 use catalog::catalogue::Catalog;
-use sqlite::{File, FileStore, MemStore};
+use sqlite::{Alter, File, FileStore, MemStore};
 use sqlstore::desk::SqlDesk;
 use sqlstore::site::SqlSite;
 use std::alloc::Global;
 use std::rt::HostRuntime;
 use store::fault::StoreFault;
+use terms::leaf::Leaf;
 
 /// New stores of the sites, in the catalogue's order.
 pub fn memory_sites<'a>(
@@ -56,18 +57,51 @@ pub fn memory_desk<'a>(alloc: Global) -> Result<SqlDesk<MemStore>, ProgramFault<
     }
 }
 
-/// The stores of the sites in the files of a folder, in the catalogue's order. A file that isn't there is made.
-pub fn file_sites<'a>(
-    rt: &HostRuntime,
+/// Opens stores in files, on media of some kind. A file that isn't there is made.
+pub trait OpensFiles<M: Alter> {
+    /// The store of a site in the file of this path, which has these leaves.
+    fn site(&self, path: &str, leaves: Vec<Leaf>) -> Result<SqlSite<M>, StoreFault>;
+
+    /// The store of the coordinator in the file of this path.
+    fn desk(&self, path: &str) -> Result<SqlDesk<M>, StoreFault>;
+}
+
+/// Files of the operating system.
+#[derive(Drop)]
+pub struct Files<'f> {
+    rt: &'f HostRuntime,
+}
+
+impl<'f> Files<'f> {
+    /// Those that a program reaches.
+    pub fn new(rt: &'f HostRuntime) -> Files<'f> {
+        Files { rt }
+    }
+}
+
+impl OpensFiles<FileStore<File>> for Files<'_> {
+    fn site(&self, path: &str, leaves: Vec<Leaf>) -> Result<SqlSite<FileStore<File>>, StoreFault> {
+        SqlSite::file(self.rt, path, leaves)
+    }
+
+    fn desk(&self, path: &str) -> Result<SqlDesk<FileStore<File>>, StoreFault> {
+        SqlDesk::file(self.rt, path)
+    }
+}
+
+/// The stores of the sites in the files of a folder, in the catalogue's order.
+pub fn file_sites<'a, M: Alter + Drop, F: OpensFiles<M>>(
+    alloc: Global,
+    files: &F,
     dir: &str,
     catalog: &Catalog,
-) -> Result<Vec<SqlSite<FileStore<File>>>, ProgramFault<'a>>
+) -> Result<Vec<SqlSite<M>>, ProgramFault<'a>>
     ensures all { IfOk result (λ sites. length sites.items ≡ length catalog.now.0) }
     ensures err { IfErr result IsOfClient }
 {
-    let mut sites = Vec::new(rt.alloc());
+    let mut sites = Vec::new(alloc);
     for place in 0..catalog.sites().len() {
-        let site = file_site(rt, dir, catalog, place)?;
+        let site = file_site(alloc, files, dir, catalog, place)?;
         if sites.push(site).is_err() {
             return Err(ProgramFault::Memory);
         }
@@ -76,32 +110,34 @@ pub fn file_sites<'a>(
 }
 
 /// The store of the site of this number, in its file of the folder.
-pub fn file_site<'a>(
-    rt: &HostRuntime,
+pub fn file_site<'a, M: Alter + Drop, F: OpensFiles<M>>(
+    alloc: Global,
+    files: &F,
     dir: &str,
     catalog: &Catalog,
     place: usize,
-) -> Result<SqlSite<FileStore<File>>, ProgramFault<'a>>
+) -> Result<SqlSite<M>, ProgramFault<'a>>
     requires { place < length catalog.now.0 }
     ensures err { IfErr result IsOfClient }
 {
-    let path = format!(in rt.alloc(); "{dir}/{}.db", catalog.sites()[place])?;
+    let path = format!(in alloc; "{dir}/{}.db", catalog.sites()[place])?;
     let leaves = catalog.leaves_at(place)?;
-    match SqlSite::file(rt, path.as_str(), leaves) {
+    match files.site(path.as_str(), leaves) {
         Ok(site) => Ok(site),
         Err(fault) => Err(of_store(fault)),
     }
 }
 
-/// The store of the coordinator, in its file of the folder. A file that isn't there is made.
-pub fn file_desk<'a>(
-    rt: &HostRuntime,
+/// The store of the coordinator, in its file of the folder.
+pub fn file_desk<'a, M: Alter + Drop, F: OpensFiles<M>>(
+    alloc: Global,
+    files: &F,
     dir: &str,
-) -> Result<SqlDesk<FileStore<File>>, ProgramFault<'a>>
+) -> Result<SqlDesk<M>, ProgramFault<'a>>
     ensures err { IfErr result IsOfClient }
 {
-    let path = format!(in rt.alloc(); "{dir}/desk.db")?;
-    match SqlDesk::file(rt, path.as_str()) {
+    let path = format!(in alloc; "{dir}/desk.db")?;
+    match files.desk(path.as_str()) {
         Ok(desk) => Ok(desk),
         Err(fault) => Err(of_store(fault)),
     }
