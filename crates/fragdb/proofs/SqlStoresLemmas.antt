@@ -1,9 +1,11 @@
 -- Lemmas on new stores in SQLite.
-use Rattle.std.proofs.Common.{◌≡◌, ◌<◌, ◌+◌, ◌^◌, ◌||◌, ⊤, ℕ, suc, List, [], ◌∷◌, ◌++◌, length, map, true, false, Bool, inl, inr, ap, sym, refl, subst, ◌∙◌, arith}
+use Rattle.std.proofs.Common.{◌≡◌, ◌<◌, ◌+◌, ◌^◌, ◌||◌, ℕ, suc, List, [], ◌∷◌, ◌++◌, length, map, true, false, Bool, inl, inr, ap, sym, refl, subst, ◌∙◌, arith}
 use Rattle.std.specs.List.{AllByRecursion}
 use Rattle.sqlite.specs.Steps.{over_memory}
 use Rattle.sqlite_trees.specs.declared.memory.MemStore.{MemStore}
+use Rattle.std.specs.Ordering.{is_eq}
 use Rattle.terms.specs.declared.leaf.Leaf.{Leaf}
+use Rattle.terms.specs.Leaf.{leaf_cmp}
 use Rattle.catalog.specs.Catalogue.{Catalogue}
 use Rattle.catalog.specs.FragmentLeaf.{catalogue_leaves, names_at}
 use Rattle.store.specs.SiteContent.{SiteContent}
@@ -28,7 +30,7 @@ or_true false = refl
 has_in : (leaves : List Leaf) (leaf : Leaf) → In leaf leaves → has_leaf leaves leaf ≡ true
 has_in [] leaf none = absurd none
 has_in (one ∷ leaves) leaf (inl same) = subst (λ (other : Leaf). has_leaf (other ∷ leaves) leaf ≡ true) same (ap (λ b. b || has_leaf leaves leaf) (leaf_self leaf))
-has_in (one ∷ leaves) leaf (inr more) = ap (λ b. _ || b) (has_in leaves leaf more) ∙ or_true _
+has_in (one ∷ leaves) leaf (inr more) = ap (λ b. is_eq (leaf_cmp leaf one) || b) (has_in leaves leaf more) ∙ or_true (is_eq (leaf_cmp leaf one))
 
 abbrev kept_in : SqlSite MemStore over_memory → SiteContent
 kept_in site = kept_by over_memory site.leaves.items site.conn

@@ -122,7 +122,8 @@ impl<D: DeskStore, S: SiteStore> Schedule<D, S> {
                 add_sent(&mut self.came, entry.out.letters.as_slice())?;
                 Ok(None)
             }
-            Err(Fault::Desk(Refusal::Memory) | Fault::Site(SiteFault::Memory)) => Err(Memory),
+            Err(Fault::Desk(Refusal::Memory)) => Err(Memory),
+            Err(Fault::Site(SiteFault::Memory)) => Err(Memory),
             Err(fault) => Ok(Some(*fault)),
         }
     }
