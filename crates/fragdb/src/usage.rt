@@ -168,7 +168,7 @@ pub fn read_words<'a, S: AsStr>(
     words: &'a [S],
     is_at_terminal: bool,
 ) -> Result<Request<'a>, Error>
-    ensures alone { length words.entry.now ≤ 1 → IsOkAnd result (λ request. (asked request ≡ (codes "solo", (codes "CATALOG", None) ∷ (codes "SCRIPT", Some (codes "-")) ∷ [])) × (flags_of request ≡ (codes "EXPLAIN", false) ∷ (codes "INTERACTIVE", false) ∷ (codes "COLUMNS", false) ∷ (codes "CSV", false) ∷ (codes "JSON", false) ∷ (codes "SQLITE", false) ∷ [])) }
+    ensures alone { length words.entry.now ≤ 1 → IsOkAnd result (λ request. (asked request ≡ (codes "solo", (codes "CATALOG", None) ∷ (codes "SCRIPT", Some (codes "-")) ∷ (codes "DIR", None) ∷ [])) × (flags_of request ≡ (codes "EXPLAIN", false) ∷ (codes "INTERACTIVE", false) ∷ (codes "COLUMNS", false) ∷ (codes "CSV", false) ∷ (codes "JSON", false) ∷ (codes "SQLITE", false) ∷ [])) }
     ensures given { IfOk result (λ request. 1 < length words.entry.now → Asks (map S.text words.entry.now) is_at_terminal request) }
 {
     if words.len() <= 1 {
