@@ -5,7 +5,7 @@ ghost use Rattle.std.specs.Prelude.{◌<◌, length};
 use crate::catalog_file::read_catalog;
 use crate::fault::ProgramFault;
 use crate::folder::CATALOGUE;
-use crate::same_catalog::same_relation;
+use crate::same_catalog::{is_same, same_relation};
 use crate::sql_stores::{OpensFiles, file_desk, file_site};
 use catalog::catalogue::Catalog;
 use sqlite::Alter;
@@ -31,27 +31,32 @@ pub fn tell_folder<M: Alter + Drop, F: OpensFiles<M>, C: Read + Drop, E: Write>(
     let Ok(catalog) = read_catalog(rt.alloc(), file, catalog) else {
         return Ok(());
     };
-    tell_catalogue(rt, dir, &catalog, errors)?;
+    // A store of another catalogue's site is not to be opened: its file would be made.
+    if !tell_catalogue(rt, dir, &catalog, errors)? {
+        return Ok(());
+    }
     for place in 0..catalog.sites().len() {
         tell_site(rt.alloc(), files, dir, &catalog, place, errors)?;
     }
     tell_desk(rt.alloc(), files, dir, errors)
 }
 
-/// Tells what the folder's catalogue has otherwise than this one.
+/// Tells what the folder's catalogue has otherwise than this one. Answers whether it is this one.
 fn tell_catalogue<E: Write>(
     rt: &HostRuntime,
     dir: &str,
     catalog: &Catalog,
     errors: &mut E,
-) -> io::Result<()> {
+) -> io::Result<bool> {
     let path = format!(in rt.alloc(); "{dir}/{CATALOGUE}")?;
     let kept = fs::open(rt, path.as_str())?;
     let Ok(kept) = read_catalog(rt.alloc(), CATALOGUE, kept) else {
-        return writeln!(errors, "{path}: it is no catalogue");
+        writeln!(errors, "{path}: it is no catalogue")?;
+        return Ok(false);
     };
     if !same_all(kept.sites(), catalog.sites()) {
-        return writeln!(errors, "{path}: the folder was made with other sites");
+        writeln!(errors, "{path}: the folder was made with other sites")?;
+        return Ok(false);
     }
     for relation in kept.relations() {
         let name = &relation.schema.name;
@@ -70,7 +75,7 @@ fn tell_catalogue<E: Write>(
             Some(_) => {}
         }
     }
-    Ok(())
+    Ok(is_same(&kept, catalog))
 }
 
 /// Tells what is wrong with the file of the site of this number, if something is.
